@@ -1,0 +1,3 @@
+pub mod Blocks
+pub mod Goes
+pub mod Rows

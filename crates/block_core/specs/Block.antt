@@ -1,0 +1,127 @@
+-- Blocks, and the octets that spell them.
+use Rattle.std.specs.Prelude.{◌≡◌, ℕ, ◌+◌, ◌<◌, ◌≤◌, List, [], ◌∷◌, ◌++◌, length, Bool, true, false, slice_index, ◌≢◌, ◌⊎◌}
+use Rattle.octet_core.specs.Octets.{AreOctets, xor_of}
+use Rattle.octet_core.specs.Grammar.{IsFirst}
+use Rattle.block_core.specs.declared.pcb.Number.{Number}
+use Rattle.block_core.specs.declared.pcb.Number.TheVariants.{Zero, One}
+use Rattle.block_core.specs.declared.pcb.Fault.{Fault}
+use Rattle.block_core.specs.declared.pcb.Fault.TheVariants.{Free, Redundancy, Other}
+use Rattle.block_core.specs.declared.pcb.S.{S}
+use Rattle.block_core.specs.declared.pcb.S.TheVariants.{Resynch, Ifs, Abort, Wtx}
+use Rattle.block_core.specs.declared.pcb.Pcb.{Pcb}
+use Rattle.block_core.specs.declared.pcb.Pcb.TheVariants.{Info, Ready, Request, Response}
+use Rattle.block_core.specs.declared.reason.BlockReason.{BlockReason}
+use Rattle.block_core.specs.declared.reason.BlockReason.TheVariants.{BadPcb, BadLen, OverIfs, BadIfs, BadLrc}
+
+-- what a block carries
+pub record Parts : Type 0 where
+  pub nad : ℕ
+  pub pcb : Pcb
+  pub inf : List ℕ
+
+abbrev pub number_bit : Number → ℕ → ℕ
+number_bit Zero weight = 0
+number_bit One weight = weight
+
+abbrev pub more_bit : Bool → ℕ
+more_bit false = 0
+more_bit true = 32
+
+abbrev pub fault_code : Fault → ℕ
+fault_code Free = 0
+fault_code Redundancy = 1
+fault_code Other = 2
+
+abbrev pub supervisory_len : S → ℕ
+supervisory_len Resynch = 0
+supervisory_len Ifs = 1
+supervisory_len Abort = 0
+supervisory_len Wtx = 1
+
+abbrev pub supervisory_code : S → ℕ
+supervisory_code Resynch = 0
+supervisory_code Ifs = 1
+supervisory_code Abort = 2
+supervisory_code Wtx = 3
+
+-- the protocol control octet
+abbrev pub pcb_octet : Pcb → ℕ
+pcb_octet (Info number more) = number_bit number 64 + more_bit more
+pcb_octet (Ready number fault) = 128 + number_bit number 16 + fault_code fault
+pcb_octet (Request s) = 192 + supervisory_code s
+pcb_octet (Response s) = 224 + supervisory_code s
+
+-- the octet that a block about IFS carries
+abbrev pub IsSize : S → List ℕ → Type 0
+IsSize Resynch inf = Unit {0}
+IsSize Ifs inf = (1 ≤ slice_index inf 0) × (slice_index inf 0 ≤ 254)
+IsSize Abort inf = Unit {0}
+IsSize Wtx inf = Unit {0}
+
+-- the information field that a block carries, where an I-block has at most ifs octets
+abbrev pub Suits : ℕ → Pcb → List ℕ → Type 0
+Suits ifs (Info number more) inf = length inf ≤ ifs
+Suits ifs (Ready number fault) inf = length inf ≡ 0
+Suits ifs (Request s) inf = (length inf ≡ supervisory_len s) × IsSize s inf
+Suits ifs (Response s) inf = (length inf ≡ supervisory_len s) × IsSize s inf
+
+-- what has a spelling
+pub record IsProper (ifs : ℕ) (v : Parts) : Type 0 where
+  pub nad : v.nad < 256
+  pub octets : AreOctets v.inf
+  pub suits : Suits ifs v.pcb v.inf
+
+-- all but the check sum
+abbrev pub front_of : Parts → List ℕ
+front_of v = v.nad ∷ pcb_octet v.pcb ∷ length v.inf ∷ v.inf
+
+abbrev pub spelling : Parts → List ℕ
+spelling v = front_of v ++ xor_of (front_of v) ∷ []
+
+-- the octets b spell the block v
+pub record IsBlock (ifs : ℕ) (v : Parts) (b : List ℕ) : Type 0 where
+  pub proper : IsProper ifs v
+  pub is : b ≡ spelling v
+
+-- a length that no field of such a block has
+abbrev pub IsBadLen : Pcb → ℕ → Type 0
+IsBadLen (Info number more) len = len ≡ 255
+IsBadLen (Ready number fault) len = len ≢ 0
+IsBadLen (Request s) len = len ≢ supervisory_len s
+IsBadLen (Response s) len = len ≢ supervisory_len s
+
+abbrev pub IsInfo : Pcb → Type 0
+IsInfo (Info number more) = Unit {0}
+IsInfo (Ready number fault) = ⊥
+IsInfo (Request s) = ⊥
+IsInfo (Response s) = ⊥
+
+-- the length of a field that such a block may have
+abbrev pub FitsLen : ℕ → Pcb → ℕ → Type 0
+FitsLen ifs (Info number more) len = len ≤ ifs
+FitsLen ifs (Ready number fault) len = len ≡ 0
+FitsLen ifs (Request s) len = len ≡ supervisory_len s
+FitsLen ifs (Response s) len = len ≡ supervisory_len s
+
+-- what is wrong with a length
+abbrev pub IsLenFault : ℕ → Pcb → ℕ → BlockReason → Type 0
+IsLenFault ifs p len BadPcb = ⊥
+IsLenFault ifs p len BadLen = IsBadLen p len
+IsLenFault ifs p len OverIfs = IsInfo p × (len ≢ 255) × (ifs < len)
+IsLenFault ifs p len BadIfs = ⊥
+IsLenFault ifs p len BadLrc = ⊥
+
+abbrev pub IsAboutIfs : Pcb → Type 0
+IsAboutIfs p = (p ≡ Request Ifs) ⊎ (p ≡ Response Ifs)
+
+-- the first octets b meet this line of the table of reasons
+abbrev pub Meets : ℕ → List ℕ → BlockReason → Type 0
+Meets ifs b BadPcb = (length b ≡ 2) × ((p : Pcb) → pcb_octet p ≡ slice_index b 1 → ⊥)
+Meets ifs b BadLen = (length b ≡ 3) × (p : Pcb) × (pcb_octet p ≡ slice_index b 1) × IsBadLen p (slice_index b 2)
+Meets ifs b OverIfs = (length b ≡ 3) × (p : Pcb) × (pcb_octet p ≡ slice_index b 1) × IsInfo p × (ifs < slice_index b 2)
+Meets ifs b BadIfs = (length b ≡ 4) × ((pcb_octet (Request Ifs) ≡ slice_index b 1) ⊎ (pcb_octet (Response Ifs) ≡ slice_index b 1)) × ((slice_index b 3 ≡ 0) ⊎ (slice_index b 3 ≡ 255))
+Meets ifs b BadLrc = (length b ≡ slice_index b 2 + 4) × (xor_of b ≢ 0)
+
+-- the reason is the first line of the table that the octets up to and with the refused one meet
+abbrev pub IsReason : ℕ → BlockReason → List ℕ → Type 0
+IsReason ifs r b = IsFirst (BadPcb ∷ BadLen ∷ OverIfs ∷ BadIfs ∷ BadLrc ∷ []) (Meets ifs b) r

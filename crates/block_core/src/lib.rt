@@ -1,0 +1,20 @@
+//! Blocks of the T=1 protocol (ISO/IEC 7816-3, clause 11.3), as values and as octets.
+//!
+//! A block is NAD, PCB, LEN, an information field of LEN octets and the LRC, one octet that makes the
+//! exclusive-or of all octets of the block 00. The grammar, `IsBlock` in `specs/Block.antt`, relates
+//! a block to its octets under an information size. `decode` gives its whole verdict, `encode` its
+//! octets, and `laws` says what holds of the grammar alone.
+#![tactic(auto)]
+
+pub mod block;
+pub mod decoding;
+pub mod laws;
+pub mod pcb;
+pub mod reason;
+#[cfg(test)]
+mod tests;
+
+pub use block::{Block, LONGEST_BLOCK, LONGEST_INF, encode};
+pub use decoding::decode;
+pub use pcb::{Fault, Number, Pcb, S};
+pub use reason::BlockReason;

@@ -1,0 +1,52 @@
+//! Why octets are no block.
+
+ghost use Rattle.std.specs.Prelude.{◌≡◌, ◌⊎◌, ◌↔◌, IfSome, IfNone, IsTrue};
+ghost use Rattle.block_core.specs.Block.{FitsLen, IsLenFault, IsAboutIfs};
+
+use crate::pcb::{Pcb, S};
+
+/// Why octets are no block, in the order in which they are tried at a place.
+#[derive(Clone, Copy, Debug, PartialEq, Eq)]
+pub enum BlockReason {
+    /// PCB, at place 1, is none of the 18.
+    BadPcb,
+    /// LEN, at place 2, is FF, or not the length that an R-block or this S-block has.
+    BadLen,
+    /// LEN, at place 2, of an I-block is above the information size.
+    OverIfs,
+    /// The octet of an IFS request or response, at place 3, is 00 or FF.
+    BadIfs,
+    /// The exclusive-or of all octets up to the last isn't 00.
+    BadLrc,
+}
+
+impl Pcb {
+    /// Why no block of this kind has an information field of this length.
+    pub(crate) fn fault_of_len(self, len: u8, ifs: u8) -> Option<BlockReason>
+        ensures none { IfNone result (FitsLen ifs self len) }
+        ensures some { IfSome result (IsLenFault ifs self len) }
+    {
+        let wanted = match self {
+            Pcb::Info { .. } if len == 255 => return Some(BlockReason::BadLen),
+            Pcb::Info { .. } if len > ifs => return Some(BlockReason::OverIfs),
+            Pcb::Info { .. } => return None,
+            Pcb::Ready { .. } => 0,
+            Pcb::Request(about) | Pcb::Response(about) => about.len(),
+        };
+        if len == wanted {
+            None
+        } else {
+            Some(BlockReason::BadLen)
+        }
+    }
+
+    /// Whether no information field of this kind begins with this octet.
+    pub(crate) fn refuses_first(self, first: u8) -> bool
+        ensures { IsTrue result ↔ (IsAboutIfs self × ((first ≡ 0) ⊎ (first ≡ 255))) }
+    {
+        match self {
+            Pcb::Request(S::Ifs) | Pcb::Response(S::Ifs) => first == 0 || first == 255,
+            _ => false,
+        }
+    }
+}

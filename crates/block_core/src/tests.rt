@@ -1,0 +1,129 @@
+//! Blocks from the standard's tables, and calls that no clause pins.
+
+ghost use Rattle.std.specs.Prelude.{◌≤◌};
+
+use crate::{Block, BlockReason, Fault, Number, Pcb, S, decode, encode};
+use octet_core::Stop;
+
+/// What `decode` answers under an information size of 254: the octets taken, or the refusal.
+fn verdict(octets: &[u8]) -> Result<usize, Stop<BlockReason>> {
+    verdict_under(octets, 254)
+}
+
+fn verdict_under(octets: &[u8], ifs: u8) -> Result<usize, Stop<BlockReason>>
+    requires least { 1 ≤ ifs }
+    requires most { ifs ≤ 254 }
+{
+    decode(octets, ifs).map(|(_, taken)| taken)
+}
+
+fn at(place: usize, reason: BlockReason) -> Result<usize, Stop<BlockReason>> {
+    Err(Stop::At { place, reason })
+}
+
+fn short(place: usize) -> Result<usize, Stop<BlockReason>> {
+    Err(Stop::Short { place })
+}
+
+#[test]
+fn information_blocks(rt: HostRuntime) {
+    let select = [0x00, 0x00, 0x05, 0x00, 0xA4, 0x04, 0x00, 0x00, 0xA5];
+    assert_eq!(rt; verdict(&select), Ok(9));
+    let damaged = [0x00, 0x00, 0x05, 0x00, 0xA4, 0x04, 0x00, 0x00, 0xA4];
+    assert_eq!(rt; verdict(&damaged), at(8, BlockReason::BadLrc));
+    assert_eq!(rt; verdict(&[]), short(0));
+    assert_eq!(rt; verdict(&[0x00, 0x00]), short(2));
+    assert_eq!(rt; verdict(&[0x00, 0x00, 0xFF]), at(2, BlockReason::BadLen));
+    assert_eq!(rt;
+        verdict_under(&[0x00, 0x00, 0x21], 32),
+        at(2, BlockReason::OverIfs)
+    );
+    assert_eq!(rt;
+        verdict_under(&[0x00, 0x00, 0xFF], 32),
+        at(2, BlockReason::BadLen)
+    );
+    // What follows a block stays where it is.
+    assert_eq!(rt; verdict(&[0x00, 0x40, 0x00, 0x40, 0xFF]), Ok(4));
+}
+
+#[test]
+fn other_blocks(rt: HostRuntime) {
+    assert_eq!(rt; verdict(&[0x00, 0x82, 0x00, 0x82]), Ok(4));
+    assert_eq!(rt; verdict(&[0x00, 0x83, 0x00]), at(1, BlockReason::BadPcb));
+    assert_eq!(rt; verdict(&[0x00, 0x80, 0x01]), at(2, BlockReason::BadLen));
+    assert_eq!(rt;
+        verdict_under(&[0x00, 0x80, 0x20], 32),
+        at(2, BlockReason::BadLen)
+    );
+    assert_eq!(rt; verdict(&[0x00, 0xC1, 0x01, 0xFE, 0x3E]), Ok(5));
+    assert_eq!(rt;
+        verdict(&[0x00, 0xC1, 0x01, 0xFF]),
+        at(3, BlockReason::BadIfs)
+    );
+    assert_eq!(rt;
+        verdict(&[0x00, 0xC1, 0x01, 0x00]),
+        at(3, BlockReason::BadIfs)
+    );
+    assert_eq!(rt; verdict(&[0x00, 0xE3, 0x01, 0x00, 0xE2]), Ok(5));
+    assert_eq!(rt; verdict(&[0x00, 0xE4]), at(1, BlockReason::BadPcb));
+}
+
+#[test]
+fn every_kind_of_block(rt: HostRuntime) {
+    let expected = [
+        0x00, 0x20, 0x40, 0x60, 0x80, 0x81, 0x82, 0x90, 0x91, 0x92, 0xC0, 0xC1, 0xC2, 0xC3, 0xE0,
+        0xE1, 0xE2, 0xE3,
+    ];
+    let mut known = 0;
+    for octet in 0..=255u8 {
+        let pcb = Pcb::of(octet);
+        assert_eq!(rt; pcb.is_some(), expected.contains(&octet), "{octet:02X}");
+        assert!(rt; pcb.is_none_or(|pcb| pcb.octet() == octet), "{octet:02X}");
+        if pcb.is_some() && known < 255 {
+            known += 1;
+        }
+    }
+    assert_eq!(rt; known, 18);
+}
+
+#[test]
+fn made_and_read_again(rt: HostRuntime) {
+    let made = [
+        Block::info(0x12, Number::One, true, &[0xA4, 0x04]),
+        Some(Block::ready(0x00, Number::Zero, Fault::Redundancy)),
+        Block::request(0x00, S::Ifs, &[0x20]),
+        Block::response(0x00, S::Wtx, &[0x00]),
+    ];
+    for block in made {
+        let block = block.expect(&rt, "a block");
+        let octets = encode(&block);
+        let read = decode(octets.as_slice(), 254);
+        assert!(rt; read == Ok((block, octets.len())));
+    }
+}
+
+#[test]
+fn fields_that_suit_no_block(rt: HostRuntime) {
+    assert!(rt; Block::info(0x00, Number::Zero, false, &[0x00; 254]).is_some());
+    assert!(rt; Block::info(0x00, Number::Zero, false, &[0x00; 255]).is_none());
+    assert!(rt; Block::request(0x00, S::Ifs, &[0xFF]).is_none());
+    assert!(rt; Block::request(0x00, S::Ifs, &[0x00]).is_none());
+    assert!(rt; Block::request(0x00, S::Resynch, &[0x00]).is_none());
+    assert!(rt; Block::response(0x00, S::Abort, &[]).is_some());
+    assert!(rt; Block::response(0x00, S::Wtx, &[]).is_none());
+}
+
+#[test]
+fn parts_of_a_block(rt: HostRuntime) {
+    let block = Block::info(0x21, Number::Zero, false, &[0x00, 0xA4]).expect(&rt, "a block");
+    assert_eq!(rt; block.nad(), 0x21);
+    assert_eq!(rt;
+        block.pcb(),
+        Pcb::Info {
+            number: Number::Zero,
+            more: false
+        }
+    );
+    assert!(rt; block.inf() == [0x00, 0xA4].as_slice());
+    assert!(rt; block != Block::ready(0x21, Number::Zero, Fault::Free));
+}

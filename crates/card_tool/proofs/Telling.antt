@@ -1,0 +1,43 @@
+-- How a verdict's text is made.
+use Rattle.std.proofs.Common.{◌≡◌, ◌∙◌, ◌-◌, ℕ, List, [], ◌∷◌, length, drop, Result, Ok, Err, IfOk, string_bytes, ap, arith}
+use Rattle.std.proofs.lemmas.List.{length-append}
+use Rattle.std.proofs.Math.Seq.{drop-append_seam}
+use Rattle.octet_core.specs.Octets.{xor_of}
+use Rattle.block_core.specs.Block.{Parts, front_of, spelling}
+use Rattle.octet_core.specs.Grammar.{Ending, Accepts, Refuses}
+use Rattle.octet_core.specs.declared.stop.Stop.{Stop}
+use Rattle.card_tool.specs.Answers.{Checks, Shows, Tells, accepted, refused}
+use Rattle.card_tool.specs.declared.request.Kind.{Kind}
+use Rattle.card_tool.specs.declared.request.Kind.TheVariants.{Block}
+use Rattle.card_tool.specs.declared.request.Input.{Input}
+use Rattle.card_tool.specs.Texts.{refused_text}
+use Rattle.card_tool.specs.declared.answer.Answer.{Answer}
+use Rattle.card_tool.specs.declared.status.Status.TheVariants as status
+
+module _ {E V R : Type 0} (e : Ending) (S : V → List ℕ → Type 0) (Reason : R → List ℕ → Type 0) (name : R → List ℕ) (told : V → ℕ → List ℕ) (b : List ℕ) where
+  pub tells-accepted : (r : Result Answer E) (v : V) (n : ℕ) → Accepts e S b v n → IfOk r (λ a. string_bytes a.text ≡ told v n) → IfOk r (λ a. a.status ≡ status.Accepted)
+      → IfOk r (λ a. Tells e S Reason name told b (string_bytes a.text) a.status)
+  tells-accepted (Ok a) v n h text ended = accepted v n h text ended
+  tells-accepted (Err f) v n h text ended = tt
+
+  pub tells-refused : (r : Result Answer E) (stop : Stop R) → Refuses e S Reason b stop → IfOk r (λ a. string_bytes a.text ≡ refused_text name stop) → IfOk r (λ a. a.status ≡ status.Refused)
+      → IfOk r (λ a. Tells e S Reason name told b (string_bytes a.text) a.status)
+  tells-refused (Ok a) stop h text ended = refused stop h text ended
+  tells-refused (Err f) stop h text ended = tt
+
+-- ---- the kinds
+
+pub checks-block : {E : Type 0} (kind : Kind) (input : Input) (r : Result Answer E) → IfOk r (λ a. Checks Block input (string_bytes a.text) a.status) → IfOk r (λ a. Checks kind input (string_bytes a.text) a.status)
+checks-block Block input r h = h
+
+pub shows-block : {E : Type 0} (kind : Kind) (input : Input) (r : Result Answer E) → IfOk r (λ a. Shows Block input (string_bytes a.text) a.status) → IfOk r (λ a. Shows kind input (string_bytes a.text) a.status)
+shows-block Block input r h = h
+
+-- ---- blocks
+
+-- the last octet of a block
+pub last-of : (v : Parts) (b : List ℕ) → b ≡ spelling v → drop (length b - 1) b ≡ xor_of (front_of v) ∷ []
+last-of v b is =
+    let sum : List ℕ = xor_of (front_of v) ∷ [] in
+    let place : length b - 1 ≡ length (front_of v) = omega (arith, ap length is, length-append (front_of v) sum) in
+    ap (λ (k : ℕ). drop k b) place ∙ ap (drop (length (front_of v))) is ∙ drop-append_seam (front_of v) sum

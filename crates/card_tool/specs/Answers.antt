@@ -1,0 +1,75 @@
+-- What the program answers: one text and one status.
+use Rattle.std.specs.Prelude.{◌≡◌, ◌<◌, ℕ, ◌⊎◌, List, Option, length, take, Result, Ok, Err, MatchResult, string_bytes}
+use Rattle.std.specs.Io.KnownBytes.{Appends}
+use Rattle.octet_core.specs.declared.stop.Stop.{Stop}
+use Rattle.octet_core.specs.Failures.{HasFailed}
+use Rattle.octet_core.specs.Octets.{AreOctets}
+use Rattle.octet_core.specs.Grammar.{Ending, self_ended, Accepts, Refuses}
+use Rattle.block_core.specs.Block.{IsBlock, IsReason}
+use Rattle.card_tool.specs.Texts.{accepted_text, refused_text, fault_text}
+use Rattle.card_tool.specs.BlockTexts.{block_text, reason_text}
+use Rattle.card_tool.specs.Words.{IsRead}
+use Rattle.card_tool.specs.declared.status.Status.{Status}
+use Rattle.card_tool.specs.declared.status.Status.TheVariants as status
+use Rattle.card_tool.specs.declared.fault.Fault.{Fault}
+use Rattle.card_tool.specs.declared.fault.Fault.TheVariants.{Memory}
+use Rattle.card_tool.specs.declared.answer.Answer.{Answer}
+use Rattle.card_tool.specs.declared.request.Kind.{Kind}
+use Rattle.card_tool.specs.declared.request.Kind.TheVariants.{Block}
+use Rattle.card_tool.specs.declared.request.Input.{Input}
+use Rattle.card_tool.specs.declared.request.Request.{Request}
+use Rattle.card_tool.specs.declared.request.Request.TheVariants.{Check, Show, Help}
+
+-- the text and the status that the verdict on octets has, where a value is told so
+pub data Tells {V R : Type 0} (e : Ending) (S : V → List ℕ → Type 0) (Reason : R → List ℕ → Type 0) (name : R → List ℕ) (told : V → ℕ → List ℕ) (b text : List ℕ) (ended : Status) : Type 0 where
+  accepted : (v : V) (n : ℕ) → Accepts e S b v n → text ≡ told v n → ended ≡ status.Accepted → Tells e S Reason name told b text ended
+  refused : (stop : Stop R) → Refuses e S Reason b stop → text ≡ refused_text name stop → ended ≡ status.Refused → Tells e S Reason name told b text ended
+
+-- how many octets the value takes
+abbrev pub Checks : Kind → Input → List ℕ → Status → Type 0
+Checks Block input = Tells self_ended (IsBlock input.ifs) (IsReason input.ifs) reason_text (λ v n. accepted_text n) input.octets
+
+-- the value itself
+abbrev pub Shows : Kind → Input → List ℕ → Status → Type 0
+Shows Block input = Tells self_ended (IsBlock input.ifs) (IsReason input.ifs) reason_text (λ v n. block_text v) input.octets
+
+-- the text and the status that a request has
+abbrev pub IsAnswerTo : Request → List ℕ → Status → Type 0
+IsAnswerTo (Check input) text ended = Checks input.kind input text ended
+IsAnswerTo (Show input) text ended = Shows input.kind input text ended
+IsAnswerTo (Help help) text ended = (text ≡ help) × (ended ≡ status.Accepted)
+
+-- what a request takes for octets are octets
+abbrev pub HasOctets : Request → Type 0
+HasOctets (Check input) = AreOctets input.octets
+HasOctets (Show input) = AreOctets input.octets
+HasOctets (Help help) = Unit {0}
+
+-- the text and the status that the words have: those of the request, or the fault's
+pub record IsAnswer (words : List (List ℕ)) (text : List ℕ) (ended : Status) : Type 0 where
+  pub read : Result Request Fault
+  pub is_read : IsRead words read
+  pub is_answer : MatchResult read (λ request. IsAnswerTo request text ended) (λ fault. (text ≡ fault_text fault) × (ended ≡ status.Fault))
+
+-- how a text came to a writer, and how the program ended
+pub data IsWritten (text : List ℕ) (right : Status) (old new : Option (List ℕ)) (before after : ℕ) (ended : Status) : Type 0 where
+  -- it is written whole, and the program ends as is right
+  whole : Appends old new text → ended ≡ right → IsWritten text right old new before after ended
+  -- the writer failed, and a part of it is written
+  cut : (count : ℕ) → count < length text → Appends old new (take count text) → HasFailed before after → ended ≡ status.Fault → IsWritten text right old new before after ended
+
+-- a right text with its status, or the line on memory with a fault
+abbrev pub RightUnlessMemory : (List ℕ → Status → Type 0) → List ℕ → Status → Type 0
+RightUnlessMemory Right text ended = Right text ended ⊎ ((text ≡ fault_text Memory) × (ended ≡ status.Fault))
+
+-- one text that is right is written
+pub record Writes (Right : List ℕ → Status → Type 0) (old new : Option (List ℕ)) (before after : ℕ) (ended : Status) : Type 0 where
+  pub text : List ℕ
+  pub right : Status
+  pub is_right : RightUnlessMemory Right text right
+  pub is_written : IsWritten text right old new before after ended
+
+-- what makes the answer to words: the answer itself, or a fault
+abbrev pub Answers : List (List ℕ) → Result Answer Fault → Type 0
+Answers words (Ok answer) = IsAnswer words (string_bytes answer.text) answer.status
+Answers words (Err fault) = RightUnlessMemory (IsAnswer words) (fault_text fault) status.Fault

@@ -1,0 +1,39 @@
+-- What the program says of a block.
+use Rattle.std.specs.Prelude.{ℕ, List, [], ◌∷◌, ◌++◌, Bool, true, false, codes, decimal}
+use Rattle.hex.specs.Hex.{encode_upper}
+use Rattle.octet_core.specs.Octets.{xor_of}
+use Rattle.block_core.specs.Block.{Parts, front_of, number_bit, fault_code}
+use Rattle.block_core.specs.declared.pcb.Pcb.{Pcb}
+use Rattle.block_core.specs.declared.pcb.Pcb.TheVariants.{Info, Ready, Request, Response}
+use Rattle.block_core.specs.declared.pcb.S.{S}
+use Rattle.block_core.specs.declared.pcb.S.TheVariants.{Resynch, Ifs, Abort, Wtx}
+use Rattle.block_core.specs.declared.reason.BlockReason.{BlockReason}
+use Rattle.block_core.specs.declared.reason.BlockReason.TheVariants.{BadPcb, BadLen, OverIfs, BadIfs, BadLrc}
+use Rattle.card_tool.specs.Texts.{octets_text}
+
+abbrev pub reason_text : BlockReason → List ℕ
+reason_text BadPcb = codes "BadPcb"
+reason_text BadLen = codes "BadLen"
+reason_text OverIfs = codes "OverIfs"
+reason_text BadIfs = codes "BadIfs"
+reason_text BadLrc = codes "BadLrc"
+
+abbrev pub supervisory_text : S → List ℕ
+supervisory_text Resynch = codes "RESYNCH"
+supervisory_text Ifs = codes "IFS"
+supervisory_text Abort = codes "ABORT"
+supervisory_text Wtx = codes "WTX"
+
+abbrev pub more_number : Bool → ℕ
+more_number false = 0
+more_number true = 1
+
+abbrev pub pcb_text : Pcb → List ℕ
+pcb_text (Info number more) = codes "I number " ++ (decimal (number_bit number 1) ++ (codes " more " ++ decimal (more_number more)))
+pcb_text (Ready number fault) = codes "R number " ++ (decimal (number_bit number 1) ++ (codes " error " ++ decimal (fault_code fault)))
+pcb_text (Request about) = codes "S request " ++ supervisory_text about
+pcb_text (Response about) = codes "S response " ++ supervisory_text about
+
+-- a block, line by line
+abbrev pub block_text : Parts → List ℕ
+block_text v = codes "nad " ++ (encode_upper (v.nad ∷ []) ++ (codes "\npcb " ++ (pcb_text v.pcb ++ (codes "\ninf " ++ (octets_text v.inf ++ (codes "\nlrc " ++ (encode_upper (xor_of (front_of v) ∷ []) ++ codes "\n")))))))

@@ -1,0 +1,5 @@
+pub mod Faults
+pub mod Texts
+pub mod BlockTexts
+pub mod Words
+pub mod Answers

@@ -1,0 +1,32 @@
+-- The lines that the program writes.
+use Rattle.std.specs.Prelude.{ℕ, List, [], ◌∷◌, ◌++◌, codes, decimal}
+use Rattle.hex.specs.Hex.{encode_upper}
+use Rattle.octet_core.specs.declared.stop.Stop.{Stop}
+use Rattle.octet_core.specs.declared.stop.Stop.TheVariants.{Short, At}
+use Rattle.card_tool.specs.declared.fault.Fault.{Fault}
+use Rattle.card_tool.specs.declared.fault.Fault.TheVariants.{Words, Hex, Memory}
+
+abbrev pub fault_text : Fault → List ℕ
+fault_text Words = codes "fault: words\n"
+fault_text Hex = codes "fault: hex\n"
+fault_text Memory = codes "fault: memory\n"
+
+-- n octets are a value
+abbrev pub accepted_text : ℕ → List ℕ
+accepted_text n = codes "ok " ++ (decimal n ++ codes " octets\n")
+
+abbrev pub short_text : ℕ → List ℕ
+short_text place = codes "short at " ++ (decimal place ++ codes "\n")
+
+abbrev pub refused_at_text : ℕ → List ℕ → List ℕ
+refused_at_text place reason = codes "refused at " ++ (decimal place ++ (codes ": " ++ (reason ++ codes "\n")))
+
+-- the octets are refused, with a reason that has a name
+abbrev pub refused_text : {R : Type 0} → (R → List ℕ) → Stop R → List ℕ
+refused_text name (Short place) = short_text place
+refused_text name (At place reason) = refused_at_text place (name reason)
+
+-- octets as a word
+abbrev pub octets_text : List ℕ → List ℕ
+octets_text [] = codes "none"
+octets_text (x ∷ xs) = encode_upper (x ∷ xs)

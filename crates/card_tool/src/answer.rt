@@ -1,0 +1,68 @@
+//! The text that the program writes, and how it then ends.
+
+ghost use Rattle.std.specs.Prelude.{◌≡◌, ◌++◌, IfOk, string_bytes, codes, decimal};
+ghost use Rattle.card_tool.specs.Texts.{accepted_text, refused_at_text, short_text};
+ghost use Rattle.card_tool.specs.declared.status.Status.TheVariants as ended;
+
+use crate::status::Status;
+use std::alloc::{AllocError, Global};
+
+/// A text to be written, and how the program then ends.
+#[derive(Debug, Drop)]
+pub struct Answer {
+    pub text: String,
+    pub status: Status,
+}
+
+impl Answer {
+    /// The octets are a value, which takes `taken` of them.
+    pub(crate) fn accepted(alloc: Global, taken: usize) -> Result<Answer, AllocError>
+        ensures text { IfOk result (λ answer. string_bytes answer.text ≡ accepted_text taken) }
+        ensures status { IfOk result (λ answer. answer.status ≡ ended.Accepted) }
+    {
+        let text = format!(in alloc; "ok {taken} octets\n")?;
+        Ok(Answer {
+            text,
+            status: Status::Accepted,
+        })
+    }
+
+    /// The octets ended at `place`.
+    pub(crate) fn short(alloc: Global, place: usize) -> Result<Answer, AllocError>
+        ensures text { IfOk result (λ answer. string_bytes answer.text ≡ short_text place) }
+        ensures status { IfOk result (λ answer. answer.status ≡ ended.Refused) }
+    {
+        let text = format!(in alloc; "short at {place}\n")?;
+        Ok(Answer {
+            text,
+            status: Status::Refused,
+        })
+    }
+
+    /// The octet at `place` is refused.
+    pub(crate) fn refused_at(
+        alloc: Global,
+        place: usize,
+        reason: &str,
+    ) -> Result<Answer, AllocError>
+        ensures text { IfOk result (λ answer. string_bytes answer.text ≡ refused_at_text place reason.now) }
+        ensures status { IfOk result (λ answer. answer.status ≡ ended.Refused) }
+    {
+        let text = format!(in alloc; "refused at {place}: {reason}\n")?;
+        Ok(Answer {
+            text,
+            status: Status::Refused,
+        })
+    }
+
+    /// A value, told by a text.
+    pub(crate) fn told(text: String) -> Answer
+        ensures text { string_bytes result.text ≡ string_bytes text }
+        ensures status { result.status ≡ ended.Accepted }
+    {
+        Answer {
+            text,
+            status: Status::Accepted,
+        }
+    }
+}

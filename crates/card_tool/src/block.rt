@@ -1,0 +1,136 @@
+//! What the program says of a block.
+
+ghost use Rattle.std.specs.Prelude.{◌≡◌, ◌≤◌, IfOk, string_bytes};
+ghost use Rattle.octet_core.specs.Grammar.{self_ended, Refuses};
+ghost use Rattle.block_core.specs.Block.{fault_code, number_bit, IsBlock, IsReason};
+ghost use Rattle.card_tool.specs.Answers.{Tells};
+ghost use Rattle.card_tool.specs.Texts.{accepted_text, refused_text};
+ghost use Rattle.card_tool.specs.BlockTexts.{block_text, more_number, pcb_text, reason_text, supervisory_text};
+ghost use Rattle.card_tool.specs.declared.status.Status.TheVariants as ended;
+
+use crate::answer::Answer;
+use crate::text::octets_word;
+use block_core::{Block, BlockReason, Fault, Number, Pcb, S, decode, encode};
+use octet_core::{Stop, hex_upper};
+use std::alloc::{AllocError, Global};
+
+/// Whether a block begins the octets, and how many it takes.
+pub(crate) fn check(alloc: Global, octets: &[u8], ifs: u8) -> Result<Answer, AllocError>
+    requires least { 1 ≤ ifs }
+    requires most { ifs ≤ 254 }
+    ensures { IfOk result (λ answer. Tells self_ended (IsBlock ifs) (IsReason ifs) reason_text (λ v n. accepted_text n) octets.now (string_bytes answer.text) answer.status) }
+{
+    match decode(octets, ifs) {
+        Ok((_, taken)) => Answer::accepted(alloc, taken),
+        Err(stop) => refused(alloc, stop),
+    }
+}
+
+/// The block that begins the octets.
+pub(crate) fn show(alloc: Global, octets: &[u8], ifs: u8) -> Result<Answer, AllocError>
+    requires least { 1 ≤ ifs }
+    requires most { ifs ≤ 254 }
+    ensures { IfOk result (λ answer. Tells self_ended (IsBlock ifs) (IsReason ifs) reason_text (λ v n. block_text v) octets.now (string_bytes answer.text) answer.status) }
+{
+    match decode(octets, ifs) {
+        Ok((block, _)) => Ok(Answer::told(lines(alloc, &block)?)),
+        Err(stop) => refused(alloc, stop),
+    }
+}
+
+fn refused(alloc: Global, stop: Stop<BlockReason>) -> Result<Answer, AllocError>
+    ensures text { IfOk result (λ answer. string_bytes answer.text ≡ refused_text reason_text stop) }
+    ensures status { IfOk result (λ answer. answer.status ≡ ended.Refused) }
+{
+    match stop {
+        Stop::Short { place } => Answer::short(alloc, place),
+        Stop::At { place, reason } => Answer::refused_at(alloc, place, reason_name(reason)),
+    }
+}
+
+/// The name of a reason.
+pub(crate) fn reason_name(reason: BlockReason) -> &'static str
+    ensures { result.now ≡ reason_text reason }
+{
+    match reason {
+        BlockReason::BadPcb => "BadPcb",
+        BlockReason::BadLen => "BadLen",
+        BlockReason::OverIfs => "OverIfs",
+        BlockReason::BadIfs => "BadIfs",
+        BlockReason::BadLrc => "BadLrc",
+    }
+}
+
+/// A block, line by line: its node address, what it is, its information field and its LRC.
+pub(crate) fn lines(alloc: Global, block: &Block) -> Result<String, AllocError>
+    ensures { IfOk result (λ text. string_bytes text ≡ block_text block.now) }
+{
+    let nad = hex_upper(alloc, &[block.nad()])?;
+    let pcb = pcb_words(alloc, block.pcb())?;
+    let inf = octets_word(alloc, block.inf())?;
+    let octets = encode(block);
+    let lrc = hex_upper(alloc, &octets[octets.len() - 1..])?;
+    format!(in alloc; "nad {nad}\npcb {pcb}\ninf {inf}\nlrc {lrc}\n")
+}
+
+/// What a block is, in words.
+fn pcb_words(alloc: Global, pcb: Pcb) -> Result<String, AllocError>
+    ensures { IfOk result (λ text. string_bytes text ≡ pcb_text pcb) }
+{
+    match pcb {
+        Pcb::Info { number, more } => {
+            let number = number_digit(number);
+            let more = more_digit(more);
+            format!(in alloc; "I number {number} more {more}")
+        }
+        Pcb::Ready { number, fault } => {
+            let number = number_digit(number);
+            let error = error_digit(fault);
+            format!(in alloc; "R number {number} error {error}")
+        }
+        Pcb::Request(about) => {
+            let name = supervisory_name(about);
+            format!(in alloc; "S request {name}")
+        }
+        Pcb::Response(about) => {
+            let name = supervisory_name(about);
+            format!(in alloc; "S response {name}")
+        }
+    }
+}
+
+fn number_digit(number: Number) -> u8
+    ensures { result ≡ number_bit number 1 }
+{
+    match number {
+        Number::Zero => 0,
+        Number::One => 1,
+    }
+}
+
+fn more_digit(more: bool) -> u8
+    ensures { result ≡ more_number more }
+{
+    if more { 1 } else { 0 }
+}
+
+fn error_digit(fault: Fault) -> u8
+    ensures { result ≡ fault_code fault }
+{
+    match fault {
+        Fault::Free => 0,
+        Fault::Redundancy => 1,
+        Fault::Other => 2,
+    }
+}
+
+fn supervisory_name(about: S) -> &'static str
+    ensures { result.now ≡ supervisory_text about }
+{
+    match about {
+        S::Resynch => "RESYNCH",
+        S::Ifs => "IFS",
+        S::Abort => "ABORT",
+        S::Wtx => "WTX",
+    }
+}

@@ -1,0 +1,53 @@
+//! Why the program could not answer.
+
+ghost use Rattle.std.specs.Prelude.{◌≡◌};
+ghost use Rattle.card_tool.specs.Texts.{fault_text};
+ghost use Rattle.card_tool.specs.Faults.{fault_of_hex};
+
+use octet_core::HexFault;
+use std::alloc::AllocError;
+
+/// Why the program could not answer.
+#[derive(Clone, Copy, Debug, PartialEq, Eq)]
+pub enum Fault {
+    /// The words don't have the form that the program takes.
+    Words,
+    /// A word that stands for octets is no hexadecimal text.
+    Hex,
+    /// A growth of memory was refused.
+    Memory,
+}
+
+impl Fault {
+    /// The line that the program prints.
+    pub fn text(self) -> &'static str
+        ensures { result.now ≡ fault_text self }
+    {
+        match self {
+            Fault::Words => "fault: words\n",
+            Fault::Hex => "fault: hex\n",
+            Fault::Memory => "fault: memory\n",
+        }
+    }
+}
+
+impl From<AllocError> for Fault {
+    ghost use Rattle.card_tool.specs.declared.fault.Fault.{Fault};
+
+    ghost from_gives = { λ _ fault. fault ≡ Fault.Memory };
+
+    fn from(_: AllocError) -> Fault {
+        Fault::Memory
+    }
+}
+
+impl From<HexFault> for Fault {
+    ghost from_gives = { λ hex fault. fault ≡ fault_of_hex hex };
+
+    fn from(fault: HexFault) -> Fault {
+        match fault {
+            HexFault::Odd | HexFault::Digit { .. } => Fault::Hex,
+            HexFault::Memory => Fault::Memory,
+        }
+    }
+}

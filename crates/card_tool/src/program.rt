@@ -1,0 +1,73 @@
+//! The program: from its words to the text that it writes.
+
+ghost use Rattle.std.specs.Prelude.{◌≡◌, IfOk, string_bytes};
+ghost use Rattle.card_tool.specs.Answers.{Answers, IsAnswer, IsAnswerTo, IsWritten, Writes};
+ghost use Rattle.card_tool.specs.Texts.{fault_text};
+ghost use Rattle.card_tool.specs.Words.{texts, IsSized};
+ghost use Rattle.card_tool.specs.declared.status.Status.TheVariants as ended;
+
+use crate::answer::Answer;
+use crate::fault::Fault;
+use crate::request::{Kind, Request};
+use crate::status::Status;
+use crate::{block, words};
+use octet_core::{Sink, Source, write_octets};
+use std::alloc::{AllocError, Global};
+
+/// Does what the words ask for, of which the first is the program's name, and writes one text.
+///
+/// Where a growth of memory is refused the text is `fault: memory`; where the writer fails a part of
+/// the text is written; in both cases the status is `Fault`. The reader isn't read.
+pub fn run<R: Source, W: Sink>(
+    alloc: Global,
+    words: Vec<String>,
+    _reader: &mut R,
+    writer: &mut W,
+) -> Status
+    ensures written { Writes (IsAnswer (texts words.items)) (W.contents writer.old) (W.contents writer.new) (W.failures writer.old) (W.failures writer.new) result }
+{
+    match answer(alloc, words.as_slice()) {
+        Ok(answer) => write(answer.text.as_str(), answer.status, writer),
+        Err(fault) => report(fault, writer),
+    }
+}
+
+/// Writes the line of a fault.
+pub fn report<W: Sink>(fault: Fault, writer: &mut W) -> Status
+    ensures { IsWritten (fault_text fault) ended.Fault (W.contents writer.old) (W.contents writer.new) (W.failures writer.old) (W.failures writer.new) result }
+{
+    write(fault.text(), Status::Fault, writer)
+}
+
+fn write<W: Sink>(text: &str, status: Status, writer: &mut W) -> Status
+    ensures { IsWritten text.now status (W.contents writer.old) (W.contents writer.new) (W.failures writer.old) (W.failures writer.new) result }
+{
+    match write_octets(writer, text.as_bytes()) {
+        Ok(()) => status,
+        Err(_) => Status::Fault,
+    }
+}
+
+/// The text and the status of what the words ask for.
+fn answer(alloc: Global, words: &[String]) -> Result<Answer, Fault>
+    ensures { Answers (texts words.now) result }
+{
+    let request = words::read(alloc, words)?;
+    Ok(answer_to(alloc, request)?)
+}
+
+/// The text and the status of a request.
+fn answer_to(alloc: Global, request: Request) -> Result<Answer, AllocError>
+    requires { IsSized request }
+    ensures { IfOk result (λ answer. IsAnswerTo request (string_bytes answer.text) answer.status) }
+{
+    match request {
+        Request::Check(input) => match input.kind {
+            Kind::Block => block::check(alloc, input.octets.get(), input.ifs),
+        },
+        Request::Show(input) => match input.kind {
+            Kind::Block => block::show(alloc, input.octets.get(), input.ifs),
+        },
+        Request::Help(text) => Ok(Answer::told(text.into_inner())),
+    }
+}

@@ -1,0 +1,182 @@
+//! What the words of a command line ask for.
+
+ghost use Rattle.std.specs.Prelude.{◌≡◌, ◌⊎◌, ◌≤◌, [], Err, IfOk, IfErr, codes, false, option_map};
+ghost use Rattle.clap.specs.Words.{app_of, fault_of, first_of, found_of, rows_of, rule_of, subcommand_of, subcommand_rows_of};
+ghost use Rattle.clap.specs.Kinds.{HasKind};
+ghost use Rattle.clap.specs.declared.builder.command.Command.TheViews.{out-Command};
+ghost use Rattle.clap.specs.Values.{kind_of as error_kind};
+ghost use Rattle.card_tool.specs.Words.{hex_rule, ifs_rule, input_app, input_of, kind_of, kind_rule, octets_of_word, request_of, scard, size_of, texts, IsHelpOrFault, IsRead, IsSized, UnlessMemory};
+
+use crate::fault::Fault;
+use crate::request::{Input, Kind, Request};
+use clap::error::ErrorKind;
+use clap::{Arg, ArgMatches, Command, Error, value_parser};
+use octet_core::{Octets, Text, octets_of};
+use std::alloc::{AllocError, Global};
+
+/// What the words ask for, of which the first is the program's name.
+pub fn read(alloc: Global, words: &[String]) -> Result<Request, Fault>
+    ensures read { (result ≡ Err Fault.Memory) ⊎ IsRead (texts words.now) result }
+    ensures sized { IfOk result IsSized }
+{
+    match matches_of(alloc, words) {
+        Ok(matches) => request(alloc, &matches),
+        Err(error) => help_or_fault(alloc, &error),
+    }
+}
+
+/// The request that the matches of the words make.
+fn request(alloc: Global, matches: &ArgMatches) -> Result<Request, Fault>
+    ensures read { UnlessMemory result (request_of (subcommand_rows_of matches.now)) }
+    ensures sized { IfOk result IsSized }
+{
+    let Some((name, entered)) = entered(matches) else {
+        return Err(Fault::Words);
+    };
+    match name {
+        "check" => Ok(Request::Check(input(alloc, entered)?)),
+        "show" => Ok(Request::Show(input(alloc, entered)?)),
+        _ => Err(Fault::Words),
+    }
+}
+
+/// The subcommand and its matches.
+fn entered<'a, 'b>(matches: &'b ArgMatches<'a>) -> Option<(&'a str, &'b ArgMatches<'a>)>
+    ensures { option_map (λ p. (p.0.now, rows_of (found_of p.1.now))) result ≡ subcommand_rows_of matches.now }
+{
+    matches.subcommand()
+}
+
+/// A kind, octets and an information size.
+fn input(alloc: Global, matches: &ArgMatches) -> Result<Input, Fault>
+    ensures read { UnlessMemory result (input_of (rows_of (found_of matches.now))) }
+    ensures least { IfOk result (λ input. 1 ≤ input.ifs) }
+    ensures most { IfOk result (λ input. input.ifs ≤ 254) }
+{
+    let ifs = size(word(matches, "ifs"))?;
+    let kind = kind(word(matches, "kind").ok_or(Fault::Words)?)?;
+    let octets = octets(alloc, word(matches, "hex").ok_or(Fault::Words)?)?;
+    Ok(Input { kind, octets, ifs })
+}
+
+/// The first value of an argument.
+fn word<'a>(matches: &ArgMatches<'a>, id: &str) -> Option<&'a str>
+    ensures { option_map (λ word. word.now) result ≡ first_of id.now (rows_of (found_of matches.now)) }
+{
+    matches.get_str(id)
+}
+
+fn kind(word: &str) -> Result<Kind, Fault>
+    ensures { result ≡ kind_of word.now }
+{
+    match word {
+        "block" => Ok(Kind::Block),
+        _ => Err(Fault::Words),
+    }
+}
+
+/// An information size, 254 where there is no word. `clap` has refused a word out of range.
+fn size(word: Option<&str>) -> Result<u8, Fault>
+    ensures { result ≡ size_of (option_map (λ word. word.now) word.entry) }
+{
+    let Some(word) = word else {
+        return Ok(254);
+    };
+    let ifs = word.parse().unwrap_or(0);
+    if 1 <= ifs && ifs <= 254 {
+        Ok(ifs)
+    } else {
+        Err(Fault::Words)
+    }
+}
+
+/// The octets that a word gives in hexadecimal, none where it is `none`.
+fn octets(alloc: Global, word: &str) -> Result<Octets, Fault>
+    ensures { UnlessMemory result (octets_of_word word.now) }
+{
+    if word == "none" {
+        return Ok(Octets::of(Vec::new(alloc)));
+    }
+    Ok(Octets::of(octets_of(alloc, word)?))
+}
+
+/// What a parse that gave no matches comes to: the text of a call for help, or a fault.
+fn help_or_fault(alloc: Global, error: &Error) -> Result<Request, Fault>
+    ensures read { IsHelpOrFault (error_kind error.now) result }
+    ensures sized { IfOk result IsSized }
+{
+    match error.kind() {
+        ErrorKind::OutOfMemory => Err(Fault::Memory),
+        ErrorKind::DisplayHelp => Ok(Request::Help(Text::of(format!(in alloc; "{error}")?))),
+        _ => Err(Fault::Words),
+    }
+}
+
+fn matches_of<'a>(alloc: Global, words: &'a [String]) -> Result<ArgMatches<'a>, Error>
+    ensures taken { IfOk result (λ m. fault_of scard (texts words.now) ≡ []) }
+    ensures entered { IfOk result (λ m. subcommand_rows_of m ≡ subcommand_of scard (texts words.now)) }
+    ensures kind { IfErr result (HasKind (fault_of scard (texts words.now))) }
+{
+    let program = program(alloc)?;
+    program.try_get_matches_from(words)
+}
+
+/// The program as a command of `clap`.
+fn program<'a>(alloc: Global) -> Result<Command<'a>, AllocError>
+    ensures { IfOk result (λ command. app_of command ≡ scard) }
+{
+    let check = input_command(
+        alloc,
+        "check",
+        "Say whether octets are a value, and how many it takes",
+    )?;
+    let show = input_command(alloc, "show", "Show the value that octets spell")?;
+    Command::new(alloc, "scard")
+        .about("Answers to reset, T=1 blocks, APDUs and data objects of smart cards")
+        .subcommand(check)?
+        .subcommand(show)
+}
+
+/// A subcommand that takes a kind, octets and an information size.
+fn input_command<'a>(
+    alloc: Global,
+    name: &'a str,
+    about: &'a str,
+) -> Result<Command<'a>, AllocError>
+    ensures app { IfOk result (λ command. app_of command ≡ input_app name.now) }
+    ensures local { IfOk result (λ command. (out-Command command).has_globals ≡ false) }
+{
+    Command::new(alloc, name)
+        .about(about)
+        .arg(kind_arg(alloc))?
+        .arg(hex_arg(alloc))?
+        .arg(ifs_arg(alloc))
+}
+
+fn kind_arg<'a>(alloc: Global) -> Arg<'a>
+    ensures rule { rule_of result ≡ kind_rule }
+    ensures local { result.global ≡ false }
+{
+    Arg::new(alloc, "kind")
+        .required(true)
+        .help("What the octets are taken for: block")
+}
+
+fn hex_arg<'a>(alloc: Global) -> Arg<'a>
+    ensures rule { rule_of result ≡ hex_rule }
+    ensures local { result.global ≡ false }
+{
+    Arg::new(alloc, "hex")
+        .required(true)
+        .help("The octets in hexadecimal, or none")
+}
+
+fn ifs_arg<'a>(alloc: Global) -> Arg<'a>
+    ensures rule { rule_of result ≡ ifs_rule }
+    ensures local { result.global ≡ false }
+{
+    Arg::new(alloc, "ifs")
+        .long("ifs")
+        .value_parser(value_parser!(u8).range(1..=254))
+        .help("The information size, 1 to 254 [default: 254]")
+}

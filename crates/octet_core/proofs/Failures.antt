@@ -1,0 +1,19 @@
+-- What a failed call leaves of the count, and writes in a row.
+use Rattle.std.proofs.Common.{◌≡◌, ℕ, ◌++◌, arith, inl, inr, Option, None, Some, List, ap, ◌∙◌, append_assoc}
+use Rattle.std.specs.Io.KnownBytes.{Appends}
+use Rattle.std.proofs.lemmas.Bool.{cases_lt}
+use Rattle.octet_core.specs.Failures.{most_failures, next_count, HasFailed}
+
+pub next_fails : (n m : ℕ) → m ≡ next_count n → HasFailed n m
+next_fails n m e =
+    elim (cases_lt n most_failures) [
+      | inl lt ↦ inl (omega arith)
+      | inr le ↦ inr le
+    ]
+
+-- two writes in a row
+pub Appends-then : (a b c : Option (List ℕ)) (x y : List ℕ) → Appends a b x → Appends b c y → Appends a c (x ++ y)
+Appends-then None b c x y p q = tt
+Appends-then (Some a) None c x y p q = absurd p
+Appends-then (Some a) (Some b) None x y p q = absurd q
+Appends-then (Some a) (Some b) (Some c) x y p q = q ∙ ap (λ (l : List ℕ). l ++ y) p ∙ append_assoc a x y

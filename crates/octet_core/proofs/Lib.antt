@@ -1,0 +1,7 @@
+pub mod Begun
+pub mod Lists
+pub mod Told
+pub mod Firsts
+pub mod Verdicts
+pub mod Failures
+pub mod HexadecimalLemmas

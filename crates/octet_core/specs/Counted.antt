@@ -1,0 +1,10 @@
+-- What a counted reader or writer shows.
+use Rattle.std.specs.Prelude.{ℕ}
+use Rattle.octet_core.specs.declared.counted.Counted.{Counted}
+
+module _ {T : Type 0} where
+  abbrev pub inner_of : Counted T → T
+  inner_of c = c.inner
+
+  abbrev pub failures_of : Counted T → ℕ
+  failures_of c = c.failures

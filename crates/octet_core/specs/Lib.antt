@@ -1,0 +1,6 @@
+pub mod Octets
+pub mod Grammar
+pub mod Failures
+pub mod Counted
+pub mod Hexadecimal
+pub mod Reader

@@ -1,0 +1,135 @@
+//! Readers and writers for tests: slow, failing, interrupted or endless ones.
+
+ghost use Rattle.std.specs.Prelude.{◌≡◌, ◌≢◌, ◌≤◌, ◌<◌, length, IfOk};
+
+use std::io::{self, ErrorKind, Read, Write};
+
+/// How many octets a `Taker` keeps at most.
+pub const LARGEST_ROOM: usize = 4096;
+
+/// What a device does once its octets are given, or its room is full.
+#[derive(Clone, Copy, Debug, PartialEq, Eq)]
+pub enum After {
+    /// A call moves no octet.
+    End,
+    /// A call fails.
+    Fails,
+    /// A call fails as one that was interrupted.
+    Interrupted,
+    /// A reader gives its octets again, without an end.
+    Repeats,
+}
+
+impl After {
+    /// What a call answers that moves no octet.
+    fn answer(self) -> io::Result<usize>
+        ensures { IfOk result (λ count. count ≡ 0) }
+    {
+        match self {
+            After::End | After::Repeats => Ok(0),
+            After::Fails => Err(ErrorKind::Other.into()),
+            After::Interrupted => Err(ErrorKind::Interrupted.into()),
+        }
+    }
+}
+
+/// A reader that gives octets, at most `step` by one call.
+#[derive(Debug, Drop)]
+pub struct Feeder<'a> {
+    octets: &'a [u8],
+    step: usize,
+    after: After,
+    place: usize,
+    given: u64,
+    ghost within: { place ≤ length octets.now },
+}
+
+impl<'a> Feeder<'a> {
+    /// A reader of these octets. `step` is at least 1; only a reader of some octets repeats them.
+    pub fn new(octets: &'a [u8], step: usize, after: After) -> Self
+        requires step { 1 ≤ step }
+        requires repeats { after ≡ After.Repeats → 0 < length octets.now }
+    {
+        Feeder {
+            octets,
+            step,
+            after,
+            place: 0,
+            given: 0,
+        }
+    }
+
+    /// How many octets were given; it stays at its greatest value once there.
+    pub fn given(&self) -> u64 {
+        self.given
+    }
+}
+
+impl Read for Feeder<'_> {
+    fn read(&mut self, room: &mut [u8]) -> io::Result<usize> {
+        if self.place == self.octets.len() {
+            if self.after != After::Repeats {
+                return self.after.answer();
+            }
+            self.place = 0;
+        }
+        let rest = &self.octets[self.place..];
+        let count = rest.len().min(self.step).min(room.len());
+        room[..count].copy_from_slice(&rest[..count]);
+        self.place += count;
+        self.given = self.given.saturating_add(count as u64);
+        Ok(count)
+    }
+}
+
+/// A writer that keeps what it takes, at most `step` octets by one call.
+#[derive(Debug, Drop)]
+pub struct Taker {
+    held: [u8; LARGEST_ROOM],
+    len: usize,
+    room: usize,
+    step: usize,
+    after: After,
+    ghost within: { len ≤ room },
+    ghost most: { room ≤ 4096 },
+}
+
+impl Taker {
+    /// A writer with room for `room` octets, at most 4,096. `step` is at least 1, and a writer doesn't
+    /// repeat.
+    pub fn new(room: usize, step: usize, after: After) -> Self
+        requires room { room ≤ 4096 }
+        requires step { 1 ≤ step }
+        requires once { after ≢ After.Repeats }
+    {
+        Taker {
+            held: [0; LARGEST_ROOM],
+            len: 0,
+            room,
+            step,
+            after,
+        }
+    }
+
+    /// The octets that were taken.
+    pub fn kept(&self) -> &[u8] {
+        &self.held[..self.len]
+    }
+}
+
+impl Write for Taker {
+    fn write(&mut self, octets: &[u8]) -> io::Result<usize> {
+        let count = octets.len().min(self.step).min(self.room - self.len);
+        if count == 0 && !octets.is_empty() {
+            return self.after.answer();
+        }
+        let end = self.len + count;
+        self.held[self.len..end].copy_from_slice(&octets[..count]);
+        self.len = end;
+        Ok(count)
+    }
+
+    fn flush(&mut self) -> io::Result<()> {
+        Ok(())
+    }
+}

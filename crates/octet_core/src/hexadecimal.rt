@@ -1,0 +1,43 @@
+//! Octets as hexadecimal text.
+
+ghost use Rattle.std.specs.Prelude.{◌≡◌, IfOk, IfErr, Ok, string_bytes};
+ghost use Rattle.hex.specs.Hex.{decode_of, encode_upper};
+ghost use Rattle.octet_core.specs.Hexadecimal.{IsHexFault};
+
+use hex::FromHexError;
+use std::alloc::{AllocError, Global};
+
+/// Why a text is no octets in hexadecimal.
+#[derive(Clone, Copy, Debug, PartialEq, Eq)]
+pub enum HexFault {
+    /// The text has an odd number of octets in UTF-8.
+    Odd,
+    /// The octet at `place` of the text, counted from 0, is the first that is no digit.
+    Digit { place: usize },
+    /// A growth was refused. The text has an even number of octets, and may have another digit.
+    Memory,
+}
+
+/// The octets that the text gives with two digits each, in either case.
+pub fn octets_of(alloc: Global, text: &str) -> Result<Vec<u8>, HexFault>
+    ensures octets { IfOk result (λ octets. decode_of text.now ≡ Ok octets.items) }
+    ensures fault { IfErr result (IsHexFault text.now) }
+{
+    match hex::decode(alloc, text) {
+        Ok(octets) => Ok(octets),
+        Err(FromHexError::InvalidHexCharacter { c: _, index }) => {
+            Err(HexFault::Digit { place: index })
+        }
+        Err(FromHexError::OutOfMemory) => Err(HexFault::Memory),
+        Err(FromHexError::OddLength) => Err(HexFault::Odd),
+        // `decode` makes room of the length that the text asks for.
+        Err(FromHexError::InvalidStringLength) => unreachable!(),
+    }
+}
+
+/// The octets as text with two digits each, letters in upper case.
+pub fn hex_upper(alloc: Global, octets: &[u8]) -> Result<String, AllocError>
+    ensures { IfOk result (λ text. string_bytes text ≡ encode_upper octets.now) }
+{
+    hex::encode_upper(alloc, octets)
+}

@@ -1,0 +1,28 @@
+//! What every codec of the stack stands on: lists of octets and why they are refused, the
+//! redundancy check, and readers and writers whose failures are counted.
+//!
+//! The grammar of a codec is a relation between values and lists of octets. What a decoder answers
+//! is the *verdict* of its grammar: the value and the octets that it takes, or the place at which no
+//! spelling goes on and the reason, or that the input was short. The definitions stand in
+//! `specs/Grammar.antt`, once for all codecs.
+#![tactic(auto)]
+
+pub mod counted;
+pub mod device;
+pub mod format;
+pub mod hexadecimal;
+pub mod octets;
+pub mod redundancy;
+pub mod stop;
+pub mod stream;
+#[cfg(test)]
+mod tests;
+
+pub use counted::Counted;
+pub use device::{After, Feeder, Taker};
+pub use format::Format;
+pub use hexadecimal::{HexFault, hex_upper, octets_of};
+pub use octets::{Octets, Text};
+pub use redundancy::lrc;
+pub use stop::{Refusal, Refused, Stop};
+pub use stream::{Sink, Source, WriteFault, write_octets};

@@ -1,0 +1,127 @@
+//! Lists of octets and texts that own their memory, which contracts see as lists of octets.
+
+use std::marker::Model;
+
+/// Octets in a vector, which contracts see as a list.
+#[derive(Debug, Drop)]
+pub struct Octets {
+    held: Vec<u8>,
+}
+
+impl Model for Octets {
+    ghost use Rattle.std.specs.Prelude.{List, ℕ};
+
+    ghost Value = { List ℕ };
+
+    ghost view = { λ octets. octets.held.items };
+}
+
+impl Octets {
+    ghost use Rattle.std.specs.Prelude.{◌≡◌};
+
+    /// The octets of a vector.
+    pub fn of(held: Vec<u8>) -> Self
+        ensures { result ≡ held.items }
+    {
+        Octets { held }
+    }
+
+    /// The octets, lent.
+    pub fn get(&self) -> &[u8]
+        ensures { result.now ≡ self.now }
+    {
+        self.held.as_slice()
+    }
+
+    /// The vector back.
+    pub fn into_inner(self) -> Vec<u8>
+        ensures { result.items ≡ self }
+    {
+        self.held
+    }
+}
+
+impl PartialEq for Octets {
+    ghost use Rattle.std.specs.Prelude.{◌==◌};
+    ghost use Rattle.std.proofs.lemmas.Cmp.{nat_list_eq_equiv};
+    ghost use lib.Pointwise.{pointwise};
+    ghost use Rattle.std.proofs.Common.{rules};
+    ghost use Rattle.std.specs.Cmp.Rules.{comparing};
+
+    ghost eq = { pointwise ◌==◌ };
+
+    ghost laws = { Prim.search (comparing, rules) };
+
+    fn eq(&self, other: &Self) -> bool {
+        self.get() == other.get()
+    }
+}
+
+impl Eq for Octets {
+    ghost use Rattle.std.proofs.Common.{rules};
+    ghost use Rattle.std.specs.Cmp.Rules.{comparing};
+
+    ghost laws = { Prim.search (comparing, rules) };
+}
+
+/// A text, which contracts see as the list of its octets in UTF-8.
+#[derive(Debug, Drop)]
+pub struct Text {
+    held: String,
+}
+
+impl Model for Text {
+    ghost use Rattle.std.specs.Prelude.{List, ℕ, string_bytes};
+
+    ghost Value = { List ℕ };
+
+    ghost view = { λ text. string_bytes text.held };
+}
+
+impl Text {
+    ghost use Rattle.std.specs.Prelude.{◌≡◌, string_bytes};
+
+    /// The text of a string.
+    pub fn of(held: String) -> Self
+        ensures { result ≡ string_bytes held }
+    {
+        Text { held }
+    }
+
+    /// The text, lent.
+    pub fn get(&self) -> &str
+        ensures { result.now ≡ self.now }
+    {
+        self.held.as_str()
+    }
+
+    /// The string back.
+    pub fn into_inner(self) -> String
+        ensures { string_bytes result ≡ self }
+    {
+        self.held
+    }
+}
+
+impl PartialEq for Text {
+    ghost use Rattle.std.specs.Prelude.{◌==◌};
+    ghost use Rattle.std.proofs.lemmas.Cmp.{nat_list_eq_equiv};
+    ghost use lib.Pointwise.{pointwise};
+    ghost use Rattle.std.proofs.Common.{rules};
+    ghost use Rattle.std.specs.Cmp.Rules.{comparing};
+
+    ghost eq = { pointwise ◌==◌ };
+
+    ghost laws = { Prim.search (comparing, rules) };
+
+    fn eq(&self, other: &Self) -> bool {
+        self.get() == other.get()
+    }
+}
+
+impl Eq for Text {
+    ghost use Rattle.std.proofs.Common.{rules};
+    ghost use Rattle.std.specs.Cmp.Rules.{comparing};
+
+    ghost laws = { Prim.search (comparing, rules) };
+}

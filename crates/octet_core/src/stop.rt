@@ -1,0 +1,27 @@
+//! Why octets are refused.
+
+/// Why octets are no spelling of a value. Places count octets from 0.
+#[derive(Clone, Copy, Debug, PartialEq, Eq)]
+pub enum Stop<R> {
+    /// The input ended at `place`, where a spelling could still go on.
+    Short { place: usize },
+    /// The octet at `place` is the first after which no spelling goes on.
+    At { place: usize, reason: R },
+}
+
+/// Why a call that takes memory gave no value.
+#[derive(Clone, Copy, Debug, PartialEq, Eq)]
+pub enum Refused<R> {
+    /// The octets are no spelling.
+    Stop(Stop<R>),
+    /// A growth was refused. The octets may be a spelling or not.
+    Memory,
+}
+
+/// A refusal that a reader keeps and repeats: the octet at `place`, counted from the first that it was
+/// ever fed, is the first after which no spelling goes on.
+#[derive(Clone, Copy, Debug, PartialEq, Eq)]
+pub struct Refusal<R> {
+    pub place: usize,
+    pub reason: R,
+}

@@ -1,0 +1,80 @@
+//! Readers and writers that tell how many of their calls failed.
+
+ghost use Rattle.std.specs.Prelude.{◌≡◌, ◌≤◌, ◌<◌, List, ℕ, Option, OnOk, IfErr, IfSome, IfNone, take, length};
+ghost use Rattle.std.specs.Io.{ReadsAtMost, WritesAtMost};
+ghost use Rattle.std.specs.Io.KnownBytes.{ReadConsumes, WriteAppends, Appends, Keeps};
+ghost use Rattle.octet_core.specs.Failures.{Counts, ReadFails, WriteFails, HasFailed};
+
+use std::io;
+
+/// A reader that counts the calls that failed. The end of its input is no failure.
+pub trait Source {
+    /// The octets that are left to read, where they are known.
+    ghost remaining: { Self → Option (List ℕ) };
+
+    /// How many calls failed; it stays at its greatest value once there.
+    ghost failures: { Self → ℕ };
+
+    /// Reads as std's `Read::read` does: up to `room.len()` octets, 0 at the end of the input.
+    fn read(&mut self, room: &mut [u8]) -> io::Result<usize>
+        ensures bound { ReadsAtMost result room.new }
+        ensures octets { ReadConsumes (remaining self.old) (remaining self.new) result room.new }
+        ensures counted { Counts (ReadFails result) (failures self.old) (failures self.new) };
+}
+
+/// A writer that counts the calls that failed. To take no octet of some is a failure.
+pub trait Sink {
+    /// The octets that were written, where they are known.
+    ghost contents: { Self → Option (List ℕ) };
+
+    /// How many calls failed; it stays at its greatest value once there.
+    ghost failures: { Self → ℕ };
+
+    /// Writes as std's `Write::write` does: the octets taken, from the first on.
+    fn write(&mut self, octets: &[u8]) -> io::Result<usize>
+        ensures bound { WritesAtMost result octets.now }
+        ensures octets { WriteAppends (contents self.old) (contents self.new) result octets.now }
+        ensures counted { Counts (WriteFails octets.now result) (failures self.old) (failures self.new) };
+}
+
+/// The writer failed, or took no octet, after `written` octets.
+#[derive(Clone, Copy, Debug, PartialEq, Eq)]
+pub struct WriteFault {
+    pub written: usize,
+}
+
+/// Writes some of the octets by one call, `None` where it fails.
+fn write_some<W: Sink>(writer: &mut W, octets: &[u8]) -> Option<usize>
+    requires { 0 < length octets.now }
+    ensures some { IfSome result (λ n. (0 < n) × (n ≤ length octets.now)) }
+    ensures taken { IfSome result (λ n. Appends (W.contents writer.old) (W.contents writer.new) (take n octets.now)) }
+    ensures kept { IfSome result (λ n. W.failures writer.new ≡ W.failures writer.old) }
+    ensures nothing { IfNone result (Keeps (W.contents writer.old) (W.contents writer.new)) }
+    ensures failed { IfNone result (HasFailed (W.failures writer.old) (W.failures writer.new)) }
+{
+    match writer.write(octets) {
+        Ok(0) => None,
+        Ok(taken) => Some(taken),
+        Err(_) => None,
+    }
+}
+
+/// Writes all octets. At a fault the writer has taken the first `written` octets, fewer than all,
+/// and a call of it failed in this one; a failed call isn't tried again, an interruption neither.
+pub fn write_octets<W: Sink>(writer: &mut W, octets: &[u8]) -> Result<(), WriteFault>
+    ensures all { OnOk result (Appends (W.contents writer.old) (W.contents writer.new) octets.now) }
+    ensures none_failed { OnOk result (W.failures writer.new ≡ W.failures writer.old) }
+
+    ensures fewer { IfErr result (λ fault. fault.written < length octets.now) }
+    ensures first { IfErr result (λ fault. Appends (W.contents writer.old) (W.contents writer.new) (take fault.written octets.now)) }
+    ensures failed { IfErr result (λ fault. HasFailed (W.failures writer.old) (W.failures writer.new)) }
+{
+    let mut written = 0;
+    while written < octets.len() {
+        match write_some(writer, &octets[written..]) {
+            Some(taken) => written += taken,
+            None => return Err(WriteFault { written }),
+        }
+    }
+    Ok(())
+}
