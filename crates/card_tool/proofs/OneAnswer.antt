@@ -2,14 +2,19 @@
 use Rattle.std.proofs.Common.{◌≡◌, ◌≤◌, ◌∙◌, inl, inr, ℕ, List, ap, sym, refl}
 use Rattle.octet_core.specs.Octets.{AreOctets}
 use Rattle.octet_core.specs.Grammar.{Ending, OneVerdict, self_ended}
+use Rattle.atr_core.specs.Atr as atr
+use Rattle.atr_core.specs.Atr.{IsAtr}
+use Rattle.atr_core.proofs.Goes as atr_goes
 use Rattle.block_core.specs.Block.{IsBlock, IsReason}
 use Rattle.block_core.proofs.Goes.{one-verdict}
 use Rattle.card_tool.specs.Answers.{Checks, HasOctets, IsAnswerTo, Shows, Tells, accepted, refused}
 use Rattle.card_tool.specs.Texts.{accepted_text, refused_text}
+use Rattle.card_tool.specs.AtrTexts as atr_texts
+use Rattle.card_tool.specs.AtrTexts.{atr_text}
 use Rattle.card_tool.specs.BlockTexts.{block_text, reason_text}
 use Rattle.card_tool.specs.Words.{IsSized}
 use Rattle.card_tool.specs.declared.request.Kind.{Kind}
-use Rattle.card_tool.specs.declared.request.Kind.TheVariants.{Block}
+use Rattle.card_tool.specs.declared.request.Kind.TheVariants.{Atr, Block}
 use Rattle.card_tool.specs.declared.request.Input.{Input}
 use Rattle.card_tool.specs.declared.request.Request.{Request}
 use Rattle.card_tool.specs.declared.request.Request.TheVariants.{Check, Show, Help}
@@ -36,15 +41,19 @@ module _ {V R : Type 0} (e : Ending) (S : V → List ℕ → Type 0) (Reason : R
 -- ---- the kinds
 
 one-checked : (kind : Kind) (input : Input) (t u : List ℕ) (s q : Status) → input.ifs ≤ 254 → AreOctets input.octets → Checks kind input t s → Checks kind input u q → (t ≡ u) × (s ≡ q)
+one-checked Atr input t u s q small octets h g = one-told self_ended IsAtr atr.IsReason atr_texts.reason_text (λ v n. accepted_text n) input.octets (atr_goes.one-verdict input.octets octets) t u s q h g
 one-checked Block input t u s q small octets h g = one-told self_ended (IsBlock input.ifs) (IsReason input.ifs) reason_text (λ v n. accepted_text n) input.octets (one-verdict input.ifs input.octets small octets) t u s q h g
 
 one-shown : (kind : Kind) (input : Input) (t u : List ℕ) (s q : Status) → input.ifs ≤ 254 → AreOctets input.octets → Shows kind input t s → Shows kind input u q → (t ≡ u) × (s ≡ q)
+one-shown Atr input t u s q small octets h g = one-told self_ended IsAtr atr.IsReason atr_texts.reason_text (λ v n. atr_text v) input.octets (atr_goes.one-verdict input.octets octets) t u s q h g
 one-shown Block input t u s q small octets h g = one-told self_ended (IsBlock input.ifs) (IsReason input.ifs) reason_text (λ v n. block_text v) input.octets (one-verdict input.ifs input.octets small octets) t u s q h g
 
 some-checked : (kind : Kind) (input : Input) → input.ifs ≤ 254 → AreOctets input.octets → (t : List ℕ) × (s : Status) × Checks kind input t s
+some-checked Atr input small octets = some-told self_ended IsAtr atr.IsReason atr_texts.reason_text (λ v n. accepted_text n) input.octets (atr_goes.one-verdict input.octets octets)
 some-checked Block input small octets = some-told self_ended (IsBlock input.ifs) (IsReason input.ifs) reason_text (λ v n. accepted_text n) input.octets (one-verdict input.ifs input.octets small octets)
 
 some-shown : (kind : Kind) (input : Input) → input.ifs ≤ 254 → AreOctets input.octets → (t : List ℕ) × (s : Status) × Shows kind input t s
+some-shown Atr input small octets = some-told self_ended IsAtr atr.IsReason atr_texts.reason_text (λ v n. atr_text v) input.octets (atr_goes.one-verdict input.octets octets)
 some-shown Block input small octets = some-told self_ended (IsBlock input.ifs) (IsReason input.ifs) reason_text (λ v n. block_text v) input.octets (one-verdict input.ifs input.octets small octets)
 
 -- ---- requests

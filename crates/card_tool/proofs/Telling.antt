@@ -6,10 +6,7 @@ use Rattle.octet_core.specs.Octets.{xor_of}
 use Rattle.block_core.specs.Block.{Parts, front_of, spelling}
 use Rattle.octet_core.specs.Grammar.{Ending, Accepts, Refuses}
 use Rattle.octet_core.specs.declared.stop.Stop.{Stop}
-use Rattle.card_tool.specs.Answers.{Checks, Shows, Tells, accepted, refused}
-use Rattle.card_tool.specs.declared.request.Kind.{Kind}
-use Rattle.card_tool.specs.declared.request.Kind.TheVariants.{Block}
-use Rattle.card_tool.specs.declared.request.Input.{Input}
+use Rattle.card_tool.specs.Answers.{Tells, accepted, refused}
 use Rattle.card_tool.specs.Texts.{refused_text}
 use Rattle.card_tool.specs.declared.answer.Answer.{Answer}
 use Rattle.card_tool.specs.declared.status.Status.TheVariants as status
@@ -24,14 +21,6 @@ module _ {E V R : Type 0} (e : Ending) (S : V → List ℕ → Type 0) (Reason :
       → IfOk r (λ a. Tells e S Reason name told b (string_bytes a.text) a.status)
   tells-refused (Ok a) stop h text ended = refused stop h text ended
   tells-refused (Err f) stop h text ended = tt
-
--- ---- the kinds
-
-pub checks-block : {E : Type 0} (kind : Kind) (input : Input) (r : Result Answer E) → IfOk r (λ a. Checks Block input (string_bytes a.text) a.status) → IfOk r (λ a. Checks kind input (string_bytes a.text) a.status)
-checks-block Block input r h = h
-
-pub shows-block : {E : Type 0} (kind : Kind) (input : Input) (r : Result Answer E) → IfOk r (λ a. Shows Block input (string_bytes a.text) a.status) → IfOk r (λ a. Shows kind input (string_bytes a.text) a.status)
-shows-block Block input r h = h
 
 -- ---- blocks
 

@@ -5,8 +5,12 @@ use Rattle.octet_core.specs.declared.stop.Stop.{Stop}
 use Rattle.octet_core.specs.Failures.{HasFailed}
 use Rattle.octet_core.specs.Octets.{AreOctets}
 use Rattle.octet_core.specs.Grammar.{Ending, self_ended, Accepts, Refuses}
+use Rattle.atr_core.specs.Atr as atr
+use Rattle.atr_core.specs.Atr.{IsAtr}
 use Rattle.block_core.specs.Block.{IsBlock, IsReason}
 use Rattle.card_tool.specs.Texts.{accepted_text, refused_text, fault_text}
+use Rattle.card_tool.specs.AtrTexts as atr_texts
+use Rattle.card_tool.specs.AtrTexts.{atr_text}
 use Rattle.card_tool.specs.BlockTexts.{block_text, reason_text}
 use Rattle.card_tool.specs.Words.{IsRead}
 use Rattle.card_tool.specs.declared.status.Status.{Status}
@@ -15,7 +19,7 @@ use Rattle.card_tool.specs.declared.fault.Fault.{Fault}
 use Rattle.card_tool.specs.declared.fault.Fault.TheVariants.{Memory}
 use Rattle.card_tool.specs.declared.answer.Answer.{Answer}
 use Rattle.card_tool.specs.declared.request.Kind.{Kind}
-use Rattle.card_tool.specs.declared.request.Kind.TheVariants.{Block}
+use Rattle.card_tool.specs.declared.request.Kind.TheVariants.{Atr, Block}
 use Rattle.card_tool.specs.declared.request.Input.{Input}
 use Rattle.card_tool.specs.declared.request.Request.{Request}
 use Rattle.card_tool.specs.declared.request.Request.TheVariants.{Check, Show, Help}
@@ -27,10 +31,12 @@ pub data Tells {V R : Type 0} (e : Ending) (S : V → List ℕ → Type 0) (Reas
 
 -- how many octets the value takes
 abbrev pub Checks : Kind → Input → List ℕ → Status → Type 0
+Checks Atr input = Tells self_ended IsAtr atr.IsReason atr_texts.reason_text (λ v n. accepted_text n) input.octets
 Checks Block input = Tells self_ended (IsBlock input.ifs) (IsReason input.ifs) reason_text (λ v n. accepted_text n) input.octets
 
 -- the value itself
 abbrev pub Shows : Kind → Input → List ℕ → Status → Type 0
+Shows Atr input = Tells self_ended IsAtr atr.IsReason atr_texts.reason_text (λ v n. atr_text v) input.octets
 Shows Block input = Tells self_ended (IsBlock input.ifs) (IsReason input.ifs) reason_text (λ v n. block_text v) input.octets
 
 -- the text and the status that a request has

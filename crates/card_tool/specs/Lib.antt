@@ -1,5 +1,6 @@
 pub mod Faults
 pub mod Texts
+pub mod AtrTexts
 pub mod BlockTexts
 pub mod Words
 pub mod Answers

@@ -13,7 +13,7 @@ use Rattle.clap.specs.declared.error.kind.ErrorKind.TheVariants.{DisplayHelp, Ou
 use Rattle.card_tool.specs.declared.fault.Fault.{Fault}
 use Rattle.card_tool.specs.declared.fault.Fault.TheVariants.{Words, Hex, Memory}
 use Rattle.card_tool.specs.declared.request.Kind.{Kind}
-use Rattle.card_tool.specs.declared.request.Kind.TheVariants.{Block}
+use Rattle.card_tool.specs.declared.request.Kind.TheVariants.{Atr, Block}
 use Rattle.card_tool.specs.declared.request.Input.{Input}
 use Rattle.card_tool.specs.declared.request.Request.{Request}
 use Rattle.card_tool.specs.declared.request.Request.TheVariants.{Check, Show, Help}
@@ -52,7 +52,10 @@ needed None = Err Words
 needed (Some word) = Ok word
 
 abbrev pub kind_of : List ℕ → Result Kind Fault
-kind_of word = if bytes_eq word (codes "block") then Ok Block else Err Words
+kind_of word =
+    if bytes_eq word (codes "atr") then Ok Atr
+    else (if bytes_eq word (codes "block") then Ok Block
+    else Err Words)
 
 abbrev pub hex_octets : Result (List ℕ) FromHexError → Result (List ℕ) Fault
 hex_octets (Ok octets) = Ok octets

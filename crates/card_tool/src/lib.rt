@@ -7,6 +7,7 @@
 #![tactic(auto)]
 
 pub mod answer;
+pub mod atr;
 pub mod block;
 pub mod fault;
 pub mod laws;

@@ -10,7 +10,7 @@ use crate::answer::Answer;
 use crate::fault::Fault;
 use crate::request::{Kind, Request};
 use crate::status::Status;
-use crate::{block, words};
+use crate::{atr, block, words};
 use octet_core::{Sink, Source, write_octets};
 use std::alloc::{AllocError, Global};
 
@@ -63,9 +63,11 @@ fn answer_to(alloc: Global, request: Request) -> Result<Answer, AllocError>
 {
     match request {
         Request::Check(input) => match input.kind {
+            Kind::Atr => atr::check(alloc, input.octets.get()),
             Kind::Block => block::check(alloc, input.octets.get(), input.ifs),
         },
         Request::Show(input) => match input.kind {
+            Kind::Atr => atr::show(alloc, input.octets.get()),
             Kind::Block => block::show(alloc, input.octets.get(), input.ifs),
         },
         Request::Help(text) => Ok(Answer::told(text.into_inner())),

@@ -5,6 +5,8 @@ use octet_core::{Octets, Text};
 /// What octets are checked or shown as.
 #[derive(Clone, Copy, Debug, PartialEq, Eq)]
 pub enum Kind {
+    /// An answer to reset.
+    Atr,
     /// A block of the T=1 protocol.
     Block,
 }

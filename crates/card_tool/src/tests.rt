@@ -178,6 +178,104 @@ fn shows_blocks(rt: HostRuntime) -> Result<(), Fail> {
 }
 
 #[test]
+fn checks_answers_to_reset(rt: HostRuntime) -> Result<(), Fail> {
+    for (hex, text, status) in [
+        ("3B00", "ok 2 octets\n", Status::Accepted),
+        ("3f00", "ok 2 octets\n", Status::Accepted),
+        ("3A", "refused at 0: BadTs\n", Status::Refused),
+        ("none", "short at 0\n", Status::Refused),
+        (
+            "3B8F8001804F0CA000000306030001000000006AFF",
+            "ok 20 octets\n",
+            Status::Accepted,
+        ),
+        ("3B80810001", "ok 5 octets\n", Status::Accepted),
+        ("3B808131204555", "ok 7 octets\n", Status::Accepted),
+        ("3B808131204554", "refused at 6: BadTck\n", Status::Refused),
+        ("3B8081312045", "short at 6\n", Status::Refused),
+        (
+            "3BFF112233F1445566F1778899F1",
+            "refused at 13: TooLong\n",
+            Status::Refused,
+        ),
+        (
+            "3BFF112233F1445566F177889971",
+            "short at 14\n",
+            Status::Refused,
+        ),
+        (
+            "3BFF000000F1000000F100000071000000\
+             0000000000000000000000000000008E",
+            "ok 33 octets\n",
+            Status::Accepted,
+        ),
+        ("0G", "fault: hex\n", Status::Fault),
+    ] {
+        says(&rt, rt.alloc(), &["check", "atr", hex], text, status)?;
+    }
+    // The information size is of no use here, and its range is checked all the same.
+    let sized: &[&str] = &["check", "atr", "3B00", "--ifs", "1"];
+    says(&rt, rt.alloc(), sized, "ok 2 octets\n", Status::Accepted)?;
+    let too_small: &[&str] = &["check", "atr", "3B00", "--ifs", "0"];
+    says(&rt, rt.alloc(), too_small, "fault: words\n", Status::Fault)?;
+    Ok(())
+}
+
+#[test]
+fn shows_answers_to_reset(rt: HostRuntime) -> Result<(), Fail> {
+    for (hex, text) in [
+        (
+            "3B8F8001804F0CA000000306030001000000006A",
+            "convention direct\nTD1 80\nTD2 01\n\
+             historical 804F0CA00000030603000100000000\ntck 6A\n\
+             F 372\nD 1\nt1 ifsc 32 bwi 4 cwi 13\n",
+        ),
+        (
+            "3B808131204555",
+            "convention direct\nTD1 81\nTD2 31\nTA3 20\nTB3 45\nhistorical none\ntck 55\n\
+             F 372\nD 1\nt1 ifsc 32 bwi 4 cwi 5\n",
+        ),
+        (
+            "3F1097",
+            "convention inverse\nTA1 97\nhistorical none\ntck absent\n\
+             F 512\nD 64\nt1 NoT1\n",
+        ),
+        (
+            "3B107A",
+            "convention direct\nTA1 7A\nhistorical none\ntck absent\n\
+             F reserved\nD reserved\nt1 NoT1\n",
+        ),
+        (
+            "3B808111FFEF",
+            "convention direct\nTD1 81\nTD2 11\nTA3 FF\nhistorical none\ntck EF\n\
+             F 372\nD 1\nt1 ReservedIfsc\n",
+        ),
+        (
+            "3B8081410141",
+            "convention direct\nTD1 81\nTD2 41\nTC3 01\nhistorical none\ntck 41\n\
+             F 372\nD 1\nt1 Crc\n",
+        ),
+    ] {
+        says(
+            &rt,
+            rt.alloc(),
+            &["show", "atr", hex],
+            text,
+            Status::Accepted,
+        )?;
+    }
+    let refused = "refused at 0: BadTs\n";
+    says(
+        &rt,
+        rt.alloc(),
+        &["show", "atr", "3A"],
+        refused,
+        Status::Refused,
+    )?;
+    Ok(())
+}
+
+#[test]
 fn words_of_no_form(rt: HostRuntime) -> Result<(), Fail> {
     let lines: [&[&str]; 16] = [
         &[],

@@ -70,6 +70,7 @@ fn kind(word: &str) -> Result<Kind, Fault>
     ensures { result ≡ kind_of word.now }
 {
     match word {
+        "atr" => Ok(Kind::Atr),
         "block" => Ok(Kind::Block),
         _ => Err(Fault::Words),
     }
@@ -159,7 +160,7 @@ fn kind_arg<'a>(alloc: Global) -> Arg<'a>
 {
     Arg::new(alloc, "kind")
         .required(true)
-        .help("What the octets are taken for: block")
+        .help("What the octets are taken for: atr or block")
 }
 
 fn hex_arg<'a>(alloc: Global) -> Arg<'a>

@@ -1,16 +1,13 @@
-use Rattle.std.proofs.Common.{List, ℕ, subst, IfOk, string_bytes}
-use Rattle.octet_core.specs.Grammar.{self_ended}
-use Rattle.block_core.specs.Block.{IsBlock, IsReason}
-use Rattle.card_tool.specs.Answers.{Tells}
-use Rattle.card_tool.specs.Texts.{accepted_text}
-use Rattle.card_tool.specs.BlockTexts.{block_text, reason_text}
-use Rattle.card_tool.proofs.Telling.{checks-block, shows-block}
 use Rattle.card_tool.proofs.program.answer_to.Goals as goal
 
+pub returns-in-Atr : goal.returns-in-Atr
+returns-in-Atr c = rw (c.in-Check.is, c.in-Atr.is) (rw c.get.ensures at c.check.ensures)
+
 pub returns-in-Check : goal.returns-in-Check
-returns-in-Check c = rw c.in-Check.is (checks-block c.in-Check.input.kind c.in-Check.input c.check.result
-    (subst (λ (b : List ℕ). IfOk c.check.result (λ a. Tells self_ended (IsBlock c.in-Check.input.ifs) (IsReason c.in-Check.input.ifs) reason_text (λ v n. accepted_text n) b (string_bytes a.text) a.status)) c.get.ensures c.check.ensures))
+returns-in-Check c = rw (c.in-Check.is, c.in-Block.is) (rw c.get-in-Block.ensures at c.check-in-Block.ensures)
+
+pub returns-in-Atr-kind : goal.returns-in-Atr-kind
+returns-in-Atr-kind c = rw (c.in-Show.is, c.in-Atr-kind.is) (rw c.get-in-Atr-kind.ensures at c.show.ensures)
 
 pub returns-in-Show : goal.returns-in-Show
-returns-in-Show c = rw c.in-Show.is (shows-block c.in-Show.input.kind c.in-Show.input c.show.result
-    (subst (λ (b : List ℕ). IfOk c.show.result (λ a. Tells self_ended (IsBlock c.in-Show.input.ifs) (IsReason c.in-Show.input.ifs) reason_text (λ v n. block_text v) b (string_bytes a.text) a.status)) c.get-in-Show.ensures c.show.ensures))
+returns-in-Show c = rw (c.in-Show.is, c.in-Block-kind.is) (rw c.get-in-Block-kind.ensures at c.show-in-Block-kind.ensures)

@@ -1,0 +1,10 @@
+pub mod Unique
+pub mod Rows
+pub mod Reasons
+pub mod Places
+pub mod Goes
+pub mod Lengths
+pub mod Built
+pub mod Partials
+pub mod Completed
+pub mod Equal

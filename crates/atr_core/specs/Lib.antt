@@ -1,0 +1,4 @@
+pub mod Atr
+pub mod T1
+pub mod Rates
+pub mod Partial

@@ -1,0 +1,166 @@
+-- Answers to reset of which some octets have come: which octets these are.
+use Rattle.std.specs.Prelude.{◌≡◌, ℕ, ◌+◌, ◌%◌, ◌<◌, ◌≤◌, ◌||◌, List, [], ◌∷◌, ◌++◌, length, Bool, true, false, IsTrue, Option, Some, None, Result, Ok, Err, IfNone}
+use Rattle.std.specs.List.{AllByRecursion}
+use Rattle.octet_core.specs.Octets.{AreOctets, xor_of}
+use Rattle.atr_core.specs.declared.atr.Interface.{Interface}
+use Rattle.atr_core.specs.declared.atr.Indicated.{Indicated}
+use Rattle.atr_core.specs.declared.reason.AtrReason.{AtrReason}
+use Rattle.atr_core.specs.declared.partial.Announced.{Announced}
+use Rattle.atr_core.specs.declared.partial.Header.{Header}
+use Rattle.atr_core.specs.declared.partial.Tail.{Tail}
+use Rattle.atr_core.specs.declared.partial.Partial.{Partial}
+use Rattle.atr_core.specs.declared.partial.Partial.TheVariants as partial
+use Rattle.atr_core.specs.declared.partial.Step.{Step}
+use Rattle.atr_core.specs.declared.partial.Step.TheVariants as step
+use Rattle.atr_core.specs.Atr.{AtrParts, count_of, ts_of, announcing, goes_on, octets_of, up_to_td, interface_octets, needs_tck, IsAtr, IsReason}
+
+-- ---- interface bytes under way
+
+-- a byte, or 0 where one is awaited
+abbrev pub or_awaited : Bool → Option ℕ → Option ℕ
+or_awaited true o = Some 0
+or_awaited false o = o
+
+-- the bytes, with 0 for those that are awaited
+abbrev pub filled : Interface → Announced → Interface
+filled bytes left = record { ta = or_awaited left.ta bytes.ta; tb = or_awaited left.tb bytes.tb; tc = or_awaited left.tc bytes.tc }
+
+-- the T0 or TD that announces the bytes that have come and those that are awaited
+abbrev pub told : Interface → Announced → ℕ → ℕ
+told bytes left low = announcing (filled bytes left) left.td low
+
+-- no TA, TB or TC
+abbrev pub no_bytes : Interface
+no_bytes = record { ta = None; tb = None; tc = None }
+
+-- left is what the octet announces
+abbrev pub Announces : Announced → ℕ → Type 0
+Announces left octet = told no_bytes left (octet % 16) ≡ octet
+
+-- TA, TB or TC is awaited
+abbrev pub awaits_byte : Announced → Bool
+awaits_byte left = (left.ta || left.tb) || left.tc
+
+-- TA, TB, TC or a TD is awaited
+abbrev pub is_announced : Announced → Bool
+is_announced left = ((left.ta || left.tb) || left.tc) || left.td
+
+-- an interface byte is next
+abbrev pub AwaitsByte : Announced → Type 0
+AwaitsByte left = awaits_byte left ≡ true
+
+-- a TD is next
+abbrev pub AwaitsTd : Announced → Type 0
+AwaitsTd left = (awaits_byte left ≡ false) × (left.td ≡ true)
+
+-- how many octets are awaited
+abbrev pub awaited_count : Announced → ℕ
+awaited_count left = count_of left.ta + count_of left.tb + count_of left.tc + count_of left.td
+
+-- no byte has come that stands after one that is awaited
+pub record InOrder (bytes : Interface) (left : Announced) : Type 0 where
+  pub ta : IsTrue left.ta → (bytes.ta ≡ None) × (bytes.tb ≡ None) × (bytes.tc ≡ None)
+  pub tb : IsTrue left.tb → (bytes.tb ≡ None) × (bytes.tc ≡ None)
+  pub tc : IsTrue left.tc → bytes.tc ≡ None
+
+-- an interface byte x that comes changes the bytes and what is awaited so
+pub record Puts (bytes : Interface) (left : Announced) (x : ℕ) (after : Interface) (later : Announced) : Type 0 where
+  pub ordered : InOrder after later
+  pub same : (low : ℕ) → told after later low ≡ told bytes left low
+  pub octets : octets_of after ≡ octets_of bytes ++ x ∷ []
+  pub count : awaited_count left ≡ awaited_count later + 1
+
+-- ---- up to the interface bytes
+
+-- the bytes of T0
+abbrev pub first_under : Option ℕ → Interface → Interface → Interface
+first_under None first bytes = bytes
+first_under (Some protocol) first bytes = first
+
+-- the TDs with those whose bytes come now
+abbrev pub tds_under : Option ℕ → List Indicated → Interface → List Indicated
+tds_under None indicated bytes = indicated
+tds_under (Some protocol) indicated bytes = indicated ++ (record { protocol = protocol; bytes = bytes }) ∷ []
+
+-- the bytes of T0, also while they come
+abbrev pub first_of : Header → Interface
+first_of h = first_under h.under h.first h.bytes
+
+-- the TDs that have come
+abbrev pub tds_of : Header → List Indicated
+tds_of h = tds_under h.under h.indicated.items h.bytes
+
+-- the octets from T0 on, where k historical bytes are announced
+abbrev pub from_t0 : Option ℕ → Interface → List Indicated → Interface → Announced → ℕ → List ℕ
+from_t0 None first indicated bytes left k = told bytes left k ∷ octets_of bytes
+from_t0 (Some protocol) first indicated bytes left k = announcing first true k ∷ up_to_td first indicated (told bytes left protocol) ++ octets_of bytes
+
+-- the octets that have come from T0 on
+abbrev pub header_checked : Header → List ℕ
+header_checked h = from_t0 h.under h.first h.indicated.items h.bytes h.awaited h.historical_len
+
+-- the octets that have come
+abbrev pub header_taken : Header → List ℕ
+header_taken h = ts_of h.convention ∷ header_checked h
+
+-- the fields agree with the octets, and an answer of at most 33 octets goes on
+pub record HeaderHolds (h : Header) : Type 0 where
+  pub few : h.historical_len < 16
+  pub protocols : AllByRecursion (λ x. x.protocol < 16) (tds_of h)
+  pub none : IfNone h.under (h.indicated.items ≡ [])
+  pub ordered : InOrder h.bytes h.awaited
+  pub tck : h.tck ≡ needs_tck (tds_of h)
+  pub octets : AreOctets (header_taken h)
+  pub sum : h.sum ≡ xor_of (header_checked h)
+  pub count : h.count ≡ length (header_taken h)
+  pub most : h.count + awaited_count h.awaited + h.historical_len + count_of h.tck ≤ 33
+
+-- ---- historical bytes
+
+-- the octets that have come from T0 on
+abbrev pub tail_checked : Tail → List ℕ
+tail_checked t = announcing t.first (goes_on t.indicated.items) t.historical_len ∷ interface_octets t.first t.indicated.items ++ t.historical.items
+
+-- the octets that have come
+abbrev pub tail_taken : Tail → List ℕ
+tail_taken t = ts_of t.convention ∷ tail_checked t
+
+-- the answer, once all historical bytes have come
+abbrev pub parts_of : Tail → AtrParts
+parts_of t = record { convention = t.convention; first = t.first; indicated = t.indicated.items; historical = t.historical.items }
+
+-- the fields agree with the octets, and an answer of at most 33 octets goes on
+pub record TailHolds (t : Tail) : Type 0 where
+  pub few : t.historical_len < 16
+  pub within : length t.historical.items ≤ t.historical_len
+  pub protocols : AllByRecursion (λ x. x.protocol < 16) t.indicated.items
+  pub tck : t.tck ≡ needs_tck t.indicated.items
+  pub octets : AreOctets (tail_taken t)
+  pub sum : t.sum ≡ xor_of (tail_checked t)
+  pub most : 2 + length (interface_octets t.first t.indicated.items) + t.historical_len + count_of t.tck ≤ 33
+
+-- more must come
+abbrev pub TailAwaits : Tail → Type 0
+TailAwaits t = length t.historical.items + 1 ≤ t.historical_len + count_of t.tck
+
+-- ---- all stages
+
+-- what is kept agrees with the octets that have come, and more must
+abbrev pub Stands : Partial → Type 0
+Stands partial.Start = Unit {0}
+Stands (partial.Opened convention) = Unit {0}
+Stands (partial.Header h) = HeaderHolds h × (is_announced h.awaited ≡ true)
+Stands (partial.Tail t) = TailHolds t × TailAwaits t
+
+-- the octets that have come
+abbrev pub taken_of : Partial → List ℕ
+taken_of partial.Start = []
+taken_of (partial.Opened convention) = ts_of convention ∷ []
+taken_of (partial.Header h) = header_taken h
+taken_of (partial.Tail t) = tail_taken t
+
+-- what the octets are: the first of an answer, a whole one, or refused at the last octet
+abbrev pub IsStep : List ℕ → Result Step AtrReason → Type 0
+IsStep octets (Ok (step.More p)) = Stands p × (taken_of p ≡ octets)
+IsStep octets (Ok (step.Whole a)) = IsAtr a octets
+IsStep octets (Err reason) = IsReason reason octets

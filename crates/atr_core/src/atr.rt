@@ -1,0 +1,214 @@
+//! Answers to reset as values.
+
+ghost use Rattle.std.specs.Prelude.{◌≡◌, ◌<◌, ◌≤◌, ◌↔◌, IsTrue, SomeIff, length, sum_by, ◌+◌};
+ghost use Rattle.std.specs.Option.{option_or};
+ghost use Rattle.std.specs.List.{AllByRecursion};
+ghost use Rattle.atr_core.specs.Atr.{AtrParts, IsProper, interface_octets, needs_tck, octets_of};
+
+use arrayvec::ArrayVec;
+use std::marker::Model;
+
+/// How the characters of a card code octets, which TS tells (ISO/IEC 7816-3, clause 8.2).
+#[derive(Clone, Copy, Debug, PartialEq, Eq)]
+pub enum Convention {
+    /// TS is 3B.
+    Direct,
+    /// TS is 3F.
+    Inverse,
+}
+
+/// The interface bytes TA, TB and TC that T0 or one TD announces, `None` for one that doesn't stand.
+#[derive(Clone, Copy, Debug, Default, PartialEq, Eq)]
+pub struct Interface {
+    pub ta: Option<u8>,
+    pub tb: Option<u8>,
+    pub tc: Option<u8>,
+}
+
+impl Interface {
+    /// Each of these bytes, or that of `other` where it doesn't stand.
+    pub(crate) fn or(self, other: Interface) -> Interface
+        ensures ta { result.ta ≡ option_or self.ta other.ta }
+        ensures tb { result.tb ≡ option_or self.tb other.tb }
+        ensures tc { result.tc ≡ option_or self.tc other.tc }
+    {
+        Interface {
+            ta: self.ta.or(other.ta),
+            tb: self.tb.or(other.tb),
+            tc: self.tc.or(other.tc),
+        }
+    }
+
+    /// How many of the bytes stand.
+    fn count(self) -> usize
+        ensures value { result ≡ length (octets_of self) }
+        ensures few { result ≤ 3 }
+    {
+        usize::from(self.ta.is_some())
+            + usize::from(self.tb.is_some())
+            + usize::from(self.tc.is_some())
+    }
+}
+
+/// One TD: the number of the protocol that it indicates, and the TA, TB and TC after it.
+#[derive(Clone, Copy, Debug, Default, PartialEq, Eq)]
+pub struct Indicated {
+    /// T, at most 15 in an answer.
+    pub protocol: u8,
+    pub bytes: Interface,
+}
+
+/// An answer to reset (ISO/IEC 7816-3, clause 8.2). Its spelling has at most 33 octets, and each
+/// protocol is at most 15. TCK is no field: the others give it.
+#[derive(Debug, Drop, PartialEq, Eq)]
+pub struct Atr {
+    convention: Convention,
+    first: Interface,
+    indicated: ArrayVec<Indicated, 31>,
+    historical: ArrayVec<u8, 15>,
+}
+
+/// The most octets of an answer to reset.
+pub(crate) const MOST_OCTETS: usize = 33;
+
+impl Model for Atr {
+    ghost use Rattle.atr_core.specs.Atr.{AtrParts, IsProper};
+
+    ghost Value = { AtrParts };
+
+    ghost view = { λ a. record { convention = a.convention; first = a.first; indicated = a.indicated.items; historical = a.historical.items } };
+
+    ghost invariant = { λ a. IsProper (record { convention = a.convention; first = a.first; indicated = a.indicated.items; historical = a.historical.items }) };
+
+    ghost inverse = { λ a. record {
+      convention = a.convention;
+      first = a.first;
+      indicated = record { items = a.indicated };
+      historical = record { items = a.historical };
+    } };
+}
+
+impl Atr {
+    /// The answer with these parts, exactly where each protocol is at most 15 and the spelling has at
+    /// most 33 octets; else `None`.
+    pub fn new(
+        convention: Convention,
+        first: Interface,
+        indicated: ArrayVec<Indicated, 31>,
+        historical: ArrayVec<u8, 15>,
+    ) -> Option<Atr>
+        ensures { let parts : AtrParts = record {
+          convention = convention;
+          first = first;
+          indicated = indicated.items;
+          historical = historical.items;
+        } in
+            SomeIff result (IsProper parts) parts }
+    {
+        let total = 2
+            + interface_len(first, indicated.as_slice())
+            + historical.len()
+            + usize::from(has_tck(indicated.as_slice()));
+        if !are_protocols(indicated.as_slice()) || total > MOST_OCTETS {
+            return None;
+        }
+        Some(Atr {
+            convention,
+            first,
+            indicated,
+            historical,
+        })
+    }
+
+    /// The answer with these parts, which are known to be proper.
+    pub(crate) fn of_parts(
+        convention: Convention,
+        first: Interface,
+        indicated: ArrayVec<Indicated, 31>,
+        historical: ArrayVec<u8, 15>,
+    ) -> Atr
+        requires { let parts : AtrParts = record {
+          convention = convention;
+          first = first;
+          indicated = indicated.items;
+          historical = historical.items;
+        } in
+            IsProper parts }
+        ensures { let parts : AtrParts = record {
+          convention = convention;
+          first = first;
+          indicated = indicated.items;
+          historical = historical.items;
+        } in
+            result ≡ parts }
+    {
+        Atr {
+            convention,
+            first,
+            indicated,
+            historical,
+        }
+    }
+
+    /// How the card codes octets: TS.
+    pub fn convention(&self) -> Convention
+        ensures { result ≡ self.now.convention }
+    {
+        self.convention
+    }
+
+    /// The interface bytes that T0 announces: TA1, TB1 and TC1.
+    pub fn first(&self) -> Interface
+        ensures { result ≡ self.now.first }
+    {
+        self.first
+    }
+
+    /// The TDs in their order, at most 31, each with the interface bytes that it announces.
+    pub fn indicated(&self) -> &[Indicated]
+        ensures value { result.now ≡ self.now.indicated }
+        ensures proper { IsProper self.now }
+        ensures few { length result.now ≤ 31 }
+    {
+        self.indicated.as_slice()
+    }
+
+    /// The historical bytes.
+    pub fn historical(&self) -> &[u8]
+        ensures value { result.now ≡ self.now.historical }
+        ensures proper { IsProper self.now }
+    {
+        self.historical.as_slice()
+    }
+}
+
+/// How many interface bytes and TDs stand.
+fn interface_len(first: Interface, indicated: &[Indicated]) -> usize
+    requires { length indicated.now ≤ 31 }
+    ensures value { result ≡ length (interface_octets first indicated.now) }
+    ensures few { result ≤ 127 }
+{
+    first.count() + after_len(indicated)
+}
+
+/// How many TDs and interface bytes behind TDs stand.
+fn after_len(indicated: &[Indicated]) -> usize
+    requires { length indicated.now ≤ 31 }
+    ensures { result ≡ sum_by (λ x. 1 + length (octets_of x.bytes)) indicated.now }
+{
+    indicated.iter().map(|x| 1 + x.bytes.count()).sum()
+}
+
+/// Whether each protocol fits into the low nibble of its TD.
+fn are_protocols(indicated: &[Indicated]) -> bool
+    ensures { IsTrue result ↔ AllByRecursion (λ x. x.protocol < 16) indicated.now }
+{
+    indicated.iter().all(|x| x.protocol < 16)
+}
+
+/// Whether a TCK stands: where some protocol other than T=0 is indicated.
+pub(crate) fn has_tck(indicated: &[Indicated]) -> bool
+    ensures { result ≡ needs_tck indicated.now }
+{
+    indicated.iter().any(|x| x.protocol != 0)
+}

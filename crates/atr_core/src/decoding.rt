@@ -1,0 +1,31 @@
+//! Octets as an answer to reset.
+
+ghost use Rattle.std.specs.Prelude.{IfOk, IfErr};
+ghost use Rattle.octet_core.specs.Grammar.{Accepts, Refuses, self_ended};
+ghost use Rattle.atr_core.specs.Atr.{IsAtr, IsReason};
+
+use crate::partial::{Partial, Step};
+use crate::{Atr, AtrReason};
+use octet_core::Stop;
+
+/// The answer to reset with which the octets begin, and how many octets it takes; what follows is
+/// left (ISO/IEC 7816-3, clause 8.2).
+///
+/// Else the octets are refused at the first one after which no answer goes on, with its reason, or
+/// are short where they end and an answer could go on.
+pub fn decode(octets: &[u8]) -> Result<(Atr, usize), Stop<AtrReason>>
+    ensures found { IfOk result (λ found. Accepts self_ended IsAtr octets.now found.0 found.1) }
+    ensures refused { IfErr result (λ stop. Refuses self_ended IsAtr IsReason octets.now stop) }
+{
+    let mut partial = Partial::Start;
+    for (place, octet) in octets.iter().enumerate() {
+        partial = match partial.take(*octet) {
+            Ok(Step::More(more)) => more,
+            Ok(Step::Whole(atr)) => return Ok((atr, place + 1)),
+            Err(reason) => return Err(Stop::At { place, reason }),
+        };
+    }
+    Err(Stop::Short {
+        place: octets.len(),
+    })
+}

@@ -1,0 +1,134 @@
+//! What an answer to reset says about T=1.
+
+ghost use Rattle.std.specs.Prelude.{◌≡◌, ◌≤◌, ◌<◌, SomeIff, drop};
+ghost use Rattle.std.specs.Option.{option_or};
+ghost use Rattle.atr_core.specs.T1.{T1Values, IsUsable, t1_params_of, first_after_t1, offers_t1};
+
+use crate::{Atr, Indicated, Interface};
+use std::marker::Model;
+
+/// IFSC where no TA for T=1 stands.
+const DEFAULT_IFSC: u8 = 32;
+
+/// BWI 4 and CWI 13, where no TB for T=1 stands.
+const DEFAULT_WAITING: u8 = 0x4D;
+
+/// The LRC, where no TC for T=1 stands.
+const DEFAULT_CODE: u8 = 0;
+
+/// The parameters of T=1 (ISO/IEC 7816-3, clause 11.4).
+#[derive(Clone, Copy, Debug, PartialEq, Eq)]
+pub struct T1Params {
+    ifsc: u8,
+    bwi: u8,
+    cwi: u8,
+}
+
+impl Model for T1Params {
+    ghost use Rattle.atr_core.specs.T1.{T1Values, IsUsable};
+
+    ghost Value = { T1Values };
+
+    ghost view = { λ p. record { ifsc = p.ifsc; bwi = p.bwi; cwi = p.cwi } };
+
+    ghost invariant = { λ p. IsUsable (record { ifsc = p.ifsc; bwi = p.bwi; cwi = p.cwi }) };
+
+    ghost inverse = { λ v. record { ifsc = v.ifsc; bwi = v.bwi; cwi = v.cwi } };
+}
+
+impl T1Params {
+    /// The parameters with these values, exactly where `ifsc` is neither 0 nor 255 and the indexes are
+    /// at most 15; else `None`.
+    pub fn new(ifsc: u8, bwi: u8, cwi: u8) -> Option<T1Params>
+        ensures { let values : T1Values = record { ifsc = ifsc; bwi = bwi; cwi = cwi } in
+            SomeIff result (IsUsable values) values }
+    {
+        if ifsc == 0 || ifsc == 0xFF || bwi > 15 || cwi > 15 {
+            return None;
+        }
+        Some(T1Params { ifsc, bwi, cwi })
+    }
+
+    /// The most octets of an information field that the card takes, 1 to 254.
+    pub fn ifsc(&self) -> u8
+        ensures value { result ≡ self.now.ifsc }
+        ensures least { 1 ≤ result }
+        ensures most { result ≤ 254 }
+    {
+        self.ifsc
+    }
+
+    /// The index of the block waiting time, at most 15.
+    pub fn bwi(&self) -> u8
+        ensures value { result ≡ self.now.bwi }
+        ensures most { result ≤ 15 }
+    {
+        self.bwi
+    }
+
+    /// The index of the character waiting time, at most 15.
+    pub fn cwi(&self) -> u8
+        ensures value { result ≡ self.now.cwi }
+        ensures most { result ≤ 15 }
+    {
+        self.cwi
+    }
+}
+
+/// Why an answer to reset gives no parameters of T=1.
+#[derive(Clone, Copy, Debug, PartialEq, Eq)]
+pub enum ParamFault {
+    /// No TD indicates T=1.
+    NoT1,
+    /// IFSC is 00 or FF, which are reserved.
+    ReservedIfsc,
+    /// The CRC is chosen as redundancy code, which this stack doesn't do.
+    Crc,
+}
+
+/// The parameters of T=1 that the answer gives, by the first TA, TB and TC for T=1, each found apart
+/// behind the second TD or a later one, or their defaults 20, 4D and 00 (ISO/IEC 7816-3, clause
+/// 11.4). Else the first of the faults that holds, in the order of [`ParamFault`].
+pub fn t1_params(atr: &Atr) -> Result<T1Params, ParamFault>
+    ensures { result ≡ t1_params_of atr.now }
+{
+    let indicated = atr.indicated();
+    if !offers_t1(indicated) {
+        return Err(ParamFault::NoT1);
+    }
+    let first = match indicated {
+        [_, specific @ ..] => first_after_t1(specific),
+        [] => Interface::default(),
+    };
+    let waiting = first.tb.unwrap_or(DEFAULT_WAITING);
+    let Some(params) = T1Params::new(first.ta.unwrap_or(DEFAULT_IFSC), waiting / 16, waiting % 16)
+    else {
+        return Err(ParamFault::ReservedIfsc);
+    };
+    if first.tc.unwrap_or(DEFAULT_CODE) % 2 == 1 {
+        return Err(ParamFault::Crc);
+    }
+    Ok(params)
+}
+
+/// Whether some TD indicates T=1.
+fn offers_t1(indicated: &[Indicated]) -> bool
+    ensures { result ≡ offers_t1 indicated.now }
+{
+    indicated.iter().any(|x| x.protocol == 1)
+}
+
+/// The first TA, TB and TC after TDs that indicate T=1, each apart.
+fn first_after_t1(indicated: &[Indicated]) -> Interface
+    ensures ta { result.ta ≡ first_after_t1 (λ bytes. bytes.ta) indicated.now }
+    ensures tb { result.tb ≡ first_after_t1 (λ bytes. bytes.tb) indicated.now }
+    ensures tc { result.tc ≡ first_after_t1 (λ bytes. bytes.tc) indicated.now }
+{
+    let mut found = Interface::default();
+    for x in indicated {
+        if x.protocol == 1 {
+            found = found.or(x.bytes);
+        }
+    }
+    found
+}

@@ -1,0 +1,12 @@
+use Rattle.octet_core.specs.Grammar.{self_ended}
+use Rattle.atr_core.specs.Atr.{IsAtr, IsReason}
+use Rattle.card_tool.specs.Texts.{accepted_text}
+use Rattle.card_tool.specs.AtrTexts.{reason_text}
+use Rattle.card_tool.proofs.Telling.{tells-accepted, tells-refused}
+use Rattle.card_tool.proofs.atr.check.Goals as goal
+
+pub returns-in-Ok : goal.returns-in-Ok
+returns-in-Ok c = tells-accepted self_ended IsAtr IsReason reason_text (λ v n. accepted_text n) c.args.octets.now c.accepted.result c.in-Ok.field-0-0 c.in-Ok.taken c.in-Ok.ensures.found c.accepted.ensures.text c.accepted.ensures.status
+
+pub returns-in-Err : goal.returns-in-Err
+returns-in-Err c = tells-refused self_ended IsAtr IsReason reason_text (λ v n. accepted_text n) c.args.octets.now c.refused.result c.in-Err.stop c.in-Err.ensures.refused c.refused.ensures.text c.refused.ensures.status
