@@ -8,3 +8,4 @@ pub mod Built
 pub mod Partials
 pub mod Completed
 pub mod Equal
+pub mod Feeding

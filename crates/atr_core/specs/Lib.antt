@@ -2,3 +2,4 @@ pub mod Atr
 pub mod T1
 pub mod Rates
 pub mod Partial
+pub mod Taking

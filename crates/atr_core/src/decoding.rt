@@ -4,7 +4,8 @@ ghost use Rattle.std.specs.Prelude.{IfOk, IfErr};
 ghost use Rattle.octet_core.specs.Grammar.{Accepts, Refuses, self_ended};
 ghost use Rattle.atr_core.specs.Atr.{IsAtr, IsReason};
 
-use crate::partial::{Partial, Step};
+use crate::partial::Partial;
+use crate::reader::{Stage, taken};
 use crate::{Atr, AtrReason};
 use octet_core::Stop;
 
@@ -17,15 +18,10 @@ pub fn decode(octets: &[u8]) -> Result<(Atr, usize), Stop<AtrReason>>
     ensures found { IfOk result (λ found. Accepts self_ended IsAtr octets.now found.0 found.1) }
     ensures refused { IfErr result (λ stop. Refuses self_ended IsAtr IsReason octets.now stop) }
 {
-    let mut partial = Partial::Start;
-    for (place, octet) in octets.iter().enumerate() {
-        partial = match partial.take(*octet) {
-            Ok(Step::More(more)) => more,
-            Ok(Step::Whole(atr)) => return Ok((atr, place + 1)),
-            Err(reason) => return Err(Stop::At { place, reason }),
-        };
+    let (count, stage) = taken(Partial::Start, 0, octets);
+    match stage {
+        Stage::Open(_) => Err(Stop::Short { place: count }),
+        Stage::Whole(atr) => Ok((atr, count)),
+        Stage::Refused(refusal) => Err(refusal.stop()),
     }
-    Err(Stop::Short {
-        place: octets.len(),
-    })
 }

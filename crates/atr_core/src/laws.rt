@@ -3,6 +3,7 @@
 ghost use Rattle.std.specs.Prelude.{◌≡◌, ◌++◌, ◌↔◌, ℕ, List, [], IsTrue};
 ghost use Rattle.octet_core.specs.Octets.{AreOctets};
 ghost use Rattle.octet_core.specs.Grammar.{self_ended, Accepts, Begins, OneVerdict};
+ghost use Rattle.atr_core.specs.Taking.{nothing_taken, HasTaken};
 ghost use Rattle.atr_core.specs.Atr.{AtrParts, IsAtr, IsReason, Meets};
 ghost use Rattle.atr_core.specs.declared.reason.AtrReason.{AtrReason};
 
@@ -35,4 +36,9 @@ pub fn one_spelled()
 /// Where octets meet a line of the table of reasons, no answer goes on.
 pub fn reasons_stop()
     ensures { (b : List ℕ) (r : AtrReason) → Meets b r → Begins IsAtr b → ⊥ }
+{}
+
+/// Only the empty list stands for a reader that is new or begins anew.
+pub fn new_has_taken_nothing()
+    ensures { (t : List ℕ) → HasTaken nothing_taken t ↔ (t ≡ []) }
 {}

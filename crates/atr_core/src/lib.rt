@@ -13,6 +13,7 @@ pub mod laws;
 pub mod params;
 mod partial;
 pub mod rating;
+pub mod reader;
 pub mod reason;
 #[cfg(test)]
 mod tests;
@@ -22,4 +23,5 @@ pub use decoding::decode;
 pub use encoding::encode;
 pub use params::{ParamFault, T1Params, t1_params};
 pub use rating::rates;
+pub use reader::AtrReader;
 pub use reason::AtrReason;

@@ -2,8 +2,8 @@
 
 use crate::laws::are_equal;
 use crate::{
-    Atr, AtrReason, Convention, Indicated, Interface, ParamFault, T1Params, decode, encode, rates,
-    t1_params,
+    Atr, AtrReader, AtrReason, Convention, Indicated, Interface, ParamFault, T1Params, decode,
+    encode, rates, t1_params,
 };
 use arrayvec::ArrayVec;
 use octet_core::Stop;
@@ -200,4 +200,47 @@ fn answers_of_parts(rt: HostRuntime) -> Result<(), Fail> {
     );
     assert!(rt; made.is_none());
     Ok(())
+}
+
+#[test]
+fn fed_in_pieces(rt: HostRuntime) {
+    let mut reader = AtrReader::new();
+    assert_eq!(rt; reader.finish(), Err(Stop::Short { place: 0 }));
+    assert_eq!(rt; reader.feed(b"\x3B"), Ok((1, false)));
+    assert_eq!(rt; reader.feed(b""), Ok((0, false)));
+    assert_eq!(rt; reader.feed(b"\x80\x81\x31\x20\x45"), Ok((5, false)));
+    assert_eq!(rt; reader.finish(), Err(Stop::Short { place: 6 }));
+    assert!(rt; reader.value().is_none());
+    assert_eq!(rt; reader.feed(b"\x55\x00"), Ok((1, true)));
+    assert_eq!(rt; reader.feed(b"\x00"), Ok((0, true)));
+    assert_eq!(rt; reader.finish(), Ok(()));
+    let octets = reader.value().map(encode).expect(&rt, "an answer");
+    assert!(rt; octets.as_slice() == T1_CARD);
+}
+
+#[test]
+fn a_refusal_is_kept_until_reset(rt: HostRuntime) {
+    let refusal = Stop::At {
+        place: 6,
+        reason: AtrReason::BadTck,
+    };
+    let mut reader = AtrReader::new();
+    assert_eq!(rt; reader.feed(b"\x3B\x80\x81\x31\x20\x45"), Ok((6, false)));
+    assert_eq!(rt; reader.feed(b"\x54"), Err(refusal));
+    assert_eq!(rt; reader.feed(b"\x55"), Err(refusal));
+    assert_eq!(rt; reader.finish(), Err(refusal));
+    assert!(rt; reader.value().is_none());
+    reader.reset();
+    assert_eq!(rt; reader.finish(), Err(Stop::Short { place: 0 }));
+    assert_eq!(rt; reader.feed(b"\x3F\x00\x00"), Ok((2, true)));
+}
+
+#[test]
+fn each_cut_of_an_answer_in_two(rt: HostRuntime) {
+    for place in 0..T1_CARD.len() {
+        let (front, rest) = T1_CARD.split_at(place);
+        let mut reader = AtrReader::new();
+        assert_eq!(rt; reader.feed(front), Ok((front.len(), false)));
+        assert_eq!(rt; reader.feed(rest), Ok((rest.len(), true)));
+    }
 }

@@ -1,5 +1,8 @@
 //! Why octets are refused.
 
+ghost use Rattle.std.specs.Prelude.{◌≡◌};
+ghost use Rattle.octet_core.specs.declared.stop.Stop.TheVariants.{At};
+
 /// Why octets are no spelling of a value. Places count octets from 0.
 #[derive(Clone, Copy, Debug, PartialEq, Eq)]
 pub enum Stop<R> {
@@ -24,4 +27,16 @@ pub enum Refused<R> {
 pub struct Refusal<R> {
     pub place: usize,
     pub reason: R,
+}
+
+impl<R> Refusal<R> {
+    /// The refusal as it is answered.
+    pub fn stop(self) -> Stop<R>
+        ensures { result ≡ At self.place self.reason }
+    {
+        Stop::At {
+            place: self.place,
+            reason: self.reason,
+        }
+    }
 }
