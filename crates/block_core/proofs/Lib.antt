@@ -1,3 +1,5 @@
 pub mod Blocks
 pub mod Goes
 pub mod Rows
+pub mod Stages
+pub mod Readings

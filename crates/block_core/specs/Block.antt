@@ -19,6 +19,11 @@ pub record Parts : Type 0 where
   pub pcb : Pcb
   pub inf : List ℕ
 
+-- the number of the next I-block
+abbrev pub other : Number → Number
+other Zero = One
+other One = Zero
+
 abbrev pub number_bit : Number → ℕ → ℕ
 number_bit Zero weight = 0
 number_bit One weight = weight

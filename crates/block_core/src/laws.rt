@@ -4,6 +4,7 @@ ghost use Rattle.std.specs.Prelude.{◌≡◌, ◌≤◌, ◌++◌, ℕ, List, [
 ghost use Rattle.octet_core.specs.Grammar.{self_ended, Accepts, OneVerdict};
 ghost use Rattle.octet_core.specs.Octets.{AreOctets, xor_of};
 ghost use Rattle.block_core.specs.Block.{Parts, IsBlock, IsReason, spelling};
+ghost use Rattle.block_core.specs.Reading.{Reading, HasTaken, fresh};
 
 /// Every input is accepted or refused under every information size, with one block, one length, one
 /// place and one reason, and never both.
@@ -29,4 +30,11 @@ pub fn written_is_read()
 /// The exclusive-or of the octets of a block is 00.
 pub fn sums_to_zero()
     ensures { (v : Parts) → xor_of (spelling v) ≡ 0 }
+{}
+
+/// A new or reset reader has taken the empty list and no other, and each other that keeps no refusal one
+/// list too.
+pub fn taken()
+    ensures new { (ifs : ℕ) → HasTaken (fresh ifs) [] }
+    ensures only { (r : Reading) (t u : List ℕ) → HasTaken r t → HasTaken r u → t ≡ u }
 {}

@@ -2,19 +2,23 @@
 //!
 //! A block is NAD, PCB, LEN, an information field of LEN octets and the LRC, one octet that makes the
 //! exclusive-or of all octets of the block 00. The grammar, `IsBlock` in `specs/Block.antt`, relates
-//! a block to its octets under an information size. `decode` gives its whole verdict, `encode` its
-//! octets, and `laws` says what holds of the grammar alone.
+//! a block to its octets under an information size. `BlockReader` gives its whole verdict on octets
+//! that come in pieces, `decode` on a list of them, `encode` the octets of a block, and `laws` says what
+//! holds of the grammar alone.
 #![tactic(auto)]
 
 pub mod block;
 pub mod decoding;
 pub mod laws;
 pub mod pcb;
+pub mod reader;
 pub mod reason;
+mod stage;
 #[cfg(test)]
 mod tests;
 
 pub use block::{Block, LONGEST_BLOCK, LONGEST_INF, encode};
 pub use decoding::decode;
 pub use pcb::{Fault, Number, Pcb, S};
+pub use reader::BlockReader;
 pub use reason::BlockReason;

@@ -3,7 +3,7 @@
 ghost use Rattle.std.specs.Prelude.{◌≡◌, ◌↔◌, IfSome, IfNone, IsTrue, length};
 ghost use Rattle.block_core.specs.declared.pcb.Pcb.{Pcb as AnyPcb};
 ghost use Rattle.block_core.specs.declared.pcb.Pcb.TheVariants.{Info, Ready};
-ghost use Rattle.block_core.specs.Block.{pcb_octet, number_bit, fault_code, supervisory_code, supervisory_len, IsSize, Suits};
+ghost use Rattle.block_core.specs.Block.{other, pcb_octet, number_bit, fault_code, supervisory_code, supervisory_len, IsSize, Suits};
 
 /// The send-sequence number of an I-block, or of the I-block that the sender of an R-block expects.
 #[derive(Clone, Copy, Debug, PartialEq, Eq)]
@@ -50,6 +50,17 @@ pub enum Pcb {
 }
 
 impl Number {
+    /// The other number: the numbers of the I-blocks that an end sends alternate (ISO/IEC 7816-3, clause
+    /// 11.6).
+    pub fn other(self) -> Number
+        ensures { result ≡ other self }
+    {
+        match self {
+            Number::Zero => Number::One,
+            Number::One => Number::Zero,
+        }
+    }
+
     fn bit(self, weight: u8) -> u8
         ensures { result ≡ number_bit self weight }
     {

@@ -2,7 +2,7 @@
 
 ghost use Rattle.std.specs.Prelude.{◌≤◌};
 
-use crate::{Block, BlockReason, Fault, Number, Pcb, S, decode, encode};
+use crate::{Block, BlockReader, BlockReason, Fault, Number, Pcb, S, decode, encode};
 use octet_core::Stop;
 
 /// What `decode` answers under an information size of 254: the octets taken, or the refusal.
@@ -114,6 +114,12 @@ fn fields_that_suit_no_block(rt: HostRuntime) {
 }
 
 #[test]
+fn numbers_alternate(rt: HostRuntime) {
+    assert_eq!(rt; Number::Zero.other(), Number::One);
+    assert_eq!(rt; Number::One.other(), Number::Zero);
+}
+
+#[test]
 fn parts_of_a_block(rt: HostRuntime) {
     let block = Block::info(0x21, Number::Zero, false, &[0x00, 0xA4]).expect(&rt, "a block");
     assert_eq!(rt; block.nad(), 0x21);
@@ -126,4 +132,55 @@ fn parts_of_a_block(rt: HostRuntime) {
     );
     assert!(rt; block.inf() == [0x00, 0xA4].as_slice());
     assert!(rt; block != Block::ready(0x21, Number::Zero, Fault::Free));
+}
+
+#[test]
+fn fed_octet_by_octet(rt: HostRuntime) {
+    let select = [0x00, 0x00, 0x05, 0x00, 0xA4, 0x04, 0x00, 0x00, 0xA5];
+    let mut reader = BlockReader::new(254);
+    for (place, octet) in select.iter().enumerate() {
+        assert!(rt; reader.value().is_none());
+        assert_eq!(rt; reader.finish(), Err(Stop::Short { place }));
+        assert_eq!(rt; reader.feed(&[*octet]), Ok((1, place == 8)));
+    }
+    assert_eq!(rt; reader.feed(&[0x00]), Ok((0, true)));
+    assert_eq!(rt; reader.finish(), Ok(()));
+    let inf = reader.value().map(|block| block.inf());
+    assert!(rt; inf.is_some_and(|inf| inf == [0x00, 0xA4, 0x04, 0x00, 0x00].as_slice()));
+}
+
+#[test]
+fn fed_after_a_refusal(rt: HostRuntime) {
+    let bad_pcb = Stop::At {
+        place: 1,
+        reason: BlockReason::BadPcb,
+    };
+    let mut reader = BlockReader::new(254);
+    assert_eq!(rt; reader.feed(&[0x00, 0x83]), Err(bad_pcb));
+    assert_eq!(rt; reader.feed(&[0x00]), Err(bad_pcb));
+    assert_eq!(rt; reader.feed(&[]), Err(bad_pcb));
+    assert_eq!(rt; reader.finish(), Err(bad_pcb));
+    assert!(rt; reader.value().is_none());
+    reader.reset();
+    assert_eq!(rt; reader.feed(&[0x00, 0x82, 0x00, 0x82]), Ok((4, true)));
+    reader.reset();
+    assert_eq!(rt; reader.finish(), Err(Stop::Short { place: 0 }));
+}
+
+#[test]
+fn fed_in_two_pieces(rt: HostRuntime) {
+    let size = [0x00, 0xC1, 0x01, 0xFE, 0x3E, 0xFF];
+    for cut in 0..size.len() {
+        let mut reader = BlockReader::new(32);
+        let (front, back) = size.split_at(cut);
+        assert_eq!(rt; reader.feed(front), Ok((front.len(), cut == 5)));
+        assert_eq!(rt; reader.feed(back), Ok((5 - front.len(), true)));
+    }
+    let mut reader = BlockReader::new(32);
+    assert_eq!(rt; reader.feed(&[0x00, 0xC1, 0x01]), Ok((3, false)));
+    let bad_size = Stop::At {
+        place: 3,
+        reason: BlockReason::BadIfs,
+    };
+    assert_eq!(rt; reader.feed(&[0xFF, 0x00]), Err(bad_size));
 }

@@ -12,12 +12,15 @@ use Rattle.card_tool.specs.Texts.{accepted_text, refused_text}
 use Rattle.card_tool.specs.AtrTexts as atr_texts
 use Rattle.card_tool.specs.AtrTexts.{atr_text}
 use Rattle.card_tool.specs.BlockTexts.{block_text, reason_text}
+use Rattle.chain_core.specs.Chain.{links}
+use Rattle.chain_core.specs.Cut.{cut_of}
+use Rattle.card_tool.specs.ChainTexts.{blocks_text}
 use Rattle.card_tool.specs.Words.{IsSized}
 use Rattle.card_tool.specs.declared.request.Kind.{Kind}
 use Rattle.card_tool.specs.declared.request.Kind.TheVariants.{Atr, Block}
 use Rattle.card_tool.specs.declared.request.Input.{Input}
 use Rattle.card_tool.specs.declared.request.Request.{Request}
-use Rattle.card_tool.specs.declared.request.Request.TheVariants.{Check, Show, Help}
+use Rattle.card_tool.specs.declared.request.Request.TheVariants.{BuildChain, Check, Show, Help}
 use Rattle.card_tool.specs.declared.status.Status.{Status}
 use Rattle.card_tool.specs.declared.status.Status.TheVariants as status
 
@@ -61,9 +64,11 @@ some-shown Block input small octets = some-told self_ended (IsBlock input.ifs) (
 pub one-answer : (request : Request) (t u : List ℕ) (s q : Status) → IsSized request → HasOctets request → IsAnswerTo request t s → IsAnswerTo request u q → (t ≡ u) × (s ≡ q)
 one-answer (Check input) t u s q sized octets h g = one-checked input.kind input t u s q sized.1 octets h g
 one-answer (Show input) t u s q sized octets h g = one-shown input.kind input t u s q sized.1 octets h g
+one-answer (BuildChain ifs number message) t u s q sized octets h g = (h.0 ∙ sym g.0, h.1 ∙ sym g.1)
 one-answer (Help help) t u s q sized octets h g = (h.0 ∙ sym g.0, h.1 ∙ sym g.1)
 
 pub some-answer : (request : Request) → IsSized request → HasOctets request → (t : List ℕ) × (s : Status) × IsAnswerTo request t s
 some-answer (Check input) sized octets = some-checked input.kind input sized.1 octets
 some-answer (Show input) sized octets = some-shown input.kind input sized.1 octets
+some-answer (BuildChain ifs number message) sized octets = (blocks_text (links number (cut_of ifs message)), status.Accepted, (refl, refl))
 some-answer (Help help) sized octets = (help, status.Accepted, (refl, refl))

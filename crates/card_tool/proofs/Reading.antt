@@ -1,5 +1,6 @@
 -- How words are read.
-use Rattle.std.proofs.Common.{◌≡◌, ◌<◌, ◌≤◌, ◌⊎◌, inl, inr, ℕ, List, [], codes, false, Some, Result, Ok, Err, IfOk, IfErr, arith, refl}
+use Rattle.std.proofs.Common.{◌≡◌, ◌<◌, ◌≤◌, ◌⊎◌, inl, inr, ℕ, List, [], codes, false, Some, Result, Ok, Err, IfOk, IfErr, arith, refl, Bool, true, ◌∷◌, length, map, get_or, Bor, sym, ◌∙◌, le-leb}
+use Rattle.std.specs.Result.{result_unwrap_or}
 use Rattle.std.proofs.lemmas.Bool.Decides.{nat_tests}
 use Rattle.std.specs.Str.{bytes_eq}
 use Rattle.hex.specs.Hex.{decode_of}
@@ -8,22 +9,37 @@ use Rattle.octet_core.specs.Hexadecimal.{IsHexFault}
 use Rattle.octet_core.specs.declared.hexadecimal.HexFault.{HexFault}
 use Rattle.octet_core.specs.declared.hexadecimal.HexFault.TheVariants as hex
 use Rattle.octet_core.proofs.HexadecimalLemmas.{fault-refused}
-use Rattle.clap.specs.Walk.{byte_or_zero}
+use Rattle.std.specs.Str.Parse.{ParsesUnsigned}
+use Rattle.clap.specs.ValueTests.{is_unsigned_in}
+use Rattle.clap.specs.declared.builder.value_parser.ValueParser.TheVariants as parser
+use Rattle.clap.proofs.ValueTestLemmas.{accepts-Accepts, Accepts-accepts}
 use Rattle.clap.specs.Kinds.{FailsBy, HasKind, IsAmong, Kinds}
 use Rattle.clap.specs.Words.{fault_of}
 use Rattle.clap.specs.declared.error.Error.{Error}
 use Rattle.clap.specs.declared.error.kind.ErrorKind.{ErrorKind}
 use Rattle.clap.specs.declared.error.kind.ErrorKind.TheVariants.{DisplayHelp, OutOfMemory}
+use Rattle.block_core.specs.declared.pcb.Number.{Number}
+use Rattle.block_core.specs.declared.pcb.Number.TheVariants.{Zero, One}
 use Rattle.card_tool.specs.declared.request.Request.{Request}
+use Rattle.card_tool.specs.declared.request.Request.TheVariants.{BuildChain}
 use Rattle.card_tool.specs.Faults.{fault_of_hex}
-use Rattle.card_tool.specs.Words.{hex_octets, octets_of_word, scard, size_of, IsHelpOrFault, IsRead, UnlessMemory, called_for_help, not_taken}
+use Rattle.card_tool.specs.Words.{hex_octets, byte_or, chain_by, chain_of, number_of_word, octets_of_word, scard, size_of, IsHelpOrFault, IsRead, UnlessMemory, called_for_help, not_taken}
 use Rattle.card_tool.specs.declared.fault.Fault.{Fault}
 use Rattle.card_tool.specs.declared.fault.Fault.TheVariants.{Words, Hex, Memory}
 
-pub size-in : (word : List ℕ) (z : ℕ) → z ≡ byte_or_zero word → 1 ≤ z → z ≤ 254 → Ok z ≡ size_of (Some word)
+-- what `u8` reads of a word, where it reads it
+pub byte-read : {E : Type 0} (otherwise : ℕ) (word : List ℕ) (r : Result ℕ E) → ParsesUnsigned 8 10 word r → result_unwrap_or r otherwise ≡ byte_or otherwise word
+byte-read otherwise word (Ok n) h = rw (Accepts-accepts false (parser.Unsigned 0 255) word (h.0.0, omega (arith, h.0.1), omega arith, omega (arith, h.0.1))) h.1
+byte-read otherwise word (Err e) h = go (is_unsigned_in 0 255 word) refl
+  where
+    go : (b : Bool) → is_unsigned_in 0 255 word ≡ b → otherwise ≡ byte_or otherwise word
+    go false t = rw t refl
+    go true t = let a = accepts-Accepts false (parser.Unsigned 0 255) word t in absurd (h (a.0, omega (arith, a.3)))
+
+pub size-in : (word : List ℕ) (z : ℕ) → z ≡ byte_or 0 word → 1 ≤ z → z ≤ 254 → Ok z ≡ size_of (Some word)
 size-in word z e low high = rw e (grind (arith, nat_tests))
 
-pub size-out : (word : List ℕ) (z : ℕ) → z ≡ byte_or_zero word → (z < 1) ⊎ (254 < z) → Err Words ≡ size_of (Some word)
+pub size-out : (word : List ℕ) (z : ℕ) → z ≡ byte_or 0 word → (z < 1) ⊎ (254 < z) → Err Words ≡ size_of (Some word)
 size-out word z e out = rw (← e) (grind (arith, nat_tests))
 
 refused : (read : Result (List ℕ) FromHexError) → ((octets : List ℕ) → read ≡ Ok octets → ⊥) → Err Hex ≡ hex_octets read
@@ -56,3 +72,33 @@ help-or-fault words DisplayHelp read (inr among) h =
     ]
 help-or-fault words kind read (inl e) h = absurd (cc)
 help-or-fault words kind read (inr among) h = inr (not_taken (kind, among, λ e. cc) h)
+
+pub number-zero : (word : List ℕ) (n : ℕ) → n ≡ byte_or 2 word → n ≡ 0 → Ok Zero ≡ number_of_word word
+number-zero word n e z = rw (← e, z) refl
+
+pub number-one : (word : List ℕ) (n : ℕ) → n ≡ byte_or 2 word → n ≡ 1 → Ok One ≡ number_of_word word
+number-one word n e z = rw (← e, z) refl
+
+pub number-none : (word : List ℕ) (n : ℕ) → n ≡ byte_or 2 word → (n ≡ 0 → ⊥) → (n ≡ 1 → ⊥) → Err Words ≡ number_of_word word
+number-none word n e nz other = rw (← e) (grind (arith, nat_tests))
+
+-- ---- chains
+
+pub chain-is : (words : List (Bor (List ℕ))) (d : Bor (List ℕ)) → length words ≡ 3 → chain_of (map (λ word. word.now) words) ≡ chain_by (get_or words 0 d).now (get_or words 1 d).now (get_or words 2 d).now
+chain-is [] d e = absurd (omega arith)
+chain-is (a ∷ []) d e = absurd (omega arith)
+chain-is (a ∷ b ∷ []) d e = absurd (omega arith)
+chain-is (a ∷ b ∷ c ∷ []) d e = refl
+chain-is (a ∷ b ∷ c ∷ w ∷ words) d e = absurd (omega arith)
+
+pub chain-other : (words : List (Bor (List ℕ))) → (length words ≡ 3 → ⊥) → Err Words ≡ chain_of (map (λ word. word.now) words)
+chain-other [] h = refl
+chain-other (a ∷ []) h = refl
+chain-other (a ∷ b ∷ []) h = refl
+chain-other (a ∷ b ∷ c ∷ []) h = absurd (h (omega arith))
+chain-other (a ∷ b ∷ c ∷ w ∷ words) h = refl
+
+pub chain-built : (size number_word hex : List ℕ) (ifs : ℕ) (number : Number) (message : List ℕ) (octets : Result (List ℕ) Fault) → size_of (Some size) ≡ Ok ifs → number_of_word number_word ≡ Ok number → octets ≡ Ok message → UnlessMemory octets (octets_of_word hex) → length message ≤ 131072
+    → Ok (BuildChain ifs number message) ≡ chain_by size number_word hex
+chain-built size number_word hex ifs number message octets e f g (inl memory) small = absurd (let bad : Ok message ≡ Err Memory = sym g ∙ memory in cc)
+chain-built size number_word hex ifs number message octets e f g (inr read) small = rw (e, f, sym read ∙ g, le-leb (length message) 131072 small) refl

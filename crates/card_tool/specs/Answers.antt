@@ -12,6 +12,9 @@ use Rattle.card_tool.specs.Texts.{accepted_text, refused_text, fault_text}
 use Rattle.card_tool.specs.AtrTexts as atr_texts
 use Rattle.card_tool.specs.AtrTexts.{atr_text}
 use Rattle.card_tool.specs.BlockTexts.{block_text, reason_text}
+use Rattle.chain_core.specs.Chain.{links}
+use Rattle.chain_core.specs.Cut.{cut_of}
+use Rattle.card_tool.specs.ChainTexts.{blocks_text}
 use Rattle.card_tool.specs.Words.{IsRead}
 use Rattle.card_tool.specs.declared.status.Status.{Status}
 use Rattle.card_tool.specs.declared.status.Status.TheVariants as status
@@ -22,7 +25,7 @@ use Rattle.card_tool.specs.declared.request.Kind.{Kind}
 use Rattle.card_tool.specs.declared.request.Kind.TheVariants.{Atr, Block}
 use Rattle.card_tool.specs.declared.request.Input.{Input}
 use Rattle.card_tool.specs.declared.request.Request.{Request}
-use Rattle.card_tool.specs.declared.request.Request.TheVariants.{Check, Show, Help}
+use Rattle.card_tool.specs.declared.request.Request.TheVariants.{BuildChain, Check, Show, Help}
 
 -- the text and the status that the verdict on octets has, where a value is told so
 pub data Tells {V R : Type 0} (e : Ending) (S : V → List ℕ → Type 0) (Reason : R → List ℕ → Type 0) (name : R → List ℕ) (told : V → ℕ → List ℕ) (b text : List ℕ) (ended : Status) : Type 0 where
@@ -43,12 +46,14 @@ Shows Block input = Tells self_ended (IsBlock input.ifs) (IsReason input.ifs) re
 abbrev pub IsAnswerTo : Request → List ℕ → Status → Type 0
 IsAnswerTo (Check input) text ended = Checks input.kind input text ended
 IsAnswerTo (Show input) text ended = Shows input.kind input text ended
+IsAnswerTo (BuildChain ifs number message) text ended = (text ≡ blocks_text (links number (cut_of ifs message))) × (ended ≡ status.Accepted)
 IsAnswerTo (Help help) text ended = (text ≡ help) × (ended ≡ status.Accepted)
 
 -- what a request takes for octets are octets
 abbrev pub HasOctets : Request → Type 0
 HasOctets (Check input) = AreOctets input.octets
 HasOctets (Show input) = AreOctets input.octets
+HasOctets (BuildChain ifs number message) = AreOctets message
 HasOctets (Help help) = Unit {0}
 
 -- the text and the status that the words have: those of the request, or the fault's

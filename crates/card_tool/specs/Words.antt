@@ -1,12 +1,13 @@
 -- The words that the program takes, and what they ask for.
-use Rattle.std.specs.Prelude.{◌≡◌, ◌≢◌, ◌⊎◌, ◌&&◌, ◌≤◌, ℕ, nat_le, pos, List, [], codes, Option, Some, None, true, map, String, string_bytes, Result, Ok, Err, if◌then◌else◌}
+use Rattle.std.specs.Prelude.{◌≡◌, ◌≢◌, ◌⊎◌, ◌&&◌, ◌==◌, ◌≤◌, ℕ, length, nat_le, pos, List, [], ◌∷◌, codes, Option, Some, None, true, map, String, string_bytes, Result, Ok, Err, if◌then◌else◌}
 use Rattle.std.specs.Str.{bytes_eq}
 use Rattle.std.specs.declared.alloc.Global.{Global}
 use Rattle.hex.specs.Hex.{decode_of}
 use Rattle.hex.specs.declared.error.FromHexError.{FromHexError}
-use Rattle.clap.specs.Walk.{byte_or_zero}
+use Rattle.std.specs.Str.Parse.{digits_value, without_leading_plus}
+use Rattle.clap.specs.ValueTests.{is_unsigned_in}
 use Rattle.clap.specs.Kinds.{IsAmong, Kinds}
-use Rattle.clap.specs.Words.{App, Row, Rule, fault_of, first_of, new_app, new_rule, subcommand_of, with_rule, with_subcommand}
+use Rattle.clap.specs.Words.{App, Row, Rule, all_of, fault_of, first_of, new_app, new_rule, subcommand_of, with_rule, with_subcommand}
 use Rattle.clap.specs.declared.builder.value_parser.ValueParser.TheVariants as parser
 use Rattle.clap.specs.declared.error.kind.ErrorKind.{ErrorKind}
 use Rattle.clap.specs.declared.error.kind.ErrorKind.TheVariants.{DisplayHelp, OutOfMemory}
@@ -16,7 +17,10 @@ use Rattle.card_tool.specs.declared.request.Kind.{Kind}
 use Rattle.card_tool.specs.declared.request.Kind.TheVariants.{Atr, Block}
 use Rattle.card_tool.specs.declared.request.Input.{Input}
 use Rattle.card_tool.specs.declared.request.Request.{Request}
-use Rattle.card_tool.specs.declared.request.Request.TheVariants.{Check, Show, Help}
+use Rattle.card_tool.specs.declared.request.Request.TheVariants.{BuildChain, Check, Show, Help}
+use Rattle.block_core.specs.declared.pcb.Number.{Number}
+use Rattle.block_core.specs.declared.pcb.Number.TheVariants.{Zero, One}
+use Rattle.clap.specs.declared.builder.action.ArgAction.TheVariants.{Append}
 
 -- ---- the form of the words
 
@@ -29,16 +33,35 @@ hex_rule = record (new_rule (codes "hex")) { required = true }
 abbrev pub ifs_rule : Rule
 ifs_rule = record (new_rule (codes "ifs")) { long = Some (codes "ifs"); parser = Some (parser.Signed (pos 1) (pos 254)) }
 
--- a subcommand that takes a kind, octets and an information size
+abbrev pub number_rule : Rule
+number_rule = record (new_rule (codes "number")) { long = Some (codes "number"); parser = Some (parser.Signed (pos 0) (pos 1)) }
+
+-- a subcommand that takes a kind, octets, an information size and a first number
 abbrev pub input_app : List ℕ → App
-input_app name = with_rule (with_rule (with_rule (new_app name) kind_rule) hex_rule) ifs_rule
+input_app name = with_rule (with_rule (with_rule (with_rule (new_app name) kind_rule) hex_rule) ifs_rule) number_rule
+
+abbrev pub what_rule : Rule
+what_rule = record (new_rule (codes "what")) { required = true }
+
+abbrev pub words_rule : Rule
+words_rule = record (new_rule (codes "words")) { action = Some Append }
+
+-- the subcommand that builds what a word says, of the words behind it
+abbrev pub build_app : App
+build_app = with_rule (with_rule (new_app (codes "build")) what_rule) words_rule
 
 -- the program as a command
 unfoldable pub scard : App
-scard = with_subcommand (with_subcommand (new_app (codes "scard")) (input_app (codes "check")).top) (input_app (codes "show")).top
+scard = with_subcommand (with_subcommand (with_subcommand (new_app (codes "scard")) (input_app (codes "check")).top) (input_app (codes "show")).top) build_app.top
 
 abbrev pub texts : List (String Global) → List (List ℕ)
 texts words = map string_bytes words
+
+-- ---- numbers
+
+-- the number below 256 that the word gives in decimal digits, behind a plus or not, and else the one given
+abbrev pub byte_or : ℕ → List ℕ → ℕ
+byte_or otherwise word = if is_unsigned_in 0 255 word then digits_value 10 (without_leading_plus word) else otherwise
 
 -- ---- what words ask for
 
@@ -68,23 +91,63 @@ octets_of_word word = if bytes_eq word (codes "none") then Ok [] else hex_octets
 -- an information size as a word; the greatest where there is no word
 abbrev pub size_of : Option (List ℕ) → Result ℕ Fault
 size_of None = Ok 254
-size_of (Some word) = if nat_le 1 (byte_or_zero word) && nat_le (byte_or_zero word) 254 then Ok (byte_or_zero word) else Err Words
+size_of (Some word) = if nat_le 1 (byte_or 0 word) && nat_le (byte_or 0 word) 254 then Ok (byte_or 0 word) else Err Words
 
--- the information size first, since its range is a matter of the words' form; then the words in their order
+-- the number of the first block as a word; zero where there is no word
+abbrev pub number_of_word : List ℕ → Result Number Fault
+number_of_word word = if byte_or 2 word == 0 then Ok Zero else (if byte_or 2 word == 1 then Ok One else Err Words)
+
+abbrev pub number_of : Option (List ℕ) → Result Number Fault
+number_of None = Ok Zero
+number_of (Some word) = number_of_word word
+
+-- the options first, since their range is a matter of the words' form; then the words in their order
 abbrev pub input_of : List Row → Result Input Fault
 input_of rows = do
   ifs ← size_of (first_of (codes "ifs") rows)
+  number ← number_of (first_of (codes "number") rows)
   kind_word ← needed (first_of (codes "kind") rows)
   kind ← kind_of kind_word
   hex ← needed (first_of (codes "hex") rows)
   octets ← octets_of_word hex
-  Ok (record { kind = kind; octets = octets; ifs = ifs })
+  Ok (record { kind = kind; octets = octets; ifs = ifs; number = number })
+
+-- a message that a chain can carry
+abbrev pub short_message : List ℕ → Result (List ℕ) Fault
+short_message octets = if nat_le (length octets) 131072 then Ok octets else Err Words
+
+-- IFS NUMBER HEX
+abbrev pub chain_by : List ℕ → List ℕ → List ℕ → Result Request Fault
+chain_by size number_word hex = do
+  ifs ← size_of (Some size)
+  number ← number_of_word number_word
+  octets ← octets_of_word hex
+  message ← short_message octets
+  Ok (BuildChain ifs number message)
+
+abbrev pub chain_of : List (List ℕ) → Result Request Fault
+chain_of (size ∷ number_word ∷ hex ∷ []) = chain_by size number_word hex
+chain_of _ = Err Words
+
+abbrev pub all_needed : Option (List (List ℕ)) → Result (List (List ℕ)) Fault
+all_needed None = Err Words
+all_needed (Some words) = Ok words
+
+abbrev pub build_by : List ℕ → List (List ℕ) → Result Request Fault
+build_by what words = if bytes_eq what (codes "chain") then chain_of words else Err Words
+
+abbrev pub build_of : List Row → Result Request Fault
+build_of rows = do
+  what ← needed (first_of (codes "what") rows)
+  words ← all_needed (all_of (codes "words") rows)
+  build_by what words
 
 abbrev pub request_by : List ℕ → List Row → Result Request Fault
 request_by name rows =
     if bytes_eq name (codes "check") then input_of rows >>= (λ input. Ok (Check input))
     else (if bytes_eq name (codes "show") then input_of rows >>= (λ input. Ok (Show input))
-    else Err Words)
+    else (if bytes_eq name (codes "build") then build_of rows
+    else Err Words))
 
 abbrev pub request_of : Option (List ℕ × List Row) → Result Request Fault
 request_of None = Err Words
@@ -94,6 +157,7 @@ request_of (Some entered) = request_by entered.0 entered.1
 abbrev pub IsSized : Request → Type 0
 IsSized (Check input) = (1 ≤ input.ifs) × (input.ifs ≤ 254)
 IsSized (Show input) = (1 ≤ input.ifs) × (input.ifs ≤ 254)
+IsSized (BuildChain ifs number message) = (1 ≤ ifs) × (ifs ≤ 254) × (length message ≤ 131072)
 IsSized (Help help) = Unit {0}
 
 abbrev pub HasOther : Kinds → Type 0

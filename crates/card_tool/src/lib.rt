@@ -9,6 +9,7 @@
 pub mod answer;
 pub mod atr;
 pub mod block;
+pub mod chain;
 pub mod fault;
 pub mod laws;
 pub mod program;

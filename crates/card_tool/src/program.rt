@@ -10,7 +10,7 @@ use crate::answer::Answer;
 use crate::fault::Fault;
 use crate::request::{Kind, Request};
 use crate::status::Status;
-use crate::{atr, block, words};
+use crate::{atr, block, chain, words};
 use octet_core::{Sink, Source, write_octets};
 use std::alloc::{AllocError, Global};
 
@@ -70,6 +70,14 @@ fn answer_to(alloc: Global, request: Request) -> Result<Answer, AllocError>
             Kind::Atr => atr::show(alloc, input.octets.get()),
             Kind::Block => block::show(alloc, input.octets.get(), input.ifs),
         },
+        Request::BuildChain {
+            ifs,
+            number,
+            message,
+        } => {
+            let text = chain::blocks(alloc, message.get(), ifs, number)?;
+            Ok(Answer::told(text))
+        }
         Request::Help(text) => Ok(Answer::told(text.into_inner())),
     }
 }

@@ -1,5 +1,6 @@
 //! What a command line asks for.
 
+use block_core::Number;
 use octet_core::{Octets, Text};
 
 /// What octets are checked or shown as.
@@ -18,6 +19,8 @@ pub struct Input {
     pub octets: Octets,
     /// The information size, 1 to 254.
     pub ifs: u8,
+    /// The number of the first block of a chain.
+    pub number: Number,
 }
 
 /// What a command line asks for.
@@ -27,6 +30,14 @@ pub enum Request {
     Check(Input),
     /// The value that the octets spell.
     Show(Input),
+    /// The blocks of the chain into which a message of at most 131,072 octets is cut.
+    BuildChain {
+        /// The information size, 1 to 254.
+        ifs: u8,
+        /// The number of the first block.
+        number: Number,
+        message: Octets,
+    },
     /// This text, by which `clap` answers a call for help.
     Help(Text),
 }

@@ -276,6 +276,65 @@ fn shows_answers_to_reset(rt: HostRuntime) -> Result<(), Fail> {
 }
 
 #[test]
+fn builds_chains(rt: HostRuntime) -> Result<(), Fail> {
+    let three = "00200200A486\n006002040066\n0000010001\n";
+    let lines: [(&[&str], &str, Status); 14] = [
+        (&["chain", "2", "0", "00A4040000"], three, Status::Accepted),
+        (
+            &["chain", "+2", "00", "00a4040000"],
+            three,
+            Status::Accepted,
+        ),
+        (
+            &["chain", "254", "1", "none"],
+            "00400040\n",
+            Status::Accepted,
+        ),
+        (
+            &["chain", "5", "1", "00A4040000"],
+            "00400500A4040000E5\n",
+            Status::Accepted,
+        ),
+        (&["chain", "2", "0", "0G"], "fault: hex\n", Status::Fault),
+        (&["chain", "0", "0", "0G"], "fault: words\n", Status::Fault),
+        (
+            &["chain", "255", "0", "00"],
+            "fault: words\n",
+            Status::Fault,
+        ),
+        (&["chain", "2", "2", "0G"], "fault: words\n", Status::Fault),
+        (&["chain", "2", "", "00"], "fault: words\n", Status::Fault),
+        (&["chain", "2", "0"], "fault: words\n", Status::Fault),
+        (
+            &["chain", "2", "0", "00", "00"],
+            "fault: words\n",
+            Status::Fault,
+        ),
+        (&["link", "2", "0", "00"], "fault: words\n", Status::Fault),
+        (&["chain"], "fault: words\n", Status::Fault),
+        (&[], "fault: words\n", Status::Fault),
+    ];
+    for (words, text, status) in lines {
+        let mut line = Vec::new(rt.alloc());
+        line.push("build")?;
+        line.extend_from_slice(words)?;
+        says(&rt, rt.alloc(), line.as_slice(), text, status)?;
+    }
+    Ok(())
+}
+
+#[test]
+fn the_first_number_is_zero_or_one(rt: HostRuntime) -> Result<(), Fail> {
+    let one: &[&str] = &["check", "block", "--number", "1", "00820082"];
+    says(&rt, rt.alloc(), one, "ok 4 octets\n", Status::Accepted)?;
+    let two: &[&str] = &["check", "block", "--number", "2", "00820082"];
+    says(&rt, rt.alloc(), two, "fault: words\n", Status::Fault)?;
+    let minus: &[&str] = &["check", "block", "--number=-0", "00820082"];
+    says(&rt, rt.alloc(), minus, "fault: words\n", Status::Fault)?;
+    Ok(())
+}
+
+#[test]
 fn words_of_no_form(rt: HostRuntime) -> Result<(), Fail> {
     let lines: [&[&str]; 16] = [
         &[],

@@ -1,16 +1,17 @@
 //! What the words of a command line ask for.
 
-ghost use Rattle.std.specs.Prelude.{◌≡◌, ◌⊎◌, ◌≤◌, [], Err, IfOk, IfErr, codes, false, option_map};
-ghost use Rattle.clap.specs.Words.{app_of, fault_of, first_of, found_of, rows_of, rule_of, subcommand_of, subcommand_rows_of};
+ghost use Rattle.std.specs.Prelude.{◌≡◌, ◌⊎◌, ◌≤◌, [], Err, IfOk, IfErr, codes, false, map, option_map};
+ghost use Rattle.clap.specs.Words.{all_of, app_of, fault_of, first_of, found_of, rows_of, rule_of, subcommand_of, subcommand_rows_of};
 ghost use Rattle.clap.specs.Kinds.{HasKind};
 ghost use Rattle.clap.specs.declared.builder.command.Command.TheViews.{out-Command};
 ghost use Rattle.clap.specs.Values.{kind_of as error_kind};
-ghost use Rattle.card_tool.specs.Words.{hex_rule, ifs_rule, input_app, input_of, kind_of, kind_rule, octets_of_word, request_of, scard, size_of, texts, IsHelpOrFault, IsRead, IsSized, UnlessMemory};
+ghost use Rattle.card_tool.specs.Words.{build_app, build_of, chain_of, hex_rule, ifs_rule, input_app, input_of, kind_of, kind_rule, number_of, number_of_word, number_rule, octets_of_word, request_of, scard, size_of, texts, what_rule, words_rule, IsHelpOrFault, IsRead, IsSized, UnlessMemory};
 
 use crate::fault::Fault;
 use crate::request::{Input, Kind, Request};
+use block_core::Number;
 use clap::error::ErrorKind;
-use clap::{Arg, ArgMatches, Command, Error, value_parser};
+use clap::{Arg, ArgAction, ArgMatches, Command, Error, value_parser};
 use octet_core::{Octets, Text, octets_of};
 use std::alloc::{AllocError, Global};
 
@@ -36,6 +37,7 @@ fn request(alloc: Global, matches: &ArgMatches) -> Result<Request, Fault>
     match name {
         "check" => Ok(Request::Check(input(alloc, entered)?)),
         "show" => Ok(Request::Show(input(alloc, entered)?)),
+        "build" => build(alloc, entered),
         _ => Err(Fault::Words),
     }
 }
@@ -54,9 +56,56 @@ fn input(alloc: Global, matches: &ArgMatches) -> Result<Input, Fault>
     ensures most { IfOk result (λ input. input.ifs ≤ 254) }
 {
     let ifs = size(word(matches, "ifs"))?;
+    let number = number_or_zero(word(matches, "number"))?;
     let kind = kind(word(matches, "kind").ok_or(Fault::Words)?)?;
     let octets = octets(alloc, word(matches, "hex").ok_or(Fault::Words)?)?;
-    Ok(Input { kind, octets, ifs })
+    Ok(Input {
+        kind,
+        octets,
+        ifs,
+        number,
+    })
+}
+
+/// What is to be built, of the words behind its name.
+fn build(alloc: Global, matches: &ArgMatches) -> Result<Request, Fault>
+    ensures read { UnlessMemory result (build_of (rows_of (found_of matches.now))) }
+    ensures sized { IfOk result IsSized }
+{
+    let what = word(matches, "what").ok_or(Fault::Words)?;
+    let words = all_words(matches, "words").ok_or(Fault::Words)?;
+    match what {
+        "chain" => chain(alloc, words),
+        _ => Err(Fault::Words),
+    }
+}
+
+/// A chain to be built: an information size, a first number and a message.
+fn chain(alloc: Global, words: &[&str]) -> Result<Request, Fault>
+    ensures read { UnlessMemory result (chain_of (map (λ word. word.now) words.now)) }
+    ensures sized { IfOk result IsSized }
+{
+    if words.len() != 3 {
+        return Err(Fault::Words);
+    }
+    let ifs = size(Some(words[0]))?;
+    let number = number(words[1])?;
+    let message = octets(alloc, words[2])?;
+    if message.get().len() > 131_072 {
+        return Err(Fault::Words);
+    }
+    Ok(Request::BuildChain {
+        ifs,
+        number,
+        message,
+    })
+}
+
+/// All values of an argument.
+fn all_words<'a, 'b>(matches: &'b ArgMatches<'a>, id: &str) -> Option<&'b [&'a str]>
+    ensures { option_map (λ words. map (λ word. word.now) words.now) result ≡ all_of id.now (rows_of (found_of matches.now)) }
+{
+    matches.get_strs(id)
 }
 
 /// The first value of an argument.
@@ -86,6 +135,29 @@ fn size(word: Option<&str>) -> Result<u8, Fault>
     let ifs = word.parse().unwrap_or(0);
     if 1 <= ifs && ifs <= 254 {
         Ok(ifs)
+    } else {
+        Err(Fault::Words)
+    }
+}
+
+/// The number of a block, zero where there is no word. `clap` has refused another one.
+fn number_or_zero(word: Option<&str>) -> Result<Number, Fault>
+    ensures { result ≡ number_of (option_map (λ word. word.now) word.entry) }
+{
+    match word {
+        Some(word) => number(word),
+        None => Ok(Number::Zero),
+    }
+}
+
+fn number(word: &str) -> Result<Number, Fault>
+    ensures { result ≡ number_of_word word.now }
+{
+    let value: u8 = word.parse().unwrap_or(2);
+    if value == 0 {
+        Ok(Number::Zero)
+    } else if value == 1 {
+        Ok(Number::One)
     } else {
         Err(Fault::Words)
     }
@@ -132,10 +204,12 @@ fn program<'a>(alloc: Global) -> Result<Command<'a>, AllocError>
         "Say whether octets are a value, and how many it takes",
     )?;
     let show = input_command(alloc, "show", "Show the value that octets spell")?;
+    let build = build_command(alloc)?;
     Command::new(alloc, "scard")
         .about("Answers to reset, T=1 blocks, APDUs and data objects of smart cards")
         .subcommand(check)?
-        .subcommand(show)
+        .subcommand(show)?
+        .subcommand(build)
 }
 
 /// A subcommand that takes a kind, octets and an information size.
@@ -151,7 +225,47 @@ fn input_command<'a>(
         .about(about)
         .arg(kind_arg(alloc))?
         .arg(hex_arg(alloc))?
-        .arg(ifs_arg(alloc))
+        .arg(ifs_arg(alloc))?
+        .arg(number_arg(alloc))
+}
+
+/// The subcommand that builds what a word says.
+fn build_command<'a>(alloc: Global) -> Result<Command<'a>, AllocError>
+    ensures app { IfOk result (λ command. app_of command ≡ build_app) }
+    ensures local { IfOk result (λ command. (out-Command command).has_globals ≡ false) }
+{
+    Command::new(alloc, "build")
+        .about("Build octets: chain IFS NUMBER HEX")
+        .arg(what_arg(alloc))?
+        .arg(words_arg(alloc))
+}
+
+fn what_arg<'a>(alloc: Global) -> Arg<'a>
+    ensures rule { rule_of result ≡ what_rule }
+    ensures local { result.global ≡ false }
+{
+    Arg::new(alloc, "what")
+        .required(true)
+        .help("What is built: chain")
+}
+
+fn words_arg<'a>(alloc: Global) -> Arg<'a>
+    ensures rule { rule_of result ≡ words_rule }
+    ensures local { result.global ≡ false }
+{
+    Arg::new(alloc, "words")
+        .action(ArgAction::Append)
+        .help("The words that it is built of")
+}
+
+fn number_arg<'a>(alloc: Global) -> Arg<'a>
+    ensures rule { rule_of result ≡ number_rule }
+    ensures local { result.global ≡ false }
+{
+    Arg::new(alloc, "number")
+        .long("number")
+        .value_parser(value_parser!(u8).range(0..=1))
+        .help("The number of the first block of a chain, 0 or 1 [default: 0]")
 }
 
 fn kind_arg<'a>(alloc: Global) -> Arg<'a>

@@ -9,4 +9,5 @@ returns-clause-app c =
     let about-is : app_of c.about.result ≡ new_app c.args.name.now = ap app_of_fields c.about.ensures ∙ c.new.ensures.app in
     let kind-is = c.in_ok-arg.ensures.shape c.kind_arg.ensures.local ∙ ap₂ with_rule about-is c.kind_arg.ensures.rule in
     let hex-is = c.in_ok-arg-2.ensures.shape c.hex_arg.ensures.local ∙ ap₂ with_rule kind-is c.hex_arg.ensures.rule in
-    IfOk-weaker c.arg-3.result _ _ (λ command added. added.shape c.ifs_arg.ensures.local ∙ ap₂ with_rule hex-is c.ifs_arg.ensures.rule) c.arg-3.ensures
+    let ifs-is = c.in_ok-arg-3.ensures.shape c.ifs_arg.ensures.local ∙ ap₂ with_rule hex-is c.ifs_arg.ensures.rule in
+    IfOk-weaker c.arg-4.result _ _ (λ command added. added.shape c.number_arg.ensures.local ∙ ap₂ with_rule ifs-is c.number_arg.ensures.rule) c.arg-4.ensures

@@ -1,0 +1,230 @@
+-- What a reader of blocks has taken, and what it answers.
+use Rattle.std.proofs.Common.{◌≡◌, ℕ, ◌+◌, ◌≤◌, ◌⊎◌, inl, inr, List, [], ◌∷◌, ◌++◌, length, take, drop, get_or, bit_xor, refl, sym, ap, subst, ◌∙◌, arith, append_assoc, Bool, true, false, Some, None, Result, Ok, Err}
+use Rattle.std.specs.Int.Bits.{xor_assoc, xor_zero_l, xor_zero_r}
+use Rattle.std.specs.List.{fold}
+use Rattle.std.proofs.lemmas.List.{length-append, length-drop, take-append-drop, take-append-le}
+use Rattle.std.proofs.lemmas.List.Sums.{fold-append}
+use Rattle.std.proofs.Math.Seq.{take-length}
+use Rattle.octet_core.specs.Octets.{AreOctets, xor_of}
+use Rattle.octet_core.specs.Grammar.{self_ended, Accepts, Begins, IsShort, Refuses, RefusesAt}
+use Rattle.octet_core.specs.Reader.{IsFed}
+use Rattle.octet_core.specs.declared.stop.Refusal.{Refusal}
+use Rattle.octet_core.specs.declared.stop.Stop.{Stop}
+use Rattle.octet_core.specs.declared.stop.Stop.TheVariants.{At}
+use Rattle.octet_core.proofs.Begun.{spelled-apart, spelled-begins, stuck-append}
+use Rattle.octet_core.proofs.Lists.{never}
+use Rattle.octet_core.proofs.Verdicts.{refuses_at}
+use Rattle.block_core.specs.Block.{Parts, IsBlock, IsReason}
+use Rattle.block_core.specs.Reading.{Reading, HasTaken, IsOpen, IsClosed, fresh, refusal_of}
+use Rattle.block_core.specs.Stage.{IsAt, refusal_at, answer_of}
+use Rattle.block_core.specs.declared.reason.BlockReason.{BlockReason}
+use Rattle.block_core.specs.declared.stage.Stage.{Stage}
+use Rattle.block_core.specs.declared.stage.Stage.TheVariants.{Front, Len, Size, Rest, Done, Refused}
+use Rattle.block_core.proofs.Blocks.{spelling-len, begun-lt2, begun-two, begun-all, one-accepted}
+
+bool_cases : (d : Bool) → (d ≡ true) ⊎ (d ≡ false)
+bool_cases true = inl refl
+bool_cases false = inr refl
+
+some_is : {A : Type 0} (x y : A) → Some x ≡ Some y → x ≡ y
+some_is x y e = cc
+
+-- ---- the exclusive-or of octets that come in pieces
+
+xor-from : (sum : ℕ) (b : List ℕ) → fold bit_xor sum b ≡ bit_xor sum (xor_of b)
+xor-from sum [] = sym (xor_zero_r sum)
+xor-from sum (x ∷ b) =
+    xor-from (bit_xor sum x) b ∙ xor_assoc sum x (xor_of b)
+    ∙ ap (bit_xor sum) (ap (λ (y : ℕ). bit_xor y (xor_of b)) (sym (xor_zero_l x)) ∙ sym (xor-from (bit_xor 0 x) b))
+
+pub xor-more : (sum more : ℕ) (a b : List ℕ) → sum ≡ xor_of a → more ≡ xor_of b → bit_xor sum more ≡ xor_of (a ++ b)
+xor-more sum more a b e f =
+    ap (λ (x : ℕ). bit_xor x more) e ∙ ap (bit_xor (xor_of a)) f ∙ sym (fold-append bit_xor 0 a b ∙ xor-from (xor_of a) b)
+
+-- ---- generic: what a reader of a grammar answers
+
+-- a refusal stands, whatever follows
+pub refuses-append : {V R : Type 0} (S : V → List ℕ → Type 0) (Reason : R → List ℕ → Type 0) (b more : List ℕ) (p : ℕ) (r : R) → RefusesAt self_ended S Reason b (At p r) → RefusesAt self_ended S Reason (b ++ more) (At p r)
+refuses-append S Reason b more p r h =
+    (stuck-append S b more p h.0, subst (Reason r) (sym (take-append-le (p + 1) b more (omega (arith, h.0.inside)))) h.1)
+
+-- what begins a spelling and isn't one is short, where no spelling begins another
+pub short-of : {V : Type 0} (S : V → List ℕ → Type 0) → ((b : List ℕ) (v w : V) (n m : ℕ) → Accepts self_ended S b v n → Accepts self_ended S b w m → (v ≡ w) × (n ≡ m))
+    → (b : List ℕ) → Begins S b → ((v : V) → S v b → ⊥) → IsShort self_ended S b (length b)
+short-of S one b (w, more, h) not_yet = record {
+  none = λ v n a.
+      let parts : take n b ++ (drop n b ++ more) ≡ b ++ more = sym (append_assoc (take n b) (drop n b) more) ∙ ap (λ (l : List ℕ). l ++ more) (take-append-drop n b) in
+      let none : drop n b ++ more ≡ [] = (spelled-apart S S one v w (take n b) (drop n b ++ more) a.1 (subst (S w) (sym parts) h)).1 in
+      let all : n ≡ length b = omega (arith, a.0, ap length none, length-append (drop n b) more, length-drop n b) in
+      not_yet v (subst (S v) (ap (λ (k : ℕ). take k b) all ∙ take-length b) a.1);
+  end = refl;
+  begun = (w, more, h);
+}
+
+-- ---- by stages
+
+spelled-len : (ifs : ℕ) (v : Parts) (b : List ℕ) → IsBlock ifs v b → length b ≡ get_or b 2 0 + 4
+spelled-len ifs v b h = omega (arith, ap length h.is, spelling-len v, ap (λ (l : List ℕ). get_or l 2 0) h.is)
+
+pub at-begins : (ifs : ℕ) (stage : Stage) (b : List ℕ) → AreOctets b → IsAt ifs stage b → refusal_at stage ≡ None → Begins (IsBlock ifs) b
+at-begins ifs Front b octets at none = begun-lt2 ifs b octets at
+at-begins ifs (Len p) b octets at none = subst (Begins (IsBlock ifs)) (ap (λ (k : ℕ). take k b) (sym at.0) ∙ take-length b) (begun-two ifs p b octets (omega arith) at.1)
+at-begins ifs (Size p) b octets at none = begun-all ifs p b octets (omega arith) (omega arith) at.1.kind at.1.fits (λ about lt. absurd (omega arith))
+at-begins ifs (Rest p end) b octets at none = begun-all ifs p b octets (omega arith) (omega arith) at.3.kind at.3.fits (λ about lt. at.5 about)
+at-begins ifs (Done block) b octets at none = spelled-begins (IsBlock ifs) block b at
+at-begins ifs (Refused refusal) b octets at none = absurd (cc)
+
+-- the stages of a block under way
+abbrev IsUnderWay : Stage → Type 0
+IsUnderWay stage = answer_of stage ≡ Ok false
+
+under-way-open : (ifs : ℕ) (stage : Stage) (b : List ℕ) → IsAt ifs stage b → IsUnderWay stage → (v : Parts) → IsBlock ifs v b → ⊥
+under-way-open ifs Front b at e v h = omega (arith, spelled-len ifs v b h)
+under-way-open ifs (Len p) b at e v h = omega (arith, spelled-len ifs v b h)
+under-way-open ifs (Size p) b at e v h = omega (arith, spelled-len ifs v b h)
+under-way-open ifs (Rest p end) b at e v h = omega (arith, spelled-len ifs v b h)
+under-way-open ifs (Done block) b at e v h = cc
+under-way-open ifs (Refused refusal) b at e v h = cc
+
+-- what a reader answers at a stage, after n octets of the piece
+abbrev pub with_count : ℕ → Result Bool (Stop BlockReason) → Result (ℕ × Bool) (Stop BlockReason)
+with_count n (Ok done) = Ok (n, done)
+with_count n (Err stop) = Err stop
+
+-- what a feed knows when it answers
+pub record Fed (stage : Stage) (old new : Reading) (piece : List ℕ) (n : ℕ) : Type 0 where
+  pub octets : AreOctets new.taken
+  pub at : IsAt new.ifs stage new.taken
+  pub refusal : refusal_at stage ≡ new.refusal
+  pub inside : n ≤ length piece
+  pub taken : new.taken ≡ old.taken ++ take n piece
+  pub closed : IsClosed old → (new ≡ old) × (n ≡ 0)
+  pub exit : (length piece ≤ n) ⊎ IsClosed new
+
+has-taken : (stage : Stage) (old new : Reading) (piece : List ℕ) (n : ℕ) → Fed stage old new piece n → refusal_at stage ≡ None → (t : List ℕ) → HasTaken old t → HasTaken new (t ++ take n piece)
+has-taken stage old new piece n f none t h =
+    let is : new.taken ≡ t ++ take n piece = f.taken ∙ ap (λ (l : List ℕ). l ++ take n piece) h.is in
+    record { kept = sym f.refusal ∙ none; is = is; begun = subst (Begins (IsBlock new.ifs)) is (at-begins new.ifs stage new.taken f.octets f.at none) }
+
+-- it kept no refusal, so it repeats none
+none-kept : {P : Type 0} (stage : Stage) (old new : Reading) (piece : List ℕ) (n : ℕ) → Fed stage old new piece n → refusal_at stage ≡ None → (r : Refusal BlockReason) → old.refusal ≡ Some r → P
+none-kept stage old new piece n f none r e =
+    let same = (f.closed (inl (rw e refl))).0 in
+    absurd (let bad : None ≡ Some r = sym none ∙ f.refusal ∙ ap refusal_of same ∙ e in cc)
+
+fed-under_way : (stage : Stage) (old new : Reading) (piece : List ℕ) (n : ℕ) → Fed stage old new piece n → IsUnderWay stage → refusal_at stage ≡ None → IsFed (IsBlock new.ifs) (IsReason new.ifs) HasTaken refusal_of old new piece (Ok (n, false))
+fed-under_way stage old new piece n f way none =
+    let not_yet = under-way-open new.ifs stage new.taken f.at way in
+    record {
+      taken = (f.inside, has-taken stage old new piece n f none);
+      done = λ t h. (λ e. never e, λ v. absurd (not_yet v.0 (subst (IsBlock new.ifs v.0) (sym (has-taken stage old new piece n f none t h).is) v.1)));
+      whole = λ e. elim f.exit [
+        | inl le ↦ omega (arith, f.inside)
+        | inr closed ↦ elim closed [
+          | inl some ↦ never (rw (sym f.refusal ∙ none) at some)
+          | inr v ↦ absurd (not_yet v.0 v.1)
+        ]
+      ];
+      refused = tt;
+      kept = tt;
+      repeated = λ r e. none-kept stage old new piece n f none r e;
+    }
+
+pub fed : (stage : Stage) (old new : Reading) (piece : List ℕ) (n : ℕ) → Fed stage old new piece n → IsFed (IsBlock new.ifs) (IsReason new.ifs) HasTaken refusal_of old new piece (with_count n (answer_of stage))
+fed Front old new piece n f = fed-under_way Front old new piece n f refl refl
+fed (Len p) old new piece n f = fed-under_way (Len p) old new piece n f refl refl
+fed (Size p) old new piece n f = fed-under_way (Size p) old new piece n f refl refl
+fed (Rest p end) old new piece n f = fed-under_way (Rest p end) old new piece n f refl refl
+fed (Done block) old new piece n f =
+    record {
+      taken = (f.inside, has-taken (Done block) old new piece n f refl);
+      done = λ t h. (λ e. (block, subst (IsBlock new.ifs block) (has-taken (Done block) old new piece n f refl t h).is f.at), λ v. refl);
+      whole = λ e. absurd (cc);
+      refused = tt;
+      kept = tt;
+      repeated = λ r e. none-kept (Done block) old new piece n f refl r e;
+    }
+fed (Refused refusal) old new piece n f =
+    record {
+      taken = tt;
+      done = tt;
+      whole = tt;
+      refused = λ t h.
+          let parts : new.taken ++ drop n piece ≡ t ++ piece = ap (λ (l : List ℕ). l ++ drop n piece) (f.taken ∙ ap (λ (l : List ℕ). l ++ take n piece) h.is) ∙ append_assoc t (take n piece) (drop n piece) ∙ ap (λ (l : List ℕ). t ++ l) (take-append-drop n piece) in
+          subst (λ (b : List ℕ). RefusesAt self_ended (IsBlock new.ifs) (IsReason new.ifs) b (At refusal.place refusal.reason)) parts
+          (refuses-append (IsBlock new.ifs) (IsReason new.ifs) new.taken (drop n piece) refusal.place refusal.reason f.at);
+      kept = (refusal, sym f.refusal, refl);
+      repeated = λ r e.
+          let same = (f.closed (inl (rw e refl))).0 in
+          let both : Some refusal ≡ Some r = f.refusal ∙ ap refusal_of same ∙ e in
+          let one : refusal ≡ r = some_is refusal r both in
+          (ap (λ (x : Refusal BlockReason). Err (At x.place x.reason)) one, same);
+    }
+
+-- ---- on and on
+
+pub open-not-closed : (r : Reading) → IsOpen r → IsClosed r → ⊥
+open-not-closed r waits (inl some) = never (rw waits.0 at some)
+open-not-closed r waits (inr v) = waits.1 v.0 v.1
+
+-- what a feed knows, from the fields that it leaves
+pub fed-of : (ifs : ℕ) (held : List ℕ) (stage : Stage) (old new : Reading) (piece : List ℕ) (n : ℕ) → record { ifs = ifs; taken = held; refusal = refusal_at stage } ≡ new → AreOctets held → IsAt ifs stage held
+    → n ≤ length piece → new.taken ≡ old.taken ++ take n piece → (IsClosed old → (new ≡ old) × (n ≡ 0)) → (length piece ≤ n) ⊎ IsClosed new → Fed stage old new piece n
+fed-of ifs held stage old new piece n is octets at inside taken closed exit =
+    record {
+      octets = subst AreOctets (ap (λ (r : Reading). r.taken) is) octets;
+      at = subst (λ (r : Reading). IsAt r.ifs stage r.taken) is at;
+      refusal = ap refusal_of is;
+      inside = inside;
+      taken = taken;
+      closed = closed;
+      exit = exit;
+    }
+
+pub fed-answered : (stage : Stage) (old new : Reading) (piece : List ℕ) (n : ℕ) (answer : Result Bool (Stop BlockReason)) → new.ifs ≡ old.ifs → Fed stage old new piece n → answer ≡ answer_of stage
+    → IsFed (IsBlock old.ifs) (IsReason old.ifs) HasTaken refusal_of old new piece (with_count n answer)
+fed-answered stage old new piece n answer size f e =
+    subst (λ (ifs : ℕ). IsFed (IsBlock ifs) (IsReason ifs) HasTaken refusal_of old new piece (with_count n answer)) size
+    (subst (λ (a : Result Bool (Stop BlockReason)). IsFed (IsBlock new.ifs) (IsReason new.ifs) HasTaken refusal_of old new piece (with_count n a)) (sym e) (fed stage old new piece n f))
+
+pub fresh-taken : (ifs : ℕ) → HasTaken (fresh ifs) []
+fresh-taken ifs = record { kept = refl; is = refl; begun = begun-lt2 ifs [] (λ i. omega arith) (omega arith) }
+
+pub one-taken : (r : Reading) (t u : List ℕ) → HasTaken r t → HasTaken r u → t ≡ u
+one-taken r t u h g = sym h.is ∙ g.is
+
+-- ---- the whole input at once
+
+decoded-taken : (ifs : ℕ) (old new : Reading) (b : List ℕ) (n : ℕ) (d : Bool) → old ≡ fresh ifs → IsFed (IsBlock old.ifs) (IsReason old.ifs) HasTaken refusal_of old new b (Ok (n, d)) → HasTaken new (take n b)
+decoded-taken ifs old new b n d e f = f.taken.1 [] (subst (λ (r : Reading). HasTaken r []) (sym e) (fresh-taken ifs))
+
+same-size : (ifs : ℕ) (old new : Reading) → old ≡ fresh ifs → new.ifs ≡ old.ifs → new.ifs ≡ ifs
+same-size ifs old new e size = size ∙ ap (λ (r : Reading). r.ifs) e
+
+pub decoded : (ifs : ℕ) (old new : Reading) (b : List ℕ) (n : ℕ) (d : Bool) (v : Parts) → old ≡ fresh ifs → IsFed (IsBlock old.ifs) (IsReason old.ifs) HasTaken refusal_of old new b (Ok (n, d)) → new.ifs ≡ old.ifs → IsBlock new.ifs v new.taken
+    → (n ≤ length b) × IsBlock ifs v (take n b)
+decoded ifs old new b n d v e f size h =
+    (f.taken.0, subst (λ (i : ℕ). IsBlock i v (take n b)) (same-size ifs old new e size) (subst (IsBlock new.ifs v) (decoded-taken ifs old new b n d e f).is h))
+
+pub not-decoded : (ifs : ℕ) (old new : Reading) (b : List ℕ) (n : ℕ) (d : Bool) → old ≡ fresh ifs → IsFed (IsBlock old.ifs) (IsReason old.ifs) HasTaken refusal_of old new b (Ok (n, d)) → new.ifs ≡ old.ifs
+    → ((v : Parts) → HasTaken new new.taken → IsBlock new.ifs v new.taken → ⊥) → IsShort self_ended (IsBlock ifs) b (length b)
+not-decoded ifs old new b n d e f size none =
+    let h : HasTaken new (take n b) = decoded-taken ifs old new b n d e f in
+    let own : HasTaken new new.taken = subst (HasTaken new) (sym h.is) h in
+    let not_yet : (v : Parts) → IsBlock new.ifs v (take n b) → ⊥ = λ v g. none v own (subst (IsBlock new.ifs v) (sym h.is) g) in
+    let more : (d ≡ false) → take n b ≡ b = λ open_still. ap (λ (k : ℕ). take k b) (f.whole open_still) ∙ take-length b in
+    let all : take n b ≡ b =
+    elim (bool_cases d) [
+      | inl ended ↦ absurd (
+          let spelled = ((f.done [] (subst (λ (r : Reading). HasTaken r []) (sym e) (fresh-taken ifs))).0) ended in
+          not_yet spelled.0 (subst (λ (i : ℕ). IsBlock i spelled.0 (take n b)) (sym size) spelled.1)
+          )
+      | inr still ↦ more still
+    ] in
+    subst (λ (i : ℕ). IsShort self_ended (IsBlock i) b (length b)) (same-size ifs old new e size)
+    (short-of (IsBlock new.ifs) (one-accepted new.ifs new.ifs) b (subst (Begins (IsBlock new.ifs)) all h.begun) (λ v g. not_yet v (subst (IsBlock new.ifs v) (sym all) g)))
+
+pub refused-whole : (ifs : ℕ) (old new : Reading) (b : List ℕ) (stop : Stop BlockReason) → old ≡ fresh ifs → IsFed (IsBlock old.ifs) (IsReason old.ifs) HasTaken refusal_of old new b (Err stop) → Refuses self_ended (IsBlock ifs) (IsReason ifs) b stop
+refused-whole ifs old new b stop e f =
+    refuses_at self_ended (IsBlock ifs) (IsReason ifs) b stop
+    (subst (λ (i : ℕ). RefusesAt self_ended (IsBlock i) (IsReason i) b stop) (ap (λ (r : Reading). r.ifs) e) (f.refused [] (subst (λ (r : Reading). HasTaken r []) (sym e) (fresh-taken ifs))))

@@ -1,0 +1,113 @@
+-- How a block gets on by stages, and where it is refused.
+use Rattle.std.proofs.Common.{◌≡◌, ◌≢◌, ℕ, ◌+◌, ◌-◌, ◌<◌, ◌≤◌, List, ◌++◌, length, take, drop, get_or, sym, ap, subst, ◌∙◌, arith, ◌⊎◌}
+use Rattle.std.proofs.lemmas.List.{length-append, length-take, get_or_append_left}
+use Rattle.std.proofs.Math.Seq.{take-length}
+use Rattle.octet_core.specs.Grammar.{Begins, IsStuck, self_ended}
+use Rattle.octet_core.specs.Octets.{AreOctets, xor_of}
+use Rattle.octet_core.proofs.Lists.{octets-take}
+use Rattle.block_core.specs.Block.{Parts, IsBlock, IsReason, IsAboutIfs, IsLenFault, FitsLen, pcb_octet}
+use Rattle.block_core.specs.Stage.{IsAt, IsTested, IsHeaded, IsSized, IsRefused, tested_len, refusal_at}
+use Rattle.block_core.specs.Reading.{IsOpen}
+use Rattle.block_core.specs.declared.pcb.Pcb.{Pcb}
+use Rattle.block_core.specs.declared.reason.BlockReason.{BlockReason}
+use Rattle.block_core.specs.declared.reason.BlockReason.TheVariants.{BadPcb, BadIfs, BadLrc}
+use Rattle.block_core.specs.declared.stage.Stage.{Stage}
+use Rattle.block_core.specs.declared.stage.Stage.TheVariants.{Front, Len, Size, Rest, Done, Refused}
+use Rattle.block_core.proofs.Blocks as blocks
+
+all-of : (n : ℕ) (b : List ℕ) → length b ≡ n → take n b ≡ b
+all-of n b e = ap (λ (k : ℕ). take k b) (sym e) ∙ take-length b
+
+-- ---- refusals at the last of the octets
+
+-- nothing goes on behind the last octet, though something does behind those before it
+refused-last : (ifs n : ℕ) (b : List ℕ) (r : BlockReason) → length b ≡ n + 1 → ((v : Parts) (m : ℕ) → (m ≤ length b) × IsBlock ifs v (take m b) → ⊥)
+    → Begins (IsBlock ifs) (take n b) → (Begins (IsBlock ifs) (take (n + 1) b) → ⊥) → IsReason ifs r (take (n + 1) b) → IsRefused ifs b r
+refused-last ifs n b r len none begun stuck reason =
+    let place : n ≡ length b - 1 = omega arith in
+    subst (λ (p : ℕ). (IsStuck self_ended (IsBlock ifs) b p) × IsReason ifs r (take (p + 1) b)) place
+    (record { none = none; inside = omega arith; begun = begun; stuck = stuck }, reason)
+
+pub refused-pcb : (ifs : ℕ) (b : List ℕ) → AreOctets b → length b ≡ 2 → ((p : Pcb) → pcb_octet p ≡ get_or b 1 0 → ⊥) → IsRefused ifs b BadPcb
+refused-pcb ifs b octets len unknown =
+    let stuck = blocks.stuck-pcb ifs b (omega arith) unknown in
+    refused-last ifs 1 b BadPcb len (blocks.none-early ifs b 1 (omega arith) stuck) (blocks.begun-lt2 ifs (take 1 b) (octets-take 1 b octets) (omega (arith, length-take 1 b))) stuck (blocks.reason-pcb ifs b (omega arith) unknown)
+
+pub refused-len : (ifs : ℕ) (b : List ℕ) (p : Pcb) (r : BlockReason) → ifs ≤ 254 → AreOctets b → length b ≡ 3 → pcb_octet p ≡ get_or b 1 0 → IsLenFault ifs p (get_or b 2 0) r → IsRefused ifs b r
+refused-len ifs b p r small octets len kind fault =
+    let stuck = blocks.stuck-len ifs b p r small (omega arith) kind fault in
+    refused-last ifs 2 b r len (blocks.none-early ifs b 2 (omega arith) stuck) (blocks.begun-two ifs p b octets (omega arith) kind) stuck (blocks.reason-len ifs b p r (omega arith) kind fault)
+
+pub refused-size : (ifs : ℕ) (b : List ℕ) (p : Pcb) → AreOctets b → length b ≡ 4 → IsHeaded ifs p b → IsAboutIfs p → (get_or b 3 0 ≡ 0) ⊎ (get_or b 3 0 ≡ 255) → IsRefused ifs b BadIfs
+refused-size ifs b p octets len head about bad =
+    let stuck = blocks.stuck-size ifs b p (omega arith) head.kind about bad in
+    refused-last ifs 3 b BadIfs len (blocks.none-early ifs b 3 (omega arith) stuck)
+    (blocks.begun-by ifs 3 p b octets (omega arith) (omega arith) (omega arith) head.kind head.fits (λ a lt. absurd (omega arith))) stuck (blocks.reason-size ifs b p (omega arith) head.kind about bad)
+
+pub refused-lrc : (ifs end : ℕ) (b : List ℕ) (p : Pcb) → AreOctets b → length b ≡ end + 1 → end ≡ 3 + get_or b 2 0 → IsHeaded ifs p b → IsSized p (get_or b 3 0) → xor_of b ≢ 0 → IsRefused ifs b BadLrc
+refused-lrc ifs end b p octets len end-is head sized bad =
+    let whole : take (end + 1) b ≡ b = all-of (end + 1) b len in
+    let sum : xor_of (take (end + 1) b) ≢ 0 = λ e. bad (ap xor_of (sym whole) ∙ e) in
+    let stuck = blocks.stuck-lrc ifs (end + 1) b (omega arith) (omega arith) sum in
+    refused-last ifs end b BadLrc len (blocks.none-last ifs (end + 1) b (omega arith) stuck)
+    (blocks.begun-by ifs end p b octets (omega arith) (omega arith) (omega arith) head.kind head.fits (λ about lt. sized about)) stuck
+    (blocks.reason-lrc ifs (end + 1) b p (omega arith) (omega arith) head.kind head.fits sum)
+
+pub whole-is : (ifs end : ℕ) (b : List ℕ) (p : Pcb) → AreOctets b → length b ≡ end + 1 → end ≡ 3 + get_or b 2 0 → IsHeaded ifs p b → IsSized p (get_or b 3 0) → xor_of b ≡ 0
+    → IsBlock ifs (record { nad = get_or b 0 0; pcb = p; inf = take (end - 3) (drop 3 b) }) b
+whole-is ifs end b p octets len end-is head sized sum =
+    let whole : take (end + 1) b ≡ b = all-of (end + 1) b len in
+    let inf : List ℕ = take (end - 3) (drop 3 b) in
+    let inf-is : inf ≡ take (get_or b 2 0) (drop 3 b) = ap (λ (k : ℕ). take k (drop 3 b)) (let e : end - 3 ≡ get_or b 2 0 = omega arith in e) in
+    subst (IsBlock ifs (record { nad = get_or b 0 0; pcb = p; inf = inf })) whole
+    (blocks.found ifs (end + 1) p b inf octets (omega arith) (omega arith) inf-is head.kind head.fits sized (ap xor_of whole ∙ sum))
+
+-- ---- more octets
+
+headed-more : (ifs : ℕ) (p : Pcb) (b more : List ℕ) → 3 ≤ length b → IsHeaded ifs p b → IsHeaded ifs p (b ++ more)
+headed-more ifs p b more le head = record {
+  kind = head.kind ∙ sym (get_or_append_left b more 0 1 (omega arith));
+  fits = subst (FitsLen ifs p) (sym (get_or_append_left b more 0 2 (omega arith))) head.fits;
+}
+
+sized-more : (p : Pcb) (b more : List ℕ) → (IsAboutIfs p → 3 < length b) → IsSized p (get_or b 3 0) → IsSized p (get_or (b ++ more) 3 0)
+sized-more p b more long sized about = rw (get_or_append_left b more 0 3 (long about)) (sized about)
+
+-- fewer than are wanted for the next test
+pub at-more : (ifs : ℕ) (stage : Stage) (b more : List ℕ) → IsAt ifs stage b → 0 < length more → length b + length more < tested_len stage → IsAt ifs stage (b ++ more)
+at-more ifs Front b more at some lt = omega (arith, length-append b more)
+at-more ifs (Len p) b more at some lt = absurd (omega arith)
+at-more ifs (Size p) b more at some lt = absurd (omega arith)
+at-more ifs (Rest p end) b more at some lt = (
+  omega (arith, length-append b more),
+  omega (arith, length-append b more),
+  at.2 ∙ ap (λ (k : ℕ). 3 + k) (sym (get_or_append_left b more 0 2 (omega arith))),
+  headed-more ifs p b more at.0 at.3,
+  λ about. omega (arith, length-append b more, at.4 about),
+  sized-more p b more at.4 at.5,
+)
+at-more ifs (Done block) b more at some lt = absurd (omega arith)
+at-more ifs (Refused refusal) b more at some lt = absurd (omega arith)
+
+-- as many as are wanted for it
+pub tested-more : (ifs : ℕ) (stage : Stage) (b more : List ℕ) → IsAt ifs stage b → 0 < length more → length b + length more ≡ tested_len stage → IsTested ifs stage (b ++ more)
+tested-more ifs Front b more at some e = omega (arith, length-append b more)
+tested-more ifs (Len p) b more at some e = (omega (arith, length-append b more), at.1 ∙ sym (get_or_append_left b more 0 1 (omega arith)))
+tested-more ifs (Size p) b more at some e = (omega (arith, length-append b more), headed-more ifs p b more (omega arith) at.1, at.2)
+tested-more ifs (Rest p end) b more at some e = (
+  omega (arith, length-append b more),
+  at.2 ∙ ap (λ (k : ℕ). 3 + k) (sym (get_or_append_left b more 0 2 (omega arith))),
+  headed-more ifs p b more at.0 at.3,
+  sized-more p b more at.4 at.5,
+)
+tested-more ifs (Done block) b more at some e = absurd (omega arith)
+tested-more ifs (Refused refusal) b more at some e = absurd (omega arith)
+
+-- a reader that is open waits for an octet
+pub open-wants : (ifs : ℕ) (stage : Stage) (b : List ℕ) → IsAt ifs stage b → IsOpen (record { ifs = ifs; taken = b; refusal = refusal_at stage }) → length b < tested_len stage
+open-wants ifs Front b at waits = at
+open-wants ifs (Len p) b at waits = omega arith
+open-wants ifs (Size p) b at waits = omega arith
+open-wants ifs (Rest p end) b at waits = omega arith
+open-wants ifs (Done block) b at waits = absurd (waits.1 block at)
+open-wants ifs (Refused refusal) b at waits = absurd (let bad = waits.0 in cc)

@@ -1,0 +1,140 @@
+//! A block that comes in pieces.
+
+ghost use Rattle.std.specs.Prelude.{◌≡◌, ◌+◌, ◌<◌, ◌≤◌, ◌++◌, ◌↔◌, ℕ, List, length, take, Option, IfSome, IfNone, IsTrue, MatchBool};
+ghost use Rattle.octet_core.specs.Reader.{IsFed, IsFinished};
+ghost use Rattle.block_core.specs.Block.{Parts, IsBlock, IsReason};
+ghost use Rattle.block_core.specs.Reading.{HasTaken, IsOpen, IsClosed, fresh, refusal_of};
+
+use crate::block::{Block, LONGEST_BLOCK};
+use crate::reason::BlockReason;
+use crate::stage::Stage;
+use arrayvec::ArrayVec;
+use octet_core::{Stop, lrc};
+use std::marker::Model;
+
+/// A reader of one block (ISO/IEC 7816-3, clause 11.3) whose octets come in pieces. It keeps them in a
+/// fixed buffer of 258 octets and takes no memory.
+#[derive(Debug, Drop)]
+pub struct BlockReader {
+    ifs: u8,
+    held: ArrayVec<u8, LONGEST_BLOCK>,
+    sum: u8,
+    stage: Stage,
+}
+
+impl Model for BlockReader {
+    ghost use Rattle.std.specs.Prelude.{◌≡◌, ◌≤◌};
+    ghost use Rattle.octet_core.specs.Octets.{AreOctets, xor_of};
+    ghost use Rattle.block_core.specs.Stage.{IsAt, refusal_at};
+    ghost use Rattle.block_core.specs.Reading.{Reading};
+
+    ghost Value = { Reading };
+
+    ghost view = { λ r. record { ifs = r.ifs; taken = r.held.items; refusal = refusal_at r.stage } };
+
+    ghost invariant = { λ r. (1 ≤ r.ifs) × (r.ifs ≤ 254) × (r.sum ≡ xor_of r.held.items) × AreOctets r.held.items × IsAt r.ifs r.stage r.held.items };
+}
+
+impl BlockReader {
+    /// A reader that has taken nothing. `ifs` is the information size, 1 to 254.
+    pub fn new(ifs: u8) -> Self
+        requires least { 1 ≤ ifs }
+        requires most { ifs ≤ 254 }
+        ensures { result ≡ fresh ifs }
+    {
+        BlockReader {
+            ifs,
+            held: ArrayVec::new(),
+            sum: 0,
+            stage: Stage::Front,
+        }
+    }
+
+    /// Takes the next octets: how many of this piece, and whether the block is whole. It takes the whole
+    /// piece unless the block ends in it; once the block is whole it takes none.
+    ///
+    /// `At` gives the first octet after which no block goes on, counted from the first that was ever fed,
+    /// and its reason. From then on it is answered again, and nothing is taken, until `reset`.
+    pub fn feed(&mut self, piece: &[u8]) -> Result<(usize, bool), Stop<BlockReason>>
+        ensures fed { IsFed (IsBlock self.old.ifs) (IsReason self.old.ifs) HasTaken refusal_of self.old self.new piece.now result }
+        ensures size { self.new.ifs ≡ self.old.ifs }
+    {
+        let mut taken = 0;
+        while taken < piece.len() && self.is_open() {
+            taken += self.take_run(&piece[taken..]);
+        }
+        let done = self.stage.answer()?;
+        Ok((taken, done))
+    }
+
+    /// The block, once it is whole.
+    pub fn value(&self) -> Option<&Block>
+        ensures found { IfSome result (λ block. HasTaken self.now self.now.taken × IsBlock self.now.ifs block.now self.now.taken) }
+        ensures none { IfNone result ((v : Parts) → HasTaken self.now self.now.taken → IsBlock self.now.ifs v self.now.taken → ⊥) }
+    {
+        match &self.stage {
+            Stage::Done(whole) => Some(whole),
+            _ => None,
+        }
+    }
+
+    /// What there is to say when no more octets come: `Short` with the octets taken where the block isn't
+    /// whole, or the refusal that stands.
+    pub fn finish(&self) -> Result<(), Stop<BlockReason>>
+        ensures { IsFinished (IsBlock self.now.ifs) (IsReason self.now.ifs) HasTaken refusal_of self.now result }
+    {
+        if self.stage.answer()? {
+            return Ok(());
+        }
+        Err(Stop::Short {
+            place: self.held.len(),
+        })
+    }
+
+    /// Begins anew, as a new reader of the same information size.
+    pub fn reset(&mut self)
+        ensures { self.new ≡ fresh self.old.ifs }
+    {
+        self.held.clear();
+        self.sum = 0;
+        self.stage = Stage::Front;
+    }
+
+    /// The block, where it is whole.
+    pub(crate) fn into_value(self) -> Option<Block>
+        ensures found { IfSome result (λ block. IsBlock self.ifs block self.taken) }
+        ensures none { IfNone result ((v : Parts) → HasTaken self self.taken → IsBlock self.ifs v self.taken → ⊥) }
+    {
+        match self.stage {
+            Stage::Done(block) => Some(block),
+            _ => None,
+        }
+    }
+
+    fn is_open(&self) -> bool
+        ensures { MatchBool result (IsOpen self.now) (IsClosed self.now) }
+    {
+        !matches!(self.stage, Stage::Done(_) | Stage::Refused(_))
+    }
+
+    /// Takes octets up to the next that is tested, or all.
+    fn take_run(&mut self, piece: &[u8]) -> usize
+        requires some { 0 < length piece.now }
+        requires open { IsOpen self.old }
+        ensures some { 0 < result }
+        ensures most { result ≤ length piece.now }
+        ensures taken { self.new.taken ≡ self.old.taken ++ take result piece.now }
+        ensures size { self.new.ifs ≡ self.old.ifs }
+    {
+        let wanted = self.stage.tested_len();
+        let run = &piece[..piece.len().min(wanted - self.held.len())];
+        self.held.try_extend_from_slice(run).unwrap();
+        self.sum ^= lrc(run);
+        if self.held.len() == wanted {
+            self.stage = self
+                .stage
+                .advanced(self.held.as_slice(), self.sum, self.ifs);
+        }
+        run.len()
+    }
+}

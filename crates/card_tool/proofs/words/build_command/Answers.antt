@@ -1,0 +1,11 @@
+use Rattle.std.proofs.Common.{ap, ap₂, codes, ◌≡◌, ◌∙◌}
+use Rattle.std.proofs.lemmas.Result.{IfOk-weaker}
+use Rattle.clap.specs.Words.{app_of, new_app, with_rule}
+use Rattle.clap.specs.Simple.{app_of_fields}
+use Rattle.card_tool.proofs.words.build_command.Goals as goal
+
+pub returns-clause-app : goal.returns-clause-app
+returns-clause-app c =
+    let about-is : app_of c.about.result ≡ new_app (codes "build") = ap app_of_fields c.about.ensures ∙ c.new.ensures.app in
+    let what-is = c.in_ok-arg.ensures.shape c.what_arg.ensures.local ∙ ap₂ with_rule about-is c.what_arg.ensures.rule in
+    IfOk-weaker c.arg-2.result _ _ (λ command added. added.shape c.words_arg.ensures.local ∙ ap₂ with_rule what-is c.words_arg.ensures.rule) c.arg-2.ensures

@@ -1,0 +1,380 @@
+-- Where a chain goes on, and that every input has one verdict.
+use Rattle.std.proofs.Common.{◌≡◌, ◌≢◌, ℕ, suc, ◌+◌, ◌<◌, ◌≤◌, ◌++◌, List, [], ◌∷◌, length, drop, get_or, refl, sym, ap, subst, ◌∙◌, arith, Bool, true, false, append_assoc, bit_xor, inl, inr, ◌⊎◌}
+use Rattle.std.proofs.lemmas.Bool.{cases_lt}
+use Rattle.std.proofs.lemmas.List.{append-nil, length-append, length-replicate, get_or-replicate, get_or_past}
+use Rattle.std.proofs.lemmas.List.Sums.{fold-append}
+use Rattle.std.proofs.Math.ListN.{replicate}
+use Rattle.std.specs.List.{AllByRecursion}
+use Rattle.octet_core.specs.Octets.{AreOctets, xor_of}
+use Rattle.octet_core.specs.Grammar.{Begins, OneVerdict, self_ended, IsFirst}
+use Rattle.octet_core.proofs.Begun.{begins-front}
+use Rattle.octet_core.proofs.Firsts.{first_once, first_holds}
+use Rattle.octet_core.proofs.Told.{same}
+use Rattle.octet_core.proofs.Lists.{head_is, nil_of, cut_at, octets-append, octets-left, octets-right, octets-cons}
+use Rattle.octet_core.proofs.Verdicts.{Steps, one_verdict}
+use Rattle.block_core.specs.declared.pcb.Number.{Number}
+use Rattle.block_core.specs.declared.pcb.Number.TheVariants.{Zero, One}
+use Rattle.block_core.specs.declared.pcb.Pcb.{Pcb}
+use Rattle.block_core.specs.declared.pcb.Pcb.TheVariants.{Info, Ready, Request, Response}
+use Rattle.block_core.specs.Block as block
+use Rattle.block_core.specs.Block.{other, pcb_octet, front_of, IsInfo}
+use Rattle.block_core.proofs.Blocks.{pcb-back, xor-zero}
+use Rattle.block_core.proofs.Goes.{pcb-known}
+use Rattle.chain_core.specs.declared.reason.ChainReason.{ChainReason}
+use Rattle.chain_core.specs.declared.reason.ChainReason.TheVariants.{BadNad, BadPcb, NotInfo, BadSequence, TooManyBlocks, BadLen, OverIfs, TooLong, BadLrc}
+use Rattle.chain_core.specs.Chain.{IsChain, message_of, open_links, octets_of, link, number_after, spelling, MeetsInBlock, Meets, IsReason, all_reasons}
+use Rattle.chain_core.proofs.Unique.{one-accepted}
+use Rattle.chain_core.proofs.Reasons.{IsPart, part-short, part-sum, reason-in_block}
+use Rattle.chain_core.proofs.Stuck.{not-other, same-number, meets-stuck}
+
+-- ---- chains by their blocks
+
+mid-step : (number : Number) (f : List ℕ) (fs : List (List ℕ)) (g : List ℕ) (rest : List (List ℕ)) → spelling number (f ∷ (fs ++ g ∷ rest)) ≡ block.spelling (link number true f) ++ spelling (other number) (fs ++ g ∷ rest)
+mid-step number f [] g rest = refl
+mid-step number f (k ∷ fs) g rest = refl
+
+spelling-mid : (number : Number) (before : List (List ℕ)) (g : List ℕ) (rest : List (List ℕ)) → spelling number (before ++ g ∷ rest) ≡ octets_of (open_links number before) ++ spelling (number_after number (length before)) (g ∷ rest)
+spelling-mid number [] g rest = refl
+spelling-mid number (f ∷ fs) g rest =
+    let a : List ℕ = block.spelling (link number true f) in
+    mid-step number f fs g rest ∙ ap (λ (l : List ℕ). a ++ l) (spelling-mid (other number) fs g rest) ∙ sym (append_assoc a (octets_of (open_links (other number) fs)) (spelling (number_after number (length (f ∷ fs))) (g ∷ rest)))
+
+message-append : (fs gs : List (List ℕ)) → message_of (fs ++ gs) ≡ message_of fs ++ message_of gs
+message-append [] gs = refl
+message-append (f ∷ fs) gs = ap (λ (l : List ℕ). f ++ l) (message-append fs gs) ∙ sym (append_assoc f (message_of fs) (message_of gs))
+
+count-append : (fs gs : List (List ℕ)) → length (fs ++ gs) ≡ length fs + length gs
+count-append [] gs = omega arith
+count-append (f ∷ fs) gs = omega (arith, count-append fs gs)
+
+sizes-append : (ifs : ℕ) (fs gs : List (List ℕ)) → AllByRecursion (λ f. length f ≤ ifs) fs → AllByRecursion (λ f. length f ≤ ifs) gs → AllByRecursion (λ f. length f ≤ ifs) (fs ++ gs)
+sizes-append ifs [] gs p q = q
+sizes-append ifs (f ∷ fs) gs p q = (p.0, sizes-append ifs fs gs p.1 q)
+
+-- how many blocks follow at least
+abbrev more_count : Bool → ℕ
+more_count false = 0
+more_count true = 1
+
+-- the fields from the one under way on
+closing : List ℕ → Bool → List (List ℕ)
+closing field false = field ∷ []
+closing field true = field ∷ [] ∷ []
+
+-- what blocks of a chain have in common
+record Taken (ifs : ℕ) (before : List (List ℕ)) : Type 0 where
+  sizes : AllByRecursion (λ f. length f ≤ ifs) before
+  octets : AreOctets (message_of before)
+
+-- blocks that go on, and one more, begin a chain
+chain-begins : (ifs : ℕ) (number : Number) (max : ℕ) (before : List (List ℕ)) (go : Bool) (field : List ℕ) → Taken ifs before → length before + 1 + more_count go ≤ 131072
+    → length field ≤ ifs → AreOctets field → length (message_of before) + length field ≤ max → Begins (IsChain ifs number max) (octets_of (open_links number before) ++ block.spelling (link (number_after number (length before)) go field))
+chain-begins ifs number max before false field taken few size octets fits =
+    let own : Number = number_after number (length before) in
+    let fields : List (List ℕ) = before ++ field ∷ [] in
+    let text : List ℕ = octets_of (open_links number before) ++ block.spelling (link own false field) in (
+      fields,
+      [],
+      record {
+        proper = record {
+          some = omega (arith, count-append before (field ∷ []));
+          few = omega (arith, count-append before (field ∷ []), few);
+          sizes = sizes-append ifs before (field ∷ []) taken.sizes (size, tt);
+          octets = subst AreOctets (sym (message-append before (field ∷ []))) (octets-append (message_of before) (field ++ []) taken.octets (subst AreOctets (sym (append-nil field)) octets));
+          fits = omega (arith, ap length (message-append before (field ∷ [])), length-append (message_of before) (field ++ []), length-append field [], fits);
+        };
+        is = append-nil text ∙ ap (λ (l : List ℕ). octets_of (open_links number before) ++ l) (sym (append-nil (block.spelling (link own false field)))) ∙ sym (spelling-mid number before field []);
+      },
+    )
+chain-begins ifs number max before true field taken few size octets fits =
+    let own : Number = number_after number (length before) in
+    let last : List ℕ = block.spelling (link (other own) false []) ++ [] in
+    let opened : List ℕ = octets_of (open_links number before) in
+    let fields : List (List ℕ) = before ++ field ∷ [] ∷ [] in (
+      fields,
+      last,
+      record {
+        proper = record {
+          some = omega (arith, count-append before (field ∷ [] ∷ []));
+          few = omega (arith, count-append before (field ∷ [] ∷ []), few);
+          sizes = sizes-append ifs before (field ∷ [] ∷ []) taken.sizes (size, (omega arith, tt));
+          octets = subst AreOctets (sym (message-append before (field ∷ [] ∷ []))) (octets-append (message_of before) (field ++ []) taken.octets (subst AreOctets (sym (append-nil field)) octets));
+          fits = omega (arith, ap length (message-append before (field ∷ [] ∷ [])), length-append (message_of before) (field ++ []), length-append field [], fits);
+        };
+        is = append_assoc opened (block.spelling (link own true field)) last ∙ sym (spelling-mid number before field ([] ∷ []));
+      },
+    )
+
+part-begins : (ifs : ℕ) (number : Number) (max : ℕ) (before : List (List ℕ)) (go : Bool) (field part rest : List ℕ) → Taken ifs before → length before + 1 + more_count go ≤ 131072
+    → length field ≤ ifs → AreOctets field → length (message_of before) + length field ≤ max → part ++ rest ≡ block.spelling (link (number_after number (length before)) go field) → Begins (IsChain ifs number max) (octets_of (open_links number before) ++ part)
+part-begins ifs number max before go field part rest taken few size octets fits e =
+    let opened : List ℕ = octets_of (open_links number before) in
+    begins-front (IsChain ifs number max) (opened ++ part) rest
+    (subst (Begins (IsChain ifs number max)) (ap (λ (l : List ℕ). opened ++ l) (sym e) ∙ sym (append_assoc opened part rest)) (chain-begins ifs number max before go field taken few size octets fits))
+
+-- ---- the block under way
+
+record UnderWay (ifs : ℕ) (number : Number) (gs : List (List ℕ)) (c : List ℕ) (y : ℕ) : Type 0 where
+  before : List (List ℕ)
+  part : List ℕ
+  field : List ℕ
+  go : Bool
+  left : List ℕ
+  is : c ≡ octets_of (open_links number before) ++ part
+  told : block.spelling (link (number_after number (length before)) go field) ≡ part ++ y ∷ left
+  few : length before + 1 + more_count go ≤ length gs
+  sizes : AllByRecursion (λ f. length f ≤ ifs) before
+  size : length field ≤ ifs
+  octets : AreOctets (message_of before)
+  own_octets : AreOctets field
+  fits : length (message_of before) + length field ≤ length (message_of gs)
+
+under_way : (ifs : ℕ) (number : Number) (gs : List (List ℕ)) (c : List ℕ) (y : ℕ) (more : List ℕ) → AllByRecursion (λ f. length f ≤ ifs) gs → AreOctets (message_of gs) → spelling number gs ≡ c ++ y ∷ more → UnderWay ifs number gs c y
+under_way ifs number [] c y more sizes octets e = absurd (omega (arith, ap length e, length-append c (y ∷ more)))
+under_way ifs number (g ∷ []) c y more sizes octets e =
+    elim (cut_at (block.spelling (link number false g)) [] c y more e) [
+      | inl h ↦ record {
+        before = [];
+        part = c;
+        field = g;
+        go = false;
+        left = h.0;
+        is = refl;
+        told = h.1;
+        few = omega arith;
+        sizes = tt;
+        size = sizes.0;
+        octets = λ i. omega arith;
+        own_octets = octets-left g [] octets;
+        fits = omega (arith, length-append g []);
+      }
+      | inr h ↦ absurd (omega (arith, ap length h.2, length-append h.0 (y ∷ more)))
+    ]
+under_way ifs number (g ∷ n ∷ gs) c y more sizes octets e =
+    let a : List ℕ = block.spelling (link number true g) in
+    elim (cut_at a (spelling (other number) (n ∷ gs)) c y more e) [
+      | inl h ↦ record {
+        before = [];
+        part = c;
+        field = g;
+        go = true;
+        left = h.0;
+        is = refl;
+        told = h.1;
+        few = omega arith;
+        sizes = tt;
+        size = sizes.0;
+        octets = λ i. omega arith;
+        own_octets = octets-left g (message_of (n ∷ gs)) octets;
+        fits = omega (arith, length-append g (message_of (n ∷ gs)));
+      }
+      | inr h ↦
+          let u = under_way ifs (other number) (n ∷ gs) h.0 y more sizes.1 (octets-right g (message_of (n ∷ gs)) octets) h.2 in
+          record {
+            before = g ∷ u.before;
+            part = u.part;
+            field = u.field;
+            go = u.go;
+            left = u.left;
+            is = h.1 ∙ ap (λ (l : List ℕ). a ++ l) u.is ∙ sym (append_assoc a (octets_of (open_links (other number) u.before)) u.part);
+            told = u.told;
+            few = omega (arith, u.few);
+            sizes = (sizes.0, u.sizes);
+            size = u.size;
+            octets = octets-append g (message_of u.before) (octets-left g (message_of (n ∷ gs)) octets) u.octets;
+            own_octets = u.own_octets;
+            fits = omega (arith, u.fits, length-append g (message_of u.before), length-append g (message_of (n ∷ gs)));
+          }
+    ]
+
+-- ---- one octet more
+
+abbrev Goes : ℕ → Number → ℕ → List ℕ → Type 0
+Goes ifs number max b = Begins (IsChain ifs number max) b ⊎ ((r : ChainReason) × IsReason ifs number max r b)
+
+refused : (ifs : ℕ) (number : Number) (max : ℕ) (before : List (List ℕ)) (part : List ℕ) (r : ChainReason) → IsPart part → IsFirst all_reasons (MeetsInBlock ifs number max before part) r → Goes ifs number max (octets_of (open_links number before) ++ part)
+refused ifs number max before part r whole first = inr (r, reason-in_block ifs number max before part (octets_of (open_links number before) ++ part) r refl whole first)
+
+number-told : (n m : Number) → (n ≡ m) ⊎ (n ≡ other m)
+number-told Zero Zero = inl refl
+number-told Zero One = inr refl
+number-told One Zero = inr refl
+number-told One One = inl refl
+
+goes-nad : (ifs : ℕ) (number : Number) (max : ℕ) (before : List (List ℕ)) (x : ℕ) → Taken ifs before → length before + 1 ≤ 131072 → length (message_of before) ≤ max → Goes ifs number max (octets_of (open_links number before) ++ x ∷ [])
+unfolding IsFirst
+goes-nad ifs number max before x taken few fits =
+    let own : Number = number_after number (length before) in
+    elim (same x 0) [
+      | inl e ↦ inl (part-begins ifs number max before false [] (x ∷ []) (drop 1 (block.spelling (link own false []))) taken (omega arith) (omega arith) (λ i. omega arith) (omega arith) (ap (λ (z : ℕ). z ∷ drop 1 (block.spelling (link own false []))) e))
+      | inr ne ↦ refused ifs number max before (x ∷ []) BadNad (part-short (x ∷ []) (omega arith)) (inl ((omega arith, ne), refl))
+    ]
+
+not-info : (ifs : ℕ) (number : Number) (max : ℕ) (before : List (List ℕ)) (x : ℕ) (p : Pcb) → pcb_octet p ≡ x → (IsInfo p → ⊥) → Goes ifs number max (octets_of (open_links number before) ++ 0 ∷ x ∷ [])
+unfolding IsFirst
+not-info ifs number max before x p e none =
+    refused ifs number max before (0 ∷ x ∷ []) NotInfo (part-short (0 ∷ x ∷ []) (omega arith))
+    (inr (λ m. omega (arith, m.0), inr (λ m. m.1 p e, inl ((omega arith, λ q f info. none (subst IsInfo (pcb-back q p (f ∙ sym e)) info)), refl))))
+
+-- M=1 in the last block that a chain can have
+crowded : (ifs : ℕ) (number : Number) (max : ℕ) (before : List (List ℕ)) (x : ℕ) (n : Number) (go : Bool) → pcb_octet (Info n go) ≡ x → n ≡ number_after number (length before)
+    → length before + 1 ≤ 131072 → 131073 ≤ length before + 1 + more_count go → IsPart (0 ∷ x ∷ []) → Goes ifs number max (octets_of (open_links number before) ++ 0 ∷ x ∷ [])
+unfolding IsFirst
+crowded ifs number max before x n false e good few over short = absurd (omega arith)
+crowded ifs number max before x n true e good few over short =
+    let own : Number = number_after number (length before) in
+    refused ifs number max before (0 ∷ x ∷ []) TooManyBlocks short
+    (inr (
+      λ m. omega (arith, m.0),
+      inr (
+        λ m. m.1 (Info n true) e,
+        inr (
+          λ m. m.1 (Info n true) e tt,
+          inr (
+            λ m. not-other own (same-number (other own) n m.1 true (pcb-back (Info (other own) m.1) (Info n true) (m.2 ∙ sym e)) ∙ good),
+            inl ((omega arith, omega arith, n, e), refl),
+          ),
+        ),
+      ),
+    ))
+
+goes-pcb : (ifs : ℕ) (number : Number) (max : ℕ) (before : List (List ℕ)) (x : ℕ) (p : Pcb) → pcb_octet p ≡ x → Taken ifs before → length before + 1 ≤ 131072 → length (message_of before) ≤ max → Goes ifs number max (octets_of (open_links number before) ++ 0 ∷ x ∷ [])
+unfolding IsFirst
+goes-pcb ifs number max before x (Ready n f) e taken few fits = not-info ifs number max before x (Ready n f) e (λ i. i)
+goes-pcb ifs number max before x (Request s) e taken few fits = not-info ifs number max before x (Request s) e (λ i. i)
+goes-pcb ifs number max before x (Response s) e taken few fits = not-info ifs number max before x (Response s) e (λ i. i)
+goes-pcb ifs number max before x (Info n go) e taken few fits =
+    let own : Number = number_after number (length before) in
+    let part : List ℕ = 0 ∷ x ∷ [] in
+    let short : IsPart part = part-short part (omega arith) in
+    let goes : n ≡ own → length before + 1 + more_count go ≤ 131072 → Goes ifs number max (octets_of (open_links number before) ++ part) = λ same_number enough.
+    let told : x ≡ pcb_octet (Info own go) = sym e ∙ ap (λ (k : Number). pcb_octet (Info k go)) same_number in
+    let rest : List ℕ = drop 2 (block.spelling (link own go [])) in
+    inl (part-begins ifs number max before go [] part rest taken enough (omega arith) (λ i. omega arith) (omega arith) (ap (λ (z : ℕ). 0 ∷ z ∷ rest) told)) in
+    elim (number-told n own) [
+      | inr bad ↦ refused ifs number max before part BadSequence short
+          (inr (λ m. omega (arith, m.0), inr (λ m. m.1 (Info n go) e, inr (λ m. m.1 (Info n go) e tt, inl ((omega arith, go, ap (λ (k : Number). pcb_octet (Info k go)) (sym bad) ∙ e), refl)))))
+      | inl good ↦ elim (cases_lt (length before + 1 + more_count go) 131073) [
+        | inl lt ↦ goes good (omega arith)
+        | inr over ↦ crowded ifs number max before x n go e good few over short
+      ]
+    ]
+
+zeros-octets : (n : ℕ) → AreOctets (replicate n 0)
+zeros-octets n i =
+    elim (cases_lt i n) [
+      | inl lt ↦ rw (get_or-replicate {A = ℕ} n i 0 0 lt) (omega arith)
+      | inr le ↦ rw (get_or_past {X = ℕ} (replicate n 0) i 0 (omega (arith, length-replicate {A = ℕ} n 0))) (omega arith)
+    ]
+
+goes-len : (ifs : ℕ) (number : Number) (max : ℕ) (before : List (List ℕ)) (go : Bool) (x : ℕ) → Taken ifs before → length before + 1 + more_count go ≤ 131072
+    → Goes ifs number max (octets_of (open_links number before) ++ 0 ∷ pcb_octet (Info (number_after number (length before)) go) ∷ x ∷ [])
+unfolding IsFirst
+goes-len ifs number max before go x taken few =
+    let own : Number = number_after number (length before) in
+    let part : List ℕ = 0 ∷ pcb_octet (Info own go) ∷ x ∷ [] in
+    let short : IsPart part = part-short part (omega arith) in
+    let late : (r : ChainReason) → IsFirst (BadLen ∷ OverIfs ∷ TooLong ∷ BadLrc ∷ []) (MeetsInBlock ifs number max before part) r → IsFirst all_reasons (MeetsInBlock ifs number max before part) r =
+    λ r f. inr (λ m. omega (arith, m.0), inr (λ m. omega (arith, m.0), inr (λ m. omega (arith, m.0), inr (λ m. omega (arith, m.0), inr (λ m. omega (arith, m.0), f))))) in
+    elim (same x 255) [
+      | inl e ↦ refused ifs number max before part BadLen short (late BadLen (inl ((omega arith, e), refl)))
+      | inr ne ↦ elim (cases_lt ifs x) [
+        | inl over ↦ refused ifs number max before part OverIfs short (late OverIfs (inr (λ m. ne m.1, inl ((omega arith, over), refl))))
+        | inr size ↦ elim (cases_lt max (length (message_of before) + x)) [
+          | inl over ↦ refused ifs number max before part TooLong short (late TooLong (inr (λ m. ne m.1, inr (λ m. omega (arith, m.1), inl ((omega arith, over), refl)))))
+          | inr fits ↦
+              let field : List ℕ = replicate x 0 in
+              let count : length field ≡ x = length-replicate {A = ℕ} x 0 in
+              let rest : List ℕ = field ++ xor_of (front_of (link own go field)) ∷ [] in
+              inl (part-begins ifs number max before go field part rest taken few (omega (arith, count)) (zeros-octets x) (omega (arith, count)) (ap (λ (n : ℕ). 0 ∷ pcb_octet (Info own go) ∷ n ∷ rest) (sym count)))
+        ]
+      ]
+    ]
+
+-- a wrong check sum
+goes-sum : (ifs : ℕ) (number : Number) (max : ℕ) (before : List (List ℕ)) (go : Bool) (field : List ℕ) (x : ℕ) → x ≢ xor_of (front_of (link (number_after number (length before)) go field))
+    → Goes ifs number max (octets_of (open_links number before) ++ (front_of (link (number_after number (length before)) go field) ++ x ∷ []))
+unfolding IsFirst
+goes-sum ifs number max before go field x ne =
+    let front : List ℕ = front_of (link (number_after number (length before)) go field) in
+    let part : List ℕ = front ++ x ∷ [] in
+    let long : length part ≡ length field + 4 = omega (arith, length-append field (x ∷ [])) in
+    let bad : xor_of part ≢ 0 = λ z. ne (xor-zero (xor_of front) x (sym (fold-append bit_xor 0 front (x ∷ [])) ∙ z)) in
+    refused ifs number max before part BadLrc (part-sum part long bad)
+    (inr (λ m. omega (arith, m.0, long), inr (λ m. omega (arith, m.0, long), inr (λ m. omega (arith, m.0, long), inr (λ m. omega (arith, m.0, long), inr (λ m. omega (arith, m.0, long), inr (λ m. omega (arith, m.0, long), inr (λ m. omega (arith, m.0, long), inr (λ m. omega (arith, m.0, long), inl ((long, bad), refl))))))))))
+
+-- an octet of a field, or another check sum
+goes-field : (ifs : ℕ) (number : Number) (max : ℕ) (before : List (List ℕ)) (go : Bool) (field s left : List ℕ) (y x : ℕ) → Taken ifs before → length before + 1 + more_count go ≤ 131072
+    → length field ≤ ifs → AreOctets field → length (message_of before) + length field ≤ max → x < 256 → x ≢ y
+    → field ++ xor_of (front_of (link (number_after number (length before)) go field)) ∷ [] ≡ s ++ y ∷ left
+    → Goes ifs number max (octets_of (open_links number before) ++ 0 ∷ pcb_octet (Info (number_after number (length before)) go) ∷ length field ∷ (s ++ x ∷ []))
+goes-field ifs number max before go field s left y x taken few size octets fits lt ne e =
+    let own : Number = number_after number (length before) in
+    let sum : ℕ = xor_of (front_of (link own go field)) in
+    let pcb : ℕ = pcb_octet (Info own go) in
+    elim (cut_at field (sum ∷ []) s y left e) [
+      | inl h ↦
+          let new : List ℕ = s ++ x ∷ h.0 in
+          let count : length new ≡ length field = omega (arith, ap length h.1, length-append s (y ∷ h.0), length-append s (x ∷ h.0)) in
+          let old : AreOctets (s ++ y ∷ h.0) = subst AreOctets h.1 octets in
+          let last : List ℕ = xor_of (front_of (link own go new)) ∷ [] in
+          let new-octets : AreOctets new = octets-append s (x ∷ h.0) (octets-left s (y ∷ h.0) old) (octets-cons x h.0 lt (λ i. octets-right s (y ∷ h.0) old (suc i))) in
+          let joined : (s ++ x ∷ []) ++ (h.0 ++ last) ≡ new ++ last = append_assoc s (x ∷ []) (h.0 ++ last) ∙ sym (append_assoc s (x ∷ h.0) last) in
+          let back : length field ≡ length new = sym count in
+          inl (part-begins ifs number max before go new (0 ∷ pcb ∷ length field ∷ (s ++ x ∷ [])) (h.0 ++ last) taken few (omega (arith, count, size)) new-octets (omega (arith, count, fits)) (λ i. 0 ∷ pcb ∷ back i ∷ joined i))
+      | inr h ↦
+          let none : h.0 ≡ [] = nil_of h.0 (omega (arith, ap length h.2, length-append h.0 (y ∷ left))) in
+          let told : sum ≡ y = head_is sum y [] left (h.2 ∙ ap (λ (l : List ℕ). l ++ y ∷ left) none) in
+          let s-is : s ≡ field = h.1 ∙ ap (λ (l : List ℕ). field ++ l) none ∙ append-nil field in
+          subst (λ (l : List ℕ). Goes ifs number max (octets_of (open_links number before) ++ 0 ∷ pcb ∷ length field ∷ (l ++ x ∷ []))) (sym s-is)
+          (goes-sum ifs number max before go field x (λ z. ne (z ∙ told)))
+    ]
+
+in-block : (ifs : ℕ) (number : Number) (max : ℕ) (before : List (List ℕ)) (go : Bool) (field part left : List ℕ) (y x : ℕ) → Taken ifs before → length before + 1 + more_count go ≤ 131072
+    → length field ≤ ifs → AreOctets field → length (message_of before) + length field ≤ max → x < 256 → x ≢ y
+    → block.spelling (link (number_after number (length before)) go field) ≡ part ++ y ∷ left → Goes ifs number max (octets_of (open_links number before) ++ (part ++ x ∷ []))
+unfolding IsFirst
+in-block ifs number max before go field [] left y x taken few size octets fits lt ne e = goes-nad ifs number max before x taken (omega (arith, few)) (omega (arith, fits))
+in-block ifs number max before go field (a ∷ []) left y x taken few size octets fits lt ne e =
+    let nad : 0 ≡ a = ap (λ (l : List ℕ). get_or l 0 0) e in
+    subst (λ (z : ℕ). Goes ifs number max (octets_of (open_links number before) ++ z ∷ x ∷ [])) nad
+    (elim (pcb-known x) [
+      | inl p ↦ goes-pcb ifs number max before x p.0 p.1 taken (omega (arith, few)) (omega (arith, fits))
+      | inr unknown ↦ refused ifs number max before (0 ∷ x ∷ []) BadPcb (part-short (0 ∷ x ∷ []) (omega arith)) (inr (λ m. omega (arith, m.0), inl ((omega arith, unknown), refl)))
+    ])
+in-block ifs number max before go field (a ∷ c ∷ []) left y x taken few size octets fits lt ne e =
+    let nad : 0 ≡ a = ap (λ (l : List ℕ). get_or l 0 0) e in
+    let pcb : pcb_octet (Info (number_after number (length before)) go) ≡ c = ap (λ (l : List ℕ). get_or l 1 0) e in
+    let is : 0 ∷ pcb_octet (Info (number_after number (length before)) go) ∷ x ∷ [] ≡ a ∷ c ∷ x ∷ [] = λ i. nad i ∷ pcb i ∷ x ∷ [] in
+    subst (λ (l : List ℕ). Goes ifs number max (octets_of (open_links number before) ++ l)) is (goes-len ifs number max before go x taken few)
+in-block ifs number max before go field (a ∷ c ∷ l ∷ s) left y x taken few size octets fits lt ne e =
+    let nad : 0 ≡ a = ap (λ (t : List ℕ). get_or t 0 0) e in
+    let pcb : pcb_octet (Info (number_after number (length before)) go) ≡ c = ap (λ (t : List ℕ). get_or t 1 0) e in
+    let len : length field ≡ l = ap (λ (t : List ℕ). get_or t 2 0) e in
+    let is : 0 ∷ pcb_octet (Info (number_after number (length before)) go) ∷ length field ∷ (s ++ x ∷ []) ≡ a ∷ c ∷ l ∷ (s ++ x ∷ []) = λ i. nad i ∷ pcb i ∷ len i ∷ (s ++ x ∷ []) in
+    subst (λ (t : List ℕ). Goes ifs number max (octets_of (open_links number before) ++ t)) is (goes-field ifs number max before go field s left y x taken few size octets fits lt ne (ap (drop 3) e))
+
+next : (ifs : ℕ) (number : Number) (max : ℕ) (c : List ℕ) (x : ℕ) → AreOctets (c ++ x ∷ []) → (gs : List (List ℕ)) (y : ℕ) (more : List ℕ) → IsChain ifs number max gs (c ++ y ∷ more) → Goes ifs number max (c ++ x ∷ [])
+next ifs number max c x octets gs y more h =
+    elim (same x y) [
+      | inl e ↦ inl (gs, more, subst (IsChain ifs number max gs) (sym (append_assoc c (x ∷ []) more ∙ ap (λ (z : ℕ). c ++ z ∷ more) e)) h)
+      | inr ne ↦
+          let u : UnderWay ifs number gs c y = under_way ifs number gs c y more h.proper.sizes h.proper.octets (sym h.is) in
+          let opened : List ℕ = octets_of (open_links number u.before) in
+          let is : opened ++ (u.part ++ x ∷ []) ≡ c ++ x ∷ [] = sym (ap (λ (l : List ℕ). l ++ x ∷ []) u.is ∙ append_assoc opened u.part (x ∷ [])) in
+          subst (Goes ifs number max) is
+          (in-block ifs number max u.before u.go u.field u.part u.left y x (record { sizes = u.sizes; octets = u.octets }) (omega (arith, u.few, h.proper.few)) u.size u.own_octets (omega (arith, u.fits, h.proper.fits)) (octets-right c (x ∷ []) octets 0) ne u.told)
+    ]
+
+pub steps : (ifs : ℕ) (number : Number) (max : ℕ) → ifs ≤ 254 → Steps (IsChain ifs number max) (IsReason ifs number max)
+steps ifs number max small = record {
+  one_value = one-accepted ifs ifs max max number;
+  one_reason = λ r s c. first_once all_reasons (Meets ifs number max c) r s;
+  stops = λ r c reason. meets-stuck ifs max number c r small (first_holds all_reasons (Meets ifs number max c) r reason);
+  nothing = begins-front (IsChain ifs number max) [] (block.spelling (link number false [])) (chain-begins ifs number max [] false [] (record { sizes = tt; octets = λ i. omega arith }) (omega arith) (omega arith) (λ i. omega arith) (omega arith));
+  next = next ifs number max;
+}
+
+-- every input has one verdict
+pub one-verdict : (ifs : ℕ) (number : Number) (max : ℕ) (b : List ℕ) → ifs ≤ 254 → AreOctets b → OneVerdict self_ended (IsChain ifs number max) (IsReason ifs number max) b
+one-verdict ifs number max b small octets = one_verdict (IsChain ifs number max) (IsReason ifs number max) (steps ifs number max small) b octets

@@ -1,0 +1,9 @@
+pub mod Lengths
+pub mod Unique
+pub mod Cuts
+pub mod Writes
+pub mod Reasons
+pub mod Rows
+pub mod Taken
+pub mod Stuck
+pub mod Goes

@@ -1,0 +1,74 @@
+-- Where the whole blocks end of octets that are refused, and what of them is the reason.
+use Rattle.std.proofs.Common.{◌≡◌, ◌≢◌, ℕ, ◌+◌, ◌≤◌, ◌++◌, List, [], ◌∷◌, length, refl, sym, ap, subst, ◌∙◌, arith, true, append_assoc, slice_index}
+use Rattle.std.proofs.lemmas.List.{append-nil, length-append}
+use Rattle.octet_core.specs.Octets.{xor_of}
+use Rattle.octet_core.specs.Grammar.{IsFirst}
+use Rattle.octet_core.proofs.Lists.{nil_of}
+use Rattle.octet_core.proofs.Firsts.{IsFirst-alike}
+use Rattle.block_core.specs.declared.pcb.Number.{Number}
+use Rattle.block_core.specs.Block as block
+use Rattle.block_core.specs.Block.{other, Parts, pcb_octet, front_of}
+use Rattle.block_core.proofs.Blocks.{spelling-len, spelling-xor}
+use Rattle.chain_core.specs.declared.reason.ChainReason.{ChainReason}
+use Rattle.chain_core.specs.declared.reason.ChainReason.TheVariants.{BadNad, BadPcb, NotInfo, BadSequence, TooManyBlocks, BadLen, OverIfs, TooLong, BadLrc}
+use Rattle.chain_core.specs.Chain.{link, open_links, octets_of, MeetsInBlock, Meets, IsReason, all_reasons}
+use Rattle.chain_core.proofs.Unique.{link-split}
+
+-- the octets begin with no whole block
+pub IsPart : List ℕ → Type 0
+IsPart c = (b : Parts) (s : List ℕ) → c ≡ block.spelling b ++ s → ⊥
+
+pub part-short : (c : List ℕ) → length c ≤ 3 → IsPart c
+unfolding IsPart
+part-short c le b s e = omega (arith, ap length e, length-append (block.spelling b) s, spelling-len b)
+
+len-at : (b : Parts) (s : List ℕ) → slice_index (block.spelling b ++ s) 2 ≡ length b.inf
+len-at b s = refl
+
+pub part-sum : (c : List ℕ) → length c ≡ slice_index c 2 + 4 → xor_of c ≢ 0 → IsPart c
+unfolding IsPart
+part-sum c len bad b s e =
+    let told : slice_index c 2 ≡ length b.inf = ap (λ (l : List ℕ). slice_index l 2) e ∙ len-at b s in
+    let none : s ≡ [] = nil_of s (omega (arith, len, told, ap length e, length-append (block.spelling b) s, spelling-len b)) in
+    let all : c ≡ block.spelling b = e ∙ ap (λ (l : List ℕ). block.spelling b ++ l) none ∙ append-nil (block.spelling b) in
+    bad (ap xor_of all ∙ spelling-xor b)
+
+-- octets come apart in one way into whole blocks that go on and a part of a block
+pub part-split : (number : Number) (fs gs : List (List ℕ)) (c d : List ℕ) → IsPart c → IsPart d → octets_of (open_links number fs) ++ c ≡ octets_of (open_links number gs) ++ d → (fs ≡ gs) × (c ≡ d)
+unfolding IsPart
+part-split number [] [] c d p q e = (refl, e)
+part-split number [] (g ∷ gs) c d p q e =
+    absurd (p (link number true g) (octets_of (open_links (other number) gs) ++ d) (e ∙ append_assoc (block.spelling (link number true g)) (octets_of (open_links (other number) gs)) d))
+part-split number (f ∷ fs) [] c d p q e =
+    absurd (q (link number true f) (octets_of (open_links (other number) fs) ++ c) (sym e ∙ append_assoc (block.spelling (link number true f)) (octets_of (open_links (other number) fs)) c))
+part-split number (f ∷ fs) (g ∷ gs) c d p q e =
+    let a : List ℕ = block.spelling (link number true f) in
+    let b : List ℕ = block.spelling (link number true g) in
+    let u : List ℕ = octets_of (open_links (other number) fs) in
+    let v : List ℕ = octets_of (open_links (other number) gs) in
+    let h = link-split number true true f g (u ++ c) (v ++ d) (sym (append_assoc a u c) ∙ e ∙ append_assoc b v d) in
+    let r = part-split (other number) fs gs c d p q h.2 in
+    (λ i. h.1 i ∷ r.0 i, r.1)
+
+pub part-meets : (ifs : ℕ) (number : Number) (max : ℕ) (fields : List (List ℕ)) (c : List ℕ) (r : ChainReason) → MeetsInBlock ifs number max fields c r → IsPart c
+part-meets ifs number max fields c BadNad h = part-short c (omega (arith, h.0))
+part-meets ifs number max fields c BadPcb h = part-short c (omega (arith, h.0))
+part-meets ifs number max fields c NotInfo h = part-short c (omega (arith, h.0))
+part-meets ifs number max fields c BadSequence h = part-short c (omega (arith, h.0))
+part-meets ifs number max fields c TooManyBlocks h = part-short c (omega (arith, h.0))
+part-meets ifs number max fields c BadLen h = part-short c (omega (arith, h.0))
+part-meets ifs number max fields c OverIfs h = part-short c (omega (arith, h.0))
+part-meets ifs number max fields c TooLong h = part-short c (omega (arith, h.0))
+part-meets ifs number max fields c BadLrc h = part-sum c h.0 h.1
+
+-- the reason is that of the block under way
+pub reason-in_block : (ifs : ℕ) (number : Number) (max : ℕ) (fields : List (List ℕ)) (c b : List ℕ) (r : ChainReason) → b ≡ octets_of (open_links number fields) ++ c → IsPart c
+    → IsFirst all_reasons (MeetsInBlock ifs number max fields c) r → IsReason ifs number max r b
+reason-in_block ifs number max fields c b r is part first =
+    IsFirst-alike all_reasons
+    (MeetsInBlock ifs number max fields c) (Meets ifs number max b) r
+    (λ line h. (fields, c, is, h))
+    (λ line h.
+    let same = part-split number h.0 fields h.1 c (part-meets ifs number max h.0 h.1 line h.3) part (sym h.2 ∙ is) in
+    subst (λ (x : List ℕ). MeetsInBlock ifs number max fields x line) same.1 (subst (λ (fs : List (List ℕ)). MeetsInBlock ifs number max fs h.1 line) same.0 h.3))
+    first

@@ -1,0 +1,85 @@
+-- Chains of I-blocks, and the octets that spell them: ISO/IEC 7816-3, clause 11.6.
+use Rattle.std.specs.Prelude.{◌≡◌, ◌≢◌, ℕ, zero, suc, ◌+◌, ◌<◌, ◌≤◌, List, [], ◌∷◌, ◌++◌, length, Bool, true, false, slice_index}
+use Rattle.std.specs.List.{concat, AllByRecursion}
+use Rattle.octet_core.specs.Octets.{AreOctets, xor_of}
+use Rattle.octet_core.specs.Grammar.{IsFirst}
+use Rattle.block_core.specs.declared.pcb.Number.{Number}
+use Rattle.block_core.specs.declared.pcb.Pcb.{Pcb}
+use Rattle.block_core.specs.declared.pcb.Pcb.TheVariants.{Info}
+use Rattle.block_core.specs.Block as block
+use Rattle.block_core.specs.Block.{Parts, other, pcb_octet, IsInfo}
+use Rattle.chain_core.specs.declared.reason.ChainReason.{ChainReason}
+use Rattle.chain_core.specs.declared.reason.ChainReason.TheVariants.{BadNad, BadPcb, NotInfo, BadSequence, TooManyBlocks, BadLen, OverIfs, TooLong, BadLrc}
+
+-- the greatest number of blocks
+abbrev pub most_blocks : ℕ
+most_blocks = 131072
+
+-- the number of the block after n blocks of which the first has this number
+abbrev pub number_after : Number → ℕ → Number
+number_after number zero = number
+number_after number (suc n) = number_after (other number) n
+
+-- an I-block of a chain
+abbrev pub link : Number → Bool → List ℕ → Parts
+link number more field = record { nad = 0; pcb = Info number more; inf = field }
+
+-- a block for each field: their numbers alternate, and all but the last say that more follow
+abbrev pub links : Number → List (List ℕ) → List Parts
+links number [] = []
+links number (field ∷ []) = link number false field ∷ []
+links number (field ∷ next ∷ fields) = link number true field ∷ links (other number) (next ∷ fields)
+
+-- a block for each field, where all say that more follow
+abbrev pub open_links : Number → List (List ℕ) → List Parts
+open_links number [] = []
+open_links number (field ∷ fields) = link number true field ∷ open_links (other number) fields
+
+-- the octets of blocks in a row
+abbrev pub octets_of : List Parts → List ℕ
+octets_of [] = []
+octets_of (b ∷ blocks) = block.spelling b ++ octets_of blocks
+
+abbrev pub spelling : Number → List (List ℕ) → List ℕ
+spelling number fields = octets_of (links number fields)
+
+-- the message that the fields carry
+abbrev pub message_of : List (List ℕ) → List ℕ
+message_of fields = concat fields
+
+-- what has a spelling: fields of at most ifs octets, a message of at most max
+pub record IsProper (ifs max : ℕ) (fields : List (List ℕ)) : Type 0 where
+  pub some : 0 < length fields
+  pub few : length fields ≤ most_blocks
+  pub sizes : AllByRecursion (λ field. length field ≤ ifs) fields
+  pub octets : AreOctets (message_of fields)
+  pub fits : length (message_of fields) ≤ max
+
+-- the octets b spell the chain of these fields
+pub record IsChain (ifs : ℕ) (number : Number) (max : ℕ) (fields : List (List ℕ)) (b : List ℕ) : Type 0 where
+  pub proper : IsProper ifs max fields
+  pub is : b ≡ spelling number fields
+
+-- the first octets c of a block meet this line of the table of reasons, after blocks with these fields
+abbrev pub MeetsInBlock : ℕ → Number → ℕ → List (List ℕ) → List ℕ → ChainReason → Type 0
+MeetsInBlock ifs number max fields c BadNad = (length c ≡ 1) × (slice_index c 0 ≢ 0)
+MeetsInBlock ifs number max fields c BadPcb = (length c ≡ 2) × ((p : Pcb) → pcb_octet p ≡ slice_index c 1 → ⊥)
+MeetsInBlock ifs number max fields c NotInfo = (length c ≡ 2) × ((p : Pcb) → pcb_octet p ≡ slice_index c 1 → IsInfo p → ⊥)
+MeetsInBlock ifs number max fields c BadSequence = (length c ≡ 2) × (more : Bool) × (pcb_octet (Info (other (number_after number (length fields))) more) ≡ slice_index c 1)
+MeetsInBlock ifs number max fields c TooManyBlocks = (length c ≡ 2) × (length fields + 1 ≡ most_blocks) × (n : Number) × (pcb_octet (Info n true) ≡ slice_index c 1)
+MeetsInBlock ifs number max fields c BadLen = (length c ≡ 3) × (slice_index c 2 ≡ 0xFF)
+MeetsInBlock ifs number max fields c OverIfs = (length c ≡ 3) × (ifs < slice_index c 2)
+MeetsInBlock ifs number max fields c TooLong = (length c ≡ 3) × (max < length (message_of fields) + slice_index c 2)
+MeetsInBlock ifs number max fields c BadLrc = (length c ≡ slice_index c 2 + 4) × (xor_of c ≢ 0)
+
+-- the octets b, whole blocks and the first octets of one more, meet this line of the table
+abbrev pub Meets : ℕ → Number → ℕ → List ℕ → ChainReason → Type 0
+Meets ifs number max b r = (fields : List (List ℕ)) × (c : List ℕ) × (b ≡ octets_of (open_links number fields) ++ c) × MeetsInBlock ifs number max fields c r
+
+-- the lines of the table in their order, octet by octet of a block
+abbrev pub all_reasons : List ChainReason
+all_reasons = BadNad ∷ BadPcb ∷ NotInfo ∷ BadSequence ∷ TooManyBlocks ∷ BadLen ∷ OverIfs ∷ TooLong ∷ BadLrc ∷ []
+
+-- the reason is the first line of the table that the octets up to and with the refused one meet
+abbrev pub IsReason : ℕ → Number → ℕ → ChainReason → List ℕ → Type 0
+IsReason ifs number max r b = IsFirst all_reasons (Meets ifs number max b) r

@@ -1,0 +1,38 @@
+-- What a receiver of a chain has taken.
+use Rattle.std.specs.Prelude.{◌≡◌, ℕ, ◌<◌, List, [], ◌++◌, length, Bool, true, false, Option, None, ◌+◌, slice_index}
+use Rattle.octet_core.specs.Grammar.{Begins}
+use Rattle.octet_core.specs.declared.stop.Refusal.{Refusal}
+use Rattle.block_core.specs.declared.pcb.Number.{Number}
+use Rattle.chain_core.specs.Chain.{IsChain, message_of, links, open_links, octets_of}
+use Rattle.chain_core.specs.declared.reason.ChainReason.{ChainReason}
+
+-- what a receiver keeps: its conditions, how many whole blocks it took and what it joined of them,
+-- the octets of the block under way, and the refusal that it repeats
+pub record Reception : Type 0 where
+  pub ifs : ℕ
+  pub number : Number
+  pub max : ℕ
+  pub blocks : ℕ
+  pub joined : List ℕ
+  pub under_way : List ℕ
+  pub done : Bool
+  pub refusal : Option (Refusal ChainReason)
+
+-- a receiver that took nothing
+abbrev pub fresh : ℕ → Number → ℕ → Reception
+fresh ifs number max = record { ifs = ifs; number = number; max = max; blocks = 0; joined = []; under_way = []; done = false; refusal = None }
+
+-- the octets t are whole blocks with these fields, and then the octets c of the block under way:
+-- where the chain is done none, else fewer than its LEN tells
+abbrev pub AreTaken : Bool → Number → List (List ℕ) → List ℕ → List ℕ → Type 0
+AreTaken true number fields c t = (0 < length fields) × (c ≡ []) × (t ≡ octets_of (links number fields))
+AreTaken false number fields c t = (3 < length c → length c < slice_index c 2 + 4) × (t ≡ octets_of (open_links number fields) ++ c)
+
+-- a receiver that refused nothing may have taken the octets t
+pub record HasTaken (r : Reception) (t : List ℕ) : Type 0 where
+  pub kept : r.refusal ≡ None
+  pub begun : Begins (IsChain r.ifs r.number r.max) t
+  pub fields : List (List ℕ)
+  pub blocks : length fields ≡ r.blocks
+  pub joined : message_of fields ≡ r.joined
+  pub taken : AreTaken r.done r.number fields r.under_way t
