@@ -91,6 +91,15 @@ impl BlockReader {
         })
     }
 
+    /// How many octets of the block were taken, at most 258; with a refusal, up to and with the one that was
+    /// refused.
+    pub fn taken(&self) -> usize
+        ensures octets { result ≡ length self.now.taken }
+        ensures most { result ≤ 258 }
+    {
+        self.held.len()
+    }
+
     /// Begins anew, as a new reader of the same information size.
     pub fn reset(&mut self)
         ensures { self.new ≡ fresh self.old.ifs }

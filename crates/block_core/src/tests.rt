@@ -178,6 +178,7 @@ fn fed_in_two_pieces(rt: HostRuntime) {
     }
     let mut reader = BlockReader::new(32);
     assert_eq!(rt; reader.feed(&[0x00, 0xC1, 0x01]), Ok((3, false)));
+    assert_eq!(rt; reader.taken(), 3);
     let bad_size = Stop::At {
         place: 3,
         reason: BlockReason::BadIfs,

@@ -23,6 +23,7 @@ use Rattle.block_core.proofs.Goes.{pcb-known}
 use Rattle.chain_core.specs.declared.reason.ChainReason.{ChainReason}
 use Rattle.chain_core.specs.declared.reason.ChainReason.TheVariants.{BadNad, BadPcb, NotInfo, BadSequence, TooManyBlocks, BadLen, OverIfs, TooLong, BadLrc}
 use Rattle.chain_core.specs.Chain.{IsChain, message_of, open_links, octets_of, link, number_after, spelling, MeetsInBlock, Meets, IsReason, all_reasons}
+use Rattle.chain_core.specs.Part.{more_count}
 use Rattle.chain_core.proofs.Unique.{one-accepted}
 use Rattle.chain_core.proofs.Reasons.{IsPart, part-short, part-sum, reason-in_block}
 use Rattle.chain_core.proofs.Stuck.{not-other, same-number, meets-stuck}
@@ -33,28 +34,23 @@ mid-step : (number : Number) (f : List ℕ) (fs : List (List ℕ)) (g : List ℕ
 mid-step number f [] g rest = refl
 mid-step number f (k ∷ fs) g rest = refl
 
-spelling-mid : (number : Number) (before : List (List ℕ)) (g : List ℕ) (rest : List (List ℕ)) → spelling number (before ++ g ∷ rest) ≡ octets_of (open_links number before) ++ spelling (number_after number (length before)) (g ∷ rest)
+pub spelling-mid : (number : Number) (before : List (List ℕ)) (g : List ℕ) (rest : List (List ℕ)) → spelling number (before ++ g ∷ rest) ≡ octets_of (open_links number before) ++ spelling (number_after number (length before)) (g ∷ rest)
 spelling-mid number [] g rest = refl
 spelling-mid number (f ∷ fs) g rest =
     let a : List ℕ = block.spelling (link number true f) in
     mid-step number f fs g rest ∙ ap (λ (l : List ℕ). a ++ l) (spelling-mid (other number) fs g rest) ∙ sym (append_assoc a (octets_of (open_links (other number) fs)) (spelling (number_after number (length (f ∷ fs))) (g ∷ rest)))
 
-message-append : (fs gs : List (List ℕ)) → message_of (fs ++ gs) ≡ message_of fs ++ message_of gs
+pub message-append : (fs gs : List (List ℕ)) → message_of (fs ++ gs) ≡ message_of fs ++ message_of gs
 message-append [] gs = refl
 message-append (f ∷ fs) gs = ap (λ (l : List ℕ). f ++ l) (message-append fs gs) ∙ sym (append_assoc f (message_of fs) (message_of gs))
 
-count-append : (fs gs : List (List ℕ)) → length (fs ++ gs) ≡ length fs + length gs
+pub count-append : (fs gs : List (List ℕ)) → length (fs ++ gs) ≡ length fs + length gs
 count-append [] gs = omega arith
 count-append (f ∷ fs) gs = omega (arith, count-append fs gs)
 
-sizes-append : (ifs : ℕ) (fs gs : List (List ℕ)) → AllByRecursion (λ f. length f ≤ ifs) fs → AllByRecursion (λ f. length f ≤ ifs) gs → AllByRecursion (λ f. length f ≤ ifs) (fs ++ gs)
+pub sizes-append : (ifs : ℕ) (fs gs : List (List ℕ)) → AllByRecursion (λ f. length f ≤ ifs) fs → AllByRecursion (λ f. length f ≤ ifs) gs → AllByRecursion (λ f. length f ≤ ifs) (fs ++ gs)
 sizes-append ifs [] gs p q = q
 sizes-append ifs (f ∷ fs) gs p q = (p.0, sizes-append ifs fs gs p.1 q)
-
--- how many blocks follow at least
-abbrev more_count : Bool → ℕ
-more_count false = 0
-more_count true = 1
 
 -- the fields from the one under way on
 closing : List ℕ → Bool → List (List ℕ)
@@ -62,12 +58,12 @@ closing field false = field ∷ []
 closing field true = field ∷ [] ∷ []
 
 -- what blocks of a chain have in common
-record Taken (ifs : ℕ) (before : List (List ℕ)) : Type 0 where
-  sizes : AllByRecursion (λ f. length f ≤ ifs) before
-  octets : AreOctets (message_of before)
+pub record Taken (ifs : ℕ) (before : List (List ℕ)) : Type 0 where
+  pub sizes : AllByRecursion (λ f. length f ≤ ifs) before
+  pub octets : AreOctets (message_of before)
 
 -- blocks that go on, and one more, begin a chain
-chain-begins : (ifs : ℕ) (number : Number) (max : ℕ) (before : List (List ℕ)) (go : Bool) (field : List ℕ) → Taken ifs before → length before + 1 + more_count go ≤ 131072
+pub chain-begins : (ifs : ℕ) (number : Number) (max : ℕ) (before : List (List ℕ)) (go : Bool) (field : List ℕ) → Taken ifs before → length before + 1 + more_count go ≤ 131072
     → length field ≤ ifs → AreOctets field → length (message_of before) + length field ≤ max → Begins (IsChain ifs number max) (octets_of (open_links number before) ++ block.spelling (link (number_after number (length before)) go field))
 chain-begins ifs number max before false field taken few size octets fits =
     let own : Number = number_after number (length before) in
@@ -105,7 +101,7 @@ chain-begins ifs number max before true field taken few size octets fits =
       },
     )
 
-part-begins : (ifs : ℕ) (number : Number) (max : ℕ) (before : List (List ℕ)) (go : Bool) (field part rest : List ℕ) → Taken ifs before → length before + 1 + more_count go ≤ 131072
+pub part-begins : (ifs : ℕ) (number : Number) (max : ℕ) (before : List (List ℕ)) (go : Bool) (field part rest : List ℕ) → Taken ifs before → length before + 1 + more_count go ≤ 131072
     → length field ≤ ifs → AreOctets field → length (message_of before) + length field ≤ max → part ++ rest ≡ block.spelling (link (number_after number (length before)) go field) → Begins (IsChain ifs number max) (octets_of (open_links number before) ++ part)
 part-begins ifs number max before go field part rest taken few size octets fits e =
     let opened : List ℕ = octets_of (open_links number before) in

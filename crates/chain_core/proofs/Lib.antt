@@ -7,3 +7,9 @@ pub mod Rows
 pub mod Taken
 pub mod Stuck
 pub mod Goes
+pub mod Receiving
+pub mod Heads
+pub mod Receptions
+pub mod Joins
+pub mod Rests
+pub mod Feeds

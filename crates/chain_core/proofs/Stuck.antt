@@ -17,14 +17,14 @@ use Rattle.chain_core.specs.Chain.{IsChain, message_of, open_links, octets_of, l
 use Rattle.chain_core.proofs.Unique.{link-split}
 
 -- the block of a chain after those with the fields before
-record Next (ifs max : ℕ) (number : Number) (before gs : List (List ℕ)) (c : List ℕ) : Type 0 where
-  more : Bool
-  field : List ℕ
-  rest : List ℕ
-  is : c ≡ block.spelling (link (number_after number (length before)) more field) ++ rest
-  size : length field ≤ ifs
-  fits : length (message_of before) + length field ≤ length (message_of gs)
-  blocks : more ≡ true → length before + 1 < length gs
+pub record Next (ifs max : ℕ) (number : Number) (before gs : List (List ℕ)) (c : List ℕ) : Type 0 where
+  pub more : Bool
+  pub field : List ℕ
+  pub rest : List ℕ
+  pub is : c ≡ block.spelling (link (number_after number (length before)) more field) ++ rest
+  pub size : length field ≤ ifs
+  pub fits : length (message_of before) + length field ≤ length (message_of gs)
+  pub blocks : more ≡ true → length before + 1 < length gs
 
 next-later : (ifs max : ℕ) (number : Number) (f : List ℕ) (before gs : List (List ℕ)) (c : List ℕ) → Next ifs max (other number) before gs c → Next ifs max number (f ∷ before) (f ∷ gs) c
 next-later ifs max number f before gs c n = record {
@@ -37,7 +37,7 @@ next-later ifs max number f before gs c n = record {
   blocks = λ e. omega (arith, n.blocks e);
 }
 
-next-block : (ifs max : ℕ) (number : Number) (before gs : List (List ℕ)) (c : List ℕ) → 0 < length gs → AllByRecursion (λ f. length f ≤ ifs) gs
+pub next-block : (ifs max : ℕ) (number : Number) (before gs : List (List ℕ)) (c : List ℕ) → 0 < length gs → AllByRecursion (λ f. length f ≤ ifs) gs
     → spelling number gs ≡ octets_of (open_links number before) ++ c → Next ifs max number before gs c
 next-block ifs max number before [] c some sizes e = absurd (omega arith)
 next-block ifs max number [] (g ∷ []) c some sizes e = record {
@@ -70,7 +70,7 @@ next-block ifs max number (f ∷ before) (g ∷ k ∷ gs) c some sizes e =
     (next-later ifs max number f before (k ∷ gs) c (next-block ifs max (other number) before (k ∷ gs) c (omega arith) sizes.1 h.2))
 
 -- an octet of what begins a block
-octet-at : (c more s : List ℕ) (k : ℕ) → k < length c → c ++ more ≡ s → slice_index c k ≡ slice_index s k
+pub octet-at : (c more s : List ℕ) (k : ℕ) → k < length c → c ++ more ≡ s → slice_index c k ≡ slice_index s k
 octet-at c more s k lt e = sym (get_or_append_left c more 0 k lt) ∙ ap (λ (l : List ℕ). get_or l k 0) e
 
 pub same-number : (n m : Number) (x y : Bool) → Info n x ≡ Info m y → n ≡ m

@@ -1,5 +1,5 @@
 -- What a receiver of a chain has taken.
-use Rattle.std.specs.Prelude.{◌≡◌, ℕ, ◌<◌, List, [], ◌++◌, length, Bool, true, false, Option, None, ◌+◌, slice_index}
+use Rattle.std.specs.Prelude.{◌≡◌, ℕ, ◌<◌, List, [], ◌++◌, length, Bool, true, false, Option, None, IsSome, ◌⊎◌, ◌+◌, slice_index}
 use Rattle.octet_core.specs.Grammar.{Begins}
 use Rattle.octet_core.specs.declared.stop.Refusal.{Refusal}
 use Rattle.block_core.specs.declared.pcb.Number.{Number}
@@ -36,3 +36,14 @@ pub record HasTaken (r : Reception) (t : List ℕ) : Type 0 where
   pub blocks : length fields ≡ r.blocks
   pub joined : message_of fields ≡ r.joined
   pub taken : AreTaken r.done r.number fields r.under_way t
+
+abbrev pub refusal_of : Reception → Option (Refusal ChainReason)
+refusal_of r = r.refusal
+
+-- it takes more octets
+abbrev pub IsOpen : Reception → Type 0
+IsOpen r = (r.refusal ≡ None) × (r.done ≡ false)
+
+-- it refused, or has a whole chain
+abbrev pub IsClosed : Reception → Type 0
+IsClosed r = IsSome r.refusal ⊎ (r.done ≡ true)

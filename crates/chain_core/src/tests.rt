@@ -1,8 +1,9 @@
 //! Chains from the standard's rules, and calls that no clause pins.
 
-use crate::{block_at, cut, write_chain};
+use crate::{ChainReason, Receiver, block_at, cut, write_chain};
 use block_core::{Number, encode};
-use octet_core::{After, Counted, Taker, WriteFault};
+use octet_core::{After, Counted, Stop, Taker, WriteFault};
+use std::test::Fail;
 
 /// 00 A4 04 00 00, in blocks of two octets.
 const CHAIN: [u8; 17] = [
@@ -70,4 +71,114 @@ fn written_to_a_writer_that_fails(rt: HostRuntime) {
             }
         }
     }
+}
+
+fn at(place: usize, reason: ChainReason) -> Result<(usize, bool), Stop<ChainReason>> {
+    Err(Stop::At { place, reason })
+}
+
+#[test]
+fn received_in_two_pieces(rt: HostRuntime) -> Result<(), Fail> {
+    let mut receiver = Receiver::new(rt.alloc(), 2, Number::Zero, 5)?;
+    for cut in 0..CHAIN.len() + 1 {
+        let (front, back) = CHAIN.split_at(cut);
+        assert_eq!(rt; receiver.feed(front), Ok((front.len(), cut == CHAIN.len())));
+        if cut < CHAIN.len() {
+            assert!(rt; receiver.message().is_none());
+            assert_eq!(rt; receiver.finish(), Err(Stop::Short { place: cut }));
+        }
+        assert_eq!(rt; receiver.feed(back), Ok((back.len(), true)));
+        assert_eq!(rt; receiver.feed(&[0xFF]), Ok((0, true)));
+        assert_eq!(rt; receiver.finish(), Ok(()));
+        assert_eq!(rt; receiver.blocks(), 3);
+        assert!(rt;
+            receiver
+                .message()
+                .is_some_and(|message| message == SELECT.as_slice())
+        );
+        receiver.restart(Number::Zero);
+    }
+    Ok(())
+}
+
+#[test]
+fn received_octet_by_octet(rt: HostRuntime) -> Result<(), Fail> {
+    let mut receiver = Receiver::new(rt.alloc(), 2, Number::Zero, 5)?;
+    for (place, octet) in CHAIN.iter().enumerate() {
+        assert_eq!(rt; receiver.feed(&[*octet]), Ok((1, place == 16)));
+    }
+    assert!(rt;
+        receiver
+            .message()
+            .is_some_and(|message| message == SELECT.as_slice())
+    );
+    Ok(())
+}
+
+#[test]
+fn refused_chains(rt: HostRuntime) -> Result<(), Fail> {
+    let mut receiver = Receiver::new(rt.alloc(), 2, Number::Zero, 4)?;
+    let front = &CHAIN[..6];
+    for (block, refusal) in [
+        ([0x00, 0x20, 0x02], at(7, ChainReason::BadSequence)),
+        ([0x00, 0x80, 0x00], at(7, ChainReason::NotInfo)),
+        ([0x00, 0x83, 0x00], at(7, ChainReason::BadPcb)),
+        ([0x01, 0x60, 0x00], at(6, ChainReason::BadNad)),
+        ([0x00, 0x60, 0x03], at(8, ChainReason::OverIfs)),
+        ([0x00, 0x60, 0xFF], at(8, ChainReason::BadLen)),
+    ] {
+        assert_eq!(rt; receiver.feed(front), Ok((6, false)));
+        assert_eq!(rt; receiver.feed(&block), refusal);
+        assert_eq!(rt; receiver.feed(&CHAIN), refusal);
+        assert!(rt; receiver.message().is_none());
+        receiver.restart(Number::Zero);
+    }
+    let too_long = Stop::At {
+        place: 14,
+        reason: ChainReason::TooLong,
+    };
+    assert_eq!(rt; receiver.feed(&CHAIN), Err(too_long));
+    assert_eq!(rt; receiver.finish(), Err(too_long));
+    receiver.restart(Number::One);
+    assert_eq!(rt;
+        receiver.feed(&[0x00, 0x40, 0x00, 0x41]),
+        at(3, ChainReason::BadLrc)
+    );
+    Ok(())
+}
+
+#[test]
+fn most_blocks(rt: HostRuntime) -> Result<(), Fail> {
+    let mut receiver = Receiver::new(rt.alloc(), 254, Number::Zero, 0)?;
+    for _ in 0..65_535 {
+        assert_eq!(rt;
+            receiver.feed(&[0x00, 0x20, 0x00, 0x20, 0x00, 0x60, 0x00, 0x60]),
+            Ok((8, false))
+        );
+    }
+    assert_eq!(rt; receiver.feed(&[0x00, 0x20, 0x00, 0x20]), Ok((4, false)));
+    assert_eq!(rt; receiver.feed(&[0x00, 0x40, 0x00, 0x40]), Ok((4, true)));
+    assert_eq!(rt; receiver.blocks(), 131_072);
+    assert!(rt; receiver.message().is_some_and(|message| message.is_empty()));
+    receiver.restart(Number::Zero);
+    for _ in 0..65_535 {
+        assert_eq!(rt;
+            receiver.feed(&[0x00, 0x20, 0x00, 0x20, 0x00, 0x60, 0x00, 0x60]),
+            Ok((8, false))
+        );
+    }
+    assert_eq!(rt; receiver.feed(&[0x00, 0x20, 0x00, 0x20]), Ok((4, false)));
+    assert_eq!(rt;
+        receiver.feed(&[0x00, 0x60]),
+        at(524_285, ChainReason::TooManyBlocks)
+    );
+    Ok(())
+}
+
+#[test]
+fn cut_long_messages(rt: HostRuntime) -> Result<(), Fail> {
+    let message = vec![in rt.alloc(); 0xA5u8; 65_544]?;
+    assert_eq!(rt; cut(message.as_slice(), 1, Number::Zero).count(), 65_544);
+    assert_eq!(rt; cut(message.as_slice(), 254, Number::Zero).count(), 259);
+    Ok(())
 }

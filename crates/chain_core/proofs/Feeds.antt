@@ -1,0 +1,142 @@
+-- What a receiver answers.
+use Rattle.std.proofs.Common.{◌≡◌, ℕ, ◌+◌, ◌*◌, ◌≤◌, ◌<◌, ◌++◌, ◌⊎◌, List, [], length, take, drop, refl, sym, ap, subst, ◌∙◌, arith, Bool, true, false, append_assoc, inl, inr, Option, Some, None, Result, Ok, Err, slice_index}
+use Rattle.std.proofs.lemmas.List.{append-nil, take-append-drop}
+use Rattle.octet_core.specs.Grammar.{RefusesAt, self_ended}
+use Rattle.octet_core.specs.Reader.{IsFed, IsFinished}
+use Rattle.octet_core.specs.declared.stop.Refusal.{Refusal}
+use Rattle.octet_core.specs.declared.stop.Stop.{Stop}
+use Rattle.octet_core.specs.declared.stop.Stop.TheVariants.{At, Short}
+use Rattle.octet_core.proofs.Lists.{never}
+use Rattle.block_core.specs.declared.pcb.Number.{Number}
+use Rattle.block_core.proofs.Readings.{refuses-append}
+use Rattle.chain_core.specs.declared.reason.ChainReason.{ChainReason}
+use Rattle.chain_core.specs.Chain.{IsChain, IsReason, link}
+use Rattle.block_core.specs.Block as block
+use Rattle.octet_core.proofs.Begun.{begins-front}
+use Rattle.chain_core.proofs.Goes.{chain-begins}
+use Rattle.chain_core.specs.Taken.{Reception, HasTaken, AreTaken, IsOpen, IsClosed, fresh, refusal_of}
+use Rattle.chain_core.specs.Receiving.{Goes}
+use Rattle.chain_core.proofs.Taken.{done-spelled, length-taken}
+use Rattle.chain_core.proofs.Receiving.{not-chain}
+
+bool_cases : (d : Bool) → (d ≡ true) ⊎ (d ≡ false)
+bool_cases true = inl refl
+bool_cases false = inr refl
+
+some_is : {A : Type 0} (x y : A) → Some x ≡ Some y → x ≡ y
+some_is x y e = cc
+
+none_some : {P A : Type 0} (o : Option A) (x : A) → o ≡ None → o ≡ Some x → P
+none_some o x e f = absurd (let bad : None ≡ Some x = sym e ∙ f in cc)
+
+-- no octets change nothing
+pub goes-none : (r : Reception) → Goes r r []
+goes-none r = record {
+  ifs = refl;
+  number = refl;
+  max = refl;
+  on = λ none t h. subst (HasTaken r) (sym (append-nil t)) h;
+  refused = λ refusal e t h. none_some r.refusal refusal h.kept e;
+}
+
+-- octets and then more
+pub goes-then : (a b c : Reception) (p q : List ℕ) → Goes a b p → IsOpen b → Goes b c q → Goes a c (p ++ q)
+goes-then a b c p q f waits g = record {
+  ifs = g.ifs ∙ f.ifs;
+  number = g.number ∙ f.number;
+  max = g.max ∙ f.max;
+  on = λ none t h. subst (HasTaken c) (append_assoc t p q) (g.on none (t ++ p) (f.on waits.0 t h));
+  refused = λ refusal e t h.
+      let S : ℕ → Number → ℕ → List ℕ → Type 0 = λ ifs number max l. RefusesAt self_ended (IsChain ifs number max) (IsReason ifs number max) l (At refusal.place refusal.reason) in
+      let one : S b.ifs b.number b.max ((t ++ p) ++ q) = g.refused refusal e (t ++ p) (f.on waits.0 t h) in
+      subst (S a.ifs a.number a.max) (append_assoc t p q)
+      (subst (λ (m : ℕ). S a.ifs a.number m ((t ++ p) ++ q)) f.max (subst (λ (n : Number). S a.ifs n b.max ((t ++ p) ++ q)) f.number (subst (λ (i : ℕ). S i b.number b.max ((t ++ p) ++ q)) f.ifs one)));
+}
+
+pub open-not-closed : (r : Reception) → IsOpen r → IsClosed r → ⊥
+open-not-closed r waits (inl some) = never (rw waits.0 at some)
+open-not-closed r waits (inr done) = let bad : true ≡ false = sym done ∙ waits.1 in cc
+
+-- a receiver that isn't done has taken no chain
+pub not-spelled : (r : Reception) (t : List ℕ) → r.done ≡ false → HasTaken r t → (gs : List (List ℕ)) → IsChain r.ifs r.number r.max gs t → ⊥
+not-spelled r t still h gs g =
+    let a = subst (λ (d : Bool). AreTaken d r.number h.fields r.under_way t) still h.taken in
+    not-chain r.ifs r.max r.number h.fields r.under_way a.0 gs (subst (IsChain r.ifs r.number r.max gs) a.1 g)
+
+-- what a feed knows when it answers
+pub record Fed (old new : Reception) (piece : List ℕ) (n : ℕ) : Type 0 where
+  pub goes : Goes old new (take n piece)
+  pub inside : n ≤ length piece
+  pub closed : IsClosed old → (new ≡ old) × (n ≡ 0)
+  pub exit : (length piece ≤ n) ⊎ IsClosed new
+
+chain-at : (old new : Reception) (gs : List (List ℕ)) (t : List ℕ) → new.ifs ≡ old.ifs → new.number ≡ old.number → new.max ≡ old.max → IsChain new.ifs new.number new.max gs t → IsChain old.ifs old.number old.max gs t
+chain-at old new gs t e f g h =
+    subst (λ (m : ℕ). IsChain old.ifs old.number m gs t) g (subst (λ (n : Number). IsChain old.ifs n new.max gs t) f (subst (λ (i : ℕ). IsChain i new.number new.max gs t) e h))
+
+pub fed-on : (old new : Reception) (piece : List ℕ) (n : ℕ) → Fed old new piece n → new.refusal ≡ None → IsFed (IsChain old.ifs old.number old.max) (IsReason old.ifs old.number old.max) HasTaken refusal_of old new piece (Ok (n, new.done))
+fed-on old new piece n f none = record {
+  taken = (f.inside, λ t h. f.goes.on none t h);
+  done = λ t h.
+      let taken : HasTaken new (t ++ take n piece) = f.goes.on none t h in (
+        λ e. (taken.fields, chain-at old new taken.fields (t ++ take n piece) f.goes.ifs f.goes.number f.goes.max (done-spelled new (t ++ take n piece) taken e)),
+        λ v. elim (bool_cases new.done) [
+          | inl e ↦ e
+          | inr still ↦ absurd (not-spelled new (t ++ take n piece) still taken v.0 (chain-at new old v.0 (t ++ take n piece) (sym f.goes.ifs) (sym f.goes.number) (sym f.goes.max) v.1))
+        ],
+      );
+  whole = λ still. elim f.exit [
+    | inl le ↦ omega (arith, f.inside)
+    | inr closed ↦ absurd (open-not-closed new (none, still) closed)
+  ];
+  refused = tt;
+  kept = tt;
+  repeated = λ refusal e.
+      let same = (f.closed (inl (rw e refl))).0 in
+      none_some new.refusal refusal none (ap refusal_of same ∙ e);
+}
+
+pub fed-refused : (old new : Reception) (piece : List ℕ) (n : ℕ) (refusal : Refusal ChainReason) → Fed old new piece n → new.refusal ≡ Some refusal
+    → IsFed (IsChain old.ifs old.number old.max) (IsReason old.ifs old.number old.max) HasTaken refusal_of old new piece (Err (At refusal.place refusal.reason))
+fed-refused old new piece n refusal f some = record {
+  taken = tt;
+  done = tt;
+  whole = tt;
+  refused = λ t h.
+      let parts : (t ++ take n piece) ++ drop n piece ≡ t ++ piece = append_assoc t (take n piece) (drop n piece) ∙ ap (λ (l : List ℕ). t ++ l) (take-append-drop n piece) in
+      subst (λ (b : List ℕ). RefusesAt self_ended (IsChain old.ifs old.number old.max) (IsReason old.ifs old.number old.max) b (At refusal.place refusal.reason)) parts
+      (refuses-append (IsChain old.ifs old.number old.max) (IsReason old.ifs old.number old.max) (t ++ take n piece) (drop n piece) refusal.place refusal.reason (f.goes.refused refusal some t h));
+  kept = (refusal, some, refl);
+  repeated = λ other e.
+      let same = (f.closed (inl (rw e refl))).0 in
+      let one : refusal ≡ other = some_is refusal other (sym some ∙ ap refusal_of same ∙ e) in
+      (ap (λ (x : Refusal ChainReason). Err (At x.place x.reason)) one, same);
+}
+
+-- ---- the end
+
+pub finished-done : (r : Reception) → r.refusal ≡ None → r.done ≡ true → IsFinished (IsChain r.ifs r.number r.max) (IsReason r.ifs r.number r.max) HasTaken refusal_of r (Ok tt)
+finished-done r none done = record {
+  done = λ t h. (h.fields, done-spelled r t h done);
+  short = tt;
+  repeated = λ refusal e. none_some r.refusal refusal none e;
+}
+
+pub finished-short : (r : Reception) (place : ℕ) → r.refusal ≡ None → r.done ≡ false → place ≡ length r.joined + r.blocks * 4 + length r.under_way → IsFinished (IsChain r.ifs r.number r.max) (IsReason r.ifs r.number r.max) HasTaken refusal_of r (Err (Short place))
+finished-short r place none still is = record {
+  done = tt;
+  short = λ e t h. (ap Short (is ∙ sym (length-taken r t h)), not-spelled r t still h);
+  repeated = λ refusal e. none_some r.refusal refusal none e;
+}
+
+-- ---- a new receiver has taken no octets
+
+pub taken-fresh : (ifs : ℕ) (number : Number) (max : ℕ) → HasTaken (fresh ifs number max) []
+taken-fresh ifs number max = record {
+  kept = refl;
+  begun = begins-front (IsChain ifs number max) [] (block.spelling (link number false [])) (chain-begins ifs number max [] false [] (record { sizes = tt; octets = λ i. omega arith }) (omega arith) (omega arith) (λ i. omega arith) (omega arith));
+  fields = [];
+  blocks = refl;
+  joined = refl;
+  taken = (λ lt. absurd (omega arith), refl);
+}

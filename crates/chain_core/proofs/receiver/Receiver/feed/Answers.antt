@@ -1,0 +1,42 @@
+use Rattle.std.proofs.Common.{◌≡◌, ◌≤◌, ◌-◌, ◌+◌, ◌++◌, ◌∙◌, ◌⊎◌, inl, inr, ℕ, List, length, take, drop, arith, sym, ap, subst, append_assoc, Bool, Result, Ok}
+use Rattle.std.proofs.lemmas.List.{length-drop, take_rest}
+use Rattle.std.proofs.Math.Seq.{take-add}
+use Rattle.chain_core.specs.Taken.{Reception, HasTaken, IsOpen, IsClosed, refusal_of}
+use Rattle.chain_core.specs.Receiving.{Goes}
+use Rattle.chain_core.proofs.Feeds.{Fed, goes-then, open-not-closed, fed-on, fed-refused}
+use Rattle.octet_core.specs.Reader.{IsFed}
+use Rattle.octet_core.specs.declared.stop.Stop.{Stop}
+use Rattle.chain_core.specs.declared.reason.ChainReason.{ChainReason}
+use Rattle.chain_core.specs.Chain.{IsChain, IsReason}
+use Rattle.chain_core.proofs.receiver.Receiver.feed.Goals as goal
+use Rattle.chain_core.proofs.receiver.Receiver.feed.Goals.{in-Some, in-None, then-loop-taken-test+else-is_open, else-loop-taken-test}
+
+pub loop-taken-preserved : goal.loop-taken-preserved
+loop-taken-preserved c =
+    let piece : List ℕ = c.args.piece.now in
+    let i : ℕ = c.loop-taken.taken in
+    let n : ℕ = c.take_run-taken.result in
+    let rest-is : take (length piece - i) (drop i piece) ≡ drop i piece = take_rest piece i in
+    let waits : IsOpen c.loop-taken.self = rw c.if-is_open.true at c.is_open.ensures in
+    let more : Goes c.loop-taken.self c.take_run-taken.new.self (take n (drop i piece)) = subst (λ (l : List ℕ). Goes c.loop-taken.self c.take_run-taken.new.self (take n l)) rest-is c.take_run-taken.ensures.goes in
+    record {
+      inside = omega (arith, c.take_run-taken.ensures.most, ap length rest-is, length-drop i piece);
+      goes = subst (Goes c.args.self.now c.take_run-taken.new.self) (sym (take-add i n piece)) (goes-then c.args.self.now c.loop-taken.self c.take_run-taken.new.self (take i piece) (take n (drop i piece)) c.loop-taken.invariant.goes waits more);
+      closed = λ closed. absurd (open-not-closed c.loop-taken.self waits (subst IsClosed (sym (c.loop-taken.invariant.closed closed).0) closed));
+    }
+
+pub returns-clause-fed : goal.returns-clause-fed
+returns-clause-fed c =
+    let old : Reception = c.args.self.now in
+    let new : Reception = c.loop-taken.self in
+    let n : ℕ = c.loop-taken.taken in
+    let piece : List ℕ = c.args.piece.now in
+    let exit : (length piece ≤ n) ⊎ IsClosed new =
+    elim c.loop-taken-test.branch [ then-loop-taken-test+else-is_open w ↦ inr (rw w.if-is_open.false at w.is_open.ensures) | else-loop-taken-test w ↦ inl (omega arith) ] in
+    let f : Fed old new piece n = record { goes = c.loop-taken.invariant.goes; inside = c.loop-taken.invariant.inside; closed = c.loop-taken.invariant.closed; exit = exit } in
+    let kept = ap refusal_of (sym c.self-2.view_is) in
+    let Answers : Result (ℕ × Bool) (Stop ChainReason) → Type 0 = λ r. IsFed (IsChain old.ifs old.number old.max) (IsReason old.ifs old.number old.max) HasTaken refusal_of old new piece r in
+    elim c.match-self.branch [
+      | in-Some w ↦ subst Answers (sym w.result-is) (fed-refused old new piece n w.in-Some.refusal f (kept ∙ w.in-Some.is))
+      | in-None w ↦ subst Answers (sym w.result-is) (subst (λ (d : Bool). Answers (Ok (n, d))) (sym (ap (λ (s : Reception). s.done) c.self-2.view_is)) (fed-on old new piece n f (kept ∙ w.in-None.is)))
+    ]

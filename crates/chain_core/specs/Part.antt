@@ -1,0 +1,83 @@
+-- How far the block of a chain has come, and what its first three octets are refused for.
+use Rattle.std.specs.Prelude.{◌≡◌, ◌≢◌, ℕ, ◌+◌, ◌<◌, ◌≤◌, List, length, slice_index, Bool, true, false}
+use Rattle.block_core.specs.Block.{other, pcb_octet, IsInfo}
+use Rattle.block_core.specs.declared.pcb.Number.{Number}
+use Rattle.block_core.specs.declared.pcb.Pcb.{Pcb}
+use Rattle.block_core.specs.declared.pcb.Pcb.TheVariants.{Info}
+use Rattle.chain_core.specs.declared.reason.ChainReason.{ChainReason}
+use Rattle.chain_core.specs.declared.reason.ChainReason.TheVariants.{BadNad, BadPcb, NotInfo, BadSequence, TooManyBlocks, BadLen, OverIfs, TooLong, BadLrc}
+use Rattle.chain_core.specs.declared.part.Part as part
+use Rattle.chain_core.specs.declared.part.Part.TheVariants as parts
+
+-- what is wrong with a control octet, where this number comes next and the block may be the last
+abbrev pub IsPcbFault : Number → Bool → ℕ → ChainReason → Type 0
+IsPcbFault number last x BadNad = ⊥
+IsPcbFault number last x BadPcb = (p : Pcb) → pcb_octet p ≡ x → ⊥
+IsPcbFault number last x NotInfo = (p : Pcb) × (pcb_octet p ≡ x) × (IsInfo p → ⊥)
+IsPcbFault number last x BadSequence = (more : Bool) × (pcb_octet (Info (other number) more) ≡ x)
+IsPcbFault number last x TooManyBlocks = (last ≡ true) × (pcb_octet (Info number true) ≡ x)
+IsPcbFault number last x BadLen = ⊥
+IsPcbFault number last x OverIfs = ⊥
+IsPcbFault number last x TooLong = ⊥
+IsPcbFault number last x BadLrc = ⊥
+
+-- what is wrong with a length
+abbrev pub IsLenFault : ℕ → ℕ → ℕ → ChainReason → Type 0
+IsLenFault ifs room x BadNad = ⊥
+IsLenFault ifs room x BadPcb = ⊥
+IsLenFault ifs room x NotInfo = ⊥
+IsLenFault ifs room x BadSequence = ⊥
+IsLenFault ifs room x TooManyBlocks = ⊥
+IsLenFault ifs room x BadLen = x ≡ 255
+IsLenFault ifs room x OverIfs = (x ≢ 255) × (ifs < x)
+IsLenFault ifs room x TooLong = (x ≢ 255) × (x ≤ ifs) × (room < x)
+IsLenFault ifs room x BadLrc = ⊥
+
+-- how many blocks follow at least
+abbrev pub more_count : Bool → ℕ
+more_count false = 0
+more_count true = 1
+
+-- a block with this number that can come after so many
+abbrev pub IsPcb : Number → ℕ → Bool → List ℕ → Type 0
+IsPcb number blocks more c = (pcb_octet (Info number more) ≡ slice_index c 1) × (blocks + 1 + more_count more ≤ 131072)
+
+-- the octets c of the block under way, after so many blocks with so many octets
+abbrev pub IsAtPart : Number → ℕ → ℕ → ℕ → part.Part → List ℕ → Type 0
+IsAtPart number max blocks joined parts.Nad c = length c ≡ 0
+IsAtPart number max blocks joined parts.Pcb c = (length c ≡ 1) × (slice_index c 0 ≡ 0)
+IsAtPart number max blocks joined (parts.Len more) c = (length c ≡ 2) × (slice_index c 0 ≡ 0) × IsPcb number blocks more c
+IsAtPart number max blocks joined (parts.Rest more) c = (3 ≤ length c) × (slice_index c 0 ≡ 0) × IsPcb number blocks more c × (joined + slice_index c 2 ≤ max)
+
+-- the first three octets of a block come one by one
+abbrev pub IsHead : part.Part → Type 0
+IsHead parts.Nad = Unit {0}
+IsHead parts.Pcb = Unit {0}
+IsHead (parts.Len more) = Unit {0}
+IsHead (parts.Rest more) = ⊥
+
+-- what is wrong with one of them
+abbrev pub IsHeadFault : Number → Bool → ℕ → ℕ → part.Part → ℕ → ChainReason → Type 0
+IsHeadFault number last ifs room parts.Nad x r = (x ≢ 0) × (r ≡ BadNad)
+IsHeadFault number last ifs room parts.Pcb x r = IsPcbFault number last x r
+IsHeadFault number last ifs room (parts.Len more) x r = IsLenFault ifs room x r
+IsHeadFault number last ifs room (parts.Rest more) x r = ⊥
+
+-- what comes behind it
+abbrev pub IsBehind : Number → Bool → ℕ → ℕ → part.Part → ℕ → part.Part → Type 0
+IsBehind number last ifs room parts.Nad x next = (x ≡ 0) × (next ≡ parts.Pcb)
+IsBehind number last ifs room parts.Pcb x next = (more : Bool) × (next ≡ parts.Len more) × (pcb_octet (Info number more) ≡ x) × (more ≡ true → last ≡ false)
+IsBehind number last ifs room (parts.Len more) x next = (next ≡ parts.Rest more) × (x ≤ ifs) × (x ≤ room)
+IsBehind number last ifs room (parts.Rest more) x next = ⊥
+
+abbrev pub place_of : part.Part → ℕ
+place_of parts.Nad = 0
+place_of parts.Pcb = 1
+place_of (parts.Len more) = 2
+place_of (parts.Rest more) = 3
+
+abbrev pub more_said : part.Part → Bool
+more_said parts.Nad = false
+more_said parts.Pcb = false
+more_said (parts.Len more) = more
+more_said (parts.Rest more) = more

@@ -1,0 +1,219 @@
+//! A chain that comes in pieces, and its message.
+
+ghost use Rattle.std.specs.Prelude.{◌≡◌, ◌+◌, ◌<◌, ◌≤◌, ◌++◌, ◌⊎◌, length, take, IsSome, [], ◌∷◌, IfOk, IfSome, IfNone, MatchBool, true, false, None};
+ghost use Rattle.octet_core.specs.Reader.{IsFed, IsFinished};
+ghost use Rattle.chain_core.specs.Chain.{IsChain, IsReason};
+ghost use Rattle.chain_core.specs.Taken.{HasTaken, IsOpen, IsClosed, fresh, refusal_of};
+ghost use Rattle.chain_core.specs.Receiving.{Goes};
+
+use crate::part::{Part, behind};
+use crate::reason::ChainReason;
+use block_core::{BlockReader, Number};
+use octet_core::{Refusal, Stop};
+use std::alloc::{AllocError, Global};
+use std::marker::Model;
+
+/// The blocks of the longest chain.
+pub const MOST_BLOCKS: u32 = 131_072;
+
+/// A receiver of one chain (ISO/IEC 7816-3, clause 11.6) whose octets come in pieces. It joins the fields
+/// of the blocks to the message, for which `new` reserves memory once; no later call takes any.
+#[derive(Debug, Drop)]
+pub struct Receiver {
+    ifs: u8,
+    first: Number,
+    max: usize,
+    message: Vec<u8>,
+    blocks: u32,
+    number: Number,
+    reader: BlockReader,
+    part: Part,
+    done: bool,
+    refusal: Option<Refusal<ChainReason>>,
+}
+
+impl Model for Receiver {
+    ghost use Rattle.std.specs.Vec.{vec_capacity};
+    ghost use Rattle.chain_core.specs.Taken.{Reception};
+
+    ghost Value = { Reception };
+
+    ghost use Rattle.chain_core.specs.Receiving.{IsSound};
+
+    ghost view = { λ r. record { ifs = r.ifs; number = r.first; max = r.max; blocks = r.blocks; joined = r.message.items; under_way = r.reader.taken; done = r.done; refusal = r.refusal } };
+
+    ghost invariant = { λ r. IsSound (record { ifs = r.ifs; number = r.first; max = r.max; blocks = r.blocks; joined = r.message.items; under_way = r.reader.taken; done = r.done; refusal = r.refusal }) r.number (vec_capacity r.message) r.part r.reader };
+}
+
+impl Receiver {
+    /// A receiver that has taken nothing. `ifs` is the information size, 1 to 254, `number` the number of
+    /// the first block, and `max` the limit of the message, at most 131,072 octets, for which memory is
+    /// reserved.
+    pub fn new(alloc: Global, ifs: u8, number: Number, max: usize) -> Result<Receiver, AllocError>
+        requires least { 1 ≤ ifs }
+        requires most { ifs ≤ 254 }
+        requires limit { max ≤ 131072 }
+        ensures { IfOk result (λ r. r ≡ fresh ifs number max) }
+    {
+        let message = Vec::with_capacity(alloc, max)?;
+        Ok(Receiver {
+            ifs,
+            first: number,
+            max,
+            message,
+            blocks: 0,
+            number,
+            reader: BlockReader::new(ifs),
+            part: Part::Nad,
+            done: false,
+            refusal: None,
+        })
+    }
+
+    /// Begins anew, with a first block of this number.
+    pub fn restart(&mut self, number: Number)
+        ensures { self.new ≡ fresh self.old.ifs number self.old.max }
+    {
+        self.first = number;
+        self.message.clear();
+        self.blocks = 0;
+        self.number = number;
+        self.reader.reset();
+        self.part = Part::Nad;
+        self.done = false;
+        self.refusal = None;
+    }
+
+    /// Takes the next octets: how many of this piece, and whether the chain is whole. It takes the whole
+    /// piece unless the chain ends in it; once the chain is whole it takes none.
+    ///
+    /// `At` gives the first octet after which no chain goes on, counted from the first that was fed since
+    /// the receiver was new or restarted, and its reason. From then on it is answered again, and nothing is
+    /// taken, until `restart`.
+    pub fn feed(&mut self, piece: &[u8]) -> Result<(usize, bool), Stop<ChainReason>>
+        ensures fed { IsFed (IsChain self.old.ifs self.old.number self.old.max) (IsReason self.old.ifs self.old.number self.old.max) HasTaken refusal_of self.old self.new piece.now result }
+        ensures kept { (self.new.ifs ≡ self.old.ifs) × (self.new.number ≡ self.old.number) × (self.new.max ≡ self.old.max) }
+    {
+        let mut taken = 0;
+        while taken < piece.len() && self.is_open() {
+            taken += self.take_run(&piece[taken..]);
+        }
+        match self.refusal {
+            Some(refusal) => Err(Stop::At {
+                place: refusal.place,
+                reason: refusal.reason,
+            }),
+            None => Ok((taken, self.done)),
+        }
+    }
+
+    /// What there is to say when no more octets come: `Short` with the octets taken where the chain isn't
+    /// whole, or the refusal that stands.
+    pub fn finish(&self) -> Result<(), Stop<ChainReason>>
+        ensures { IsFinished (IsChain self.now.ifs self.now.number self.now.max) (IsReason self.now.ifs self.now.number self.now.max) HasTaken refusal_of self.now result }
+    {
+        match self.refusal {
+            Some(refusal) => Err(Stop::At {
+                place: refusal.place,
+                reason: refusal.reason,
+            }),
+            None if self.done => Ok(()),
+            None => Err(Stop::Short {
+                place: self.message.len() + 4 * self.blocks as usize + self.reader.taken(),
+            }),
+        }
+    }
+
+    /// The message, once the chain is whole.
+    pub fn message(&self) -> Option<&[u8]>
+        ensures done { IfSome result (λ message. (self.now.refusal ≡ None) × (self.now.done ≡ true) × (message.now ≡ self.now.joined)) }
+        ensures none { IfNone result (IsSome self.now.refusal ⊎ (self.now.done ≡ false)) }
+    {
+        if self.done && self.refusal.is_none() {
+            Some(self.message.as_slice())
+        } else {
+            None
+        }
+    }
+
+    /// How many whole blocks were taken.
+    pub fn blocks(&self) -> u32
+        ensures { result ≡ self.now.blocks }
+    {
+        self.blocks
+    }
+
+    fn is_open(&self) -> bool
+        ensures { MatchBool result (IsOpen self.now) (IsClosed self.now) }
+    {
+        self.refusal.is_none() && !self.done
+    }
+
+    /// Takes one of the first three octets of a block, or octets of its rest.
+    fn take_run(&mut self, piece: &[u8]) -> usize
+        requires some { 0 < length piece.now }
+        requires open { IsOpen self.old }
+        ensures some { 0 < result }
+        ensures most { result ≤ length piece.now }
+        ensures goes { Goes self.old self.new (take result piece.now) }
+    {
+        if matches!(self.part, Part::Rest { .. }) {
+            return self.take_rest(piece);
+        }
+        self.take_head(piece[0]);
+        1
+    }
+
+    /// Takes one of the first three octets of a block.
+    fn take_head(&mut self, octet: u8)
+        requires open { IsOpen self.old }
+        requires head { length self.old.under_way < 3 }
+        ensures { Goes self.old self.new (octet ∷ []) }
+    {
+        let last = self.blocks + 1 == MOST_BLOCKS;
+        let room = self.max - self.message.len();
+        match behind(self.part, octet, self.ifs, self.number, last, room) {
+            Ok(part) => {
+                self.part = part;
+                let _taken = self.reader.feed(&[octet]);
+            }
+            Err(reason) => {
+                let place = self.message.len() + 4 * self.blocks as usize + self.part.place();
+                self.refusal = Some(Refusal { place, reason });
+            }
+        }
+    }
+
+    /// Takes octets of the field and the LRC of a block, and joins its field once it is whole.
+    fn take_rest(&mut self, piece: &[u8]) -> usize
+        requires some { 0 < length piece.now }
+        requires open { IsOpen self.old }
+        requires rest { 3 ≤ length self.old.under_way }
+        ensures some { 0 < result }
+        ensures most { result ≤ length piece.now }
+        ensures goes { Goes self.old self.new (take result piece.now) }
+    {
+        match self.reader.feed(piece) {
+            Ok((taken, _)) => {
+                if let Some(block) = self.reader.value() {
+                    self.message.extend_from_slice(block.inf()).unwrap();
+                    self.blocks += 1;
+                    self.number = self.number.other();
+                    self.done = !self.part.more();
+                    self.part = Part::Nad;
+                    self.reader.reset();
+                }
+                taken
+            }
+            Err(Stop::At { place, .. }) => {
+                let place = self.message.len() + 4 * self.blocks as usize + place;
+                self.refusal = Some(Refusal {
+                    place,
+                    reason: ChainReason::BadLrc,
+                });
+                piece.len()
+            }
+            Err(Stop::Short { .. }) => unreachable!(),
+        }
+    }
+}
