@@ -1,0 +1,168 @@
+-- The places at which open objects end, and their rooms.
+use Rattle.std.proofs.Common.{◌≡◌, ℕ, ◌+◌, ◌-◌, ◌<◌, ◌≤◌, List, [], ◌∷◌, ◌++◌, length, take, get_or, refl, sym, ap, subst, ◌∙◌, inl, inr, arith, suc, zero, cond, Bool, true, nat_lt}
+use Rattle.std.specs.Prelude.{slice_get, Some}
+use Rattle.std.specs.List.{prefix_len}
+use borrow.Author.Tests.{lt-ltb, le-ltb, ltb-true}
+use Rattle.std.proofs.lemmas.Bool.{cases_lt}
+use Rattle.std.proofs.lemmas.List.{get_or_append_left, get_or_push, length-append, get_or-take, length-take}
+use Rattle.std.proofs.lemmas.List.Sums.{take_while-cons, prefix_len_passes, prefix_len-le-length}
+use Rattle.std.proofs.Common.{◌≢◌}
+use Rattle.tlv_core.specs.declared.header.Header.{Header}
+use Rattle.tlv_core.specs.declared.header.Header.TheVariants as header
+use Rattle.tlv_core.specs.declared.header.Next.{Next}
+use Rattle.tlv_core.specs.declared.header.Next.TheVariants as next
+use Rattle.tlv_core.specs.declared.header.ObjectHeader.{ObjectHeader}
+use Rattle.tlv_core.specs.Header.{header_octets, header_in, object_in, IsWell, IsWellNext, IsNext}
+use Rattle.tlv_core.specs.Reasons.{Kept, room_of}
+use Rattle.tlv_core.specs.Steps.{spent, entered, after_octet, after_next}
+use Rattle.tlv_core.proofs.Advances.{not_filler, object_not_filler}
+use Rattle.tlv_core.specs.Open.{AreEnds, rooms_to, open_after}
+use Rattle.tlv_core.proofs.Steps.{spent-more, spent-last}
+
+open-more : (count e : ℕ) (ends : List ℕ) → count < e → open_after count (e ∷ ends) ≡ e ∷ open_after count ends
+open-more count e ends lt = take_while-cons (λ end. nat_lt count end) e ends ∙ ap (λ (b : Bool). cond b (e ∷ open_after count ends) []) (lt-ltb count e lt)
+
+open-last : (count e : ℕ) (ends : List ℕ) → e ≤ count → open_after count (e ∷ ends) ≡ []
+open-last count e ends le = take_while-cons (λ end. nat_lt count end) e ends ∙ ap (λ (b : Bool). cond b (e ∷ open_after count ends) []) (le-ltb count e le)
+
+-- the rooms of the objects that are open after m octets more
+pub rooms-open : (count m : ℕ) (ends : List ℕ) → rooms_to (count + m) (open_after (count + m) ends) ≡ spent m (rooms_to count ends)
+rooms-open count m [] = refl
+rooms-open count m (e ∷ ends) =
+    elim (cases_lt (count + m) e) [
+      | inl lt ↦
+          let room : e - (count + m) ≡ (e - count) - m = omega arith in
+          ap (rooms_to (count + m)) (open-more (count + m) e ends lt) ∙ ap (λ (r : ℕ). r ∷ rooms_to (count + m) (open_after (count + m) ends)) room ∙ ap (λ (l : List ℕ). ((e - count) - m) ∷ l) (rooms-open count m ends)
+          ∙ sym (spent-more m (e - count) (rooms_to count ends) (omega arith))
+      | inr le ↦ ap (rooms_to (count + m)) (open-last (count + m) e ends le) ∙ sym (spent-last m (e - count) (rooms_to count ends) (omega arith))
+    ]
+
+pub rooms-push : (count n : ℕ) (ends : List ℕ) → rooms_to count (ends ++ (count + n) ∷ []) ≡ rooms_to count ends ++ n ∷ []
+rooms-push count n [] = let e : count + n - count ≡ n = omega arith in ap (λ (r : ℕ). r ∷ []) e
+rooms-push count n (e ∷ ends) = ap (λ (l : List ℕ). (e - count) ∷ l) (rooms-push count n ends)
+
+pub length-rooms : (count : ℕ) (ends : List ℕ) → length (rooms_to count ends) ≡ length ends
+length-rooms count [] = refl
+length-rooms count (e ∷ ends) = ap suc (length-rooms count ends)
+
+-- the room of the innermost object
+pub room-last : (left count e : ℕ) (ends : List ℕ) → slice_get ends (length ends - 1) ≡ Some e → room_of left (rooms_to count ends) ≡ e - count
+room-last left count e [] h = cc
+room-last left count e (f ∷ []) h = let same : f ≡ e = cc in ap (λ (n : ℕ). n - count) same
+room-last left count e (f ∷ g ∷ ends) h =
+    let more : length (f ∷ g ∷ ends) - 1 ≡ suc (length (g ∷ ends) - 1) = omega arith in
+    room-last (f - count) count e (g ∷ ends) (ap (λ (n : ℕ). slice_get (f ∷ g ∷ ends) n) (sym more) ∙ h)
+
+pub room-none : (left count : ℕ) (ends : List ℕ) → length ends ≡ 0 → room_of left (rooms_to count ends) ≡ left
+room-none left count [] h = refl
+room-none left count (e ∷ ends) h = absurd (omega arith)
+
+-- ---- within the limit
+
+pub ends-open : (max count now : ℕ) (ends : List ℕ) → AreEnds max count ends → AreEnds max now (open_after now ends)
+ends-open max count now ends h i lt =
+    let p : ℕ → Bool = λ end. nat_lt now end in
+    let inside : i < prefix_len p ends = omega (arith, length-take (prefix_len p ends) ends) in
+    let same : get_or (open_after now ends) i 0 ≡ get_or ends i 0 = get_or-take (prefix_len p ends) ends i 0 inside in
+    let passes : nat_lt now (get_or ends i 0) ≡ true = prefix_len_passes p ends i 0 inside in
+    let old = h i (omega (arith, prefix_len-le-length p ends)) in
+    (omega (arith, same, ltb-true now (get_or ends i 0) passes), omega (arith, same, old.1))
+
+pub ends-push : (max count e : ℕ) (ends : List ℕ) → AreEnds max count ends → count < e → e ≤ max → AreEnds max count (ends ++ e ∷ [])
+ends-push max count e ends h lt le i inside =
+    elim (cases_lt i (length ends)) [
+      | inl before ↦ let same = get_or_append_left ends (e ∷ []) 0 i before in let old = h i before in (omega (arith, same, old.0), omega (arith, same, old.1))
+      | inr at ↦
+          let last : length ends ≡ i = omega (arith, length-append ends (e ∷ [])) in
+          let same = get_or_push ends e 0 i last in
+          (omega arith, omega arith)
+    ]
+
+inner_room : (max count e : ℕ) (ends : List ℕ) → AreEnds max count ends → e ≤ max → room_of (e - count) (rooms_to count ends) ≤ max - count
+inner_room max count e [] h le = omega arith
+inner_room max count e (f ∷ ends) h le = inner_room max count f ends (λ i lt. h (suc i) (omega arith)) (h 0 (omega arith)).1
+
+-- the room is within the limit
+pub room-within : (max count : ℕ) (ends : List ℕ) → AreEnds max count ends → count ≤ max → room_of (max - count) (rooms_to count ends) ≤ max - count
+room-within max count [] h le = omega arith
+room-within max count (e ∷ ends) h le = let first = h 0 (omega arith) in omega (arith, first.1, inner_room max count e ends (λ i lt. h (suc i) (omega arith)) first.1)
+
+-- ---- what is kept
+
+abbrev pub kept : ℕ → ℕ → List ℕ → List ℕ → ℕ → Kept
+kept max count rooms h left = record { max = max; count = count; rooms = rooms; header = h; value_left = left }
+
+pub same_rooms : (max count left : ℕ) (h l m : List ℕ) → l ≡ m → kept max count l h left ≡ kept max count m h left
+same_rooms max count left h l m e = ap (λ (r : List ℕ). kept max count r h left) e
+
+pub same_left : (max count : ℕ) (rooms h : List ℕ) (left now : ℕ) → left ≡ now → kept max count rooms h left ≡ kept max count rooms h now
+same_left max count rooms h left now e = ap (λ (n : ℕ). kept max count rooms h n) e
+
+-- after m octets more, with the ends of objects that are open yet
+pub same_open : (max count m left : ℕ) (h ends now : List ℕ) → now ≡ open_after (count + m) ends → kept max (count + m) (rooms_to (count + m) now) h left ≡ kept max (count + m) (spent m (rooms_to count ends)) h left
+same_open max count m left h ends now e = same_rooms max (count + m) left h (rooms_to (count + m) now) (spent m (rooms_to count ends)) (ap (rooms_to (count + m)) e ∙ rooms-open count m ends)
+
+pub ends-now : (max count m : ℕ) (ends now : List ℕ) → AreEnds max count ends → now ≡ open_after (count + m) ends → AreEnds max (count + m) now
+ends-now max count m ends now h e = subst (AreEnds max (count + m)) (sym e) (ends-open max count (count + m) ends h)
+
+pub fewer-now : (now ends : List ℕ) (count : ℕ) → now ≡ open_after count ends → length now ≤ length ends
+fewer-now now ends count e = omega (arith, ap length e, length-take (prefix_len (λ end. nat_lt count end) ends) ends)
+
+pub entered-zero : (k : Kept) (n bit : ℕ) → n ≡ 0 → entered k n bit ≡ k
+entered-zero k zero bit e = refl
+entered-zero k (suc n) bit e = absurd (omega arith)
+
+pub entered-value : (max count left : ℕ) (rooms h : List ℕ) (n bit : ℕ) → left ≡ 0 → (n ≡ 0 → ⊥) → bit ≡ 0 → entered (kept max count rooms h left) n bit ≡ kept max count rooms h n
+entered-value max count left rooms h zero bit z some e = absurd (some refl)
+entered-value max count left rooms h (suc n) zero z some e = refl
+entered-value max count left rooms h (suc n) (suc bit) z some e = absurd (omega arith)
+
+pub entered-open : (max count left : ℕ) (ends h : List ℕ) (n bit : ℕ) → (n ≡ 0 → ⊥) → bit ≡ 1 → entered (kept max count (rooms_to count ends) h left) n bit ≡ kept max count (rooms_to count (ends ++ (count + n) ∷ [])) h left
+entered-open max count left ends h zero bit some e = absurd (some refl)
+entered-open max count left ends h (suc n) zero some e = absurd (omega arith)
+entered-open max count left ends h (suc n) (suc bit) some e = same_rooms max count left h (rooms_to count ends ++ suc n ∷ []) (rooms_to count (ends ++ (count + suc n) ∷ [])) (sym (rooms-push count (suc n) ends))
+
+-- ---- an octet is allowed only where there is room for an object
+
+pub shallow_next : (before : Header) (x level : ℕ) (follow : Next) → IsWell before → (before ≢ header.Nothing → level < 16) → IsNext (header_octets before) x follow → (header_octets before ≡ [] → 16 ≤ level → x ≡ 0) → follow ≢ next.Filler → level < 16
+shallow_next before x level next.Filler well old is step some = absurd (some refl)
+shallow_next header.Nothing x level (next.Under longer) well old is step some =
+    elim (cases_lt level 16) [
+      | inl lt ↦ lt
+      | inr ge ↦ absurd (not_filler [] x longer is.0 is.1 (step refl ge) refl)
+    ]
+shallow_next header.Nothing x level (next.Object o) well old is step some =
+    elim (cases_lt level 16) [
+      | inl lt ↦ lt
+      | inr ge ↦ absurd (object_not_filler [] x o.tag o.form o.len is.0 is.2 (step refl ge) refl)
+    ]
+shallow_next (header.First a) x level follow well old is step some = old (λ e. cc)
+shallow_next (header.Second a b) x level follow well old is step some = old (λ e. cc)
+shallow_next (header.Tagged g) x level follow well old is step some = old (λ e. cc)
+shallow_next (header.Sized g f read number) x level follow well old is step some = old (λ e. cc)
+
+-- ---- what an octet makes of the header
+
+pub some_header : (follow : Next) → header_in follow ≢ header.Nothing → follow ≢ next.Filler
+some_header next.Filler h e = h refl
+some_header (next.Under longer) h e = cc
+some_header (next.Object o) h e = cc
+
+pub well_header : (follow : Next) → IsWellNext follow → IsWell (header_in follow)
+well_header next.Filler h = tt
+well_header (next.Under longer) h = h
+well_header (next.Object o) h = tt
+
+pub some_object : (follow : Next) (o : ObjectHeader) → object_in follow ≡ Some o → follow ≡ next.Object o
+some_object next.Filler o e = cc
+some_object (next.Under longer) o e = cc
+some_object (next.Object p) o e = let same : p ≡ o = cc in ap next.Object same
+
+pub after-none : (k : Kept) (follow : Next) → ((o : ObjectHeader) → object_in follow ≡ Some o → ⊥) → after_next k follow ≡ after_octet k (header_octets (header_in follow))
+after-none k next.Filler none = refl
+after-none k (next.Under longer) none = refl
+after-none k (next.Object o) none = absurd (none o refl)
+
+pub take_one : (l : List ℕ) → 0 < length l → take 1 l ≡ get_or l 0 0 ∷ []
+take_one [] lt = absurd (omega arith)
+take_one (x ∷ l) lt = refl

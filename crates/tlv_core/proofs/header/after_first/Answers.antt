@@ -1,0 +1,8 @@
+use Rattle.tlv_core.proofs.Octet.{first_second, part_well}
+use Rattle.tlv_core.proofs.header.after_first.Goals as goal
+
+pub returns-in-Some-clause-ok : goal.returns-in-Some-clause-ok
+returns-in-Some-clause-ok c = (part_well c.in-Some.longer c.in-Some.ensures.0, c.in-Some.ensures.1)
+
+pub returns-in-None-clause-err : goal.returns-in-None-clause-err
+returns-in-None-clause-err c = first_second c.args.first c.args.octet c.requires c.in-None.ensures

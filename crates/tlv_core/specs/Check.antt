@@ -1,0 +1,22 @@
+-- What a check of octets in pieces keeps.
+use Rattle.std.specs.Prelude.{◌≡◌, ℕ, List, Option, Some, None, Result, Ok, Err}
+use Rattle.octet_core.specs.declared.stop.Stop.{Stop}
+use Rattle.octet_core.specs.declared.stop.Stop.TheVariants.{At}
+use Rattle.tlv_core.specs.declared.reason.TlvReason.{TlvReason}
+use Rattle.tlv_core.specs.declared.reason.Refusal.{Refusal}
+use Rattle.tlv_core.specs.Reasons.{Kept, HasTaken}
+
+-- what its octets leave open, and why the next one was refused, if it was
+pub record Checked : Type 0 where
+  pub kept : Kept
+  pub refusal : Option Refusal
+
+-- A check that keeps this has taken the octets b, and refused none.
+pub record HasChecked (b : List ℕ) (k : Checked) : Type 0 where
+  pub taken : HasTaken b k.kept
+  pub none : k.refusal ≡ None
+
+-- what it answers from then on
+abbrev pub answer_of : Option Refusal → Result (Unit {0}) (Stop TlvReason)
+answer_of None = Ok tt
+answer_of (Some r) = Err (At r.place r.reason)

@@ -1,0 +1,63 @@
+-- Data object lists (EMV 4.3 Book 3, clause 5.4).
+use Rattle.std.specs.Prelude.{◌≡◌, ℕ, ◌%◌, ◌<◌, ◌≤◌, List, [], ◌∷◌, ◌++◌}
+use Rattle.octet_core.specs.Grammar.{IsFirst, OneVerdict, whole}
+use Rattle.tlv_core.specs.Tag.{IsTag}
+use Rattle.tlv_core.specs.Reasons.{AwaitsSecond, AwaitsThird}
+use Rattle.tlv_core.specs.declared.reason.DolReason.{DolReason}
+use Rattle.tlv_core.specs.declared.reason.DolReason.TheVariants.{TagZero, TagSecond, TagLong}
+
+-- an entry is a tag and one octet of length
+abbrev pub entry_octets : List ℕ × ℕ → List ℕ
+entry_octets e = e.0 ++ e.1 ∷ []
+
+abbrev pub AreEntries : List (List ℕ × ℕ) → Type 0
+AreEntries [] = Unit {0}
+AreEntries (e ∷ entries) = IsTag e.0 × (e.1 < 256) × AreEntries entries
+
+abbrev pub dol_spelling : List (List ℕ × ℕ) → List ℕ
+dol_spelling [] = []
+dol_spelling (e ∷ entries) = entry_octets e ++ dol_spelling entries
+
+-- the octets b spell the list
+pub record IsDol (entries : List (List ℕ × ℕ)) (b : List ℕ) : Type 0 where
+  pub each : AreEntries entries
+  pub is : b ≡ dol_spelling entries
+
+-- h is a part of an entry: nothing, or its first octets without the last
+pub record IsBegunEntry (h : List ℕ) : Type 0 where
+  pub entry : List ℕ × ℕ
+  pub next : ℕ
+  pub more : List ℕ
+  pub is_tag : IsTag entry.0
+  pub is : h ++ next ∷ more ≡ entry_octets entry
+
+-- What is wrong with the octet x after a part h of an entry.
+abbrev pub IsWrongEntry : List ℕ → ℕ → DolReason → Type 0
+IsWrongEntry h x TagZero = (h ≡ []) × (x ≡ 0)
+IsWrongEntry h x TagSecond = AwaitsSecond h × (x % 128 ≡ 0)
+IsWrongEntry h x TagLong = AwaitsThird h × (128 ≤ x)
+
+-- the lines of the table, in their order
+abbrev pub dol_reasons : List DolReason
+dol_reasons = TagZero ∷ TagSecond ∷ TagLong ∷ []
+
+-- b is whole entries, a part of one, and an octet
+pub record EndsInEntry (b : List ℕ) : Type 0 where
+  pub done : List (List ℕ × ℕ)
+  pub each : AreEntries done
+  pub header : List ℕ
+  pub begun : IsBegunEntry header
+  pub octet : ℕ
+  pub is : b ≡ dol_spelling done ++ (header ++ octet ∷ [])
+
+-- the last octet of b meets this line of the table
+abbrev pub MeetsEntry : List ℕ → DolReason → Type 0
+MeetsEntry b r = (e : EndsInEntry b) × IsWrongEntry e.header e.octet r
+
+-- the reason of a refusal at the last octet of b: the first line of the table that it meets
+abbrev pub IsDolReason : DolReason → List ℕ → Type 0
+IsDolReason r b = (e : EndsInEntry b) × IsFirst dol_reasons (IsWrongEntry e.header e.octet) r
+
+-- every input is a data object list or is refused, with one value, one place and one reason
+abbrev pub DolVerdict : List ℕ → Type 0
+DolVerdict b = OneVerdict whole IsDol IsDolReason b

@@ -1,0 +1,8 @@
+-- What the code keeps, as contracts see it.
+use Rattle.tlv_core.specs.declared.progress.Progress.{Progress}
+use Rattle.tlv_core.specs.Header.{header_octets}
+use Rattle.tlv_core.specs.Reasons.{Kept}
+use Rattle.tlv_core.specs.Open.{rooms_to}
+
+abbrev pub kept_of : Progress → Kept
+kept_of p = record { max = p.max; count = p.count; rooms = rooms_to p.count p.ends.items; header = header_octets p.header; value_left = p.value_left }

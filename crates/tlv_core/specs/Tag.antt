@@ -1,0 +1,34 @@
+-- Tags and length fields of BER-TLV data objects (EMV 4.3 Book 3, Annex B; ISO/IEC 7816-4, clause 5.2.2).
+use Rattle.std.specs.Prelude.{◌≡◌, ℕ, ◌+◌, ◌/◌, ◌%◌, ◌<◌, ◌≢◌, List, [], ◌∷◌, ◌++◌}
+use Rattle.tlv_core.specs.Number.{high_first}
+use Rattle.tlv_core.specs.declared.form.Form.{Form}
+use Rattle.tlv_core.specs.declared.form.Form.TheVariants.{One}
+use Rattle.tlv_core.specs.Form.{further}
+
+-- the low five bits of a first tag octet are all 1: the number of the tag is in the octets that follow
+abbrev pub IsLong : ℕ → Type 0
+IsLong x = x % 32 ≡ 31
+
+-- A tag: one octet that is not 00; or a first octet whose low five bits are all 1, and then one octet with bit 8
+-- clear, or two of which only the first has bit 8 set. The low seven bits of a second octet are not all 0.
+abbrev pub IsTag : List ℕ → Type 0
+IsTag [] = ⊥
+IsTag (x ∷ []) = (0 < x) × (x < 256) × (x % 32 ≢ 31)
+IsTag (x ∷ y ∷ []) = (x < 256) × IsLong x × (0 < y) × (y < 128)
+IsTag (x ∷ y ∷ z ∷ []) = (x < 256) × IsLong x × (128 < y) × (y < 256) × (z < 128)
+IsTag (x ∷ y ∷ z ∷ w ∷ more) = ⊥
+
+-- bit 6 of the first octet: 1 in the tag of a constructed object, 0 in that of a primitive one
+abbrev pub constructed_bit : List ℕ → ℕ
+constructed_bit [] = 0
+constructed_bit (x ∷ more) = x / 32 % 2
+
+-- The length field that says n: n itself in the form of one octet, else 80 and the number of octets that follow, and
+-- these, with n in them, high octet first.
+abbrev pub length_field : Form → ℕ → List ℕ
+length_field One n = n ∷ []
+length_field form n = (128 + further form) ∷ high_first (further form) n
+
+-- the tag and the length field of an object
+abbrev pub header_of : List ℕ → Form → ℕ → List ℕ
+header_of tag form n = tag ++ length_field form n

@@ -1,0 +1,24 @@
+-- The octets that a tag holds.
+use Rattle.std.specs.Prelude.{◌≡◌, ℕ, List, [], ◌∷◌, ◌++◌, length, take}
+use Rattle.std.proofs.Common.{ap, ◌∙◌}
+use Rattle.tlv_core.specs.Tag.{IsTag}
+use Rattle.tlv_core.specs.declared.tag.Tag.TheInside.{Inside}
+
+abbrev pub octets_of_tag : Inside → List ℕ
+octets_of_tag a = take a.count a.octets
+
+-- three octets, the last of them 0 where the tag has fewer
+abbrev pub padded : List ℕ → List ℕ
+padded b = take 3 (b ++ 0 ∷ 0 ∷ 0 ∷ [])
+
+-- a whole tag, and the fields are made of it alone
+pub record IsWholeTag (a : Inside) : Type 0 where
+  pub tag : IsTag (octets_of_tag a)
+  pub count : length (octets_of_tag a) ≡ a.count
+  pub octets : padded (octets_of_tag a) ≡ a.octets
+
+abbrev pub tag_of_octets : List ℕ → Inside
+tag_of_octets b = record { octets = padded b; count = length b }
+
+pub tag_back : (a : Inside) → IsWholeTag a → tag_of_octets (octets_of_tag a) ≡ a
+tag_back a h = ap (λ (o : List ℕ). record { octets = o; count = length (octets_of_tag a) }) h.octets ∙ ap (λ (n : ℕ). record { octets = a.octets; count = n }) h.count

@@ -1,0 +1,114 @@
+//! Data object lists.
+
+ghost use Rattle.std.specs.Prelude.{◌≡◌, ℕ, ◌<◌, ◌++◌, ◌∷◌, [], List, length, IfOk, IfErr, OnOk};
+ghost use Rattle.octet_core.specs.Grammar.{Accepts, RefusesUnlessMemory, IsFirst, whole};
+ghost use Rattle.tlv_core.specs.Header.{header_octets, IsTagPart};
+ghost use Rattle.tlv_core.specs.declared.header.Header.TheVariants.{Tagged, Sized};
+ghost use Rattle.tlv_core.specs.Tag.{IsTag};
+ghost use Rattle.tlv_core.specs.Dol.{IsDol, IsDolReason, IsWrongEntry, dol_reasons};
+
+use crate::header::{Header, tag_first, tag_second, tag_third};
+use crate::reason::DolReason;
+use crate::tag::Tag;
+use octet_core::{Refused, Stop};
+use std::alloc::{AllocError, Global};
+use std::marker::Model;
+
+/// A data object list: tags, each with the length that its value is to have (EMV 4.3 Book 3,
+/// clause 5.4).
+#[derive(Drop)]
+pub struct Dol {
+    entries: Vec<(Tag, u8)>,
+}
+
+impl Model for Dol {
+    ghost use Rattle.std.specs.Prelude.{ℕ, List};
+
+    ghost Value = { List (List ℕ × ℕ) };
+
+    ghost view = { λ dol. dol.entries.items };
+}
+
+impl Dol {
+    /// The list of these entries.
+    pub fn of(entries: Vec<(Tag, u8)>) -> Self
+        ensures { result ≡ entries.items }
+    {
+        Self { entries }
+    }
+
+    /// The entries, lent: each a tag and a length in octets.
+    pub fn entries(&self) -> &[(Tag, u8)]
+        ensures { result.now ≡ self.now }
+    {
+        self.entries.as_slice()
+    }
+
+    /// The list that all the octets spell, or why they spell none: `Short` at their end where one goes
+    /// on, `At` the first octet after which none does, or want of memory.
+    pub fn decode(alloc: Global, octets: &[u8]) -> Result<Self, Refused<DolReason>>
+        ensures found { IfOk result (λ dol. Accepts whole IsDol octets.now dol (length octets.now)) }
+        ensures refused { IfErr result (RefusesUnlessMemory whole IsDol IsDolReason octets.now) }
+    {
+        let mut entries = Vec::new(alloc);
+        let mut header = Header::Nothing;
+        for (place, octet) in octets.iter().enumerate() {
+            if let Header::Tagged(tag) = header {
+                if entries.push((tag, *octet)).is_err() {
+                    return Err(Refused::Memory);
+                }
+                header = Header::Nothing;
+            } else {
+                match tag_next(header, *octet) {
+                    Ok(longer) => header = longer,
+                    Err(reason) => return Err(Refused::Stop(Stop::At { place, reason })),
+                }
+            }
+        }
+        if header.is_nothing() {
+            return Ok(Dol { entries });
+        }
+        Err(Refused::Stop(Stop::Short {
+            place: octets.len(),
+        }))
+    }
+
+    /// The octets that spell the list, or want of memory.
+    pub fn encode(&self, alloc: Global) -> Result<Vec<u8>, AllocError>
+        ensures { IfOk result (λ octets. IsDol self.now octets.items) }
+    {
+        let mut out = Vec::new(alloc);
+        for (tag, length) in self.entries() {
+            append_entry(&mut out, tag, *length)?;
+        }
+        Ok(out)
+    }
+}
+
+/// Adds the octets of an entry.
+fn append_entry(out: &mut Vec<u8>, tag: &Tag, length: u8) -> Result<(), AllocError>
+    ensures tag { IsTag tag.now }
+    ensures length { length < 256 }
+    ensures octets { OnOk result (out.new.items ≡ (out.old.items ++ tag.now) ++ length ∷ []) }
+{
+    out.extend_from_slice(tag.octets())?;
+    out.push(length)?;
+    Ok(())
+}
+
+/// What the octet makes of a part of a tag, or why it is refused.
+fn tag_next(header: Header, octet: u8) -> Result<Header, DolReason>
+    requires part { IsTagPart header }
+    requires open { (tag : List ℕ) → header ≡ Tagged tag → ⊥ }
+    ensures ok { IfOk result (λ longer. IsTagPart longer × (header_octets longer ≡ header_octets header ++ octet ∷ [])) }
+    ensures err { IfErr result (IsFirst dol_reasons (IsWrongEntry (header_octets header) octet)) }
+{
+    match header {
+        Header::Nothing => tag_first(octet).ok_or(DolReason::TagZero),
+        Header::First(first) => tag_second(first, octet).ok_or(DolReason::TagSecond),
+        Header::Second(first, second) => {
+            tag_third(first, second, octet).ok_or(DolReason::TagLong)
+        }
+        Header::Tagged(_) | Header::Sized { .. } => unreachable!(),
+    }
+}

@@ -1,0 +1,135 @@
+//! Filling a data object list with known values.
+
+ghost use Rattle.std.specs.Prelude.{◌≡◌, ℕ, ◌+◌, ◌++◌, length, replicate, IsTrue, ◌↔◌, IfOk, IfErr, OnOk, bytes_eq};
+ghost use Rattle.std.specs.Option.{option_copied};
+ghost use Rattle.tlv_core.specs.Fill.{fitted, known_for, entry_part, filled, HasDuplicate, IsFillFault};
+
+use crate::dol::Dol;
+use crate::known::Known;
+use crate::tag::Tag;
+use octet_core::Format;
+use std::alloc::{AllocError, Global};
+
+/// Why a data object list isn't filled.
+#[derive(Clone, Copy, Debug, PartialEq, Eq)]
+pub enum FillFault {
+    /// Two known values have one tag.
+    Duplicate,
+    /// A growth was refused.
+    Memory,
+}
+
+impl From<AllocError> for FillFault {
+    ghost use Rattle.std.specs.Prelude.{◌≡◌};
+    ghost use Rattle.tlv_core.specs.declared.filling.FillFault.TheVariants.{Memory};
+
+    ghost from_gives = { λ _ fault. fault ≡ Memory };
+
+    fn from(_: AllocError) -> Self {
+        FillFault::Memory
+    }
+}
+
+/// The octets that the list asks for: for each entry in order a part of its length, which is the known
+/// value of its tag, cut and padded by its format; or zeros, where the tag is that of a constructed
+/// object or has no known value (EMV 4.3 Book 3, clause 5.4).
+///
+/// A numeric value loses its leftmost octets or gets leading 00; a compressed numeric one loses its
+/// rightmost or gets trailing FF; any other loses its rightmost or gets trailing 00.
+///
+/// `Duplicate` where two known values have one tag, also where the list doesn't name it; else the
+/// octets or `Memory`.
+pub fn fill(alloc: Global, dol: &Dol, known: &[Known]) -> Result<Vec<u8>, FillFault>
+    ensures filled { IfOk result (λ octets. octets.items ≡ filled known.now dol.now) }
+    ensures unique { IfOk result (λ _. HasDuplicate known.now → ⊥) }
+    ensures fault { IfErr result (IsFillFault known.now) }
+{
+    if has_duplicate(known) {
+        return Err(FillFault::Duplicate);
+    }
+    let mut out = Vec::new(alloc);
+    for (tag, length) in dol.entries() {
+        append_part(&mut out, known, tag, *length as usize)?;
+    }
+    Ok(out)
+}
+
+/// Whether two known values have one tag.
+fn has_duplicate(known: &[Known]) -> bool
+    ensures { IsTrue result ↔ HasDuplicate known.now }
+{
+    for (place, first) in known.iter().enumerate() {
+        if find(&known[place + 1..], &first.tag).is_some() {
+            return true;
+        }
+    }
+    false
+}
+
+/// The first known value with this tag.
+fn find<'a>(known: &'a [Known], tag: &Tag) -> Option<&'a Known>
+    ensures { option_copied result ≡ known_for tag.now known.now }
+{
+    for one in known {
+        if *tag == one.tag {
+            return Some(one);
+        }
+    }
+    None
+}
+
+/// Adds the part of an entry.
+fn append_part(
+    out: &mut Vec<u8>,
+    known: &[Known],
+    tag: &Tag,
+    length: usize,
+) -> Result<(), AllocError>
+    ensures { OnOk result (out.new.items ≡ out.old.items ++ entry_part known.now (tag.now, length)) }
+{
+    if tag.is_constructed() {
+        return append_copies(out, 0, length);
+    }
+    match find(known, tag) {
+        Some(known) => append_fitted(out, known.format, known.value.get(), length),
+        None => append_copies(out, 0, length),
+    }
+}
+
+/// Adds a value in this many octets.
+fn append_fitted(
+    out: &mut Vec<u8>,
+    format: Format,
+    value: &[u8],
+    length: usize,
+) -> Result<(), AllocError>
+    ensures { OnOk result (out.new.items ≡ out.old.items ++ fitted format length value.now) }
+{
+    let kept = value.len().min(length);
+    let missing = length - kept;
+    match format {
+        Format::Numeric => {
+            append_copies(out, 0, missing)?;
+            out.extend_from_slice(&value[value.len() - kept..])
+        }
+        Format::CompressedNumeric => {
+            out.extend_from_slice(&value[..kept])?;
+            append_copies(out, 0xFF, missing)
+        }
+        Format::Other => {
+            out.extend_from_slice(&value[..kept])?;
+            append_copies(out, 0, missing)
+        }
+    }
+}
+
+/// Adds so many of one octet.
+fn append_copies(out: &mut Vec<u8>, octet: u8, count: usize) -> Result<(), AllocError>
+    ensures { OnOk result (out.new.items ≡ out.old.items ++ replicate count octet) }
+{
+    for added in 0..count {
+        let _ = added;
+        out.push(octet)?;
+    }
+    Ok(())
+}

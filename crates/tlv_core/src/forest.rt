@@ -1,0 +1,87 @@
+//! Forests.
+
+ghost use Rattle.std.specs.Prelude.{◌≡◌, IfOk, IfErr};
+
+use crate::node::Nodes;
+use crate::survey::{has_deep, has_other_kind, has_unfit, octets_of};
+use std::marker::Model;
+
+/// How many octets a forest has at most.
+pub const LARGEST_FOREST: usize = 1_048_576;
+
+/// Why a list of nodes is no forest.
+#[derive(Clone, Copy, Debug, PartialEq, Eq)]
+pub enum Improper {
+    /// An object stands inside one of depth 16.
+    Depth,
+    /// Bit 6 of a tag disagrees with the kind of its object.
+    Tag,
+    /// A length is too large for the form of its length field.
+    Form,
+    /// There are more than 1,048,576 octets.
+    Size,
+}
+
+/// A list of data objects and fillers that has a spelling of at most 1,048,576 octets, with its
+/// outermost objects at depth 1 and its innermost at depth 16 at most.
+#[derive(Drop)]
+pub struct Forest {
+    nodes: Nodes,
+}
+
+impl Model for Forest {
+    ghost use Rattle.tlv_core.specs.Tree.{Tree, tree_code};
+
+    ghost Value = { Tree };
+
+    ghost coded = { tree_code };
+
+    ghost use Rattle.tlv_core.specs.Forest.{HasSpelling, largest};
+    ghost use Rattle.tlv_core.specs.Improper.{IsFirstImproper};
+
+    ghost view = { λ forest. forest.nodes };
+
+    ghost invariant = { λ forest. HasSpelling largest forest.nodes };
+}
+
+impl Forest {
+    ghost use Rattle.tlv_core.specs.Forest.{HasSpelling, largest};
+    ghost use Rattle.tlv_core.specs.Improper.{IsFirstImproper};
+
+    /// The forest of a list of nodes, which comes back with the first of these that holds anywhere in
+    /// it: `Depth`, `Tag`, `Form`, `Size`.
+    pub fn new(nodes: Nodes) -> Result<Forest, (Nodes, Improper)>
+        ensures forest { IfOk result (λ forest. (forest ≡ nodes) × HasSpelling largest forest) }
+        ensures refused { IfErr result (λ refused. (refused.0 ≡ nodes) × IsFirstImproper largest nodes refused.1) }
+    {
+        if has_deep(&nodes, 1) {
+            return Err((nodes, Improper::Depth));
+        }
+        if has_other_kind(&nodes) {
+            return Err((nodes, Improper::Tag));
+        }
+        if has_unfit(&nodes) {
+            return Err((nodes, Improper::Form));
+        }
+        if octets_of(&nodes) > LARGEST_FOREST {
+            return Err((nodes, Improper::Size));
+        }
+        Ok(Forest { nodes })
+    }
+
+    /// The forest of nodes that have a spelling.
+    pub(crate) fn of(nodes: Nodes) -> Forest
+        requires { HasSpelling largest nodes }
+        ensures { result ≡ nodes }
+    {
+        Forest { nodes }
+    }
+
+    /// The list of nodes, lent.
+    pub fn nodes(&self) -> &Nodes
+        ensures list { result.now ≡ self.now }
+        ensures spelled { HasSpelling largest result.now }
+    {
+        &self.nodes
+    }
+}

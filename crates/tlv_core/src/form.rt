@@ -1,0 +1,83 @@
+//! The forms of a length field.
+
+ghost use Rattle.std.specs.Prelude.{◌≡◌, ◌+◌, ◌<◌, ◌≤◌, MatchOption};
+ghost use Rattle.tlv_core.specs.Reasons.{BeginsLength};
+
+/// The form of a length field, by its number of octets (EMV 4.3 Book 3, Annex B; ISO/IEC 7816-4,
+/// clause 5.2.2). A form that is longer than its length needs is a form as well.
+#[derive(Clone, Copy, Debug, PartialEq, Eq)]
+pub enum Form {
+    /// One octet, 00 to 7F, which is the length.
+    One,
+    /// 81, and the length in one octet.
+    Two,
+    /// 82, and the length in two octets, high octet first.
+    Three,
+    /// 83, and the length in three octets, high octet first.
+    Four,
+    /// 84, and the length in four octets, high octet first.
+    Five,
+}
+
+impl Form {
+    ghost use Rattle.tlv_core.specs.Form.{further, capacity, shortest};
+
+    /// The number of octets after the first one.
+    pub(crate) fn further(self) -> u8
+        ensures value { result ≡ further self }
+        ensures most { result ≤ 4 }
+    {
+        match self {
+            Form::One => 0,
+            Form::Two => 1,
+            Form::Three => 2,
+            Form::Four => 3,
+            Form::Five => 4,
+        }
+    }
+
+    /// The form of a length field that begins with this octet, which is no length by itself: `None`
+    /// for 80, and from 85 on.
+    pub(crate) fn begun_by(first: u8) -> Option<Form>
+        requires { 128 ≤ first }
+        ensures { MatchOption result (BeginsLength first → ⊥) (λ form. (0 < further form) × (first ≡ 128 + further form)) }
+    {
+        match first {
+            0x81 => Some(Form::Two),
+            0x82 => Some(Form::Three),
+            0x83 => Some(Form::Four),
+            0x84 => Some(Form::Five),
+            _ => None,
+        }
+    }
+
+    /// The lengths that the form can say are those below this one.
+    pub(crate) fn capacity(self) -> usize
+        ensures { result ≡ capacity self }
+    {
+        match self {
+            Form::One => 0x80,
+            Form::Two => 0x100,
+            Form::Three => 0x1_0000,
+            Form::Four => 0x100_0000,
+            Form::Five => 0x1_0000_0000,
+        }
+    }
+
+    /// The form of fewest octets that can say the length.
+    pub(crate) fn shortest(len: usize) -> Form
+        ensures { result ≡ shortest len }
+    {
+        if len < 0x80 {
+            Form::One
+        } else if len < 0x100 {
+            Form::Two
+        } else if len < 0x1_0000 {
+            Form::Three
+        } else if len < 0x100_0000 {
+            Form::Four
+        } else {
+            Form::Five
+        }
+    }
+}

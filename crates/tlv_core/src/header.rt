@@ -1,0 +1,272 @@
+//! The header of an object, tag and length field, taken octet by octet.
+
+ghost use Rattle.std.specs.Prelude.{◌≡◌, ◌+◌, ◌*◌, ◌^◌, ◌<◌, ◌≤◌, [], ◌∷◌, ◌↔◌, IsTrue, IfOk, IfErr, MatchOption, ◌%◌};
+ghost use Rattle.octet_core.specs.Grammar.{IsFirst};
+ghost use Rattle.tlv_core.specs.Tag.{IsTag, IsLong};
+ghost use Rattle.tlv_core.specs.Form.{further};
+ghost use Rattle.tlv_core.specs.Reasons.{IsWrong, octet_reasons};
+ghost use Rattle.tlv_core.specs.Header.{header_octets, IsWell, IsTagPart, IsNext, header_need, next_need, IsWellNext, header_in, object_in};
+
+use crate::form::Form;
+use crate::reason::TlvReason;
+use crate::tag::{Tag, is_long};
+
+/// The octets of a header so far.
+#[derive(Clone, Copy, Debug)]
+pub(crate) enum Header {
+    /// None.
+    Nothing,
+    /// A first tag octet that a second one follows.
+    First(u8),
+    /// Two tag octets that a third one follows.
+    Second(u8, u8),
+    /// A whole tag.
+    Tagged(Tag),
+    /// A tag and the first octet of a long length field, and `read` of the octets that follow it.
+    /// These say `number`.
+    Sized {
+        tag: Tag,
+        form: Form,
+        read: u8,
+        number: u32,
+    },
+}
+
+/// What one more octet makes of a header.
+#[derive(Clone, Copy, Debug)]
+pub(crate) enum Next {
+    /// The octet was a filler.
+    Filler,
+    /// A longer part of a header.
+    Under(Header),
+    /// The whole header of an object.
+    Object(ObjectHeader),
+}
+
+/// The header of an object: its tag, and the form of its length field, which says that its value has
+/// `len` octets.
+#[derive(Clone, Copy, Debug)]
+pub(crate) struct ObjectHeader {
+    pub(crate) tag: Tag,
+    pub(crate) form: Form,
+    pub(crate) len: u32,
+}
+
+impl Header {
+    /// Whether no octet of a header is under way.
+    pub(crate) fn is_nothing(&self) -> bool
+        requires { IsWell self.now }
+        ensures { IsTrue result ↔ (header_octets self.now ≡ []) }
+    {
+        match self {
+            Header::Nothing => true,
+            Header::First(_) | Header::Second(_, _) | Header::Tagged(_) | Header::Sized { .. } =>
+                false,
+        }
+    }
+
+    /// What the octet makes of this header: `TagSecond`, `TagLong` or `LengthForm` where no header has
+    /// it at its place.
+    pub(crate) fn next(self, octet: u8) -> Result<Next, TlvReason>
+        requires { IsWell self }
+        ensures ok { IfOk result (IsNext (header_octets self) octet) }
+        ensures err { IfErr result (IsFirst octet_reasons (IsWrong 0 0 (header_octets self) octet)) }
+    {
+        match self {
+            Header::Nothing => Ok(after_nothing(octet)),
+            Header::First(first) => after_first(first, octet),
+            Header::Second(first, second) => after_second(first, second, octet),
+            Header::Tagged(tag) => after_tag(tag, octet),
+            Header::Sized {
+                tag,
+                form,
+                read,
+                number,
+            } => Ok(after_part(tag, form, read, number, octet)),
+        }
+    }
+
+    /// The least number of octets that must still come of the object.
+    pub(crate) fn need(self) -> usize
+        requires { IsWell self }
+        ensures { result ≡ header_need self }
+    {
+        match self {
+            Header::Nothing => 0,
+            Header::First(_) | Header::Second(_, _) => 2,
+            Header::Tagged(_) => 1,
+            Header::Sized {
+                tag: _,
+                form,
+                read,
+                number,
+            } => least_length(form.further() - read, number),
+        }
+    }
+}
+
+impl Next {
+    /// The header that is under way then.
+    pub(crate) fn header(&self) -> Header
+        ensures { result ≡ header_in self.now }
+    {
+        match self {
+            Next::Under(header) => *header,
+            Next::Filler | Next::Object(_) => Header::Nothing,
+        }
+    }
+
+    /// The object whose header is whole then.
+    pub(crate) fn object(&self) -> Option<ObjectHeader>
+        ensures { result ≡ object_in self.now }
+    {
+        match self {
+            Next::Object(object) => Some(*object),
+            Next::Filler | Next::Under(_) => None,
+        }
+    }
+
+    /// The least number of octets that must still come: none after a filler, and the value after a
+    /// whole header.
+    pub(crate) fn need(&self) -> usize
+        requires { IsWellNext self.now }
+        ensures { result ≡ next_need self.now }
+    {
+        match self {
+            Next::Filler => 0,
+            Next::Under(header) => header.need(),
+            Next::Object(object) => object.len as usize,
+        }
+    }
+}
+
+/// The first octet of a tag, unless it is 00.
+pub(crate) fn tag_first(octet: u8) -> Option<Header>
+    ensures { MatchOption result (octet ≡ 0) (λ longer. IsTagPart longer × (header_octets longer ≡ octet ∷ [])) }
+{
+    if octet == 0 {
+        None
+    } else if is_long(octet) {
+        Some(Header::First(octet))
+    } else {
+        Some(Header::Tagged(Tag::of(&[octet])))
+    }
+}
+
+/// The second octet of a tag, unless its low seven bits are all 0.
+pub(crate) fn tag_second(first: u8, octet: u8) -> Option<Header>
+    requires { IsLong first }
+    ensures { MatchOption result (octet % 128 ≡ 0) (λ longer. IsTagPart longer × (header_octets longer ≡ first ∷ octet ∷ [])) }
+{
+    if octet % 0x80 == 0 {
+        None
+    } else if octet < 0x80 {
+        Some(Header::Tagged(Tag::of(&[first, octet])))
+    } else {
+        Some(Header::Second(first, octet))
+    }
+}
+
+/// The third octet of a tag, unless a fourth would follow.
+pub(crate) fn tag_third(first: u8, second: u8, octet: u8) -> Option<Header>
+    requires long { IsLong first }
+    requires more { 128 < second }
+    ensures { MatchOption result (128 ≤ octet) (λ longer. IsTagPart longer × (header_octets longer ≡ first ∷ second ∷ octet ∷ [])) }
+{
+    if octet < 0x80 {
+        Some(Header::Tagged(Tag::of(&[first, second, octet])))
+    } else {
+        None
+    }
+}
+
+/// A filler, or the first tag octet of an object.
+fn after_nothing(octet: u8) -> Next
+    ensures { IsNext [] octet result }
+{
+    match tag_first(octet) {
+        Some(longer) => Next::Under(longer),
+        None => Next::Filler,
+    }
+}
+
+/// The second octet of a tag.
+fn after_first(first: u8, octet: u8) -> Result<Next, TlvReason>
+    requires { IsLong first }
+    ensures ok { IfOk result (IsNext (first ∷ []) octet) }
+    ensures err { IfErr result (IsFirst octet_reasons (IsWrong 0 0 (first ∷ []) octet)) }
+{
+    match tag_second(first, octet) {
+        Some(longer) => Ok(Next::Under(longer)),
+        None => Err(TlvReason::TagSecond),
+    }
+}
+
+/// The third octet of a tag.
+fn after_second(first: u8, second: u8, octet: u8) -> Result<Next, TlvReason>
+    requires long { IsLong first }
+    requires more { 128 < second }
+    ensures ok { IfOk result (IsNext (first ∷ second ∷ []) octet) }
+    ensures err { IfErr result (IsFirst octet_reasons (IsWrong 0 0 (first ∷ second ∷ []) octet)) }
+{
+    match tag_third(first, second, octet) {
+        Some(longer) => Ok(Next::Under(longer)),
+        None => Err(TlvReason::TagLong),
+    }
+}
+
+/// The first octet of a length field.
+fn after_tag(tag: Tag, octet: u8) -> Result<Next, TlvReason>
+    requires { IsTag tag }
+    ensures ok { IfOk result (IsNext tag octet) }
+    ensures err { IfErr result (IsFirst octet_reasons (IsWrong 0 0 tag octet)) }
+{
+    if octet < 0x80 {
+        return Ok(Next::Object(ObjectHeader {
+            tag,
+            form: Form::One,
+            len: u32::from(octet),
+        }));
+    }
+    match Form::begun_by(octet) {
+        Some(form) => Ok(Next::Under(Header::Sized {
+            tag,
+            form,
+            read: 0,
+            number: 0,
+        })),
+        None => Err(TlvReason::LengthForm),
+    }
+}
+
+/// A further octet of a length field.
+fn after_part(tag: Tag, form: Form, read: u8, number: u32, octet: u8) -> Next
+    requires { IsWell (Header.Sized tag form read number) }
+    ensures { IsNext (header_octets (Header.Sized tag form read number)) octet result }
+{
+    let number = number * 0x100 + u32::from(octet);
+    if read + 1 == form.further() {
+        Next::Object(ObjectHeader {
+            tag,
+            form,
+            len: number,
+        })
+    } else {
+        Next::Under(Header::Sized {
+            tag,
+            form,
+            read: read + 1,
+            number,
+        })
+    }
+}
+
+/// The least number of octets that must still come, where `left` octets of a length field do and
+/// those before them say `number`: the field is filled with zeros.
+fn least_length(left: u8, number: u32) -> usize
+    requires left { left ≤ 4 }
+    requires fits { number * 256 ^ left < 2 ^ 32 }
+    ensures { result ≡ left + number * 256 ^ left }
+{
+    usize::from(left) + number as usize * 0x100_usize.pow(u32::from(left))
+}

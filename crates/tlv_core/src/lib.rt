@@ -1,0 +1,41 @@
+//! BER-TLV data objects: forests of objects and fillers, their parts, and data object lists
+//! (EMV 4.3 Book 3, Annex B and clause 5.4; ISO/IEC 7816-4, clause 5.2.2).
+//!
+//! A *forest* is a list of data objects and filler octets 00. Each spelling is kept as it came: the
+//! form of each length field, longer than needed or not, and each filler. Octets are refused at the
+//! first one after which no forest goes on.
+#![tactic(auto)]
+
+pub mod check;
+pub mod decoder;
+pub mod dol;
+pub mod filling;
+pub mod forest;
+pub mod form;
+mod header;
+pub mod known;
+pub mod laws;
+pub mod node;
+pub mod path;
+mod progress;
+pub mod reason;
+pub mod spelling;
+mod survey;
+pub mod tag;
+#[cfg(test)]
+mod tests;
+pub mod tidying;
+
+pub use check::ForestCheck;
+pub use decoder::decode;
+pub use dol::Dol;
+pub use filling::{FillFault, fill};
+pub use forest::{Forest, Improper, LARGEST_FOREST};
+pub use form::Form;
+pub use known::Known;
+pub use node::{Node, Nodes};
+pub use path::first;
+pub use reason::{DolReason, TlvReason};
+pub use spelling::encode;
+pub use tag::Tag;
+pub use tidying::tidy;

@@ -1,0 +1,71 @@
+//! Lists of data objects and fillers.
+
+ghost use Rattle.std.specs.Prelude.{◌≡◌};
+
+use crate::form::Form;
+use crate::tag::Tag;
+use octet_core::Octets;
+use std::marker::Model;
+
+/// A list of data objects and fillers, which contracts see as a tree by its first item and the rest.
+#[derive(Drop)]
+#[cycle(tree)]
+pub struct Nodes {
+    list: Vec<Node>,
+}
+
+impl Model for Nodes {
+    ghost use Rattle.tlv_core.specs.Tree.{Tree, tree_code, tree_size};
+
+    ghost Value = { Tree };
+
+    ghost coded = { tree_code };
+
+    ghost use Rattle.tlv_core.specs.Nodes.{tree_of};
+
+    ghost view = { λ nodes. tree_of nodes.list.items };
+
+    ghost size = { tree_size };
+
+    ghost use Rattle.tlv_core.specs.NodesFall.{falls};
+
+    ghost size_decreases = { λ nodes h. falls nodes };
+}
+
+impl Nodes {
+    ghost use Rattle.tlv_core.specs.Nodes.{tree_of};
+
+    /// The list in a vector.
+    pub fn of(list: Vec<Node>) -> Nodes
+        ensures { result ≡ tree_of list.items }
+    {
+        Self { list }
+    }
+
+    /// The list, lent.
+    pub fn get(&self) -> &[Node]
+        ensures { tree_of result.now ≡ self.now }
+    {
+        self.list.as_slice()
+    }
+
+    /// The vector back.
+    pub fn into_inner(self) -> Vec<Node>
+        ensures { tree_of result.items ≡ self }
+    {
+        let Nodes { list } = self;
+        list
+    }
+}
+
+/// A filler octet 00, or a data object with its tag, the form of its length field, and its value.
+#[derive(Drop)]
+#[cycle(tree)]
+pub enum Node {
+    /// An octet 00 between objects, without a meaning.
+    Filler,
+    /// An object whose value is octets.
+    Primitive { tag: Tag, form: Form, value: Octets },
+    /// An object whose value is objects and fillers.
+    Constructed { tag: Tag, form: Form, nodes: Nodes },
+}

@@ -1,0 +1,165 @@
+//! What a list of nodes is like at every depth: its length in octets, and what is improper in it.
+
+ghost use Rattle.std.specs.Prelude.{◌≡◌, ℕ, ◌+◌, ◌-◌, ◌^◌, ◌≤◌, ◌↔◌, IsTrue, length, min};
+ghost use Rattle.octet_core.specs.Octets.{AreOctets};
+ghost use Rattle.tlv_core.specs.Forest.{spelling};
+ghost use Rattle.tlv_core.specs.Improper.{AreObjects, SomeObject, IsDeep, IsOtherKind, IsUnfit};
+ghost use Rattle.tlv_core.specs.Own.{OwnIs};
+ghost use Rattle.tlv_core.specs.Form.{further};
+ghost use Rattle.tlv_core.specs.Tag.{IsTag};
+
+use crate::form::Form;
+use crate::node::{Node, Nodes};
+use crate::progress::DEEPEST;
+use crate::tag::Tag;
+use octet_core::Octets;
+
+/// The number of octets that spell the list, or the greatest `usize` where there are more.
+pub(crate) fn octets_of(nodes: &Nodes) -> usize
+    ensures count { result ≡ min (length (spelling nodes.now)) (2 ^ 64 - 1) }
+    ensures objects { AreObjects nodes.now }
+{
+    let mut total: usize = 0;
+    for node in nodes.get() {
+        let octets = match node {
+            Node::Filler => 1,
+            Node::Primitive { tag, form, value } => octets_with(tag, *form, value_len(value)),
+            Node::Constructed { tag, form, nodes } => octets_with(tag, *form, octets_of(nodes)),
+        };
+        total = total.saturating_add(octets);
+    }
+    total
+}
+
+/// The number of octets of a value.
+fn value_len(value: &Octets) -> usize
+    ensures count { result ≡ length value.now }
+    ensures octets { AreOctets value.now }
+{
+    let held = value.get();
+    held.len()
+}
+
+/// The number of octets of an object whose value has `len` octets, or the greatest `usize`.
+fn octets_with(tag: &Tag, form: Form, len: usize) -> usize
+    ensures count { result ≡ min (length tag.now + 1 + further form + len) (2 ^ 64 - 1) }
+    ensures tag { IsTag tag.now }
+{
+    let header = tag.octets().len() + 1 + usize::from(form.further());
+    len.saturating_add(header)
+}
+
+/// Whether an object stands too deep, where the list stands at this depth.
+pub(crate) fn has_deep(nodes: &Nodes, depth: usize) -> bool
+    requires { depth ≤ 17 }
+    ensures { IsTrue result ↔ SomeObject IsDeep depth nodes.now }
+{
+    for node in nodes.get() {
+        if is_deep(node, depth) {
+            return true;
+        }
+        if let Node::Constructed {
+            tag: _,
+            form: _,
+            nodes,
+        } = node
+        {
+            if has_deep(nodes, depth + 1) {
+                return true;
+            }
+        }
+    }
+    false
+}
+
+/// Whether the node is an object that stands too deep, at this depth.
+fn is_deep(node: &Node, depth: usize) -> bool
+    ensures { IsTrue result ↔ OwnIs IsDeep depth node.now }
+{
+    match node {
+        Node::Filler => false,
+        Node::Primitive { .. } | Node::Constructed { .. } => depth > DEEPEST,
+    }
+}
+
+/// Whether bit 6 of a tag disagrees with the kind of its object.
+pub(crate) fn has_other_kind(nodes: &Nodes) -> bool
+    ensures { (d : ℕ) → IsTrue result ↔ SomeObject IsOtherKind d nodes.now }
+{
+    for node in nodes.get() {
+        if is_other_kind(node) {
+            return true;
+        }
+        if let Node::Constructed {
+            tag: _,
+            form: _,
+            nodes,
+        } = node
+        {
+            if has_other_kind(nodes) {
+                return true;
+            }
+        }
+    }
+    false
+}
+
+/// Whether bit 6 of the tag of the node disagrees with its kind.
+fn is_other_kind(node: &Node) -> bool
+    ensures { (d : ℕ) → IsTrue result ↔ OwnIs IsOtherKind d node.now }
+{
+    match node {
+        Node::Filler => false,
+        Node::Primitive {
+            tag,
+            form: _,
+            value: _,
+        } => tag.is_constructed(),
+        Node::Constructed {
+            tag,
+            form: _,
+            nodes: _,
+        } => !tag.is_constructed(),
+    }
+}
+
+/// Whether a length is too large for the form of its length field.
+pub(crate) fn has_unfit(nodes: &Nodes) -> bool
+    ensures { (d : ℕ) → IsTrue result ↔ SomeObject IsUnfit d nodes.now }
+{
+    for node in nodes.get() {
+        if is_unfit(node) {
+            return true;
+        }
+        if let Node::Constructed {
+            tag: _,
+            form: _,
+            nodes,
+        } = node
+        {
+            if has_unfit(nodes) {
+                return true;
+            }
+        }
+    }
+    false
+}
+
+/// Whether the length of the node is too large for its form.
+fn is_unfit(node: &Node) -> bool
+    ensures { (d : ℕ) → IsTrue result ↔ OwnIs IsUnfit d node.now }
+{
+    match node {
+        Node::Filler => false,
+        Node::Primitive {
+            tag: _,
+            form,
+            value,
+        } => value.get().len() >= form.capacity(),
+        Node::Constructed {
+            tag: _,
+            form,
+            nodes,
+        } => octets_of(nodes) >= form.capacity(),
+    }
+}

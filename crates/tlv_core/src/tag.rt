@@ -1,0 +1,115 @@
+//! Tags of data objects.
+
+ghost use Rattle.std.specs.Prelude.{◌≡◌, ◌↔◌, IsTrue, MatchOption};
+ghost use Rattle.tlv_core.specs.Tag.{IsTag, IsLong, constructed_bit};
+
+use std::marker::Model;
+
+/// Whether further octets follow the first one of a tag: its low five bits are all 1.
+pub(crate) fn is_long(first: u8) -> bool
+    ensures { IsTrue result ↔ IsLong first }
+{
+    first % 0x20 == 0x1F
+}
+
+/// Whether these octets are one whole tag.
+fn is_tag(octets: &[u8]) -> bool
+    ensures { IsTrue result ↔ IsTag octets.now }
+{
+    match octets {
+        [first] => *first != 0 && !is_long(*first),
+        [first, second] => is_long(*first) && *second != 0 && *second < 0x80,
+        [first, second, third] => is_long(*first) && *second > 0x80 && *third < 0x80,
+        _ => false,
+    }
+}
+
+/// A tag of one to three octets, the first of them not 00, which contracts see as its octets
+/// (EMV 4.3 Book 3, Annex B; ISO/IEC 7816-4, clause 5.2.2).
+#[derive(Clone, Copy, Debug)]
+pub struct Tag {
+    octets: [u8; 3],
+    count: u8,
+}
+
+impl Model for Tag {
+    ghost use Rattle.std.specs.Prelude.{ℕ, List};
+
+    ghost Value = { List ℕ };
+
+    ghost use Rattle.tlv_core.specs.TagView.{octets_of_tag, tag_of_octets, IsWholeTag, tag_back};
+
+    ghost view = { octets_of_tag };
+
+    ghost invariant = { IsWholeTag };
+
+    ghost inverse = { tag_of_octets };
+
+    ghost inverse_ok = { tag_back };
+}
+
+impl Tag {
+    /// The tag of these octets, or `None` where they aren't one whole tag: where there are none, the
+    /// first is 00, a second one has its low seven bits all 0, octets are missing or left over, or a
+    /// fourth would follow.
+    pub fn new(octets: &[u8]) -> Option<Tag>
+        ensures { MatchOption result (IsTag octets.now → ⊥) (λ tag. IsTag octets.now × (tag ≡ octets.now)) }
+    {
+        if is_tag(octets) {
+            Some(Tag::of(octets))
+        } else {
+            None
+        }
+    }
+
+    /// The tag of these octets, which are one.
+    pub(crate) fn of(octets: &[u8]) -> Tag
+        requires { IsTag octets.now }
+        ensures { result ≡ octets.now }
+    {
+        let mut held = [0; 3];
+        held[..octets.len()].copy_from_slice(octets);
+        Tag {
+            octets: held,
+            count: octets.len() as u8,
+        }
+    }
+
+    /// The octets of the tag, one to three.
+    pub fn octets(&self) -> &[u8]
+        ensures value { result.now ≡ self.now }
+        ensures tag { IsTag result.now }
+    {
+        &self.octets[..self.count as usize]
+    }
+
+    /// Whether the tag is that of a constructed object: bit 6 of its first octet.
+    pub fn is_constructed(&self) -> bool
+        ensures { IsTrue result ↔ (constructed_bit self.now ≡ 1) }
+    {
+        self.octets[0] / 0x20 % 2 == 1
+    }
+}
+
+impl PartialEq for Tag {
+    ghost use Rattle.std.specs.Prelude.{◌==◌};
+    ghost use Rattle.std.proofs.lemmas.Cmp.{nat_list_eq_equiv};
+    ghost use lib.Pointwise.{pointwise};
+    ghost use Rattle.std.proofs.Common.{rules};
+    ghost use Rattle.std.specs.Cmp.Rules.{comparing};
+
+    ghost eq = { pointwise ◌==◌ };
+
+    ghost laws = { Prim.search (comparing, rules) };
+
+    fn eq(&self, other: &Self) -> bool {
+        self.octets() == other.octets()
+    }
+}
+
+impl Eq for Tag {
+    ghost use Rattle.std.proofs.Common.{rules};
+    ghost use Rattle.std.specs.Cmp.Rules.{comparing};
+
+    ghost laws = { Prim.search (comparing, rules) };
+}
