@@ -1,0 +1,172 @@
+-- What holds of the two ends and the block under way after every event.
+use Rattle.std.proofs.Common.{◌≡◌, ℕ, ◌+◌, ◌*◌, ◌≤◌, List, [], ◌∷◌, ◌++◌, length}
+use Rattle.std.specs.Prelude.{Option, None}
+use Rattle.block_core.specs.declared.pcb.Number.{Number}
+use Rattle.block_core.specs.declared.pcb.Fault.{Fault}
+use Rattle.block_core.specs.declared.pcb.S.TheVariants.{Resynch, Ifs, Wtx}
+use Rattle.block_core.specs.declared.pcb.Pcb.{Pcb}
+use Rattle.block_core.specs.declared.pcb.Pcb.TheVariants.{Info, Ready, Request, Response}
+use Rattle.block_core.specs.Block.{other}
+use Rattle.t1_core.specs.Came.{info, ready, request, response}
+use Rattle.t1_core.specs.Terminal.{TerminalState, Waits, idle, ack, answer, more, ifs, resynch, dead, is_more, waiting, longest_command, longest_answer}
+use Rattle.t1_core.specs.Card.{CardState, Waits as CardWaits, command, host, reply, asking, size, time, number_after, saving, waiting as card_waiting, new_card}
+use Rattle.t1_core.specs.Link.{Link, UnderWay, nothing, to_card, to_terminal, Exchange, answered, unanswered, given_up}
+use Rattle.t1_core.specs.Promises.{Matches}
+
+abbrev pub term : Number → Number → ℕ → ℕ → ℕ → ℕ → List ℕ → Waits → Option (List ℕ) → TerminalState
+term s r n i j i0 m w a = record { number = s; expected = r; failures = n; ifsc = i; ifsd = j; first_ifsc = i0; command = m; waits = w; answered = a }
+
+abbrev pub crd : Number → Number → Option (List ℕ) → ℕ → ℕ → ℕ → List ℕ → CardWaits → CardState
+crd c r saved i j i0 m w = record { number = c; expected = r; saved = saved; ifsc = i; ifsd = j; first_ifsc = i0; command = m; waits = w }
+
+abbrev pub link : TerminalState → CardState → UnderWay → List Exchange → List Exchange → ℕ → ℕ → Link
+link t c w es hs d f = record { terminal = t; card = c; under_way = w; exchanges = es; services = hs; disturbed = d; failed = f }
+
+-- n failures in a row, f in all, and d blocks lost or damaged; in Spare a failure more may come without a further one
+abbrev pub Counts : ℕ → ℕ → ℕ → Type 0
+Counts n f d = (n ≤ f) × (f ≤ 2 * d)
+
+abbrev pub Spare : ℕ → ℕ → ℕ → Type 0
+Spare n f d = (n ≤ f) × (f + 1 ≤ 2 * d)
+
+-- each exchange ended
+abbrev pub Ended : List Exchange → Type 0
+Ended [] = Unit {0}
+Ended (answered m a ∷ es) = Ended es
+Ended (unanswered m ∷ es) = ⊥
+Ended (given_up m ∷ es) = Ended es
+
+-- each but the newest
+abbrev pub OlderEnded : List Exchange → Type 0
+OlderEnded [] = Unit {0}
+OlderEnded (e ∷ es) = Ended es
+
+-- the histories match, and no exchange is under way, or the newest may be
+pub record Fine (es hs : List Exchange) : Type 0 where
+  pub matches : Matches es hs
+  pub ended : Ended es
+
+pub record Held (es hs : List Exchange) : Type 0 where
+  pub matches : Matches es hs
+  pub older : OlderEnded es
+
+-- the host has no turn
+abbrev pub NoHost : CardWaits → Type 0
+NoHost (command joined) = Unit {0}
+NoHost host = ⊥
+NoHost (reply field rest) = Unit {0}
+NoHost (asking q) = Unit {0}
+
+-- neither an I-block nor the response to RESYNCH
+abbrev pub IsPlain : Pcb → Type 0
+IsPlain (Info number goes_on) = ⊥
+IsPlain (Ready number fault) = Unit {0}
+IsPlain (Request kind) = Unit {0}
+IsPlain (Response kind) = ⊥
+
+-- The terminal hears the first block of an answer, or a further one after these octets.
+pub data Ear : Type 0 where
+  first : (field : List ℕ) → Ear
+  further : (joined : List ℕ) → Ear
+
+abbrev pub ear_waits : Ear → Waits
+ear_waits (first field) = answer field
+ear_waits (further joined) = more joined
+
+abbrev pub ear_joined : Ear → List ℕ
+ear_joined (first field) = []
+ear_joined (further joined) = joined
+
+-- the number that the card expects next
+abbrev pub ear_number : Number → Ear → Number
+ear_number s (first field) = other s
+ear_number s (further joined) = s
+
+-- The states that are reached. s and c are the ends' numbers, i and j the sizes, i0 the first of them.
+pub data Good : Link → Type 0 where
+  -- nothing is under way
+  at_rest : {s c : Number} {saved : Option (List ℕ)} {n i j i0 : ℕ} {a : Option (List ℕ)} {tm cm : List ℕ} {es hs : List Exchange} {d f : ℕ}
+      → f ≤ 2 * d → Fine es hs
+      → Good (link (term s (number_after saved c) n i j i0 tm idle a) (crd c s saved i j i0 cm (command [])) nothing es hs d f)
+  -- a size of the terminal was asked for, was set, or an R-block came in its place
+  size_asked : {s c : Number} {saved : Option (List ℕ)} {n i j j' i0 v : ℕ} {a : Option (List ℕ)} {tm cm : List ℕ} {es hs : List Exchange} {d f : ℕ}
+      → Counts n f d → Fine es hs
+      → Good (link (term s (number_after saved c) n i j i0 tm (ifs v) a) (crd c s saved i j' i0 cm (command [])) (to_card (request Ifs (v ∷ []))) es hs d f)
+  size_taken : {s c : Number} {saved : Option (List ℕ)} {n i j i0 v : ℕ} {a : Option (List ℕ)} {tm cm : List ℕ} {es hs : List Exchange} {d f : ℕ}
+      → Counts n f d → Fine es hs
+      → Good (link (term s (number_after saved c) n i j i0 tm (ifs v) a) (crd c s saved i v i0 cm (command [])) (to_terminal (response Ifs (v ∷ []))) es hs d f)
+  size_doubted : {s c : Number} {saved : Option (List ℕ)} {n i j j' i0 v : ℕ} {a : Option (List ℕ)} {tm cm : List ℕ} {es hs : List Exchange} {d f : ℕ} {fault : Fault}
+      → Spare n f d → Fine es hs
+      → Good (link (term s (number_after saved c) n i j i0 tm (ifs v) a) (crd c s saved i j' i0 cm (command [])) (to_terminal (ready s fault)) es hs d f)
+  -- RESYNCH was asked for, was answered, or another block came in its place
+  asks_resynch : (w : CardWaits) {s r c e : Number} {saved : Option (List ℕ)} {n i j i' j' i0 k : ℕ} {a : Option (List ℕ)} {tm cm : List ℕ} {es hs : List Exchange} {d f : ℕ}
+      → (1 ≤ k) × (k + 1 ≤ d) × (f ≤ 2 * d) → NoHost w → Held es hs
+      → Good (link (term s r n i j i0 tm (resynch k) a) (crd c e saved i' j' i0 cm w) (to_card (request Resynch [])) es hs d f)
+  resynched : {s r : Number} {n i j i0 k : ℕ} {a : Option (List ℕ)} {tm : List ℕ} {es hs : List Exchange} {d f : ℕ}
+      → (1 ≤ k) × (k + 1 ≤ d) × (f ≤ 2 * d) → Held es hs
+      → Good (link (term s r n i j i0 tm (resynch k) a) (new_card i0) (to_terminal (response Resynch [])) es hs d f)
+  resynch_doubted : (w : CardWaits) (pcb : Pcb) {s r c e : Number} {saved : Option (List ℕ)} {n i j i' j' i0 k : ℕ} {a : Option (List ℕ)} {tm cm : List ℕ} {inf : List ℕ} {es hs : List Exchange} {d f : ℕ}
+      → (1 ≤ k) × (k + 2 ≤ d) × (f ≤ 2 * d) → NoHost w → IsPlain pcb → Held es hs
+      → Good (link (term s r n i j i0 tm (resynch k) a) (crd c e saved i' j' i0 cm w) (to_terminal (record { nad = 0; pcb = pcb; inf = inf })) es hs d f)
+  -- the terminal is dead
+  over : (w : CardWaits) {s r c e : Number} {saved : Option (List ℕ)} {n i j i' j' i0 i1 : ℕ} {a : Option (List ℕ)} {tm cm : List ℕ} {es hs : List Exchange} {d f : ℕ}
+      → (5 ≤ d) × (f ≤ 2 * d) → NoHost w → Fine es hs
+      → Good (link (term s r n i j i0 tm dead a) (crd c e saved i' j' i1 cm w) nothing es hs d f)
+  -- a block of the command is under way, or an R-block to the card or to the terminal, while the card did not take it
+  sends : (joined field rest : List ℕ) {s c : Number} {saved : Option (List ℕ)} {n i j i0 : ℕ} {a : Option (List ℕ)} {cm : List ℕ} {m : List ℕ} {es hs : List Exchange} {d f : ℕ}
+      → Counts n f d → joined ++ field ++ rest ≡ m → length m ≤ longest_command → length field ≤ i → Fine es hs
+      → Good (link (term s (number_after saved c) n i j i0 m (waiting field rest) a) (crd c s saved i j i0 cm (command joined)) (to_card (info s (is_more rest) field)) (unanswered m ∷ es) hs d f)
+  sends_asked : (joined field rest : List ℕ) {s c : Number} {saved : Option (List ℕ)} {n i j i0 : ℕ} {a : Option (List ℕ)} {cm : List ℕ} {m : List ℕ} {es hs : List Exchange} {d f : ℕ} {fault : Fault}
+      → Spare n f d → joined ++ field ++ rest ≡ m → length m ≤ longest_command → length field ≤ i → Fine es hs
+      → Good (link (term s (number_after saved c) n i j i0 m (waiting field rest) a) (crd c s saved i j i0 cm (command joined)) (to_card (ready (number_after saved c) fault)) (unanswered m ∷ es) hs d f)
+  sends_doubted : (joined field rest : List ℕ) {s c : Number} {saved : Option (List ℕ)} {n i j i0 : ℕ} {a : Option (List ℕ)} {cm : List ℕ} {m : List ℕ} {es hs : List Exchange} {d f : ℕ} {fault : Fault}
+      → Spare n f d → joined ++ field ++ rest ≡ m → length m ≤ longest_command → length field ≤ i → Fine es hs
+      → Good (link (term s (number_after saved c) n i j i0 m (waiting field rest) a) (crd c s saved i j i0 cm (command joined)) (to_terminal (ready s fault)) (unanswered m ∷ es) hs d f)
+  -- the card took a block with M=1, and an R-block is under way
+  taken_asked : {s c : Number} {n i j i0 x : ℕ} {a : Option (List ℕ)} {cm : List ℕ} {m joined field rest : List ℕ} {es hs : List Exchange} {d f : ℕ} {fault : Fault}
+      → Counts n f d → joined ++ x ∷ rest ≡ m → length m ≤ longest_command → Fine es hs
+      → Good (link (term s c n i j i0 m (ack field (x ∷ rest)) a) (crd c (other s) None i j i0 cm (command joined)) (to_card (ready c fault)) (unanswered m ∷ es) hs d f)
+  taken_told : {s c : Number} {n i j i0 x : ℕ} {a : Option (List ℕ)} {cm : List ℕ} {m joined field rest : List ℕ} {es hs : List Exchange} {d f : ℕ} {fault : Fault}
+      → Counts n f d → joined ++ x ∷ rest ≡ m → length m ≤ longest_command → Fine es hs
+      → Good (link (term s c n i j i0 m (ack field (x ∷ rest)) a) (crd c (other s) None i j i0 cm (command joined)) (to_terminal (ready (other s) fault)) (unanswered m ∷ es) hs d f)
+  -- the host has its turn
+  served : {s c : Number} {n i j i0 : ℕ} {a : Option (List ℕ)} {m field : List ℕ} {es hs : List Exchange} {d f : ℕ}
+      → Counts n f d → Fine es hs
+      → Good (link (term s c n i j i0 m (answer field) a) (crd c (other s) None i j i0 m host) nothing (unanswered m ∷ es) (unanswered m ∷ hs) d f)
+  -- a size of the card was asked for
+  size_wanted : {s c : Number} {n i i' j i0 v : ℕ} {a : Option (List ℕ)} {m field : List ℕ} {es hs : List Exchange} {d f : ℕ}
+      → Counts n f d → Fine es hs
+      → Good (link (term s c n i j i0 m (answer field) a) (crd c (other s) None i' j i0 m (asking (size v))) (to_terminal (request Ifs (v ∷ []))) (unanswered m ∷ es) (unanswered m ∷ hs) d f)
+  size_given : {s c : Number} {n i' j i0 v : ℕ} {a : Option (List ℕ)} {m field : List ℕ} {es hs : List Exchange} {d f : ℕ}
+      → Counts n f d → Fine es hs
+      → Good (link (term s c n v j i0 m (answer field) a) (crd c (other s) None i' j i0 m (asking (size v))) (to_card (response Ifs (v ∷ []))) (unanswered m ∷ es) (unanswered m ∷ hs) d f)
+  size_missed : {s c : Number} {n i i' j i0 v : ℕ} {a : Option (List ℕ)} {m field : List ℕ} {es hs : List Exchange} {d f : ℕ} {fault : Fault}
+      → Counts n f d → Fine es hs
+      → Good (link (term s c n i j i0 m (answer field) a) (crd c (other s) None i' j i0 m (asking (size v))) (to_card (ready c fault)) (unanswered m ∷ es) (unanswered m ∷ hs) d f)
+  -- more time was asked for
+  time_wanted : {s c : Number} {n i j i0 v : ℕ} {a : Option (List ℕ)} {m field : List ℕ} {es hs : List Exchange} {d f : ℕ}
+      → Counts n f d → Fine es hs
+      → Good (link (term s c n i j i0 m (answer field) a) (crd c (other s) None i j i0 m (asking (time v))) (to_terminal (request Wtx (v ∷ []))) (unanswered m ∷ es) (unanswered m ∷ hs) d f)
+  time_given : {s c : Number} {n i j i0 v : ℕ} {a : Option (List ℕ)} {m field : List ℕ} {es hs : List Exchange} {d f : ℕ}
+      → Counts n f d → Fine es hs
+      → Good (link (term s c n i j i0 m (answer field) a) (crd c (other s) None i j i0 m (asking (time v))) (to_card (response Wtx (v ∷ []))) (unanswered m ∷ es) (unanswered m ∷ hs) d f)
+  time_missed : {s c : Number} {n i j i0 v : ℕ} {a : Option (List ℕ)} {m field : List ℕ} {es hs : List Exchange} {d f : ℕ} {fault : Fault}
+      → Counts n f d → Fine es hs
+      → Good (link (term s c n i j i0 m (answer field) a) (crd c (other s) None i j i0 m (asking (time v))) (to_card (ready c fault)) (unanswered m ∷ es) (unanswered m ∷ hs) d f)
+  -- a block of the reply is under way, or an R-block to the card or to the terminal, while the terminal did not take it
+  replying : (ear : Ear) (field rest : List ℕ) {s c : Number} {n i j i0 : ℕ} {a : Option (List ℕ)} {m y : List ℕ} {es hs : List Exchange} {d f : ℕ}
+      → Counts n f d → ear_joined ear ++ field ++ rest ≡ y → length y ≤ longest_answer → length field ≤ j → Fine es hs
+      → Good (link (term s c n i j i0 m (ear_waits ear) a) (crd c (ear_number s ear) (saving None field rest) i j i0 m (card_waiting field rest)) (to_terminal (info c (is_more rest) field)) (unanswered m ∷ es) (answered m y ∷ hs) d f)
+  replies_asked : (ear : Ear) (field rest : List ℕ) {s c : Number} {n i j i0 : ℕ} {a : Option (List ℕ)} {m y : List ℕ} {es hs : List Exchange} {d f : ℕ} {fault : Fault}
+      → Counts n f d → ear_joined ear ++ field ++ rest ≡ y → length y ≤ longest_answer → length field ≤ j → Fine es hs
+      → Good (link (term s c n i j i0 m (ear_waits ear) a) (crd c (ear_number s ear) (saving None field rest) i j i0 m (card_waiting field rest)) (to_card (ready c fault)) (unanswered m ∷ es) (answered m y ∷ hs) d f)
+  replies_doubted : (ear : Ear) (field rest : List ℕ) {s c : Number} {n i j i0 : ℕ} {a : Option (List ℕ)} {m y : List ℕ} {es hs : List Exchange} {d f : ℕ} {fault : Fault}
+      → Spare n f d → ear_joined ear ++ field ++ rest ≡ y → length y ≤ longest_answer → length field ≤ j → Fine es hs
+      → Good (link (term s c n i j i0 m (ear_waits ear) a) (crd c (ear_number s ear) (saving None field rest) i j i0 m (card_waiting field rest)) (to_terminal (ready (ear_number s ear) fault)) (unanswered m ∷ es) (answered m y ∷ hs) d f)
+  -- the terminal took a block with M=1, and an R-block is under way
+  joined_told : {s c : Number} {n i j i0 x : ℕ} {a : Option (List ℕ)} {m y joined field rest : List ℕ} {es hs : List Exchange} {d f : ℕ} {fault : Fault}
+      → Counts n f d → joined ++ x ∷ rest ≡ y → length y ≤ longest_answer → Fine es hs
+      → Good (link (term s (other c) n i j i0 m (more joined) a) (crd c s None i j i0 m (reply field (x ∷ rest))) (to_card (ready (other c) fault)) (unanswered m ∷ es) (answered m y ∷ hs) d f)
+  joined_doubted : {s c : Number} {n i j i0 x : ℕ} {a : Option (List ℕ)} {m y joined field rest : List ℕ} {es hs : List Exchange} {d f : ℕ} {fault : Fault}
+      → Spare n f d → joined ++ x ∷ rest ≡ y → length y ≤ longest_answer → Fine es hs
+      → Good (link (term s (other c) n i j i0 m (more joined) a) (crd c s None i j i0 m (reply field (x ∷ rest))) (to_terminal (ready s fault)) (unanswered m ∷ es) (answered m y ∷ hs) d f)

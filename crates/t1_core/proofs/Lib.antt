@@ -1,0 +1,11 @@
+pub mod Classes
+pub mod Computed
+pub mod Cuts
+pub mod Good
+pub mod Kept
+pub mod Promised
+pub mod Proper
+pub mod Quits
+pub mod Refuted
+pub mod Sessions
+pub mod Told

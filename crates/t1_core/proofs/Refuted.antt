@@ -1,0 +1,97 @@
+-- Wrong tables break what is promised: for each a run of events.
+use Rattle.std.proofs.Common.{inl, inr, List, ◌≡◌, ◌≤◌, ℕ, [], ◌∷◌, refl, arith}
+use Rattle.std.specs.Prelude.{Bool, true, Option, Some, None, if◌then◌else◌, Ok, Err}
+use Rattle.block_core.specs.declared.pcb.S.TheVariants.{Resynch}
+use Rattle.block_core.specs.declared.pcb.Pcb.TheVariants.{Ready, Request, Response}
+use Rattle.t1_core.specs.declared.turns.TerminalTurn.{TerminalTurn}
+use Rattle.t1_core.specs.declared.turns.TerminalTurn.TheVariants.{Send, GivenUp, Dead}
+use Rattle.t1_core.specs.declared.turns.CardTurn.TheVariants.{Asked}
+use Rattle.block_core.specs.declared.pcb.Number.{Number}
+use Rattle.t1_core.specs.Came.{got, same, request}
+use Rattle.t1_core.specs.Terminal.{TerminalState, TerminalStep, TerminalInput, terminal_turn, takes, sends_next, Mark, failure, no_failure, Waits, resynch, dead}
+use Rattle.t1_core.specs.Card.{CardState, CardStep, CardInput, Waits as CardWaits, command, host, takes as card_takes, card_turn}
+use Rattle.t1_core.specs.Link.{delivers, loses, transmits, asks_ifsd, host_replies, Exchange, answered, unanswered}
+use Rattle.t1_core.proofs.Quits.{is_resynch}
+use Rattle.t1_core.specs.Promises.{Matches, AlwaysMatches, InStepWhenIdle, AlwaysPatient}
+
+-- The card keeps a changed IFSD over RESYNCH.
+abbrev with_ifsd : ℕ → CardStep → CardStep
+with_ifsd size (Ok step) = Ok (step.0, record step.1 { ifsd = size })
+with_ifsd size (Err fault) = Err fault
+
+abbrev keeps_ifsd : CardState → CardInput → CardStep
+keeps_ifsd c (card_takes (got (Request Resynch) inf)) = with_ifsd c.ifsd (card_turn c (card_takes (got (Request Resynch) inf)))
+keeps_ifsd c input = card_turn c input
+
+pub keeps_ifsd-refuted : InStepWhenIdle (record { terminal = terminal_turn; card = keeps_ifsd }) → ⊥
+keeps_ifsd-refuted h =
+    let e : ◌≡◌ {A = ℕ} 32 2 = (h 32 (asks_ifsd 2 ∷ delivers ∷ delivers ∷ transmits [] ∷ loses ∷ loses ∷ loses ∷ loses ∷ delivers ∷ delivers ∷ []) tt).ifsd in
+    omega (arith, e)
+
+-- The terminal asks for RESYNCH at the first failure.
+abbrev at_once : TerminalState → Mark → TerminalStep → TerminalStep
+at_once t failure step = Ok (Send (request Resynch []), record t { waits = resynch 1 }, failure)
+at_once t no_failure step = step
+
+abbrev instead : TerminalState → TerminalStep → TerminalStep
+instead t (Ok step) = at_once t step.2 (Ok step)
+instead t (Err fault) = Err fault
+
+abbrev hasty : TerminalState → TerminalInput → TerminalStep
+hasty t input = instead t (terminal_turn t input)
+
+pub hasty-refuted : AlwaysPatient (record { terminal = hasty; card = card_turn }) → ⊥
+hasty-refuted h =
+    let e : 2 ≤ 1 = (h 32 (transmits [] ∷ loses ∷ delivers ∷ [])).given_up (takes (got (Response Resynch) [])) refl in
+    omega (arith, e)
+
+-- The terminal is dead after one unanswered RESYNCH.
+abbrev quits : Waits → TerminalStep → TerminalStep
+quits (resynch asked) (Ok step) =
+    if is_resynch step.1.waits
+    then Ok (Dead, record step.1 { waits = dead }, no_failure)
+    else Ok step
+quits waits step = step
+
+abbrev impatient : TerminalState → TerminalInput → TerminalStep
+impatient t input = quits t.waits (terminal_turn t input)
+
+pub impatient-refuted : AlwaysPatient (record { terminal = impatient; card = card_turn }) → ⊥
+impatient-refuted h =
+    let e : 5 ≤ 3 = (h 32 (transmits [] ∷ loses ∷ delivers ∷ delivers ∷ loses ∷ delivers ∷ delivers ∷ loses ∷ [])).dead tt in
+    omega (arith, e)
+
+-- After RESYNCH in an exchange the terminal sends its command again by itself.
+abbrev goes_on_with : TerminalTurn → Option (List ℕ) → TerminalState → TerminalStep → TerminalStep
+goes_on_with GivenUp None t step = sends_next t t.command
+goes_on_with turn last_answer t step = step
+
+abbrev by_itself : TerminalStep → TerminalStep
+by_itself (Ok step) = goes_on_with step.0 step.1.answered step.1 (Ok step)
+by_itself (Err fault) = Err fault
+
+abbrev sends_again : TerminalState → TerminalInput → TerminalStep
+sends_again t input = by_itself (terminal_turn t input)
+
+twice_for_one : (m a : List ℕ) (h : Exchange) → Matches (unanswered m ∷ []) (h ∷ answered m a ∷ []) → ⊥
+twice_for_one m a h (inl no_more) = no_more
+twice_for_one m a h (inr served) = served.1
+
+pub sends_again-refuted : AlwaysMatches (record { terminal = sends_again; card = card_turn }) → ⊥
+sends_again-refuted h = twice_for_one (7 ∷ []) (5 ∷ []) (unanswered (7 ∷ [])) (h 32 (transmits (7 ∷ []) ∷ delivers ∷ host_replies (5 ∷ []) ∷ loses ∷ loses ∷ loses ∷ loses ∷ delivers ∷ delivers ∷ delivers ∷ []))
+
+-- The card gives its host the same command again on an R-block with its answer's number.
+abbrev given_again : CardState → Option (List ℕ) → Bool → CardStep → CardStep
+given_again c (Some field) true step = Ok (Asked, record c { waits = host })
+given_again c saved is_own step = step
+
+abbrev for_command : CardState → CardWaits → Number → CardStep → CardStep
+for_command c (command joined) number step = given_again c c.saved (same number c.number) step
+for_command c waits number step = step
+
+abbrev gives_again : CardState → CardInput → CardStep
+gives_again c (card_takes (got (Ready number fault) inf)) = for_command c c.waits number (card_turn c (card_takes (got (Ready number fault) inf)))
+gives_again c input = card_turn c input
+
+pub gives_again-refuted : AlwaysMatches (record { terminal = terminal_turn; card = gives_again }) → ⊥
+gives_again-refuted h = twice_for_one [] (5 ∷ []) (unanswered []) (h 32 (transmits [] ∷ delivers ∷ host_replies (5 ∷ []) ∷ loses ∷ delivers ∷ []))

@@ -1,0 +1,7 @@
+pub mod Came
+pub mod Terminal
+pub mod Card
+pub mod Link
+pub mod Promises
+pub mod Views
+pub mod CardViews

@@ -1,0 +1,116 @@
+-- What is promised of a terminal and a card that talk over a line, whatever is lost or damaged on it.
+use Rattle.std.specs.Prelude.{◌≡◌, ℕ, ◌*◌, ◌<◌, ◌≤◌, ◌⊎◌, List, [], ◌∷◌, ◌++◌, length, map, Some, Ok}
+use Rattle.block_core.specs.Block.{spelling}
+use Rattle.octet_core.specs.Octets.{AreOctets}
+use Rattle.block_core.specs.declared.pcb.Pcb.{Pcb}
+use Rattle.block_core.specs.declared.pcb.Pcb.TheVariants.{Info}
+use Rattle.t1_core.specs.Came.{got, IsClass}
+use Rattle.t1_core.specs.declared.turns.TerminalTurn.TheVariants.{GivenUp, Answered}
+use Rattle.t1_core.specs.declared.turns.CardTurn.TheVariants.{Asked}
+use Rattle.t1_core.specs.Terminal.{TerminalState, Mark, turn_of, TerminalInput, Waits, idle, dead}
+use Rattle.t1_core.specs.Card.{CardState, CardInput, host}
+use Rattle.t1_core.specs.Link.{Tables, Link, UnderWay, nothing, to_card, to_terminal, Exchange, answered, unanswered, given_up, command_of, Event, transmits, asks_ifsd, host_replies, host_asks_time, host_asks_ifsc, run, new_link}
+
+-- The card's host was given each command that was answered, once and in order, and gave that answer; a command without an answer was given to the host once or not at all. Newest first.
+abbrev pub Matches : List Exchange → List Exchange → Type 0
+Matches [] [] = Unit {0}
+Matches [] (h ∷ hs) = ⊥
+Matches (answered m a ∷ es) [] = ⊥
+Matches (answered m a ∷ es) (h ∷ hs) = (h ≡ answered m a) × Matches es hs
+Matches (unanswered m ∷ es) [] = Matches es []
+Matches (unanswered m ∷ es) (h ∷ hs) = Matches es (h ∷ hs) ⊎ ((command_of h ≡ m) × Matches es hs)
+Matches (given_up m ∷ es) [] = Matches es []
+Matches (given_up m ∷ es) (h ∷ hs) = Matches es (h ∷ hs) ⊎ ((command_of h ≡ m) × Matches es hs)
+
+abbrev pub IsIdle : Waits → Type 0
+IsIdle idle = Unit {0}
+IsIdle waits = ⊥
+
+abbrev pub IsDead : Waits → Type 0
+IsDead dead = Unit {0}
+IsDead waits = ⊥
+
+-- an I-block has at most so many octets
+abbrev pub FitsSize : ℕ → Pcb → List ℕ → Type 0
+FitsSize size (Info number goes_on) inf = length inf ≤ size
+FitsSize size pcb inf = Unit {0}
+
+-- the I-block under way fits the size that its receiver holds
+abbrev pub Fits : Link → UnderWay → Type 0
+Fits l nothing = Unit {0}
+Fits l (to_card block) = FitsSize l.card.ifsc block.pcb block.inf
+Fits l (to_terminal block) = FitsSize l.terminal.ifsd block.pcb block.inf
+
+-- both ends hold the same sizes, and agree on the next number
+pub record InStep (l : Link) : Type 0 where
+  pub ifsc : l.terminal.ifsc ≡ l.card.ifsc
+  pub ifsd : l.terminal.ifsd ≡ l.card.ifsd
+  pub number : l.terminal.number ≡ l.card.expected
+
+-- no exchange was given up
+abbrev pub NoneGivenUp : List Exchange → Type 0
+NoneGivenUp [] = Unit {0}
+NoneGivenUp (given_up m ∷ es) = ⊥
+NoneGivenUp (e ∷ es) = NoneGivenUp es
+
+abbrev pub answered_only : List Exchange → List Exchange
+answered_only [] = []
+answered_only (answered m a ∷ es) = answered m a ∷ answered_only es
+answered_only (e ∷ es) = answered_only es
+
+-- The commands that the host was given are the first of those that the terminal took, and the exchanges that were answered are the first of the host's services, with its replies. The lists have the newest first.
+pub record Serves (es hs : List Exchange) : Type 0 where
+  pub commands : (newer : List (List ℕ)) × (newer ++ map command_of hs ≡ map command_of es)
+  pub answers : (newer : List Exchange) × (newer ++ answered_only es ≡ hs)
+
+-- Whatever is lost or damaged, each answer is the reply to its command, and no command is acted on twice.
+abbrev pub AlwaysMatches : Tables → Type 0
+AlwaysMatches by = (ifsc : ℕ) (events : List Event) → Matches (run by events (new_link ifsc)).exchanges (run by events (new_link ifsc)).services
+
+-- Where no exchange was given up, the host was given the commands in their order, and each answer is its reply.
+abbrev pub ServesInOrder : Tables → Type 0
+ServesInOrder by = (ifsc : ℕ) (events : List Event) → NoneGivenUp (run by events (new_link ifsc)).exchanges → Serves (run by events (new_link ifsc)).exchanges (run by events (new_link ifsc)).services
+
+-- Whenever the terminal is idle, both ends are in step.
+abbrev pub InStepWhenIdle : Tables → Type 0
+InStepWhenIdle by = (ifsc : ℕ) (events : List Event) → IsIdle (run by events (new_link ifsc)).terminal.waits → InStep (run by events (new_link ifsc))
+
+-- At every moment the I-block under way fits the size that its receiver holds.
+abbrev pub AlwaysFits : Tables → Type 0
+AlwaysFits by = (ifsc : ℕ) (events : List Event) → Fits (run by events (new_link ifsc)) (run by events (new_link ifsc)).under_way
+
+-- The turn Answered leaves an answer, and Asked leaves the host its turn: so the histories miss no turn. This holds of every state.
+pub record Tells (by : Tables) : Type 0 where
+  pub answer : (t next : TerminalState) (mark : Mark) (input : TerminalInput) → by.terminal t input ≡ Ok (Answered, next, mark) → (octets : List ℕ) × (next.answered ≡ Some octets)
+  pub host : (c next : CardState) (input : CardInput) → by.card c input ≡ Ok (Asked, next) → next.waits ≡ host
+
+-- The terminal gives up, whatever comes or is called, only where at least two blocks were lost or damaged since the exchange, or the question about a size, was begun; it is dead only where at least five were; and its failures since then are at most twice those blocks.
+pub record IsPatient (by : Tables) (l : Link) : Type 0 where
+  pub given_up : (input : TerminalInput) → turn_of (by.terminal l.terminal input) ≡ Ok GivenUp → 2 ≤ l.disturbed
+  pub dead : IsDead l.terminal.waits → 5 ≤ l.disturbed
+  pub failures : l.failed ≤ 2 * l.disturbed
+
+abbrev pub AlwaysPatient : Tables → Type 0
+AlwaysPatient by = (ifsc : ℕ) (events : List Event) → IsPatient by (run by events (new_link ifsc))
+
+-- The calls of an event hand over octets.
+abbrev pub HandsOctets : Event → Type 0
+HandsOctets (transmits m) = AreOctets m
+HandsOctets (asks_ifsd n) = n < 256
+HandsOctets (host_replies octets) = AreOctets octets
+HandsOctets (host_asks_time n) = n < 256
+HandsOctets (host_asks_ifsc n) = n < 256
+HandsOctets event = Unit {0}
+
+abbrev pub AllHandOctets : List Event → Type 0
+AllHandOctets [] = Unit {0}
+AllHandOctets (e ∷ es) = HandsOctets e × AllHandOctets es
+
+-- The octets of the block under way are that block to its receiver, so that what is delivered whole is never damaged or invalid.
+abbrev pub IsTaken : Link → UnderWay → Type 0
+IsTaken l nothing = Unit {0}
+IsTaken l (to_card block) = IsClass l.card.ifsc (spelling block) (got block.pcb block.inf)
+IsTaken l (to_terminal block) = IsClass l.terminal.ifsd (spelling block) (got block.pcb block.inf)
+
+abbrev pub AlwaysTaken : Tables → Type 0
+AlwaysTaken by = (ifsc : ℕ) (events : List Event) → AllHandOctets events → IsTaken (run by events (new_link ifsc)) (run by events (new_link ifsc)).under_way

@@ -1,0 +1,196 @@
+-- The terminal of the T=1 protocol (ISO/IEC 7816-3, clause 11.6). The counts of repeats, and what RESYNCH leaves, are this project's profile.
+use Rattle.std.specs.Prelude.{ℕ, ◌+◌, List, [], ◌∷◌, ◌++◌, length, take, drop, Bool, true, false, ◌&&◌, ◌||◌, ◌==◌, nat_lt, nat_le, if◌then◌else◌, Option, Some, None, Result, Ok, Err}
+use Rattle.block_core.specs.Block.{Parts}
+use Rattle.block_core.specs.declared.pcb.Number.{Number}
+use Rattle.block_core.specs.declared.pcb.Number.TheVariants.{Zero}
+use Rattle.block_core.specs.declared.pcb.Fault.TheVariants.{Free, Redundancy, Other}
+use Rattle.block_core.specs.declared.pcb.S.TheVariants.{Resynch, Ifs, Wtx}
+use Rattle.block_core.specs.declared.pcb.Pcb.TheVariants.{Info, Ready, Request, Response}
+use Rattle.t1_core.specs.declared.turns.TerminalTurn.{TerminalTurn}
+use Rattle.t1_core.specs.declared.turns.TerminalTurn.TheVariants.{Send, Answered, IfsSet, GivenUp, Dead}
+use Rattle.t1_core.specs.declared.turns.TerminalFault.{TerminalFault}
+use Rattle.t1_core.specs.declared.turns.TerminalFault.TheVariants.{Dead as IsDead, Busy, TooLong, Reserved, Idle}
+use Rattle.block_core.specs.Block.{other}
+use Rattle.t1_core.specs.Came.{Came, got, damaged, quiet, same, carried, info, ready, request, response}
+
+-- What the terminal waits in.
+pub data Waits : Type 0 where
+  -- nothing is under way
+  idle : Waits
+  -- the I-block with this field is under way, and the rest of the command follows it
+  ack : (field rest : List ℕ) → Waits
+  -- the last I-block of the command is under way
+  answer : (field : List ℕ) → Waits
+  -- the card's answer goes on after these octets
+  more : (joined : List ℕ) → Waits
+  -- a size of information fields was asked for
+  ifs : (size : ℕ) → Waits
+  -- RESYNCH was asked for so many times
+  resynch : (asked : ℕ) → Waits
+  -- the card answers no more
+  dead : Waits
+
+-- What the terminal holds.
+pub record TerminalState : Type 0 where
+  -- the number of its I-block under way or next, and the one that it expects from the card
+  pub number : Number
+  pub expected : Number
+  -- failures in a row
+  pub failures : ℕ
+  -- the most octets of a field that the card takes, that it takes itself, and that the card takes at the start
+  pub ifsc : ℕ
+  pub ifsd : ℕ
+  pub first_ifsc : ℕ
+  -- the whole command of its exchange, which stays until the next exchange begins
+  pub command : List ℕ
+  pub waits : Waits
+  -- the last answer
+  pub answered : Option (List ℕ)
+
+abbrev pub new_terminal : ℕ → TerminalState
+new_terminal ifsc = record { number = Zero; expected = Zero; failures = 0; ifsc = ifsc; ifsd = 32; first_ifsc = ifsc; command = []; waits = idle; answered = None }
+
+-- Whether a step is a failure: the rows that repeat a block, or ask for RESYNCH in place of a fourth repeat, are marked.
+pub data Mark : Type 0 where
+  failure : Mark
+  no_failure : Mark
+
+-- What a call does: a turn, the state after it and its mark, or a refusal, which changes nothing.
+abbrev pub TerminalStep : Type 0
+TerminalStep = Result (TerminalTurn × TerminalState × Mark) TerminalFault
+
+abbrev pub longest_command : ℕ
+longest_command = 65544
+
+abbrev pub longest_answer : ℕ
+longest_answer = 65538
+
+-- whether a block follows, and what the terminal then waits in
+abbrev pub is_more : List ℕ → Bool
+is_more [] = false
+is_more (octet ∷ rest) = true
+
+abbrev pub waiting : List ℕ → List ℕ → Waits
+waiting field [] = answer field
+waiting field (octet ∷ rest) = ack field (octet ∷ rest)
+
+-- The next I-block of what is left of the command, cut at the present IFSC (chaining, clause 11.6).
+abbrev pub sends_info : TerminalState → List ℕ → List ℕ → TerminalStep
+sends_info t field rest = Ok (Send (info t.number (is_more rest) field), record t { waits = waiting field rest }, no_failure)
+
+abbrev pub sends_next : TerminalState → List ℕ → TerminalStep
+sends_next t octets = sends_info t (take t.ifsc octets) (drop t.ifsc octets)
+
+-- After three repeats in a row the next failure leads to RESYNCH (clause 11.6; the count is this project's).
+abbrev pub fails : TerminalState → Parts → TerminalStep
+fails t block =
+    if nat_lt t.failures 3
+    then Ok (Send block, record t { failures = t.failures + 1 }, failure)
+    else Ok (Send (request Resynch []), record t { waits = resynch 1 }, failure)
+
+-- An I-block of the answer that fits is joined.
+abbrev pub joins : TerminalState → List ℕ → Bool → TerminalStep
+joins t joined true = Ok (Send (ready (other t.expected) Free), record t { failures = 0; expected = other t.expected; waits = more joined }, no_failure)
+joins t joined false = Ok (Answered, record t { failures = 0; expected = other t.expected; waits = idle; answered = Some joined }, no_failure)
+
+-- In an exchange, what is taken alike whatever it waits for: the card's requests are answered with what they carry, all else is a failure.
+abbrev pub in_exchange : TerminalState → Came → TerminalStep
+in_exchange t (got (Request Ifs) inf) = Ok (Send (response Ifs inf), record t { ifsc = carried inf }, no_failure)
+in_exchange t (got (Request Wtx) inf) = Ok (Send (response Wtx inf), t, no_failure)
+in_exchange t damaged = fails t (ready t.expected Redundancy)
+in_exchange t quiet = fails t (ready t.expected Free)
+in_exchange t came = fails t (ready t.expected Other)
+
+-- An I-block with M=1 is under way.
+abbrev pub in_ack : TerminalState → List ℕ → List ℕ → Came → TerminalStep
+in_ack t field rest (got (Ready number fault) inf) =
+    if same number t.number
+    then fails t (info t.number true field)
+    else sends_next (record t { failures = 0; number = other t.number }) rest
+in_ack t field rest came = in_exchange t came
+
+-- The last I-block of the command is under way.
+abbrev pub in_answer : TerminalState → List ℕ → Came → TerminalStep
+in_answer t field (got (Ready number fault) inf) =
+    if same number t.number
+    then fails t (info t.number false field)
+    else fails t (ready t.expected Free)
+in_answer t field (got (Info number goes_on) inf) =
+    if same number t.expected && nat_le (length inf) longest_answer
+    then joins (record t { number = other t.number }) inf goes_on
+    else in_exchange t (got (Info number goes_on) inf)
+in_answer t field came = in_exchange t came
+
+-- The answer goes on.
+abbrev pub in_more : TerminalState → List ℕ → Came → TerminalStep
+in_more t joined (got (Ready number fault) inf) = fails t (ready t.expected Free)
+in_more t joined (got (Info number goes_on) inf) =
+    if same number t.expected && nat_le (length joined + length inf) longest_answer
+    then joins t (joined ++ inf) goes_on
+    else in_exchange t (got (Info number goes_on) inf)
+in_more t joined came = in_exchange t came
+
+-- A size was asked for.
+abbrev pub in_ifs : TerminalState → ℕ → Came → TerminalStep
+in_ifs t size (got (Response Ifs) inf) =
+    if carried inf == size
+    then Ok (IfsSet, record t { failures = 0; ifsd = size; waits = idle }, no_failure)
+    else fails t (request Ifs (size ∷ []))
+in_ifs t size came = fails t (request Ifs (size ∷ []))
+
+-- RESYNCH was asked for.
+abbrev pub in_resynch : TerminalState → ℕ → Came → TerminalStep
+in_resynch t asked (got (Response Resynch) inf) =
+    Ok (GivenUp, record t { number = Zero; expected = Zero; failures = 0; ifsc = t.first_ifsc; ifsd = 32; waits = idle }, no_failure)
+in_resynch t asked came =
+    if nat_lt asked 3
+    then Ok (Send (request Resynch []), record t { waits = resynch (asked + 1) }, no_failure)
+    else Ok (Dead, record t { waits = dead }, no_failure)
+
+-- A block came, or none within the waiting time.
+abbrev pub terminal_came : TerminalState → Waits → Came → TerminalStep
+terminal_came t idle came = Err Idle
+terminal_came t (ack field rest) came = in_ack t field rest came
+terminal_came t (answer field) came = in_answer t field came
+terminal_came t (more joined) came = in_more t joined came
+terminal_came t (ifs size) came = in_ifs t size came
+terminal_came t (resynch asked) came = in_resynch t asked came
+terminal_came t dead came = Err IsDead
+
+-- What the application calls, and what came.
+pub data TerminalInput : Type 0 where
+  transmit : (command : List ℕ) → TerminalInput
+  ask_ifs : (size : ℕ) → TerminalInput
+  takes : (came : Came) → TerminalInput
+
+-- a call that only an idle terminal takes
+abbrev pub if_idle : Waits → TerminalStep → TerminalStep
+if_idle idle step = step
+if_idle dead step = Err IsDead
+if_idle waits step = Err Busy
+
+-- sizes that no end may ask for
+abbrev pub is_reserved : ℕ → Bool
+is_reserved size = (size == 0) || (size == 255)
+
+abbrev pub terminal_turn : TerminalState → TerminalInput → TerminalStep
+terminal_turn t (transmit command) =
+    if_idle t.waits
+    (if nat_le (length command) longest_command
+    then sends_next (record t { failures = 0; command = command; answered = None }) command
+    else Err TooLong)
+terminal_turn t (ask_ifs size) =
+    if_idle t.waits
+    (if is_reserved size
+    then Err Reserved
+    else Ok (Send (request Ifs (size ∷ [])), record t { failures = 0; waits = ifs size }, no_failure))
+terminal_turn t (takes came) = terminal_came t t.waits came
+
+-- What a call answers, and the state after it.
+abbrev pub turn_of : TerminalStep → Result TerminalTurn TerminalFault
+turn_of (Ok step) = Ok step.0
+turn_of (Err fault) = Err fault
+
+abbrev pub state_after : TerminalState → TerminalStep → TerminalState
+state_after t (Ok step) = step.1
+state_after t (Err fault) = t

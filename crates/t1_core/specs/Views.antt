@@ -1,0 +1,82 @@
+-- The engines' buffers and places, seen as states.
+use Rattle.std.specs.Prelude.{◌≡◌, ℕ, ◌+◌, ◌<◌, ◌≤◌, ◌==◌, List, [], length, take, drop, Bool, true, false, Option, Some, None}
+use Rattle.t1_core.specs.declared.turns.Cut.{Cut}
+use Rattle.t1_core.specs.declared.turns.TerminalWait.{TerminalWait}
+use Rattle.t1_core.specs.declared.turns.TerminalWait.TheVariants.{Idle, Ack, Answer, More, Ifs, Resynch, Dead}
+use Rattle.t1_core.specs.declared.class.Arrived.{Arrived}
+use Rattle.t1_core.specs.declared.class.Arrived.TheVariants.{Whole, Damaged, Invalid}
+use denote.Ref.{Bor}
+use Rattle.block_core.specs.declared.pcb.S.TheVariants.{Ifs as Size}
+use Rattle.block_core.specs.declared.pcb.Pcb.TheVariants.{Response}
+use Rattle.t1_core.specs.Came.{Came, got, damaged, invalid, carried}
+use Rattle.t1_core.specs.Terminal.{Waits, idle, ack, answer, more, ifs, resynch, dead}
+
+abbrev pub came_of : Arrived → Came
+came_of (Whole block) = got block.pcb block.inf
+came_of Damaged = damaged
+came_of Invalid = invalid
+
+-- the field of the I-block under way, and what follows it
+abbrev pub field_at : Cut → List ℕ → List ℕ
+field_at cut message = take cut.size (drop cut.place message)
+
+abbrev pub rest_at : Cut → List ℕ → List ℕ
+rest_at cut message = drop cut.size (drop cut.place message)
+
+-- what the terminal waits in
+abbrev pub waits_of : TerminalWait → List ℕ → List ℕ → Waits
+waits_of Idle command joined = idle
+waits_of (Ack cut) command joined = ack (field_at cut command) (rest_at cut command)
+waits_of (Answer cut) command joined = answer (field_at cut command)
+waits_of More command joined = more joined
+waits_of (Ifs size) command joined = ifs size
+waits_of (Resynch asked) command joined = resynch asked
+waits_of Dead command joined = dead
+
+abbrev pub answered_of : Bool → List ℕ → Option (List ℕ)
+answered_of true joined = Some joined
+answered_of false joined = None
+
+-- a size that a block may have
+abbrev pub IsSize : ℕ → Type 0
+IsSize size = (1 ≤ size) × (size ≤ 254)
+
+-- the octets of the answer that came so far
+abbrev pub joined_of : Waits → List ℕ
+joined_of (more joined) = joined
+joined_of waits = []
+
+-- an I-block of the answer can be joined
+abbrev pub IsJoining : Waits → Type 0
+IsJoining (answer field) = Unit {0}
+IsJoining (more joined) = Unit {0}
+IsJoining waits = ⊥
+
+-- the cut is that of a block of this message, and more follows it, or nothing does
+abbrev pub IsInner : Cut → List ℕ → Type 0
+IsInner cut message = IsSize cut.size × (cut.place + cut.size < length message)
+
+abbrev pub IsLast : Cut → List ℕ → Type 0
+IsLast cut message = IsSize cut.size × (cut.place ≤ length message) × (length message ≤ cut.place + cut.size)
+
+-- an exchange has no answer yet, and nothing is joined before the answer's first block
+abbrev pub IsWait : TerminalWait → List ℕ → List ℕ → Bool → Type 0
+IsWait Idle command joined is_answered = Unit {0}
+IsWait (Ack cut) command joined is_answered = IsInner cut command × (joined ≡ []) × (is_answered ≡ false)
+IsWait (Answer cut) command joined is_answered = IsLast cut command × (joined ≡ []) × (is_answered ≡ false)
+IsWait More command joined is_answered = is_answered ≡ false
+IsWait (Ifs size) command joined is_answered = IsSize size
+IsWait (Resynch asked) command joined is_answered = asked ≤ 3
+IsWait Dead command joined is_answered = Unit {0}
+
+-- the slice that a call hands out, where there is one
+abbrev pub IsSlice : Option (Bor (List ℕ)) → Option (List ℕ) → Type 0
+IsSlice None None = Unit {0}
+IsSlice None (Some octets) = ⊥
+IsSlice (Some slice) None = ⊥
+IsSlice (Some slice) (Some octets) = slice.now ≡ octets
+
+-- whether it is the response to a question about a size
+abbrev pub is_response_with : ℕ → Came → Bool
+is_response_with size (got (Response Size) inf) = carried inf == size
+is_response_with size came = false

@@ -1,0 +1,71 @@
+//! What the octets that came are to an end.
+
+ghost use Rattle.std.specs.Prelude.{◌≡◌, ◌≤◌};
+ghost use Rattle.t1_core.specs.Came.{IsClass, class_of};
+ghost use Rattle.t1_core.specs.Views.{came_of, is_response_with};
+
+use block_core::{Block, BlockReason, Pcb, S, decode};
+use octet_core::Stop;
+
+/// What came.
+#[derive(Debug, Drop)]
+pub(crate) enum Arrived {
+    /// A whole block with node address 0.
+    Whole(Block),
+    /// A block that its check octet contradicts.
+    Damaged,
+    /// Anything else.
+    Invalid,
+}
+
+impl Arrived {
+    /// Whether it is the response to a question about this information size.
+    pub(crate) fn responds_with(&self, size: u8) -> bool
+        ensures { result ≡ is_response_with size (came_of self.now) }
+    {
+        match self {
+            Arrived::Damaged | Arrived::Invalid => false,
+            Arrived::Whole(block) => match block.pcb() {
+                Pcb::Response(S::Ifs) => block.inf()[0] == size,
+                Pcb::Response(S::Resynch | S::Abort | S::Wtx)
+                | Pcb::Info { .. }
+                | Pcb::Ready { .. }
+                | Pcb::Request(_) => false,
+            },
+        }
+    }
+}
+
+/// What these octets are to an end that takes information fields of so many octets.
+pub(crate) fn classify(octets: &[u8], ifs: u8) -> Arrived
+    requires least { 1 ≤ ifs }
+    requires most { ifs ≤ 254 }
+    ensures { came_of result ≡ class_of ifs octets.now }
+{
+    crate::laws::class_is_computed();
+    by_verdict(octets, ifs)
+}
+
+/// The same, by the verdict on the octets as a block.
+fn by_verdict(octets: &[u8], ifs: u8) -> Arrived
+    requires least { 1 ≤ ifs }
+    requires most { ifs ≤ 254 }
+    ensures { IsClass ifs octets.now (came_of result) }
+{
+    match decode(octets, ifs) {
+        Ok((block, taken)) => {
+            if taken == octets.len() && block.nad() == 0 {
+                Arrived::Whole(block)
+            } else {
+                Arrived::Invalid
+            }
+        }
+        Err(
+            Stop::At {
+                reason: BlockReason::BadLrc,
+                ..
+            },
+        ) => Arrived::Damaged,
+        Err(_) => Arrived::Invalid,
+    }
+}

@@ -1,0 +1,65 @@
+//! What holds of the two ends and the line between them after every list of events, as contracts.
+//!
+//! `specs/Promises.antt` has the statements. Nothing is promised of progress, of what the check octet fails
+//! to find, or of a command that was given up: its host was given it once or not at all.
+
+ghost use Rattle.std.specs.Prelude.{◌≡◌, ◌≤◌, ◌↔◌, ℕ, List};
+ghost use Rattle.octet_core.specs.Octets.{AreOctets};
+ghost use Rattle.t1_core.specs.Came.{Came, IsClass, class_of};
+ghost use Rattle.t1_core.specs.Link.{tables};
+ghost use Rattle.t1_core.specs.Promises.{AlwaysMatches, ServesInOrder, InStepWhenIdle, AlwaysFits, AlwaysPatient, AlwaysTaken, Tells};
+
+/// Whatever is lost or damaged, each answered exchange is one that the card's host served with that
+/// reply, in order, and no command is given to the host twice.
+pub fn matched()
+    ensures { AlwaysMatches tables }
+{}
+
+/// Where no exchange was given up, the host's commands are the first of the terminal's, and the answered
+/// exchanges are the first of the host's services.
+pub fn in_order()
+    ensures { ServesInOrder tables }
+{}
+
+/// Whenever the terminal is idle, both ends hold the same information sizes, and the card expects the
+/// number that the terminal sends next.
+pub fn in_step()
+    ensures { InStepWhenIdle tables }
+{}
+
+/// The I-block under way fits the size that its receiver holds.
+pub fn fits()
+    ensures { AlwaysFits tables }
+{}
+
+/// The terminal gives up only after two blocks lost or damaged since the exchange or question began, is
+/// dead only after five, and its failures since then are at most twice those blocks.
+pub fn patient()
+    ensures { AlwaysPatient tables }
+{}
+
+/// The turn `Answered` leaves an answer, and `Asked` leaves the host its turn.
+pub fn told()
+    ensures { Tells tables }
+{}
+
+/// Where the calls hand over octets, a block that is delivered whole is to its receiver the block that
+/// was sent, never a damaged or invalid one.
+pub fn taken()
+    ensures { AlwaysTaken tables }
+{}
+
+/// Octets are one class to an end, whatever its size.
+pub fn one_class()
+    ensures { (size : ℕ) (octets : List ℕ) (came also : Came) → IsClass size octets came → IsClass size octets also → came ≡ also }
+{
+    block_core::laws::one_accepted();
+}
+
+/// The class that `class_of` computes is the class by the verdict on the octets as a block: both calls
+/// `received` cite it.
+pub fn class_is_computed()
+    ensures { (size : ℕ) (octets : List ℕ) → size ≤ 254 → AreOctets octets → (came : Came) → IsClass size octets came ↔ (came ≡ class_of size octets) }
+{
+    one_class();
+}

@@ -1,0 +1,103 @@
+//! What a call of an end answers, and what an end waits in.
+
+use block_core::Block;
+
+/// What the terminal does next.
+#[derive(Debug, PartialEq, Eq, Drop)]
+pub enum TerminalTurn {
+    /// It sends this block and waits for the card.
+    Send(Block),
+    /// The answer is complete, and `answer` has it.
+    Answered,
+    /// The card took the information size that was asked for.
+    IfsSet,
+    /// Both ends were resynchronized: the exchange or the question about a size is given up.
+    GivenUp,
+    /// The card answers no more, not even RESYNCH.
+    Dead,
+}
+
+/// Why the terminal refused a call. A refused call changes nothing.
+#[derive(Clone, Copy, Debug, PartialEq, Eq)]
+pub enum TerminalFault {
+    /// The card was found dead.
+    Dead,
+    /// An exchange, or a question about a size, is under way.
+    Busy,
+    /// The command has more than 65,544 octets.
+    TooLong,
+    /// The sizes 0 and 255 are reserved.
+    Reserved,
+    /// No block is awaited.
+    Idle,
+}
+
+/// What the card does next.
+#[derive(Debug, PartialEq, Eq, Drop)]
+pub enum CardTurn {
+    /// It sends this block and waits for the terminal.
+    Send(Block),
+    /// It is the host's turn: it owes the reply to `command`.
+    Asked,
+}
+
+/// Why the card refused a call. A refused call changes nothing.
+#[derive(Clone, Copy, Debug, PartialEq, Eq)]
+pub enum CardFault {
+    /// The call belongs to the host's turn, or a block came in it.
+    Order,
+    /// The reply has more than 65,538 octets.
+    TooLong,
+    /// The sizes 0 and 255 are reserved.
+    Reserved,
+}
+
+/// Where the I-block under way begins in its message, and the information size under which it was cut.
+#[derive(Clone, Copy, Debug, PartialEq, Eq)]
+pub(crate) struct Cut {
+    pub place: usize,
+    pub size: u8,
+}
+
+/// What the terminal waits in.
+#[derive(Clone, Copy, Debug, PartialEq, Eq)]
+pub(crate) enum TerminalWait {
+    /// For a call.
+    Idle,
+    /// An I-block of the command that isn't its last is under way.
+    Ack(Cut),
+    /// The last I-block of the command is under way.
+    Answer(Cut),
+    /// The answer goes on behind what was joined.
+    More,
+    /// A size was asked for.
+    Ifs(u8),
+    /// RESYNCH was asked for so many times.
+    Resynch(u8),
+    /// The card answers no more.
+    Dead,
+}
+
+/// What the card asked the terminal for on its host's behalf.
+#[derive(Clone, Copy, Debug, PartialEq, Eq)]
+pub(crate) enum Request {
+    /// The information size that the card is to take.
+    Size(u8),
+    /// A multiple of the waiting time.
+    Time(u8),
+}
+
+/// What the card waits in.
+#[derive(Clone, Copy, Debug, PartialEq, Eq)]
+pub(crate) enum CardWait {
+    /// For the first block of a command.
+    Command,
+    /// For a further block of the command that came so far.
+    Joining,
+    /// For its host, which owes a reply.
+    Host,
+    /// An I-block of the reply that isn't its last is under way.
+    Reply(Cut),
+    /// For the response to a request, while the host still owes its reply.
+    Asking(Request),
+}
