@@ -1,10 +1,9 @@
 -- What a receiver answers.
-use Rattle.std.proofs.Common.{◌≡◌, ℕ, ◌+◌, ◌*◌, ◌≤◌, ◌<◌, ◌++◌, ◌⊎◌, List, [], length, take, drop, refl, sym, ap, subst, ◌∙◌, arith, Bool, true, false, append_assoc, inl, inr, Option, Some, None, Result, Ok, Err, slice_index}
+use Rattle.std.proofs.Common.{◌≡◌, ℕ, ◌+◌, ◌*◌, ◌≤◌, ◌++◌, ◌⊎◌, List, [], length, take, drop, refl, sym, ap, subst, ◌∙◌, arith, Bool, true, false, append_assoc, inl, inr, Option, Some, None, Ok, Err}
 use Rattle.std.proofs.lemmas.List.{append-nil, take-append-drop}
 use Rattle.octet_core.specs.Grammar.{RefusesAt, self_ended}
 use Rattle.octet_core.specs.Reader.{IsFed, IsFinished}
 use Rattle.octet_core.specs.declared.stop.Refusal.{Refusal}
-use Rattle.octet_core.specs.declared.stop.Stop.{Stop}
 use Rattle.octet_core.specs.declared.stop.Stop.TheVariants.{At, Short}
 use Rattle.octet_core.proofs.Lists.{never}
 use Rattle.block_core.specs.declared.pcb.Number.{Number}

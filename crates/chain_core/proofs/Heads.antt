@@ -1,22 +1,21 @@
 -- The first three octets of a block of a chain.
-use Rattle.std.proofs.Common.{◌≡◌, ◌≢◌, ℕ, ◌+◌, ◌-◌, ◌<◌, ◌≤◌, ◌++◌, List, [], ◌∷◌, length, take, drop, get_or, refl, sym, ap, subst, ◌∙◌, arith, Bool, true, false, append_assoc, slice_index, inl, inr, Option, Some, None, Result, Ok, Err}
-use Rattle.std.proofs.lemmas.List.{append-nil, length-append, length-take, get_or_append_left}
+use Rattle.std.proofs.Common.{◌≡◌, ◌≢◌, ℕ, ◌+◌, ◌-◌, ◌<◌, ◌≤◌, ◌++◌, List, [], ◌∷◌, length, take, get_or, refl, sym, ap, subst, ◌∙◌, arith, Bool, true, false, slice_index, inl, inr, Result, Ok, Err}
+use Rattle.std.proofs.lemmas.List.{length-append, length-take, get_or_append_left}
 use Rattle.std.proofs.Math.Seq.{take-length, get_or-append_right}
 use Rattle.octet_core.specs.Octets.{AreOctets}
-use Rattle.octet_core.specs.Grammar.{Begins, RefusesAt, self_ended, IsFirst}
+use Rattle.octet_core.specs.Grammar.{Begins, IsFirst}
 use Rattle.octet_core.specs.Reader.{IsFed}
 use Rattle.octet_core.specs.declared.stop.Stop.{Stop}
 use Rattle.octet_core.specs.declared.stop.Stop.TheVariants.{At, Short}
 use Rattle.octet_core.proofs.Begun.{begins-take}
 use Rattle.block_core.specs.declared.pcb.Number.{Number}
-use Rattle.block_core.specs.declared.pcb.Pcb.{Pcb}
 use Rattle.block_core.specs.declared.pcb.Pcb.TheVariants.{Info}
 use Rattle.block_core.specs.declared.reason.BlockReason.{BlockReason}
 use Rattle.block_core.specs.Block as block
 use Rattle.block_core.specs.Block.{Parts, IsBlock, pcb_octet, other, IsInfo}
 use Rattle.block_core.specs.Reading as reading
 use Rattle.block_core.specs.Reading.{Reading}
-use Rattle.block_core.proofs.Blocks.{pcb-back, spelling-len, begun-lt2, begun-two, begun-from, begun-all}
+use Rattle.block_core.proofs.Blocks.{pcb-back, spelling-len, begun-lt2, begun-two, begun-all}
 use Rattle.chain_core.specs.declared.reason.ChainReason.{ChainReason}
 use Rattle.chain_core.specs.declared.reason.ChainReason.TheVariants.{BadNad, BadPcb, NotInfo, BadSequence, TooManyBlocks, BadLen, OverIfs, TooLong, BadLrc}
 use Rattle.chain_core.specs.declared.part.Part as part

@@ -1,10 +1,8 @@
 -- The rest of a block of a chain, and its field joined to the message.
-use Rattle.std.proofs.Common.{◌≡◌, ◌≢◌, ℕ, zero, suc, ◌+◌, ◌-◌, ◌*◌, ◌<◌, ◌≤◌, ◌++◌, List, [], ◌∷◌, length, take, drop, refl, sym, ap, subst, ◌∙◌, arith, Bool, true, false, not, append_assoc, inl, inr, Option, Some, None, Result, Ok, Err, slice_index}
+use Rattle.std.proofs.Common.{◌≡◌, ℕ, zero, suc, ◌+◌, ◌≤◌, ◌++◌, List, [], ◌∷◌, length, refl, sym, ap, subst, ◌∙◌, arith, Bool, true, false, not, append_assoc, Some, None}
 use Rattle.std.proofs.lemmas.List.{append-nil, length-append}
 use Rattle.octet_core.specs.Octets.{AreOctets}
-use Rattle.octet_core.specs.Grammar.{Begins, RefusesAt, self_ended, IsFirst}
-use Rattle.octet_core.specs.declared.stop.Refusal.{Refusal}
-use Rattle.octet_core.specs.declared.stop.Stop.TheVariants.{At}
+use Rattle.octet_core.specs.Grammar.{Begins}
 use Rattle.block_core.specs.declared.pcb.Number.{Number}
 use Rattle.block_core.specs.declared.pcb.Pcb.{Pcb}
 use Rattle.block_core.specs.declared.pcb.Pcb.TheVariants.{Info}
@@ -12,15 +10,14 @@ use Rattle.block_core.specs.Block as block
 use Rattle.block_core.specs.Block.{Parts, IsBlock, Suits, pcb_octet, other}
 use Rattle.block_core.specs.Reading as reading
 use Rattle.block_core.specs.Reading.{Reading}
-use Rattle.block_core.proofs.Blocks.{pcb-back, spelling-len}
-use Rattle.chain_core.specs.declared.reason.ChainReason.{ChainReason}
+use Rattle.block_core.proofs.Blocks.{pcb-back}
 use Rattle.chain_core.specs.declared.part.Part as part
 use Rattle.chain_core.specs.declared.part.Part.TheVariants as parts
-use Rattle.chain_core.specs.Chain.{IsChain, IsReason, message_of, links, open_links, octets_of, link, number_after}
-use Rattle.chain_core.specs.Part.{IsAtPart, IsPcb, more_count, more_said}
+use Rattle.chain_core.specs.Chain.{IsChain, open_links, octets_of, link, number_after}
+use Rattle.chain_core.specs.Part.{IsAtPart, more_count, more_said}
 use Rattle.chain_core.specs.Taken.{Reception, HasTaken, AreTaken, IsOpen}
-use Rattle.chain_core.specs.Receiving.{IsWaiting, Waits, IsSound, Goes}
-use Rattle.chain_core.proofs.Goes.{Taken, chain-begins, spelling-mid, message-append, count-append}
+use Rattle.chain_core.specs.Receiving.{Waits, IsSound, Goes}
+use Rattle.chain_core.proofs.Goes.{chain-begins, spelling-mid, message-append, count-append}
 use Rattle.chain_core.proofs.Receiving.{begun-taken}
 use Rattle.chain_core.proofs.Stuck.{octet-at}
 use Rattle.chain_core.proofs.Receptions.{open-is, fresh-waits}

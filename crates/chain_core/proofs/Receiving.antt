@@ -1,11 +1,11 @@
 -- How a chain gets on while its octets come.
-use Rattle.std.proofs.Common.{◌≡◌, ℕ, ◌+◌, ◌-◌, ◌<◌, ◌≤◌, ◌++◌, List, [], ◌∷◌, length, take, drop, get_or, refl, sym, ap, subst, ◌∙◌, arith, Bool, true, false, append_assoc, slice_index, inl, inr}
+use Rattle.std.proofs.Common.{◌≡◌, ℕ, ◌+◌, ◌<◌, ◌≤◌, ◌++◌, List, [], ◌∷◌, length, take, drop, refl, sym, ap, subst, ◌∙◌, arith, Bool, true, false, append_assoc, slice_index, inl, inr}
 use Rattle.std.proofs.lemmas.List.{append-nil, length-append, take-append-le}
 use Rattle.std.proofs.Math.Seq.{take-length, take-append_seam}
 use Rattle.std.proofs.lemmas.Bool.{cases_lt}
 use Rattle.std.specs.List.{AllByRecursion}
 use Rattle.octet_core.specs.Octets.{AreOctets}
-use Rattle.octet_core.specs.Grammar.{Begins, Accepts, RefusesAt, self_ended, IsShort}
+use Rattle.octet_core.specs.Grammar.{Begins, Accepts, RefusesAt, self_ended}
 use Rattle.octet_core.specs.declared.stop.Stop.TheVariants.{At}
 use Rattle.octet_core.proofs.Begun.{spelled-begins}
 use Rattle.octet_core.proofs.Firsts.{first_holds}
@@ -22,7 +22,7 @@ use Rattle.chain_core.specs.declared.reason.ChainReason.{ChainReason}
 use Rattle.chain_core.specs.declared.part.Part as part
 use Rattle.chain_core.specs.declared.part.Part.TheVariants as parts
 use Rattle.chain_core.specs.Chain.{IsChain, IsReason, MeetsInBlock, all_reasons, message_of, open_links, octets_of, link, number_after, spelling}
-use Rattle.chain_core.specs.Part.{IsPcb, IsAtPart, more_count}
+use Rattle.chain_core.specs.Part.{IsPcb, IsAtPart}
 use Rattle.chain_core.proofs.Unique.{link-split, one-accepted}
 use Rattle.chain_core.proofs.Goes.{Taken, part-begins}
 use Rattle.chain_core.proofs.Reasons.{IsPart, reason-in_block}

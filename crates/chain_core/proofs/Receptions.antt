@@ -1,13 +1,13 @@
 -- What a receiver keeps, over octets that come.
-use Rattle.std.proofs.Common.{◌≡◌, ◌≢◌, ℕ, ◌+◌, ◌-◌, ◌*◌, ◌<◌, ◌≤◌, ◌++◌, List, [], ◌∷◌, length, take, drop, refl, sym, ap, subst, ◌∙◌, arith, Bool, true, false, append_assoc, inl, inr, Option, Some, None, nat_eq, slice_index, Result, Ok, Err}
-use Rattle.std.proofs.lemmas.List.{append-nil, length-append}
+use Rattle.std.proofs.Common.{◌≡◌, ◌≢◌, ℕ, ◌+◌, ◌-◌, ◌*◌, ◌<◌, ◌≤◌, ◌++◌, List, [], ◌∷◌, length, refl, sym, ap, subst, ◌∙◌, arith, Bool, true, false, append_assoc, inl, inr, Some, None, nat_eq, slice_index, Result}
+use Rattle.std.proofs.lemmas.List.{length-append}
 use Rattle.std.proofs.lemmas.Bool.Decides.{eqb_tells}
 use Rattle.octet_core.specs.Octets.{AreOctets}
 use Rattle.octet_core.specs.Grammar.{Begins, RefusesAt, self_ended}
 use Rattle.octet_core.specs.declared.stop.Refusal.{Refusal}
 use Rattle.octet_core.specs.declared.stop.Stop.{Stop}
-use Rattle.octet_core.specs.declared.stop.Stop.TheVariants.{At, Short}
-use Rattle.octet_core.specs.Reader.{IsFed, IsFinished}
+use Rattle.octet_core.specs.declared.stop.Stop.TheVariants.{At}
+use Rattle.octet_core.specs.Reader.{IsFed}
 use Rattle.octet_core.proofs.Lists.{octets-append, octets-cons}
 use Rattle.block_core.specs.declared.pcb.Number.{Number}
 use Rattle.block_core.specs.Block as block
@@ -27,7 +27,7 @@ use Rattle.chain_core.specs.Receiving.{IsWaiting, Waits, IsSound, Goes}
 use Rattle.chain_core.proofs.Goes.{Taken}
 use Rattle.chain_core.proofs.Lengths.{open-length}
 use Rattle.chain_core.proofs.Receiving.{begun-taken, at-part-begins, under-length, refused-in_block}
-use Rattle.chain_core.proofs.Reasons.{IsPart, part-short}
+use Rattle.chain_core.proofs.Reasons.{part-short}
 use Rattle.chain_core.proofs.Heads.{at-behind, block-behind, first-head, place-len, fed-one}
 
 head-of : (number : Number) (max blocks joined : ℕ) (p : part.Part) (c : List ℕ) → length c < 3 → IsAtPart number max blocks joined p c → IsHead p

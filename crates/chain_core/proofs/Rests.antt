@@ -1,20 +1,17 @@
 -- The field and the LRC of a block of a chain.
-use Rattle.std.proofs.Common.{◌≡◌, ◌≢◌, ℕ, ◌+◌, ◌-◌, ◌*◌, ◌<◌, ◌≤◌, ◌++◌, List, [], ◌∷◌, length, take, drop, get_or, refl, sym, ap, subst, ◌∙◌, arith, Bool, true, false, not, append_assoc, inl, inr, Option, Some, None, Result, Ok, Err, slice_index}
+use Rattle.std.proofs.Common.{◌≡◌, ◌≢◌, ℕ, ◌+◌, ◌*◌, ◌<◌, ◌≤◌, ◌++◌, List, [], ◌∷◌, length, take, drop, get_or, refl, sym, ap, subst, ◌∙◌, arith, Bool, append_assoc, inl, inr, Some, None, slice_index}
 use Rattle.std.proofs.lemmas.List.{length-append, length-take, take_more, take-append-drop, take-append-le, get_or-take, get_or_append_left}
 use Rattle.std.proofs.Math.Seq.{take-length}
 use Rattle.std.proofs.lemmas.Bool.{cases_lt}
 use Rattle.octet_core.specs.Octets.{AreOctets, xor_of}
-use Rattle.octet_core.specs.Grammar.{Begins, RefusesAt, IsStuck, self_ended, IsFirst}
-use Rattle.octet_core.specs.Reader.{IsFed}
+use Rattle.octet_core.specs.Grammar.{Begins, RefusesAt, self_ended, IsFirst}
 use Rattle.octet_core.specs.declared.stop.Refusal.{Refusal}
-use Rattle.octet_core.specs.declared.stop.Stop.{Stop}
 use Rattle.octet_core.specs.declared.stop.Stop.TheVariants.{At}
 use Rattle.octet_core.proofs.Begun.{begins-take}
 use Rattle.octet_core.proofs.Firsts.{first_holds}
 use Rattle.octet_core.proofs.Lists.{octets-append}
 use Rattle.block_core.specs.declared.pcb.Number.{Number}
 use Rattle.block_core.specs.declared.pcb.S.TheVariants.{Ifs}
-use Rattle.block_core.specs.declared.pcb.Pcb.{Pcb}
 use Rattle.block_core.specs.declared.pcb.Pcb.TheVariants.{Info, Request, Response}
 use Rattle.block_core.specs.declared.reason.BlockReason.{BlockReason}
 use Rattle.block_core.specs.declared.reason.BlockReason.TheVariants as faults
@@ -22,22 +19,20 @@ use Rattle.block_core.specs.Block as block
 use Rattle.block_core.specs.Block.{Parts, IsBlock, pcb_octet}
 use Rattle.block_core.specs.Reading as reading
 use Rattle.block_core.specs.Reading.{Reading}
-use Rattle.block_core.proofs.Blocks.{pcb-back, spelling-len}
+use Rattle.block_core.proofs.Blocks.{pcb-back}
 use Rattle.block_core.proofs.Readings.{refuses-append}
 use Rattle.chain_core.specs.declared.reason.ChainReason.{ChainReason}
 use Rattle.chain_core.specs.declared.reason.ChainReason.TheVariants.{BadLrc}
 use Rattle.chain_core.specs.declared.part.Part as part
 use Rattle.chain_core.specs.declared.part.Part.TheVariants as parts
-use Rattle.chain_core.specs.Chain.{IsChain, IsReason, MeetsInBlock, all_reasons, message_of, open_links, octets_of, number_after}
-use Rattle.chain_core.specs.Part.{IsAtPart, IsPcb, more_said}
-use Rattle.chain_core.specs.Taken.{Reception, HasTaken, IsOpen}
-use Rattle.chain_core.specs.Receiving.{IsWaiting, Waits, IsSound, Goes}
-use Rattle.chain_core.proofs.Goes.{Taken}
+use Rattle.chain_core.specs.Chain.{IsChain, IsReason, MeetsInBlock, all_reasons, open_links, octets_of}
+use Rattle.chain_core.specs.Part.{IsAtPart, more_said}
+use Rattle.chain_core.specs.Taken.{Reception, IsOpen}
+use Rattle.chain_core.specs.Receiving.{IsWaiting, IsSound, Goes}
 use Rattle.chain_core.proofs.Lengths.{open-length}
 use Rattle.chain_core.proofs.Reasons.{part-sum}
 use Rattle.chain_core.proofs.Receiving.{begun-taken, rest-begins, under-length, refused-in_block}
 use Rattle.chain_core.proofs.Receptions.{open-is, part-of-fields}
-use Rattle.chain_core.proofs.Stuck.{octet-at}
 
 some_is : {A : Type 0} (x y : A) → Some x ≡ Some y → x ≡ y
 some_is x y e = cc

@@ -1,12 +1,9 @@
 -- What follows of what a receiver has taken.
-use Rattle.std.proofs.Common.{◌≡◌, ℕ, ◌+◌, ◌*◌, ◌++◌, List, [], ◌∷◌, length, refl, sym, ap, subst, ◌∙◌, arith, Bool, true, false}
+use Rattle.std.proofs.Common.{◌≡◌, ℕ, ◌+◌, ◌*◌, ◌++◌, List, [], length, sym, ap, subst, ◌∙◌, arith, Bool, true, false}
 use Rattle.std.proofs.lemmas.List.{append-nil, length-append}
 use Rattle.octet_core.proofs.Lists.{nil_of}
 use Rattle.block_core.specs.declared.pcb.Number.{Number}
-use Rattle.block_core.specs.Block as block
-use Rattle.block_core.specs.Block.{other}
-use Rattle.block_core.proofs.Blocks.{spelling-len}
-use Rattle.chain_core.specs.Chain.{IsChain, message_of, links, open_links, octets_of, link, spelling}
+use Rattle.chain_core.specs.Chain.{IsChain, message_of, open_links, octets_of, spelling}
 use Rattle.chain_core.specs.Taken.{Reception, fresh, AreTaken, HasTaken}
 use Rattle.chain_core.proofs.Lengths.{open-length, links-length}
 use Rattle.chain_core.proofs.Unique.{spelling-split}

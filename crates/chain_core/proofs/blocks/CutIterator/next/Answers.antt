@@ -1,9 +1,9 @@
-use Rattle.std.proofs.Common.{◌≡◌, ◌∷◌, ◌-◌, [], ◌∙◌, ℕ, List, arith, drop, take, ap, sym, length, Some, refl}
+use Rattle.std.proofs.Common.{◌∷◌, [], ◌∙◌, ℕ, List, arith, drop, ap, sym, length}
 use Rattle.std.proofs.lemmas.List.{take_rest}
 use Rattle.block_core.specs.Block.{Parts, other}
 use Rattle.block_core.specs.declared.pcb.Number.{Number}
 use Rattle.chain_core.specs.Chain.{links}
-use Rattle.chain_core.specs.Cut.{cut_of, blocks_left, first_link}
+use Rattle.chain_core.specs.Cut.{cut_of, blocks_left}
 use Rattle.chain_core.proofs.Cuts.{first-short, first-long}
 use Rattle.chain_core.proofs.blocks.CutIterator.next.Goals as goal
 use Rattle.chain_core.proofs.blocks.CutIterator.next.Goals.{then-rest-len, else-rest-len}

@@ -1,4 +1,4 @@
-use Rattle.std.proofs.Common.{◌≡◌, ◌≤◌, ◌-◌, ◌+◌, ◌++◌, ◌∙◌, ◌⊎◌, inl, inr, ℕ, List, length, take, drop, arith, sym, ap, subst, append_assoc, Bool, Result, Ok}
+use Rattle.std.proofs.Common.{◌≡◌, ◌≤◌, ◌-◌, ◌∙◌, ◌⊎◌, inl, inr, ℕ, List, length, take, drop, arith, sym, ap, subst, Bool, Result, Ok}
 use Rattle.std.proofs.lemmas.List.{length-drop, take_rest}
 use Rattle.std.proofs.Math.Seq.{take-add}
 use Rattle.chain_core.specs.Taken.{Reception, HasTaken, IsOpen, IsClosed, refusal_of}

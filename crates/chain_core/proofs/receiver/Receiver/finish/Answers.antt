@@ -1,4 +1,4 @@
-use Rattle.std.proofs.Common.{arith, subst, ◌≡◌, length, ◌+◌, ◌*◌, Ok, Err}
+use Rattle.std.proofs.Common.{arith, subst, ◌+◌, ◌*◌, Ok, Err}
 use Rattle.octet_core.specs.Reader.{IsFinished}
 use Rattle.octet_core.specs.declared.stop.Stop.TheVariants.{Short}
 use Rattle.chain_core.specs.Chain.{IsChain, IsReason}
