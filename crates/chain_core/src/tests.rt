@@ -178,7 +178,19 @@ fn most_blocks(rt: HostRuntime) -> Result<(), Fail> {
 #[test]
 fn cut_long_messages(rt: HostRuntime) -> Result<(), Fail> {
     let message = vec![in rt.alloc(); 0xA5u8; 65_544]?;
-    assert_eq!(rt; cut(message.as_slice(), 1, Number::Zero).count(), 65_544);
-    assert_eq!(rt; cut(message.as_slice(), 254, Number::Zero).count(), 259);
+    let mut short = 0;
+    for _ in cut(message.as_slice(), 1, Number::Zero) {
+        if short < 100_000 {
+            short += 1;
+        }
+    }
+    assert_eq!(rt; short, 65_544);
+    let mut long = 0;
+    for _ in cut(message.as_slice(), 254, Number::Zero) {
+        if long < 100_000 {
+            long += 1;
+        }
+    }
+    assert_eq!(rt; long, 259);
     Ok(())
 }
