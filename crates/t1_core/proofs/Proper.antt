@@ -352,10 +352,10 @@ delivering l nothing h g = g
 delivering l (to_card b) h g = card_made l l _ g g (card_going l.card l.card.waits (got b.pcb b.inf) g.card g.card g.saved (h.octets, h.suits))
 delivering l (to_terminal b) h g = terminal_made l l _ g g (going l.terminal l.terminal.waits (got b.pcb b.inf) g.terminal g.terminal (h.octets, h.suits))
 
-arriving : (l : Link) (u : UnderWay) (came : Came) (n : ℕ) → SoundCame came → SoundLink l → SoundLink (arrives tables l u came n)
-arriving l nothing came n h g = g
-arriving l (to_card b) came n h g = card_made l _ _ g (other_counts l l.exchanges l.services (l.disturbed + n) l.failed g) (card_going l.card l.card.waits came g.card g.card g.saved h)
-arriving l (to_terminal b) came n h g = terminal_made l _ _ g (other_counts l l.exchanges l.services (l.disturbed + n) l.failed g) (going l.terminal l.terminal.waits came g.terminal g.terminal h)
+arriving : (l : Link) (u : UnderWay) (came : Came) → SoundCame came → SoundLink l → SoundLink (arrives tables l u came)
+arriving l nothing came h g = g
+arriving l (to_card b) came h g = card_made l _ _ g (other_counts l l.exchanges l.services (l.disturbed + 1) l.failed g) (card_going l.card l.card.waits came g.card g.card g.saved h)
+arriving l (to_terminal b) came h g = terminal_made l _ _ g (other_counts l l.exchanges l.services (l.disturbed + 1) l.failed g) (going l.terminal l.terminal.waits came g.terminal g.terminal h)
 
 losing : (l : Link) (u : UnderWay) → SoundLink l → SoundLink (lost tables l u)
 losing l nothing g = g
@@ -364,8 +364,8 @@ losing l (to_terminal b) g = terminal_made l _ _ g (other_counts l l.exchanges l
 
 kept_sound : (e : Event) (l : Link) → HandsOctets e → SoundLink l → SoundLink (happens tables l e)
 kept_sound delivers l h g = delivering l l.under_way g.way g
-kept_sound damages l h g = arriving l l.under_way damaged 1 tt g
-kept_sound spoils l h g = arriving l l.under_way invalid 1 tt g
+kept_sound damages l h g = arriving l l.under_way damaged tt g
+kept_sound spoils l h g = arriving l l.under_way invalid tt g
 kept_sound loses l h g = losing l l.under_way g
 kept_sound (transmits m) l h g = terminal_made l _ _ g (other_counts l (unanswered m ∷ l.exchanges) l.services 0 0 g) (transmitting l.terminal m h)
 kept_sound (asks_ifsd n) l h g = terminal_made l _ _ g (other_counts l l.exchanges l.services 0 0 g) (asking_size l.terminal n h)
