@@ -31,13 +31,13 @@ use Rattle.tlv_core.proofs.Taking.{under_of, octets_under, well_under, need_unde
 -- ---- an octet of a header
 
 -- all that is known where an octet of a header comes
-record Before (b : List ℕ) (k : Kept) (x : ℕ) (next : Next) : Type 0 where
+pub record Before (b : List ℕ) (k : Kept) (x : ℕ) (next : Next) : Type 0 where
   pub held : Held b k
   pub header : under_octets held.under ≡ k.header
   pub is_header : IsHeader held.under
   pub room : next_need next < room_of (k.max - length b) k.rooms
 
-before_of : (b : List ℕ) (k : Kept) (x : ℕ) (next : Next) → HasTaken b k → k.value_left ≡ 0 → IsStep k x next → Before b k x next
+pub before_of : (b : List ℕ) (k : Kept) (x : ℕ) (next : Next) → HasTaken b k → k.value_left ≡ 0 → IsStep k x next → Before b k x next
 before_of b k x next h z step =
     let s = held_of b k h in
     let under = held_header k (1 + length k.rooms) k.max (length b) k.rooms s.under s.ok s.is z in
@@ -49,7 +49,7 @@ before_of b k x next h z step =
     }
 
 -- the list stands at one of the depths of objects
-depth_of : (b : List ℕ) (k : Kept) (x : ℕ) (next : Next) (p : Before b k x next) → IsStep k x next → (x ≡ 0 → k.header ≡ [] → ⊥) → 1 + length k.rooms ≤ deepest
+pub depth_of : (b : List ℕ) (k : Kept) (x : ℕ) (next : Next) (p : Before b k x next) → IsStep k x next → (x ≡ 0 → k.header ≡ [] → ⊥) → 1 + length k.rooms ≤ deepest
 depth_of b k x next p step object =
     shallow_at (1 + length k.rooms) p.held.under p.held.ok p.is_header (λ empty.
     let none : k.header ≡ [] = sym p.header ∙ empty in

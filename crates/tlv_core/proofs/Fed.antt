@@ -24,7 +24,7 @@ nothing_of : (m : ℕ) → take {A = ℕ} m [] ≡ []
 nothing_of zero = refl
 nothing_of (suc m) = refl
 
-take_taken_more : (n m : ℕ) (l : List ℕ) → take n l ++ take m (drop n l) ≡ take (n + m) l
+pub take_taken_more : (n m : ℕ) (l : List ℕ) → take n l ++ take m (drop n l) ≡ take (n + m) l
 take_taken_more zero m l = let e : m ≡ zero + m = omega arith in ap (λ (k : ℕ). take k l) e
 take_taken_more (suc n) m [] = nothing_of m ∙ sym (nothing_of (suc n + m))
 take_taken_more (suc n) m (x ∷ l) = let e : suc (n + m) ≡ suc n + m = omega arith in ap (λ (k : List ℕ). x ∷ k) (take_taken_more n m l) ∙ ap (λ (k : ℕ). take k (x ∷ l)) e
@@ -46,7 +46,7 @@ fed_more before now after piece rest taken n fed is le limit step =
           subst (λ (l : List ℕ). HasTaken l after) (append_assoc b (take taken piece) (take n rest) ∙ ap (λ (l : List ℕ). b ++ (take taken piece ++ take n l)) is ∙ ap (λ (l : List ℕ). b ++ l) (take_taken_more taken n piece)) more;
     }
 
-first_left : (taken : ℕ) (piece rest : List ℕ) → taken < length piece → rest ≡ drop taken piece → (more : List ℕ) × (rest ≡ get_or rest 0 0 ∷ more)
+pub first_left : (taken : ℕ) (piece rest : List ℕ) → taken < length piece → rest ≡ drop taken piece → (more : List ℕ) × (rest ≡ get_or rest 0 0 ∷ more)
 first_left taken piece [] lt is = absurd (omega (arith, ap length is, length-drop taken piece))
 first_left taken piece (x ∷ more) lt is = (more, refl)
 

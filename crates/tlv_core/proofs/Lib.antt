@@ -24,3 +24,8 @@ pub mod Somewhere
 pub mod Listing
 pub mod Knowns
 pub mod Building
+pub mod Growing
+pub mod Grows
+pub mod Placing
+pub mod Flattening
+pub mod Walked

@@ -20,3 +20,5 @@ pub mod Check
 pub mod Own
 pub mod Fill
 pub mod Built
+pub mod Grown
+pub mod Flat

@@ -3,6 +3,8 @@
 ghost use Rattle.std.specs.Prelude.{◌≡◌, ◌+◌, ◌<◌, ◌≤◌, MatchOption};
 ghost use Rattle.tlv_core.specs.Reasons.{BeginsLength};
 
+use arrayvec::ArrayVec;
+
 /// The form of a length field, by its number of octets (EMV 4.3 Book 3, Annex B; ISO/IEC 7816-4,
 /// clause 5.2.2). A form that is longer than its length needs is a form as well.
 #[derive(Clone, Copy, Debug, PartialEq, Eq)]
@@ -21,6 +23,7 @@ pub enum Form {
 
 impl Form {
     ghost use Rattle.tlv_core.specs.Form.{further, capacity, shortest};
+    ghost use Rattle.tlv_core.specs.Tag.{length_field};
 
     /// The number of octets after the first one.
     pub(crate) fn further(self) -> u8
@@ -62,6 +65,27 @@ impl Form {
             Form::Four => 0x100_0000,
             Form::Five => 0x1_0000_0000,
         }
+    }
+
+    /// The length field of this form that says `len`, which the form can say: one to five octets.
+    pub(crate) fn field(self, len: usize) -> ArrayVec<u8, 5>
+        requires { len < capacity self }
+        ensures { result.items ≡ length_field self len }
+    {
+        let low = (len % 0x100) as u8;
+        let second = (len / 0x100 % 0x100) as u8;
+        let third = (len / 0x1_0000 % 0x100) as u8;
+        let high = (len / 0x100_0000 % 0x100) as u8;
+        let mut octets = ArrayVec::new();
+        let all = match self {
+            Form::One => octets.try_extend_from_slice(&[low]),
+            Form::Two => octets.try_extend_from_slice(&[0x81, low]),
+            Form::Three => octets.try_extend_from_slice(&[0x82, second, low]),
+            Form::Four => octets.try_extend_from_slice(&[0x83, third, second, low]),
+            Form::Five => octets.try_extend_from_slice(&[0x84, high, third, second, low]),
+        };
+        all.unwrap();
+        octets
     }
 
     /// The form of fewest octets that can say the length.

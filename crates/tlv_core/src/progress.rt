@@ -68,6 +68,20 @@ impl Progress {
         self.count
     }
 
+    /// How many objects are open.
+    pub(crate) fn level(&self) -> usize
+        ensures { result ≡ length (kept_of self.now).rooms }
+    {
+        self.ends.len()
+    }
+
+    /// How many octets are to come of the primitive value under way, or 0.
+    pub(crate) fn value_left(&self) -> usize
+        ensures { result ≡ self.now.value_left }
+    {
+        self.value_left
+    }
+
     /// Whether nothing is under way: whole objects and fillers were taken, and no object is open.
     pub(crate) fn is_idle(&self) -> bool
         ensures { IsTrue result ↔ IsIdle (kept_of self.now) }
@@ -104,7 +118,7 @@ impl Progress {
     }
 
     /// Takes a run of the value under way.
-    fn skip(&mut self, run: usize)
+    pub(crate) fn skip(&mut self, run: usize)
         requires { run ≤ self.old.value_left }
         ensures { kept_of self.new ≡ after_run (kept_of self.old) run }
     {

@@ -2,7 +2,7 @@
 
 ghost use Rattle.std.specs.Prelude.{◌≡◌, ℕ, ◌<◌, ◌≤◌, ◌++◌, length, OnOk, IfOk};
 ghost use Rattle.tlv_core.specs.Form.{capacity};
-ghost use Rattle.tlv_core.specs.Tag.{header_of, length_field};
+ghost use Rattle.tlv_core.specs.Tag.{header_of};
 ghost use Rattle.tlv_core.specs.Forest.{spelling, largest, IsForest, IsProper};
 
 use crate::forest::Forest;
@@ -49,23 +49,5 @@ fn append_header(out: &mut Vec<u8>, tag: &Tag, form: Form, len: usize) -> Result
     ensures { OnOk result (out.new.items ≡ out.old.items ++ header_of tag.now form len) }
 {
     out.extend_from_slice(tag.octets())?;
-    append_length(out, form, len)
-}
-
-/// Adds a length field.
-fn append_length(out: &mut Vec<u8>, form: Form, len: usize) -> Result<(), AllocError>
-    requires { len < capacity form }
-    ensures { OnOk result (out.new.items ≡ out.old.items ++ length_field form len) }
-{
-    let low = (len % 0x100) as u8;
-    let second = (len / 0x100 % 0x100) as u8;
-    let third = (len / 0x1_0000 % 0x100) as u8;
-    let high = (len / 0x100_0000 % 0x100) as u8;
-    match form {
-        Form::One => out.extend_from_slice(&[low]),
-        Form::Two => out.extend_from_slice(&[0x81, low]),
-        Form::Three => out.extend_from_slice(&[0x82, second, low]),
-        Form::Four => out.extend_from_slice(&[0x83, third, second, low]),
-        Form::Five => out.extend_from_slice(&[0x84, high, third, second, low]),
-    }
+    out.extend_from_slice(form.field(len).as_slice())
 }

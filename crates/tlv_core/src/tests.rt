@@ -7,6 +7,8 @@ use crate::{
 use octet_core::{Format, Octets, Refused, Stop, hex_upper, octets_of};
 use std::test::Fail;
 
+mod parts;
+
 /// The tag of these octets.
 fn tag(rt: &HostRuntime, text: &str) -> Result<Tag, Fail> {
     let octets = octets_of(rt.alloc(), text)?;

@@ -1,0 +1,127 @@
+//! The parts of a forest, flat and without copies.
+
+ghost use Rattle.std.specs.Prelude.{◌≡◌, ℕ, ◌<◌, ◌≤◌, length, map, drop, take, IfOk, IfErr, OnOk, ◌∷◌, []};
+ghost use Rattle.octet_core.specs.Grammar.{Accepts, RefusesUnlessMemory, whole};
+ghost use Rattle.tlv_core.specs.Form.{capacity};
+ghost use Rattle.tlv_core.specs.Tree.{Tree};
+ghost use Rattle.tlv_core.specs.Forest.{IsForest};
+ghost use Rattle.tlv_core.specs.Reasons.{IsReason};
+ghost use Rattle.tlv_core.specs.Progress.{kept_of};
+ghost use Rattle.octet_core.specs.declared.stop.Refused.TheVariants.{Memory};
+ghost use Rattle.tlv_core.specs.Flat.{part_seen, parts_in, IsKeptPart, HasFlat};
+
+use crate::header::ObjectHeader;
+use crate::part::Part;
+use crate::progress::Progress;
+use crate::reason::TlvReason;
+use octet_core::{Refused, Stop};
+use std::alloc::Global;
+use std::marker::Model;
+
+/// The objects of a forest in the order of their headers, each before those inside it, without the
+/// fillers. Their values are lent from the octets of the forest.
+///
+/// Contracts see the list of parts, each with the octets of its value.
+#[derive(Drop)]
+pub struct FlatForest<'a> {
+    parts: Vec<Part<'a>>,
+}
+
+impl<'a> Model for FlatForest<'a> {
+    ghost use Rattle.std.specs.Prelude.{List, map};
+    ghost use Rattle.tlv_core.specs.Flat.{PartValue, part_seen};
+
+    ghost Value = { List PartValue };
+
+    ghost view = { λ flat. map part_seen flat.parts.items };
+}
+
+impl<'a> FlatForest<'a> {
+    /// The parts of the forest that all the octets spell, at most `max` of them, itself at most
+    /// 1,048,576; or why they spell none: `Short` at their end where a forest goes on, `At` the first
+    /// octet after which none does, or want of memory.
+    pub fn read(
+        alloc: Global,
+        octets: &'a [u8],
+        max: usize,
+    ) -> Result<FlatForest<'a>, Refused<TlvReason>>
+        requires { max ≤ 1048576 }
+        ensures found { IfOk result (λ _. (t : Tree) × Accepts whole (IsForest max) octets.now t (length octets.now)) }
+        ensures parts { IfOk result (λ flat. (t : Tree) → IsForest max t octets.now → flat ≡ parts_in octets.now t) }
+        ensures refused { IfErr result (RefusesUnlessMemory whole (IsForest max) (IsReason max) octets.now) }
+    {
+        let mut progress = Progress::new(max);
+        let mut parts = Vec::new(alloc);
+        while progress.count() < octets.len() {
+            advance(&mut progress, &mut parts, octets)?;
+        }
+        if progress.is_idle() {
+            return Ok(FlatForest { parts });
+        }
+        Err(Refused::Stop(Stop::Short {
+            place: progress.count(),
+        }))
+    }
+
+    /// The parts, lent.
+    pub fn parts(&self) -> &[Part<'a>]
+        ensures { map part_seen result.now ≡ self.now }
+    {
+        self.parts.as_slice()
+    }
+}
+
+/// Takes the next octets of a forest: a run of the value under way, or one octet of a header. Where
+/// that completes the header of an object, its part is kept.
+fn advance<'a>(
+    progress: &mut Progress,
+    parts: &mut Vec<Part<'a>>,
+    octets: &'a [u8],
+) -> Result<(), Refused<TlvReason>>
+    requires { progress.old.count < length octets.now }
+    ensures limit { progress.new.max ≡ progress.old.max }
+    ensures more { OnOk result (progress.old.count < progress.new.count) }
+    ensures ok { OnOk result (HasFlat octets.now (kept_of progress.old) parts.old.items → HasFlat octets.now (kept_of progress.new) parts.new.items) }
+    ensures err { IfErr result (λ refused. HasFlat octets.now (kept_of progress.old) parts.old.items → RefusesUnlessMemory whole (IsForest progress.old.max) (IsReason progress.old.max) octets.now refused) }
+{
+    let left = progress.value_left();
+    if left > 0 {
+        progress.skip(left.min(octets.len() - progress.count()));
+        return Ok(());
+    }
+    let depth = progress.level() + 1;
+    match progress.take(octets[progress.count()]) {
+        Ok(next) => match next.object() {
+            Some(object) => keep(parts, depth, object, octets, progress.count()),
+            None => Ok(()),
+        },
+        Err(reason) => Err(Refused::Stop(progress.refusal(reason).stop())),
+    }
+}
+
+/// Keeps the part of an object whose value begins at `place`. Where the octets end before it does, the
+/// part has those that there are.
+fn keep<'a>(
+    parts: &mut Vec<Part<'a>>,
+    depth: usize,
+    object: ObjectHeader,
+    octets: &'a [u8],
+    place: usize,
+) -> Result<(), Refused<TlvReason>>
+    requires place { place ≤ length octets.now }
+    requires fits { object.len < capacity object.form }
+    ensures ok { OnOk result (IsKeptPart octets.now (record { depth = depth; tag = object.tag; form = object.form; place = place; len = object.len }) parts.old.items parts.new.items) }
+    ensures err { IfErr result (λ refused. refused ≡ Memory) }
+{
+    let rest = &octets[place..];
+    let part = Part {
+        depth,
+        tag: object.tag,
+        form: object.form,
+        value: &rest[..rest.len().min(object.len as usize)],
+    };
+    match parts.push(part) {
+        Ok(()) => Ok(()),
+        Err(_) => Err(Refused::Memory),
+    }
+}
