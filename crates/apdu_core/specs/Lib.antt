@@ -1,0 +1,6 @@
+pub mod Command
+pub mod Borrowed
+pub mod Response
+pub mod Status
+pub mod Sending
+pub mod Arrival

@@ -1,0 +1,39 @@
+-- Response APDUs, and the octets that spell them: ISO/IEC 7816-3, clause 12, and ISO/IEC 7816-4, clause 5.1.
+use Rattle.std.specs.Prelude.{◌≡◌, ℕ, ◌≤◌, List, [], ◌∷◌, ◌++◌, length}
+use Rattle.octet_core.specs.Octets.{AreOctets}
+use Rattle.octet_core.specs.Grammar.{IsFirst}
+use Rattle.apdu_core.specs.declared.reason.ResponseReason.{ResponseReason}
+use Rattle.apdu_core.specs.declared.reason.ResponseReason.TheVariants.{TooLong}
+
+-- the longest data field
+abbrev pub longest_part : ℕ
+longest_part = 65536
+
+-- what a response carries: a data field and the status bytes
+pub record ResponseParts : Type 0 where
+  pub part : List ℕ
+  pub sw1 : ℕ
+  pub sw2 : ℕ
+
+abbrev pub spelling : ResponseParts → List ℕ
+spelling r = r.part ++ r.sw1 ∷ r.sw2 ∷ []
+
+-- what has a spelling
+pub record IsProper (r : ResponseParts) : Type 0 where
+  pub part : length r.part ≤ longest_part
+
+-- the octets b spell the response r
+pub record IsResponse (r : ResponseParts) (b : List ℕ) : Type 0 where
+  pub proper : IsProper r
+  pub octets : AreOctets b
+  pub is : b ≡ spelling r
+
+abbrev pub HasSpelling : ResponseParts → Type 0
+HasSpelling r = (b : List ℕ) × IsResponse r b
+
+-- the first octets b meet this line of the table of reasons
+abbrev pub Meets : List ℕ → ResponseReason → Type 0
+Meets b TooLong = length b ≡ 65539
+
+abbrev pub IsReason : ResponseReason → List ℕ → Type 0
+IsReason r b = IsFirst (TooLong ∷ []) (Meets b) r

@@ -1,0 +1,162 @@
+//! Command APDUs as values.
+
+ghost use Rattle.std.specs.Prelude.{◌↔◌, IsTrue, length};
+ghost use Rattle.octet_core.specs.Octets.{AreOctets};
+ghost use Rattle.apdu_core.specs.Command.{IsCount};
+
+use octet_core::Octets;
+use std::marker::Model;
+
+/// What follows the header of a command (ISO/IEC 7816-3, clause 12), in its seven shapes: a data field
+/// of Lc octets, and Le, the greatest number of octets that are expected back. A short length field has
+/// one octet, in which Le 256 is written 00; an extended one has two, in which Le 65,536 is written
+/// 0000, and the first of a body is announced by an octet 00.
+#[derive(Debug, PartialEq, Eq, Drop)]
+pub enum Body {
+    /// Case 1: nothing.
+    Empty,
+    /// Case 2 short: `le` is 1 to 256.
+    ShortLe { le: u32 },
+    /// Case 3 short: a part of 1 to 255 octets.
+    ShortPart { part: Octets },
+    /// Case 4 short: a part of 1 to 255 octets, and `le` 1 to 256.
+    ShortBoth { part: Octets, le: u32 },
+    /// Case 2 extended: `le` is 1 to 65,536.
+    LongLe { le: u32 },
+    /// Case 3 extended: a part of 1 to 65,535 octets.
+    LongPart { part: Octets },
+    /// Case 4 extended: a part of 1 to 65,535 octets, and `le` 1 to 65,536.
+    LongBoth { part: Octets, le: u32 },
+}
+
+/// Which of its seven shapes a body has.
+#[derive(Clone, Copy, Debug, PartialEq, Eq)]
+pub enum Shape {
+    /// Case 1.
+    Empty,
+    /// Case 2 short.
+    ShortLe,
+    /// Case 3 short.
+    ShortPart,
+    /// Case 4 short.
+    ShortBoth,
+    /// Case 2 extended.
+    LongLe,
+    /// Case 3 extended.
+    LongPart,
+    /// Case 4 extended.
+    LongBoth,
+}
+
+/// A command (ISO/IEC 7816-3, clause 12): CLA, INS, P1 and P2, and a body whose numbers its length
+/// fields can tell. Its spelling has 4 to 65,544 octets.
+#[derive(Debug, PartialEq, Eq, Drop)]
+pub struct Command {
+    header: [u8; 4],
+    body: Body,
+}
+
+impl Model for Command {
+    ghost use Rattle.apdu_core.specs.Command.{CommandParts, IsProper};
+
+    ghost Value = { CommandParts };
+
+    ghost view = { λ c. record { header = c.header; body = c.body } };
+
+    ghost inverse = { λ c. record { header = c.header; body = c.body } };
+
+    ghost invariant = { λ c. IsProper (record { header = c.header; body = c.body }) };
+}
+
+impl Command {
+    ghost use Rattle.std.specs.Prelude.{◌≡◌, OnOk, OnErr, IfOk, IfErr};
+    ghost use Rattle.apdu_core.specs.Command.{FitsFields, HasSpelling, IsProper};
+
+    /// The command of this header, CLA, INS, P1 and P2, and this body, exactly where it has a spelling. The
+    /// body comes back where its part or its `le` has none of the lengths or numbers of its shape.
+    pub fn new(header: [u8; 4], body: Body) -> Result<Command, Body>
+        ensures value { IfOk result (λ c. c ≡ record { header = header; body = body }) }
+        ensures spelled { IfOk result HasSpelling }
+        ensures back { IfErr result (λ back. back ≡ body) }
+        ensures unfit { OnErr result (FitsFields body → ⊥) }
+    {
+        if body.fits() {
+            Ok(Command { header, body })
+        } else {
+            Err(body)
+        }
+    }
+
+    /// The command of these parts, which have a spelling.
+    pub(crate) fn of_parts(header: [u8; 4], body: Body) -> Command
+        requires { FitsFields body }
+        ensures { result ≡ record { header = header; body = body } }
+    {
+        Command { header, body }
+    }
+
+    /// CLA, INS, P1 and P2.
+    pub fn header(&self) -> [u8; 4]
+        ensures { result ≡ self.now.header }
+    {
+        self.header
+    }
+
+    /// What follows the header.
+    pub fn body(&self) -> &Body
+        ensures body { result.now ≡ self.now.body }
+        ensures proper { IsProper self.now }
+    {
+        &self.body
+    }
+}
+
+impl Body {
+    ghost use Rattle.std.specs.Prelude.{◌≡◌};
+    ghost use Rattle.octet_core.specs.Octets.{AreOctets};
+    ghost use Rattle.apdu_core.specs.Command.{FitsFields, part_of};
+
+    /// Whether the length fields can tell the numbers of the body.
+    fn fits(&self) -> bool
+        ensures fits { IsTrue result ↔ FitsFields self.now }
+        ensures octets { AreOctets (part_of self.now) }
+    {
+        match self {
+            Body::Empty => true,
+            Body::ShortLe { le } => is_count(*le, 256),
+            Body::ShortPart { part } => is_part(part.get(), 255),
+            Body::ShortBoth { part, le } => is_part(part.get(), 255) && is_count(*le, 256),
+            Body::LongLe { le } => is_count(*le, 65_536),
+            Body::LongPart { part } => is_part(part.get(), 65_535),
+            Body::LongBoth { part, le } => is_part(part.get(), 65_535) && is_count(*le, 65_536),
+        }
+    }
+
+    /// The data field, none where there is none.
+    pub(crate) fn part(&self) -> &[u8]
+        ensures { result.now ≡ part_of self.now }
+    {
+        match self {
+            Body::Empty | Body::ShortLe { .. } | Body::LongLe { .. } => &[],
+            Body::ShortPart { part }
+            | Body::ShortBoth { part, .. }
+            | Body::LongPart { part }
+            | Body::LongBoth { part, .. } => part.get(),
+        }
+    }
+}
+
+/// Whether a length field that tells at most `most` can tell this number.
+fn is_count(number: u32, most: u32) -> bool
+    ensures { IsTrue result ↔ IsCount number most }
+{
+    (1..=most).contains(&number)
+}
+
+/// Whether a length field that tells at most `most` can tell the length of this data field.
+fn is_part(part: &[u8], most: usize) -> bool
+    ensures count { IsTrue result ↔ IsCount (length part.now) most }
+    ensures octets { AreOctets part.now }
+{
+    (1..=most).contains(&part.len())
+}

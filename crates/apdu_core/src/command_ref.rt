@@ -1,0 +1,272 @@
+//! Commands read where their octets stand.
+
+ghost use Rattle.std.specs.Prelude.{◌≡◌, ◌≢◌, ◌≤◌, ◌<◌, ◌∷◌, [], IfOk, IfErr, length, slice_index};
+ghost use Rattle.octet_core.specs.declared.stop.Stop.TheVariants.{At, Short};
+ghost use Rattle.octet_core.specs.Grammar.{whole, Accepts, Refuses};
+ghost use Rattle.apdu_core.specs.Command.{IsCommand, IsReason, IsCount, short_of, long_of};
+ghost use Rattle.apdu_core.specs.declared.reason.CommandReason.TheVariants.{Trailing};
+
+use crate::command::{Body, Command, Shape};
+use crate::reason::CommandReason;
+use octet_core::{Octets, Stop};
+use std::alloc::{AllocError, Global};
+use std::marker::Model;
+
+/// The body of a command, with its data field in the octets that were read.
+#[derive(Clone, Copy, Debug, PartialEq, Eq)]
+pub(crate) enum BodyRef<'a> {
+    Empty,
+    ShortLe { le: u32 },
+    ShortPart { part: &'a [u8] },
+    ShortBoth { part: &'a [u8], le: u32 },
+    LongLe { le: u32 },
+    LongPart { part: &'a [u8] },
+    LongBoth { part: &'a [u8], le: u32 },
+}
+
+/// A command whose data field stands in the octets from which it was read (ISO/IEC 7816-3, clause 12).
+#[derive(Debug, Drop)]
+pub struct CommandRef<'a> {
+    header: [u8; 4],
+    body: BodyRef<'a>,
+}
+
+impl<'a> Model for CommandRef<'a> {
+    ghost use Rattle.apdu_core.specs.Command.{CommandParts, IsProper};
+
+    ghost Value = { CommandParts };
+
+    ghost use Rattle.apdu_core.specs.Borrowed.{body_of};
+
+    ghost view = { λ c. record { header = c.header; body = body_of c.body } };
+
+    ghost invariant = { λ c. IsProper (record { header = c.header; body = body_of c.body }) };
+}
+
+impl<'a> CommandRef<'a> {
+    ghost use Rattle.apdu_core.specs.Command.{shape_of, part_of, le_of, IsPlaced};
+
+    /// The command that all these octets are. It takes no memory, and time that doesn't grow with them:
+    /// only the length, the header and the length fields are looked at.
+    ///
+    /// Octets with which a command could still go on are `Short` at their end. Else the first octet after
+    /// the last that the length fields allow is refused, as `Trailing`.
+    pub fn decode(octets: &'a [u8]) -> Result<CommandRef<'a>, Stop<CommandReason>>
+        ensures found { IfOk result (λ c. Accepts whole IsCommand octets.now c (length octets.now)) }
+        ensures part { IfOk result (λ c. IsPlaced c.body octets.now) }
+        ensures refused { IfErr result (Refuses whole IsCommand IsReason octets.now) }
+    {
+        let Some((header, _)) = octets.split_first_chunk::<4>() else {
+            return Err(short(octets));
+        };
+        let body = BodyRef::read(octets)?;
+        Ok(CommandRef {
+            header: *header,
+            body,
+        })
+    }
+
+    /// CLA, INS, P1 and P2.
+    pub fn header(&self) -> [u8; 4]
+        ensures { result ≡ self.now.header }
+    {
+        self.header
+    }
+
+    /// Which of the seven shapes the body has.
+    pub fn shape(&self) -> Shape
+        ensures { result ≡ shape_of self.now.body }
+    {
+        match self.body {
+            BodyRef::Empty => Shape::Empty,
+            BodyRef::ShortLe { .. } => Shape::ShortLe,
+            BodyRef::ShortPart { .. } => Shape::ShortPart,
+            BodyRef::ShortBoth { .. } => Shape::ShortBoth,
+            BodyRef::LongLe { .. } => Shape::LongLe,
+            BodyRef::LongPart { .. } => Shape::LongPart,
+            BodyRef::LongBoth { .. } => Shape::LongBoth,
+        }
+    }
+
+    /// The data field, lent from the octets that were read, where it stands behind Lc; of a body without
+    /// one no octets.
+    pub fn part(&self) -> &'a [u8]
+        ensures { result.now ≡ part_of self.now.body }
+    {
+        match self.body {
+            BodyRef::Empty | BodyRef::ShortLe { .. } | BodyRef::LongLe { .. } => &[],
+            BodyRef::ShortPart { part }
+            | BodyRef::ShortBoth { part, .. }
+            | BodyRef::LongPart { part }
+            | BodyRef::LongBoth { part, .. } => part,
+        }
+    }
+
+    /// The greatest number of octets that are expected back, 1 to 256 in a short field and 1 to 65,536 in
+    /// an extended one; `None` where there is no such field.
+    pub fn le(&self) -> Option<u32>
+        ensures { result ≡ le_of self.now.body }
+    {
+        match self.body {
+            BodyRef::Empty | BodyRef::ShortPart { .. } | BodyRef::LongPart { .. } => None,
+            BodyRef::ShortLe { le }
+            | BodyRef::ShortBoth { le, .. }
+            | BodyRef::LongLe { le }
+            | BodyRef::LongBoth { le, .. } => Some(le),
+        }
+    }
+
+    /// The command with a copy of its data field.
+    pub(crate) fn copied(&self, alloc: Global) -> Result<Command, AllocError>
+        ensures { IfOk result (λ c. c ≡ self.now) }
+    {
+        let body = self.body.copied(alloc)?;
+        Ok(Command::of_parts(self.header, body))
+    }
+}
+
+impl<'a> BodyRef<'a> {
+    ghost use Rattle.apdu_core.specs.Borrowed.{IsBodyOf, body_of};
+
+    /// The body behind the header of a command.
+    fn read(octets: &'a [u8]) -> Result<BodyRef<'a>, Stop<CommandReason>>
+        requires { 4 ≤ length octets.now }
+        ensures found { IfOk result (λ body. IsBodyOf octets.now (body_of body)) }
+        ensures refused { IfErr result (Refuses whole IsCommand IsReason octets.now) }
+    {
+        match &octets[4..] {
+            [] => Ok(BodyRef::Empty),
+            [le] => Ok(BodyRef::ShortLe { le: short_le(*le) }),
+            [0, ..] => BodyRef::read_long(octets),
+            [_, ..] => BodyRef::read_short(octets),
+        }
+    }
+
+    /// A body that begins with a short Lc.
+    fn read_short(octets: &'a [u8]) -> Result<BodyRef<'a>, Stop<CommandReason>>
+        requires more { 5 < length octets.now }
+        requires lc { slice_index octets.now 4 ≢ 0 }
+        ensures found { IfOk result (λ body. IsBodyOf octets.now (body_of body)) }
+        ensures refused { IfErr result (Refuses whole IsCommand IsReason octets.now) }
+    {
+        let lc = octets[4] as usize;
+        let Some((part, rest)) = octets[5..].split_at_checked(lc) else {
+            return Err(short(octets));
+        };
+        match rest {
+            [] => Ok(BodyRef::ShortPart { part }),
+            [le] => Ok(BodyRef::ShortBoth {
+                part,
+                le: short_le(*le),
+            }),
+            _ => Err(trailing(lc + 6)),
+        }
+    }
+
+    /// A body that begins with an extended Lc or Le.
+    fn read_long(octets: &'a [u8]) -> Result<BodyRef<'a>, Stop<CommandReason>>
+        requires more { 5 < length octets.now }
+        requires long { slice_index octets.now 4 ≡ 0 }
+        ensures found { IfOk result (λ body. IsBodyOf octets.now (body_of body)) }
+        ensures refused { IfErr result (Refuses whole IsCommand IsReason octets.now) }
+    {
+        let [_, _, _, _, _, high, low, rest @ ..] = octets else {
+            return Err(short(octets));
+        };
+        if rest.is_empty() {
+            return Ok(BodyRef::LongLe {
+                le: long_le(*high, *low),
+            });
+        }
+        let lc = usize::from(*high) * 256 + usize::from(*low);
+        if lc == 0 {
+            return Err(trailing(7));
+        }
+        let Some((part, rest)) = rest.split_at_checked(lc) else {
+            return Err(short(octets));
+        };
+        match rest {
+            [] => Ok(BodyRef::LongPart { part }),
+            [_] => Err(short(octets)),
+            [high, low] => Ok(BodyRef::LongBoth {
+                part,
+                le: long_le(*high, *low),
+            }),
+            _ => Err(trailing(lc + 9)),
+        }
+    }
+
+    /// The body with a copy of its data field.
+    fn copied(&self, alloc: Global) -> Result<Body, AllocError>
+        ensures { IfOk result (λ body. body ≡ body_of self.now) }
+    {
+        match *self {
+            BodyRef::Empty => Ok(Body::Empty),
+            BodyRef::ShortLe { le } => Ok(Body::ShortLe { le }),
+            BodyRef::ShortPart { part } => Ok(Body::ShortPart {
+                part: copy_of(alloc, part)?,
+            }),
+            BodyRef::ShortBoth { part, le } => Ok(Body::ShortBoth {
+                part: copy_of(alloc, part)?,
+                le,
+            }),
+            BodyRef::LongLe { le } => Ok(Body::LongLe { le }),
+            BodyRef::LongPart { part } => Ok(Body::LongPart {
+                part: copy_of(alloc, part)?,
+            }),
+            BodyRef::LongBoth { part, le } => Ok(Body::LongBoth {
+                part: copy_of(alloc, part)?,
+                le,
+            }),
+        }
+    }
+}
+
+/// A copy of these octets.
+pub(crate) fn copy_of(alloc: Global, octets: &[u8]) -> Result<Octets, AllocError>
+    ensures { IfOk result (λ copy. copy ≡ octets.now) }
+{
+    let copy = Vec::from_slice(alloc, octets)?;
+    Ok(Octets::of(copy))
+}
+
+/// A command could still go on where the octets end.
+fn short(octets: &[u8]) -> Stop<CommandReason>
+    ensures { result ≡ Short (length octets.now) }
+{
+    Stop::Short {
+        place: octets.len(),
+    }
+}
+
+/// No command goes on with the octet at this place.
+fn trailing(place: usize) -> Stop<CommandReason>
+    ensures { result ≡ At place Trailing }
+{
+    Stop::At {
+        place,
+        reason: CommandReason::Trailing,
+    }
+}
+
+/// The number that a short Le tells.
+fn short_le(octet: u8) -> u32
+    ensures count { IsCount result 256 }
+    ensures spelled { short_of result ≡ octet ∷ [] }
+{
+    match octet {
+        0 => 256,
+        _ => u32::from(octet),
+    }
+}
+
+/// The number that an extended Le tells.
+fn long_le(high: u8, low: u8) -> u32
+    ensures count { IsCount result 65536 }
+    ensures spelled { long_of result ≡ high ∷ low ∷ [] }
+{
+    match u32::from(high) * 256 + u32::from(low) {
+        0 => 65_536,
+        number => number,
+    }
+}

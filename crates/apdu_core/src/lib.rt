@@ -1,0 +1,33 @@
+//! Command and response APDUs (ISO/IEC 7816-3, clause 12; ISO/IEC 7816-4, clause 5.1), and their way
+//! through chains of blocks.
+//!
+//! A command is a header and one of seven bodies, a response a data field and two status bytes. Two
+//! grammars, `IsCommand` in `specs/Command.antt` and `IsResponse` in `specs/Response.antt`, relate them
+//! to whole lists of octets. `CommandRef` and `ResponseRef` give the whole verdict without memory, and
+//! lend the data field from the octets that they read; `decode_command` and `decode_response` copy it.
+//! `encode_command` and `encode_response` give the octets back, `send_command` and `send_response` write
+//! them as a chain, and `laws` says what holds of the two grammars, and of their chains.
+#![tactic(auto)]
+
+pub mod command;
+pub mod command_ref;
+pub mod decoding;
+pub mod encoding;
+pub mod laws;
+pub mod reason;
+pub mod response;
+pub mod response_ref;
+pub mod sending;
+pub mod status;
+#[cfg(test)]
+mod tests;
+
+pub use command::{Body, Command, Shape};
+pub use command_ref::CommandRef;
+pub use decoding::{decode_command, decode_response};
+pub use encoding::{encode_command, encode_response};
+pub use reason::{CommandReason, ResponseReason};
+pub use response::Response;
+pub use response_ref::ResponseRef;
+pub use sending::{SendFault, send_command, send_response};
+pub use status::{StatusClass, status_class};

@@ -1,0 +1,89 @@
+//! Responses read where their octets stand.
+
+ghost use Rattle.std.specs.Prelude.{◌≡◌, IfOk, IfErr, length, take, ◌-◌};
+ghost use Rattle.octet_core.specs.Grammar.{whole, Accepts, Refuses};
+ghost use Rattle.apdu_core.specs.Response.{ResponseParts, IsResponse, IsReason};
+
+use crate::command_ref::copy_of;
+use crate::reason::ResponseReason;
+use crate::response::{LONGEST_PART, Response};
+use octet_core::Stop;
+use std::alloc::{AllocError, Global};
+use std::marker::Model;
+
+/// A response whose data field stands in the octets from which it was read (ISO/IEC 7816-3, clause 12).
+#[derive(Debug, Drop)]
+pub struct ResponseRef<'a> {
+    part: &'a [u8],
+    sw1: u8,
+    sw2: u8,
+}
+
+impl<'a> Model for ResponseRef<'a> {
+    ghost use Rattle.apdu_core.specs.Response.{ResponseParts, IsProper};
+
+    ghost Value = { ResponseParts };
+
+    ghost view = { λ r. record { part = r.part.now; sw1 = r.sw1; sw2 = r.sw2 } };
+
+    ghost invariant = { λ r. IsProper (record { part = r.part.now; sw1 = r.sw1; sw2 = r.sw2 }) };
+}
+
+impl<'a> ResponseRef<'a> {
+    /// The response that all these octets are. It takes no memory, and time that doesn't grow with them:
+    /// only the length and the last two octets are looked at.
+    ///
+    /// Fewer than two octets are `Short` at their end; of more than 65,538 the one at place 65,538 is
+    /// refused, as `TooLong`.
+    pub fn decode(octets: &'a [u8]) -> Result<ResponseRef<'a>, Stop<ResponseReason>>
+        ensures found { IfOk result (λ r. Accepts whole IsResponse octets.now r (length octets.now)) }
+        ensures part { IfOk result (λ r. r.part ≡ take (length octets.now - 2) octets.now) }
+        ensures refused { IfErr result (Refuses whole IsResponse IsReason octets.now) }
+    {
+        let [part @ .., sw1, sw2] = octets else {
+            return Err(Stop::Short {
+                place: octets.len(),
+            });
+        };
+        if part.len() > LONGEST_PART {
+            return Err(Stop::At {
+                place: LONGEST_PART + 2,
+                reason: ResponseReason::TooLong,
+            });
+        }
+        Ok(ResponseRef {
+            part,
+            sw1: *sw1,
+            sw2: *sw2,
+        })
+    }
+
+    /// The data field, lent from the octets that were read, of which it is the front.
+    pub fn part(&self) -> &'a [u8]
+        ensures { result.now ≡ self.now.part }
+    {
+        self.part
+    }
+
+    /// The first status byte.
+    pub fn sw1(&self) -> u8
+        ensures { result ≡ self.now.sw1 }
+    {
+        self.sw1
+    }
+
+    /// The second status byte.
+    pub fn sw2(&self) -> u8
+        ensures { result ≡ self.now.sw2 }
+    {
+        self.sw2
+    }
+
+    /// The response with a copy of its data field.
+    pub(crate) fn copied(&self, alloc: Global) -> Result<Response, AllocError>
+        ensures { IfOk result (λ r. r ≡ self.now) }
+    {
+        let part = copy_of(alloc, self.part)?;
+        Ok(Response::of_parts(part, self.sw1, self.sw2))
+    }
+}

@@ -1,0 +1,87 @@
+//! APDUs written as chains.
+
+ghost use Rattle.std.specs.Prelude.{◌≤◌, OnOk, IfErr};
+ghost use Rattle.apdu_core.specs.Command.{IsCommand};
+ghost use Rattle.apdu_core.specs.Response.{IsResponse};
+ghost use Rattle.apdu_core.specs.Sending.{IsSent, IsSendFault};
+
+use crate::command::Command;
+use crate::encoding::{encode_command, encode_response};
+use crate::response::Response;
+use block_core::Number;
+use chain_core::write_chain;
+use octet_core::{Sink, WriteFault};
+use std::alloc::{AllocError, Global};
+
+/// Why no whole APDU was sent.
+#[derive(Clone, Copy, Debug, PartialEq, Eq)]
+pub enum SendFault {
+    /// Memory for the octets was refused; nothing was written.
+    Memory,
+    /// The writer failed, or took no octet, after the first `written` octets of the chain.
+    Write { written: usize },
+}
+
+impl From<AllocError> for SendFault {
+    ghost use Rattle.std.specs.Prelude.{◌≡◌};
+    ghost use Rattle.apdu_core.specs.declared.sending.SendFault.TheVariants.{Memory};
+
+    ghost from_gives = { λ _ fault. fault ≡ Memory };
+
+    fn from(_: AllocError) -> Self {
+        SendFault::Memory
+    }
+}
+
+impl From<WriteFault> for SendFault {
+    ghost use Rattle.std.specs.Prelude.{◌≡◌};
+    ghost use Rattle.apdu_core.specs.declared.sending.SendFault.TheVariants.{Write};
+
+    ghost from_gives = { λ write fault. fault ≡ Write write.written };
+
+    fn from(fault: WriteFault) -> Self {
+        SendFault::Write {
+            written: fault.written,
+        }
+    }
+}
+
+/// Writes the chain of a command (ISO/IEC 7816-3, clause 11.6): fields of `ifs` octets, 1 to 254, but for
+/// the last, and the first block with this number.
+///
+/// Where memory is refused nothing was written. At a fault of the writer it has taken the first
+/// `written` octets of the chain, fewer than all; a failed call isn't tried again.
+pub fn send_command<W: Sink>(
+    alloc: Global,
+    writer: &mut W,
+    command: &Command,
+    ifs: u8,
+    number: Number,
+) -> Result<(), SendFault>
+    requires least { 1 ≤ ifs }
+    requires most { ifs ≤ 254 }
+    ensures sent { OnOk result (IsSent IsCommand command.now ifs number W.contents W.failures writer.old writer.new) }
+    ensures fault { IfErr result (IsSendFault IsCommand command.now ifs number W.contents W.failures writer.old writer.new) }
+{
+    let octets = encode_command(alloc, command)?;
+    write_chain(writer, octets.as_slice(), ifs, number)?;
+    Ok(())
+}
+
+/// Writes the chain of a response, as `send_command` does that of a command.
+pub fn send_response<W: Sink>(
+    alloc: Global,
+    writer: &mut W,
+    response: &Response,
+    ifs: u8,
+    number: Number,
+) -> Result<(), SendFault>
+    requires least { 1 ≤ ifs }
+    requires most { ifs ≤ 254 }
+    ensures sent { OnOk result (IsSent IsResponse response.now ifs number W.contents W.failures writer.old writer.new) }
+    ensures fault { IfErr result (IsSendFault IsResponse response.now ifs number W.contents W.failures writer.old writer.new) }
+{
+    let octets = encode_response(alloc, response)?;
+    write_chain(writer, octets.as_slice(), ifs, number)?;
+    Ok(())
+}
