@@ -1,3 +1,5 @@
 pub mod Telling
-pub mod Reading
 pub mod OneAnswer
+pub mod Chains
+pub mod Forests
+pub mod Duplicates

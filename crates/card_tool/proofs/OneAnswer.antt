@@ -1,31 +1,62 @@
 -- That a request has one answer.
-use Rattle.std.proofs.Common.{◌≡◌, ◌≤◌, ◌∙◌, inl, inr, ℕ, List, ap, sym, refl}
+use Rattle.std.proofs.Common.{◌≡◌, ◌≤◌, ◌∙◌, inl, inr, ℕ, List, Result, Ok, Err, ap, length, subst, sym, refl}
 use Rattle.octet_core.specs.Octets.{AreOctets}
-use Rattle.octet_core.specs.Grammar.{Ending, OneVerdict, self_ended}
+use Rattle.octet_core.specs.Grammar.{Ending, OneVerdict, self_ended, whole}
 use Rattle.atr_core.specs.Atr as atr
 use Rattle.atr_core.specs.Atr.{IsAtr}
 use Rattle.atr_core.proofs.Goes as atr_goes
 use Rattle.block_core.specs.Block.{IsBlock, IsReason}
 use Rattle.block_core.proofs.Goes.{one-verdict}
-use Rattle.card_tool.specs.Answers.{Checks, HasOctets, IsAnswerTo, Shows, Tells, accepted, refused}
-use Rattle.card_tool.specs.Texts.{accepted_text, refused_text}
+use Rattle.card_tool.specs.Answers.{Checks, HasOctets, IsAnswerTo, IsFilled, IsFilledBy, Shows, Tells, accepted, refused, unknown, duplicate, full, listed, no_list}
+use Rattle.card_tool.specs.Texts.{accepted_text, duplicate_text, refused_text}
+use Rattle.card_words.specs.Texts.{fault_text}
+use Rattle.card_words.specs.declared.fault.Fault.{Fault}
+use Rattle.tlv_core.proofs.Entries.{dol_verdict}
+use Rattle.tlv_core.proofs.Verdict.{one_verdict as forest_verdict}
+use Rattle.card_tool.proofs.Duplicates.{duplicate-or-not}
 use Rattle.card_tool.specs.AtrTexts as atr_texts
 use Rattle.card_tool.specs.AtrTexts.{atr_text}
 use Rattle.card_tool.specs.BlockTexts.{block_text, reason_text}
-use Rattle.chain_core.specs.Chain.{links}
+use Rattle.chain_core.specs.Chain as chain
+use Rattle.chain_core.specs.Chain.{links, IsChain}
+use Rattle.chain_core.proofs.Goes as chain_goes
 use Rattle.chain_core.specs.Cut.{cut_of}
-use Rattle.card_tool.specs.ChainTexts.{blocks_text}
-use Rattle.card_tool.specs.Words.{IsSized}
-use Rattle.card_tool.specs.declared.request.Kind.{Kind}
-use Rattle.card_tool.specs.declared.request.Kind.TheVariants.{Atr, Block}
-use Rattle.card_tool.specs.declared.request.Input.{Input}
-use Rattle.card_tool.specs.declared.request.Request.{Request}
-use Rattle.card_tool.specs.declared.request.Request.TheVariants.{BuildChain, Check, Show, Help}
+use Rattle.card_tool.specs.ChainTexts as chain_texts
+use Rattle.card_tool.specs.ChainTexts.{blocks_text, chain_text, longest_message}
+use Rattle.apdu_core.specs.Command as command
+use Rattle.apdu_core.specs.Command.{IsCommand}
+use Rattle.apdu_core.specs.Response as response
+use Rattle.apdu_core.specs.Response.{IsResponse}
+use Rattle.apdu_core.proofs.Whole.{command-one_verdict, response-one_verdict}
+use Rattle.card_tool.specs.CommandTexts as command_texts
+use Rattle.card_tool.specs.CommandTexts.{command_text}
+use Rattle.card_tool.specs.ResponseTexts as response_texts
+use Rattle.card_tool.specs.ResponseTexts.{response_text}
+use Rattle.tlv_core.specs.Forest.{largest, IsForest}
+use Rattle.tlv_core.specs.Reasons as forest
+use Rattle.tlv_core.specs.Dol.{IsDol, IsDolReason}
+use Rattle.tlv_core.specs.Fill.{filled, HasDuplicate}
+use Rattle.tlv_core.specs.declared.known.Known.{Known}
+use Rattle.card_tool.specs.ForestTexts as forest_texts
+use Rattle.card_tool.specs.ForestTexts.{forest_text, tidied_text}
+use Rattle.card_tool.specs.ListTexts as list_texts
+use Rattle.card_tool.specs.ListTexts.{dol_text, filled_text}
+use Rattle.card_words.specs.Words.{IsSized}
+use Rattle.card_words.specs.declared.request.Kind.{Kind}
+use Rattle.card_words.specs.declared.request.Kind.TheVariants.{Atr, Block, Chain, Command, Response, Tlv, Dol}
+use Rattle.card_words.specs.declared.request.Input.{Input}
+use Rattle.card_words.specs.declared.request.Request.{Request}
+use Rattle.card_words.specs.declared.request.Request.TheVariants.{BuildChain, BuildTidy, BuildFill, Check, Show, Help}
 use Rattle.card_tool.specs.declared.status.Status.{Status}
 use Rattle.card_tool.specs.declared.status.Status.TheVariants as status
 
+-- there is one text with one status of which P holds
+pub record OneText (P : List ℕ → Status → Type 0) : Type 0 where
+  pub one : (t u : List ℕ) (s q : Status) → P t s → P u q → (t ≡ u) × (s ≡ q)
+  pub some : (t : List ℕ) × (s : Status) × P t s
+
 module _ {V R : Type 0} (e : Ending) (S : V → List ℕ → Type 0) (Reason : R → List ℕ → Type 0) (name : R → List ℕ) (told : V → ℕ → List ℕ) (b : List ℕ) (verdict : OneVerdict e S Reason b) where
-  pub one-told : (t u : List ℕ) (s q : Status) → Tells e S Reason name told b t s → Tells e S Reason name told b u q → (t ≡ u) × (s ≡ q)
+  one-told : (t u : List ℕ) (s q : Status) → Tells e S Reason name told b t s → Tells e S Reason name told b u q → (t ≡ u) × (s ≡ q)
   one-told t u s q (accepted v n h text ended) (accepted w m g other different) =
       let same = verdict.one_value v w n m h g in
       let value : v ≡ w = same.0 in
@@ -35,40 +66,96 @@ module _ {V R : Type 0} (e : Ending) (S : V → List ℕ → Type 0) (Reason : R
   one-told t u s q (refused stop h text ended) (accepted w m g other different) = absurd (verdict.not_both w m stop g h)
   one-told t u s q (refused stop h text ended) (refused halt g other different) = (text ∙ ap (refused_text name) (verdict.one_refusal stop halt h g) ∙ sym other, ended ∙ sym different)
 
-  pub some-told : (t : List ℕ) × (s : Status) × Tells e S Reason name told b t s
+  some-told : (t : List ℕ) × (s : Status) × Tells e S Reason name told b t s
   some-told = elim verdict.some [
     | inl h ↦ (told h.0 h.1, status.Accepted, accepted h.0 h.1 h.2 refl refl)
     | inr h ↦ (refused_text name h.0, status.Refused, refused h.0 h.1 refl refl)
   ]
 
+  told-once : OneText (Tells e S Reason name told b)
+  told-once = record { one = one-told; some = some-told }
+
 -- ---- the kinds
 
-one-checked : (kind : Kind) (input : Input) (t u : List ℕ) (s q : Status) → input.ifs ≤ 254 → AreOctets input.octets → Checks kind input t s → Checks kind input u q → (t ≡ u) × (s ≡ q)
-one-checked Atr input t u s q small octets h g = one-told self_ended IsAtr atr.IsReason atr_texts.reason_text (λ v n. accepted_text n) input.octets (atr_goes.one-verdict input.octets octets) t u s q h g
-one-checked Block input t u s q small octets h g = one-told self_ended (IsBlock input.ifs) (IsReason input.ifs) reason_text (λ v n. accepted_text n) input.octets (one-verdict input.ifs input.octets small octets) t u s q h g
+checked : (kind : Kind) (input : Input) → input.ifs ≤ 254 → AreOctets input.octets → OneText (Checks kind input)
+checked Atr input small octets = told-once self_ended IsAtr atr.IsReason atr_texts.reason_text (λ v n. accepted_text n) input.octets (atr_goes.one-verdict input.octets octets)
+checked Block input small octets = told-once self_ended (IsBlock input.ifs) (IsReason input.ifs) reason_text (λ v n. accepted_text n) input.octets (one-verdict input.ifs input.octets small octets)
+checked Chain input small octets =
+    told-once self_ended (IsChain input.ifs input.number longest_message) (chain.IsReason input.ifs input.number longest_message) chain_texts.reason_text (λ v n. accepted_text n) input.octets (chain_goes.one-verdict input.ifs input.number longest_message input.octets small octets)
+checked Command input small octets = told-once whole IsCommand command.IsReason command_texts.reason_text (λ v n. accepted_text n) input.octets (command-one_verdict input.octets octets)
+checked Response input small octets = told-once whole IsResponse response.IsReason response_texts.reason_text (λ v n. accepted_text n) input.octets (response-one_verdict input.octets octets)
+checked Tlv input small octets = told-once whole (IsForest largest) (forest.IsReason largest) forest_texts.reason_text (λ v n. accepted_text n) input.octets (forest_verdict largest input.octets octets)
+checked Dol input small octets = told-once whole IsDol IsDolReason list_texts.reason_text (λ v n. accepted_text n) input.octets (dol_verdict input.octets octets)
 
-one-shown : (kind : Kind) (input : Input) (t u : List ℕ) (s q : Status) → input.ifs ≤ 254 → AreOctets input.octets → Shows kind input t s → Shows kind input u q → (t ≡ u) × (s ≡ q)
-one-shown Atr input t u s q small octets h g = one-told self_ended IsAtr atr.IsReason atr_texts.reason_text (λ v n. atr_text v) input.octets (atr_goes.one-verdict input.octets octets) t u s q h g
-one-shown Block input t u s q small octets h g = one-told self_ended (IsBlock input.ifs) (IsReason input.ifs) reason_text (λ v n. block_text v) input.octets (one-verdict input.ifs input.octets small octets) t u s q h g
+shown : (kind : Kind) (input : Input) → input.ifs ≤ 254 → AreOctets input.octets → OneText (Shows kind input)
+shown Atr input small octets = told-once self_ended IsAtr atr.IsReason atr_texts.reason_text (λ v n. atr_text v) input.octets (atr_goes.one-verdict input.octets octets)
+shown Block input small octets = told-once self_ended (IsBlock input.ifs) (IsReason input.ifs) reason_text (λ v n. block_text v) input.octets (one-verdict input.ifs input.octets small octets)
+shown Chain input small octets =
+    told-once self_ended (IsChain input.ifs input.number longest_message) (chain.IsReason input.ifs input.number longest_message) chain_texts.reason_text (λ v n. chain_text v) input.octets (chain_goes.one-verdict input.ifs input.number longest_message input.octets small octets)
+shown Command input small octets = told-once whole IsCommand command.IsReason command_texts.reason_text (λ v n. command_text v) input.octets (command-one_verdict input.octets octets)
+shown Response input small octets = told-once whole IsResponse response.IsReason response_texts.reason_text (λ v n. response_text v) input.octets (response-one_verdict input.octets octets)
+shown Tlv input small octets = told-once whole (IsForest largest) (forest.IsReason largest) forest_texts.reason_text (λ v n. forest_text v) input.octets (forest_verdict largest input.octets octets)
+shown Dol input small octets = told-once whole IsDol IsDolReason list_texts.reason_text (λ v n. dol_text v) input.octets (dol_verdict input.octets octets)
 
-some-checked : (kind : Kind) (input : Input) → input.ifs ≤ 254 → AreOctets input.octets → (t : List ℕ) × (s : Status) × Checks kind input t s
-some-checked Atr input small octets = some-told self_ended IsAtr atr.IsReason atr_texts.reason_text (λ v n. accepted_text n) input.octets (atr_goes.one-verdict input.octets octets)
-some-checked Block input small octets = some-told self_ended (IsBlock input.ifs) (IsReason input.ifs) reason_text (λ v n. accepted_text n) input.octets (one-verdict input.ifs input.octets small octets)
+-- ---- filling
 
-some-shown : (kind : Kind) (input : Input) → input.ifs ≤ 254 → AreOctets input.octets → (t : List ℕ) × (s : Status) × Shows kind input t s
-some-shown Atr input small octets = some-told self_ended IsAtr atr.IsReason atr_texts.reason_text (λ v n. atr_text v) input.octets (atr_goes.one-verdict input.octets octets)
-some-shown Block input small octets = some-told self_ended (IsBlock input.ifs) (IsReason input.ifs) reason_text (λ v n. block_text v) input.octets (one-verdict input.ifs input.octets small octets)
+errors : (known : Result (List Known) Fault) (f g : Fault) → known ≡ Err f → known ≡ Err g → f ≡ g
+errors known f g k l = cc
+
+values : (known : Result (List Known) Fault) (v w : List Known) → known ≡ Ok v → known ≡ Ok w → v ≡ w
+values known v w k l = cc
+
+not-both : (known : Result (List Known) Fault) (f : Fault) (v : List Known) → known ≡ Err f → known ≡ Ok v → ⊥
+not-both known f v k l = cc
+
+one-filled_by : (known : Result (List Known) Fault) (entries : List (List ℕ × ℕ)) (t u : List ℕ) (s q : Status) → IsFilledBy known entries t s → IsFilledBy known entries u q → (t ≡ u) × (s ≡ q)
+one-filled_by known entries t u s q (unknown f k text ended) (unknown g l other different) = let same : f ≡ g = errors known f g k l in (text ∙ ap fault_text same ∙ sym other, ended ∙ sym different)
+one-filled_by known entries t u s q (unknown f k text ended) (duplicate w l d other different) = absurd (not-both known f w k l)
+one-filled_by known entries t u s q (unknown f k text ended) (full w l d other different) = absurd (not-both known f w k l)
+one-filled_by known entries t u s q (duplicate v k d text ended) (unknown g l other different) = absurd (not-both known g v l k)
+one-filled_by known entries t u s q (duplicate v k d text ended) (duplicate w l g other different) = (text ∙ sym other, ended ∙ sym different)
+one-filled_by known entries t u s q (duplicate v k d text ended) (full w l g other different) = absurd (g (subst HasDuplicate (values known v w k l) d))
+one-filled_by known entries t u s q (full v k d text ended) (unknown g l other different) = absurd (not-both known g v l k)
+one-filled_by known entries t u s q (full v k d text ended) (duplicate w l g other different) = absurd (d (subst HasDuplicate (values known w v l k) g))
+one-filled_by known entries t u s q (full v k d text ended) (full w l g other different) =
+    (text ∙ ap (λ (x : List Known). filled_text (filled x entries)) (values known v w k l) ∙ sym other, ended ∙ sym different)
+
+some-filled_by : (known : Result (List Known) Fault) (entries : List (List ℕ × ℕ)) → (t : List ℕ) × (s : Status) × IsFilledBy known entries t s
+some-filled_by (Err fault) entries = (fault_text fault, status.Fault, unknown fault refl refl refl)
+some-filled_by (Ok values) entries =
+    elim (duplicate-or-not values) [
+      | inl d ↦ (duplicate_text, status.Refused, duplicate values refl d refl refl)
+      | inr d ↦ (filled_text (filled values entries), status.Accepted, full values refl d refl refl)
+    ]
+
+module _ (b : List ℕ) (known : Result (List Known) Fault) (octets : AreOctets b) where
+  one-filled : (t u : List ℕ) (s q : Status) → IsFilled b known t s → IsFilled b known u q → (t ≡ u) × (s ≡ q)
+  one-filled t u s q (listed v h text) (listed w g other) =
+      let same : v ≡ w = ((dol_verdict b octets).one_value v w (length b) (length b) (refl, h) (refl, g)).0 in
+      one-filled_by known w t u s q (subst (λ (x : List (List ℕ × ℕ)). IsFilledBy known x t s) same text) other
+  one-filled t u s q (listed v h text) (no_list stop g other different) = absurd ((dol_verdict b octets).not_both v (length b) stop (refl, h) g)
+  one-filled t u s q (no_list stop g text ended) (listed w h other) = absurd ((dol_verdict b octets).not_both w (length b) stop (refl, h) g)
+  one-filled t u s q (no_list stop g text ended) (no_list halt h other different) =
+      (text ∙ ap (refused_text list_texts.reason_text) ((dol_verdict b octets).one_refusal stop halt g h) ∙ sym other, ended ∙ sym different)
+
+  some-filled : (t : List ℕ) × (s : Status) × IsFilled b known t s
+  some-filled = elim ((dol_verdict b octets).some) [
+    | inl h ↦ let told = some-filled_by known h.0 in (told.0, told.1, listed h.0 h.2.1 told.2)
+    | inr h ↦ (refused_text list_texts.reason_text h.0, status.Refused, no_list h.0 h.1 refl refl)
+  ]
+
+  filled-once : OneText (IsFilled b known)
+  filled-once = record { one = one-filled; some = some-filled }
 
 -- ---- requests
 
-pub one-answer : (request : Request) (t u : List ℕ) (s q : Status) → IsSized request → HasOctets request → IsAnswerTo request t s → IsAnswerTo request u q → (t ≡ u) × (s ≡ q)
-one-answer (Check input) t u s q sized octets h g = one-checked input.kind input t u s q sized.1 octets h g
-one-answer (Show input) t u s q sized octets h g = one-shown input.kind input t u s q sized.1 octets h g
-one-answer (BuildChain ifs number message) t u s q sized octets h g = (h.0 ∙ sym g.0, h.1 ∙ sym g.1)
-one-answer (Help help) t u s q sized octets h g = (h.0 ∙ sym g.0, h.1 ∙ sym g.1)
+plain : (text : List ℕ) → OneText (λ t s. (t ≡ text) × (s ≡ status.Accepted))
+plain text = record { one = λ t u s q h g. (h.0 ∙ sym g.0, h.1 ∙ sym g.1); some = (text, status.Accepted, (refl, refl)) }
 
-pub some-answer : (request : Request) → IsSized request → HasOctets request → (t : List ℕ) × (s : Status) × IsAnswerTo request t s
-some-answer (Check input) sized octets = some-checked input.kind input sized.1 octets
-some-answer (Show input) sized octets = some-shown input.kind input sized.1 octets
-some-answer (BuildChain ifs number message) sized octets = (blocks_text (links number (cut_of ifs message)), status.Accepted, (refl, refl))
-some-answer (Help help) sized octets = (help, status.Accepted, (refl, refl))
+pub one-answer : (request : Request) → IsSized request → HasOctets request → OneText (IsAnswerTo request)
+one-answer (Check input) sized octets = checked input.kind input sized.1 octets
+one-answer (Show input) sized octets = shown input.kind input sized.1 octets
+one-answer (BuildChain ifs number message) sized octets = plain (blocks_text (links number (cut_of ifs message)))
+one-answer (BuildTidy b) sized octets = told-once whole (IsForest largest) (forest.IsReason largest) forest_texts.reason_text (λ v n. tidied_text v) b (forest_verdict largest b octets)
+one-answer (BuildFill list known) sized octets = filled-once list known octets
+one-answer (Help help) sized octets = plain help

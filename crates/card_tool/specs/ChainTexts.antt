@@ -1,9 +1,44 @@
 -- What the program says of a chain.
-use Rattle.std.specs.Prelude.{ℕ, List, [], ◌∷◌, ◌++◌, codes}
+use Rattle.std.specs.Prelude.{◌≡◌, ℕ, List, [], ◌∷◌, ◌++◌, length, codes, decimal, true, None}
 use Rattle.hex.specs.Hex.{encode_upper}
+use Rattle.octet_core.specs.Grammar.{Accepts, self_ended}
 use Rattle.block_core.specs.Block.{Parts, spelling}
+use Rattle.block_core.specs.declared.pcb.Number.{Number}
+use Rattle.chain_core.specs.Chain.{IsChain, message_of}
+use Rattle.chain_core.specs.Taken.{Reception}
+use Rattle.chain_core.specs.declared.reason.ChainReason.{ChainReason}
+use Rattle.chain_core.specs.declared.reason.ChainReason.TheVariants.{BadNad, BadPcb, NotInfo, BadSequence, TooManyBlocks, BadLen, OverIfs, TooLong, BadLrc}
+use Rattle.card_tool.specs.Texts.{octets_text}
+
+-- the greatest number of octets of a message
+abbrev pub longest_message : ℕ
+longest_message = 131072
+
+abbrev pub reason_text : ChainReason → List ℕ
+reason_text BadNad = codes "BadNad"
+reason_text BadPcb = codes "BadPcb"
+reason_text NotInfo = codes "NotInfo"
+reason_text BadSequence = codes "BadSequence"
+reason_text TooManyBlocks = codes "TooManyBlocks"
+reason_text BadLen = codes "BadLen"
+reason_text OverIfs = codes "OverIfs"
+reason_text TooLong = codes "TooLong"
+reason_text BadLrc = codes "BadLrc"
 
 -- the octets of each block, a line a block
 abbrev pub blocks_text : List Parts → List ℕ
 blocks_text [] = []
 blocks_text (b ∷ blocks) = encode_upper (spelling b) ++ (codes "\n" ++ blocks_text blocks)
+
+-- a chain with these fields, line by line
+abbrev pub chain_text : List (List ℕ) → List ℕ
+chain_text fields = codes "blocks " ++ (decimal (length fields) ++ (codes "\nmessage " ++ (octets_text (message_of fields) ++ codes "\n")))
+
+-- the receiver r has taken the chain with which the octets b begin, which takes n of them
+pub record IsReceived (ifs : ℕ) (number : Number) (b : List ℕ) (r : Reception) (n : ℕ) : Type 0 where
+  pub fields : List (List ℕ)
+  pub accepted : Accepts self_ended (IsChain ifs number longest_message) b fields n
+  pub count : r.blocks ≡ length fields
+  pub joined : r.joined ≡ message_of fields
+  pub done : r.done ≡ true
+  pub none : r.refusal ≡ None

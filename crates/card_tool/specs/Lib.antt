@@ -1,7 +1,9 @@
-pub mod Faults
 pub mod Texts
 pub mod AtrTexts
 pub mod ChainTexts
+pub mod CommandTexts
+pub mod ResponseTexts
+pub mod ForestTexts
+pub mod ListTexts
 pub mod BlockTexts
-pub mod Words
 pub mod Answers

@@ -3,13 +3,6 @@ use Rattle.std.specs.Prelude.{ℕ, List, [], ◌∷◌, ◌++◌, codes, decimal
 use Rattle.hex.specs.Hex.{encode_upper}
 use Rattle.octet_core.specs.declared.stop.Stop.{Stop}
 use Rattle.octet_core.specs.declared.stop.Stop.TheVariants.{Short, At}
-use Rattle.card_tool.specs.declared.fault.Fault.{Fault}
-use Rattle.card_tool.specs.declared.fault.Fault.TheVariants.{Words, Hex, Memory}
-
-abbrev pub fault_text : Fault → List ℕ
-fault_text Words = codes "fault: words\n"
-fault_text Hex = codes "fault: hex\n"
-fault_text Memory = codes "fault: memory\n"
 
 -- n octets are a value
 abbrev pub accepted_text : ℕ → List ℕ
@@ -30,3 +23,7 @@ refused_text name (At place reason) = refused_at_text place (name reason)
 abbrev pub octets_text : List ℕ → List ℕ
 octets_text [] = codes "none"
 octets_text (x ∷ xs) = encode_upper (x ∷ xs)
+
+-- two known values have one tag
+abbrev pub duplicate_text : List ℕ
+duplicate_text = codes "refused: Duplicate\n"

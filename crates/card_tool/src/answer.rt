@@ -1,10 +1,12 @@
 //! The text that the program writes, and how it then ends.
 
 ghost use Rattle.std.specs.Prelude.{◌≡◌, ◌++◌, IfOk, string_bytes, codes, decimal};
-ghost use Rattle.card_tool.specs.Texts.{accepted_text, refused_at_text, short_text};
+ghost use Rattle.card_words.specs.Texts.{fault_text};
+ghost use Rattle.card_tool.specs.Texts.{accepted_text, duplicate_text, refused_at_text, short_text};
 ghost use Rattle.card_tool.specs.declared.status.Status.TheVariants as ended;
 
 use crate::status::Status;
+use card_words::Fault;
 use std::alloc::{AllocError, Global};
 
 /// A text to be written, and how the program then ends.
@@ -52,6 +54,30 @@ impl Answer {
         Ok(Answer {
             text,
             status: Status::Refused,
+        })
+    }
+
+    /// Two known values have one tag.
+    pub(crate) fn duplicate(alloc: Global) -> Result<Answer, AllocError>
+        ensures text { IfOk result (λ answer. string_bytes answer.text ≡ duplicate_text) }
+        ensures status { IfOk result (λ answer. answer.status ≡ ended.Refused) }
+    {
+        let text = String::from_str(alloc, "refused: Duplicate\n")?;
+        Ok(Answer {
+            text,
+            status: Status::Refused,
+        })
+    }
+
+    /// The line of a fault.
+    pub(crate) fn faulted(alloc: Global, fault: Fault) -> Result<Answer, AllocError>
+        ensures text { IfOk result (λ answer. string_bytes answer.text ≡ fault_text fault) }
+        ensures status { IfOk result (λ answer. answer.status ≡ ended.Fault) }
+    {
+        let text = String::from_str(alloc, fault.text())?;
+        Ok(Answer {
+            text,
+            status: Status::Fault,
         })
     }
 

@@ -1,16 +1,121 @@
 //! What the program says of a chain.
 
-ghost use Rattle.std.specs.Prelude.{◌≡◌, ◌≤◌, IfOk, string_bytes};
-ghost use Rattle.chain_core.specs.Chain.{links};
+ghost use Rattle.std.specs.Prelude.{◌≡◌, ◌≤◌, ℕ, List, length, true, None, IfOk, IfErr, string_bytes};
+ghost use Rattle.octet_core.specs.Grammar.{self_ended, RefusesUnlessMemory};
+ghost use Rattle.chain_core.specs.Chain.{links, message_of, IsChain, IsReason};
 ghost use Rattle.chain_core.specs.Cut.{cut_of};
 ghost use Rattle.hex.specs.Hex.{encode_upper};
 ghost use Rattle.block_core.specs.Block.{spelling};
-ghost use Rattle.card_tool.specs.ChainTexts.{blocks_text};
+ghost use Rattle.card_tool.specs.Answers.{Tells};
+ghost use Rattle.card_tool.specs.ChainTexts.{blocks_text, chain_text, longest_message, reason_text, IsReceived};
+ghost use Rattle.card_tool.specs.Texts.{accepted_text, refused_text};
+ghost use Rattle.card_tool.specs.declared.status.Status.TheVariants as ended;
 
+use crate::answer::Answer;
+use crate::text::octets_word;
 use block_core::{Block, Number, encode};
-use chain_core::cut;
-use octet_core::hex_upper;
+use chain_core::{ChainReason, Receiver, cut};
+use octet_core::{Refused, Stop, hex_upper};
 use std::alloc::{AllocError, Global};
+
+/// The greatest number of octets of a message.
+const LONGEST_MESSAGE: usize = 131_072;
+
+/// Whether a chain begins the octets, and how many it takes.
+pub(crate) fn check(
+    alloc: Global,
+    octets: &[u8],
+    ifs: u8,
+    number: Number,
+) -> Result<Answer, AllocError>
+    requires least { 1 ≤ ifs }
+    requires most { ifs ≤ 254 }
+    ensures { IfOk result (λ answer. Tells self_ended (IsChain ifs number longest_message) (IsReason ifs number longest_message) reason_text (λ v n. accepted_text n) octets.now (string_bytes answer.text) answer.status) }
+{
+    match received(alloc, octets, ifs, number) {
+        Ok((_, taken)) => Answer::accepted(alloc, taken),
+        Err(Refused::Stop(stop)) => refused(alloc, stop),
+        Err(Refused::Memory) => Err(AllocError),
+    }
+}
+
+/// The chain that begins the octets.
+pub(crate) fn show(
+    alloc: Global,
+    octets: &[u8],
+    ifs: u8,
+    number: Number,
+) -> Result<Answer, AllocError>
+    requires least { 1 ≤ ifs }
+    requires most { ifs ≤ 254 }
+    ensures { IfOk result (λ answer. Tells self_ended (IsChain ifs number longest_message) (IsReason ifs number longest_message) reason_text (λ v n. chain_text v) octets.now (string_bytes answer.text) answer.status) }
+{
+    match received(alloc, octets, ifs, number) {
+        Ok((receiver, _)) => Ok(Answer::told(lines(alloc, &receiver)?)),
+        Err(Refused::Stop(stop)) => refused(alloc, stop),
+        Err(Refused::Memory) => Err(AllocError),
+    }
+}
+
+/// A receiver that has taken the chain that begins the octets, and how many octets that is.
+fn received(
+    alloc: Global,
+    octets: &[u8],
+    ifs: u8,
+    number: Number,
+) -> Result<(Receiver, usize), Refused<ChainReason>>
+    requires least { 1 ≤ ifs }
+    requires most { ifs ≤ 254 }
+    ensures found { IfOk result (λ x. IsReceived ifs number octets.now x.0 x.1) }
+    ensures refused { IfErr result (RefusesUnlessMemory self_ended (IsChain ifs number longest_message) (IsReason ifs number longest_message) octets.now) }
+{
+    let Ok(mut receiver) = Receiver::new(alloc, ifs, number, LONGEST_MESSAGE) else {
+        return Err(Refused::Memory);
+    };
+    match receiver.feed(octets) {
+        Ok((taken, true)) => Ok((receiver, taken)),
+        Ok((_, false)) => Err(Refused::Stop(Stop::Short {
+            place: octets.len(),
+        })),
+        Err(stop) => Err(Refused::Stop(stop)),
+    }
+}
+
+fn refused(alloc: Global, stop: Stop<ChainReason>) -> Result<Answer, AllocError>
+    ensures text { IfOk result (λ answer. string_bytes answer.text ≡ refused_text reason_text stop) }
+    ensures status { IfOk result (λ answer. answer.status ≡ ended.Refused) }
+{
+    match stop {
+        Stop::Short { place } => Answer::short(alloc, place),
+        Stop::At { place, reason } => Answer::refused_at(alloc, place, reason_name(reason)),
+    }
+}
+
+/// The name of a reason.
+fn reason_name(reason: ChainReason) -> &'static str
+    ensures { result.now ≡ reason_text reason }
+{
+    match reason {
+        ChainReason::BadNad => "BadNad",
+        ChainReason::BadPcb => "BadPcb",
+        ChainReason::NotInfo => "NotInfo",
+        ChainReason::BadSequence => "BadSequence",
+        ChainReason::TooManyBlocks => "TooManyBlocks",
+        ChainReason::BadLen => "BadLen",
+        ChainReason::OverIfs => "OverIfs",
+        ChainReason::TooLong => "TooLong",
+        ChainReason::BadLrc => "BadLrc",
+    }
+}
+
+/// A chain, line by line: the count of its blocks and its message.
+fn lines(alloc: Global, receiver: &Receiver) -> Result<String, AllocError>
+    ensures { (fields : List (List ℕ)) → receiver.now.blocks ≡ length fields → receiver.now.joined ≡ message_of fields → receiver.now.done ≡ true → receiver.now.refusal ≡ None → IfOk result (λ text. string_bytes text ≡ chain_text fields) }
+{
+    let blocks = receiver.blocks();
+    let message = octets_word(alloc, receiver.message().unwrap_or(&[]))?;
+    format!(in alloc; "blocks {blocks}\nmessage {message}\n")
+}
 
 /// The blocks of the chain into which a message is cut, a line a block.
 pub(crate) fn blocks(

@@ -2,8 +2,8 @@
 
 ghost use Rattle.std.specs.Prelude.{◌≡◌, ℕ, List};
 ghost use Rattle.card_tool.specs.Answers.{HasOctets, IsAnswerTo};
-ghost use Rattle.card_tool.specs.Words.{IsSized};
-ghost use Rattle.card_tool.specs.declared.request.Request.{Request as AnyRequest};
+ghost use Rattle.card_words.specs.Words.{IsSized};
+ghost use Rattle.card_words.specs.declared.request.Request.{Request as AnyRequest};
 ghost use Rattle.card_tool.specs.declared.status.Status.{Status as AnyStatus};
 
 /// Every request has one text and one status, and no other.

@@ -1,16 +1,15 @@
 //! The program: from its words to the text that it writes.
 
-ghost use Rattle.std.specs.Prelude.{◌≡◌, IfOk, string_bytes};
-ghost use Rattle.card_tool.specs.Answers.{Answers, IsAnswer, IsAnswerTo, IsWritten, Writes};
-ghost use Rattle.card_tool.specs.Texts.{fault_text};
-ghost use Rattle.card_tool.specs.Words.{texts, IsSized};
+ghost use Rattle.std.specs.Prelude.{◌≡◌, ◌≤◌, IfOk, string_bytes};
+ghost use Rattle.card_tool.specs.Answers.{Answers, Checks, IsAnswer, IsAnswerTo, IsWritten, Shows, Writes};
+ghost use Rattle.card_words.specs.Texts.{fault_text};
+ghost use Rattle.card_words.specs.Words.{texts, IsSized};
 ghost use Rattle.card_tool.specs.declared.status.Status.TheVariants as ended;
 
 use crate::answer::Answer;
-use crate::fault::Fault;
-use crate::request::{Kind, Request};
 use crate::status::Status;
-use crate::{atr, block, chain, words};
+use crate::{atr, block, chain, command, forest, list, response};
+use card_words::{Fault, Input, Kind, Request};
 use octet_core::{Sink, Source, write_octets};
 use std::alloc::{AllocError, Global};
 
@@ -52,7 +51,7 @@ fn write<W: Sink>(text: &str, status: Status, writer: &mut W) -> Status
 fn answer(alloc: Global, words: &[String]) -> Result<Answer, Fault>
     ensures { Answers (texts words.now) result }
 {
-    let request = words::read(alloc, words)?;
+    let request = card_words::read(alloc, words)?;
     Ok(answer_to(alloc, request)?)
 }
 
@@ -62,14 +61,8 @@ fn answer_to(alloc: Global, request: Request) -> Result<Answer, AllocError>
     ensures { IfOk result (λ answer. IsAnswerTo request (string_bytes answer.text) answer.status) }
 {
     match request {
-        Request::Check(input) => match input.kind {
-            Kind::Atr => atr::check(alloc, input.octets.get()),
-            Kind::Block => block::check(alloc, input.octets.get(), input.ifs),
-        },
-        Request::Show(input) => match input.kind {
-            Kind::Atr => atr::show(alloc, input.octets.get()),
-            Kind::Block => block::show(alloc, input.octets.get(), input.ifs),
-        },
+        Request::Check(input) => check(alloc, &input),
+        Request::Show(input) => show(alloc, &input),
         Request::BuildChain {
             ifs,
             number,
@@ -78,6 +71,44 @@ fn answer_to(alloc: Global, request: Request) -> Result<Answer, AllocError>
             let text = chain::blocks(alloc, message.get(), ifs, number)?;
             Ok(Answer::told(text))
         }
+        Request::BuildTidy(octets) => forest::tidy(alloc, octets.get()),
+        Request::BuildFill { list, known } => list::fill(alloc, list.get(), &known),
         Request::Help(text) => Ok(Answer::told(text.into_inner())),
+    }
+}
+
+/// How many octets the value takes.
+fn check(alloc: Global, input: &Input) -> Result<Answer, AllocError>
+    requires least { 1 ≤ input.now.ifs }
+    requires most { input.now.ifs ≤ 254 }
+    ensures { IfOk result (λ answer. Checks input.now.kind input.now (string_bytes answer.text) answer.status) }
+{
+    let octets = input.octets.get();
+    match input.kind {
+        Kind::Atr => atr::check(alloc, octets),
+        Kind::Block => block::check(alloc, octets, input.ifs),
+        Kind::Chain => chain::check(alloc, octets, input.ifs, input.number),
+        Kind::Command => command::check(alloc, octets),
+        Kind::Response => response::check(alloc, octets),
+        Kind::Tlv => forest::check(alloc, octets),
+        Kind::Dol => list::check(alloc, octets),
+    }
+}
+
+/// The value itself.
+fn show(alloc: Global, input: &Input) -> Result<Answer, AllocError>
+    requires least { 1 ≤ input.now.ifs }
+    requires most { input.now.ifs ≤ 254 }
+    ensures { IfOk result (λ answer. Shows input.now.kind input.now (string_bytes answer.text) answer.status) }
+{
+    let octets = input.octets.get();
+    match input.kind {
+        Kind::Atr => atr::show(alloc, octets),
+        Kind::Block => block::show(alloc, octets, input.ifs),
+        Kind::Chain => chain::show(alloc, octets, input.ifs, input.number),
+        Kind::Command => command::show(alloc, octets),
+        Kind::Response => response::show(alloc, octets),
+        Kind::Tlv => forest::show(alloc, octets),
+        Kind::Dol => list::show(alloc, octets),
     }
 }

@@ -2,6 +2,10 @@
 
 ghost use Rattle.std.specs.Prelude.{◌≤◌, ◌≢◌};
 
+mod apdus;
+mod chains;
+mod objects;
+
 use crate::{Status, run};
 use octet_core::{After, Counted, Feeder, Taker};
 use std::alloc::{AllocError, Global};
@@ -35,8 +39,21 @@ fn told(
     Ok((writer.into_inner(), status))
 }
 
+/// Asserts what the program says of command lines whose words are parted by spaces.
+pub(super) fn says_each(
+    rt: &impl Abort,
+    alloc: Global,
+    rows: &[(&str, &str, Status)],
+) -> Result<(), AllocError> {
+    for (line, text, status) in rows {
+        let words: Vec<&str> = line.split(' ').collect(alloc)?;
+        says(rt, alloc, words.as_slice(), text, *status)?;
+    }
+    Ok(())
+}
+
 /// Asserts what the program says of a command line.
-fn says(
+pub(super) fn says(
     rt: &impl Abort,
     alloc: Global,
     line: &[&str],
@@ -44,7 +61,11 @@ fn says(
     status: Status,
 ) -> Result<(), AllocError> {
     let (writer, ended) = told(alloc, line, 4096, After::End)?;
-    assert!(rt; writer.kept() == text.as_bytes());
+    assert!(rt;
+        writer.kept() == text.as_bytes(),
+        "{text} of {}",
+        line.last().unwrap_or(&"")
+    );
     assert!(rt; ended == status);
     Ok(())
 }
@@ -272,65 +293,6 @@ fn shows_answers_to_reset(rt: HostRuntime) -> Result<(), Fail> {
         refused,
         Status::Refused,
     )?;
-    Ok(())
-}
-
-#[test]
-fn builds_chains(rt: HostRuntime) -> Result<(), Fail> {
-    let three = "00200200A486\n006002040066\n0000010001\n";
-    let lines: [(&[&str], &str, Status); 14] = [
-        (&["chain", "2", "0", "00A4040000"], three, Status::Accepted),
-        (
-            &["chain", "+2", "00", "00a4040000"],
-            three,
-            Status::Accepted,
-        ),
-        (
-            &["chain", "254", "1", "none"],
-            "00400040\n",
-            Status::Accepted,
-        ),
-        (
-            &["chain", "5", "1", "00A4040000"],
-            "00400500A4040000E5\n",
-            Status::Accepted,
-        ),
-        (&["chain", "2", "0", "0G"], "fault: hex\n", Status::Fault),
-        (&["chain", "0", "0", "0G"], "fault: words\n", Status::Fault),
-        (
-            &["chain", "255", "0", "00"],
-            "fault: words\n",
-            Status::Fault,
-        ),
-        (&["chain", "2", "2", "0G"], "fault: words\n", Status::Fault),
-        (&["chain", "2", "", "00"], "fault: words\n", Status::Fault),
-        (&["chain", "2", "0"], "fault: words\n", Status::Fault),
-        (
-            &["chain", "2", "0", "00", "00"],
-            "fault: words\n",
-            Status::Fault,
-        ),
-        (&["link", "2", "0", "00"], "fault: words\n", Status::Fault),
-        (&["chain"], "fault: words\n", Status::Fault),
-        (&[], "fault: words\n", Status::Fault),
-    ];
-    for (words, text, status) in lines {
-        let mut line = Vec::new(rt.alloc());
-        line.push("build")?;
-        line.extend_from_slice(words)?;
-        says(&rt, rt.alloc(), line.as_slice(), text, status)?;
-    }
-    Ok(())
-}
-
-#[test]
-fn the_first_number_is_zero_or_one(rt: HostRuntime) -> Result<(), Fail> {
-    let one: &[&str] = &["check", "block", "--number", "1", "00820082"];
-    says(&rt, rt.alloc(), one, "ok 4 octets\n", Status::Accepted)?;
-    let two: &[&str] = &["check", "block", "--number", "2", "00820082"];
-    says(&rt, rt.alloc(), two, "fault: words\n", Status::Fault)?;
-    let minus: &[&str] = &["check", "block", "--number=-0", "00820082"];
-    says(&rt, rt.alloc(), minus, "fault: words\n", Status::Fault)?;
     Ok(())
 }
 

@@ -20,12 +20,13 @@ use Rattle.clap.specs.declared.error.kind.ErrorKind.{ErrorKind}
 use Rattle.clap.specs.declared.error.kind.ErrorKind.TheVariants.{DisplayHelp, OutOfMemory}
 use Rattle.block_core.specs.declared.pcb.Number.{Number}
 use Rattle.block_core.specs.declared.pcb.Number.TheVariants.{Zero, One}
-use Rattle.card_tool.specs.declared.request.Request.{Request}
-use Rattle.card_tool.specs.declared.request.Request.TheVariants.{BuildChain}
-use Rattle.card_tool.specs.Faults.{fault_of_hex}
-use Rattle.card_tool.specs.Words.{hex_octets, byte_or, chain_by, chain_of, number_of_word, octets_of_word, scard, size_of, IsHelpOrFault, IsRead, UnlessMemory, called_for_help, not_taken}
-use Rattle.card_tool.specs.declared.fault.Fault.{Fault}
-use Rattle.card_tool.specs.declared.fault.Fault.TheVariants.{Words, Hex, Memory}
+use Rattle.card_words.specs.declared.request.Request.{Request}
+use Rattle.card_words.specs.declared.request.Request.TheVariants.{BuildChain}
+use Rattle.card_words.specs.Faults.{fault_of_hex}
+use Rattle.card_words.specs.Value.{hex_octets, octets_of_word, UnlessMemory}
+use Rattle.card_words.specs.Words.{byte_or, chain_by, chain_of, number_of_word, scard, size_of, IsHelpOrFault, IsRead, called_for_help, not_taken}
+use Rattle.card_words.specs.declared.fault.Fault.{Fault}
+use Rattle.card_words.specs.declared.fault.Fault.TheVariants.{Words, Hex, Memory}
 
 -- what `u8` reads of a word, where it reads it
 pub byte-read : {E : Type 0} (otherwise : ℕ) (word : List ℕ) (r : Result ℕ E) → ParsesUnsigned 8 10 word r → result_unwrap_or r otherwise ≡ byte_or otherwise word

@@ -11,13 +11,15 @@ use Rattle.clap.specs.Words.{App, Row, Rule, all_of, fault_of, first_of, new_app
 use Rattle.clap.specs.declared.builder.value_parser.ValueParser.TheVariants as parser
 use Rattle.clap.specs.declared.error.kind.ErrorKind.{ErrorKind}
 use Rattle.clap.specs.declared.error.kind.ErrorKind.TheVariants.{DisplayHelp, OutOfMemory}
-use Rattle.card_tool.specs.declared.fault.Fault.{Fault}
-use Rattle.card_tool.specs.declared.fault.Fault.TheVariants.{Words, Hex, Memory}
-use Rattle.card_tool.specs.declared.request.Kind.{Kind}
-use Rattle.card_tool.specs.declared.request.Kind.TheVariants.{Atr, Block}
-use Rattle.card_tool.specs.declared.request.Input.{Input}
-use Rattle.card_tool.specs.declared.request.Request.{Request}
-use Rattle.card_tool.specs.declared.request.Request.TheVariants.{BuildChain, Check, Show, Help}
+use Rattle.card_words.specs.Known.{knowns_of}
+use Rattle.card_words.specs.Value.{◌>>=◌, octets_of_word}
+use Rattle.card_words.specs.declared.fault.Fault.{Fault}
+use Rattle.card_words.specs.declared.fault.Fault.TheVariants.{Words, Hex, Memory}
+use Rattle.card_words.specs.declared.request.Kind.{Kind}
+use Rattle.card_words.specs.declared.request.Kind.TheVariants.{Atr, Block, Chain, Command, Response, Tlv, Dol}
+use Rattle.card_words.specs.declared.request.Input.{Input}
+use Rattle.card_words.specs.declared.request.Request.{Request}
+use Rattle.card_words.specs.declared.request.Request.TheVariants.{BuildChain, BuildTidy, BuildFill, Check, Show, Help}
 use Rattle.block_core.specs.declared.pcb.Number.{Number}
 use Rattle.block_core.specs.declared.pcb.Number.TheVariants.{Zero, One}
 use Rattle.clap.specs.declared.builder.action.ArgAction.TheVariants.{Append}
@@ -65,11 +67,6 @@ byte_or otherwise word = if is_unsigned_in 0 255 word then digits_value 10 (with
 
 -- ---- what words ask for
 
-infixl 10 ◌>>=◌
-abbrev pub ◌>>=◌ : {A B : Type 0} → Result A Fault → (A → Result B Fault) → Result B Fault
-(Ok x) >>= f = f x
-(Err e) >>= f = Err e
-
 abbrev pub needed : Option (List ℕ) → Result (List ℕ) Fault
 needed None = Err Words
 needed (Some word) = Ok word
@@ -78,15 +75,12 @@ abbrev pub kind_of : List ℕ → Result Kind Fault
 kind_of word =
     if bytes_eq word (codes "atr") then Ok Atr
     else (if bytes_eq word (codes "block") then Ok Block
-    else Err Words)
-
-abbrev pub hex_octets : Result (List ℕ) FromHexError → Result (List ℕ) Fault
-hex_octets (Ok octets) = Ok octets
-hex_octets (Err e) = Err Hex
-
--- octets as a word: in hexadecimal, or none
-abbrev pub octets_of_word : List ℕ → Result (List ℕ) Fault
-octets_of_word word = if bytes_eq word (codes "none") then Ok [] else hex_octets (decode_of word)
+    else (if bytes_eq word (codes "chain") then Ok Chain
+    else (if bytes_eq word (codes "command") then Ok Command
+    else (if bytes_eq word (codes "response") then Ok Response
+    else (if bytes_eq word (codes "tlv") then Ok Tlv
+    else (if bytes_eq word (codes "dol") then Ok Dol
+    else Err Words))))))
 
 -- an information size as a word; the greatest where there is no word
 abbrev pub size_of : Option (List ℕ) → Result ℕ Fault
@@ -129,12 +123,26 @@ abbrev pub chain_of : List (List ℕ) → Result Request Fault
 chain_of (size ∷ number_word ∷ hex ∷ []) = chain_by size number_word hex
 chain_of _ = Err Words
 
+-- HEX
+abbrev pub tidy_of : List (List ℕ) → Result Request Fault
+tidy_of (hex ∷ []) = octets_of_word hex >>= (λ octets. Ok (BuildTidy octets))
+tidy_of _ = Err Words
+
+-- DOL KNOWN..: what is wrong with a known value counts only where the list is one
+abbrev pub fill_of : List (List ℕ) → Result Request Fault
+fill_of [] = Err Words
+fill_of (hex ∷ words) = octets_of_word hex >>= (λ octets. Ok (BuildFill octets (knowns_of words)))
+
 abbrev pub all_needed : Option (List (List ℕ)) → Result (List (List ℕ)) Fault
 all_needed None = Err Words
 all_needed (Some words) = Ok words
 
 abbrev pub build_by : List ℕ → List (List ℕ) → Result Request Fault
-build_by what words = if bytes_eq what (codes "chain") then chain_of words else Err Words
+build_by what words =
+    if bytes_eq what (codes "chain") then chain_of words
+    else (if bytes_eq what (codes "tidy") then tidy_of words
+    else (if bytes_eq what (codes "fill") then fill_of words
+    else Err Words))
 
 abbrev pub build_of : List Row → Result Request Fault
 build_of rows = do
@@ -158,6 +166,8 @@ abbrev pub IsSized : Request → Type 0
 IsSized (Check input) = (1 ≤ input.ifs) × (input.ifs ≤ 254)
 IsSized (Show input) = (1 ≤ input.ifs) × (input.ifs ≤ 254)
 IsSized (BuildChain ifs number message) = (1 ≤ ifs) × (ifs ≤ 254) × (length message ≤ 131072)
+IsSized (BuildTidy octets) = Unit {0}
+IsSized (BuildFill list known) = Unit {0}
 IsSized (Help help) = Unit {0}
 
 abbrev pub HasOther : Kinds → Type 0
@@ -174,7 +184,3 @@ abbrev pub IsHelpOrFault : ErrorKind → Result Request Fault → Type 0
 IsHelpOrFault OutOfMemory read = read ≡ Err Memory
 IsHelpOrFault DisplayHelp read = (read ≡ Err Memory) ⊎ ((help : List ℕ) × (read ≡ Ok (Help help)))
 IsHelpOrFault _ read = read ≡ Err Words
-
--- the same where memory may be wanting
-abbrev pub UnlessMemory : {X : Type 0} → Result X Fault → Result X Fault → Type 0
-UnlessMemory result expected = (result ≡ Err Memory) ⊎ (result ≡ expected)

@@ -1,8 +1,8 @@
 //! Why the program could not answer.
 
 ghost use Rattle.std.specs.Prelude.{◌≡◌};
-ghost use Rattle.card_tool.specs.Texts.{fault_text};
-ghost use Rattle.card_tool.specs.Faults.{fault_of_hex};
+ghost use Rattle.card_words.specs.Texts.{fault_text};
+ghost use Rattle.card_words.specs.Faults.{fault_of_hex};
 
 use octet_core::HexFault;
 use std::alloc::AllocError;
@@ -32,7 +32,7 @@ impl Fault {
 }
 
 impl From<AllocError> for Fault {
-    ghost use Rattle.card_tool.specs.declared.fault.Fault.{Fault};
+    ghost use Rattle.card_words.specs.declared.fault.Fault.{Fault};
 
     ghost from_gives = { λ _ fault. fault ≡ Fault.Memory };
 

@@ -1,7 +1,12 @@
 //! What a command line asks for.
 
+ghost use Rattle.std.specs.Prelude.{◌≡◌};
+
+use crate::fault::Fault;
 use block_core::Number;
 use octet_core::{Octets, Text};
+use std::marker::Model;
+use tlv_core::Known;
 
 /// What octets are checked or shown as.
 #[derive(Clone, Copy, Debug, PartialEq, Eq)]
@@ -10,6 +15,16 @@ pub enum Kind {
     Atr,
     /// A block of the T=1 protocol.
     Block,
+    /// A chain of I-blocks.
+    Chain,
+    /// A command APDU.
+    Command,
+    /// A response APDU.
+    Response,
+    /// A forest of data objects.
+    Tlv,
+    /// A data object list.
+    Dol,
 }
 
 /// Octets, and what they are taken for.
@@ -23,8 +38,39 @@ pub struct Input {
     pub number: Number,
 }
 
+/// Values that are known for tags, in the order of their words, which contracts see as a list.
+#[derive(Drop)]
+pub struct Knowns {
+    list: Vec<Known>,
+}
+
+impl Model for Knowns {
+    ghost use Rattle.std.specs.Prelude.{List};
+    ghost use Rattle.tlv_core.specs.declared.known.Known.{Known};
+
+    ghost Value = { List Known };
+
+    ghost view = { λ knowns. knowns.list.items };
+}
+
+impl Knowns {
+    /// The values in a vector.
+    pub fn of(list: Vec<Known>) -> Knowns
+        ensures { result ≡ list.items }
+    {
+        Knowns { list }
+    }
+
+    /// The values, lent.
+    pub fn get(&self) -> &[Known]
+        ensures { result.now ≡ self.now }
+    {
+        self.list.as_slice()
+    }
+}
+
 /// What a command line asks for.
-#[derive(Debug, PartialEq, Eq, Drop)]
+#[derive(Drop)]
 pub enum Request {
     /// Whether the octets are a value of the kind, and how many of them it takes.
     Check(Input),
@@ -37,6 +83,16 @@ pub enum Request {
         /// The number of the first block.
         number: Number,
         message: Octets,
+    },
+    /// The forest that the octets spell, in the shortest octets that say the same.
+    BuildTidy(Octets),
+    /// The octets that a data object list asks for.
+    BuildFill {
+        /// The octets of the list.
+        list: Octets,
+        /// What is known, or the fault of the first word that says no known value. It counts only where
+        /// the octets are a list.
+        known: Result<Knowns, Fault>,
     },
     /// This text, by which `clap` answers a call for help.
     Help(Text),

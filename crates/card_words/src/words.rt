@@ -5,14 +5,17 @@ ghost use Rattle.clap.specs.Words.{all_of, app_of, fault_of, first_of, found_of,
 ghost use Rattle.clap.specs.Kinds.{HasKind};
 ghost use Rattle.clap.specs.declared.builder.command.Command.TheViews.{out-Command};
 ghost use Rattle.clap.specs.Values.{kind_of as error_kind};
-ghost use Rattle.card_tool.specs.Words.{build_app, build_of, chain_of, hex_rule, ifs_rule, input_app, input_of, kind_of, kind_rule, number_of, number_of_word, number_rule, octets_of_word, request_of, scard, size_of, texts, what_rule, words_rule, IsHelpOrFault, IsRead, IsSized, UnlessMemory};
+ghost use Rattle.card_words.specs.Words.{build_app, build_of, chain_of, hex_rule, ifs_rule, input_app, input_of, kind_of, kind_rule, number_of, number_of_word, number_rule, request_of, scard, size_of, texts, tidy_of, fill_of, what_rule, words_rule, IsHelpOrFault, IsRead, IsSized};
+ghost use Rattle.card_words.specs.Value.{UnlessMemory};
 
 use crate::fault::Fault;
+use crate::known::knowns;
 use crate::request::{Input, Kind, Request};
+use crate::value::octets;
 use block_core::Number;
 use clap::error::ErrorKind;
 use clap::{Arg, ArgAction, ArgMatches, Command, Error, value_parser};
-use octet_core::{Octets, Text, octets_of};
+use octet_core::Text;
 use std::alloc::{AllocError, Global};
 
 /// What the words ask for, of which the first is the program's name.
@@ -76,8 +79,37 @@ fn build(alloc: Global, matches: &ArgMatches) -> Result<Request, Fault>
     let words = all_words(matches, "words").ok_or(Fault::Words)?;
     match what {
         "chain" => chain(alloc, words),
+        "tidy" => tidy(alloc, words),
+        "fill" => fill(alloc, words),
         _ => Err(Fault::Words),
     }
+}
+
+/// A forest to be tidied.
+fn tidy(alloc: Global, words: &[&str]) -> Result<Request, Fault>
+    ensures read { UnlessMemory result (tidy_of (map (λ word. word.now) words.now)) }
+    ensures sized { IfOk result IsSized }
+{
+    let [hex] = words else {
+        return Err(Fault::Words);
+    };
+    Ok(Request::BuildTidy(octets(alloc, hex)?))
+}
+
+/// A data object list to be filled, and what is known.
+fn fill(alloc: Global, words: &[&str]) -> Result<Request, Fault>
+    ensures read { UnlessMemory result (fill_of (map (λ word. word.now) words.now)) }
+    ensures sized { IfOk result IsSized }
+{
+    let Some((hex, known)) = words.split_first() else {
+        return Err(Fault::Words);
+    };
+    let list = octets(alloc, hex)?;
+    let known = match knowns(alloc, known) {
+        Err(Fault::Memory) => return Err(Fault::Memory),
+        known => known,
+    };
+    Ok(Request::BuildFill { list, known })
 }
 
 /// A chain to be built: an information size, a first number and a message.
@@ -121,6 +153,11 @@ fn kind(word: &str) -> Result<Kind, Fault>
     match word {
         "atr" => Ok(Kind::Atr),
         "block" => Ok(Kind::Block),
+        "chain" => Ok(Kind::Chain),
+        "command" => Ok(Kind::Command),
+        "response" => Ok(Kind::Response),
+        "tlv" => Ok(Kind::Tlv),
+        "dol" => Ok(Kind::Dol),
         _ => Err(Fault::Words),
     }
 }
@@ -161,16 +198,6 @@ fn number(word: &str) -> Result<Number, Fault>
     } else {
         Err(Fault::Words)
     }
-}
-
-/// The octets that a word gives in hexadecimal, none where it is `none`.
-fn octets(alloc: Global, word: &str) -> Result<Octets, Fault>
-    ensures { UnlessMemory result (octets_of_word word.now) }
-{
-    if word == "none" {
-        return Ok(Octets::of(Vec::new(alloc)));
-    }
-    Ok(Octets::of(octets_of(alloc, word)?))
 }
 
 /// What a parse that gave no matches comes to: the text of a call for help, or a fault.
@@ -235,7 +262,7 @@ fn build_command<'a>(alloc: Global) -> Result<Command<'a>, AllocError>
     ensures local { IfOk result (λ command. (out-Command command).has_globals ≡ false) }
 {
     Command::new(alloc, "build")
-        .about("Build octets: chain IFS NUMBER HEX")
+        .about("Build octets: chain IFS NUMBER HEX, tidy HEX, or fill DOL F:TAG:VALUE..")
         .arg(what_arg(alloc))?
         .arg(words_arg(alloc))
 }
@@ -246,7 +273,7 @@ fn what_arg<'a>(alloc: Global) -> Arg<'a>
 {
     Arg::new(alloc, "what")
         .required(true)
-        .help("What is built: chain")
+        .help("What is built: chain, tidy or fill")
 }
 
 fn words_arg<'a>(alloc: Global) -> Arg<'a>
@@ -272,9 +299,9 @@ fn kind_arg<'a>(alloc: Global) -> Arg<'a>
     ensures rule { rule_of result ≡ kind_rule }
     ensures local { result.global ≡ false }
 {
-    Arg::new(alloc, "kind")
-        .required(true)
-        .help("What the octets are taken for: atr or block")
+    Arg::new(alloc, "kind").required(true).help(
+        "What the octets are taken for: atr, block, chain, command, response, tlv or dol",
+    )
 }
 
 fn hex_arg<'a>(alloc: Global) -> Arg<'a>

@@ -1,5 +1,8 @@
-use Rattle.card_tool.proofs.OneAnswer.{one-answer, some-answer}
+use Rattle.card_tool.proofs.OneAnswer.{one-answer}
 use Rattle.card_tool.proofs.laws.one_answer.Goals as goal
 
 pub returns : goal.returns
-returns c = record { some = some-answer; one = λ request text other ended different. one-answer request text other ended different }
+returns c = record {
+  some = λ request sized octets. (one-answer request sized octets).some;
+  one = λ request text other ended different sized octets. (one-answer request sized octets).one text other ended different;
+}

@@ -1,6 +1,6 @@
 use Rattle.std.proofs.Common.{inl, subst, List, ℕ, string_bytes}
 use Rattle.card_tool.specs.Answers.{IsWritten}
-use Rattle.card_tool.specs.Texts.{fault_text}
+use Rattle.card_words.specs.Texts.{fault_text}
 use Rattle.card_tool.specs.declared.status.Status.TheVariants as ended
 use Rattle.card_tool.proofs.program.run.Goals as goal
 

@@ -1,7 +1,7 @@
 use Rattle.std.proofs.Common.{sym}
 use Rattle.std.proofs.lemmas.Result.{err_from_is_err_and}
-use Rattle.card_tool.proofs.Reading.{refused-word}
-use Rattle.card_tool.proofs.words.octets.Goals as goal
+use Rattle.card_words.proofs.Reading.{refused-word}
+use Rattle.card_words.proofs.value.octets.Goals as goal
 
 pub returns-in_err-octets_of : goal.returns-in_err-octets_of
 returns-in_err-octets_of c =

@@ -1,6 +1,6 @@
 use Rattle.std.proofs.Common.{◌∙◌, [], ap, get_or, inr, length, sym, arith, Bor, List, ℕ}
-use Rattle.card_tool.proofs.Reading.{chain-is, chain-built}
-use Rattle.card_tool.proofs.words.chain.Goals as goal
+use Rattle.card_words.proofs.Reading.{chain-is, chain-built}
+use Rattle.card_words.proofs.words.chain.Goals as goal
 
 pub returns-clause-read : goal.returns-clause-read
 returns-clause-read c =

@@ -4,9 +4,9 @@ use Rattle.clap.specs.Words.{App, fault_of, is_simple, subcommand_of}
 use Rattle.clap.specs.Faults.{is_simple_and_free}
 use Rattle.clap.specs.Kinds.{FailsBy}
 use Rattle.clap.proofs.OnLiterals.{clap_on_literals}
-use Rattle.card_tool.specs.Words.{scard, texts}
-use Rattle.card_tool.proofs.Reading.{fails-ok, fails-err}
-use Rattle.card_tool.proofs.words.matches_of.Goals as goal
+use Rattle.card_words.specs.Words.{scard, texts}
+use Rattle.card_words.proofs.Reading.{fails-ok, fails-err}
+use Rattle.card_words.proofs.words.matches_of.Goals as goal
 
 is-simple : is_simple scard ≡ true
 unfolding clap_on_literals scard

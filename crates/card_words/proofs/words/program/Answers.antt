@@ -2,8 +2,8 @@ use Rattle.std.proofs.Common.{ap, ap₂, refl, codes, ◌≡◌, ◌∙◌}
 use Rattle.std.proofs.lemmas.Result.{IfOk-weaker}
 use Rattle.clap.specs.Words.{App, app_of, new_app, with_subcommand}
 use Rattle.clap.specs.Simple.{app_of_fields}
-use Rattle.card_tool.specs.Words.{build_app, input_app, scard}
-use Rattle.card_tool.proofs.words.program.Goals as goal
+use Rattle.card_words.specs.Words.{build_app, input_app, scard}
+use Rattle.card_words.proofs.words.program.Goals as goal
 
 scard-is : with_subcommand (with_subcommand (with_subcommand (new_app (codes "scard")) (input_app (codes "check")).top) (input_app (codes "show")).top) build_app.top ≡ scard
 unfolding scard

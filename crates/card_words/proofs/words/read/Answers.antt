@@ -1,7 +1,7 @@
 use Rattle.clap.specs.Values.{kind_of}
-use Rattle.card_tool.specs.Words.{texts}
-use Rattle.card_tool.proofs.Reading.{help-or-fault}
-use Rattle.card_tool.proofs.words.read.Goals as goal
+use Rattle.card_words.specs.Words.{texts}
+use Rattle.card_words.proofs.Reading.{help-or-fault}
+use Rattle.card_words.proofs.words.read.Goals as goal
 
 pub returns-in-Err-clause-read : goal.returns-in-Err-clause-read
 returns-in-Err-clause-read c = help-or-fault (texts c.args.words.now) (kind_of c.in-Err.error) c.help_or_fault.result c.in-Err.ensures.kind c.help_or_fault.ensures.read

@@ -1,0 +1,10 @@
+use Rattle.std.proofs.Common.{refl}
+use Rattle.card_words.specs.Texts.{fault_text}
+use Rattle.card_tool.specs.Answers.{IsFilledBy, unknown}
+use Rattle.card_tool.specs.declared.status.Status.TheVariants as status
+use Rattle.card_tool.proofs.Telling.{answered}
+use Rattle.card_tool.proofs.list.fill_by.Goals as goal
+
+pub returns-in-Err : goal.returns-in-Err
+returns-in-Err c =
+    answered (IsFilledBy c.args.known.now c.args.dol.now) c.faulted.result (fault_text c.in-Err.fault) status.Fault (unknown c.in-Err.fault c.in-Err.is refl refl) c.faulted.ensures.text c.faulted.ensures.status

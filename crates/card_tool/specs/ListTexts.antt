@@ -1,0 +1,27 @@
+-- What the program says of a data object list.
+use Rattle.std.specs.Prelude.{ℕ, List, [], ◌∷◌, ◌++◌, length, codes, decimal}
+use Rattle.hex.specs.Hex.{encode_upper}
+use Rattle.tlv_core.specs.declared.reason.DolReason.{DolReason}
+use Rattle.tlv_core.specs.declared.reason.DolReason.TheVariants.{TagZero, TagSecond, TagLong}
+use Rattle.card_tool.specs.Texts.{octets_text}
+
+abbrev pub reason_text : DolReason → List ℕ
+reason_text TagZero = codes "TagZero"
+reason_text TagSecond = codes "TagSecond"
+reason_text TagLong = codes "TagLong"
+
+-- the tag and the length of an entry
+abbrev pub entry_text : List ℕ × ℕ → List ℕ
+entry_text e = encode_upper e.0 ++ (codes " " ++ (decimal e.1 ++ codes "\n"))
+
+abbrev pub entries_text : List (List ℕ × ℕ) → List ℕ
+entries_text [] = []
+entries_text (e ∷ entries) = entry_text e ++ entries_text entries
+
+-- a list, line by line
+abbrev pub dol_text : List (List ℕ × ℕ) → List ℕ
+dol_text entries = codes "entries " ++ (decimal (length entries) ++ (codes "\n" ++ entries_text entries))
+
+-- the octets that fill a list
+abbrev pub filled_text : List ℕ → List ℕ
+filled_text octets = octets_text octets ++ codes "\n"

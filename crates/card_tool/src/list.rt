@@ -1,0 +1,132 @@
+//! What the program says of a data object list.
+
+ghost use Rattle.std.specs.Prelude.{◌≡◌, ◌++◌, List, ℕ, IfOk, OnOk, length, string_bytes};
+ghost use Rattle.octet_core.specs.Grammar.{whole};
+ghost use Rattle.tlv_core.specs.Dol.{IsDol, IsDolReason};
+ghost use Rattle.tlv_core.specs.Fill.{filled, HasDuplicate};
+ghost use Rattle.card_tool.specs.Answers.{Tells, IsFilled, IsFilledBy};
+ghost use Rattle.card_tool.specs.ListTexts.{dol_text, entries_text, entry_text, filled_text, reason_text};
+ghost use Rattle.card_tool.specs.Texts.{accepted_text, refused_text};
+ghost use Rattle.card_tool.specs.declared.status.Status.TheVariants as ended;
+
+use crate::answer::Answer;
+use crate::text::octets_word;
+use card_words::{Fault, Knowns};
+use octet_core::{Refused, Stop, hex_upper};
+use std::alloc::{AllocError, Global};
+use tlv_core::{Dol, DolReason, FillFault, Tag};
+
+/// Whether the octets are a data object list.
+pub(crate) fn check(alloc: Global, octets: &[u8]) -> Result<Answer, AllocError>
+    ensures { IfOk result (λ answer. Tells whole IsDol IsDolReason reason_text (λ v n. accepted_text n) octets.now (string_bytes answer.text) answer.status) }
+{
+    match Dol::decode(alloc, octets) {
+        Ok(_) => Answer::accepted(alloc, octets.len()),
+        Err(Refused::Stop(stop)) => refused(alloc, stop),
+        Err(Refused::Memory) => Err(AllocError),
+    }
+}
+
+/// The data object list that the octets spell.
+pub(crate) fn show(alloc: Global, octets: &[u8]) -> Result<Answer, AllocError>
+    ensures { IfOk result (λ answer. Tells whole IsDol IsDolReason reason_text (λ v n. dol_text v) octets.now (string_bytes answer.text) answer.status) }
+{
+    match Dol::decode(alloc, octets) {
+        Ok(dol) => Ok(Answer::told(lines(alloc, &dol)?)),
+        Err(Refused::Stop(stop)) => refused(alloc, stop),
+        Err(Refused::Memory) => Err(AllocError),
+    }
+}
+
+/// What the octets of a list ask for, of what is known. A fault of what is known counts only where they
+/// are a list.
+pub(crate) fn fill(
+    alloc: Global,
+    octets: &[u8],
+    known: &Result<Knowns, Fault>,
+) -> Result<Answer, AllocError>
+    ensures { IfOk result (λ answer. IsFilled octets.now known.now (string_bytes answer.text) answer.status) }
+{
+    match Dol::decode(alloc, octets) {
+        Ok(dol) => fill_by(alloc, &dol, known),
+        Err(Refused::Stop(stop)) => refused(alloc, stop),
+        Err(Refused::Memory) => Err(AllocError),
+    }
+}
+
+/// What a list asks for.
+fn fill_by(alloc: Global, dol: &Dol, known: &Result<Knowns, Fault>) -> Result<Answer, AllocError>
+    ensures { IfOk result (λ answer. IsFilledBy known.now dol.now (string_bytes answer.text) answer.status) }
+{
+    match known {
+        Ok(known) => filled(alloc, dol, known),
+        Err(fault) => Answer::faulted(alloc, *fault),
+    }
+}
+
+fn filled(alloc: Global, dol: &Dol, known: &Knowns) -> Result<Answer, AllocError>
+    ensures { IfOk result (λ answer. IsFilledBy (Ok known.now) dol.now (string_bytes answer.text) answer.status) }
+{
+    match tlv_core::fill(alloc, dol, known.get()) {
+        Ok(octets) => Ok(Answer::told(line(alloc, octets.as_slice())?)),
+        Err(FillFault::Duplicate) => Answer::duplicate(alloc),
+        Err(FillFault::Memory) => Err(AllocError),
+    }
+}
+
+/// Octets, a line.
+fn line(alloc: Global, octets: &[u8]) -> Result<String, AllocError>
+    ensures { IfOk result (λ text. string_bytes text ≡ filled_text octets.now) }
+{
+    let word = octets_word(alloc, octets)?;
+    format!(in alloc; "{word}\n")
+}
+
+/// A list, line by line: the count of its entries, and the tag and the length of each.
+fn lines(alloc: Global, dol: &Dol) -> Result<String, AllocError>
+    ensures { IfOk result (λ text. string_bytes text ≡ dol_text dol.now) }
+{
+    let entries = dol.entries();
+    let count = entries.len();
+    let lines = entry_lines(alloc, entries)?;
+    format!(in alloc; "entries {count}\n{lines}")
+}
+
+fn entry_lines(alloc: Global, entries: &[(Tag, u8)]) -> Result<String, AllocError>
+    ensures { IfOk result (λ text. string_bytes text ≡ entries_text entries.now) }
+{
+    let mut lines = String::new(alloc);
+    for (tag, length) in entries {
+        let line = entry_line(alloc, tag, *length)?;
+        lines.push_str(line.as_str())?;
+    }
+    Ok(lines)
+}
+
+fn entry_line(alloc: Global, tag: &Tag, length: u8) -> Result<String, AllocError>
+    ensures { IfOk result (λ text. string_bytes text ≡ entry_text (tag.now, length)) }
+{
+    let tag = hex_upper(alloc, tag.octets())?;
+    format!(in alloc; "{tag} {length}\n")
+}
+
+fn refused(alloc: Global, stop: Stop<DolReason>) -> Result<Answer, AllocError>
+    ensures text { IfOk result (λ answer. string_bytes answer.text ≡ refused_text reason_text stop) }
+    ensures status { IfOk result (λ answer. answer.status ≡ ended.Refused) }
+{
+    match stop {
+        Stop::Short { place } => Answer::short(alloc, place),
+        Stop::At { place, reason } => Answer::refused_at(alloc, place, reason_name(reason)),
+    }
+}
+
+/// The name of a reason.
+fn reason_name(reason: DolReason) -> &'static str
+    ensures { result.now ≡ reason_text reason }
+{
+    match reason {
+        DolReason::TagZero => "TagZero",
+        DolReason::TagSecond => "TagSecond",
+        DolReason::TagLong => "TagLong",
+    }
+}

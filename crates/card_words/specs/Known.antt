@@ -1,0 +1,62 @@
+-- Known values as words, each F:TAG:VALUE.
+use Rattle.std.specs.Prelude.{◌≡◌, ◌&&◌, ◌==◌, not, ℕ, nat_lt, ◌%◌, List, [], ◌∷◌, length, codes, Bool, true, false, Option, Some, None, Result, Ok, Err, if◌then◌else◌}
+use Rattle.std.specs.Str.{bytes_eq}
+use Rattle.std.specs.List.{position_or_len, before_first, after_first}
+use Rattle.hex.specs.Hex.{decode_of}
+use Rattle.octet_core.specs.declared.format.Format.{Format}
+use Rattle.octet_core.specs.declared.format.Format.TheVariants.{Numeric, CompressedNumeric, Other}
+use Rattle.tlv_core.specs.declared.known.Known.{Known}
+use Rattle.card_words.specs.Value.{◌>>=◌, hex_octets, octets_of_word}
+use Rattle.card_words.specs.declared.fault.Fault.{Fault}
+use Rattle.card_words.specs.declared.fault.Fault.TheVariants.{Words}
+
+abbrev pub is_colon : ℕ → Bool
+is_colon x = x == 58
+
+-- what stands before the first colon of a word and what behind it
+abbrev pub parted : List ℕ → Result (List ℕ × List ℕ) Fault
+parted word = if position_or_len is_colon word == length word then Err Words else Ok (before_first is_colon word, after_first is_colon word)
+
+-- numeric, compressed numeric or another format
+abbrev pub format_of : List ℕ → Result Format Fault
+format_of word =
+    if bytes_eq word (codes "n") then Ok Numeric
+    else (if bytes_eq word (codes "c") then Ok CompressedNumeric
+    else (if bytes_eq word (codes "o") then Ok Other
+    else Err Words))
+
+-- whether octets are one whole tag (EMV 4.3 Book 3, Annex B)
+abbrev pub is_tag : List ℕ → Bool
+is_tag (x ∷ []) = nat_lt 0 x && not (x % 32 == 31)
+is_tag (x ∷ y ∷ []) = x % 32 == 31 && nat_lt 0 y && nat_lt y 128
+is_tag (x ∷ y ∷ z ∷ []) = x % 32 == 31 && nat_lt 128 y && nat_lt z 128
+is_tag _ = false
+
+abbrev pub tag_of : List ℕ → Result (List ℕ) Fault
+tag_of octets = if is_tag octets then Ok octets else Err Words
+
+-- a tag as a word; no word stands for no octets here
+abbrev pub tag_of_word : List ℕ → Result (List ℕ) Fault
+tag_of_word word = hex_octets (decode_of word) >>= tag_of
+
+-- a known value of three words, looked at from left to right
+abbrev pub known_by : List ℕ → List ℕ → List ℕ → Result Known Fault
+known_by format_word tag_word value_word = do
+  format ← format_of format_word
+  tag ← tag_of_word tag_word
+  value ← octets_of_word value_word
+  Ok (record { tag = tag; format = format; value = value })
+
+-- F:TAG:VALUE, parted at its first two colons before anything else is looked at
+abbrev pub known_of : List ℕ → Result Known Fault
+known_of word = do
+  first ← parted word
+  second ← parted first.1
+  known_by first.0 second.0 second.1
+
+abbrev pub knowns_of : List (List ℕ) → Result (List Known) Fault
+knowns_of [] = Ok []
+knowns_of (word ∷ words) = do
+  known ← known_of word
+  more ← knowns_of words
+  Ok (known ∷ more)

@@ -1,0 +1,5 @@
+pub mod Texts
+pub mod Faults
+pub mod Value
+pub mod Known
+pub mod Words

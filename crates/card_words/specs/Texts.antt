@@ -1,0 +1,9 @@
+-- The lines of faults.
+use Rattle.std.specs.Prelude.{ℕ, List, codes}
+use Rattle.card_words.specs.declared.fault.Fault.{Fault}
+use Rattle.card_words.specs.declared.fault.Fault.TheVariants.{Words, Hex, Memory}
+
+abbrev pub fault_text : Fault → List ℕ
+fault_text Words = codes "fault: words\n"
+fault_text Hex = codes "fault: hex\n"
+fault_text Memory = codes "fault: memory\n"

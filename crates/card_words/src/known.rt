@@ -1,0 +1,82 @@
+//! Known values as words.
+
+ghost use Rattle.std.specs.Prelude.{◌≡◌, ◌++◌, ◌∷◌, [], map, OnOk};
+ghost use Rattle.std.specs.Result.{result_map_both};
+ghost use Rattle.card_words.specs.Known.{format_of, known_by, known_of, knowns_of, parted, tag_of, tag_of_word};
+ghost use Rattle.card_words.specs.Value.{UnlessMemory};
+
+use crate::fault::Fault;
+use crate::request::Knowns;
+use crate::value::octets;
+use octet_core::{Format, octets_of};
+use std::alloc::{AllocError, Global};
+use tlv_core::{Known, Tag};
+
+/// The values that the words say, or the fault of the first that says none.
+pub(crate) fn knowns(alloc: Global, words: &[&str]) -> Result<Knowns, Fault>
+    ensures { UnlessMemory result (knowns_of (map (λ word. word.now) words.now)) }
+{
+    let mut list = Vec::new(alloc);
+    for word in words {
+        let known = known(alloc, word)?;
+        push(&mut list, known)?;
+    }
+    Ok(Knowns::of(list))
+}
+
+fn push(list: &mut Vec<Known>, known: Known) -> Result<(), AllocError>
+    ensures { OnOk result (list.new.items ≡ list.old.items ++ known ∷ []) }
+{
+    list.push(known)?;
+    Ok(())
+}
+
+/// The value that a word says: a format, a tag and octets, parted by colons.
+fn known(alloc: Global, word: &str) -> Result<Known, Fault>
+    ensures { UnlessMemory result (known_of word.now) }
+{
+    let (format, rest) = parts(word)?;
+    let (tag, value) = parts(rest)?;
+    known_by(alloc, format, tag, value)
+}
+
+fn known_by(alloc: Global, format_word: &str, tag_word: &str, value: &str) -> Result<Known, Fault>
+    ensures { UnlessMemory result (known_by format_word.now tag_word.now value.now) }
+{
+    let format = format(format_word)?;
+    let tag = tag(alloc, tag_word)?;
+    let value = octets(alloc, value)?;
+    Ok(Known { tag, format, value })
+}
+
+/// What stands before the first colon, and what behind it.
+fn parts(word: &str) -> Result<(&str, &str), Fault>
+    ensures { result_map_both (λ p. (p.0.now, p.1.now)) (λ fault. fault) result ≡ parted word.now }
+{
+    word.split_once(':').ok_or(Fault::Words)
+}
+
+fn format(word: &str) -> Result<Format, Fault>
+    ensures { result ≡ format_of word.now }
+{
+    match word {
+        "n" => Ok(Format::Numeric),
+        "c" => Ok(Format::CompressedNumeric),
+        "o" => Ok(Format::Other),
+        _ => Err(Fault::Words),
+    }
+}
+
+/// The tag that a word gives in hexadecimal.
+fn tag(alloc: Global, word: &str) -> Result<Tag, Fault>
+    ensures { UnlessMemory result (tag_of_word word.now) }
+{
+    let octets = octets_of(alloc, word)?;
+    whole_tag(octets.as_slice())
+}
+
+fn whole_tag(octets: &[u8]) -> Result<Tag, Fault>
+    ensures { result ≡ tag_of octets.now }
+{
+    Tag::new(octets).ok_or(Fault::Words)
+}

@@ -1,0 +1,16 @@
+//! What the words of a command line ask for.
+//!
+//! `read` parses the words once, by `clap`, and reads the matches into a `Request`, in which nothing of
+//! `clap` is left. What the words ask for is said by a function of the words, `request_of` in
+//! `specs/Words.antt`; which words are refused before, by `clap`'s own definitions.
+#![tactic(auto)]
+
+pub mod fault;
+mod known;
+pub mod request;
+mod value;
+pub mod words;
+
+pub use fault::Fault;
+pub use request::{Input, Kind, Knowns, Request};
+pub use words::read;
