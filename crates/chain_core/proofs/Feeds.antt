@@ -18,14 +18,14 @@ use Rattle.chain_core.specs.Receiving.{Goes}
 use Rattle.chain_core.proofs.Taken.{done-spelled, length-taken}
 use Rattle.chain_core.proofs.Receiving.{not-chain}
 
-bool_cases : (d : Bool) → (d ≡ true) ⊎ (d ≡ false)
+pub bool_cases : (d : Bool) → (d ≡ true) ⊎ (d ≡ false)
 bool_cases true = inl refl
 bool_cases false = inr refl
 
-some_is : {A : Type 0} (x y : A) → Some x ≡ Some y → x ≡ y
+pub some_is : {A : Type 0} (x y : A) → Some x ≡ Some y → x ≡ y
 some_is x y e = cc
 
-none_some : {P A : Type 0} (o : Option A) (x : A) → o ≡ None → o ≡ Some x → P
+pub none_some : {P A : Type 0} (o : Option A) (x : A) → o ≡ None → o ≡ Some x → P
 none_some o x e f = absurd (let bad : None ≡ Some x = sym e ∙ f in cc)
 
 -- no octets change nothing
@@ -69,7 +69,7 @@ pub record Fed (old new : Reception) (piece : List ℕ) (n : ℕ) : Type 0 where
   pub closed : IsClosed old → (new ≡ old) × (n ≡ 0)
   pub exit : (length piece ≤ n) ⊎ IsClosed new
 
-chain-at : (old new : Reception) (gs : List (List ℕ)) (t : List ℕ) → new.ifs ≡ old.ifs → new.number ≡ old.number → new.max ≡ old.max → IsChain new.ifs new.number new.max gs t → IsChain old.ifs old.number old.max gs t
+pub chain-at : (old new : Reception) (gs : List (List ℕ)) (t : List ℕ) → new.ifs ≡ old.ifs → new.number ≡ old.number → new.max ≡ old.max → IsChain new.ifs new.number new.max gs t → IsChain old.ifs old.number old.max gs t
 chain-at old new gs t e f g h =
     subst (λ (m : ℕ). IsChain old.ifs old.number m gs t) g (subst (λ (n : Number). IsChain old.ifs n new.max gs t) f (subst (λ (i : ℕ). IsChain i new.number new.max gs t) e h))
 

@@ -68,8 +68,8 @@ at-behind number last ifs max room blocks joined parts.Pcb next c x few some fit
     (omega (arith, at.0, length-append c (x ∷ [])), front-of c x 0 (omega (arith, at.0)) ∙ at.1, (h.2 ∙ sym (last-of c x 1 at.0), counted h.0 last blocks few some h.3))
 at-behind number last ifs max room blocks joined (parts.Len more) next c x few some fits is at h =
     subst (λ (q : part.Part). IsAtPart number max blocks joined q (c ++ x ∷ [])) (sym h.0)
-    (omega (arith, at.0, length-append c (x ∷ [])), front-of c x 0 (omega (arith, at.0)) ∙ at.1, pcb-more number blocks more c x (omega (arith, at.0)) at.2, omega (arith, last-of c x 2 at.0, h.2))
-at-behind number last ifs max room blocks joined (parts.Rest more) next c x few some fits is at h = absurd h
+    (omega (arith, at.0, length-append c (x ∷ [])), front-of c x 0 (omega (arith, at.0)) ∙ at.1, pcb-more number blocks more c x (omega (arith, at.0)) at.2, omega (arith, last-of c x 2 at.0, h.2), last-of c x 2 at.0)
+at-behind number last ifs max room blocks joined (parts.Rest more len) next c x few some fits is at h = absurd h
 
 -- so a block goes on
 pub block-behind : (number : Number) (last : Bool) (ifs max room blocks joined : ℕ) (p next : part.Part) (c : List ℕ) (x : ℕ) → AreOctets (c ++ x ∷ []) → IsAtPart number max blocks joined p c → IsBehind number last ifs room p x next → Begins (IsBlock ifs) (c ++ x ∷ [])
@@ -82,7 +82,7 @@ block-behind number last ifs max room blocks joined (parts.Len more) next c x oc
     let b : List ℕ = c ++ x ∷ [] in
     let len : length b ≡ 3 = omega (arith, at.0, length-append c (x ∷ [])) in
     begun-all ifs (Info number more) b octets (omega (arith, len)) (omega (arith, len)) (at.2.0 ∙ sym (front-of c x 1 (omega (arith, at.0)))) (omega (arith, last-of c x 2 at.0, h.1)) (λ about lt. absurd (omega (arith, len)))
-block-behind number last ifs max room blocks joined (parts.Rest more) next c x octets at h = absurd h
+block-behind number last ifs max room blocks joined (parts.Rest more len) next c x octets at h = absurd h
 
 -- ---- octets that are refused
 
@@ -147,10 +147,10 @@ first-head ifs number max before last room parts.Pcb c x r full fits is at h =
     first-pcb ifs number max before (c ++ x ∷ []) last r (omega (arith, at.0, length-append c (x ∷ []))) full (subst (λ (y : ℕ). IsPcbFault (number_after number (length before)) last y r) (sym (last-of c x 1 at.0)) h)
 first-head ifs number max before last room (parts.Len more) c x r full fits is at h =
     first-len ifs number max before (c ++ x ∷ []) room r (omega (arith, at.0, length-append c (x ∷ []))) fits is (subst (λ (y : ℕ). IsLenFault ifs room y r) (sym (last-of c x 2 at.0)) h)
-first-head ifs number max before last room (parts.Rest more) c x r full fits is at h = absurd h
+first-head ifs number max before last room (parts.Rest more len) c x r full fits is at h = absurd h
 
 pub place-len : (number : Number) (max blocks joined : ℕ) (p : part.Part) (c : List ℕ) → IsHead p → IsAtPart number max blocks joined p c → length c ≡ place_of p
 place-len number max blocks joined parts.Nad c head at = at
 place-len number max blocks joined parts.Pcb c head at = at.0
 place-len number max blocks joined (parts.Len more) c head at = at.0
-place-len number max blocks joined (parts.Rest more) c head at = absurd head
+place-len number max blocks joined (parts.Rest more len) c head at = absurd head

@@ -30,8 +30,8 @@ pub record Whole (number : Number) (max blocks joined ifs : ℕ) (more : Bool) (
   pub octets : AreOctets v.inf
   pub few : blocks + 1 + more_count more ≤ 131072
 
-whole-rest : (number : Number) (max blocks joined ifs : ℕ) (more : Bool) (c xs : List ℕ) (v : Parts) → IsAtPart number max blocks joined (parts.Rest more) c → IsBlock ifs v (c ++ xs) → Whole number max blocks joined ifs more v
-whole-rest number max blocks joined ifs more c xs v at h =
+whole-rest : (number : Number) (max blocks joined ifs len : ℕ) (more : Bool) (c xs : List ℕ) (v : Parts) → IsAtPart number max blocks joined (parts.Rest more len) c → IsBlock ifs v (c ++ xs) → Whole number max blocks joined ifs more v
+whole-rest number max blocks joined ifs len more c xs v at h =
     let s : List ℕ = block.spelling v in
     let nad : v.nad ≡ 0 = sym (octet-at c xs s 0 (omega (arith, at.0)) h.is) ∙ at.1 in
     let kind : v.pcb ≡ Info number more = pcb-back v.pcb (Info number more) (sym (octet-at c xs s 1 (omega (arith, at.0)) h.is) ∙ sym at.2.0) in
@@ -48,7 +48,7 @@ pub whole-of : (number : Number) (max blocks joined ifs : ℕ) (p : part.Part) (
 whole-of number max blocks joined ifs parts.Nad c xs v le at h = absurd (omega arith)
 whole-of number max blocks joined ifs parts.Pcb c xs v le at h = absurd (omega (arith, at.0))
 whole-of number max blocks joined ifs (parts.Len more) c xs v le at h = absurd (omega (arith, at.0))
-whole-of number max blocks joined ifs (parts.Rest more) c xs v le at h = whole-rest number max blocks joined ifs more c xs v at h
+whole-of number max blocks joined ifs (parts.Rest more len) c xs v le at h = whole-rest number max blocks joined ifs len more c xs v at h
 
 -- one block more
 open-mid : (number : Number) (before : List (List ℕ)) (f : List ℕ) → octets_of (open_links number (before ++ f ∷ [])) ≡ octets_of (open_links number before) ++ block.spelling (link (number_after number (length before)) true f)
@@ -97,20 +97,6 @@ joined-waits : (more : Bool) (ifs : ℕ) (number : Number) (max blocks joined : 
 joined-waits true ifs number max blocks joined reader few e = fresh-waits ifs 0 number max (blocks + 1) joined reader few e
 joined-waits false ifs number max blocks joined reader few e = ap (λ (r : Reading). r.taken) e
 
-pub joined-sound : (r : Reception) (number : Number) (room room' : ℕ) (p : part.Part) (reader rd : Reading) (more : Bool) (v : Parts) (joined : List ℕ) → IsSound r number room p reader → Whole number r.max r.blocks (length r.joined) r.ifs more v → room ≤ room' → rd ≡ reading.fresh r.ifs
-    → joined ≡ r.joined ++ v.inf → IsSound (record { ifs = r.ifs; number = r.number; max = r.max; blocks = r.blocks + 1; joined = joined; under_way = rd.taken; done = not more; refusal = r.refusal }) (other number) room' parts.Nad rd
-joined-sound r number room room' p reader rd more v joined sound w grows e is = record {
-  least = sound.least;
-  most = sound.most;
-  limit = sound.limit;
-  reserved = omega (arith, sound.reserved, grows);
-  joined = omega (arith, w.fits, ap length is, length-append r.joined v.inf);
-  blocks = omega (arith, w.few);
-  next = ap other sound.next ∙ next-number r.number r.blocks;
-  size = ap (λ (q : Reading). q.ifs) e;
-  waits = λ none. joined-waits more r.ifs (other number) r.max r.blocks (length joined) rd w.few e;
-}
-
 pub joined-goes : (r new : Reception) (number : Number) (room : ℕ) (p : part.Part) (reader : Reading) (more : Bool) (v : Parts) (xs : List ℕ) → IsSound r number room p reader → IsOpen r → r.under_way ≡ reader.taken → Whole number r.max r.blocks (length r.joined) r.ifs more v
     → reader.taken ++ xs ≡ block.spelling v → new ≡ joined_with r more v.inf → Goes r new xs
 joined-goes r new number room p reader more v xs sound free own w e is =
@@ -127,3 +113,22 @@ joined-goes r new number room p reader more v xs sound free own w e is =
 pub joined-is : (r : Reception) (more said : Bool) (inf joined under_way : List ℕ) → joined ≡ r.joined ++ inf → under_way ≡ [] → more ≡ said
     → record { ifs = r.ifs; number = r.number; max = r.max; blocks = r.blocks + 1; joined = joined; under_way = under_way; done = not more; refusal = r.refusal } ≡ joined_with r said inf
 joined-is r more said inf joined under_way e f g = λ i. record { ifs = r.ifs; number = r.number; max = r.max; blocks = r.blocks + 1; joined = e i; under_way = f i; done = not (g i); refusal = r.refusal }
+
+pub joined-sound : (r : Reception) (number : Number) (room room' : ℕ) (p : part.Part) (reader rd : Reading) (more : Bool) (v : Parts) (xs joined : List ℕ) → IsSound r number room p reader → IsOpen r → r.under_way ≡ reader.taken → reader.taken ++ xs ≡ block.spelling v → Whole number r.max r.blocks (length r.joined) r.ifs more v → room ≤ room' → rd ≡ reading.fresh r.ifs
+    → joined ≡ r.joined ++ v.inf → IsSound (record { ifs = r.ifs; number = r.number; max = r.max; blocks = r.blocks + 1; joined = joined; under_way = rd.taken; done = not more; refusal = r.refusal }) (other number) room' parts.Nad rd
+joined-sound r number room room' p reader rd more v xs joined sound free own spelled w grows e is = record {
+  least = sound.least;
+  most = sound.most;
+  limit = sound.limit;
+  reserved = omega (arith, sound.reserved, grows);
+  joined = omega (arith, w.fits, ap length is, length-append r.joined v.inf);
+  blocks = omega (arith, w.few);
+  next = ap other sound.next ∙ next-number r.number r.blocks;
+  size = ap (λ (q : Reading). q.ifs) e;
+  waits = λ none. joined-waits more r.ifs (other number) r.max r.blocks (length joined) rd w.few e;
+  taken = λ none.
+      let before = sound.taken free.0 in
+      let new : Reception = record { ifs = r.ifs; number = r.number; max = r.max; blocks = r.blocks + 1; joined = joined; under_way = rd.taken; done = not more; refusal = r.refusal } in
+      let held : rd.taken ≡ [] = ap (λ (q : Reading). q.taken) e in
+      (before.0 ++ xs, (joined-goes r new number room p reader more v xs sound free own w spelled (joined-is r more more v.inf joined rd.taken is held refl)).on none before.0 before.1);
+}

@@ -13,3 +13,5 @@ pub mod Receptions
 pub mod Joins
 pub mod Rests
 pub mod Feeds
+pub mod Moves
+pub mod Ends

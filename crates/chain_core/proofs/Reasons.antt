@@ -1,5 +1,5 @@
 -- Where the whole blocks end of octets that are refused, and what of them is the reason.
-use Rattle.std.proofs.Common.{◌≡◌, ◌≢◌, ℕ, ◌+◌, ◌≤◌, ◌++◌, List, [], ◌∷◌, length, refl, sym, ap, subst, ◌∙◌, arith, true, append_assoc, slice_index}
+use Rattle.std.proofs.Common.{◌≡◌, ◌≢◌, ◌⊎◌, inl, inr, ℕ, ◌+◌, ◌<◌, ◌≤◌, ◌++◌, List, [], ◌∷◌, length, refl, sym, ap, subst, ◌∙◌, arith, true, append_assoc, slice_index}
 use Rattle.std.proofs.lemmas.List.{append-nil, length-append}
 use Rattle.octet_core.specs.Octets.{xor_of}
 use Rattle.octet_core.specs.Grammar.{IsFirst}
@@ -24,6 +24,11 @@ part-short c le b s e = omega (arith, ap length e, length-append (block.spelling
 
 len-at : (b : Parts) (s : List ℕ) → slice_index (block.spelling b ++ s) 2 ≡ length b.inf
 len-at b s = refl
+
+-- there are fewer than LEN tells
+pub part-under : (c : List ℕ) → length c < slice_index c 2 + 4 → IsPart c
+unfolding IsPart
+part-under c lt b s e = omega (arith, ap length e, length-append (block.spelling b) s, spelling-len b, ap (λ (l : List ℕ). slice_index l 2) e, len-at b s)
 
 pub part-sum : (c : List ℕ) → length c ≡ slice_index c 2 + 4 → xor_of c ≢ 0 → IsPart c
 unfolding IsPart
@@ -60,6 +65,18 @@ part-meets ifs number max fields c BadLen h = part-short c (omega (arith, h.0))
 part-meets ifs number max fields c OverIfs h = part-short c (omega (arith, h.0))
 part-meets ifs number max fields c TooLong h = part-short c (omega (arith, h.0))
 part-meets ifs number max fields c BadLrc h = part-sum c h.0 h.1
+
+-- a reason is of the first three octets of a block, or of all of them
+pub meets-length : (ifs : ℕ) (number : Number) (max : ℕ) (fields : List (List ℕ)) (c : List ℕ) (r : ChainReason) → MeetsInBlock ifs number max fields c r → (length c ≤ 3) ⊎ (length c ≡ slice_index c 2 + 4)
+meets-length ifs number max fields c BadNad h = inl (omega (arith, h.0))
+meets-length ifs number max fields c BadPcb h = inl (omega (arith, h.0))
+meets-length ifs number max fields c NotInfo h = inl (omega (arith, h.0))
+meets-length ifs number max fields c BadSequence h = inl (omega (arith, h.0))
+meets-length ifs number max fields c TooManyBlocks h = inl (omega (arith, h.0))
+meets-length ifs number max fields c BadLen h = inl (omega (arith, h.0))
+meets-length ifs number max fields c OverIfs h = inl (omega (arith, h.0))
+meets-length ifs number max fields c TooLong h = inl (omega (arith, h.0))
+meets-length ifs number max fields c BadLrc h = inr h.0
 
 -- the reason is that of the block under way
 pub reason-in_block : (ifs : ℕ) (number : Number) (max : ℕ) (fields : List (List ℕ)) (c b : List ℕ) (r : ChainReason) → b ≡ octets_of (open_links number fields) ++ c → IsPart c

@@ -120,7 +120,7 @@ at-part-begins ifs max number before parts.Nad c taken few fits at begun =
     (part-begins ifs number max before false [] [] (block.spelling (link own false [])) taken (omega arith) (omega arith) (λ i. omega arith) (omega arith) refl)
 at-part-begins ifs max number before parts.Pcb c taken few fits at begun = nad-begins ifs max number before c taken few fits at.0 at.1
 at-part-begins ifs max number before (parts.Len go) c taken few fits at begun = pcb-begins ifs max number before go c taken fits at.0 at.1 at.2
-at-part-begins ifs max number before (parts.Rest go) c taken few fits at begun = rest-begins ifs max number before go c taken at.0 at.1 at.2 at.3 begun
+at-part-begins ifs max number before (parts.Rest go len) c taken few fits at begun = rest-begins ifs max number before go c taken at.0 at.1 at.2 at.3 begun
 
 -- and are none
 pub not-chain : (ifs max : ℕ) (number : Number) (before : List (List ℕ)) (c : List ℕ) → (3 < length c → length c < slice_index c 2 + 4) → (gs : List (List ℕ)) → IsChain ifs number max gs (octets_of (open_links number before) ++ c) → ⊥

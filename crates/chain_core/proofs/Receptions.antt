@@ -22,11 +22,12 @@ use Rattle.chain_core.specs.declared.part.Part as part
 use Rattle.chain_core.specs.declared.part.Part.TheVariants as parts
 use Rattle.chain_core.specs.Chain.{IsChain, IsReason, message_of, open_links, octets_of, number_after}
 use Rattle.chain_core.specs.Part.{IsAtPart, IsHead, IsHeadFault, IsBehind, place_of}
-use Rattle.chain_core.specs.Taken.{Reception, HasTaken, AreTaken, IsOpen}
+use Rattle.chain_core.specs.Taken.{Reception, HasTaken, AreTaken, IsOpen, fresh}
 use Rattle.chain_core.specs.Receiving.{IsWaiting, Waits, IsSound, Goes}
 use Rattle.chain_core.proofs.Goes.{Taken}
 use Rattle.chain_core.proofs.Lengths.{open-length}
 use Rattle.chain_core.proofs.Receiving.{begun-taken, at-part-begins, under-length, refused-in_block}
+use Rattle.chain_core.proofs.Feeds.{taken-fresh, some_is}
 use Rattle.chain_core.proofs.Reasons.{part-short}
 use Rattle.chain_core.proofs.Heads.{at-behind, block-behind, first-head, place-len, fed-one}
 
@@ -34,10 +35,7 @@ head-of : (number : Number) (max blocks joined : ℕ) (p : part.Part) (c : List 
 head-of number max blocks joined parts.Nad c few at = tt
 head-of number max blocks joined parts.Pcb c few at = tt
 head-of number max blocks joined (parts.Len more) c few at = tt
-head-of number max blocks joined (parts.Rest more) c few at = omega (arith, at.0)
-
-some_is : {A : Type 0} (x y : A) → Some x ≡ Some y → x ≡ y
-some_is x y e = cc
+head-of number max blocks joined (parts.Rest more len) c few at = omega (arith, at.0)
 
 one-octet : (x : ℕ) → x < 256 → AreOctets (x ∷ [])
 one-octet x small = octets-cons x [] small (λ i. omega arith)
@@ -46,7 +44,7 @@ place-most : (p : part.Part) → IsHead p → place_of p ≤ 2
 place-most parts.Nad head = omega arith
 place-most parts.Pcb head = omega arith
 place-most (parts.Len more) head = omega arith
-place-most (parts.Rest more) head = absurd head
+place-most (parts.Rest more len) head = absurd head
 
 -- a test for the last block
 pub last-full : (blocks : ℕ) → nat_eq (blocks + 1) 131072 ≡ true → blocks + 1 ≡ 131072
@@ -178,6 +176,11 @@ fresh-sound ifs number max room reader least most limit reserved e joined none =
   next = refl;
   size = ap (λ (r : Reading). r.ifs) e;
   waits = λ n. fresh-waits ifs 0 number max 0 (length joined) reader (omega arith) e;
+  taken = λ n.
+      let held : reader.taken ≡ [] = ap (λ (r : Reading). r.taken) e in
+      let is : record { ifs = ifs; number = number; max = max; blocks = 0; joined = joined; under_way = reader.taken; done = false; refusal = None } ≡ fresh ifs number max =
+      λ i. record { ifs = ifs; number = number; max = max; blocks = 0; joined = none i; under_way = held i; done = false; refusal = None } in
+      ([], subst (λ (r : Reception). HasTaken r []) (sym is) (taken-fresh ifs number max));
 }
 
 -- the reader of the block takes an octet that is taken
@@ -190,9 +193,9 @@ head-fed r number room p next reader rd x result sound free own few small behind
     fed-one reader rd x result fed w.taken (omega (arith, ap length own, few)) (subst (λ (i : ℕ). Begins (IsBlock i) (reader.taken ++ x ∷ [])) (sym sound.size) begun)
 
 -- what holds of it then
-pub more-sound : (r : Reception) (number : Number) (room : ℕ) (p next : part.Part) (reader rd : Reading) → IsSound r number room p reader → IsOpen r → rd.ifs ≡ reader.ifs → IsWaiting number r.max r.blocks (length r.joined) next rd
-    → IsSound (record r { under_way = rd.taken }) number room next rd
-more-sound r number room p next reader rd sound free size w = record {
+pub more-sound : (r : Reception) (number : Number) (room : ℕ) (p next : part.Part) (reader rd : Reading) (xs : List ℕ) → IsSound r number room p reader → IsOpen r → r.under_way ≡ reader.taken → reading.HasTaken rd (reader.taken ++ xs) → rd.ifs ≡ reader.ifs
+    → IsWaiting number r.max r.blocks (length r.joined) next rd → IsSound (record r { under_way = rd.taken }) number room next rd
+more-sound r number room p next reader rd xs sound free own h size w = record {
   least = sound.least;
   most = sound.most;
   limit = sound.limit;
@@ -202,6 +205,9 @@ more-sound r number room p next reader rd sound free size w = record {
   next = sound.next;
   size = size ∙ sound.size;
   waits = λ none. subst (λ (d : Bool). Waits d number r.max r.blocks (length r.joined) next rd) (sym free.1) w;
+  taken = λ none.
+      let before = sound.taken free.0 in
+      (before.0 ++ xs, (more-taken r (record r { under_way = rd.taken }) number room p next reader rd xs sound free own h size w refl).on none before.0 before.1);
 }
 
 pub head-part : (r : Reception) (number : Number) (room : ℕ) (p : part.Part) (reader : Reading) → IsSound r number room p reader → IsOpen r → r.under_way ≡ reader.taken → length r.under_way < 3 → IsHead p

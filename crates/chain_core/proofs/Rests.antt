@@ -42,24 +42,24 @@ pub at-more : (number : Number) (max blocks joined : ℕ) (p : part.Part) (c xs 
 at-more number max blocks joined parts.Nad c xs le at = absurd (omega arith)
 at-more number max blocks joined parts.Pcb c xs le at = absurd (omega (arith, at.0))
 at-more number max blocks joined (parts.Len more) c xs le at = absurd (omega (arith, at.0))
-at-more number max blocks joined (parts.Rest more) c xs le at =
+at-more number max blocks joined (parts.Rest more len) c xs le at =
     let keep : (k : ℕ) → k < 3 → slice_index (c ++ xs) k ≡ slice_index c k = λ k lt. get_or_append_left c xs 0 k (omega (arith, lt, le)) in
-    (omega (arith, length-append c xs), keep 0 (omega arith) ∙ at.1, (at.2.0 ∙ sym (keep 1 (omega arith)), at.2.1), omega (arith, keep 2 (omega arith), at.3))
+    (omega (arith, length-append c xs), keep 0 (omega arith) ∙ at.1, (at.2.0 ∙ sym (keep 1 (omega arith)), at.2.1), omega (arith, keep 2 (omega arith), at.3), keep 2 (omega arith) ∙ at.4)
 
 -- the octets of a front that is long enough
 pub at-front : (number : Number) (max blocks joined : ℕ) (p : part.Part) (b : List ℕ) (n : ℕ) → 3 ≤ n → n ≤ length b → 3 ≤ length b → IsAtPart number max blocks joined p b → IsAtPart number max blocks joined p (take n b)
 at-front number max blocks joined parts.Nad b n low high le at = absurd (omega (arith, at, le))
 at-front number max blocks joined parts.Pcb b n low high le at = absurd (omega (arith, at.0))
 at-front number max blocks joined (parts.Len more) b n low high le at = absurd (omega (arith, at.0))
-at-front number max blocks joined (parts.Rest more) b n low high le at =
+at-front number max blocks joined (parts.Rest more len) b n low high le at =
     let keep : (k : ℕ) → k < 3 → slice_index (take n b) k ≡ slice_index b k = λ k lt. get_or-take n b k 0 (omega (arith, lt, low)) in
-    (omega (arith, length-take n b), keep 0 (omega arith) ∙ at.1, (at.2.0 ∙ sym (keep 1 (omega arith)), at.2.1), omega (arith, keep 2 (omega arith), at.3))
+    (omega (arith, length-take n b), keep 0 (omega arith) ∙ at.1, (at.2.0 ∙ sym (keep 1 (omega arith)), at.2.1), omega (arith, keep 2 (omega arith), at.3), keep 2 (omega arith) ∙ at.4)
 
-rest-of : (number : Number) (max blocks joined : ℕ) (p : part.Part) (c : List ℕ) → 3 ≤ length c → IsAtPart number max blocks joined p c → IsAtPart number max blocks joined (parts.Rest (more_said p)) c
+rest-of : (number : Number) (max blocks joined : ℕ) (p : part.Part) (c : List ℕ) → 3 ≤ length c → IsAtPart number max blocks joined p c → IsAtPart number max blocks joined (parts.Rest (more_said p) (slice_index c 2)) c
 rest-of number max blocks joined parts.Nad c le at = absurd (omega arith)
 rest-of number max blocks joined parts.Pcb c le at = absurd (omega (arith, at.0))
 rest-of number max blocks joined (parts.Len more) c le at = absurd (omega (arith, at.0))
-rest-of number max blocks joined (parts.Rest more) c le at = at
+rest-of number max blocks joined (parts.Rest more len) c le at = (at.0, at.1, at.2, at.3, refl)
 
 -- ---- octets that are taken
 
@@ -100,7 +100,7 @@ pub record Refused (ifs : ℕ) (number : Number) (max blocks joined : ℕ) (p : 
   pub late : 3 ≤ at
   pub begun : Begins (IsBlock ifs) (take at b)
   pub not_yet : (v : Parts) → IsBlock ifs v (take at b) → ⊥
-  pub part : IsAtPart number max blocks joined (parts.Rest (more_said p)) (take at b)
+  pub part : IsAtPart number max blocks joined (parts.Rest (more_said p) (slice_index b 2)) (take at b)
   pub long : length (take (at + 1) b) ≡ slice_index (take (at + 1) b) 2 + 4
   pub sum : xor_of (take (at + 1) b) ≢ 0
 
@@ -114,8 +114,8 @@ refused-rest ifs number max blocks joined p c piece at r le part begun h =
       | inr le ↦ le
     ] in
     let whole = rest-of number max blocks joined p b (omega (arith, length-append c piece)) (at-more number max blocks joined p c piece le part) in
-    let here = at-front number max blocks joined (parts.Rest (more_said p)) b at (omega arith) (omega (arith, stuck.inside)) (omega (arith, length-append c piece)) whole in
-    let there = at-front number max blocks joined (parts.Rest (more_said p)) b (at + 1) (omega arith) (omega (arith, stuck.inside)) (omega (arith, length-append c piece)) whole in
+    let here = at-front number max blocks joined (parts.Rest (more_said p) (slice_index b 2)) b at (omega arith) (omega (arith, stuck.inside)) (omega (arith, length-append c piece)) whole in
+    let there = at-front number max blocks joined (parts.Rest (more_said p) (slice_index b 2)) b (at + 1) (omega arith) (omega (arith, stuck.inside)) (omega (arith, length-append c piece)) whole in
     let bad = lrc-only ifs number (more_said p) (take (at + 1) b) r (omega (arith, length-take (at + 1) b, stuck.inside)) there.2.0 (first_holds _ (block.Meets ifs (take (at + 1) b)) r h.1) in
     record {
       inside = stuck.inside;
@@ -151,7 +151,7 @@ rest-refused r new number room p reader piece at sound free own h ifs-is number-
           let opened : List ℕ = octets_of (open_links r.number g.fields) in
           let t-is : t ≡ opened ++ r.under_way = open-is r t free.1 g in
           let taken = begun-taken r.ifs r.max r.number g.fields r.under_way t t-is g.begun in
-          let part = part-of-fields r (parts.Rest (more_said p)) c g.fields g.blocks g.joined (subst (λ (n : Number). IsAtPart n r.max r.blocks (length r.joined) (parts.Rest (more_said p)) c) sound.next h.part) in
+          let part = part-of-fields r (parts.Rest (more_said p) (slice_index b 2)) c g.fields g.blocks g.joined (subst (λ (n : Number). IsAtPart n r.max r.blocks (length r.joined) (parts.Rest (more_said p) (slice_index b 2)) c) sound.next h.part) in
           let begun = rest-begins r.ifs r.max r.number g.fields (more_said p) c taken part.0 part.1 part.2 part.3 h.begun in
           let long : length (c ++ x ∷ []) ≡ slice_index (c ++ x ∷ []) 2 + 4 = subst (λ (l : List ℕ). length l ≡ slice_index l 2 + 4) shape h.long in
           let sum : xor_of (c ++ x ∷ []) ≢ 0 = subst (λ (l : List ℕ). xor_of l ≢ 0) shape h.sum in

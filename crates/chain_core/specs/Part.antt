@@ -47,37 +47,44 @@ abbrev pub IsAtPart : Number → ℕ → ℕ → ℕ → part.Part → List ℕ 
 IsAtPart number max blocks joined parts.Nad c = length c ≡ 0
 IsAtPart number max blocks joined parts.Pcb c = (length c ≡ 1) × (slice_index c 0 ≡ 0)
 IsAtPart number max blocks joined (parts.Len more) c = (length c ≡ 2) × (slice_index c 0 ≡ 0) × IsPcb number blocks more c
-IsAtPart number max blocks joined (parts.Rest more) c = (3 ≤ length c) × (slice_index c 0 ≡ 0) × IsPcb number blocks more c × (joined + slice_index c 2 ≤ max)
+IsAtPart number max blocks joined (parts.Rest more len) c = (3 ≤ length c) × (slice_index c 0 ≡ 0) × IsPcb number blocks more c × (joined + slice_index c 2 ≤ max) × (slice_index c 2 ≡ len)
 
 -- the first three octets of a block come one by one
 abbrev pub IsHead : part.Part → Type 0
 IsHead parts.Nad = Unit {0}
 IsHead parts.Pcb = Unit {0}
 IsHead (parts.Len more) = Unit {0}
-IsHead (parts.Rest more) = ⊥
+IsHead (parts.Rest more len) = ⊥
 
 -- what is wrong with one of them
 abbrev pub IsHeadFault : Number → Bool → ℕ → ℕ → part.Part → ℕ → ChainReason → Type 0
 IsHeadFault number last ifs room parts.Nad x r = (x ≢ 0) × (r ≡ BadNad)
 IsHeadFault number last ifs room parts.Pcb x r = IsPcbFault number last x r
 IsHeadFault number last ifs room (parts.Len more) x r = IsLenFault ifs room x r
-IsHeadFault number last ifs room (parts.Rest more) x r = ⊥
+IsHeadFault number last ifs room (parts.Rest more len) x r = ⊥
 
 -- what comes behind it
 abbrev pub IsBehind : Number → Bool → ℕ → ℕ → part.Part → ℕ → part.Part → Type 0
 IsBehind number last ifs room parts.Nad x next = (x ≡ 0) × (next ≡ parts.Pcb)
 IsBehind number last ifs room parts.Pcb x next = (more : Bool) × (next ≡ parts.Len more) × (pcb_octet (Info number more) ≡ x) × (more ≡ true → last ≡ false)
-IsBehind number last ifs room (parts.Len more) x next = (next ≡ parts.Rest more) × (x ≤ ifs) × (x ≤ room)
-IsBehind number last ifs room (parts.Rest more) x next = ⊥
+IsBehind number last ifs room (parts.Len more) x next = (next ≡ parts.Rest more x) × (x ≤ ifs) × (x ≤ room)
+IsBehind number last ifs room (parts.Rest more len) x next = ⊥
 
 abbrev pub place_of : part.Part → ℕ
 place_of parts.Nad = 0
 place_of parts.Pcb = 1
 place_of (parts.Len more) = 2
-place_of (parts.Rest more) = 3
+place_of (parts.Rest more len) = 3
 
 abbrev pub more_said : part.Part → Bool
 more_said parts.Nad = false
 more_said parts.Pcb = false
 more_said (parts.Len more) = more
-more_said (parts.Rest more) = more
+more_said (parts.Rest more len) = more
+
+-- how many octets of the block there are up to the end of the first three, or of the block once LEN has come
+abbrev pub end_of : part.Part → ℕ
+end_of parts.Nad = 3
+end_of parts.Pcb = 3
+end_of (parts.Len more) = 3
+end_of (parts.Rest more len) = len + 4

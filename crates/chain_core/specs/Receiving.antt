@@ -37,6 +37,8 @@ pub record IsSound (r : Reception) (number : Number) (room : ℕ) (p : part.Part
   pub next : number ≡ number_after r.number r.blocks
   pub size : reader.ifs ≡ r.ifs
   pub waits : r.refusal ≡ None → Waits r.done number r.max r.blocks (length r.joined) p reader
+  -- some list of octets may have been taken
+  pub taken : r.refusal ≡ None → (t : List ℕ) × HasTaken r t
 
 -- how it changes over octets that come: it takes them or refuses
 pub record Goes (old new : Reception) (piece : List ℕ) : Type 0 where

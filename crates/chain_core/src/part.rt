@@ -3,7 +3,7 @@
 ghost use Rattle.std.specs.Prelude.{◌≡◌, ◌≢◌, ◌<◌, ◌≤◌, IfOk, IfErr, OnOk, true, false, IsTrue};
 ghost use Rattle.block_core.specs.Block.{other, pcb_octet};
 ghost use Rattle.block_core.specs.declared.pcb.Pcb.TheVariants.{Info};
-ghost use Rattle.chain_core.specs.Part.{IsPcbFault, IsLenFault, IsHead, IsHeadFault, IsBehind, place_of, more_said};
+ghost use Rattle.chain_core.specs.Part.{IsPcbFault, IsLenFault, IsHead, IsHeadFault, IsBehind, place_of, more_said, end_of};
 
 use crate::reason::ChainReason;
 use block_core::{Number, Pcb};
@@ -15,8 +15,8 @@ pub(crate) enum Part {
     Pcb,
     /// LEN, of a block that says by M whether more follow.
     Len { more: bool },
-    /// The field and the LRC.
-    Rest { more: bool },
+    /// The field, of this length, and the LRC.
+    Rest { more: bool, len: u8 },
 }
 
 impl Part {
@@ -26,7 +26,7 @@ impl Part {
     {
         match self {
             Part::Nad | Part::Pcb => false,
-            Part::Len { more } | Part::Rest { more } => more,
+            Part::Len { more } | Part::Rest { more, .. } => more,
         }
     }
 
@@ -39,6 +39,17 @@ impl Part {
             Part::Pcb => 1,
             Part::Len { .. } => 2,
             Part::Rest { .. } => 3,
+        }
+    }
+
+    /// How many octets of the block there are up to the end of the first three, or of the block once LEN
+    /// has come.
+    pub(crate) fn end(self) -> usize
+        ensures { result ≡ end_of self }
+    {
+        match self {
+            Part::Nad | Part::Pcb | Part::Len { .. } => 3,
+            Part::Rest { len, .. } => len as usize + 4,
         }
     }
 }
@@ -105,7 +116,7 @@ pub(crate) fn behind(
             Err(reason) => Err(reason),
         },
         Part::Len { more } => match check_len(octet, ifs, room) {
-            Ok(()) => Ok(Part::Rest { more }),
+            Ok(()) => Ok(Part::Rest { more, len: octet }),
             Err(reason) => Err(reason),
         },
         Part::Rest { .. } => unreachable!(),

@@ -1,7 +1,8 @@
 //! A chain that comes in pieces, and its message.
 
-ghost use Rattle.std.specs.Prelude.{◌≡◌, ◌+◌, ◌<◌, ◌≤◌, ◌++◌, ◌⊎◌, length, take, IsSome, [], ◌∷◌, IfOk, IfSome, IfNone, MatchBool, true, false, None};
+ghost use Rattle.std.specs.Prelude.{◌≡◌, ◌+◌, ◌*◌, ◌<◌, ◌≤◌, ◌++◌, ◌⊎◌, length, take, IsSome, [], ◌∷◌, IfOk, IfErr, IfSome, IfNone, OnOk, MatchBool, true, false, None, List, ℕ, slice_index};
 ghost use Rattle.octet_core.specs.Reader.{IsFed, IsFinished};
+ghost use Rattle.octet_core.specs.declared.stop.Stop.TheVariants.{Short};
 ghost use Rattle.chain_core.specs.Chain.{IsChain, IsReason};
 ghost use Rattle.chain_core.specs.Taken.{HasTaken, IsOpen, IsClosed, fresh, refusal_of};
 ghost use Rattle.chain_core.specs.Receiving.{Goes};
@@ -110,7 +111,11 @@ impl Receiver {
     /// What there is to say when no more octets come: `Short` with the octets taken where the chain isn't
     /// whole, or the refusal that stands.
     pub fn finish(&self) -> Result<(), Stop<ChainReason>>
-        ensures { IsFinished (IsChain self.now.ifs self.now.number self.now.max) (IsReason self.now.ifs self.now.number self.now.max) HasTaken refusal_of self.now result }
+        ensures finished { IsFinished (IsChain self.now.ifs self.now.number self.now.max) (IsReason self.now.ifs self.now.number self.now.max) HasTaken refusal_of self.now result }
+        ensures done { OnOk result ((self.now.refusal ≡ None) × (self.now.done ≡ true)) }
+        ensures waits { IfErr result (λ stop. self.now.refusal ≡ None → (self.now.done ≡ false) × (stop ≡ Short (length self.now.joined + self.now.blocks * 4 + length self.now.under_way))) }
+        // so what is said of every list that it may have taken is said of some
+        ensures some_taken { self.now.refusal ≡ None → (t : List ℕ) × HasTaken self.now t }
     {
         match self.refusal {
             Some(refusal) => Err(Stop::At {
@@ -143,10 +148,25 @@ impl Receiver {
         self.blocks
     }
 
-    fn is_open(&self) -> bool
+    /// Whether it takes more octets.
+    pub(crate) fn is_open(&self) -> bool
         ensures { MatchBool result (IsOpen self.now) (IsClosed self.now) }
     {
         self.refusal.is_none() && !self.done
+    }
+
+    /// How many octets may come next so that none lies past the block under way: those that are left of
+    /// its first three, or of the block once LEN has come, 1 to 255.
+    pub(crate) fn wanted(&self) -> usize
+        requires { IsOpen self.now }
+        ensures some { 0 < result }
+        ensures most { result ≤ 255 }
+        ensures head { length self.now.under_way < 3 → result + length self.now.under_way ≡ 3 }
+        ensures rest { 3 ≤ length self.now.under_way → result + length self.now.under_way ≡ slice_index self.now.under_way 2 + 4 }
+        ensures taken { (t : List ℕ) × HasTaken self.now t }
+        ensures limit { self.now.max ≤ 131072 }
+    {
+        self.part.end() - self.reader.taken()
     }
 
     /// Takes one of the first three octets of a block, or octets of its rest.

@@ -1,8 +1,8 @@
 //! Chains from the standard's rules, and calls that no clause pins.
 
-use crate::{ChainReason, Receiver, block_at, cut, write_chain};
+use crate::{ChainReason, ReadRefusal, Receiver, block_at, cut, read_chain, write_chain};
 use block_core::{Number, encode};
-use octet_core::{After, Counted, Stop, Taker, WriteFault};
+use octet_core::{After, Counted, Feeder, Source, Stop, Taker, WriteFault};
 use std::test::Fail;
 
 /// 00 A4 04 00 00, in blocks of two octets.
@@ -192,5 +192,150 @@ fn cut_long_messages(rt: HostRuntime) -> Result<(), Fail> {
         }
     }
     assert_eq!(rt; long, 259);
+    Ok(())
+}
+
+/// The chain behind its first seven octets, and an octet that follows it.
+const REST: [u8; 11] = [
+    0x60, 0x02, 0x04, 0x00, 0x66, 0x00, 0x00, 0x01, 0x00, 0x01, 0xFF,
+];
+
+fn short(place: usize) -> Result<(), ReadRefusal> {
+    Err(ReadRefusal::Stop(Stop::Short { place }))
+}
+
+fn stop(place: usize, reason: ChainReason) -> Result<(), ReadRefusal> {
+    Err(ReadRefusal::Stop(Stop::At { place, reason }))
+}
+
+#[test]
+fn read_on_behind_a_failure(rt: HostRuntime) -> Result<(), Fail> {
+    let mut receiver = Receiver::new(rt.alloc(), 2, Number::Zero, 5)?;
+    let mut reader = Counted::new(Feeder::new(&CHAIN[..7], 4096, After::Fails));
+    assert_eq!(rt;
+        read_chain(&mut reader, &mut receiver),
+        Err(ReadRefusal::Read { taken: 7 })
+    );
+    let mut reader = Counted::new(Feeder::new(&REST, 4096, After::End));
+    assert_eq!(rt; read_chain(&mut reader, &mut receiver), Ok(()));
+    assert!(rt;
+        receiver
+            .message()
+            .is_some_and(|message| message == SELECT.as_slice())
+    );
+    let mut next = [0, 0];
+    assert_eq!(rt; reader.read(&mut next)?, 1);
+    assert_eq!(rt; next[0], 0xFF);
+    assert_eq!(rt; reader.into_inner().given(), 11);
+    Ok(())
+}
+
+#[test]
+fn read_from_a_source_that_fails(rt: HostRuntime) -> Result<(), Fail> {
+    let mut receiver = Receiver::new(rt.alloc(), 2, Number::Zero, 5)?;
+    for after in [After::Fails, After::Interrupted] {
+        for step in [1, 4096] {
+            for taken in 0..CHAIN.len() {
+                receiver.restart(Number::Zero);
+                let mut reader = Counted::new(Feeder::new(&CHAIN[..taken], step, after));
+                assert_eq!(rt;
+                    read_chain(&mut reader, &mut receiver),
+                    Err(ReadRefusal::Read { taken })
+                );
+                let mut reader = Counted::new(Feeder::new(&CHAIN[taken..], step, after));
+                assert_eq!(rt; read_chain(&mut reader, &mut receiver), Ok(()));
+                assert_eq!(rt; receiver.blocks(), 3);
+            }
+        }
+    }
+    Ok(())
+}
+
+#[test]
+fn read_from_a_source_that_ends(rt: HostRuntime) -> Result<(), Fail> {
+    let mut receiver = Receiver::new(rt.alloc(), 2, Number::Zero, 5)?;
+    for step in [1, 4096] {
+        for place in 0..CHAIN.len() {
+            receiver.restart(Number::Zero);
+            let mut reader = Counted::new(Feeder::new(&CHAIN[..place], step, After::End));
+            assert_eq!(rt; read_chain(&mut reader, &mut receiver), short(place));
+            assert_eq!(rt; read_chain(&mut reader, &mut receiver), short(place));
+            let mut reader = Counted::new(Feeder::new(&CHAIN[place..], step, After::End));
+            assert_eq!(rt; read_chain(&mut reader, &mut receiver), Ok(()));
+        }
+    }
+    Ok(())
+}
+
+#[test]
+fn read_up_to_the_refused_block(rt: HostRuntime) -> Result<(), Fail> {
+    let mut receiver = Receiver::new(rt.alloc(), 2, Number::Zero, 4)?;
+    let mut reader = Counted::new(Feeder::new(&CHAIN, 4096, After::End));
+    let refusal = stop(14, ChainReason::TooLong);
+    assert_eq!(rt; read_chain(&mut reader, &mut receiver), refusal);
+    assert_eq!(rt; reader.into_inner().given(), 15);
+    let mut reader = Counted::new(Feeder::new(&CHAIN, 4096, After::End));
+    assert_eq!(rt; read_chain(&mut reader, &mut receiver), refusal);
+    assert_eq!(rt; reader.into_inner().given(), 0);
+    for (octets, refusal, given) in [
+        (
+            [0x01, 0x20, 0x02, 0x00, 0xA4, 0x86],
+            stop(0, ChainReason::BadNad),
+            3,
+        ),
+        (
+            [0x00, 0x60, 0x02, 0x00, 0xA4, 0x86],
+            stop(1, ChainReason::BadSequence),
+            3,
+        ),
+        (
+            [0x00, 0x20, 0x03, 0x00, 0xA4, 0x86],
+            stop(2, ChainReason::OverIfs),
+            3,
+        ),
+        (
+            [0x00, 0x20, 0x02, 0x00, 0xA4, 0x87],
+            stop(5, ChainReason::BadLrc),
+            6,
+        ),
+        (
+            [0x00, 0x20, 0x01, 0x00, 0xA4, 0x86],
+            stop(4, ChainReason::BadLrc),
+            5,
+        ),
+    ] {
+        receiver.restart(Number::Zero);
+        let mut reader = Counted::new(Feeder::new(&octets, 4096, After::End));
+        assert_eq!(rt; read_chain(&mut reader, &mut receiver), refusal);
+        assert_eq!(rt; reader.into_inner().given(), given);
+    }
+    Ok(())
+}
+
+#[test]
+fn read_nothing_where_it_is_done(rt: HostRuntime) -> Result<(), Fail> {
+    let mut receiver = Receiver::new(rt.alloc(), 2, Number::Zero, 5)?;
+    assert_eq!(rt; receiver.feed(&CHAIN), Ok((17, true)));
+    let mut reader = Counted::new(Feeder::new(&CHAIN, 4096, After::Fails));
+    assert_eq!(rt; read_chain(&mut reader, &mut receiver), Ok(()));
+    assert_eq!(rt; reader.into_inner().given(), 0);
+    assert!(rt;
+        receiver
+            .message()
+            .is_some_and(|message| message == SELECT.as_slice())
+    );
+    Ok(())
+}
+
+#[test]
+fn read_from_a_source_without_an_end(rt: HostRuntime) -> Result<(), Fail> {
+    let blocks = [0x00, 0x20, 0x00, 0x20, 0x00, 0x60, 0x00, 0x60];
+    let mut receiver = Receiver::new(rt.alloc(), 254, Number::Zero, 0)?;
+    let mut reader = Counted::new(Feeder::new(&blocks, 4096, After::Repeats));
+    assert_eq!(rt;
+        read_chain(&mut reader, &mut receiver),
+        stop(524_285, ChainReason::TooManyBlocks)
+    );
+    assert_eq!(rt; reader.into_inner().given(), 524_287);
     Ok(())
 }

@@ -6,14 +6,14 @@ use Rattle.chain_core.specs.Taken.{Reception, HasTaken, refusal_of}
 use Rattle.chain_core.proofs.Feeds.{finished-done, finished-short}
 use Rattle.chain_core.proofs.receiver.Receiver.finish.Goals as goal
 
-pub returns-in-None : goal.returns-in-None
-returns-in-None c =
+pub returns-in-None-clause-finished : goal.returns-in-None-clause-finished
+returns-in-None-clause-finished c =
     let i = c.self.inside in
     let r : Reception = record { ifs = i.ifs; number = i.first; max = i.max; blocks = i.blocks; joined = i.message.items; under_way = i.reader.taken; done = i.done; refusal = i.refusal } in
     subst (λ (s : Reception). IsFinished (IsChain s.ifs s.number s.max) (IsReason s.ifs s.number s.max) HasTaken refusal_of s (Ok tt)) c.self.view_is (finished-done r c.in-None.is c.if-self.true)
 
-pub returns-in-None-2 : goal.returns-in-None-2
-returns-in-None-2 c =
+pub returns-in-None-2-clause-finished : goal.returns-in-None-2-clause-finished
+returns-in-None-2-clause-finished c =
     let i = c.self.inside in
     let r : Reception = record { ifs = i.ifs; number = i.first; max = i.max; blocks = i.blocks; joined = i.message.items; under_way = i.reader.taken; done = i.done; refusal = i.refusal } in
     subst (λ (s : Reception). IsFinished (IsChain s.ifs s.number s.max) (IsReason s.ifs s.number s.max) HasTaken refusal_of s (Err (Short (c.len.result + 4 * i.blocks + c.taken.result)))) c.self.view_is

@@ -18,7 +18,7 @@ invariant_of-self c =
     let rd : Reading = c.feed-taken.new.self in
     let taken = head-fed r i.number _ i.part c.in-Ok.part i.reader rd c.args.octet c.feed-taken.result c.self.invariant free refl few small behind c.feed-taken.ensures.fed in
     let w = head-waits r i.number _ i.part c.in-Ok.part i.reader rd c.args.octet c.self.invariant free refl few small behind taken c.feed-taken.ensures.size in
-    more-sound r i.number _ i.part c.in-Ok.part i.reader rd c.self.invariant free c.feed-taken.ensures.size w
+    more-sound r i.number _ i.part c.in-Ok.part i.reader rd (c.args.octet ∷ []) c.self.invariant free refl taken c.feed-taken.ensures.size w
 
 pub returns-in-Ok : goal.returns-in-Ok
 returns-in-Ok c =

@@ -51,7 +51,7 @@ invariant_of-self c =
     let done : c.extend_from_slice.result ≡ Ok c.unwrap.result = c.unwrap.ensures in
     let joined : c.extend_from_slice.new.self.items ≡ i.message.items ++ v.inf = rw done at c.extend_from_slice.ensures.items ∙ ap (λ (l : List ℕ). i.message.items ++ l) c.inf.ensures.octets in
     subst (λ (n : Number). IsSound (record { ifs = i.ifs; number = i.first; max = i.max; blocks = i.blocks + 1; joined = c.extend_from_slice.new.self.items; under_way = c.reset.new.self.taken; done = not c.more.result; refusal = i.refusal }) n (vec_capacity c.extend_from_slice.new.self) parts.Nad c.reset.new.self) (sym c.other-self-inside.ensures)
-    (joined-sound r i.number _ _ i.part i.reader c.reset.new.self c.more.result v c.extend_from_slice.new.self.items c.self.invariant (subst (λ (m : Bool). Whole i.number i.max i.blocks (length i.message.items) i.ifs m v) (sym c.more.ensures) whole) c.extend_from_slice.ensures.capacity (c.reset.ensures ∙ ap reading.fresh size) joined)
+    (joined-sound r i.number _ _ i.part i.reader c.reset.new.self c.more.result v xs c.extend_from_slice.new.self.items c.self.invariant free refl spelled.is (subst (λ (m : Bool). Whole i.number i.max i.blocks (length i.message.items) i.ifs m v) (sym c.more.ensures) whole) c.extend_from_slice.ensures.capacity (c.reset.ensures ∙ ap reading.fresh size) joined)
 
 pub returns-in-Some-clause-goes : goal.returns-in-Some-clause-goes
 returns-in-Some-clause-goes c =
@@ -86,7 +86,7 @@ invariant_of-self-in_default c =
     let h : reading.HasTaken rd (i.reader.taken ++ xs) = c.in-Ok.ensures.fed.taken.1 i.reader.taken w.taken in
     let octets : AreOctets xs = octets-take c.in-Ok.taken c.args.piece.now (λ k. omega (arith, c.type_inv.piece k)) in
     let then = rest-waits r i.number i.part i.reader rd xs w long octets h c.in_default.ensures.none in
-    more-sound r i.number _ i.part i.part i.reader rd c.self.invariant free c.in-Ok.ensures.size then
+    more-sound r i.number _ i.part i.part i.reader rd xs c.self.invariant free refl h c.in-Ok.ensures.size then
 
 pub returns-in_default-clause-goes : goal.returns-in_default-clause-goes
 returns-in_default-clause-goes c =

@@ -1,0 +1,81 @@
+//! A chain read from a source.
+
+ghost use Rattle.std.specs.Prelude.{◌≡◌, length, true, None, IfSome, IfNone};
+ghost use Rattle.std.specs.Io.KnownBytes.{Keeps};
+ghost use Rattle.octet_core.specs.Failures.{next_count};
+ghost use Rattle.octet_core.specs.declared.stop.Refusal.{Refusal};
+ghost use Rattle.chain_core.specs.declared.reason.ChainReason.{ChainReason};
+ghost use Rattle.chain_core.specs.Taken.{IsOpen};
+ghost use Rattle.chain_core.specs.Reads.{Reads, CountsFault, MovesOn};
+
+use crate::reason::ChainReason;
+use crate::receiver::Receiver;
+use octet_core::{Source, Stop};
+
+/// Why no whole chain was read.
+#[derive(Clone, Copy, Debug, PartialEq, Eq)]
+pub enum ReadRefusal {
+    /// The source failed, by an interruption too, behind `taken` octets of this call, which the receiver
+    /// has taken.
+    Read { taken: usize },
+    /// The chain was refused, or the source ended before it was whole.
+    Stop(Stop<ChainReason>),
+}
+
+/// The most octets that one call of a source is asked for: the longest field and the LRC.
+const MOST_WANTED: usize = 255;
+
+/// Reads a chain (ISO/IEC 7816-3, clause 11.6) to its end, behind what the receiver took before. The source
+/// is asked for NAD, PCB and LEN of a block, and then for LEN + 1 octets, or for what is left of either, so
+/// what follows the chain stays unread.
+///
+/// `Read` comes where a call of the source failed, which isn't tried again: the receiver stands as behind
+/// the `taken` octets, and a further call goes on from there. `Short` comes where the source ended, with the
+/// octets of the chain that came before the end, and the receiver stands as behind them. `At` gives the first
+/// octet after which no chain goes on, counted from the first that was fed since the receiver was new or
+/// restarted, and its reason; the receiver keeps it. No octet is then read past the first three of the block
+/// in which that octet stands, or past that octet.
+///
+/// Where the receiver is done the answer is `Ok(())`, and where it refused that refusal; then nothing is
+/// read.
+pub fn read_chain<R: Source>(reader: &mut R, receiver: &mut Receiver) -> Result<(), ReadRefusal>
+    ensures reads { Reads (R.remaining reader.old) (R.remaining reader.new) receiver.old receiver.new result }
+    ensures counted { CountsFault result (R.failures reader.old) (R.failures reader.new) }
+    ensures kept { (receiver.new.ifs ≡ receiver.old.ifs) × (receiver.new.number ≡ receiver.old.number) × (receiver.new.max ≡ receiver.old.max) }
+
+    ensures done { receiver.old.refusal ≡ None → receiver.old.done ≡ true → (result ≡ Ok tt) × (reader.new ≡ reader.old) × (receiver.new ≡ receiver.old) }
+    ensures repeated { (refusal : Refusal ChainReason) → receiver.old.refusal ≡ Some refusal → (result ≡ Err (ReadRefusal.Stop (Stop.At refusal.place refusal.reason))) × (reader.new ≡ reader.old) × (receiver.new ≡ receiver.old) }
+{
+    let mut room = [0; MOST_WANTED];
+    let mut taken = 0;
+    while receiver.is_open() {
+        match read_some(reader, receiver, &mut room) {
+            Some(0) => break,
+            Some(count) => taken += count,
+            None => return Err(ReadRefusal::Read { taken }),
+        }
+    }
+    receiver.finish().map_err(ReadRefusal::Stop)
+}
+
+/// Reads octets of the block under way by one call, which the receiver takes: how many, none at the end
+/// of the input, and `None` where the call fails.
+fn read_some<R: Source>(reader: &mut R, receiver: &mut Receiver, room: &mut [u8]) -> Option<usize>
+    requires open { IsOpen receiver.old }
+    requires room { length room.old ≡ 255 }
+    ensures moved { IfSome result (λ count. MovesOn (R.remaining reader.old) (R.remaining reader.new) receiver.old receiver.new count) }
+    ensures none_failed { IfSome result (λ count. R.failures reader.new ≡ R.failures reader.old) }
+
+    ensures nothing { IfNone result (Keeps (R.remaining reader.old) (R.remaining reader.new) × (receiver.new ≡ receiver.old)) }
+    ensures failed { IfNone result (R.failures reader.new ≡ next_count (R.failures reader.old)) }
+{
+    let room = &mut room[..receiver.wanted()];
+    match reader.read(room) {
+        Ok(0) => Some(0),
+        Ok(count) => {
+            let _fed = receiver.feed(&room[..count]);
+            Some(count)
+        }
+        Err(_) => None,
+    }
+}
