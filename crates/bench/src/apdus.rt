@@ -1,0 +1,48 @@
+//! Commands decoded where their octets stand.
+
+use crate::work::Work;
+use apdu_core::CommandRef;
+use std::io::{self, ErrorKind};
+use std::time::Instant;
+
+/// How often each command is decoded.
+const TIMES: usize = 100_000;
+
+/// Decodes commands with data fields of 1 to 65,535 octets, each as often: the time is the same.
+pub(crate) fn decode_each(rt: &HostRuntime, timed: bool) -> io::Result<()> {
+    for lc in [1u16, 255, 4_096, 65_535] {
+        let mut command = Vec::new(rt.alloc());
+        command.extend_from_slice(&[0x00, 0xD6, 0x00, 0x00, 0x00])?;
+        command.extend_from_slice(&lc.to_be_bytes())?;
+        let part = vec![in rt.alloc(); 0xA5u8; lc as usize]?;
+        command.extend_from_slice(part.as_slice())?;
+        let started = Instant::now(rt)?;
+        if !is_decoded(command.as_slice(), lc as usize) {
+            return Err(ErrorKind::InvalidData.into());
+        }
+        let work = Work {
+            name: "command decoded in place",
+            octets: command.len(),
+            parts: TIMES,
+            unit: "times",
+        };
+        work.tell(rt, started, timed)?;
+    }
+    Ok(())
+}
+
+/// Whether a command is decoded each time, with a data field of so many octets, and is short each time
+/// without its last octet.
+fn is_decoded(octets: &[u8], len: usize) -> bool {
+    for turn in 0..TIMES {
+        let cut = octets.len().saturating_sub(turn % 2);
+        let is_whole = match CommandRef::decode(&octets[..cut]) {
+            Ok(command) => command.part().len() == len,
+            Err(_) => false,
+        };
+        if is_whole != (turn % 2 == 0) {
+            return false;
+        }
+    }
+    true
+}

@@ -1,0 +1,74 @@
+//! Forests of data objects, checked and read.
+
+use crate::work::Work;
+use std::alloc::Global;
+use std::io::{self, ErrorKind};
+use std::time::Instant;
+use tlv_core::{FlatForest, ForestCheck, LARGEST_FOREST};
+
+/// Four objects at three depths, in 18 octets.
+const OBJECTS: [u8; 18] = [
+    0x70, 0x10, 0x5A, 0x06, 0x12, 0x34, 0x56, 0x78, 0x90, 0x12, 0x70, 0x06, 0x9F, 0x02, 0x03, 0x00,
+    0x10, 0x00,
+];
+
+/// A primitive object whose value has 60,000 octets begins so.
+const LARGE: [u8; 4] = [0x5A, 0x82, 0xEA, 0x60];
+
+/// Judges forests of many small and of few large objects, of 64 KiB and of 1 MiB.
+pub(crate) fn judge_each(rt: &HostRuntime, timed: bool) -> io::Result<()> {
+    for size in [65_536, LARGEST_FOREST] {
+        let many = many(rt.alloc(), size)?;
+        judge(rt, timed, "many objects", many.as_slice())?;
+        let large = large(rt.alloc(), size)?;
+        judge(rt, timed, "large objects", large.as_slice())?;
+    }
+    Ok(())
+}
+
+/// Small objects, nested, in at most so many octets.
+fn many(alloc: Global, size: usize) -> io::Result<Vec<u8>> {
+    let mut octets = Vec::new(alloc);
+    for _ in 0..size / OBJECTS.len() {
+        octets.extend_from_slice(&OBJECTS)?;
+    }
+    Ok(octets)
+}
+
+/// Objects with values of 60,000 octets, in at most so many octets.
+fn large(alloc: Global, size: usize) -> io::Result<Vec<u8>> {
+    let value = vec![in alloc; 0x00u8; 60_000]?;
+    let mut octets = Vec::new(alloc);
+    for _ in 0..size / (LARGE.len() + value.len()) {
+        octets.extend_from_slice(&LARGE)?;
+        octets.extend_from_slice(value.as_slice())?;
+    }
+    Ok(octets)
+}
+
+/// Checks a forest, and reads its parts.
+fn judge(rt: &HostRuntime, timed: bool, name: &'static str, octets: &[u8]) -> io::Result<()> {
+    let started = Instant::now(rt)?;
+    let mut check = ForestCheck::new(LARGEST_FOREST);
+    if check.feed(octets).is_err() || check.finish().is_err() {
+        return Err(ErrorKind::InvalidData.into());
+    }
+    let work = Work {
+        name,
+        octets: octets.len(),
+        parts: 1,
+        unit: "check",
+    };
+    work.tell(rt, started, timed)?;
+    let started = Instant::now(rt)?;
+    let Ok(forest) = FlatForest::read(rt.alloc(), octets, LARGEST_FOREST) else {
+        return Err(ErrorKind::InvalidData.into());
+    };
+    let work = Work {
+        name,
+        octets: octets.len(),
+        parts: forest.parts().len(),
+        unit: "parts lent",
+    };
+    work.tell(rt, started, timed)
+}

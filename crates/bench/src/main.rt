@@ -1,0 +1,31 @@
+//! How long the stack takes, over messages and forests of growing size. It judges nothing.
+//!
+//! Without words it does each work once and prints its size, so that two runs print the same. Behind the
+//! word `times` each line also says how many microseconds the work took.
+#![tactic(auto)]
+
+mod apdus;
+mod chains;
+mod forests;
+mod session;
+mod work;
+
+use std::{env, io};
+
+fn main(rt: HostRuntime) -> io::Result<()> {
+    let timed = is_timed(&rt)?;
+    chains::carry_each(&rt, timed)?;
+    apdus::decode_each(&rt, timed)?;
+    forests::judge_each(&rt, timed)?;
+    session::exchange_each(&rt, timed)
+}
+
+/// Whether a word asks for times.
+fn is_timed(rt: &HostRuntime) -> io::Result<bool> {
+    for word in env::args(rt)? {
+        if word.as_str() == "times" {
+            return Ok(true);
+        }
+    }
+    Ok(false)
+}
