@@ -8,7 +8,7 @@ use Rattle.tlv_core.specs.Tree.{Tree, End, Constructed}
 use Rattle.tlv_core.specs.Forest.{spelling, IsProper, IsObject}
 use Rattle.tlv_core.specs.Reasons.{Kept}
 use Rattle.tlv_core.specs.Steps.{spent}
-use Rattle.tlv_core.specs.Grown.{Opened, AreOpen, HasGrown}
+use Rattle.tlv_core.specs.Grown.{Opened, AreOpen, HasGrown, Closing}
 use Rattle.tlv_core.proofs.One.{join}
 use Rattle.tlv_core.proofs.Stands.{FitsIn, fits_need, fits_room, spelling-join, proper-join}
 use Rattle.tlv_core.proofs.Steps.{spent-more, spent-last, spent-inside, spent-length, fits_more}
@@ -123,11 +123,6 @@ open_last (p ∷ opened) [] d o b proper object h = absurd h
 open_last (p ∷ opened) (room ∷ rooms) d o b proper object h =
     let depth : d + length (room ∷ rooms) ≡ d + 1 + length rooms = omega arith in
     (h.0, h.1, open_last opened rooms (d + 1) o h.0 (subst (λ (e : ℕ). IsProper e o.before) depth proper) (subst (λ (e : ℕ). IsObject e 1 o.tag o.form o.len) depth object) h.2)
-
--- So many of the open objects have their whole value, and the innermost list is whole.
-pub record Closing (b rooms : List ℕ) (closed : ℕ) (opened : List Opened) (list : Tree) : Type 0 where
-  pub opened_yet : AreOpen 1 opened (rooms ++ zeros closed) (spelling list) b
-  pub proper : IsProper (1 + length (rooms ++ zeros closed)) list
 
 zeros_last : (n : ℕ) → zeros (suc n) ≡ zeros n ++ 0 ∷ []
 zeros_last zero = refl

@@ -23,9 +23,11 @@ pub mod Listed
 pub mod Somewhere
 pub mod Listing
 pub mod Knowns
-pub mod Building
 pub mod Growing
 pub mod Grows
 pub mod Placing
 pub mod Flattening
+pub mod Valued
 pub mod Walked
+pub mod Closes
+pub mod Reading

@@ -6,10 +6,10 @@ use Rattle.tlv_core.specs.Tag.{header_of}
 use Rattle.tlv_core.specs.Tree.{Tree, End, Filler, Primitive, Constructed}
 use Rattle.tlv_core.specs.Forest.{spelling}
 use Rattle.tlv_core.specs.Parts.{Placed, value_place, preorder}
-use Rattle.tlv_core.specs.Grown.{Opened, AreOpen}
+use Rattle.tlv_core.specs.Grown.{Opened, AreOpen, Closing}
 use Rattle.tlv_core.specs.Flat.{placed_at, placed_in, placed_list}
 use Rattle.tlv_core.proofs.One.{join}
-use Rattle.tlv_core.proofs.Growing.{Closing, closed_list, close_one, open_length}
+use Rattle.tlv_core.proofs.Growing.{closed_list, close_one, open_length}
 
 -- ---- preorder
 

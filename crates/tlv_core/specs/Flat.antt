@@ -2,7 +2,7 @@
 use Rattle.std.specs.Prelude.{◌≡◌, ℕ, ◌+◌, ◌≤◌, List, [], ◌∷◌, ◌++◌, length, take, drop, map, Option, Some, None}
 use Rattle.tlv_core.specs.declared.form.Form.{Form}
 use Rattle.tlv_core.specs.declared.part.Part.{Part}
-use Rattle.tlv_core.specs.Tree.{Tree}
+use Rattle.tlv_core.specs.Tree.{Tree, End, Filler, Primitive, Constructed}
 use Rattle.tlv_core.specs.Forest.{spelling}
 use Rattle.tlv_core.specs.Parts.{Placed, value_place, preorder}
 use Rattle.tlv_core.specs.Reasons.{Kept, HasTaken}
@@ -22,6 +22,13 @@ part_in b p = record { depth = p.depth; tag = p.tag; form = p.form; value = take
 -- the parts of the forest that the octets b spell
 abbrev pub parts_in : List ℕ → Tree → List PartValue
 parts_in b t = map (part_in b) (preorder 1 0 t)
+
+-- the objects of a list at depth d, each before its nodes; the value of a constructed one is the octets of its nodes
+abbrev pub parts_of : ℕ → Tree → List PartValue
+parts_of d End = []
+parts_of d (Filler rest) = parts_of d rest
+parts_of d (Primitive tag form value rest) = record { depth = d; tag = tag; form = form; value = value } ∷ parts_of d rest
+parts_of d (Constructed tag form nodes rest) = record { depth = d; tag = tag; form = form; value = spelling nodes } ∷ (parts_of (d + 1) nodes ++ parts_of d rest)
 
 -- what contracts see of the parts that are lent
 abbrev pub part_seen : Part → PartValue

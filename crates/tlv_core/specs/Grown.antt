@@ -2,6 +2,7 @@
 use Rattle.std.specs.Prelude.{◌≡◌, ℕ, ◌+◌, ◌<◌, List, [], ◌∷◌, ◌++◌, length, Option, Some, None}
 use Rattle.octet_core.specs.Octets.{AreOctets}
 use Rattle.tlv_core.specs.declared.form.Form.{Form}
+use Rattle.tlv_core.specs.Number.{zeros}
 use Rattle.tlv_core.specs.Tag.{header_of}
 use Rattle.tlv_core.specs.Tree.{Tree}
 use Rattle.tlv_core.specs.Forest.{spelling, IsProper, IsObject}
@@ -57,3 +58,9 @@ pub record HasGrown (b : List ℕ) (k : Kept) (g : Grown) : Type 0 where
   pub opened : AreOpen 1 g.opened k.rooms (spelling g.list ++ under_way g.value k.header) b
   pub proper : IsProper (1 + length k.rooms) g.list
   pub under : IsUnderWay (1 + length k.rooms) g.value k.header k.value_left
+
+-- The octets b are what this tree spells, with these rooms; and inside the objects that have them as many more stand open
+-- whose value is whole, and are to be closed.
+pub record Closing (b rooms : List ℕ) (closed : ℕ) (opened : List Opened) (list : Tree) : Type 0 where
+  pub opened_yet : AreOpen 1 opened (rooms ++ zeros closed) (spelling list) b
+  pub proper : IsProper (1 + length (rooms ++ zeros closed)) list

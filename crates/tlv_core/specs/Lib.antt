@@ -19,6 +19,6 @@ pub mod Progress
 pub mod Check
 pub mod Own
 pub mod Fill
-pub mod Built
 pub mod Grown
 pub mod Flat
+pub mod Read

@@ -8,7 +8,7 @@ ghost use Rattle.tlv_core.specs.Forest.{IsForest};
 ghost use Rattle.tlv_core.specs.Reasons.{IsReason};
 ghost use Rattle.tlv_core.specs.Progress.{kept_of};
 ghost use Rattle.octet_core.specs.declared.stop.Refused.TheVariants.{Memory};
-ghost use Rattle.tlv_core.specs.Flat.{part_seen, parts_in, IsKeptPart, HasFlat};
+ghost use Rattle.tlv_core.specs.Flat.{part_seen, parts_in, parts_of, IsKeptPart, HasFlat};
 
 use crate::header::ObjectHeader;
 use crate::part::Part;
@@ -47,7 +47,8 @@ impl<'a> FlatForest<'a> {
     ) -> Result<FlatForest<'a>, Refused<TlvReason>>
         requires { max ≤ 1048576 }
         ensures found { IfOk result (λ _. (t : Tree) × Accepts whole (IsForest max) octets.now t (length octets.now)) }
-        ensures parts { IfOk result (λ flat. (t : Tree) → IsForest max t octets.now → flat ≡ parts_in octets.now t) }
+        ensures places { IfOk result (λ flat. (t : Tree) → IsForest max t octets.now → flat ≡ parts_in octets.now t) }
+        ensures values { IfOk result (λ flat. (t : Tree) → IsForest max t octets.now → flat ≡ parts_of 1 t) }
         ensures refused { IfErr result (RefusesUnlessMemory whole (IsForest max) (IsReason max) octets.now) }
     {
         let mut progress = Progress::new(max);

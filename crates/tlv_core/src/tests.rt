@@ -1,13 +1,14 @@
 //! What no clause says: octets from the standards' rules, and each call once with ample memory.
 
 use crate::{
-    Dol, DolReason, FillFault, Forest, ForestCheck, Form, Improper, Known, LARGEST_FOREST, Node,
-    Nodes, Tag, TlvReason, decode, encode, fill, first, tidy,
+    Dol, DolReason, FillFault, FlatForest, Forest, ForestCheck, ForestReader, Form, Improper,
+    Known, LARGEST_FOREST, Node, Nodes, Tag, TlvReason, decode, encode, fill, first, tidy,
 };
 use octet_core::{Format, Octets, Refused, Stop, hex_upper, octets_of};
 use std::test::Fail;
 
 mod parts;
+mod pieces;
 
 /// The tag of these octets.
 fn tag(rt: &HostRuntime, text: &str) -> Result<Tag, Fail> {
@@ -15,23 +16,32 @@ fn tag(rt: &HostRuntime, text: &str) -> Result<Tag, Fail> {
     Ok(Tag::new(octets.as_slice()).ok_or("a tag")?)
 }
 
-/// What a check says of octets that come one by one.
+/// What is said of octets: by a check and by a reader to which they come one by one, and of all at once
+/// by a check, as parts and as a forest.
 fn checked(rt: &HostRuntime, text: &str, max: usize) -> Result<Result<(), Stop<TlvReason>>, Fail> {
     let octets = octets_of(rt.alloc(), text)?;
     let max = max.min(LARGEST_FOREST);
     let mut check = ForestCheck::new(max);
+    let mut reader = ForestReader::new(rt.alloc(), max)?;
     for octet in octets.as_slice() {
-        if check.feed(&[*octet]).is_err() {
-            break;
-        }
+        let _ = check.feed(&[*octet]);
+        let _ = reader.feed(&[*octet]);
     }
     let verdict = check.finish();
     let mut whole = ForestCheck::new(max);
     let _ = whole.feed(octets.as_slice());
-    if verdict == whole.finish() {
+    let parts = FlatForest::read(rt.alloc(), octets.as_slice(), max).err();
+    let forest = decode(rt.alloc(), octets.as_slice(), max).err();
+    let stop = verdict.err();
+    let refused = stop.map(Refused::Stop);
+    let same = whole.finish().err() == stop
+        && reader.finish().err() == stop
+        && parts == refused
+        && forest == refused;
+    if same {
         Ok(verdict)
     } else {
-        Err("octets one by one are judged otherwise")?
+        Err("octets are judged in two ways")?
     }
 }
 
@@ -104,23 +114,6 @@ fn octets_are_refused_at_their_place(rt: HostRuntime) -> Result<(), Fail> {
 fn fillers_stand_inside_the_deepest_object(rt: HostRuntime) -> Result<(), Fail> {
     let text = "7020701E701C701A70187016701470127010700E700C700A70087006700470020000";
     assert_eq!(rt; checked(&rt, text, LARGEST_FOREST)?, Ok(()));
-    Ok(())
-}
-
-#[test]
-fn pieces_are_joined(rt: HostRuntime) -> Result<(), Fail> {
-    let overrun = Err(Stop::At {
-        place: 5,
-        reason: TlvReason::Overrun,
-    });
-    let mut check = ForestCheck::new(65_536);
-    for piece in [&[0x6F][..], &[], &[0x04], &[0xA5, 0x02]] {
-        assert_eq!(rt; check.feed(piece), Ok(()));
-    }
-    assert_eq!(rt; check.finish(), Err(Stop::Short { place: 4 }));
-    assert_eq!(rt; check.feed(&[0x5A, 0x01]), overrun);
-    assert_eq!(rt; check.feed(&[0x00]), overrun);
-    assert_eq!(rt; check.finish(), overrun);
     Ok(())
 }
 

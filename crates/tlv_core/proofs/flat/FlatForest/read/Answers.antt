@@ -1,10 +1,11 @@
-use Rattle.std.proofs.Common.{ℕ, sym, ap, subst, ◌∙◌, refl, arith}
+use Rattle.std.proofs.Common.{[], append-nil, ℕ, sym, ap, subst, ◌∙◌, refl, arith}
 use Rattle.std.proofs.lemmas.Bool.{false≢true}
 use Rattle.octet_core.specs.Grammar.{IsShort, whole}
-use Rattle.tlv_core.specs.Forest.{IsForest}
+use Rattle.tlv_core.specs.Forest.{IsForest, spelling}
 use Rattle.tlv_core.specs.Reasons.{Kept}
 use Rattle.tlv_core.specs.Progress.{kept_of}
 use Rattle.tlv_core.specs.Flat.{HasFlat}
+use Rattle.tlv_core.proofs.Valued.{values_are}
 use Rattle.tlv_core.proofs.Walked.{flat_none, flat_whole, flat_short, IsWholeFlat}
 use Rattle.tlv_core.proofs.flat.FlatForest.read.Goals as goal
 
@@ -24,8 +25,11 @@ whole_walk c =
 pub returns-then-is_idle-clause-found : goal.returns-then-is_idle-clause-found
 returns-then-is_idle-clause-found c = let w = whole_walk c in (w.tree, (refl, w.forest))
 
-pub returns-then-is_idle-clause-parts : goal.returns-then-is_idle-clause-parts
-returns-then-is_idle-clause-parts c = (whole_walk c).parts_are
+pub returns-then-is_idle-clause-places : goal.returns-then-is_idle-clause-places
+returns-then-is_idle-clause-places c = (whole_walk c).parts_are
+
+pub returns-then-is_idle-clause-values : goal.returns-then-is_idle-clause-values
+returns-then-is_idle-clause-values c t h = (whole_walk c).parts_are t h ∙ values_are t 1 0 c.args.octets.now [] [] (h.is ∙ sym (append-nil (spelling t))) refl
 
 pub returns-clause-refused : goal.returns-clause-refused
 returns-clause-refused c =

@@ -1,0 +1,90 @@
+-- What a reader of forests that come in pieces keeps.
+use Rattle.std.specs.Prelude.{◌≡◌, ◌≤◌, ◌⊎◌, ℕ, ◌+◌, List, [], ◌++◌, length, take, map, Option, Some, None}
+use Rattle.octet_core.specs.Grammar.{RefusesAt, whole}
+use Rattle.octet_core.specs.declared.stop.Stop.{Stop}
+use Rattle.octet_core.specs.declared.stop.Stop.TheVariants.{At}
+use Rattle.octet_core.specs.declared.stop.Refused.{Refused}
+use Rattle.octet_core.specs.declared.stop.Refused.TheVariants as refused
+use Rattle.tlv_core.specs.declared.partial.OpenObject.{OpenObject}
+use Rattle.tlv_core.specs.declared.partial.OpenValue.{OpenValue}
+use Rattle.tlv_core.specs.declared.partial.Partial.{Partial}
+use Rattle.tlv_core.specs.declared.progress.Progress.{Progress}
+use Rattle.tlv_core.specs.declared.reason.TlvReason.{TlvReason}
+use Rattle.tlv_core.specs.declared.reason.Refusal.{Refusal}
+use Rattle.tlv_core.specs.declared.header.ObjectHeader.{ObjectHeader}
+use Rattle.tlv_core.specs.declared.header.Next.{Next}
+use Rattle.tlv_core.specs.declared.node.Node.{Node}
+use Rattle.tlv_core.specs.declared.node.Node.TheVariants as node
+use Rattle.tlv_core.specs.Tag.{constructed_bit}
+use Rattle.tlv_core.specs.Tree.{End}
+use Rattle.tlv_core.specs.Forest.{IsForest}
+use Rattle.tlv_core.specs.Steps.{IsStep}
+use Rattle.tlv_core.specs.Progress.{kept_of}
+use Rattle.tlv_core.specs.Nodes.{tree_of}
+use Rattle.tlv_core.specs.Reasons.{Kept, HasTaken, IsReason}
+use Rattle.tlv_core.specs.Grown.{Opened, ValueSoFar, Grown, HasGrown}
+
+-- ---- the tree in the code
+
+abbrev pub opened_of : OpenObject → Opened
+opened_of o = record { before = tree_of o.before.items; tag = o.header.tag; form = o.header.form; len = o.header.len }
+
+abbrev pub value_of : Option OpenValue → Option ValueSoFar
+value_of None = None
+value_of (Some v) = Some (record { tag = v.header.tag; form = v.header.form; len = v.header.len; octets = v.octets.items })
+
+abbrev pub grown_of : Partial → Grown
+grown_of p = record { opened = map opened_of p.opened.items; list = tree_of p.list.items; value = value_of p.value }
+
+-- more octets of the value under way
+abbrev pub longer_value : Option ValueSoFar → List ℕ → Option ValueSoFar
+longer_value None add = None
+longer_value (Some v) add = Some (record { tag = v.tag; form = v.form; len = v.len; octets = v.octets ++ add })
+
+abbrev pub extended : Grown → List ℕ → Grown
+extended g add = record { opened = g.opened; list = g.list; value = longer_value g.value add }
+
+-- behind the octets b, which make this tree, the octet x comes and makes this of the header
+pub record TakesNext (b : List ℕ) (k : Kept) (x : ℕ) (next : Next) (g : Grown) : Type 0 where
+  pub taken : HasTaken b k
+  pub idle : k.value_left ≡ 0
+  pub step : IsStep k x next
+  pub grown : HasGrown b k g
+
+-- an object with this header, whose value is empty
+abbrev pub IsEmptyNode : ObjectHeader → Node → Type 0
+IsEmptyNode o y = ((constructed_bit o.tag ≡ 0) × (y ≡ node.Primitive o.tag o.form [])) ⊎ ((constructed_bit o.tag ≡ 1) × (y ≡ node.Constructed o.tag o.form End))
+
+-- ---- the reader
+
+-- what its octets leave open, the tree that they make, and why the next one was refused, if it was
+pub record Reading : Type 0 where
+  pub kept : Kept
+  pub tree : Grown
+  pub refusal : Option Refusal
+
+abbrev pub reading_of : Progress → Partial → Option Refusal → Reading
+reading_of progress tree refusal = record { kept = kept_of progress; tree = grown_of tree; refusal = refusal }
+
+-- these octets were taken: with the rooms, the header and the value under way the tree spells them
+pub record HasBegun (b : List ℕ) (r : Reading) : Type 0 where
+  pub taken : HasTaken b r.kept
+  pub grown : HasGrown b r.kept r.tree
+
+-- a reader that keeps this has taken the octets b, and refused none
+pub record HasRead (b : List ℕ) (r : Reading) : Type 0 where
+  pub begun : HasBegun b r
+  pub none : r.refusal ≡ None
+
+-- Behind the octets b a feed of the piece ended after n octets of it. Where memory was wanted, they were taken and no more,
+-- and the reader can be fed the rest. Else they were taken, and the next octet is refused: that is the verdict on b and the
+-- piece, and it is kept.
+abbrev pub IsEndedFeed : ℕ → List ℕ → List ℕ → Reading → ℕ → Refused TlvReason → Type 0
+IsEndedFeed max b piece new n refused.Memory = (n ≤ length piece) × HasRead (b ++ take n piece) new
+IsEndedFeed max b piece new n (refused.Stop stop) =
+    (n ≤ length piece) × HasBegun (b ++ take n piece) new × RefusesAt whole (IsForest max) (IsReason max) (b ++ piece) stop
+    × ((r : Refusal) × (new.refusal ≡ Some r) × (stop ≡ At r.place r.reason) × (r.place ≡ length b + n))
+
+-- what it answers once a refusal stands
+abbrev pub stop_of : Refusal → Stop TlvReason
+stop_of r = At r.place r.reason

@@ -1,0 +1,143 @@
+//! Forests that come in pieces, with their tree.
+
+ghost use Rattle.std.specs.Prelude.{◌≡◌, ℕ, ◌+◌, ◌<◌, ◌≤◌, ◌↔◌, List, [], ◌++◌, length, take, Some, Err, IfOk, IfErr, OnOk, MatchResult};
+ghost use Rattle.octet_core.specs.Grammar.{Refuses, whole};
+ghost use Rattle.octet_core.specs.declared.stop.Refused.TheVariants as refused;
+ghost use Rattle.tlv_core.specs.declared.reason.Refusal.{Refusal};
+ghost use Rattle.tlv_core.specs.Forest.{IsForest};
+ghost use Rattle.tlv_core.specs.Reasons.{IsReason};
+
+use crate::forest::Forest;
+use crate::partial::Partial;
+use crate::progress::Progress;
+use crate::reason::{Refusal, TlvReason};
+use octet_core::{Refused, Stop};
+use std::alloc::{AllocError, Global};
+use std::marker::Model;
+
+/// A reader of a forest that is fed in pieces of any length. It keeps the tree that its octets make so
+/// far: the objects that are open, at most 16, the lists before them, and the value under way.
+///
+/// Contracts see that tree, what the octets so far leave open, and the refusal that stands.
+#[derive(Drop)]
+pub struct ForestReader {
+    progress: Progress,
+    tree: Partial,
+    refusal: Option<Refusal>,
+}
+
+impl Model for ForestReader {
+    ghost use Rattle.std.specs.Prelude.{ℕ, List};
+    ghost use Rattle.tlv_core.specs.Read.{Reading, HasBegun, reading_of};
+    ghost use Rattle.std.specs.Coded.{codes};
+    ghost use Rattle.tlv_core.specs.Tree.{tree_code};
+
+    ghost Value = { Reading };
+
+    ghost coded = { Prim.hlevel (codes, tree_code) };
+
+    ghost view = { λ reader. reading_of reader.progress reader.tree reader.refusal };
+
+    ghost invariant = { λ reader. (b : List ℕ) × HasBegun b (reading_of reader.progress reader.tree reader.refusal) };
+}
+
+impl ForestReader {
+    ghost use Rattle.tlv_core.specs.Read.{HasBegun, HasRead, IsEndedFeed, stop_of};
+
+    /// A reader of a forest of at most `max` octets, itself at most 1,048,576, before its first octet; or
+    /// want of memory for its stack, which it takes once.
+    pub fn new(alloc: Global, max: usize) -> Result<ForestReader, AllocError>
+        requires { max ≤ 1048576 }
+        ensures limit { IfOk result (λ reader. reader.kept.max ≡ max) }
+        ensures nothing { IfOk result (λ reader. (b : List ℕ) → HasRead b reader ↔ (b ≡ [])) }
+    {
+        Ok(ForestReader {
+            progress: Progress::new(max),
+            tree: Partial::new(alloc)?,
+            refusal: None,
+        })
+    }
+
+    /// Takes the next piece. A refusal comes with the number of octets of the piece that were taken.
+    ///
+    /// `Memory` is want of memory: the reader stands as after those octets, and may be fed the rest. A
+    /// stop is `At` the first octet after which no forest goes on, counted from the first octet ever
+    /// fed, and never `Short`; from then on each call takes no octet and answers the same.
+    pub fn feed(&mut self, piece: &[u8]) -> Result<(), (usize, Refused<TlvReason>)>
+        ensures limit { self.new.kept.max ≡ self.old.kept.max }
+        ensures repeats { (refusal : Refusal) → self.old.refusal ≡ Some refusal → (result ≡ Err (0, refused.Stop (stop_of refusal))) × (self.new ≡ self.old) }
+        ensures taken { (b : List ℕ) → HasRead b self.old → OnOk result (HasRead (b ++ piece.now) self.new) }
+        ensures ended { (b : List ℕ) → HasRead b self.old → IfErr result (λ ended. IsEndedFeed self.old.kept.max b piece.now self.new ended.0 ended.1) }
+    {
+        if let Some(refusal) = self.refusal {
+            return Err((0, Refused::Stop(refusal.stop())));
+        }
+        let mut taken = 0;
+        while taken < piece.len() {
+            match self.advance(&piece[taken..]) {
+                Ok(count) => taken += count,
+                Err(refused) => return Err((taken, refused)),
+            }
+        }
+        Ok(())
+    }
+
+    /// That no more octets come: the forest that the octets taken spell, the refusal that stands, or
+    /// `Short` at their end.
+    pub fn finish(self) -> Result<Forest, Stop<TlvReason>>
+        ensures repeats { (refusal : Refusal) → self.refusal ≡ Some refusal → result ≡ Err (stop_of refusal) }
+        ensures verdict { (b : List ℕ) → HasRead b self → MatchResult result (λ forest. IsForest self.kept.max forest b) (Refuses whole (IsForest self.kept.max) (IsReason self.kept.max) b) }
+    {
+        let ForestReader {
+            progress,
+            tree,
+            refusal,
+        } = self;
+        if let Some(refusal) = refusal {
+            return Err(refusal.stop());
+        }
+        if progress.is_idle() {
+            return Ok(Forest::of(tree.into_nodes()));
+        }
+        Err(Stop::Short {
+            place: progress.count(),
+        })
+    }
+
+    /// Takes octets: a run of the value under way, or one octet of a header. How many were taken, at
+    /// least one; or why none was.
+    fn advance(&mut self, octets: &[u8]) -> Result<usize, Refused<TlvReason>>
+        requires { 0 < length octets.now }
+        ensures limit { self.new.kept.max ≡ self.old.kept.max }
+        ensures some { IfOk result (λ n. (0 < n) × (n ≤ length octets.now)) }
+        ensures ok { (b : List ℕ) → HasRead b self.old → IfOk result (λ n. HasRead (b ++ take n octets.now) self.new) }
+        ensures err { (b : List ℕ) → HasRead b self.old → IfErr result (IsEndedFeed self.old.kept.max b octets.now self.new 0) }
+    {
+        let left = self.progress.value_left();
+        if left > 0 {
+            let run = left.min(octets.len());
+            if self.tree.extend(&octets[..run]).is_err() {
+                return Err(Refused::Memory);
+            }
+            self.progress.skip(run);
+            if run == left {
+                self.tree.end_value(self.progress.level());
+            }
+            return Ok(run);
+        }
+        if self.tree.reserve().is_err() {
+            return Err(Refused::Memory);
+        }
+        match self.progress.take(octets[0]) {
+            Ok(next) => {
+                self.tree.take(&next, self.progress.level());
+                Ok(1)
+            }
+            Err(reason) => {
+                let refusal = self.progress.refusal(reason);
+                self.refusal = Some(refusal);
+                Err(Refused::Stop(refusal.stop()))
+            }
+        }
+    }
+}
