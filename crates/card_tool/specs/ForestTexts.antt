@@ -3,7 +3,7 @@ use Rattle.std.specs.Prelude.{ℕ, List, [], ◌∷◌, ◌++◌, ◌-◌, ◌==
 use Rattle.std.specs.List.{repeat}
 use Rattle.hex.specs.Hex.{encode_upper}
 use Rattle.tlv_core.specs.Tag.{constructed_bit, length_field}
-use Rattle.tlv_core.specs.Flat.{PartValue, parts_in}
+use Rattle.tlv_core.specs.Flat.{PartValue, parts_of}
 use Rattle.tlv_core.specs.Tree.{Tree}
 use Rattle.tlv_core.specs.Forest.{spelling}
 use Rattle.tlv_core.specs.Tidy.{tidy}
@@ -41,4 +41,4 @@ parts_text parts = codes "objects " ++ (decimal (length parts) ++ (codes "\n" ++
 
 -- the objects of a forest, each before those inside it
 abbrev pub forest_text : Tree → List ℕ
-forest_text t = parts_text (parts_in (spelling t) t)
+forest_text t = parts_text (parts_of 1 t)

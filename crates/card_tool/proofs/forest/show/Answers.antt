@@ -1,6 +1,5 @@
-use Rattle.std.proofs.Common.{◌≡◌, ◌∙◌, List, ℕ, ap, length, sym}
+use Rattle.std.proofs.Common.{◌∙◌, ap, length}
 use Rattle.octet_core.specs.Grammar.{whole}
-use Rattle.tlv_core.specs.Flat.{PartValue, parts_in}
 use Rattle.tlv_core.specs.Forest.{largest, IsForest}
 use Rattle.tlv_core.specs.Reasons.{IsReason}
 use Rattle.card_tool.specs.Answers.{accepted}
@@ -10,10 +9,8 @@ use Rattle.card_tool.proofs.forest.show.Goals as goal
 
 pub returns-in_ok-lines-in-Ok : goal.returns-in_ok-lines-in-Ok
 returns-in_ok-lines-in-Ok c =
-    let b = c.args.octets.now in
     let found = c.in-Ok.ensures.found in
-    let parts = c.parts.ensures ∙ c.in-Ok.ensures.parts found.0 found.1.1 ∙ ap (λ (l : List ℕ). parts_in l found.0) found.1.1.is in
-    accepted found.0 (length b) found.1 (c.told.ensures.text ∙ c.in_ok-lines-in-Ok.ensures ∙ ap parts_text parts) c.told.ensures.status
+    accepted found.0 (length c.args.octets.now) found.1 (c.told.ensures.text ∙ c.in_ok-lines-in-Ok.ensures ∙ ap parts_text (c.parts.ensures ∙ c.in-Ok.ensures.values found.0 found.1.1)) c.told.ensures.status
 
 pub returns-in-Err-Stop : goal.returns-in-Err-Stop
 returns-in-Err-Stop c =

@@ -1,0 +1,70 @@
+//! Commands and responses.
+
+use crate::outcome::Outcome;
+use apdu_core::{
+    Command, SendFault, decode_command, decode_response, encode_command, encode_response,
+    send_command,
+};
+use block_core::Number;
+use octet_core::{After, Counted, Refused, Taker};
+use std::alloc::{AllocError, Global};
+
+/// A command with a data field and Le.
+const COMMAND: [u8; 13] = [
+    0x00, 0xA4, 0x04, 0x00, 0x07, 0xA0, 0x00, 0x00, 0x00, 0x04, 0x10, 0x10, 0x00,
+];
+
+/// Its chain of fields of up to 254 octets.
+const CHAIN: [u8; 17] = [
+    0x00, 0x00, 0x0D, 0x00, 0xA4, 0x04, 0x00, 0x07, 0xA0, 0x00, 0x00, 0x00, 0x04, 0x10, 0x10, 0x00,
+    0x0E,
+];
+
+/// A response with a data field.
+const RESPONSE: [u8; 4] = [0xAA, 0xBB, 0x90, 0x00];
+
+/// A command is decoded and encoded.
+pub(crate) fn commands(alloc: Global) -> Outcome {
+    Outcome::of(is_command_kept(alloc))
+}
+
+fn is_command_kept(alloc: Global) -> Result<bool, AllocError> {
+    match decode_command(alloc, &COMMAND) {
+        Ok(command) => Ok(encode_command(alloc, &command)?.as_slice() == COMMAND.as_slice()),
+        Err(Refused::Memory) => Err(AllocError),
+        Err(Refused::Stop(_)) => Ok(false),
+    }
+}
+
+/// A response is decoded and encoded.
+pub(crate) fn responses(alloc: Global) -> Outcome {
+    Outcome::of(is_response_kept(alloc))
+}
+
+fn is_response_kept(alloc: Global) -> Result<bool, AllocError> {
+    match decode_response(alloc, &RESPONSE) {
+        Ok(response) => Ok(encode_response(alloc, &response)?.as_slice() == RESPONSE.as_slice()),
+        Err(Refused::Memory) => Err(AllocError),
+        Err(Refused::Stop(_)) => Ok(false),
+    }
+}
+
+/// A command is sent whole, or nothing of it.
+pub(crate) fn sent(alloc: Global) -> Outcome {
+    match decode_command(alloc, &COMMAND) {
+        Ok(command) => sent_by(alloc, &command),
+        Err(Refused::Memory) => Outcome::Memory,
+        Err(Refused::Stop(_)) => Outcome::Wrong,
+    }
+}
+
+fn sent_by(alloc: Global, command: &Command) -> Outcome {
+    let mut writer = Counted::new(Taker::new(64, 64, After::End));
+    let answer = send_command(alloc, &mut writer, command, 254, Number::Zero);
+    let taker = writer.into_inner();
+    match answer {
+        Ok(()) if taker.kept() == CHAIN.as_slice() => Outcome::Right,
+        Err(SendFault::Memory) if taker.kept().is_empty() => Outcome::Memory,
+        _ => Outcome::Wrong,
+    }
+}

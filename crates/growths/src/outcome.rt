@@ -1,0 +1,25 @@
+//! What came of a call.
+
+use std::alloc::AllocError;
+
+/// What came of a call.
+#[derive(Clone, Copy, Debug, PartialEq, Eq)]
+pub(crate) enum Outcome {
+    /// It gave the answer that it should.
+    Right,
+    /// It said that memory was wanting.
+    Memory,
+    /// It gave another answer.
+    Wrong,
+}
+
+impl Outcome {
+    /// Of an answer that is right or not, or wants memory.
+    pub(crate) fn of(answer: Result<bool, AllocError>) -> Outcome {
+        match answer {
+            Ok(true) => Outcome::Right,
+            Ok(false) => Outcome::Wrong,
+            Err(AllocError) => Outcome::Memory,
+        }
+    }
+}

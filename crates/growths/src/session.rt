@@ -1,0 +1,52 @@
+//! A session between both ends of T=1.
+
+use crate::outcome::Outcome;
+use atr_core::T1Params;
+use block_core::{Block, encode};
+use std::alloc::{AllocError, Global};
+use t1_core::{Card, CardTurn, Terminal, TerminalTurn};
+
+/// The longest command and response pass whatever is refused behind the constructors.
+pub(crate) fn longest(alloc: Global) -> Outcome {
+    let Some(params) = T1Params::new(254, 4, 5) else {
+        return Outcome::Wrong;
+    };
+    match (Terminal::new(alloc, params), Card::new(alloc, params)) {
+        (Ok(mut terminal), Ok(mut card)) => {
+            let command = [0xA5; 65_544];
+            let reply = [0x5A; 65_538];
+            Outcome::of(Ok(is_exchanged(&mut terminal, &mut card, &command, &reply)))
+        }
+        _ => Outcome::Memory,
+    }
+}
+
+/// Whether an exchange over a line without faults is answered.
+fn is_exchanged(terminal: &mut Terminal, card: &mut Card, command: &[u8], reply: &[u8]) -> bool {
+    let mut turn = terminal.transmit(command);
+    for _ in 0..140_000usize {
+        match turn {
+            Ok(TerminalTurn::Send(block)) => {
+                let Some(back) = served(card, &block, command, reply) else {
+                    return false;
+                };
+                turn = terminal.received(encode(&back).as_slice());
+            }
+            Ok(TerminalTurn::Answered) => return terminal.answer() == Some(reply),
+            _ => return false,
+        }
+    }
+    false
+}
+
+/// What the card sends for a block, where its host replies at once.
+fn served(card: &mut Card, block: &Block, command: &[u8], reply: &[u8]) -> Option<Block> {
+    let turn = match card.received(encode(block).as_slice()) {
+        Ok(CardTurn::Asked) if card.command() == Some(command) => card.reply(reply),
+        turn => turn,
+    };
+    match turn {
+        Ok(CardTurn::Send(block)) => Some(block),
+        _ => None,
+    }
+}
