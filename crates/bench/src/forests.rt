@@ -4,7 +4,7 @@ use crate::work::Work;
 use std::alloc::Global;
 use std::io::{self, ErrorKind};
 use std::time::Instant;
-use tlv_core::{FlatForest, ForestCheck, LARGEST_FOREST};
+use tlv_core::{FlatForest, ForestCheck, ForestReader, LARGEST_FOREST};
 
 /// Four objects at three depths, in 18 octets.
 const OBJECTS: [u8; 18] = [
@@ -46,29 +46,56 @@ fn large(alloc: Global, size: usize) -> io::Result<Vec<u8>> {
     Ok(octets)
 }
 
-/// Checks a forest, and reads its parts.
+/// Checks a forest, lends its parts, and reads its tree.
 fn judge(rt: &HostRuntime, timed: bool, name: &'static str, octets: &[u8]) -> io::Result<()> {
     let started = Instant::now(rt)?;
+    let checked = checked(octets)?;
+    told(name, octets, checked, "check").tell(rt, started, timed)?;
+    let started = Instant::now(rt)?;
+    let lent = lent(rt.alloc(), octets)?;
+    told(name, octets, lent, "parts lent").tell(rt, started, timed)?;
+    let started = Instant::now(rt)?;
+    let read = read(rt.alloc(), octets)?;
+    told(name, octets, read, "tops read").tell(rt, started, timed)
+}
+
+/// Work over a forest.
+fn told(name: &'static str, octets: &[u8], parts: usize, unit: &'static str) -> Work {
+    Work {
+        name,
+        octets: octets.len(),
+        parts,
+        unit,
+    }
+}
+
+/// One check.
+fn checked(octets: &[u8]) -> io::Result<usize> {
     let mut check = ForestCheck::new(LARGEST_FOREST);
     if check.feed(octets).is_err() || check.finish().is_err() {
         return Err(ErrorKind::InvalidData.into());
     }
-    let work = Work {
-        name,
-        octets: octets.len(),
-        parts: 1,
-        unit: "check",
-    };
-    work.tell(rt, started, timed)?;
-    let started = Instant::now(rt)?;
-    let Ok(forest) = FlatForest::read(rt.alloc(), octets, LARGEST_FOREST) else {
-        return Err(ErrorKind::InvalidData.into());
-    };
-    let work = Work {
-        name,
-        octets: octets.len(),
-        parts: forest.parts().len(),
-        unit: "parts lent",
-    };
-    work.tell(rt, started, timed)
+    Ok(1)
+}
+
+/// How many parts are lent.
+fn lent(alloc: Global, octets: &[u8]) -> io::Result<usize> {
+    match FlatForest::read(alloc, octets, LARGEST_FOREST) {
+        Ok(forest) => Ok(forest.parts().len()),
+        Err(_) => Err(ErrorKind::InvalidData.into()),
+    }
+}
+
+/// How many objects a tree that is read in pieces has at the top.
+fn read(alloc: Global, octets: &[u8]) -> io::Result<usize> {
+    let mut reader = ForestReader::new(alloc, LARGEST_FOREST)?;
+    for piece in octets.chunks(1_000) {
+        if reader.feed(piece).is_err() {
+            return Err(ErrorKind::InvalidData.into());
+        }
+    }
+    match reader.finish() {
+        Ok(forest) => Ok(forest.nodes().get().len()),
+        Err(_) => Err(ErrorKind::InvalidData.into()),
+    }
 }
