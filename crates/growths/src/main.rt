@@ -25,6 +25,7 @@ fn main(rt: HostRuntime) -> io::Result<ExitCode> {
         ("responses", apdus::responses(rt.alloc())),
         ("commands sent", apdus::sent(rt.alloc())),
         ("forests", objects::forests(rt.alloc())),
+        ("forests in pieces", objects::pieces(rt.alloc())),
         ("parts", objects::parts(rt.alloc())),
         ("lists", objects::lists(rt.alloc())),
         ("session", session::longest(rt.alloc())),

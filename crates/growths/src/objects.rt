@@ -3,7 +3,9 @@
 use crate::outcome::Outcome;
 use octet_core::{Format, Octets, Refused};
 use std::alloc::{AllocError, Global};
-use tlv_core::{Dol, FillFault, FlatForest, Known, Tag, decode, encode, fill, tidy};
+use tlv_core::{
+    Dol, FillFault, FlatForest, Forest, ForestReader, Known, Tag, decode, encode, fill, tidy,
+};
 
 /// A forest with fillers, nested objects and a long form.
 const FOREST: [u8; 24] = [
@@ -38,6 +40,38 @@ fn is_forest_kept(alloc: Global) -> Result<bool, AllocError> {
         Err(Refused::Memory) => Err(AllocError),
         Err(Refused::Stop(_)) => Ok(false),
     }
+}
+
+/// A forest is read in pieces, and the rest of a piece is fed again where memory was wanting.
+pub(crate) fn pieces(alloc: Global) -> Outcome {
+    let Ok(mut reader) = ForestReader::new(alloc, FOREST.len()) else {
+        return Outcome::Memory;
+    };
+    for piece in FOREST.chunks(5) {
+        if !is_fed(&mut reader, piece) {
+            return Outcome::Wrong;
+        }
+    }
+    match reader.finish() {
+        Ok(forest) => Outcome::of(is_spelled(alloc, &forest)),
+        Err(_) => Outcome::Wrong,
+    }
+}
+
+/// Whether a piece is taken, by one call or by a second one.
+fn is_fed(reader: &mut ForestReader, piece: &[u8]) -> bool {
+    match reader.feed(piece) {
+        Ok(()) => true,
+        Err((taken, Refused::Memory)) => match piece.get(taken..) {
+            Some(rest) => reader.feed(rest).is_ok(),
+            None => false,
+        },
+        Err((_, Refused::Stop(_))) => false,
+    }
+}
+
+fn is_spelled(alloc: Global, forest: &Forest) -> Result<bool, AllocError> {
+    Ok(encode(alloc, forest)?.as_slice() == FOREST.as_slice())
 }
 
 /// The parts of a forest are lent.
