@@ -1,8 +1,9 @@
 pub mod Unique
 pub mod Rows
-pub mod Headline
+pub mod Arrivals
 pub mod Reasons
 pub mod Verdicts
 pub mod Whole
 pub mod Refusals
 pub mod Spelled
+pub mod Received

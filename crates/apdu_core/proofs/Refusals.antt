@@ -1,8 +1,8 @@
 -- The refusals that the decoders answer: where octets are short, and where one trails.
-use Rattle.std.proofs.Common.{◌≡◌, ◌≢◌, ℕ, ◌+◌, ◌*◌, ◌<◌, ◌≤◌, ◌++◌, ◌∷◌, List, [], length, take, drop, slice_index, refl, sym, ap, subst, ◌∙◌, arith, inl, inr, ◌⊎◌}
+use Rattle.std.proofs.Common.{◌≡◌, ◌≢◌, ℕ, ◌+◌, ◌*◌, ◌<◌, ◌≤◌, ◌++◌, ◌∷◌, List, [], length, take, drop, slice_index, refl, sym, ap, subst, ◌∙◌, arith, inl, inr}
 use Rattle.std.proofs.lemmas.List.{length-append, length-take, get_or-take, take-append-drop}
 use Rattle.octet_core.specs.Octets.{AreOctets}
-use Rattle.octet_core.specs.Grammar.{whole, Accepts, Refuses, IsFirst}
+use Rattle.octet_core.specs.Grammar.{whole, Refuses, IsFirst}
 use Rattle.octet_core.specs.declared.stop.Stop.TheVariants.{At, Short}
 use Rattle.octet_core.proofs.Lists.{octets-take}
 use Rattle.apdu_core.specs.declared.command.Body.{Body}

@@ -46,6 +46,7 @@ FitsFields (LongLe le) = IsCount le 65536
 FitsFields (LongPart part) = IsCount (length part) 65535
 FitsFields (LongBoth part le) = IsCount (length part) 65535 × IsCount le 65536
 
+-- which of the seven shapes a body has
 abbrev pub shape_of : Body → Shape
 shape_of Empty = shapes.Empty
 shape_of (ShortLe le) = shapes.ShortLe
@@ -65,6 +66,7 @@ part_of (LongLe le) = []
 part_of (LongPart part) = part
 part_of (LongBoth part le) = part
 
+-- the greatest number of octets that are expected back, where a body has a field for it
 abbrev pub le_of : Body → Option ℕ
 le_of Empty = None
 le_of (ShortLe le) = Some le
@@ -74,7 +76,7 @@ le_of (LongLe le) = Some le
 le_of (LongPart part) = None
 le_of (LongBoth part le) = Some le
 
--- the place of the data field, behind the header and Lc
+-- the place of the data field, behind the header and Lc; of a body without one, behind the header
 abbrev pub part_place : Body → ℕ
 part_place Empty = 4
 part_place (ShortLe le) = 4
@@ -88,6 +90,7 @@ part_place (LongBoth part le) = 7
 abbrev pub IsPlaced : Body → List ℕ → Type 0
 IsPlaced body b = part_of body ≡ slice_range b (part_place body) (part_place body + length (part_of body))
 
+-- the octets of a command
 abbrev pub spelling : CommandParts → List ℕ
 spelling c = c.header ++ body_octets c.body
 
@@ -102,15 +105,16 @@ pub record IsCommand (c : CommandParts) (b : List ℕ) : Type 0 where
   pub octets : AreOctets b
   pub is : b ≡ spelling c
 
+-- some octets spell the command
 abbrev pub HasSpelling : CommandParts → Type 0
 HasSpelling c = (b : List ℕ) × IsCommand c b
 
--- the number that the octets at place 5 and 6 tell
+-- the number that the octets at places 5 and 6 tell
 abbrev pub long_count : List ℕ → ℕ
 long_count b = slice_index b 5 * 256 + slice_index b 6
 
 -- the last octet of b stands after the last that the length fields allow:
--- a short Lc, a long Le alone, or a long Lc
+-- a short Lc, an extended Le alone, or an extended Lc
 abbrev pub IsTrailing : List ℕ → Type 0
 IsTrailing b = ((slice_index b 4 ≢ 0) × (slice_index b 4 + 6 < length b))
     ⊎ ((slice_index b 4 ≡ 0) × (long_count b ≡ 0) × (7 < length b))
@@ -120,5 +124,6 @@ IsTrailing b = ((slice_index b 4 ≢ 0) × (slice_index b 4 + 6 < length b))
 abbrev pub Meets : List ℕ → CommandReason → Type 0
 Meets b Trailing = IsTrailing b
 
+-- the reason is the first line of the table that the octets up to and with the refused one meet
 abbrev pub IsReason : CommandReason → List ℕ → Type 0
 IsReason r b = IsFirst (Trailing ∷ []) (Meets b) r

@@ -3,4 +3,5 @@ pub mod Borrowed
 pub mod Response
 pub mod Status
 pub mod Sending
+pub mod Receiving
 pub mod Arrival

@@ -15,6 +15,7 @@ pub record ResponseParts : Type 0 where
   pub sw1 : ℕ
   pub sw2 : ℕ
 
+-- the octets of a response
 abbrev pub spelling : ResponseParts → List ℕ
 spelling r = r.part ++ r.sw1 ∷ r.sw2 ∷ []
 
@@ -28,6 +29,7 @@ pub record IsResponse (r : ResponseParts) (b : List ℕ) : Type 0 where
   pub octets : AreOctets b
   pub is : b ≡ spelling r
 
+-- some octets spell the response
 abbrev pub HasSpelling : ResponseParts → Type 0
 HasSpelling r = (b : List ℕ) × IsResponse r b
 
@@ -35,5 +37,6 @@ HasSpelling r = (b : List ℕ) × IsResponse r b
 abbrev pub Meets : List ℕ → ResponseReason → Type 0
 Meets b TooLong = length b ≡ 65539
 
+-- the reason is the first line of the table that the octets up to and with the refused one meet
 abbrev pub IsReason : ResponseReason → List ℕ → Type 0
 IsReason r b = IsFirst (TooLong ∷ []) (Meets b) r

@@ -159,6 +159,7 @@ impl<'a> BodyRef<'a> {
                 part,
                 le: short_le(*le),
             }),
+            // Behind the header, Lc, the data field and Le.
             _ => Err(trailing(lc + 6)),
         }
     }
@@ -180,6 +181,7 @@ impl<'a> BodyRef<'a> {
         }
         let lc = usize::from(*high) * 256 + usize::from(*low);
         if lc == 0 {
+            // Behind the header and an extended Le.
             return Err(trailing(7));
         }
         let Some((part, rest)) = rest.split_at_checked(lc) else {
@@ -192,6 +194,7 @@ impl<'a> BodyRef<'a> {
                 part,
                 le: long_le(*high, *low),
             }),
+            // Behind the header, an extended Lc, the data field and an extended Le.
             _ => Err(trailing(lc + 9)),
         }
     }

@@ -28,7 +28,7 @@ pub fn encode_command(alloc: Global, command: &Command) -> Result<Vec<u8>, Alloc
 pub fn encode_response(alloc: Global, response: &Response) -> Result<Vec<u8>, AllocError>
     ensures { IfOk result (λ octets. IsResponse response.now octets.items) }
 {
-    let part = response.part().get();
+    let part = response.part();
     let mut octets = Vec::with_capacity(alloc, part.len() + 2)?;
     octets.extend_from_slice(part)?;
     octets.extend_from_slice(&[response.sw1(), response.sw2()])?;

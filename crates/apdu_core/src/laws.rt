@@ -42,6 +42,12 @@ pub fn goes_on()
     ensures response_begins { (b : List ℕ) → AreOctets b → length b ≤ 65538 → Begins IsResponse b }
 {}
 
+/// How many octets spell a command or a response.
+pub fn lengths()
+    ensures command { (c : CommandParts) (b : List ℕ) → IsCommand c b → (4 ≤ length b) × (length b ≤ 65544) }
+    ensures response { (r : ResponseParts) (b : List ℕ) → IsResponse r b → (2 ≤ length b) × (length b ≤ 65538) }
+{}
+
 /// An APDU that is cut into a chain, under any sizes and whatever follows, arrives as that APDU.
 pub fn arrives()
     ensures command { (c : CommandParts) (b : List ℕ) (size ifs max : ℕ) (number : Number) (more : List ℕ) → IsCommand c b → 1 ≤ size → size ≤ ifs → length b ≤ max → ArrivesAs IsCommand c b size ifs max number more }

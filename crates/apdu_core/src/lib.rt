@@ -5,8 +5,9 @@
 //! grammars, `IsCommand` in `specs/Command.antt` and `IsResponse` in `specs/Response.antt`, relate them
 //! to whole lists of octets. `CommandRef` and `ResponseRef` give the whole verdict without memory, and
 //! lend the data field from the octets that they read; `decode_command` and `decode_response` copy it.
-//! `encode_command` and `encode_response` give the octets back, `send_command` and `send_response` write
-//! them as a chain, and `laws` says what holds of the two grammars, and of their chains.
+//! `encode_command` and `encode_response` give the octets back. `send_command` and `send_response` write
+//! them as a chain, `receive_command` and `receive_response` read one and leave what follows it. `laws`
+//! says what holds of the two grammars alone, and of an APDU that is cut into a chain.
 #![tactic(auto)]
 
 pub mod command;
@@ -15,6 +16,7 @@ pub mod decoding;
 pub mod encoding;
 pub mod laws;
 pub mod reason;
+pub mod receiving;
 pub mod response;
 pub mod response_ref;
 pub mod sending;
@@ -27,6 +29,7 @@ pub use command_ref::CommandRef;
 pub use decoding::{decode_command, decode_response};
 pub use encoding::{encode_command, encode_response};
 pub use reason::{CommandReason, ResponseReason};
+pub use receiving::{ReceiveFault, receive_command, receive_response};
 pub use response::Response;
 pub use response_ref::ResponseRef;
 pub use sending::{SendFault, send_command, send_response};

@@ -58,11 +58,11 @@ impl Response {
     }
 
     /// The data field.
-    pub fn part(&self) -> &Octets
+    pub fn part(&self) -> &[u8]
         ensures part { result.now ≡ self.now.part }
         ensures fits { length self.now.part ≤ 65536 }
     {
-        &self.part
+        self.part.get()
     }
 
     /// The first status byte.

@@ -49,8 +49,9 @@ impl From<WriteFault> for SendFault {
 /// Writes the chain of a command (ISO/IEC 7816-3, clause 11.6): fields of `ifs` octets, 1 to 254, but for
 /// the last, and the first block with this number.
 ///
-/// Where memory is refused nothing was written. At a fault of the writer it has taken the first
-/// `written` octets of the chain, fewer than all; a failed call isn't tried again.
+/// `Memory` comes where memory for the octets was refused, and then nothing was written. `Write` comes
+/// where the writer failed: it has taken the first `written` octets of the chain, fewer than all; a failed
+/// call isn't tried again, an interruption neither.
 pub fn send_command<W: Sink>(
     alloc: Global,
     writer: &mut W,
@@ -68,7 +69,8 @@ pub fn send_command<W: Sink>(
     Ok(())
 }
 
-/// Writes the chain of a response, as `send_command` does that of a command.
+/// Writes the chain of a response (ISO/IEC 7816-3, clause 11.6), with the sizes, the number and the faults
+/// of `send_command`.
 pub fn send_response<W: Sink>(
     alloc: Global,
     writer: &mut W,

@@ -1,12 +1,13 @@
 //! Commands, responses and status bytes from outside, and each call once with ample memory.
 
 use crate::{
-    Body, Command, CommandReason, CommandRef, Response, ResponseReason, ResponseRef, SendFault,
-    Shape, StatusClass, decode_command, decode_response, encode_command, encode_response,
-    send_command, send_response, status_class,
+    Body, Command, CommandReason, CommandRef, ReceiveFault, Response, ResponseReason, ResponseRef,
+    SendFault, Shape, StatusClass, decode_command, decode_response, encode_command,
+    encode_response, receive_command, receive_response, send_command, send_response, status_class,
 };
 use block_core::Number;
-use octet_core::{After, Counted, Octets, Refused, Stop, Taker, octets_of};
+use chain_core::ChainReason;
+use octet_core::{After, Counted, Feeder, Octets, Refused, Source, Stop, Taker, octets_of};
 use std::test::Fail;
 
 const SELECT: [u8; 4] = [0x00, 0xA4, 0x04, 0x00];
@@ -164,6 +165,7 @@ fn bodies_that_have_no_spelling(rt: HostRuntime) -> Result<(), Fail> {
 
 #[test]
 fn responses(rt: HostRuntime) -> Result<(), Fail> {
+    assert!(rt; ResponseRef::decode(&[0x90, 0x00])?.part().is_empty());
     let octets = octets_of(rt.alloc(), "6F009000")?;
     let lent = ResponseRef::decode(octets.as_slice())?;
     assert!(rt; lent.part() == [0x6F, 0x00].as_slice());
@@ -173,7 +175,7 @@ fn responses(rt: HostRuntime) -> Result<(), Fail> {
     let spelled = encode_response(rt.alloc(), &response)?;
     assert!(rt; spelled.as_slice() == octets.as_slice());
     let part = Octets::of(octets_of(rt.alloc(), "6F00")?);
-    assert!(rt; response.part() == &part);
+    assert!(rt; response.part() == part.get());
     assert!(rt; Response::new(part, 0x90, 0x00)? == response);
     Ok(())
 }
@@ -201,7 +203,7 @@ fn octets_that_are_no_response(rt: HostRuntime) -> Result<(), Fail> {
 fn the_longest_response(rt: HostRuntime) -> Result<(), Fail> {
     let octets = vec![in rt.alloc(); 0x90u8; 65_538]?;
     let response = decode_response(rt.alloc(), octets.as_slice())?;
-    assert_eq!(rt; response.part().get().len(), 65_536);
+    assert_eq!(rt; response.part().len(), 65_536);
     Ok(())
 }
 
@@ -259,5 +261,80 @@ fn sent_to_a_writer_that_fails(rt: HostRuntime) -> Result<(), Fail> {
             assert!(rt; writer.into_inner().kept() == &DONE_CHAIN[..written]);
         }
     }
+    Ok(())
+}
+
+/// Whether one octet is left to read, and it is FF.
+fn is_left(reader: &mut Counted<Feeder>) -> bool {
+    let mut room = [0u8; 8];
+    matches!(reader.read(&mut room), Ok(1)) && room[0] == 0xFF
+}
+
+#[test]
+fn a_command_is_received(rt: HostRuntime) -> Result<(), Fail> {
+    let octets = octets_of(rt.alloc(), "00200200A4860060020400660000010001FF")?;
+    for step in [1, 2, 4096] {
+        let mut reader = Counted::new(Feeder::new(octets.as_slice(), step, After::End));
+        let command = receive_command(rt.alloc(), &mut reader, 2, Number::Zero)?;
+        assert!(rt; command == Command::new(SELECT, Body::ShortLe { le: 256 })?);
+        assert!(rt; is_left(&mut reader));
+    }
+    Ok(())
+}
+
+#[test]
+fn a_response_is_received(rt: HostRuntime) -> Result<(), Fail> {
+    let octets = octets_of(rt.alloc(), "000002900092FF")?;
+    let mut reader = Counted::new(Feeder::new(octets.as_slice(), 4096, After::End));
+    let response = receive_response(rt.alloc(), &mut reader, 254, Number::Zero)?;
+    let part = Octets::of(octets_of(rt.alloc(), "")?);
+    assert!(rt; response == Response::new(part, 0x90, 0x00)?);
+    assert!(rt; is_left(&mut reader));
+    Ok(())
+}
+
+#[test]
+fn received_from_a_reader_that_fails_or_ends(rt: HostRuntime) {
+    for taken in 0..SELECT_CHAIN.len() {
+        let front = &SELECT_CHAIN[..taken];
+        for after in [After::Fails, After::Interrupted] {
+            let mut reader = Counted::new(Feeder::new(front, 2, after));
+            let fault = receive_command(rt.alloc(), &mut reader, 2, Number::Zero).err();
+            assert_eq!(rt; fault, Some(ReceiveFault::Read { taken }));
+        }
+        let mut reader = Counted::new(Feeder::new(front, 2, After::End));
+        let fault = receive_command(rt.alloc(), &mut reader, 2, Number::Zero).err();
+        let short = Stop::Short { place: taken };
+        assert_eq!(rt; fault, Some(ReceiveFault::Chain(short)));
+    }
+    for taken in 0..DONE_CHAIN.len() {
+        let front = &DONE_CHAIN[..taken];
+        let mut reader = Counted::new(Feeder::new(front, 1, After::Fails));
+        let fault = receive_response(rt.alloc(), &mut reader, 254, Number::Zero).err();
+        assert_eq!(rt; fault, Some(ReceiveFault::Read { taken }));
+    }
+}
+
+#[test]
+fn chains_that_carry_no_apdu(rt: HostRuntime) -> Result<(), Fail> {
+    let octets = octets_of(rt.alloc(), "00000200A4A6FF")?;
+    let mut reader = Counted::new(Feeder::new(octets.as_slice(), 4096, After::End));
+    let fault = receive_command(rt.alloc(), &mut reader, 254, Number::Zero).err();
+    let short = Stop::Short { place: 2 };
+    assert_eq!(rt; fault, Some(ReceiveFault::Apdu(short)));
+    assert!(rt; is_left(&mut reader));
+    let octets = octets_of(rt.alloc(), "0000019091FF")?;
+    let mut reader = Counted::new(Feeder::new(octets.as_slice(), 4096, After::End));
+    let fault = receive_response(rt.alloc(), &mut reader, 254, Number::Zero).err();
+    let short = Stop::Short { place: 1 };
+    assert_eq!(rt; fault, Some(ReceiveFault::Apdu(short)));
+    assert!(rt; is_left(&mut reader));
+    let mut reader = Counted::new(Feeder::new(&[0x00, 0x40], 4096, After::End));
+    let fault = receive_command(rt.alloc(), &mut reader, 254, Number::Zero).err();
+    let refused = Stop::At {
+        place: 1,
+        reason: ChainReason::BadSequence,
+    };
+    assert_eq!(rt; fault, Some(ReceiveFault::Chain(refused)));
     Ok(())
 }

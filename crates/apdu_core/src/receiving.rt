@@ -1,0 +1,122 @@
+//! APDUs read from chains.
+
+ghost use Rattle.std.specs.Prelude.{◌≤◌, IfOk, IfErr};
+ghost use Rattle.apdu_core.specs.Command as command;
+ghost use Rattle.apdu_core.specs.Command.{IsCommand};
+ghost use Rattle.apdu_core.specs.Response as response;
+ghost use Rattle.apdu_core.specs.Response.{IsResponse};
+ghost use Rattle.apdu_core.specs.Receiving.{IsReceived, IsReceiveFault};
+
+use crate::command::Command;
+use crate::decoding::{decode_command, decode_response};
+use crate::reason::{CommandReason, ResponseReason};
+use crate::response::Response;
+use block_core::Number;
+use chain_core::{ChainReason, ReadRefusal, Receiver, read_chain};
+use octet_core::{Refused, Source, Stop};
+use std::alloc::{AllocError, Global};
+
+/// The octets of the longest command.
+pub const LONGEST_COMMAND: usize = 65_544;
+
+/// The octets of the longest response.
+pub const LONGEST_RESPONSE: usize = 65_538;
+
+/// Why no APDU was received, with its reasons.
+#[derive(Clone, Copy, Debug, PartialEq, Eq)]
+pub enum ReceiveFault<R> {
+    /// Memory was refused: for the message, and then nothing was read, or for the copy of the part, and
+    /// then the whole chain was read and no more.
+    Memory,
+    /// The reader failed, by an interruption too, after `taken` octets.
+    Read { taken: usize },
+    /// The octets are no chain with such a message, or ended before it was whole.
+    Chain(Stop<ChainReason>),
+    /// The whole chain was read and no more, and its message is no such APDU.
+    Apdu(Stop<R>),
+}
+
+impl<R> From<AllocError> for ReceiveFault<R> {
+    ghost use Rattle.std.specs.Prelude.{◌≡◌};
+    ghost use Rattle.apdu_core.specs.declared.receiving.ReceiveFault.TheVariants.{Memory};
+
+    ghost from_gives = { λ _ fault. fault ≡ Memory };
+
+    fn from(_: AllocError) -> Self {
+        ReceiveFault::Memory
+    }
+}
+
+impl<R> From<ReadRefusal> for ReceiveFault<R> {
+    ghost use Rattle.std.specs.Prelude.{◌≡◌};
+    ghost use Rattle.apdu_core.specs.Receiving.{fault_of_chain};
+
+    ghost from_gives = { λ refusal fault. fault ≡ fault_of_chain refusal };
+
+    fn from(refusal: ReadRefusal) -> Self {
+        match refusal {
+            ReadRefusal::Read { taken } => ReceiveFault::Read { taken },
+            ReadRefusal::Stop(stop) => ReceiveFault::Chain(stop),
+        }
+    }
+}
+
+impl<R> From<Refused<R>> for ReceiveFault<R> {
+    ghost use Rattle.std.specs.Prelude.{◌≡◌};
+    ghost use Rattle.apdu_core.specs.Receiving.{fault_of_apdu};
+
+    ghost from_gives = { λ refused fault. fault ≡ fault_of_apdu refused };
+
+    fn from(refused: Refused<R>) -> Self {
+        match refused {
+            Refused::Stop(stop) => ReceiveFault::Apdu(stop),
+            Refused::Memory => ReceiveFault::Memory,
+        }
+    }
+}
+
+/// Reads a chain (ISO/IEC 7816-3, clause 11.6) to its end and the command that its message is. `ifs` is
+/// the information size, 1 to 254, `number` the number of the first block; the message has at most
+/// 65,544 octets. What follows the chain stays unread.
+///
+/// `Memory` comes where memory was refused: for the message, and then nothing was read, or for the copy
+/// of the part, and then exactly a chain whose message is a command. `Read` comes where a call of the
+/// reader failed, which isn't tried again, behind `taken` octets with which a chain begins. `Chain` is the
+/// refusal of what was read as a chain: `Short` where the reader ended, `At` the first octet after which no
+/// chain goes on, and then no octet is read past the first three of its block, or past that octet.
+/// `Apdu` is the refusal of the message as a command; exactly the chain was then read.
+pub fn receive_command<R: Source>(
+    alloc: Global,
+    reader: &mut R,
+    ifs: u8,
+    number: Number,
+) -> Result<Command, ReceiveFault<CommandReason>>
+    requires least { 1 ≤ ifs }
+    requires most { ifs ≤ 254 }
+    ensures received { IfOk result (IsReceived IsCommand 65544 ifs number R.remaining R.failures reader.old reader.new) }
+    ensures fault { IfErr result (IsReceiveFault IsCommand command.IsReason 65544 ifs number R.remaining R.failures reader.old reader.new) }
+{
+    let mut receiver = Receiver::new(alloc, ifs, number, LONGEST_COMMAND)?;
+    read_chain(reader, &mut receiver)?;
+    let command = decode_command(alloc, receiver.message().unwrap())?;
+    Ok(command)
+}
+
+/// Reads a chain (ISO/IEC 7816-3, clause 11.6) to its end and the response that its message is, which has
+/// at most 65,538 octets, with the size, the number and the faults of `receive_command`.
+pub fn receive_response<R: Source>(
+    alloc: Global,
+    reader: &mut R,
+    ifs: u8,
+    number: Number,
+) -> Result<Response, ReceiveFault<ResponseReason>>
+    requires least { 1 ≤ ifs }
+    requires most { ifs ≤ 254 }
+    ensures received { IfOk result (IsReceived IsResponse 65538 ifs number R.remaining R.failures reader.old reader.new) }
+    ensures fault { IfErr result (IsReceiveFault IsResponse response.IsReason 65538 ifs number R.remaining R.failures reader.old reader.new) }
+{
+    let mut receiver = Receiver::new(alloc, ifs, number, LONGEST_RESPONSE)?;
+    read_chain(reader, &mut receiver)?;
+    let response = decode_response(alloc, receiver.message().unwrap())?;
+    Ok(response)
+}
