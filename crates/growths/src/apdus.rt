@@ -2,11 +2,11 @@
 
 use crate::outcome::Outcome;
 use apdu_core::{
-    Command, SendFault, decode_command, decode_response, encode_command, encode_response,
-    send_command,
+    Command, ReceiveFault, Response, SendFault, decode_command, decode_response, encode_command,
+    encode_response, receive_command, receive_response, send_command, send_response,
 };
 use block_core::Number;
-use octet_core::{After, Counted, Refused, Taker};
+use octet_core::{After, Counted, Feeder, Refused, Taker};
 use std::alloc::{AllocError, Global};
 
 /// A command with a data field and Le.
@@ -22,6 +22,9 @@ const CHAIN: [u8; 17] = [
 
 /// A response with a data field.
 const RESPONSE: [u8; 4] = [0xAA, 0xBB, 0x90, 0x00];
+
+/// The chain of the response.
+const ANSWER: [u8; 8] = [0x00, 0x00, 0x04, 0xAA, 0xBB, 0x90, 0x00, 0x85];
 
 /// A command is decoded and encoded.
 pub(crate) fn commands(alloc: Global) -> Outcome {
@@ -55,6 +58,49 @@ pub(crate) fn sent(alloc: Global) -> Outcome {
         Ok(command) => sent_by(alloc, &command),
         Err(Refused::Memory) => Outcome::Memory,
         Err(Refused::Stop(_)) => Outcome::Wrong,
+    }
+}
+
+/// A command and a response are received, or nothing or exactly their chain was read.
+pub(crate) fn received(alloc: Global) -> Outcome {
+    let mut reader = Counted::new(Feeder::new(&CHAIN, 3, After::Fails));
+    let outcome = match receive_command(alloc, &mut reader, 254, Number::Zero) {
+        Ok(command) => Outcome::of(is_encoded(alloc, &command)),
+        Err(ReceiveFault::Memory) => Outcome::Memory,
+        Err(_) => Outcome::Wrong,
+    };
+    match (outcome, reader.into_inner().given()) {
+        (Outcome::Memory, 0 | 17) | (Outcome::Right, 17) => outcome,
+        _ => Outcome::Wrong,
+    }
+}
+
+fn is_encoded(alloc: Global, command: &Command) -> Result<bool, AllocError> {
+    Ok(encode_command(alloc, command)?.as_slice() == COMMAND.as_slice())
+}
+
+/// A response is sent and received, or nothing or exactly its chain.
+pub(crate) fn answered(alloc: Global) -> Outcome {
+    let mut reader = Counted::new(Feeder::new(&ANSWER, 8, After::Fails));
+    let outcome = match receive_response(alloc, &mut reader, 254, Number::Zero) {
+        Ok(response) => answered_by(alloc, &response),
+        Err(ReceiveFault::Memory) => Outcome::Memory,
+        Err(_) => Outcome::Wrong,
+    };
+    match (outcome, reader.into_inner().given()) {
+        (Outcome::Memory, 0 | 8) | (Outcome::Right, 8) => outcome,
+        _ => Outcome::Wrong,
+    }
+}
+
+fn answered_by(alloc: Global, response: &Response) -> Outcome {
+    let mut writer = Counted::new(Taker::new(64, 64, After::End));
+    let answer = send_response(alloc, &mut writer, response, 254, Number::Zero);
+    let taker = writer.into_inner();
+    match answer {
+        Ok(()) if taker.kept() == ANSWER.as_slice() => Outcome::Right,
+        Err(SendFault::Memory) if taker.kept().is_empty() => Outcome::Memory,
+        _ => Outcome::Wrong,
     }
 }
 

@@ -24,6 +24,8 @@ fn main(rt: HostRuntime) -> io::Result<ExitCode> {
         ("commands", apdus::commands(rt.alloc())),
         ("responses", apdus::responses(rt.alloc())),
         ("commands sent", apdus::sent(rt.alloc())),
+        ("commands received", apdus::received(rt.alloc())),
+        ("responses received and sent", apdus::answered(rt.alloc())),
         ("forests", objects::forests(rt.alloc())),
         ("forests in pieces", objects::pieces(rt.alloc())),
         ("parts", objects::parts(rt.alloc())),

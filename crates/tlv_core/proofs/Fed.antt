@@ -1,5 +1,5 @@
 -- What a reader has taken of a piece so far.
-use Rattle.std.proofs.Common.{◌≡◌, ◌≤◌, ◌<◌, ◌+◌, ◌-◌, ◌++◌, ◌∷◌, [], List, ℕ, take, drop, length, get_or, subst, sym, ap, ◌∙◌, arith, append_assoc, append-nil, refl, zero, suc}
+use Rattle.std.proofs.Common.{◌≡◌, ◌≤◌, ◌<◌, ◌+◌, ◌-◌, ◌++◌, ◌∷◌, [], List, ℕ, take, drop, length, get_or, subst, sym, ap, ◌∙◌, arith, append_assoc, refl, zero, suc}
 use Rattle.std.proofs.lemmas.List.{take-append-drop, length-drop, take_all}
 use Rattle.octet_core.specs.Grammar.{RefusesAt, IsFirst, whole}
 use Rattle.octet_core.specs.declared.stop.Stop.TheVariants.{At}
@@ -32,9 +32,6 @@ take_taken_more (suc n) m (x ∷ l) = let e : suc (n + m) ≡ suc n + m = omega 
 -- the rest of a slice
 pub rest_of : (piece : List ℕ) (taken : ℕ) → take (length piece - taken) (drop taken piece) ≡ drop taken piece
 rest_of piece taken = take_all (length piece - taken) (drop taken piece) (omega (arith, length-drop taken piece))
-
-pub fed_none : (k : Kept) (piece : List ℕ) → Fed k k piece 0
-fed_none k piece = record { within = omega arith; limit = refl; stands = λ b h. subst (λ (l : List ℕ). HasTaken l k) (sym (append-nil b)) h }
 
 pub fed_more : (before now after : Kept) (piece rest : List ℕ) (taken n : ℕ) → Fed before now piece taken → rest ≡ drop taken piece → n ≤ length rest → after.max ≡ now.max → ((b : List ℕ) → HasTaken b now → HasTaken (b ++ take n rest) after) → Fed before after piece (taken + n)
 fed_more before now after piece rest taken n fed is le limit step =

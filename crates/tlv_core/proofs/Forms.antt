@@ -1,5 +1,5 @@
 -- What is known of the forms of length fields. The proofs by cases on the forms stand here alone.
-use Rattle.std.proofs.Common.{suc, zero, ◌≡◌, ℕ, ◌+◌, ◌^◌, ◌<◌, ◌≤◌, [], ◌∷◌, length, refl, sym, ap, subst, ◌∙◌, inl, inr, ◌⊎◌, arith, cond, ltb, Bool}
+use Rattle.std.proofs.Common.{◌≡◌, ℕ, ◌+◌, ◌^◌, ◌<◌, ◌≤◌, [], ◌∷◌, length, refl, sym, ap, subst, ◌∙◌, inl, inr, ◌⊎◌, arith, cond, ltb, Bool}
 use borrow.Author.Tests.{lt-ltb, le-ltb}
 use Rattle.std.proofs.lemmas.Bool.{cases_lt}
 use Rattle.tlv_core.specs.Number.{high_first}
@@ -9,7 +9,7 @@ use Rattle.tlv_core.specs.declared.form.Form.{Form}
 use Rattle.tlv_core.specs.declared.form.Form.TheVariants.{One, Two, Three, Four, Five}
 use Rattle.octet_core.specs.Octets.{AreOctets}
 use Rattle.octet_core.proofs.Lists.{octets-cons}
-use Rattle.tlv_core.proofs.Numbers.{length-high_first, pow256, pow_suc, octets_nil, octets-high_first}
+use Rattle.tlv_core.proofs.Numbers.{length-high_first, octets_nil, octets-high_first, pow_up}
 
 -- a form whose first octet counts the others
 pub record IsLongForm (form : Form) : Type 0 where
@@ -51,11 +51,6 @@ length-field form n =
       | inl one ↦ omega (arith, ap length (field-one form n one), ap further one)
       | inr long ↦ omega (arith, ap length (long.field n), length-high_first (further form) n)
     ]
-
-pow_up : (j k : ℕ) → j ≤ k → 256 ^ j ≤ 256 ^ k
-pow_up zero k le = omega (arith, pow256 k)
-pow_up (suc j) zero le = absurd (omega arith)
-pow_up (suc j) (suc k) le = omega (arith, pow_suc j, pow_suc k, pow_up j k (omega arith))
 
 -- a form of more octets can say what one of fewer can
 pub capacity_up : (f g : Form) → further f ≤ further g → capacity f ≤ capacity g

@@ -14,17 +14,6 @@ use Rattle.tlv_core.proofs.Listing.{more_entries}
 same_yes : (a b : List ℕ) → a ≡ b → bytes_eq a b ≡ true
 same_yes a b e = (bytes_eq-Decides a b).1 e
 
-drop_at : (xs : List Known) (i : ℕ) (x : Known) → i < length xs → x ≡ get_or xs i x → drop i xs ≡ x ∷ drop (i + 1) xs
-drop_at [] i x lt e = absurd (omega arith)
-drop_at (y ∷ xs) zero x lt e = ap (λ (z : Known). z ∷ xs) (sym e)
-drop_at (y ∷ xs) (suc i) x lt e = let next : suc i + 1 ≡ suc (i + 1) = omega arith in drop_at xs i x (omega arith) e ∙ ap (λ (k : ℕ). x ∷ drop k (y ∷ xs)) (sym next)
-
-pub known_yes : (tag : List ℕ) (xs : List Known) (i : ℕ) (x : Known) → i < length xs → x ≡ get_or xs i x → bytes_eq tag x.tag ≡ true → known_for tag (drop i xs) ≡ Some x
-known_yes tag xs i x lt e same = ap (known_for tag) (drop_at xs i x lt e) ∙ ap (λ (b : Bool). cond b (Some x) (known_for tag (drop (i + 1) xs))) same
-
-pub known_no : (tag : List ℕ) (xs : List Known) (i : ℕ) (x : Known) → i < length xs → x ≡ get_or xs i x → bytes_eq tag x.tag ≡ false → known_for tag (drop (i + 1) xs) ≡ known_for tag (drop i xs)
-known_no tag xs i x lt e other = sym (ap (known_for tag) (drop_at xs i x lt e) ∙ ap (λ (b : Bool). cond b (Some x) (known_for tag (drop (i + 1) xs))) other)
-
 pub get_at : (xs : List Known) (i : ℕ) (x : Known) → i < length xs → x ≡ get_or xs i x → slice_get xs i ≡ Some x
 get_at [] i x lt e = absurd (omega arith)
 get_at (y ∷ xs) zero x lt e = ap Some (sym e)

@@ -31,3 +31,4 @@ pub mod Valued
 pub mod Walked
 pub mod Closes
 pub mod Reading
+pub mod Rows

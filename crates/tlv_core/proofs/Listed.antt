@@ -51,9 +51,6 @@ child_fewer (y ∷ xs) (suc i) tag form nodes x lt e is = omega (arith, child_fe
 
 -- ---- lengths
 
-pub length_filler : length (spelling (tree_of (node.Filler ∷ []))) ≡ 1
-length_filler = refl
-
 pub length-header : (tag : List ℕ) (form : Form) (n : ℕ) → length (header_of tag form n) ≡ length tag + 1 + further form
 length-header tag form n = omega (arith, length-append tag (length_field form n), length-field form n)
 

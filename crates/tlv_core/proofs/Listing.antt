@@ -58,9 +58,6 @@ pub record Listing (b : List ℕ) (entries : List Entry) (h : Header) : Type 0 w
 abbrev stands_of : (b : List ℕ) (entries : List Entry) (h : Header) → Listing b entries h → Stands b
 stands_of b entries h l = let p = part_is h l.part in record { done = entries; each = l.each; part = part_of h; ok = p.0; is = l.is ∙ ap (λ (k : List ℕ). dol_spelling entries ++ k) (sym p.1) }
 
-pub listing_none : Listing [] [] header.Nothing
-listing_none = record { each = tt; part = tt; is = refl }
-
 -- the octet makes the part longer
 pub listing_longer : (b : List ℕ) (i : ℕ) (entries : List Entry) (h longer : Header) → i < length b → Listing (take i b) entries h → IsTagPart longer → header_octets longer ≡ header_octets h ++ get_or b i 0 ∷ [] → Listing (take (i + 1) b) entries longer
 listing_longer b i entries h longer lt l part e =

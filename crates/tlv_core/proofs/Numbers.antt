@@ -1,13 +1,10 @@
 -- Numbers in octets, and back.
-use Rattle.std.proofs.Common.{◌≡◌, ℕ, ◌+◌, ◌*◌, ◌/◌, ◌%◌, ◌^◌, ◌<◌, List, [], ◌∷◌, length, refl, ap, ◌∙◌, arith, zero, suc}
+use Rattle.std.proofs.Common.{◌≡◌, ℕ, ◌+◌, ◌*◌, ◌/◌, ◌%◌, ◌^◌, ◌<◌, ◌≤◌, List, [], ◌∷◌, length, refl, ap, ◌∙◌, arith, zero, suc}
 use native.Mathlib.Numerals.{unary_clauses}
 use Rattle.std.proofs.lemmas.Nat.{mul-add-lt, div-mul-add, mod-mul-add, div-add-mod', div_below, mod_below}
 use Rattle.octet_core.specs.Octets.{AreOctets}
 use Rattle.octet_core.proofs.Lists.{octets-cons}
 use Rattle.tlv_core.specs.Number.{number_of, high_first}
-
-pub octets_head : (x : ℕ) (b : List ℕ) → AreOctets (x ∷ b) → x < 256
-octets_head x b h = h 0
 
 pub octets_tail : (x : ℕ) (b : List ℕ) → AreOctets (x ∷ b) → AreOctets b
 octets_tail x b h i = h (suc i)
@@ -53,3 +50,8 @@ high_first-number (x ∷ b) h =
     let low : (x * 256 ^ length b + number_of b) % 256 ^ length b ≡ number_of b = mod-mul-add x (256 ^ length b) (number_of b) rest in
     ap (λ (y : ℕ). y ∷ high_first (length b) ((x * 256 ^ length b + number_of b) % 256 ^ length b)) high
     ∙ ap (λ (y : ℕ). x ∷ high_first (length b) y) low ∙ ap (λ (l : List ℕ). x ∷ l) (high_first-number b (octets_tail x b h))
+
+pub pow_up : (j k : ℕ) → j ≤ k → 256 ^ j ≤ 256 ^ k
+pow_up zero k le = omega (arith, pow256 k)
+pow_up (suc j) zero le = absurd (omega arith)
+pow_up (suc j) (suc k) le = omega (arith, pow_suc j, pow_suc k, pow_up j k (omega arith))

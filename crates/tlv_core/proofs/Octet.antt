@@ -11,7 +11,7 @@ use Rattle.tlv_core.specs.Number.{high_first}
 use Rattle.tlv_core.specs.Form.{further, capacity}
 use Rattle.tlv_core.specs.Tag.{IsTag, IsLong, header_of}
 use Rattle.tlv_core.specs.Reasons.{AwaitsSecond, AwaitsThird, BeginsLength, IsWrong, octet_reasons}
-use Rattle.tlv_core.proofs.Numbers.{pow256, pow_suc}
+use Rattle.tlv_core.proofs.Numbers.{pow256, pow_suc, pow_up}
 use Rattle.tlv_core.proofs.Forms.{form_cases}
 
 -- ---- the line of the table
@@ -41,11 +41,6 @@ unfolding IsFirst
 first_length tag x h none = inr (λ w. tag_not_second tag h w.0, inr (λ w. tag_not_third tag h w.0, inl ((h, none), refl)))
 
 -- ---- a length of several octets
-
-pub pow_up : (j k : ℕ) → j ≤ k → 256 ^ j ≤ 256 ^ k
-pow_up zero k le = omega (arith, pow256 k)
-pow_up (suc j) zero le = absurd (omega arith)
-pow_up (suc j) (suc k) le = omega (arith, pow_suc j, pow_suc k, pow_up j k (omega arith))
 
 -- fewer than four octets say a number that has room for one more octet
 pub number_small : (read number : ℕ) → read < 4 → number < 256 ^ read → number < 2 ^ 24

@@ -6,8 +6,8 @@ use Rattle.std.proofs.lemmas.List.{map-append}
 use Rattle.tlv_core.specs.Tag.{header_of}
 use Rattle.tlv_core.specs.Tree.{Tree, End, Filler, Primitive, Constructed}
 use Rattle.tlv_core.specs.Forest.{spelling}
-use Rattle.tlv_core.specs.Parts.{Placed, preorder}
-use Rattle.tlv_core.specs.Flat.{PartValue, part_in, parts_of, placed_at}
+use Rattle.tlv_core.specs.Parts.{preorder}
+use Rattle.tlv_core.specs.Flat.{PartValue, part_in, parts_of}
 
 value_in : (b front value back : List ℕ) (place n : ℕ) → b ≡ front ++ (value ++ back) → length front ≡ place → length value ≡ n → take n (drop place b) ≡ value
 value_in b front value back place n e place_is n_is =

@@ -70,12 +70,7 @@ fn has_duplicate(known: &[Known]) -> bool
 fn find<'a>(known: &'a [Known], tag: &Tag) -> Option<&'a Known>
     ensures { option_copied result ≡ known_for tag.now known.now }
 {
-    for one in known {
-        if *tag == one.tag {
-            return Some(one);
-        }
-    }
-    None
+    known.iter().find(|one| *tag == one.tag)
 }
 
 /// Adds the part of an entry.

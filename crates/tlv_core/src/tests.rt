@@ -25,13 +25,18 @@ fn checked(rt: &HostRuntime, text: &str, max: usize) -> Result<Result<(), Stop<T
     let mut reader = ForestReader::new(rt.alloc(), max)?;
     for octet in octets.as_slice() {
         let _ = check.feed(&[*octet]);
-        let _ = reader.feed(&[*octet]);
+        if let Err((_, Refused::Memory)) = reader.feed(&[*octet]) {
+            Err("no memory")?
+        }
     }
     let verdict = check.finish();
     let mut whole = ForestCheck::new(max);
     let _ = whole.feed(octets.as_slice());
     let parts = FlatForest::read(rt.alloc(), octets.as_slice(), max).err();
     let forest = decode(rt.alloc(), octets.as_slice(), max).err();
+    if parts == Some(Refused::Memory) || forest == Some(Refused::Memory) {
+        Err("no memory")?
+    }
     let stop = verdict.err();
     let refused = stop.map(Refused::Stop);
     let same = whole.finish().err() == stop

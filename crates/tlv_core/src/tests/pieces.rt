@@ -42,6 +42,26 @@ fn trees_are_read_in_pieces(rt: HostRuntime) -> Result<(), Fail> {
 }
 
 #[test]
+fn a_reader_goes_on_after_want_of_memory(rt: HostRuntime) -> Result<(), Fail> {
+    let text = "006F108407A0000000041010A505BF0C025000005A81011200";
+    let octets = octets_of(rt.alloc(), text)?;
+    let mut reader = ForestReader::new(rt.alloc(), LARGEST_FOREST)?;
+    let mut rest = octets.as_slice();
+    let mut fed = reader.feed(rest);
+    for _ in 0..4_u32 {
+        if let Err((taken, Refused::Memory)) = fed {
+            rest = rest.get(taken..).ok_or("octets")?;
+            fed = reader.feed(rest);
+        }
+    }
+    assert_eq!(rt; fed, Ok(()));
+    let forest = reader.finish().ok().ok_or("a forest")?;
+    let spelled = encode(rt.alloc(), &forest)?;
+    assert_eq!(rt; hex_upper(rt.alloc(), spelled.as_slice())?.as_str(), text);
+    Ok(())
+}
+
+#[test]
 fn overruns_are_repeated(rt: HostRuntime) -> Result<(), Fail> {
     let stop = Stop::At {
         place: 3,

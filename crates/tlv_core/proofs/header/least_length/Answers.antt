@@ -1,5 +1,5 @@
 use Rattle.std.proofs.Common.{arith}
-use Rattle.tlv_core.proofs.Octet.{pow_up}
+use Rattle.tlv_core.proofs.Numbers.{pow_up}
 use Rattle.tlv_core.proofs.header.least_length.Goals as goal
 
 pub pow-requires : goal.pow-requires
