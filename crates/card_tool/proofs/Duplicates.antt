@@ -1,5 +1,5 @@
 -- Whether two known values have one tag.
-use Rattle.std.proofs.Common.{◌≡◌, ◌<◌, ◌≤◌, ◌+◌, ◌⊎◌, inl, inr, zero, suc, ℕ, List, [], ◌∷◌, Bool, true, false, None, Some, arith, drop, get_or, length, refl, subst}
+use Rattle.std.proofs.Common.{◌≡◌, ◌<◌, ◌≤◌, ◌+◌, ◌⊎◌, inl, inr, zero, suc, ℕ, List, [], Bool, true, false, None, Some, arith, drop, get_or, length, refl, subst}
 use Rattle.std.specs.List.{slice_get}
 use Rattle.std.specs.Option.{is_some}
 use Rattle.std.proofs.lemmas.List.{get_or_default}

@@ -1,5 +1,5 @@
 -- What a new check of a forest answers to a whole list.
-use Rattle.std.proofs.Common.{◌≡◌, ◌++◌, ◌∙◌, ℕ, List, [], Result, Ok, Err, MatchResult, ap, subst, IfErr, OnOk}
+use Rattle.std.proofs.Common.{◌≡◌, ◌++◌, ◌∙◌, ℕ, List, [], Result, MatchResult, subst}
 use Rattle.octet_core.specs.Grammar.{Refuses, RefusesAt, whole}
 use Rattle.octet_core.specs.declared.stop.Stop.{Stop}
 use Rattle.octet_core.proofs.Verdicts.{refuses_at}

@@ -1,5 +1,5 @@
 -- How known values are read.
-use Rattle.std.proofs.Common.{◌≡◌, ◌<◌, ◌∙◌, ◌++◌, inl, inr, ℕ, List, [], ◌∷◌, false, true, Bool, Option, Some, None, Result, Ok, Err, arith, refl, ap, sym, slice_index, append_assoc, ◌+◌, length, get_or, drop, map, Bor}
+use Rattle.std.proofs.Common.{◌≡◌, ◌<◌, ◌∙◌, ◌++◌, inl, inr, ℕ, List, [], ◌∷◌, false, true, Bool, Option, Some, None, Result, Ok, Err, arith, refl, ap, sym, append_assoc, ◌+◌, length, get_or, drop, map, Bor}
 use Rattle.std.proofs.lemmas.List.{drop_more}
 use Rattle.std.specs.Option.{MatchOption, ok_or}
 use Rattle.std.proofs.lemmas.Bool.Decides.{nat_tests}
@@ -16,7 +16,7 @@ use Rattle.card_words.specs.Faults.{fault_of_hex}
 use Rattle.card_words.specs.Known.{is_tag, tag_of, tag_of_word, known_of, knowns_of}
 use Rattle.card_words.specs.Value.{◌>>=◌, hex_octets, UnlessMemory}
 use Rattle.card_words.specs.declared.fault.Fault.{Fault}
-use Rattle.card_words.specs.declared.fault.Fault.TheVariants.{Words, Hex, Memory}
+use Rattle.card_words.specs.declared.fault.Fault.TheVariants.{Words, Hex}
 
 -- ---- tags
 

@@ -1,5 +1,5 @@
 -- Known values as words, each F:TAG:VALUE.
-use Rattle.std.specs.Prelude.{◌≡◌, ◌&&◌, ◌==◌, not, ℕ, nat_lt, ◌%◌, List, [], ◌∷◌, length, codes, Bool, true, false, Option, Some, None, Result, Ok, Err, if◌then◌else◌}
+use Rattle.std.specs.Prelude.{◌&&◌, ◌==◌, not, ℕ, nat_lt, ◌%◌, List, [], ◌∷◌, length, codes, Bool, false, Result, Ok, Err, if◌then◌else◌}
 use Rattle.std.specs.Str.{bytes_eq}
 use Rattle.std.specs.List.{position_or_len, before_first, after_first}
 use Rattle.hex.specs.Hex.{decode_of}

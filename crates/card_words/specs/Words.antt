@@ -2,8 +2,6 @@
 use Rattle.std.specs.Prelude.{◌≡◌, ◌≢◌, ◌⊎◌, ◌&&◌, ◌==◌, ◌≤◌, ℕ, length, nat_le, pos, List, [], ◌∷◌, codes, Option, Some, None, true, map, String, string_bytes, Result, Ok, Err, if◌then◌else◌}
 use Rattle.std.specs.Str.{bytes_eq}
 use Rattle.std.specs.declared.alloc.Global.{Global}
-use Rattle.hex.specs.Hex.{decode_of}
-use Rattle.hex.specs.declared.error.FromHexError.{FromHexError}
 use Rattle.std.specs.Str.Parse.{digits_value, without_leading_plus}
 use Rattle.clap.specs.ValueTests.{is_unsigned_in}
 use Rattle.clap.specs.Kinds.{IsAmong, Kinds}
@@ -14,7 +12,7 @@ use Rattle.clap.specs.declared.error.kind.ErrorKind.TheVariants.{DisplayHelp, Ou
 use Rattle.card_words.specs.Known.{knowns_of}
 use Rattle.card_words.specs.Value.{◌>>=◌, octets_of_word}
 use Rattle.card_words.specs.declared.fault.Fault.{Fault}
-use Rattle.card_words.specs.declared.fault.Fault.TheVariants.{Words, Hex, Memory}
+use Rattle.card_words.specs.declared.fault.Fault.TheVariants.{Words, Memory}
 use Rattle.card_words.specs.declared.request.Kind.{Kind}
 use Rattle.card_words.specs.declared.request.Kind.TheVariants.{Atr, Block, Chain, Command, Response, Tlv, Dol}
 use Rattle.card_words.specs.declared.request.Input.{Input}

@@ -11,6 +11,7 @@ ghost use Rattle.t1_core.specs.Card.{command, reply, asking, takes, replies, mor
 
 use crate::class::{Arrived, classify};
 use crate::cutting::{info_at, is_same};
+use crate::replying::{acknowledged, next_block};
 use crate::turns::{CardFault, CardTurn, CardWait, Cut, Request};
 use atr_core::T1Params;
 use block_core::{Block, Fault, Number, Pcb, S};
@@ -58,14 +59,6 @@ impl Model for Card {
     } };
 
     ghost invariant = { λ c. IsCardWait c.wait c.saved c.reply.items × IsSaved c.saved c.reply.items × (65544 ≤ vec_capacity c.command) × (65538 ≤ vec_capacity c.reply) × IsSize c.ifsc × IsSize c.ifsd × IsSize c.first_ifsc };
-}
-
-/// The next I-block of a reply, and what the card then waits in and holds saved.
-#[derive(Drop)]
-struct Next {
-    block: Block,
-    wait: CardWait,
-    saved: Option<Cut>,
 }
 
 impl Card {
@@ -382,42 +375,4 @@ fn put_behind(command: &mut Vec<u8>, goes_on: bool, inf: &[u8])
         command.clear();
     }
     command.extend_from_slice(inf).unwrap();
-}
-
-/// The number after an I-block of the other end, which acknowledges a saved block.
-fn acknowledged(saved: Option<Cut>, number: Number) -> Number
-    ensures { (message : List ℕ) → result ≡ number_after (saved_of saved message) number }
-{
-    match saved {
-        Some(_) => number.other(),
-        None => number,
-    }
-}
-
-/// The I-block of a reply from a place on, cut at this size.
-fn next_block(reply: &[u8], place: usize, size: u8, number: Number) -> Next
-    requires size { IsSize size }
-    requires place { place ≤ length reply.now }
-    ensures block { result.block ≡ info number (is_more (drop size (drop place reply.now))) (take size (drop place reply.now)) }
-    ensures waits { (buffer : List ℕ) → card_waits_of result.wait buffer reply.now ≡ waiting (take size (drop place reply.now)) (drop size (drop place reply.now)) }
-    ensures command { (buffer : List ℕ) → command_in result.wait buffer ≡ buffer }
-    ensures saved { saved_of result.saved reply.now ≡ saving None (take size (drop place reply.now)) (drop size (drop place reply.now)) }
-    ensures wait_fits { IsCardWait result.wait result.saved reply.now }
-    ensures saved_fits { IsSaved result.saved reply.now }
-{
-    let cut = Cut { place, size };
-    let block = info_at(reply, place, size, number);
-    if reply.len() - place > size as usize {
-        Next {
-            block,
-            wait: CardWait::Reply(cut),
-            saved: None,
-        }
-    } else {
-        Next {
-            block,
-            wait: CardWait::Command,
-            saved: Some(cut),
-        }
-    }
 }

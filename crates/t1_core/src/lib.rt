@@ -11,6 +11,7 @@ pub mod card;
 mod class;
 mod cutting;
 pub mod laws;
+mod replying;
 pub mod terminal;
 #[cfg(test)]
 mod tests;

@@ -1,9 +1,5 @@
-use Rattle.std.proofs.Common.{[], ◌≡◌, ◌∙◌, Err, ap, refl, sym, subst}
+use Rattle.std.proofs.Common.{[], refl}
 use Rattle.std.proofs.lemmas.Result.{err_from_is_err_and}
-use Rattle.octet_core.specs.Grammar.{whole}
-use Rattle.octet_core.proofs.Verdicts.{refuses_at}
-use Rattle.tlv_core.specs.Forest.{largest, IsForest}
-use Rattle.tlv_core.specs.Reasons.{IsReason}
 use Rattle.card_tool.proofs.Forests.{fed-verdict, fed-refused}
 use Rattle.card_tool.proofs.forest.verdict.Goals as goal
 

@@ -1,6 +1,6 @@
 use Rattle.std.proofs.Common.{Bor, List, ℕ, [], map}
 use Rattle.card_words.specs.Known.{knowns_of}
-use Rattle.card_words.proofs.Values.{next-known, last-known}
+use Rattle.card_words.proofs.Values.{next-known}
 use Rattle.card_words.proofs.known.knowns.Goals as goal
 
 abbrev none : Bor (List ℕ)

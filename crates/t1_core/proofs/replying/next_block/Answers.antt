@@ -1,7 +1,7 @@
 use Rattle.std.proofs.Common.{List, ℕ, take, drop, arith}
 use Rattle.std.proofs.lemmas.List.{length-drop}
 use Rattle.t1_core.proofs.Cuts.{reply-goes-on, none-saved}
-use Rattle.t1_core.proofs.card.next_block.Goals as goal
+use Rattle.t1_core.proofs.replying.next_block.Goals as goal
 
 pub returns-then-reply-place-clause-waits : goal.returns-then-reply-place-clause-waits
 returns-then-reply-place-clause-waits c = λ buffer.
