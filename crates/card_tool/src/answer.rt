@@ -2,11 +2,13 @@
 
 ghost use Rattle.std.specs.Prelude.{◌≡◌, ◌++◌, IfOk, string_bytes, codes, decimal};
 ghost use Rattle.card_words.specs.Texts.{fault_text};
-ghost use Rattle.card_tool.specs.Texts.{accepted_text, duplicate_text, refused_at_text, short_text};
+ghost use Rattle.card_tool.specs.Texts.{accepted_text, duplicate_text, refused_at_text, refused_text, short_text};
 ghost use Rattle.card_tool.specs.declared.status.Status.TheVariants as ended;
 
+use crate::reason::Named;
 use crate::status::Status;
 use card_words::Fault;
+use octet_core::Stop;
 use std::alloc::{AllocError, Global};
 
 /// A text to be written, and how the program then ends.
@@ -30,7 +32,7 @@ impl Answer {
     }
 
     /// The octets ended at `place`.
-    pub(crate) fn short(alloc: Global, place: usize) -> Result<Answer, AllocError>
+    fn short(alloc: Global, place: usize) -> Result<Answer, AllocError>
         ensures text { IfOk result (λ answer. string_bytes answer.text ≡ short_text place) }
         ensures status { IfOk result (λ answer. answer.status ≡ ended.Refused) }
     {
@@ -42,11 +44,7 @@ impl Answer {
     }
 
     /// The octet at `place` is refused.
-    pub(crate) fn refused_at(
-        alloc: Global,
-        place: usize,
-        reason: &str,
-    ) -> Result<Answer, AllocError>
+    fn refused_at(alloc: Global, place: usize, reason: &str) -> Result<Answer, AllocError>
         ensures text { IfOk result (λ answer. string_bytes answer.text ≡ refused_at_text place reason.now) }
         ensures status { IfOk result (λ answer. answer.status ≡ ended.Refused) }
     {
@@ -55,6 +53,17 @@ impl Answer {
             text,
             status: Status::Refused,
         })
+    }
+
+    /// The octets are refused.
+    pub(crate) fn refused<R: Named>(alloc: Global, stop: Stop<R>) -> Result<Answer, AllocError>
+        ensures text { IfOk result (λ answer. string_bytes answer.text ≡ refused_text R.text stop) }
+        ensures status { IfOk result (λ answer. answer.status ≡ ended.Refused) }
+    {
+        match stop {
+            Stop::Short { place } => Answer::short(alloc, place),
+            Stop::At { place, reason } => Answer::refused_at(alloc, place, reason.name()),
+        }
     }
 
     /// Two known values have one tag.

@@ -5,17 +5,17 @@ ghost use Rattle.std.specs.List.{AllByRecursion};
 ghost use Rattle.octet_core.specs.Grammar.{self_ended};
 ghost use Rattle.atr_core.specs.Atr.{IsAtr, IsReason};
 ghost use Rattle.card_tool.specs.Answers.{Tells};
-ghost use Rattle.card_tool.specs.Texts.{accepted_text, refused_text};
+ghost use Rattle.card_tool.specs.Texts.{accepted_text};
 ghost use Rattle.card_tool.specs.AtrTexts.{atr_text, byte_text, bytes_text, convention_text, fault_text, interface_text, meaning_text, rate_text, reason_text, t1_text, tck_text, td_text, tds_text};
-ghost use Rattle.card_tool.specs.declared.status.Status.TheVariants as ended;
 
 use crate::answer::Answer;
+use crate::reason::Named;
 use crate::text::octets_word;
 use atr_core::{
     Atr, AtrReason, Convention, Indicated, Interface, ParamFault, T1Params, decode, rates,
     t1_params,
 };
-use octet_core::{Stop, hex_upper};
+use octet_core::hex_upper;
 use std::alloc::{AllocError, Global};
 
 /// Whether an answer to reset begins the octets, and how many it takes.
@@ -24,7 +24,7 @@ pub(crate) fn check(alloc: Global, octets: &[u8]) -> Result<Answer, AllocError>
 {
     match decode(octets) {
         Ok((_, taken)) => Answer::accepted(alloc, taken),
-        Err(stop) => refused(alloc, stop),
+        Err(stop) => Answer::refused(alloc, stop),
     }
 }
 
@@ -34,27 +34,19 @@ pub(crate) fn show(alloc: Global, octets: &[u8]) -> Result<Answer, AllocError>
 {
     match decode(octets) {
         Ok((atr, _)) => Ok(Answer::told(lines(alloc, &atr)?)),
-        Err(stop) => refused(alloc, stop),
+        Err(stop) => Answer::refused(alloc, stop),
     }
 }
 
-fn refused(alloc: Global, stop: Stop<AtrReason>) -> Result<Answer, AllocError>
-    ensures text { IfOk result (λ answer. string_bytes answer.text ≡ refused_text reason_text stop) }
-    ensures status { IfOk result (λ answer. answer.status ≡ ended.Refused) }
-{
-    match stop {
-        Stop::Short { place } => Answer::short(alloc, place),
-        Stop::At { place, reason } => Answer::refused_at(alloc, place, reason_name(reason)),
-    }
-}
+impl Named for AtrReason {
+    ghost text = { reason_text };
 
-fn reason_name(reason: AtrReason) -> &'static str
-    ensures { result.now ≡ reason_text reason }
-{
-    match reason {
-        AtrReason::BadTs => "BadTs",
-        AtrReason::TooLong => "TooLong",
-        AtrReason::BadTck => "BadTck",
+    fn name(self) -> &'static str {
+        match self {
+            AtrReason::BadTs => "BadTs",
+            AtrReason::TooLong => "TooLong",
+            AtrReason::BadTck => "BadTck",
+        }
     }
 }
 

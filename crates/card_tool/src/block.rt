@@ -4,14 +4,14 @@ ghost use Rattle.std.specs.Prelude.{◌≡◌, ◌≤◌, IfOk, string_bytes};
 ghost use Rattle.octet_core.specs.Grammar.{self_ended, Refuses};
 ghost use Rattle.block_core.specs.Block.{fault_code, number_bit, IsBlock, IsReason};
 ghost use Rattle.card_tool.specs.Answers.{Tells};
-ghost use Rattle.card_tool.specs.Texts.{accepted_text, refused_text};
+ghost use Rattle.card_tool.specs.Texts.{accepted_text};
 ghost use Rattle.card_tool.specs.BlockTexts.{block_text, more_number, pcb_text, reason_text, supervisory_text};
-ghost use Rattle.card_tool.specs.declared.status.Status.TheVariants as ended;
 
 use crate::answer::Answer;
+use crate::reason::Named;
 use crate::text::octets_word;
 use block_core::{Block, BlockReason, Fault, Number, Pcb, S, decode, encode};
-use octet_core::{Stop, hex_upper};
+use octet_core::hex_upper;
 use std::alloc::{AllocError, Global};
 
 /// Whether a block begins the octets, and how many it takes.
@@ -22,7 +22,7 @@ pub(crate) fn check(alloc: Global, octets: &[u8], ifs: u8) -> Result<Answer, All
 {
     match decode(octets, ifs) {
         Ok((_, taken)) => Answer::accepted(alloc, taken),
-        Err(stop) => refused(alloc, stop),
+        Err(stop) => Answer::refused(alloc, stop),
     }
 }
 
@@ -34,30 +34,21 @@ pub(crate) fn show(alloc: Global, octets: &[u8], ifs: u8) -> Result<Answer, Allo
 {
     match decode(octets, ifs) {
         Ok((block, _)) => Ok(Answer::told(lines(alloc, &block)?)),
-        Err(stop) => refused(alloc, stop),
+        Err(stop) => Answer::refused(alloc, stop),
     }
 }
 
-fn refused(alloc: Global, stop: Stop<BlockReason>) -> Result<Answer, AllocError>
-    ensures text { IfOk result (λ answer. string_bytes answer.text ≡ refused_text reason_text stop) }
-    ensures status { IfOk result (λ answer. answer.status ≡ ended.Refused) }
-{
-    match stop {
-        Stop::Short { place } => Answer::short(alloc, place),
-        Stop::At { place, reason } => Answer::refused_at(alloc, place, reason_name(reason)),
-    }
-}
+impl Named for BlockReason {
+    ghost text = { reason_text };
 
-/// The name of a reason.
-pub(crate) fn reason_name(reason: BlockReason) -> &'static str
-    ensures { result.now ≡ reason_text reason }
-{
-    match reason {
-        BlockReason::BadPcb => "BadPcb",
-        BlockReason::BadLen => "BadLen",
-        BlockReason::OverIfs => "OverIfs",
-        BlockReason::BadIfs => "BadIfs",
-        BlockReason::BadLrc => "BadLrc",
+    fn name(self) -> &'static str {
+        match self {
+            BlockReason::BadPcb => "BadPcb",
+            BlockReason::BadLen => "BadLen",
+            BlockReason::OverIfs => "OverIfs",
+            BlockReason::BadIfs => "BadIfs",
+            BlockReason::BadLrc => "BadLrc",
+        }
     }
 }
 

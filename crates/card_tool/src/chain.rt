@@ -8,10 +8,10 @@ ghost use Rattle.hex.specs.Hex.{encode_upper};
 ghost use Rattle.block_core.specs.Block.{spelling};
 ghost use Rattle.card_tool.specs.Answers.{Tells};
 ghost use Rattle.card_tool.specs.ChainTexts.{blocks_text, chain_text, longest_message, reason_text, IsReceived};
-ghost use Rattle.card_tool.specs.Texts.{accepted_text, refused_text};
-ghost use Rattle.card_tool.specs.declared.status.Status.TheVariants as ended;
+ghost use Rattle.card_tool.specs.Texts.{accepted_text};
 
 use crate::answer::Answer;
+use crate::reason::Named;
 use crate::text::octets_word;
 use block_core::{Block, Number, encode};
 use chain_core::{ChainReason, Receiver, cut};
@@ -34,7 +34,7 @@ pub(crate) fn check(
 {
     match received(alloc, octets, ifs, number) {
         Ok((_, taken)) => Answer::accepted(alloc, taken),
-        Err(Refused::Stop(stop)) => refused(alloc, stop),
+        Err(Refused::Stop(stop)) => Answer::refused(alloc, stop),
         Err(Refused::Memory) => Err(AllocError),
     }
 }
@@ -52,7 +52,7 @@ pub(crate) fn show(
 {
     match received(alloc, octets, ifs, number) {
         Ok((receiver, _)) => Ok(Answer::told(lines(alloc, &receiver)?)),
-        Err(Refused::Stop(stop)) => refused(alloc, stop),
+        Err(Refused::Stop(stop)) => Answer::refused(alloc, stop),
         Err(Refused::Memory) => Err(AllocError),
     }
 }
@@ -81,30 +81,21 @@ fn received(
     }
 }
 
-fn refused(alloc: Global, stop: Stop<ChainReason>) -> Result<Answer, AllocError>
-    ensures text { IfOk result (λ answer. string_bytes answer.text ≡ refused_text reason_text stop) }
-    ensures status { IfOk result (λ answer. answer.status ≡ ended.Refused) }
-{
-    match stop {
-        Stop::Short { place } => Answer::short(alloc, place),
-        Stop::At { place, reason } => Answer::refused_at(alloc, place, reason_name(reason)),
-    }
-}
+impl Named for ChainReason {
+    ghost text = { reason_text };
 
-/// The name of a reason.
-fn reason_name(reason: ChainReason) -> &'static str
-    ensures { result.now ≡ reason_text reason }
-{
-    match reason {
-        ChainReason::BadNad => "BadNad",
-        ChainReason::BadPcb => "BadPcb",
-        ChainReason::NotInfo => "NotInfo",
-        ChainReason::BadSequence => "BadSequence",
-        ChainReason::TooManyBlocks => "TooManyBlocks",
-        ChainReason::BadLen => "BadLen",
-        ChainReason::OverIfs => "OverIfs",
-        ChainReason::TooLong => "TooLong",
-        ChainReason::BadLrc => "BadLrc",
+    fn name(self) -> &'static str {
+        match self {
+            ChainReason::BadNad => "BadNad",
+            ChainReason::BadPcb => "BadPcb",
+            ChainReason::NotInfo => "NotInfo",
+            ChainReason::BadSequence => "BadSequence",
+            ChainReason::TooManyBlocks => "TooManyBlocks",
+            ChainReason::BadLen => "BadLen",
+            ChainReason::OverIfs => "OverIfs",
+            ChainReason::TooLong => "TooLong",
+            ChainReason::BadLrc => "BadLrc",
+        }
     }
 }
 

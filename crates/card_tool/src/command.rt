@@ -5,13 +5,13 @@ ghost use Rattle.octet_core.specs.Grammar.{whole};
 ghost use Rattle.apdu_core.specs.Command.{IsCommand, IsReason};
 ghost use Rattle.card_tool.specs.Answers.{Tells};
 ghost use Rattle.card_tool.specs.CommandTexts.{command_text, le_text, reason_text, shape_text};
-ghost use Rattle.card_tool.specs.Texts.{accepted_text, refused_text};
-ghost use Rattle.card_tool.specs.declared.status.Status.TheVariants as ended;
+ghost use Rattle.card_tool.specs.Texts.{accepted_text};
 
 use crate::answer::Answer;
+use crate::reason::Named;
 use crate::text::octets_word;
 use apdu_core::{CommandReason, CommandRef, Shape};
-use octet_core::{Stop, hex_upper};
+use octet_core::hex_upper;
 use std::alloc::{AllocError, Global};
 
 /// Whether the octets are a command.
@@ -20,7 +20,7 @@ pub(crate) fn check(alloc: Global, octets: &[u8]) -> Result<Answer, AllocError>
 {
     match CommandRef::decode(octets) {
         Ok(_) => Answer::accepted(alloc, octets.len()),
-        Err(stop) => refused(alloc, stop),
+        Err(stop) => Answer::refused(alloc, stop),
     }
 }
 
@@ -30,20 +30,17 @@ pub(crate) fn show(alloc: Global, octets: &[u8]) -> Result<Answer, AllocError>
 {
     match CommandRef::decode(octets) {
         Ok(command) => Ok(Answer::told(lines(alloc, &command)?)),
-        Err(stop) => refused(alloc, stop),
+        Err(stop) => Answer::refused(alloc, stop),
     }
 }
 
-fn refused(alloc: Global, stop: Stop<CommandReason>) -> Result<Answer, AllocError>
-    ensures text { IfOk result (λ answer. string_bytes answer.text ≡ refused_text reason_text stop) }
-    ensures status { IfOk result (λ answer. answer.status ≡ ended.Refused) }
-{
-    match stop {
-        Stop::Short { place } => Answer::short(alloc, place),
-        Stop::At {
-            place,
-            reason: CommandReason::Trailing,
-        } => Answer::refused_at(alloc, place, "Trailing"),
+impl Named for CommandReason {
+    ghost text = { reason_text };
+
+    fn name(self) -> &'static str {
+        match self {
+            CommandReason::Trailing => "Trailing",
+        }
     }
 }
 

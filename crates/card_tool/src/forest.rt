@@ -8,10 +8,10 @@ ghost use Rattle.tlv_core.specs.Reasons.{IsReason};
 ghost use Rattle.tlv_core.specs.Flat.{part_seen};
 ghost use Rattle.card_tool.specs.Answers.{Tells};
 ghost use Rattle.card_tool.specs.ForestTexts.{forest_text, lines_text, part_text, parts_text, reason_text, tidied_text, value_text};
-ghost use Rattle.card_tool.specs.Texts.{accepted_text, refused_text};
-ghost use Rattle.card_tool.specs.declared.status.Status.TheVariants as ended;
+ghost use Rattle.card_tool.specs.Texts.{accepted_text};
 
 use crate::answer::Answer;
+use crate::reason::Named;
 use crate::text::octets_word;
 use octet_core::{Refused, Stop, hex_upper};
 use std::alloc::{AllocError, Global};
@@ -23,7 +23,7 @@ pub(crate) fn check(alloc: Global, octets: &[u8]) -> Result<Answer, AllocError>
 {
     match verdict(octets) {
         Ok(()) => Answer::accepted(alloc, octets.len()),
-        Err(stop) => refused(alloc, stop),
+        Err(stop) => Answer::refused(alloc, stop),
     }
 }
 
@@ -33,7 +33,7 @@ pub(crate) fn show(alloc: Global, octets: &[u8]) -> Result<Answer, AllocError>
 {
     match FlatForest::read(alloc, octets, LARGEST_FOREST) {
         Ok(forest) => Ok(Answer::told(lines(alloc, forest.parts())?)),
-        Err(Refused::Stop(stop)) => refused(alloc, stop),
+        Err(Refused::Stop(stop)) => Answer::refused(alloc, stop),
         Err(Refused::Memory) => Err(AllocError),
     }
 }
@@ -44,7 +44,7 @@ pub(crate) fn tidy(alloc: Global, octets: &[u8]) -> Result<Answer, AllocError>
 {
     match decode(alloc, octets, LARGEST_FOREST) {
         Ok(forest) => Ok(Answer::told(tidied(alloc, &forest)?)),
-        Err(Refused::Stop(stop)) => refused(alloc, stop),
+        Err(Refused::Stop(stop)) => Answer::refused(alloc, stop),
         Err(Refused::Memory) => Err(AllocError),
     }
 }
@@ -109,26 +109,17 @@ fn value_word(alloc: Global, part: &Part<'_>) -> Result<String, AllocError>
     }
 }
 
-fn refused(alloc: Global, stop: Stop<TlvReason>) -> Result<Answer, AllocError>
-    ensures text { IfOk result (λ answer. string_bytes answer.text ≡ refused_text reason_text stop) }
-    ensures status { IfOk result (λ answer. answer.status ≡ ended.Refused) }
-{
-    match stop {
-        Stop::Short { place } => Answer::short(alloc, place),
-        Stop::At { place, reason } => Answer::refused_at(alloc, place, reason_name(reason)),
-    }
-}
+impl Named for TlvReason {
+    ghost text = { reason_text };
 
-/// The name of a reason.
-fn reason_name(reason: TlvReason) -> &'static str
-    ensures { result.now ≡ reason_text reason }
-{
-    match reason {
-        TlvReason::TooDeep => "TooDeep",
-        TlvReason::TagSecond => "TagSecond",
-        TlvReason::TagLong => "TagLong",
-        TlvReason::LengthForm => "LengthForm",
-        TlvReason::Overrun => "Overrun",
-        TlvReason::TooLong => "TooLong",
+    fn name(self) -> &'static str {
+        match self {
+            TlvReason::TooDeep => "TooDeep",
+            TlvReason::TagSecond => "TagSecond",
+            TlvReason::TagLong => "TagLong",
+            TlvReason::LengthForm => "LengthForm",
+            TlvReason::Overrun => "Overrun",
+            TlvReason::TooLong => "TooLong",
+        }
     }
 }

@@ -15,6 +15,7 @@ pub mod forest;
 pub mod laws;
 pub mod list;
 pub mod program;
+mod reason;
 pub mod response;
 pub mod status;
 #[cfg(test)]

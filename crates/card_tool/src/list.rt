@@ -6,13 +6,13 @@ ghost use Rattle.tlv_core.specs.Dol.{IsDol, IsDolReason};
 ghost use Rattle.tlv_core.specs.Fill.{filled, HasDuplicate};
 ghost use Rattle.card_tool.specs.Answers.{Tells, IsFilled, IsFilledBy};
 ghost use Rattle.card_tool.specs.ListTexts.{dol_text, entries_text, entry_text, filled_text, reason_text};
-ghost use Rattle.card_tool.specs.Texts.{accepted_text, refused_text};
-ghost use Rattle.card_tool.specs.declared.status.Status.TheVariants as ended;
+ghost use Rattle.card_tool.specs.Texts.{accepted_text};
 
 use crate::answer::Answer;
+use crate::reason::Named;
 use crate::text::octets_word;
 use card_words::{Fault, Knowns};
-use octet_core::{Refused, Stop, hex_upper};
+use octet_core::{Refused, hex_upper};
 use std::alloc::{AllocError, Global};
 use tlv_core::{Dol, DolReason, FillFault, Tag};
 
@@ -22,7 +22,7 @@ pub(crate) fn check(alloc: Global, octets: &[u8]) -> Result<Answer, AllocError>
 {
     match Dol::decode(alloc, octets) {
         Ok(_) => Answer::accepted(alloc, octets.len()),
-        Err(Refused::Stop(stop)) => refused(alloc, stop),
+        Err(Refused::Stop(stop)) => Answer::refused(alloc, stop),
         Err(Refused::Memory) => Err(AllocError),
     }
 }
@@ -33,7 +33,7 @@ pub(crate) fn show(alloc: Global, octets: &[u8]) -> Result<Answer, AllocError>
 {
     match Dol::decode(alloc, octets) {
         Ok(dol) => Ok(Answer::told(lines(alloc, &dol)?)),
-        Err(Refused::Stop(stop)) => refused(alloc, stop),
+        Err(Refused::Stop(stop)) => Answer::refused(alloc, stop),
         Err(Refused::Memory) => Err(AllocError),
     }
 }
@@ -49,7 +49,7 @@ pub(crate) fn fill(
 {
     match Dol::decode(alloc, octets) {
         Ok(dol) => fill_by(alloc, &dol, known),
-        Err(Refused::Stop(stop)) => refused(alloc, stop),
+        Err(Refused::Stop(stop)) => Answer::refused(alloc, stop),
         Err(Refused::Memory) => Err(AllocError),
     }
 }
@@ -110,23 +110,14 @@ fn entry_line(alloc: Global, tag: &Tag, length: u8) -> Result<String, AllocError
     format!(in alloc; "{tag} {length}\n")
 }
 
-fn refused(alloc: Global, stop: Stop<DolReason>) -> Result<Answer, AllocError>
-    ensures text { IfOk result (λ answer. string_bytes answer.text ≡ refused_text reason_text stop) }
-    ensures status { IfOk result (λ answer. answer.status ≡ ended.Refused) }
-{
-    match stop {
-        Stop::Short { place } => Answer::short(alloc, place),
-        Stop::At { place, reason } => Answer::refused_at(alloc, place, reason_name(reason)),
-    }
-}
+impl Named for DolReason {
+    ghost text = { reason_text };
 
-/// The name of a reason.
-fn reason_name(reason: DolReason) -> &'static str
-    ensures { result.now ≡ reason_text reason }
-{
-    match reason {
-        DolReason::TagZero => "TagZero",
-        DolReason::TagSecond => "TagSecond",
-        DolReason::TagLong => "TagLong",
+    fn name(self) -> &'static str {
+        match self {
+            DolReason::TagZero => "TagZero",
+            DolReason::TagSecond => "TagSecond",
+            DolReason::TagLong => "TagLong",
+        }
     }
 }

@@ -5,13 +5,13 @@ ghost use Rattle.octet_core.specs.Grammar.{whole};
 ghost use Rattle.apdu_core.specs.Response.{IsResponse, IsReason};
 ghost use Rattle.card_tool.specs.Answers.{Tells};
 ghost use Rattle.card_tool.specs.ResponseTexts.{class_text, name_of, reason_text, response_text};
-ghost use Rattle.card_tool.specs.Texts.{accepted_text, refused_text};
-ghost use Rattle.card_tool.specs.declared.status.Status.TheVariants as ended;
+ghost use Rattle.card_tool.specs.Texts.{accepted_text};
 
 use crate::answer::Answer;
+use crate::reason::Named;
 use crate::text::octets_word;
 use apdu_core::{ResponseReason, ResponseRef, StatusClass, status_class};
-use octet_core::{Stop, hex_upper};
+use octet_core::hex_upper;
 use std::alloc::{AllocError, Global};
 
 /// Whether the octets are a response.
@@ -20,7 +20,7 @@ pub(crate) fn check(alloc: Global, octets: &[u8]) -> Result<Answer, AllocError>
 {
     match ResponseRef::decode(octets) {
         Ok(_) => Answer::accepted(alloc, octets.len()),
-        Err(stop) => refused(alloc, stop),
+        Err(stop) => Answer::refused(alloc, stop),
     }
 }
 
@@ -30,20 +30,17 @@ pub(crate) fn show(alloc: Global, octets: &[u8]) -> Result<Answer, AllocError>
 {
     match ResponseRef::decode(octets) {
         Ok(response) => Ok(Answer::told(lines(alloc, &response)?)),
-        Err(stop) => refused(alloc, stop),
+        Err(stop) => Answer::refused(alloc, stop),
     }
 }
 
-fn refused(alloc: Global, stop: Stop<ResponseReason>) -> Result<Answer, AllocError>
-    ensures text { IfOk result (λ answer. string_bytes answer.text ≡ refused_text reason_text stop) }
-    ensures status { IfOk result (λ answer. answer.status ≡ ended.Refused) }
-{
-    match stop {
-        Stop::Short { place } => Answer::short(alloc, place),
-        Stop::At {
-            place,
-            reason: ResponseReason::TooLong,
-        } => Answer::refused_at(alloc, place, "TooLong"),
+impl Named for ResponseReason {
+    ghost text = { reason_text };
+
+    fn name(self) -> &'static str {
+        match self {
+            ResponseReason::TooLong => "TooLong",
+        }
     }
 }
 
