@@ -11,6 +11,12 @@ const CHAIN: [u8; 17] = [
     0x01,
 ];
 
+/// The same chain, and an octet behind it.
+const CHAIN_AND_MORE: [u8; 18] = [
+    0x00, 0x20, 0x02, 0x00, 0xA4, 0x86, 0x00, 0x60, 0x02, 0x04, 0x00, 0x66, 0x00, 0x00, 0x01, 0x00,
+    0x01, 0xFF,
+];
+
 const SELECT: [u8; 5] = [0x00, 0xA4, 0x04, 0x00, 0x00];
 
 #[test]
@@ -101,17 +107,38 @@ fn received_in_two_pieces(rt: HostRuntime) -> Result<(), Fail> {
     Ok(())
 }
 
-#[test]
-fn received_octet_by_octet(rt: HostRuntime) -> Result<(), Fail> {
-    let mut receiver = Receiver::new(rt.alloc(), 2, Number::Zero, 5)?;
-    for (place, octet) in CHAIN.iter().enumerate() {
-        assert_eq!(rt; receiver.feed(&[*octet]), Ok((1, place == 16)));
+/// Whether the chain is taken, and the octet behind it not, where a piece ends behind the octet at each
+/// place whose bit is set in `cuts`.
+fn is_received(receiver: &mut Receiver, cuts: u32) -> bool {
+    let mut from = 0;
+    for place in 0..16usize {
+        if (cuts >> place) & 1 == 1 {
+            match CHAIN.get(from..place + 1) {
+                Some(piece) if receiver.feed(piece) == Ok((piece.len(), false)) => {}
+                _ => return false,
+            }
+            from = place + 1;
+        }
     }
-    assert!(rt;
-        receiver
-            .message()
-            .is_some_and(|message| message == SELECT.as_slice())
-    );
+    let Some(piece) = CHAIN_AND_MORE.get(from..) else {
+        return false;
+    };
+    let taken = piece.len().saturating_sub(1);
+    receiver.feed(piece) == Ok((taken, true))
+        && receiver.feed(&[0xFF]) == Ok((0, true))
+        && receiver.message() == Some(SELECT.as_slice())
+}
+
+#[test]
+fn received_in_any_pieces(rt: HostRuntime) -> Result<(), Fail> {
+    let mut receiver = Receiver::new(rt.alloc(), 2, Number::Zero, 5)?;
+    for cuts in 0..65_536u32 {
+        receiver.restart(Number::Zero);
+        assert!(rt;
+            is_received(&mut receiver, cuts),
+            "cut behind the bits of {cuts}"
+        );
+    }
     Ok(())
 }
 
