@@ -7,3 +7,4 @@ pub mod Whole
 pub mod Refusals
 pub mod Spelled
 pub mod Received
+pub mod Arriving

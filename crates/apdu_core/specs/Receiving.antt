@@ -1,5 +1,5 @@
 -- What a call that receives an APDU as a chain answers, and what it leaves: remaining tells what a reader still holds, where it is known, failures how many of its calls failed.
-use Rattle.std.specs.Prelude.{◌≡◌, ◌⊎◌, ℕ, List, length, Option}
+use Rattle.std.specs.Prelude.{◌≡◌, ◌⊎◌, ℕ, List, length, Option, Some, Result, Ok, Err}
 use Rattle.std.specs.Io.KnownBytes.{Consumes, IsAtEnd}
 use Rattle.octet_core.specs.Failures.{HasFailed}
 use Rattle.octet_core.specs.Grammar.{Accepts, Begins, Refuses, self_ended, whole}
@@ -74,3 +74,11 @@ fault_of_chain (refusals.Stop stop) = Chain stop
 abbrev pub fault_of_apdu : {R : Type 0} → Refused R → ReceiveFault R
 fault_of_apdu (refusal.Stop stop) = Apdu stop
 fault_of_apdu refusal.Memory = Memory
+
+-- What can come where the reader held the chain of v and then more octets: v, with those octets left; or a growth of memory or a call of the reader failed.
+abbrev pub ArrivesUnlessFault : {V R : Type 0} → V → List ℕ → Option (List ℕ) → Result V (ReceiveFault R) → Type 0
+ArrivesUnlessFault v more left (Ok w) = (w ≡ v) × (left ≡ Some more)
+ArrivesUnlessFault v more left (Err Memory) = Unit {0}
+ArrivesUnlessFault v more left (Err (Read taken)) = Unit {0}
+ArrivesUnlessFault v more left (Err (Chain stop)) = ⊥
+ArrivesUnlessFault v more left (Err (Apdu stop)) = ⊥

@@ -1,11 +1,12 @@
 //! APDUs read from chains.
 
-ghost use Rattle.std.specs.Prelude.{◌≤◌, IfOk, IfErr};
+ghost use Rattle.std.specs.Prelude.{◌≡◌, ◌≤◌, ◌++◌, ℕ, List, Some, IfOk, IfErr};
 ghost use Rattle.apdu_core.specs.Command as command;
-ghost use Rattle.apdu_core.specs.Command.{IsCommand};
+ghost use Rattle.apdu_core.specs.Command.{CommandParts, IsCommand};
 ghost use Rattle.apdu_core.specs.Response as response;
-ghost use Rattle.apdu_core.specs.Response.{IsResponse};
-ghost use Rattle.apdu_core.specs.Receiving.{IsReceived, IsReceiveFault};
+ghost use Rattle.apdu_core.specs.Response.{ResponseParts, IsResponse};
+ghost use Rattle.apdu_core.specs.Sending.{chain_of};
+ghost use Rattle.apdu_core.specs.Receiving.{ArrivesUnlessFault, IsReceived, IsReceiveFault};
 
 use crate::command::Command;
 use crate::decoding::{decode_command, decode_response};
@@ -77,7 +78,9 @@ impl<R> From<Refused<R>> for ReceiveFault<R> {
 
 /// Reads a chain (ISO/IEC 7816-3, clause 11.6) to its end and the command that its message is. `ifs` is
 /// the information size, 1 to 254, `number` the number of the first block; the message has at most
-/// 65,544 octets. What follows the chain stays unread.
+/// 65,544 octets. What follows the chain stays unread. Where the reader held the chain of a command, cut
+/// by a size that isn't above `ifs`, nothing else can come than that command, but for want of memory and
+/// a reader that fails.
 ///
 /// `Memory` comes where memory was refused: for the message, and then nothing was read, or for the copy
 /// of the part, and then exactly a chain whose message is a command. `Read` comes where a call of the
@@ -95,6 +98,39 @@ pub fn receive_command<R: Source>(
     requires most { ifs ≤ 254 }
     ensures received { IfOk result (IsReceived IsCommand 65544 ifs number R.remaining R.failures reader.old reader.new) }
     ensures fault { IfErr result (IsReceiveFault IsCommand command.IsReason 65544 ifs number R.remaining R.failures reader.old reader.new) }
+    ensures arrives { (v : CommandParts) (b more : List ℕ) (size : ℕ) → IsCommand v b → 1 ≤ size → size ≤ ifs → R.remaining reader.old ≡ Some (chain_of size number b ++ more) → ArrivesUnlessFault v more (R.remaining reader.new) result }
+{
+    read_command(alloc, reader, ifs, number)
+}
+
+/// Reads a chain (ISO/IEC 7816-3, clause 11.6) to its end and the response that its message is, which has
+/// at most 65,538 octets, with the size, the number and the faults of `receive_command`.
+pub fn receive_response<R: Source>(
+    alloc: Global,
+    reader: &mut R,
+    ifs: u8,
+    number: Number,
+) -> Result<Response, ReceiveFault<ResponseReason>>
+    requires least { 1 ≤ ifs }
+    requires most { ifs ≤ 254 }
+    ensures received { IfOk result (IsReceived IsResponse 65538 ifs number R.remaining R.failures reader.old reader.new) }
+    ensures fault { IfErr result (IsReceiveFault IsResponse response.IsReason 65538 ifs number R.remaining R.failures reader.old reader.new) }
+    ensures arrives { (v : ResponseParts) (b more : List ℕ) (size : ℕ) → IsResponse v b → 1 ≤ size → size ≤ ifs → R.remaining reader.old ≡ Some (chain_of size number b ++ more) → ArrivesUnlessFault v more (R.remaining reader.new) result }
+{
+    read_response(alloc, reader, ifs, number)
+}
+
+/// Reads a chain, and decodes its message as a command.
+fn read_command<R: Source>(
+    alloc: Global,
+    reader: &mut R,
+    ifs: u8,
+    number: Number,
+) -> Result<Command, ReceiveFault<CommandReason>>
+    requires least { 1 ≤ ifs }
+    requires most { ifs ≤ 254 }
+    ensures received { IfOk result (IsReceived IsCommand 65544 ifs number R.remaining R.failures reader.old reader.new) }
+    ensures fault { IfErr result (IsReceiveFault IsCommand command.IsReason 65544 ifs number R.remaining R.failures reader.old reader.new) }
 {
     let mut receiver = Receiver::new(alloc, ifs, number, LONGEST_COMMAND)?;
     read_chain(reader, &mut receiver)?;
@@ -102,9 +138,8 @@ pub fn receive_command<R: Source>(
     Ok(command)
 }
 
-/// Reads a chain (ISO/IEC 7816-3, clause 11.6) to its end and the response that its message is, which has
-/// at most 65,538 octets, with the size, the number and the faults of `receive_command`.
-pub fn receive_response<R: Source>(
+/// Reads a chain, and decodes its message as a response.
+fn read_response<R: Source>(
     alloc: Global,
     reader: &mut R,
     ifs: u8,

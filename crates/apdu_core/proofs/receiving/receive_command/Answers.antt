@@ -1,24 +1,10 @@
-use Rattle.std.proofs.Common.{Err, ap}
-use Rattle.std.proofs.lemmas.Result.{err_from_is_err_and}
 use Rattle.apdu_core.specs.Command.{IsCommand, IsReason}
-use Rattle.apdu_core.proofs.Received.{received, not-received, no-chain}
+use Rattle.apdu_core.proofs.Arrivals.{command-arrives, command-lengths}
+use Rattle.apdu_core.proofs.Arriving.{arrives-only}
+use Rattle.apdu_core.proofs.Unique.{one-command}
 use Rattle.apdu_core.proofs.receiving.receive_command.Goals as goal
 
-pub returns-in_err-read_chain-clause-fault : goal.returns-in_err-read_chain-clause-fault
-returns-in_err-read_chain-clause-fault g c =
-    let p = err_from_is_err_and c.from_residual-in_err-read_chain.result c.from_residual-in_err-read_chain.ensures.1 in
-    rw (p.1, p.2) (no-chain 65544 c.args.ifs c.args.number g.R.Source.remaining g.R.Source.failures c.args.reader.now c.read_chain.new.reader c.in_ok-receiver.receiver c.read_chain.new.receiver IsCommand IsReason c.in_err-read_chain.field-0.0
-    c.in_ok-receiver.ensures c.in_err-read_chain.ensures.reads c.in_err-read_chain.ensures.counted c.in_err-read_chain.ensures.kept)
-
-pub returns-in_err-command-clause-fault : goal.returns-in_err-command-clause-fault
-returns-in_err-command-clause-fault g c =
-    let p = err_from_is_err_and c.from_residual-in_err-command.result c.from_residual-in_err-command.ensures.1 in
-    let message = rw c.unwrap.ensures at c.message.ensures.done in
-    rw (p.1, p.2) (not-received 65544 c.args.ifs c.args.number g.R.Source.remaining g.R.Source.failures c.args.reader.now c.read_chain.new.reader c.in_ok-receiver.receiver c.read_chain.new.receiver IsCommand IsReason c.unwrap.result.now c.in_err-command.field-0.0
-    c.in_ok-receiver.ensures c.in_ok-read_chain.ensures.reads c.in_ok-read_chain.ensures.counted message.2 c.in_err-command.ensures.refused (λ e. c.in_err-command.ensures.memory (ap Err e)))
-
-pub returns-clause-received : goal.returns-clause-received
-returns-clause-received g c =
-    let message = rw c.unwrap.ensures at c.message.ensures.done in
-    received 65544 c.args.ifs c.args.number g.R.Source.remaining g.R.Source.failures c.args.reader.now c.read_chain.new.reader c.in_ok-receiver.receiver c.read_chain.new.receiver IsCommand c.unwrap.result.now c.in_ok-command.command
-    c.in_ok-receiver.ensures c.in_ok-read_chain.ensures.reads c.in_ok-read_chain.ensures.counted message.2 c.in_ok-command.ensures.found
+pub returns-clause-arrives : goal.returns-clause-arrives
+returns-clause-arrives g c = λ v b more size spelled pos le held.
+    arrives-only IsCommand IsReason one-command 65544 c.args.ifs size c.args.number g.R.Source.remaining g.R.Source.failures c.args.reader.now c.read_command.new.reader v b more
+    (command-arrives v b size c.args.ifs 65544 c.args.number more spelled pos le (command-lengths v b spelled).1) held c.read_command.result c.read_command.ensures.received c.read_command.ensures.fault
