@@ -56,6 +56,7 @@ module _ {Reader : Type 0} (limit ifs : ℕ) (number : Number) (remaining : Read
         count = own.count;
         begun = subst (λ (A : Type 0). A) (λ i. Begins (IsChain (size i) (first i) (most i)) own.read) begun;
         failed = count.0;
+        failed_once = count.1;
       }
   no-chain S Reason (refusals.Stop (Short p)) is reads count kept =
       let own = subst (λ (r : Reception). Reads (remaining old) (remaining new) r after (Err (refusals.Stop (Short p)))) is reads in

@@ -1,7 +1,7 @@
 -- What a call that receives an APDU as a chain answers, and what it leaves: remaining tells what a reader still holds, where it is known, failures how many of its calls failed.
 use Rattle.std.specs.Prelude.{◌≡◌, ◌⊎◌, ℕ, List, length, Option, Some, Result, Ok, Err}
 use Rattle.std.specs.Io.KnownBytes.{Consumes, IsAtEnd}
-use Rattle.octet_core.specs.Failures.{HasFailed}
+use Rattle.octet_core.specs.Failures.{HasFailed, next_count}
 use Rattle.octet_core.specs.Grammar.{Accepts, Begins, Refuses, self_ended, whole}
 use Rattle.octet_core.specs.declared.stop.Stop.{Stop}
 use Rattle.octet_core.specs.declared.stop.Stop.TheVariants.{Short, At}
@@ -25,13 +25,14 @@ module _ {Reader : Type 0} (limit ifs : ℕ) (number : Number) (remaining : Read
     pub chain : IsChain ifs number limit fields read
     pub none_failed : failures new ≡ failures old
 
-  -- so many octets were read, with which a chain begins, and then the reader failed
+  -- so many octets were read, with which a chain begins, and then just one call of the reader failed
   pub record BreaksOff (taken : ℕ) : Type 0 where
     pub read : List ℕ
     pub from : Consumes (remaining old) (remaining new) read
     pub count : length read ≡ taken
     pub begun : Begins (IsChain ifs number limit) read
     pub failed : HasFailed (failures old) (failures new)
+    pub failed_once : failures new ≡ next_count (failures old)
 
   -- where the octets read end: with the input, or near the one that was refused
   abbrev pub EndsAt : List ℕ → Stop ChainReason → Type 0
@@ -75,7 +76,7 @@ abbrev pub fault_of_apdu : {R : Type 0} → Refused R → ReceiveFault R
 fault_of_apdu (refusal.Stop stop) = Apdu stop
 fault_of_apdu refusal.Memory = Memory
 
--- What can come where the reader held the chain of v and then more octets: v, with those octets left; or a growth of memory or a call of the reader failed.
+-- What can come where the reader held a chain whose message spells v and then more octets: v, with those octets left; or a growth of memory or a call of the reader failed.
 abbrev pub ArrivesUnlessFault : {V R : Type 0} → V → List ℕ → Option (List ℕ) → Result V (ReceiveFault R) → Type 0
 ArrivesUnlessFault v more left (Ok w) = (w ≡ v) × (left ≡ Some more)
 ArrivesUnlessFault v more left (Err Memory) = Unit {0}

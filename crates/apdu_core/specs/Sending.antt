@@ -1,7 +1,7 @@
 -- What a call that sends an APDU as a chain leaves: contents tells what a writer holds, where it is known, failures how many of its calls failed.
 use Rattle.std.specs.Prelude.{◌≡◌, ℕ, ◌<◌, List, length, take, Option}
 use Rattle.std.specs.Io.KnownBytes.{Appends}
-use Rattle.octet_core.specs.Failures.{HasFailed}
+use Rattle.octet_core.specs.Failures.{HasFailed, next_count}
 use Rattle.block_core.specs.declared.pcb.Number.{Number}
 use Rattle.chain_core.specs.Chain.{spelling}
 use Rattle.chain_core.specs.Cut.{cut_of}
@@ -19,13 +19,14 @@ pub record IsSent {V W : Type 0} (S : V → List ℕ → Type 0) (v : V) (ifs : 
   pub all : Appends (contents old) (contents new) (chain_of ifs number octets)
   pub none_failed : failures new ≡ failures old
 
--- of that chain only so many octets were written, and then the writer failed
+-- of that chain only so many octets were written, and then just one call of the writer failed
 pub record IsCutShort {V W : Type 0} (S : V → List ℕ → Type 0) (v : V) (ifs : ℕ) (number : Number) (contents : W → Option (List ℕ)) (failures : W → ℕ) (old new : W) (written : ℕ) : Type 0 where
   pub octets : List ℕ
   pub spelled : S v octets
   pub fewer : written < length (chain_of ifs number octets)
   pub first : Appends (contents old) (contents new) (take written (chain_of ifs number octets))
   pub failed : HasFailed (failures old) (failures new)
+  pub failed_once : failures new ≡ next_count (failures old)
 
 -- what each fault leaves
 abbrev pub IsSendFault : {V W : Type 0} (S : V → List ℕ → Type 0) (v : V) (ifs : ℕ) (number : Number) (contents : W → Option (List ℕ)) (failures : W → ℕ) (old new : W) → SendFault → Type 0

@@ -1,11 +1,11 @@
 //! APDUs read from chains.
 
 ghost use Rattle.std.specs.Prelude.{◌≡◌, ◌≤◌, ◌++◌, ℕ, List, Some, IfOk, IfErr};
+ghost use Rattle.chain_core.specs.Chain.{IsChain, message_of};
 ghost use Rattle.apdu_core.specs.Command as command;
 ghost use Rattle.apdu_core.specs.Command.{CommandParts, IsCommand};
 ghost use Rattle.apdu_core.specs.Response as response;
 ghost use Rattle.apdu_core.specs.Response.{ResponseParts, IsResponse};
-ghost use Rattle.apdu_core.specs.Sending.{chain_of};
 ghost use Rattle.apdu_core.specs.Receiving.{ArrivesUnlessFault, IsReceived, IsReceiveFault};
 
 use crate::command::Command;
@@ -78,9 +78,9 @@ impl<R> From<Refused<R>> for ReceiveFault<R> {
 
 /// Reads a chain (ISO/IEC 7816-3, clause 11.6) to its end and the command that its message is. `ifs` is
 /// the information size, 1 to 254, `number` the number of the first block; the message has at most
-/// 65,544 octets. What follows the chain stays unread. Where the reader held the chain of a command, cut
-/// by a size that isn't above `ifs`, nothing else can come than that command, but for want of memory and
-/// a reader that fails.
+/// 65,544 octets. What follows the chain stays unread. Where the reader held a chain whose message is a
+/// command, in whatever fields of at most `ifs` octets, nothing else can come than that command, but for
+/// out of memory and a reader that fails.
 ///
 /// `Memory` comes where memory was refused: for the message, and then nothing was read, or for the copy
 /// of the part, and then exactly a chain whose message is a command. `Read` comes where a call of the
@@ -98,7 +98,7 @@ pub fn receive_command<R: Source>(
     requires most { ifs ≤ 254 }
     ensures received { IfOk result (IsReceived IsCommand 65544 ifs number R.remaining R.failures reader.old reader.new) }
     ensures fault { IfErr result (IsReceiveFault IsCommand command.IsReason 65544 ifs number R.remaining R.failures reader.old reader.new) }
-    ensures arrives { (v : CommandParts) (b more : List ℕ) (size : ℕ) → IsCommand v b → 1 ≤ size → size ≤ ifs → R.remaining reader.old ≡ Some (chain_of size number b ++ more) → ArrivesUnlessFault v more (R.remaining reader.new) result }
+    ensures arrives { (v : CommandParts) (sent : List (List ℕ)) (b more : List ℕ) → IsChain ifs number 65544 sent b → IsCommand v (message_of sent) → R.remaining reader.old ≡ Some (b ++ more) → ArrivesUnlessFault v more (R.remaining reader.new) result }
 {
     read_command(alloc, reader, ifs, number)
 }
@@ -115,7 +115,7 @@ pub fn receive_response<R: Source>(
     requires most { ifs ≤ 254 }
     ensures received { IfOk result (IsReceived IsResponse 65538 ifs number R.remaining R.failures reader.old reader.new) }
     ensures fault { IfErr result (IsReceiveFault IsResponse response.IsReason 65538 ifs number R.remaining R.failures reader.old reader.new) }
-    ensures arrives { (v : ResponseParts) (b more : List ℕ) (size : ℕ) → IsResponse v b → 1 ≤ size → size ≤ ifs → R.remaining reader.old ≡ Some (chain_of size number b ++ more) → ArrivesUnlessFault v more (R.remaining reader.new) result }
+    ensures arrives { (v : ResponseParts) (sent : List (List ℕ)) (b more : List ℕ) → IsChain ifs number 65538 sent b → IsResponse v (message_of sent) → R.remaining reader.old ≡ Some (b ++ more) → ArrivesUnlessFault v more (R.remaining reader.new) result }
 {
     read_response(alloc, reader, ifs, number)
 }

@@ -1,5 +1,7 @@
 //! Commands, responses and status bytes from outside, and each call once with ample memory.
 
+mod faults;
+
 use crate::{
     Body, Command, CommandReason, CommandRef, ReceiveFault, Response, ResponseReason, ResponseRef,
     SendFault, Shape, StatusClass, decode_command, decode_response, encode_command,
@@ -285,6 +287,22 @@ fn a_command_is_received(rt: HostRuntime) -> Result<(), Fail> {
 #[test]
 fn a_response_is_received(rt: HostRuntime) -> Result<(), Fail> {
     let octets = octets_of(rt.alloc(), "000002900092FF")?;
+    let mut reader = Counted::new(Feeder::new(octets.as_slice(), 4096, After::End));
+    let response = receive_response(rt.alloc(), &mut reader, 254, Number::Zero)?;
+    let part = Octets::of(octets_of(rt.alloc(), "")?);
+    assert!(rt; response == Response::new(part, 0x90, 0x00)?);
+    assert!(rt; is_left(&mut reader));
+    Ok(())
+}
+
+#[test]
+fn received_in_fields_of_any_size(rt: HostRuntime) -> Result<(), Fail> {
+    let octets = octets_of(rt.alloc(), "00200300A4048300600060000002000002FF")?;
+    let mut reader = Counted::new(Feeder::new(octets.as_slice(), 4096, After::End));
+    let command = receive_command(rt.alloc(), &mut reader, 254, Number::Zero)?;
+    assert!(rt; command == Command::new(SELECT, Body::ShortLe { le: 256 })?);
+    assert!(rt; is_left(&mut reader));
+    let octets = octets_of(rt.alloc(), "00200190B10040010041FF")?;
     let mut reader = Counted::new(Feeder::new(octets.as_slice(), 4096, After::End));
     let response = receive_response(rt.alloc(), &mut reader, 254, Number::Zero)?;
     let part = Octets::of(octets_of(rt.alloc(), "")?);

@@ -47,6 +47,7 @@ fed p piece n (Open q) stands h =
       whole = λ e. h.2;
       refused = tt;
       kept = tt;
+      full = λ t v g s. absurd (open-not p t stands g.is v s);
       repeated = λ r e. absurd (cc);
     }
 fed p piece n (Whole a) stands h =
@@ -57,6 +58,7 @@ fed p piece n (Whole a) stands h =
       whole = λ e. absurd (cc);
       refused = tt;
       kept = tt;
+      full = λ t v g s. absurd (open-not p t stands g.is v s);
       repeated = λ r e. absurd (cc);
     }
 fed p piece n (Refused r) stands h = record {
@@ -65,6 +67,7 @@ fed p piece n (Refused r) stands h = record {
   whole = tt;
   refused = λ t g. (subst (λ (l : List ℕ). IsStuck self_ended IsAtr l r.place) (joined p t piece g) h.0, subst (λ (l : List ℕ). IsReason r.reason (take (r.place + 1) l)) (joined p t piece g) h.1);
   kept = (r, refl, refl);
+  full = λ t v g s. absurd (open-not p t stands g.is v s);
   repeated = λ s e. absurd (cc);
 }
 
@@ -78,6 +81,7 @@ finished p count stands is = record {
   done = tt;
   short = λ free t h. (ap Short (is ∙ ap length (sym h.is)), λ v g. open-not p t stands h.is v g);
   repeated = λ r e. absurd (cc);
+  some_taken = λ free. (taken_of p, record { free = refl; is = refl; begun = begun-open p stands });
 }
 
 -- octets from the first on, behind which more must come

@@ -7,10 +7,10 @@ use Rattle.std.proofs.lemmas.List.Sums.{fold-append}
 use Rattle.std.proofs.Math.Seq.{take-length}
 use Rattle.octet_core.specs.Octets.{AreOctets, xor_of}
 use Rattle.octet_core.specs.Grammar.{self_ended, Accepts, Begins, IsShort, Refuses, RefusesAt}
-use Rattle.octet_core.specs.Reader.{IsFed}
+use Rattle.octet_core.specs.Reader.{IsFed, IsFinished}
 use Rattle.octet_core.specs.declared.stop.Refusal.{Refusal}
 use Rattle.octet_core.specs.declared.stop.Stop.{Stop}
-use Rattle.octet_core.specs.declared.stop.Stop.TheVariants.{At}
+use Rattle.octet_core.specs.declared.stop.Stop.TheVariants.{At, Short}
 use Rattle.octet_core.proofs.Begun.{spelled-apart, spelled-begins, stuck-append}
 use Rattle.octet_core.proofs.Lists.{never}
 use Rattle.octet_core.proofs.Verdicts.{refuses_at}
@@ -86,6 +86,27 @@ under-way-open ifs (Rest p end) b at e v h = omega (arith, spelled-len ifs v b h
 under-way-open ifs (Done block) b at e v h = cc
 under-way-open ifs (Refused refusal) b at e v h = cc
 
+under-way-free : (stage : Stage) → IsUnderWay stage → refusal_at stage ≡ None
+under-way-free Front e = refl
+under-way-free (Len p) e = refl
+under-way-free (Size p) e = refl
+under-way-free (Rest p end) e = refl
+under-way-free (Done block) e = refl
+under-way-free (Refused refusal) e = cc
+
+-- what a reader of a block under way says when no more octets come
+pub finished-short : (ifs : ℕ) (held : List ℕ) (stage : Stage) (r : Reading) → record { ifs = ifs; taken = held; refusal = refusal_at stage } ≡ r → AreOctets held → IsAt ifs stage held
+    → answer_of stage ≡ Ok false → IsFinished (IsBlock r.ifs) (IsReason r.ifs) HasTaken refusal_of r (Err (Short (length held)))
+finished-short ifs held stage r is octets at way =
+    let own : Reading = record { ifs = ifs; taken = held; refusal = refusal_at stage } in
+    let free : own.refusal ≡ None = under-way-free stage way in
+    subst (λ (s : Reading). IsFinished (IsBlock s.ifs) (IsReason s.ifs) HasTaken refusal_of s (Err (Short (length held)))) is (record {
+      done = tt;
+      short = λ e t h. (ap Short (ap length h.is), λ v g. under-way-open ifs stage held at way v (subst (IsBlock ifs v) (sym h.is) g));
+      repeated = λ refusal e. absurd (let bad : None ≡ Some refusal = sym free ∙ e in cc);
+      some_taken = λ e. (held, record { kept = free; is = refl; begun = at-begins ifs stage held octets at free });
+    })
+
 -- what a reader answers at a stage, after n octets of the piece
 abbrev pub with_count : ℕ → Result Bool (Stop BlockReason) → Result (ℕ × Bool) (Stop BlockReason)
 with_count n (Ok done) = Ok (n, done)
@@ -100,6 +121,11 @@ pub record Fed (stage : Stage) (old new : Reading) (piece : List ℕ) (n : ℕ) 
   pub taken : new.taken ≡ old.taken ++ take n piece
   pub closed : IsClosed old → (new ≡ old) × (n ≡ 0)
   pub exit : (length piece ≤ n) ⊎ IsClosed new
+  pub size : new.ifs ≡ old.ifs
+
+-- where it had a whole block, it stays as it was
+full-same : (stage : Stage) (old new : Reading) (piece : List ℕ) (n : ℕ) → Fed stage old new piece n → (t : List ℕ) (v : Parts) → HasTaken old t → IsBlock new.ifs v t → (new ≡ old) × (n ≡ 0)
+full-same stage old new piece n f t v h s = f.closed (inr (v, subst (IsBlock old.ifs v) (sym h.is) (subst (λ (ifs : ℕ). IsBlock ifs v t) f.size s)))
 
 has-taken : (stage : Stage) (old new : Reading) (piece : List ℕ) (n : ℕ) → Fed stage old new piece n → refusal_at stage ≡ None → (t : List ℕ) → HasTaken old t → HasTaken new (t ++ take n piece)
 has-taken stage old new piece n f none t h =
@@ -127,6 +153,9 @@ fed-under_way stage old new piece n f way none =
       ];
       refused = tt;
       kept = tt;
+      full = λ t v h s.
+          let same = (full-same stage old new piece n f t v h s).0 in
+          absurd (not_yet v (subst (IsBlock new.ifs v) (sym (ap (λ (r : Reading). r.taken) same ∙ h.is)) s));
       repeated = λ r e. none-kept stage old new piece n f none r e;
     }
 
@@ -142,6 +171,7 @@ fed (Done block) old new piece n f =
       whole = λ e. absurd (cc);
       refused = tt;
       kept = tt;
+      full = λ t v h s. let same = full-same (Done block) old new piece n f t v h s in (ap (λ (k : ℕ). Ok (k, true)) same.1, same.0);
       repeated = λ r e. none-kept (Done block) old new piece n f refl r e;
     }
 fed (Refused refusal) old new piece n f =
@@ -154,6 +184,9 @@ fed (Refused refusal) old new piece n f =
           subst (λ (b : List ℕ). RefusesAt self_ended (IsBlock new.ifs) (IsReason new.ifs) b (At refusal.place refusal.reason)) parts
           (refuses-append (IsBlock new.ifs) (IsReason new.ifs) new.taken (drop n piece) refusal.place refusal.reason f.at);
       kept = (refusal, sym f.refusal, refl);
+      full = λ t v h s.
+          let same = (full-same (Refused refusal) old new piece n f t v h s).0 in
+          absurd (let bad : Some refusal ≡ None = f.refusal ∙ ap refusal_of same ∙ h.kept in cc);
       repeated = λ r e.
           let same = (f.closed (inl (rw e refl))).0 in
           let both : Some refusal ≡ Some r = f.refusal ∙ ap refusal_of same ∙ e in
@@ -169,8 +202,8 @@ open-not-closed r waits (inr v) = waits.1 v.0 v.1
 
 -- what a feed knows, from the fields that it leaves
 pub fed-of : (ifs : ℕ) (held : List ℕ) (stage : Stage) (old new : Reading) (piece : List ℕ) (n : ℕ) → record { ifs = ifs; taken = held; refusal = refusal_at stage } ≡ new → AreOctets held → IsAt ifs stage held
-    → n ≤ length piece → new.taken ≡ old.taken ++ take n piece → (IsClosed old → (new ≡ old) × (n ≡ 0)) → (length piece ≤ n) ⊎ IsClosed new → Fed stage old new piece n
-fed-of ifs held stage old new piece n is octets at inside taken closed exit =
+    → n ≤ length piece → new.taken ≡ old.taken ++ take n piece → (IsClosed old → (new ≡ old) × (n ≡ 0)) → (length piece ≤ n) ⊎ IsClosed new → new.ifs ≡ old.ifs → Fed stage old new piece n
+fed-of ifs held stage old new piece n is octets at inside taken closed exit size =
     record {
       octets = subst AreOctets (ap (λ (r : Reading). r.taken) is) octets;
       at = subst (λ (r : Reading). IsAt r.ifs stage r.taken) is at;
@@ -179,12 +212,13 @@ fed-of ifs held stage old new piece n is octets at inside taken closed exit =
       taken = taken;
       closed = closed;
       exit = exit;
+      size = size;
     }
 
-pub fed-answered : (stage : Stage) (old new : Reading) (piece : List ℕ) (n : ℕ) (answer : Result Bool (Stop BlockReason)) → new.ifs ≡ old.ifs → Fed stage old new piece n → answer ≡ answer_of stage
+pub fed-answered : (stage : Stage) (old new : Reading) (piece : List ℕ) (n : ℕ) (answer : Result Bool (Stop BlockReason)) → Fed stage old new piece n → answer ≡ answer_of stage
     → IsFed (IsBlock old.ifs) (IsReason old.ifs) HasTaken refusal_of old new piece (with_count n answer)
-fed-answered stage old new piece n answer size f e =
-    subst (λ (ifs : ℕ). IsFed (IsBlock ifs) (IsReason ifs) HasTaken refusal_of old new piece (with_count n answer)) size
+fed-answered stage old new piece n answer f e =
+    subst (λ (ifs : ℕ). IsFed (IsBlock ifs) (IsReason ifs) HasTaken refusal_of old new piece (with_count n answer)) f.size
     (subst (λ (a : Result Bool (Stop BlockReason)). IsFed (IsBlock new.ifs) (IsReason new.ifs) HasTaken refusal_of old new piece (with_count n a)) (sym e) (fed stage old new piece n f))
 
 pub fresh-taken : (ifs : ℕ) → HasTaken (fresh ifs) []

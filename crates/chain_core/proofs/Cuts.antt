@@ -6,7 +6,7 @@ use Rattle.octet_core.proofs.Lists.{split_same}
 use Rattle.std.specs.List.{AllByRecursion}
 use Rattle.octet_core.specs.Octets.{AreOctets}
 use Rattle.octet_core.specs.Grammar.{Accepts, self_ended}
-use Rattle.std.proofs.Math.Seq.{take-append_seam}
+use Rattle.octet_core.proofs.Begun.{spelled-accepted}
 use Rattle.block_core.specs.declared.pcb.Number.{Number}
 use Rattle.chain_core.proofs.Unique.{one-accepted}
 use Rattle.chain_core.specs.Chain.{message_of, IsChain, spelling, link, links}
@@ -124,23 +124,24 @@ AllByRecursion-weaker : (size ifs : ℕ) (fields : List (List ℕ)) → size ≤
 AllByRecursion-weaker size ifs [] le h = tt
 AllByRecursion-weaker size ifs (f ∷ fields) le h = (omega (arith, h.0), AllByRecursion-weaker size ifs fields le h.1)
 
--- a cut is accepted, whatever follows, under each size that is not below its own
+-- a cut is a chain, under each size that is not below its own
+pub cut_of-chain : (size ifs max : ℕ) (number : Number) (m : List ℕ) → 1 ≤ size → size ≤ ifs → length m ≤ max → length m ≤ 131072 → AreOctets m → IsChain ifs number max (cut_of size m) (spelling number (cut_of size m))
+cut_of-chain size ifs max number m pos le fits few octets = record {
+  proper = record {
+    some = omega (arith, length-cut_of size m);
+    few = omega (arith, length-cut_of size m, div-most (length m - 1) size);
+    sizes = AllByRecursion-weaker size ifs (cut_of size m) le (cut_of-sizes size m pos);
+    octets = AreOctets-cut_of size m octets;
+    fits = omega (arith, ap length (message_of-cut_of size m));
+  };
+  is = refl;
+}
+
+-- and accepted, whatever follows
 pub cut_of-accepted : (size ifs max : ℕ) (number : Number) (m more : List ℕ) → 1 ≤ size → size ≤ ifs → length m ≤ max → length m ≤ 131072 → AreOctets m
     → Accepts self_ended (IsChain ifs number max) (spelling number (cut_of size m) ++ more) (cut_of size m) (length (spelling number (cut_of size m)))
 cut_of-accepted size ifs max number m more pos le fits few octets =
-    let whole : List ℕ = spelling number (cut_of size m) in (
-      omega (arith, length-append whole more),
-      record {
-        proper = record {
-          some = omega (arith, length-cut_of size m);
-          few = omega (arith, length-cut_of size m, div-most (length m - 1) size);
-          sizes = AllByRecursion-weaker size ifs (cut_of size m) le (cut_of-sizes size m pos);
-          octets = AreOctets-cut_of size m octets;
-          fits = omega (arith, ap length (message_of-cut_of size m));
-        };
-        is = take-append_seam whole more;
-      },
-    )
+    spelled-accepted (IsChain ifs number max) (cut_of size m) (spelling number (cut_of size m)) more (cut_of-chain size ifs max number m pos le fits few octets)
 
 -- and nothing else is
 pub cut_of-only : (size ifs max : ℕ) (number : Number) (m more : List ℕ) (fields : List (List ℕ)) (n : ℕ) → 1 ≤ size → size ≤ ifs → length m ≤ max → length m ≤ 131072 → AreOctets m

@@ -108,6 +108,7 @@ ended-refused held left old new taken refusal h e free = record {
   refused = λ t g. h.goes.refused refusal e t g;
   near = λ t g. h.near refusal e free t g;
   kept = e;
+  before = λ t g. h.goes.before refusal e t g;
 }
 
 told : {A : Type 0} (o : Option A) → (o ≡ None) ⊎ ((x : A) × (o ≡ Some x))

@@ -1,6 +1,6 @@
 -- What a receiver answers.
 use Rattle.std.proofs.Common.{◌≡◌, ℕ, ◌+◌, ◌*◌, ◌≤◌, ◌++◌, ◌⊎◌, List, [], length, take, drop, refl, sym, ap, subst, ◌∙◌, arith, Bool, true, false, append_assoc, inl, inr, Option, Some, None, Ok, Err}
-use Rattle.std.proofs.lemmas.List.{append-nil, take-append-drop}
+use Rattle.std.proofs.lemmas.List.{append-nil, take-append-drop, take-append-le}
 use Rattle.octet_core.specs.Grammar.{RefusesAt, self_ended}
 use Rattle.octet_core.specs.Reader.{IsFed, IsFinished}
 use Rattle.octet_core.specs.declared.stop.Refusal.{Refusal}
@@ -9,11 +9,12 @@ use Rattle.octet_core.proofs.Lists.{never}
 use Rattle.block_core.specs.declared.pcb.Number.{Number}
 use Rattle.block_core.proofs.Readings.{refuses-append}
 use Rattle.chain_core.specs.declared.reason.ChainReason.{ChainReason}
-use Rattle.chain_core.specs.Chain.{IsChain, IsReason, link}
+use Rattle.chain_core.specs.Chain.{IsChain, IsReason, link, message_of}
 use Rattle.block_core.specs.Block as block
 use Rattle.octet_core.proofs.Begun.{begins-front}
 use Rattle.chain_core.proofs.Goes.{chain-begins}
-use Rattle.chain_core.specs.Taken.{Reception, HasTaken, AreTaken, IsOpen, IsClosed, fresh, refusal_of}
+use Rattle.chain_core.proofs.Unique.{one-spelled}
+use Rattle.chain_core.specs.Taken.{Reception, HasTaken, AreTaken, AreBefore, IsOpen, IsClosed, fresh, refusal_of}
 use Rattle.chain_core.specs.Receiving.{Goes}
 use Rattle.chain_core.proofs.Taken.{done-spelled, length-taken}
 use Rattle.chain_core.proofs.Receiving.{not-chain}
@@ -36,6 +37,7 @@ goes-none r = record {
   max = refl;
   on = λ none t h. subst (HasTaken r) (sym (append-nil t)) h;
   refused = λ refusal e t h. none_some r.refusal refusal h.kept e;
+  before = λ refusal e t h. none_some r.refusal refusal h.kept e;
 }
 
 -- octets and then more
@@ -50,6 +52,9 @@ goes-then a b c p q f waits g = record {
       let one : S b.ifs b.number b.max ((t ++ p) ++ q) = g.refused refusal e (t ++ p) (f.on waits.0 t h) in
       subst (S a.ifs a.number a.max) (append_assoc t p q)
       (subst (λ (m : ℕ). S a.ifs a.number m ((t ++ p) ++ q)) f.max (subst (λ (n : Number). S a.ifs n b.max ((t ++ p) ++ q)) f.number (subst (λ (i : ℕ). S i b.number b.max ((t ++ p) ++ q)) f.ifs one)));
+  before = λ refusal e t h.
+      subst (λ (n : Number). AreBefore n c.blocks c.joined (take refusal.place (t ++ (p ++ q)))) f.number
+      (subst (λ (l : List ℕ). AreBefore b.number c.blocks c.joined (take refusal.place l)) (append_assoc t p q) (g.before refusal e (t ++ p) (f.on waits.0 t h)));
 }
 
 pub open-not-closed : (r : Reception) → IsOpen r → IsClosed r → ⊥
@@ -69,6 +74,25 @@ pub record Fed (old new : Reception) (piece : List ℕ) (n : ℕ) : Type 0 where
   pub closed : IsClosed old → (new ≡ old) × (n ≡ 0)
   pub exit : (length piece ≤ n) ⊎ IsClosed new
 
+-- a receiver that took a chain is done
+pub full-done : (r : Reception) (t : List ℕ) (v : List (List ℕ)) → HasTaken r t → IsChain r.ifs r.number r.max v t → r.done ≡ true
+full-done r t v h s =
+    elim (bool_cases r.done) [
+      | inl e ↦ e
+      | inr still ↦ absurd (not-spelled r t still h v s)
+    ]
+
+-- with its message
+pub chain-taken : (r : Reception) (t : List ℕ) (v : List (List ℕ)) → HasTaken r t → IsChain r.ifs r.number r.max v t → (r.done ≡ true) × (r.joined ≡ message_of v)
+chain-taken r t v h s =
+    let done = full-done r t v h s in
+    let same = one-spelled r.ifs r.ifs r.max r.max r.number h.fields v t [] (done-spelled r t h done) (subst (IsChain r.ifs r.number r.max v) (sym (append-nil t)) s) in
+    (done, sym h.joined ∙ ap message_of same.0)
+
+-- and stays as it was
+full-same : (old new : Reception) (piece : List ℕ) (n : ℕ) → Fed old new piece n → (t : List ℕ) (v : List (List ℕ)) → HasTaken old t → IsChain old.ifs old.number old.max v t → (new ≡ old) × (n ≡ 0)
+full-same old new piece n f t v h s = f.closed (inr (full-done old t v h s))
+
 pub chain-at : (old new : Reception) (gs : List (List ℕ)) (t : List ℕ) → new.ifs ≡ old.ifs → new.number ≡ old.number → new.max ≡ old.max → IsChain new.ifs new.number new.max gs t → IsChain old.ifs old.number old.max gs t
 chain-at old new gs t e f g h =
     subst (λ (m : ℕ). IsChain old.ifs old.number m gs t) g (subst (λ (n : Number). IsChain old.ifs n new.max gs t) f (subst (λ (i : ℕ). IsChain i new.number new.max gs t) e h))
@@ -79,10 +103,7 @@ fed-on old new piece n f none = record {
   done = λ t h.
       let taken : HasTaken new (t ++ take n piece) = f.goes.on none t h in (
         λ e. (taken.fields, chain-at old new taken.fields (t ++ take n piece) f.goes.ifs f.goes.number f.goes.max (done-spelled new (t ++ take n piece) taken e)),
-        λ v. elim (bool_cases new.done) [
-          | inl e ↦ e
-          | inr still ↦ absurd (not-spelled new (t ++ take n piece) still taken v.0 (chain-at new old v.0 (t ++ take n piece) (sym f.goes.ifs) (sym f.goes.number) (sym f.goes.max) v.1))
-        ],
+        λ v. full-done new (t ++ take n piece) v.0 taken (chain-at new old v.0 (t ++ take n piece) (sym f.goes.ifs) (sym f.goes.number) (sym f.goes.max) v.1),
       );
   whole = λ still. elim f.exit [
     | inl le ↦ omega (arith, f.inside)
@@ -93,6 +114,7 @@ fed-on old new piece n f none = record {
   repeated = λ refusal e.
       let same = (f.closed (inl (rw e refl))).0 in
       none_some new.refusal refusal none (ap refusal_of same ∙ e);
+  full = λ t v h s. let same = full-same old new piece n f t v h s in (λ i. Ok (same.1 i, (ap (λ (r : Reception). r.done) same.0 ∙ full-done old t v h s) i), same.0);
 }
 
 pub fed-refused : (old new : Reception) (piece : List ℕ) (n : ℕ) (refusal : Refusal ChainReason) → Fed old new piece n → new.refusal ≡ Some refusal
@@ -106,26 +128,38 @@ fed-refused old new piece n refusal f some = record {
       subst (λ (b : List ℕ). RefusesAt self_ended (IsChain old.ifs old.number old.max) (IsReason old.ifs old.number old.max) b (At refusal.place refusal.reason)) parts
       (refuses-append (IsChain old.ifs old.number old.max) (IsReason old.ifs old.number old.max) (t ++ take n piece) (drop n piece) refusal.place refusal.reason (f.goes.refused refusal some t h));
   kept = (refusal, some, refl);
+  full = λ t v h s. none_some old.refusal refusal h.kept (ap refusal_of (sym (full-same old new piece n f t v h s).0) ∙ some);
   repeated = λ other e.
       let same = (f.closed (inl (rw e refl))).0 in
       let one : refusal ≡ other = some_is refusal other (sym some ∙ ap refusal_of same ∙ e) in
       (ap (λ (x : Refusal ChainReason). Err (At x.place x.reason)) one, same);
 }
 
+-- the octets before the refused one, where the piece goes on after those that were taken
+pub before-all : (old new : Reception) (piece : List ℕ) (n : ℕ) (refusal : Refusal ChainReason) → Fed old new piece n → new.refusal ≡ Some refusal → (t : List ℕ) → HasTaken old t
+    → AreBefore old.number new.blocks new.joined (take refusal.place (t ++ piece))
+before-all old new piece n refusal f some t h =
+    let some_octets : List ℕ = t ++ take n piece in
+    let all : some_octets ++ drop n piece ≡ t ++ piece = append_assoc t (take n piece) (drop n piece) ∙ ap (λ (l : List ℕ). t ++ l) (take-append-drop n piece) in
+    let inside : refusal.place ≤ length some_octets = omega (arith, ((f.goes.refused refusal some t h).0).inside) in
+    subst (AreBefore old.number new.blocks new.joined) (sym (take-append-le refusal.place some_octets (drop n piece) inside) ∙ ap (take refusal.place) all) (f.goes.before refusal some t h)
+
 -- ---- the end
 
-pub finished-done : (r : Reception) → r.refusal ≡ None → r.done ≡ true → IsFinished (IsChain r.ifs r.number r.max) (IsReason r.ifs r.number r.max) HasTaken refusal_of r (Ok tt)
-finished-done r none done = record {
+pub finished-done : (r : Reception) → (r.refusal ≡ None → (t : List ℕ) × HasTaken r t) → r.refusal ≡ None → r.done ≡ true → IsFinished (IsChain r.ifs r.number r.max) (IsReason r.ifs r.number r.max) HasTaken refusal_of r (Ok tt)
+finished-done r some none done = record {
   done = λ t h. (h.fields, done-spelled r t h done);
   short = tt;
   repeated = λ refusal e. none_some r.refusal refusal none e;
+  some_taken = some;
 }
 
-pub finished-short : (r : Reception) (place : ℕ) → r.refusal ≡ None → r.done ≡ false → place ≡ length r.joined + r.blocks * 4 + length r.under_way → IsFinished (IsChain r.ifs r.number r.max) (IsReason r.ifs r.number r.max) HasTaken refusal_of r (Err (Short place))
-finished-short r place none still is = record {
+pub finished-short : (r : Reception) (place : ℕ) → (r.refusal ≡ None → (t : List ℕ) × HasTaken r t) → r.refusal ≡ None → r.done ≡ false → place ≡ length r.joined + r.blocks * 4 + length r.under_way → IsFinished (IsChain r.ifs r.number r.max) (IsReason r.ifs r.number r.max) HasTaken refusal_of r (Err (Short place))
+finished-short r place some none still is = record {
   done = tt;
   short = λ e t h. (ap Short (is ∙ sym (length-taken r t h)), not-spelled r t still h);
   repeated = λ refusal e. none_some r.refusal refusal none e;
+  some_taken = some;
 }
 
 -- ---- a new receiver has taken no octets

@@ -107,6 +107,7 @@ joined-goes r new number room p reader more v xs sound free own w e is =
       max = refl;
       on = λ none. joined-taken r more v xs free.0 free.1 here (ap (λ (l : List ℕ). l ++ xs) own ∙ e);
       refused = λ refusal f. absurd (let bad : None ≡ Some refusal = sym free.0 ∙ f in cc);
+      before = λ refusal f. absurd (let bad : None ≡ Some refusal = sym free.0 ∙ f in cc);
     } in
     subst (λ (n : Reception). Goes r n xs) (sym is) goes
 

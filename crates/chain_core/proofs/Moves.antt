@@ -12,7 +12,7 @@ use Rattle.octet_core.proofs.Begun.{begins-take}
 use Rattle.octet_core.proofs.Firsts.{first_holds}
 use Rattle.chain_core.specs.declared.reason.ChainReason.{ChainReason}
 use Rattle.chain_core.specs.Chain.{IsChain, IsReason, Meets, all_reasons, open_links, octets_of}
-use Rattle.chain_core.specs.Taken.{Reception, HasTaken, IsOpen, refusal_of}
+use Rattle.chain_core.specs.Taken.{Reception, HasTaken, AreBefore, IsOpen, refusal_of}
 use Rattle.chain_core.specs.Receiving.{Goes}
 use Rattle.chain_core.specs.Reads.{EndsNear}
 use Rattle.chain_core.proofs.Feeds.{some_is, none_some}
@@ -46,8 +46,9 @@ whole-piece old piece n t gs free inside le h g =
 
 pub fed-goes : (old new : Reception) (piece : List ℕ) (result : Result (ℕ × Bool) (Stop ChainReason)) → IsOpen old → IsInside old piece → (t : List ℕ) → HasTaken old t
     → new.ifs ≡ old.ifs → new.number ≡ old.number → new.max ≡ old.max
+    → ((refusal : Refusal ChainReason) → new.refusal ≡ Some refusal → (s : List ℕ) → HasTaken old s → AreBefore old.number new.blocks new.joined (take refusal.place (s ++ piece)))
     → IsFed (IsChain old.ifs old.number old.max) (IsReason old.ifs old.number old.max) HasTaken refusal_of old new piece result → Goes old new piece
-fed-goes old new piece (Ok (n, done)) free inside t h ifs-is number-is max-is f =
+fed-goes old new piece (Ok (n, done)) free inside t h ifs-is number-is max-is before f =
     let all : n ≡ length piece = elim done as (λ d. d ≡ done → n ≡ length piece) [
       | true ↦ λ e. let v = (f.done t h).0 (sym e) in whole-piece old piece n t v.0 free inside f.taken.0 h v.1
       | false ↦ λ e. f.whole (sym e)
@@ -59,8 +60,9 @@ fed-goes old new piece (Ok (n, done)) free inside t h ifs-is number-is max-is f 
       max = max-is;
       on = λ none s g. subst (λ (l : List ℕ). HasTaken new (s ++ l)) piece-is (f.taken.1 s g);
       refused = λ refusal e. none_some new.refusal refusal (f.taken.1 t h).kept e;
+      before = before;
     }
-fed-goes old new piece (Err stop) free inside t h ifs-is number-is max-is f = record {
+fed-goes old new piece (Err stop) free inside t h ifs-is number-is max-is before f = record {
   ifs = ifs-is;
   number = number-is;
   max = max-is;
@@ -69,6 +71,7 @@ fed-goes old new piece (Err stop) free inside t h ifs-is number-is max-is f = re
       let one : f.kept.0 ≡ refusal = some_is f.kept.0 refusal (sym f.kept.1 ∙ e) in
       let is : stop ≡ At refusal.place refusal.reason = f.kept.2 ∙ ap (λ (x : Refusal ChainReason). At x.place x.reason) one in
       subst (RefusesAt self_ended (IsChain old.ifs old.number old.max) (IsReason old.ifs old.number old.max) (s ++ piece)) is (f.refused s g);
+  before = before;
 }
 
 -- ---- where it refuses them

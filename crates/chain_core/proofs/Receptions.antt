@@ -1,7 +1,8 @@
 -- What a receiver keeps, over octets that come.
-use Rattle.std.proofs.Common.{◌≡◌, ◌≢◌, ℕ, ◌+◌, ◌-◌, ◌*◌, ◌<◌, ◌≤◌, ◌++◌, List, [], ◌∷◌, length, refl, sym, ap, subst, ◌∙◌, arith, Bool, true, false, append_assoc, inl, inr, Some, None, nat_eq, slice_index, Result}
+use Rattle.std.proofs.Common.{◌≡◌, ◌≢◌, ℕ, ◌+◌, ◌-◌, ◌*◌, ◌<◌, ◌≤◌, ◌++◌, List, [], ◌∷◌, length, take, refl, sym, ap, subst, ◌∙◌, arith, Bool, true, false, append_assoc, inl, inr, Some, None, nat_eq, slice_index, Result}
 use Rattle.std.proofs.lemmas.List.{length-append}
 use Rattle.std.proofs.lemmas.Bool.Decides.{eqb_tells}
+use Rattle.std.proofs.Math.Seq.{take-append_seam}
 use Rattle.octet_core.specs.Octets.{AreOctets}
 use Rattle.octet_core.specs.Grammar.{Begins, RefusesAt, self_ended}
 use Rattle.octet_core.specs.declared.stop.Refusal.{Refusal}
@@ -22,7 +23,7 @@ use Rattle.chain_core.specs.declared.part.Part as part
 use Rattle.chain_core.specs.declared.part.Part.TheVariants as parts
 use Rattle.chain_core.specs.Chain.{IsChain, IsReason, message_of, open_links, octets_of, number_after}
 use Rattle.chain_core.specs.Part.{IsAtPart, IsHead, IsHeadFault, IsBehind, place_of}
-use Rattle.chain_core.specs.Taken.{Reception, HasTaken, AreTaken, IsOpen, fresh}
+use Rattle.chain_core.specs.Taken.{Reception, HasTaken, AreTaken, AreBefore, IsOpen, fresh}
 use Rattle.chain_core.specs.Receiving.{IsWaiting, Waits, IsSound, Goes}
 use Rattle.chain_core.proofs.Goes.{Taken}
 use Rattle.chain_core.proofs.Lengths.{open-length}
@@ -115,8 +116,16 @@ more-taken r new number room p next reader rd xs sound free own h size w is =
           (begun-taken r.ifs r.max r.number g.fields r.under_way t t-is g.begun) (t ++ xs)
           (ap (λ (l : List ℕ). l ++ xs) (t-is ∙ ap (λ (l : List ℕ). opened ++ l) own) ∙ append_assoc opened reader.taken (xs) ∙ ap (λ (l : List ℕ). opened ++ l) (sym h.is));
       refused = λ refusal e. absurd (let bad : None ≡ Some refusal = sym free.0 ∙ e in cc);
+      before = λ refusal e. absurd (let bad : None ≡ Some refusal = sym free.0 ∙ e in cc);
     } in
     subst (λ (n : Reception). Goes r n (xs)) (sym is) goes
+
+-- whole blocks and the octets of one more up to a place are those before it
+pub before-place : (number : Number) (fields : List (List ℕ)) (c more b : List ℕ) (blocks place : ℕ) (joined : List ℕ) → (3 < length c → length c < slice_index c 2 + 4) → length fields ≡ blocks → message_of fields ≡ joined
+    → (octets_of (open_links number fields) ++ c) ++ more ≡ b → length (octets_of (open_links number fields) ++ c) ≡ place → AreBefore number blocks joined (take place b)
+before-place number fields c more b blocks place joined under count message all here =
+    let t : List ℕ = octets_of (open_links number fields) ++ c in
+    record { fields = fields; part = c; count = count; message = message; taken = (under, ap (λ (k : ℕ). take k b) (sym here) ∙ ap (take (length t)) (sym all) ∙ take-append_seam t more) }
 
 -- or refused
 pub head-refused : (r new : Reception) (number : Number) (room : ℕ) (p : part.Part) (reader : Reading) (x : ℕ) (reason : ChainReason) → IsSound r number room p reader → IsOpen r → r.under_way ≡ reader.taken → IsHead p
@@ -148,6 +157,13 @@ head-refused r new number room p reader x reason sound free own head fault is =
           subst (λ (f : Refusal ChainReason). RefusesAt self_ended (IsChain r.ifs r.number r.max) (IsReason r.ifs r.number r.max) (t ++ x ∷ []) (At f.place f.reason)) same
           (subst (λ (l : List ℕ). RefusesAt self_ended (IsChain r.ifs r.number r.max) (IsReason r.ifs r.number r.max) (l ++ x ∷ []) (At place reason)) (sym t-is)
           (subst (λ (k : ℕ). RefusesAt self_ended (IsChain r.ifs r.number r.max) (IsReason r.ifs r.number r.max) ((opened ++ c) ++ x ∷ []) (At k reason)) where_is refusal_here));
+      before = λ refusal e t g.
+          let opened : List ℕ = octets_of (open_links r.number g.fields) in
+          let t-is : t ≡ opened ++ c = open-is r t free.1 g ∙ ap (λ (l : List ℕ). opened ++ l) own in
+          let len : length c ≡ place_of p = place-len number r.max r.blocks (length r.joined) p c head w.part in
+          let where_is : length (opened ++ c) ≡ refusal.place =
+          omega (arith, length-append opened c, open-length r.number g.fields, ap length g.joined, g.blocks, len, ap (λ (f : Refusal ChainReason). f.place) (some_is now refusal e)) in
+          before-place r.number g.fields c (x ∷ []) (t ++ x ∷ []) r.blocks refusal.place r.joined (λ lt. absurd (omega (arith, len, place-most p head))) g.blocks g.joined (ap (λ (l : List ℕ). l ++ x ∷ []) (sym t-is)) where_is;
     } in
     subst (λ (n : Reception). Goes r n (x ∷ [])) (sym is) goes
 

@@ -32,7 +32,7 @@ use Rattle.chain_core.specs.Receiving.{IsWaiting, IsSound, Goes}
 use Rattle.chain_core.proofs.Lengths.{open-length}
 use Rattle.chain_core.proofs.Reasons.{part-sum}
 use Rattle.chain_core.proofs.Receiving.{begun-taken, rest-begins, under-length, refused-in_block}
-use Rattle.chain_core.proofs.Receptions.{open-is, part-of-fields}
+use Rattle.chain_core.proofs.Receptions.{open-is, part-of-fields, before-place}
 
 some_is : {A : Type 0} (x y : A) → Some x ≡ Some y → x ≡ y
 some_is x y e = cc
@@ -133,14 +133,17 @@ refused-near ifs number max blocks joined p b at fits limit h =
     omega (arith, h.long, h.part.3, get_or-take (at + 1) b 2 0 (omega (arith, h.late)), get_or-take at b 2 0 (omega (arith, h.late)), length-take (at + 1) b, h.inside)
 
 pub rest-refused : (r new : Reception) (number : Number) (room : ℕ) (p : part.Part) (reader : Reading) (piece : List ℕ) (at : ℕ) → IsSound r number room p reader → IsOpen r → r.under_way ≡ reader.taken
-    → Refused r.ifs number r.max r.blocks (length r.joined) p (reader.taken ++ piece) at → new.ifs ≡ r.ifs → new.number ≡ r.number → new.max ≡ r.max → new.refusal ≡ Some (record { place = length r.joined + 4 * r.blocks + at; reason = BadLrc }) → Goes r new piece
-rest-refused r new number room p reader piece at sound free own h ifs-is number-is max-is is =
+    → Refused r.ifs number r.max r.blocks (length r.joined) p (reader.taken ++ piece) at → new.ifs ≡ r.ifs → new.number ≡ r.number → new.max ≡ r.max → new.blocks ≡ r.blocks → new.joined ≡ r.joined → new.refusal ≡ Some (record { place = length r.joined + 4 * r.blocks + at; reason = BadLrc }) → Goes r new piece
+rest-refused r new number room p reader piece at sound free own h ifs-is number-is max-is blocks-is joined-is is =
     let place : ℕ = length r.joined + 4 * r.blocks + at in
     let now : Refusal ChainReason = record { place = place; reason = BadLrc } in
     let b : List ℕ = reader.taken ++ piece in
     let c : List ℕ = take at b in
     let x : ℕ = get_or b at 0 in
     let shape : take (at + 1) b ≡ c ++ x ∷ [] = take_more b at 0 h.inside in
+    let text : (t opened : List ℕ) → t ≡ opened ++ r.under_way → ((opened ++ c) ++ x ∷ []) ++ drop (at + 1) b ≡ t ++ piece = λ t opened t-is.
+    ap (λ (l : List ℕ). l ++ drop (at + 1) b) (append_assoc opened c (x ∷ []) ∙ ap (λ (l : List ℕ). opened ++ l) (sym shape)) ∙ append_assoc opened (take (at + 1) b) (drop (at + 1) b)
+    ∙ ap (λ (l : List ℕ). opened ++ l) (take-append-drop (at + 1) b ∙ ap (λ (l : List ℕ). l ++ piece) (sym own)) ∙ sym (append_assoc opened r.under_way piece) ∙ ap (λ (l : List ℕ). l ++ piece) (sym t-is) in
     record {
       ifs = ifs-is;
       number = number-is;
@@ -159,10 +162,13 @@ rest-refused r new number room p reader piece at sound free own h ifs-is number-
           let one = refused-in_block r.ifs r.max r.number g.fields c x BadLrc sound.most begun (under-length r.ifs c h.begun h.not_yet) (part-sum (c ++ x ∷ []) long sum) first in
           let where_is : length (opened ++ c) ≡ place = omega (arith, length-append opened c, open-length r.number g.fields, ap length g.joined, g.blocks, length-take at b, h.inside) in
           let more = refuses-append (IsChain r.ifs r.number r.max) (IsReason r.ifs r.number r.max) ((opened ++ c) ++ x ∷ []) (drop (at + 1) b) (length (opened ++ c)) BadLrc one in
-          let text : ((opened ++ c) ++ x ∷ []) ++ drop (at + 1) b ≡ t ++ piece =
-          ap (λ (l : List ℕ). l ++ drop (at + 1) b) (append_assoc opened c (x ∷ []) ∙ ap (λ (l : List ℕ). opened ++ l) (sym shape)) ∙ append_assoc opened (take (at + 1) b) (drop (at + 1) b)
-          ∙ ap (λ (l : List ℕ). opened ++ l) (take-append-drop (at + 1) b ∙ ap (λ (l : List ℕ). l ++ piece) (sym own)) ∙ sym (append_assoc opened r.under_way piece) ∙ ap (λ (l : List ℕ). l ++ piece) (sym t-is) in
           subst (λ (f : Refusal ChainReason). RefusesAt self_ended (IsChain r.ifs r.number r.max) (IsReason r.ifs r.number r.max) (t ++ piece) (At f.place f.reason)) same
           (subst (λ (k : ℕ). RefusesAt self_ended (IsChain r.ifs r.number r.max) (IsReason r.ifs r.number r.max) (t ++ piece) (At k BadLrc)) where_is
-          (subst (λ (l : List ℕ). RefusesAt self_ended (IsChain r.ifs r.number r.max) (IsReason r.ifs r.number r.max) l (At (length (opened ++ c)) BadLrc)) text more));
+          (subst (λ (l : List ℕ). RefusesAt self_ended (IsChain r.ifs r.number r.max) (IsReason r.ifs r.number r.max) l (At (length (opened ++ c)) BadLrc)) (text t opened t-is) more));
+      before = λ refusal e t g.
+          let opened : List ℕ = octets_of (open_links r.number g.fields) in
+          let where_is : length (opened ++ c) ≡ refusal.place =
+          omega (arith, length-append opened c, open-length r.number g.fields, ap length g.joined, g.blocks, length-take at b, h.inside, ap (λ (f : Refusal ChainReason). f.place) (some_is now refusal (sym is ∙ e))) in
+          before-place r.number g.fields c (x ∷ [] ++ drop (at + 1) b) (t ++ piece) new.blocks refusal.place new.joined (under-length r.ifs c h.begun h.not_yet) (g.blocks ∙ sym blocks-is) (g.joined ∙ sym joined-is)
+          (sym (append_assoc (opened ++ c) (x ∷ []) (drop (at + 1) b)) ∙ text t opened (open-is r t free.1 g)) where_is;
     }

@@ -1,7 +1,7 @@
 -- What a call that reads a chain from a source answers, and what it leaves.
 --
 -- held and left are the octets that the source held before and after, where they are known.
-use Rattle.std.specs.Prelude.{◌≡◌, ◌⊎◌, ℕ, ◌+◌, ◌*◌, ◌≤◌, List, ◌++◌, length, true, Option, Some, None, Result, Ok, Err}
+use Rattle.std.specs.Prelude.{◌≡◌, ◌⊎◌, ℕ, ◌+◌, ◌*◌, ◌≤◌, List, ◌++◌, length, take, true, Option, Some, None, Result, Ok, Err}
 use Rattle.std.specs.Io.KnownBytes.{Consumes, IsAtEnd}
 use Rattle.octet_core.specs.Failures.{HasFailed, next_count}
 use Rattle.octet_core.specs.Grammar.{self_ended, Refuses, RefusesAt}
@@ -9,7 +9,7 @@ use Rattle.octet_core.specs.declared.stop.Refusal.{Refusal}
 use Rattle.octet_core.specs.declared.stop.Stop.TheVariants.{Short, At}
 use Rattle.block_core.specs.declared.pcb.Number.{Number}
 use Rattle.chain_core.specs.Chain.{IsChain, IsReason, message_of, open_links, octets_of}
-use Rattle.chain_core.specs.Taken.{Reception, HasTaken, IsOpen}
+use Rattle.chain_core.specs.Taken.{Reception, HasTaken, AreBefore, IsOpen}
 use Rattle.chain_core.specs.Receiving.{Goes}
 use Rattle.chain_core.specs.declared.reason.ChainReason.{ChainReason}
 use Rattle.chain_core.specs.declared.reading.ReadRefusal.{ReadRefusal}
@@ -56,6 +56,7 @@ pub record ReadsRefused (held left : Option (List ℕ)) (old new : Reception) (p
   pub refused : (t : List ℕ) → HasTaken old t → RefusesAt self_ended (IsChain old.ifs old.number old.max) (IsReason old.ifs old.number old.max) (t ++ read) (At p r)
   pub near : (t : List ℕ) → HasTaken old t → EndsNear old.number (t ++ read) p
   pub kept : new.refusal ≡ Some (record { place = p; reason = r })
+  pub before : (t : List ℕ) → HasTaken old t → AreBefore old.number new.blocks new.joined (take p (t ++ read))
 
 -- each answer; a refusal that the receiver kept before is repeated
 abbrev pub Reads : Option (List ℕ) → Option (List ℕ) → Reception → Reception → Result Unit ReadRefusal → Type 0

@@ -1,5 +1,5 @@
 -- What a receiver keeps, and how it gets on.
-use Rattle.std.specs.Prelude.{◌≡◌, ℕ, ◌+◌, ◌≤◌, List, [], ◌++◌, length, Bool, true, false, Some, None}
+use Rattle.std.specs.Prelude.{◌≡◌, ℕ, ◌+◌, ◌≤◌, List, [], ◌++◌, length, take, Bool, true, false, Some, None}
 use Rattle.octet_core.specs.Octets.{AreOctets}
 use Rattle.octet_core.specs.Grammar.{self_ended, RefusesAt}
 use Rattle.octet_core.specs.declared.stop.Refusal.{Refusal}
@@ -10,7 +10,7 @@ use Rattle.block_core.specs.Reading.{Reading}
 use Rattle.block_core.specs.declared.pcb.Number.{Number}
 use Rattle.chain_core.specs.Chain.{IsChain, IsReason, number_after}
 use Rattle.chain_core.specs.Part.{IsAtPart}
-use Rattle.chain_core.specs.Taken.{Reception, HasTaken}
+use Rattle.chain_core.specs.Taken.{Reception, HasTaken, AreBefore}
 use Rattle.chain_core.specs.declared.part.Part as part
 use Rattle.chain_core.specs.declared.reason.ChainReason.{ChainReason}
 
@@ -48,3 +48,4 @@ pub record Goes (old new : Reception) (piece : List ℕ) : Type 0 where
   pub on : new.refusal ≡ None → (t : List ℕ) → HasTaken old t → HasTaken new (t ++ piece)
   pub refused : (refusal : Refusal ChainReason) → new.refusal ≡ Some refusal → (t : List ℕ) → HasTaken old t
       → RefusesAt self_ended (IsChain old.ifs old.number old.max) (IsReason old.ifs old.number old.max) (t ++ piece) (At refusal.place refusal.reason)
+  pub before : (refusal : Refusal ChainReason) → new.refusal ≡ Some refusal → (t : List ℕ) → HasTaken old t → AreBefore old.number new.blocks new.joined (take refusal.place (t ++ piece))

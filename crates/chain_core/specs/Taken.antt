@@ -37,6 +37,14 @@ pub record HasTaken (r : Reception) (t : List ℕ) : Type 0 where
   pub joined : message_of fields ≡ r.joined
   pub taken : AreTaken r.done r.number fields r.under_way t
 
+-- the octets t, which came before a refused one, are so many whole blocks with this message, and octets of one more
+pub record AreBefore (number : Number) (blocks : ℕ) (joined t : List ℕ) : Type 0 where
+  pub fields : List (List ℕ)
+  pub part : List ℕ
+  pub count : length fields ≡ blocks
+  pub message : message_of fields ≡ joined
+  pub taken : AreTaken false number fields part t
+
 abbrev pub refusal_of : Reception → Option (Refusal ChainReason)
 refusal_of r = r.refusal
 

@@ -1,10 +1,12 @@
 //! A chain that comes in pieces, and its message.
 
-ghost use Rattle.std.specs.Prelude.{◌≡◌, ◌+◌, ◌*◌, ◌<◌, ◌≤◌, ◌++◌, ◌⊎◌, length, take, IsSome, [], ◌∷◌, IfOk, IfErr, IfSome, IfNone, OnOk, MatchBool, true, false, None, List, ℕ, slice_index};
+ghost use Rattle.std.specs.Prelude.{◌≡◌, ◌+◌, ◌*◌, ◌<◌, ◌≤◌, ◌++◌, ◌⊎◌, length, take, Some, IsSome, [], ◌∷◌, IfOk, IfErr, IfSome, IfNone, OnOk, MatchBool, true, false, None, List, ℕ, slice_index};
 ghost use Rattle.octet_core.specs.Reader.{IsFed, IsFinished};
+ghost use Rattle.octet_core.specs.declared.stop.Refusal.{Refusal};
 ghost use Rattle.octet_core.specs.declared.stop.Stop.TheVariants.{Short};
+ghost use Rattle.chain_core.specs.declared.reason.ChainReason.{ChainReason};
 ghost use Rattle.chain_core.specs.Chain.{IsChain, IsReason};
-ghost use Rattle.chain_core.specs.Taken.{HasTaken, IsOpen, IsClosed, fresh, refusal_of};
+ghost use Rattle.chain_core.specs.Taken.{HasTaken, AreBefore, IsOpen, IsClosed, fresh, refusal_of};
 ghost use Rattle.chain_core.specs.Receiving.{Goes};
 
 use crate::part::{Part, behind};
@@ -94,6 +96,7 @@ impl Receiver {
     pub fn feed(&mut self, piece: &[u8]) -> Result<(usize, bool), Stop<ChainReason>>
         ensures fed { IsFed (IsChain self.old.ifs self.old.number self.old.max) (IsReason self.old.ifs self.old.number self.old.max) HasTaken refusal_of self.old self.new piece.now result }
         ensures kept { (self.new.ifs ≡ self.old.ifs) × (self.new.number ≡ self.old.number) × (self.new.max ≡ self.old.max) }
+        ensures before { (refusal : Refusal ChainReason) → self.new.refusal ≡ Some refusal → (t : List ℕ) → HasTaken self.old t → AreBefore self.old.number self.new.blocks self.new.joined (take refusal.place (t ++ piece.now)) }
     {
         let mut taken = 0;
         while taken < piece.len() && self.is_open() {
@@ -114,8 +117,6 @@ impl Receiver {
         ensures finished { IsFinished (IsChain self.now.ifs self.now.number self.now.max) (IsReason self.now.ifs self.now.number self.now.max) HasTaken refusal_of self.now result }
         ensures done { OnOk result ((self.now.refusal ≡ None) × (self.now.done ≡ true)) }
         ensures waits { IfErr result (λ stop. self.now.refusal ≡ None → (self.now.done ≡ false) × (stop ≡ Short (length self.now.joined + self.now.blocks * 4 + length self.now.under_way))) }
-        // so what is said of every list that it may have taken is said of some
-        ensures some_taken { self.now.refusal ≡ None → (t : List ℕ) × HasTaken self.now t }
     {
         match self.refusal {
             Some(refusal) => Err(Stop::At {
@@ -141,7 +142,7 @@ impl Receiver {
         }
     }
 
-    /// How many whole blocks were taken.
+    /// How many whole blocks were taken; after a refusal, those before the block that it is in.
     pub fn blocks(&self) -> u32
         ensures { result ≡ self.now.blocks }
     {

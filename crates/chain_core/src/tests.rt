@@ -1,5 +1,7 @@
 //! Chains from the standard's rules, and calls that no clause pins.
 
+mod faults;
+
 use crate::{ChainReason, ReadRefusal, Receiver, block_at, cut, read_chain, write_chain};
 use block_core::{Number, encode};
 use octet_core::{After, Counted, Feeder, Source, Stop, Taker, WriteFault};
@@ -157,6 +159,7 @@ fn refused_chains(rt: HostRuntime) -> Result<(), Fail> {
         assert_eq!(rt; receiver.feed(front), Ok((6, false)));
         assert_eq!(rt; receiver.feed(&block), refusal);
         assert_eq!(rt; receiver.feed(&CHAIN), refusal);
+        assert_eq!(rt; receiver.blocks(), 1);
         assert!(rt; receiver.message().is_none());
         receiver.restart(Number::Zero);
     }
@@ -166,6 +169,7 @@ fn refused_chains(rt: HostRuntime) -> Result<(), Fail> {
     };
     assert_eq!(rt; receiver.feed(&CHAIN), Err(too_long));
     assert_eq!(rt; receiver.finish(), Err(too_long));
+    assert_eq!(rt; receiver.blocks(), 2);
     receiver.restart(Number::One);
     assert_eq!(rt;
         receiver.feed(&[0x00, 0x40, 0x00, 0x41]),

@@ -2,7 +2,7 @@
 
 ghost use Rattle.std.specs.Prelude.{◌≡◌, ◌<◌, ◌≤◌, length, take, OnOk, IfErr};
 ghost use Rattle.std.specs.Io.KnownBytes.{Appends};
-ghost use Rattle.octet_core.specs.Failures.{HasFailed};
+ghost use Rattle.octet_core.specs.Failures.{HasFailed, next_count};
 ghost use Rattle.chain_core.specs.Chain.{spelling};
 ghost use Rattle.chain_core.specs.Cut.{cut_of};
 
@@ -13,8 +13,8 @@ use octet_core::{Sink, WriteFault, write_octets};
 /// Writes the chain into which a message of at most 131,072 octets is cut: fields of `ifs` octets, 1 to
 /// 254, but for the last, and the first block with this number.
 ///
-/// At a fault the writer has taken the first `written` octets of the chain, fewer than all, and a call
-/// of it failed in this one; a failed call isn't tried again, an interruption neither.
+/// At a fault the writer has taken the first `written` octets of the chain, fewer than all, and just
+/// one call of it failed; a failed call isn't tried again, an interruption neither.
 pub fn write_chain<W: Sink>(
     writer: &mut W,
     msg: &[u8],
@@ -31,6 +31,7 @@ pub fn write_chain<W: Sink>(
     ensures fewer { IfErr result (λ fault. fault.written < length (spelling number (cut_of ifs msg.now))) }
     ensures first { IfErr result (λ fault. Appends (W.contents writer.old) (W.contents writer.new) (take fault.written (spelling number (cut_of ifs msg.now)))) }
     ensures failed { IfErr result (λ fault. HasFailed (W.failures writer.old) (W.failures writer.new)) }
+    ensures failed_once { IfErr result (λ fault. W.failures writer.new ≡ next_count (W.failures writer.old)) }
 {
     let mut written = 0;
     for block in cut(msg, ifs, number) {

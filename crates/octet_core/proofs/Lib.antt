@@ -5,3 +5,4 @@ pub mod Firsts
 pub mod Verdicts
 pub mod Failures
 pub mod HexadecimalLemmas
+pub mod Decimals

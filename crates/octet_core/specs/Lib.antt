@@ -4,3 +4,4 @@ pub mod Failures
 pub mod Counted
 pub mod Hexadecimal
 pub mod Reader
+pub mod Decimal

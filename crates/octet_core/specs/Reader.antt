@@ -2,7 +2,7 @@
 --
 -- HasTaken state t says that t may be the octets that a reader has taken since it was new: they begin a spelling, and it keeps no
 -- refusal. A refusal that it keeps is a place, counted from the first octet ever fed, and a reason.
-use Rattle.std.specs.Prelude.{◌≡◌, ◌≤◌, ◌↔◌, ℕ, Bool, false, IsTrue, List, ◌++◌, length, take, Option, Some, None, Result, Err, IfOk, OnOk, IfErr}
+use Rattle.std.specs.Prelude.{◌≡◌, ◌≤◌, ◌↔◌, ℕ, Bool, true, false, IsTrue, List, ◌++◌, length, take, Option, Some, None, Result, Ok, Err, IfOk, OnOk, IfErr}
 use Rattle.octet_core.specs.declared.stop.Stop.{Stop}
 use Rattle.octet_core.specs.declared.stop.Stop.TheVariants.{Short, At}
 use Rattle.octet_core.specs.declared.stop.Refusal.{Refusal}
@@ -17,6 +17,8 @@ module _ {V R State : Type 0} (S : V → List ℕ → Type 0) (Reason : R → Li
     pub done : IfOk result (λ x. (t : List ℕ) → HasTaken old t → IsTrue x.1 ↔ ((v : V) × S v (t ++ take x.0 piece)))
     -- where it isn't done it took the whole piece
     pub whole : IfOk result (λ x. x.1 ≡ false → x.0 ≡ length piece)
+    -- where it was done before, it takes nothing and says so again
+    pub full : (t : List ℕ) (v : V) → HasTaken old t → S v t → (result ≡ Ok (0, true)) × (new ≡ old)
     -- a refusal is the verdict on all octets fed, never that they are short
     pub refused : IfErr result (λ stop. (t : List ℕ) → HasTaken old t → RefusesAt self_ended S Reason (t ++ piece) stop)
     pub kept : IfErr result (λ stop. (refusal : Refusal R) × (refusal_of new ≡ Some refusal) × (stop ≡ At refusal.place refusal.reason))
@@ -29,3 +31,5 @@ module _ {V R State : Type 0} (S : V → List ℕ → Type 0) (Reason : R → Li
     -- all that it took is no spelling yet
     pub short : IfErr result (λ stop. refusal_of state ≡ None → (t : List ℕ) → HasTaken state t → (stop ≡ Short (length t)) × ((v : V) → S v t → ⊥))
     pub repeated : (refusal : Refusal R) → refusal_of state ≡ Some refusal → result ≡ Err (At refusal.place refusal.reason)
+    -- some list was taken where none is refused, so what is said of each says something of every reader
+    pub some_taken : refusal_of state ≡ None → (t : List ℕ) × HasTaken state t

@@ -1,4 +1,4 @@
-//! Readers and writers for tests: slow, failing, interrupted or endless ones.
+//! Readers and writers for tests: slow, failing, interrupted or endless ones, and ones that fail once.
 
 ghost use Rattle.std.specs.Prelude.{◌≡◌, ◌≢◌, ◌≤◌, ◌<◌, length, IfOk};
 
@@ -131,5 +131,81 @@ impl Write for Taker {
 
     fn flush(&mut self) -> io::Result<()> {
         Ok(())
+    }
+}
+
+/// A reader or writer of which one call fails, after so many octets; the next call goes on where it was.
+/// So a failed call that was tried again in silence shows as no fault at all.
+#[derive(Debug, Drop)]
+pub struct FailsOnce<T> {
+    inner: T,
+    left: usize,
+    fault: Option<After>,
+}
+
+impl<T> FailsOnce<T> {
+    /// The reader or writer, of which the call after the first `left` octets moves none and answers what
+    /// `fault` says; a device that fails doesn't repeat.
+    pub fn new(inner: T, left: usize, fault: After) -> Self
+        requires { fault ≢ After.Repeats }
+    {
+        FailsOnce {
+            inner,
+            left,
+            fault: Some(fault),
+        }
+    }
+
+    /// The reader or writer back.
+    pub fn into_inner(self) -> T {
+        self.inner
+    }
+
+    /// The fault of this call, if it is the one that fails.
+    fn due(&mut self) -> Option<After> {
+        if self.left == 0 {
+            self.fault.take()
+        } else {
+            None
+        }
+    }
+
+    /// How many of `len` octets a call may move: none past the place of the fault.
+    fn most(&self, len: usize) -> usize
+        ensures { result ≤ len }
+    {
+        if self.fault.is_some() {
+            len.min(self.left)
+        } else {
+            len
+        }
+    }
+}
+
+impl<R: Read> Read for FailsOnce<R> {
+    fn read(&mut self, room: &mut [u8]) -> io::Result<usize> {
+        if let Some(fault) = self.due() {
+            return fault.answer();
+        }
+        let most = self.most(room.len());
+        let count = self.inner.read(&mut room[..most])?;
+        self.left = self.left.saturating_sub(count);
+        Ok(count)
+    }
+}
+
+impl<W: Write> Write for FailsOnce<W> {
+    fn write(&mut self, octets: &[u8]) -> io::Result<usize> {
+        if let Some(fault) = self.due() {
+            return fault.answer();
+        }
+        let most = self.most(octets.len());
+        let count = self.inner.write(&octets[..most])?;
+        self.left = self.left.saturating_sub(count);
+        Ok(count)
+    }
+
+    fn flush(&mut self) -> io::Result<()> {
+        self.inner.flush()
     }
 }

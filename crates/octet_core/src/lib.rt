@@ -8,6 +8,7 @@
 #![tactic(auto)]
 
 pub mod counted;
+pub mod decimal;
 pub mod device;
 pub mod format;
 pub mod hexadecimal;
@@ -19,7 +20,8 @@ pub mod stream;
 mod tests;
 
 pub use counted::Counted;
-pub use device::{After, Feeder, Taker};
+pub use decimal::decimal_of;
+pub use device::{After, FailsOnce, Feeder, Taker};
 pub use format::Format;
 pub use hexadecimal::{HexFault, hex_upper, octets_of};
 pub use octets::{Octets, Text};

@@ -3,7 +3,7 @@
 ghost use Rattle.std.specs.Prelude.{◌≡◌, ◌≤◌, ◌<◌, List, ℕ, Option, OnOk, IfErr, IfSome, IfNone, take, length};
 ghost use Rattle.std.specs.Io.{ReadsAtMost, WritesAtMost};
 ghost use Rattle.std.specs.Io.KnownBytes.{ReadConsumes, WriteAppends, Appends, Keeps};
-ghost use Rattle.octet_core.specs.Failures.{Counts, ReadFails, WriteFails, HasFailed};
+ghost use Rattle.octet_core.specs.Failures.{Counts, ReadFails, WriteFails, HasFailed, next_count};
 
 use std::io;
 
@@ -50,7 +50,7 @@ fn write_some<W: Sink>(writer: &mut W, octets: &[u8]) -> Option<usize>
     ensures taken { IfSome result (λ n. Appends (W.contents writer.old) (W.contents writer.new) (take n octets.now)) }
     ensures kept { IfSome result (λ n. W.failures writer.new ≡ W.failures writer.old) }
     ensures nothing { IfNone result (Keeps (W.contents writer.old) (W.contents writer.new)) }
-    ensures failed { IfNone result (HasFailed (W.failures writer.old) (W.failures writer.new)) }
+    ensures failed { IfNone result (W.failures writer.new ≡ next_count (W.failures writer.old)) }
 {
     match writer.write(octets) {
         Ok(0) => None,
@@ -60,7 +60,7 @@ fn write_some<W: Sink>(writer: &mut W, octets: &[u8]) -> Option<usize>
 }
 
 /// Writes all octets. At a fault the writer has taken the first `written` octets, fewer than all,
-/// and a call of it failed in this one; a failed call isn't tried again, an interruption neither.
+/// and just one call of it failed; a failed call isn't tried again, an interruption neither.
 pub fn write_octets<W: Sink>(writer: &mut W, octets: &[u8]) -> Result<(), WriteFault>
     ensures all { OnOk result (Appends (W.contents writer.old) (W.contents writer.new) octets.now) }
     ensures none_failed { OnOk result (W.failures writer.new ≡ W.failures writer.old) }
@@ -68,6 +68,7 @@ pub fn write_octets<W: Sink>(writer: &mut W, octets: &[u8]) -> Result<(), WriteF
     ensures fewer { IfErr result (λ fault. fault.written < length octets.now) }
     ensures first { IfErr result (λ fault. Appends (W.contents writer.old) (W.contents writer.new) (take fault.written octets.now)) }
     ensures failed { IfErr result (λ fault. HasFailed (W.failures writer.old) (W.failures writer.new)) }
+    ensures failed_once { IfErr result (λ fault. W.failures writer.new ≡ next_count (W.failures writer.old)) }
 {
     let mut written = 0;
     while written < octets.len() {

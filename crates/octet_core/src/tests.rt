@@ -1,10 +1,10 @@
 //! What no clause says: values from outside, and what the devices give and keep.
 
 use crate::{
-    After, Counted, Feeder, HexFault, Octets, Source, Taker, Text, WriteFault, hex_upper, lrc,
-    octets_of, write_octets,
+    After, Counted, FailsOnce, Feeder, HexFault, Octets, Sink, Source, Taker, Text, WriteFault,
+    hex_upper, lrc, octets_of, write_octets,
 };
-use std::io::{Read, Write};
+use std::io::{ErrorKind, Read, Write};
 use std::test::Fail;
 
 #[test]
@@ -59,6 +59,76 @@ fn feeder_ends_and_fails(rt: HostRuntime) {
     let mut taker = Taker::new(0, 1, After::End);
     assert!(rt; matches!(taker.write(b"a"), Ok(0)));
     assert!(rt; matches!(taker.write(b""), Ok(0)));
+}
+
+#[test]
+fn taker_keeps_step_by_step(rt: HostRuntime) {
+    let mut taker = Taker::new(3, 2, After::End);
+    assert!(rt; matches!(taker.write(b"abc"), Ok(2)));
+    assert!(rt; taker.kept() == b"ab".as_slice());
+    assert!(rt; matches!(taker.write(b"cd"), Ok(1)));
+    assert!(rt; matches!(taker.write(b"d"), Ok(0)));
+    assert!(rt; taker.kept() == b"abc".as_slice());
+}
+
+#[test]
+fn devices_fail_by_their_kinds(rt: HostRuntime) {
+    let mut room = [0u8; 4];
+    for (after, kind) in [
+        (After::Fails, ErrorKind::Other),
+        (After::Interrupted, ErrorKind::Interrupted),
+    ] {
+        let read = Feeder::new(b"", 1, after).read(&mut room);
+        assert_eq!(rt; read.err().map(|e| e.kind()), Some(kind));
+        let written = Taker::new(0, 1, after).write(b"a");
+        assert_eq!(rt; written.err().map(|e| e.kind()), Some(kind));
+    }
+}
+
+// A reader in a `Counted` that tried the failed call again, without a word, would answer `Ok(2)` at it.
+#[test]
+fn a_failed_read_is_answered_and_not_tried_again(rt: HostRuntime) {
+    let mut room = [0u8; 4];
+    for fault in [After::Fails, After::Interrupted] {
+        let feeder = Feeder::new(b"abcd", 4, After::End);
+        let mut reader = Counted::new(FailsOnce::new(feeder, 2, fault));
+        assert!(rt; matches!(reader.read(&mut room), Ok(2)));
+        assert!(rt; reader.read(&mut room).is_err());
+        assert!(rt; matches!(reader.read(&mut room), Ok(2)));
+        assert!(rt; room.as_slice() == b"cd\0\0".as_slice());
+        assert!(rt; matches!(reader.read(&mut room), Ok(0)));
+        assert_eq!(rt; reader.into_inner().into_inner().given(), 4);
+    }
+}
+
+// A writer in a `Counted` that tried the failed call again would keep "cd" at it.
+#[test]
+fn a_failed_write_is_answered_and_not_tried_again(rt: HostRuntime) {
+    for fault in [After::Fails, After::Interrupted] {
+        let mut writer = Counted::new(FailsOnce::new(Taker::new(8, 8, After::End), 2, fault));
+        assert!(rt; matches!(writer.write(b"abcd"), Ok(2)));
+        assert!(rt; writer.write(b"cd").is_err());
+        assert!(rt; matches!(writer.write(b"ef"), Ok(2)));
+        assert!(rt; writer.into_inner().into_inner().kept() == b"abef".as_slice());
+    }
+}
+
+// A `write_octets`, or a `Counted` below it, that tried the failed call again would write all six octets
+// and answer `Ok(())`.
+#[test]
+fn writes_no_more_after_a_call_that_failed(rt: HostRuntime) {
+    for fault in [After::End, After::Fails, After::Interrupted] {
+        for (written, kept) in [(0, "FF"), (1, "0FF"), (4, "00A4FF"), (5, "00A40FF")] {
+            let taker = Taker::new(8, 4, After::End);
+            let mut writer = Counted::new(FailsOnce::new(taker, written, fault));
+            assert_eq!(rt;
+                write_octets(&mut writer, b"00A404"),
+                Err(WriteFault { written })
+            );
+            assert_eq!(rt; write_octets(&mut writer, b"FF"), Ok(()));
+            assert!(rt; writer.into_inner().into_inner().kept() == kept.as_bytes());
+        }
+    }
 }
 
 #[test]

@@ -1,18 +1,22 @@
--- Wrong tables break what is promised: for each a run of events.
-use Rattle.std.proofs.Common.{inl, inr, List, ◌≡◌, ◌≤◌, ℕ, [], ◌∷◌, refl, arith}
-use Rattle.std.specs.Prelude.{Bool, true, Option, Some, None, if◌then◌else◌, Ok, Err}
+-- Wrong tables break what is promised: for each a run of events, or a turn.
+use Rattle.std.proofs.Common.{inl, inr, List, ◌≡◌, ◌≤◌, ℕ, [], ◌∷◌, length, ap, refl, arith}
+use Rattle.std.proofs.lemmas.List.{length-append}
+use Rattle.std.specs.Prelude.{Bool, true, false, Option, Some, None, if◌then◌else◌, Ok, Err}
+use Rattle.octet_core.proofs.Lists.{octets-cons}
 use Rattle.block_core.specs.declared.pcb.S.TheVariants.{Resynch}
-use Rattle.block_core.specs.declared.pcb.Pcb.TheVariants.{Ready, Request, Response}
+use Rattle.block_core.specs.declared.pcb.Pcb.TheVariants.{Info, Ready, Request, Response}
 use Rattle.t1_core.specs.declared.turns.TerminalTurn.{TerminalTurn}
-use Rattle.t1_core.specs.declared.turns.TerminalTurn.TheVariants.{Send, GivenUp, Dead}
+use Rattle.t1_core.specs.declared.turns.TerminalTurn.TheVariants.{Send, Answered, GivenUp, Dead}
 use Rattle.t1_core.specs.declared.turns.CardTurn.TheVariants.{Asked}
+use Rattle.t1_core.specs.declared.turns.CardTurn.{CardTurn}
 use Rattle.block_core.specs.declared.pcb.Number.{Number}
+use Rattle.block_core.specs.declared.pcb.Number.TheVariants.{Zero}
 use Rattle.t1_core.specs.Came.{got, same, request}
 use Rattle.t1_core.specs.Terminal.{TerminalState, TerminalStep, TerminalInput, terminal_turn, takes, sends_next, Mark, failure, no_failure, Waits, resynch, dead}
-use Rattle.t1_core.specs.Card.{CardState, CardStep, CardInput, Waits as CardWaits, command, host, takes as card_takes, card_turn}
-use Rattle.t1_core.specs.Link.{delivers, loses, transmits, asks_ifsd, host_replies, Exchange, answered, unanswered}
+use Rattle.t1_core.specs.Card.{CardState, CardStep, CardInput, Waits as CardWaits, command, host, new_card, takes as card_takes, card_turn}
+use Rattle.t1_core.specs.Link.{Tables, Link, run, new_link, delivers, loses, transmits, asks_ifsd, host_replies, Exchange, answered, unanswered, command_of}
 use Rattle.t1_core.proofs.Quits.{is_resynch}
-use Rattle.t1_core.specs.Promises.{Matches, AlwaysMatches, InStepWhenIdle, AlwaysPatient}
+use Rattle.t1_core.specs.Promises.{Matches, Serves, AlwaysMatches, ServesInOrder, InStepWhenIdle, AlwaysFits, AlwaysPatient, AlwaysTaken, Tells}
 
 -- The card keeps a changed IFSD over RESYNCH.
 abbrev with_ifsd : ℕ → CardStep → CardStep
@@ -95,3 +99,65 @@ gives_again c input = card_turn c input
 
 pub gives_again-refuted : AlwaysMatches (record { terminal = terminal_turn; card = gives_again }) → ⊥
 gives_again-refuted h = twice_for_one [] (5 ∷ []) (unanswered []) (h 32 (transmits [] ∷ delivers ∷ host_replies (5 ∷ []) ∷ loses ∷ delivers ∷ []))
+
+-- So its host is given more commands than the terminal took.
+more_than_taken : (m a : List ℕ) (h : Exchange) → Serves (unanswered m ∷ []) (h ∷ answered m a ∷ []) → ⊥
+more_than_taken m a h s =
+    let hosts : List (List ℕ) = command_of h ∷ m ∷ [] in
+    omega (arith, ap length s.commands.1, length-append s.commands.0 hosts)
+
+pub gives_again-out_of_order : ServesInOrder (record { terminal = terminal_turn; card = gives_again }) → ⊥
+gives_again-out_of_order h = more_than_taken [] (5 ∷ []) (unanswered []) (h 32 (transmits [] ∷ delivers ∷ host_replies (5 ∷ []) ∷ loses ∷ delivers ∷ []) tt)
+
+-- The terminal sends its command in the longest fields, whatever the card takes.
+abbrev longest_fields : TerminalState → TerminalInput → TerminalStep
+longest_fields t input = terminal_turn (record t { ifsc = 254 }) input
+
+pub longest_fields-refuted : AlwaysFits (record { terminal = longest_fields; card = card_turn }) → ⊥
+longest_fields-refuted h =
+    let e : 3 ≤ 2 = h 2 (transmits (1 ∷ 2 ∷ 3 ∷ []) ∷ []) in
+    omega (arith, e)
+
+-- So the card takes its block for an invalid one.
+pub longest_fields-not_taken : AlwaysTaken (record { terminal = longest_fields; card = card_turn }) → ⊥
+longest_fields-not_taken h =
+    let octets = octets-cons 1 (2 ∷ 3 ∷ []) (omega arith) (octets-cons 2 (3 ∷ []) (omega arith) (octets-cons 3 [] (omega arith) (λ i. omega arith))) in
+    let e : 3 ≤ 2 = (h 2 (transmits (1 ∷ 2 ∷ 3 ∷ []) ∷ []) (octets, tt)).1.proper.suits in
+    omega (arith, e)
+
+-- The terminal says that it has an answer, and forgets it.
+abbrev without_answer : TerminalTurn → TerminalState → Mark → TerminalStep
+without_answer Answered t mark = Ok (Answered, record t { answered = None }, mark)
+without_answer turn t mark = Ok (turn, t, mark)
+
+abbrev forgets : TerminalStep → TerminalStep
+forgets (Ok step) = without_answer step.0 step.1 step.2
+forgets (Err fault) = Err fault
+
+abbrev forgetful : TerminalState → TerminalInput → TerminalStep
+forgetful t input = forgets (terminal_turn t input)
+
+pub forgetful-refuted : Tells (record { terminal = forgetful; card = card_turn }) → ⊥
+forgetful-refuted h =
+    let by : Tables = record { terminal = forgetful; card = card_turn } in
+    let l : Link = run by (transmits [] ∷ delivers ∷ host_replies (5 ∷ []) ∷ []) (new_link 32) in
+    let told = h.answer l.terminal _ _ (takes (got (Info Zero false) (5 ∷ []))) refl in
+    let e : None ≡ Some told.0 = told.1 in
+    absurd cc
+
+-- The card says that its host's turn has come, and still waits for the command.
+abbrev still_waits : CardState → CardTurn → CardState → CardStep
+still_waits c Asked next = Ok (Asked, record next { waits = c.waits })
+still_waits c turn next = Ok (turn, next)
+
+abbrev stays : CardState → CardStep → CardStep
+stays c (Ok step) = still_waits c step.0 step.1
+stays c (Err fault) = Err fault
+
+abbrev deaf : CardState → CardInput → CardStep
+deaf c input = stays c (card_turn c input)
+
+pub deaf-refuted : Tells (record { terminal = terminal_turn; card = deaf }) → ⊥
+deaf-refuted h =
+    let e : command [] ≡ host = h.host (new_card 32) _ (card_takes (got (Info Zero false) [])) refl in
+    absurd cc

@@ -43,6 +43,10 @@ fed_more before now after piece rest taken n fed is le limit step =
           subst (λ (l : List ℕ). HasTaken l after) (append_assoc b (take taken piece) (take n rest) ∙ ap (λ (l : List ℕ). b ++ (take taken piece ++ take n l)) is ∙ ap (λ (l : List ℕ). b ++ l) (take_taken_more taken n piece)) more;
     }
 
+-- some octets stand for it, as before and those of the piece
+pub fed_some : (before now : Kept) (piece : List ℕ) (taken : ℕ) (own : Kept) → own ≡ before → Fed before now piece taken → ((b : List ℕ) × HasTaken b own) → (b : List ℕ) × HasTaken b now
+fed_some before now piece taken own is fed (b, h) = (b ++ take taken piece, fed.stands b (subst (HasTaken b) is h))
+
 pub first_left : (taken : ℕ) (piece rest : List ℕ) → taken < length piece → rest ≡ drop taken piece → (more : List ℕ) × (rest ≡ get_or rest 0 0 ∷ more)
 first_left taken piece [] lt is = absurd (omega (arith, ap length is, length-drop taken piece))
 first_left taken piece (x ∷ more) lt is = (more, refl)

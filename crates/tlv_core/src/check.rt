@@ -1,6 +1,6 @@
 //! The check of a forest that comes in pieces.
 
-ghost use Rattle.std.specs.Prelude.{◌≡◌, ℕ, ◌≤◌, ◌↔◌, List, [], ◌++◌, OnOk, IfErr, OnSome, MatchResult, Ok};
+ghost use Rattle.std.specs.Prelude.{◌≡◌, ℕ, ◌≤◌, ◌↔◌, List, [], ◌++◌, OnOk, IfErr, OnSome, MatchResult, None, Ok};
 ghost use Rattle.octet_core.specs.Grammar.{Refuses, RefusesAt, whole};
 ghost use Rattle.tlv_core.specs.Tree.{Tree};
 ghost use Rattle.tlv_core.specs.Forest.{IsForest};
@@ -22,12 +22,17 @@ pub struct ForestCheck {
 }
 
 impl Model for ForestCheck {
+    ghost use Rattle.std.specs.Prelude.{ℕ, List};
     ghost use Rattle.tlv_core.specs.Check.{Checked};
     ghost use Rattle.tlv_core.specs.Progress.{kept_of};
 
     ghost Value = { Checked };
 
+    ghost use Rattle.tlv_core.specs.Reasons.{HasTaken};
+
     ghost view = { λ check. record { kept = kept_of check.progress; refusal = check.refusal } };
+
+    ghost invariant = { λ check. (b : List ℕ) × HasTaken b (kept_of check.progress) };
 }
 
 impl ForestCheck {
@@ -79,6 +84,8 @@ impl ForestCheck {
         ensures repeats { OnSome self.now.refusal (result ≡ answer_of self.now.refusal) }
         ensures verdict { (b : List ℕ) → HasChecked b self.now → MatchResult result (λ _. (t : Tree) × IsForest self.now.kept.max t b)
             (Refuses whole (IsForest self.now.kept.max) (IsReason self.now.kept.max) b) }
+        // so what is said of every list that it may have taken is said of some
+        ensures some_taken { self.now.refusal ≡ None → (b : List ℕ) × HasChecked b self.now }
     {
         if let Some(refusal) = self.refusal {
             return Err(refusal.stop());

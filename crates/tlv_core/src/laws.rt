@@ -1,9 +1,9 @@
 //! Laws of forests, as contracts.
 
-ghost use Rattle.std.specs.Prelude.{List, ℕ};
+ghost use Rattle.std.specs.Prelude.{◌≡◌, List, ℕ};
 ghost use Rattle.octet_core.specs.Octets.{AreOctets};
 ghost use Rattle.tlv_core.specs.Laws.{OneForest, Completion, ForestVerdict, TakenLaws};
-ghost use Rattle.tlv_core.specs.Dol.{DolVerdict};
+ghost use Rattle.tlv_core.specs.Dol.{DolVerdict, IsDol};
 ghost use Rattle.tlv_core.specs.Improper.{AreObjects, ImproperLaw};
 ghost use Rattle.tlv_core.specs.Tree.{Tree};
 ghost use Rattle.tlv_core.specs.Tidy.{TidyLaws};
@@ -36,6 +36,11 @@ pub fn taken_laws()
 /// A list of objects has a spelling exactly where nothing is improper.
 pub fn improper_law()
     ensures { (max : ℕ) (t : Tree) → AreObjects t → ImproperLaw max t }
+{}
+
+/// No octets spell two data object lists.
+pub fn one_list()
+    ensures { (v w : List (List ℕ × ℕ)) (b : List ℕ) → IsDol v b → IsDol w b → v ≡ w }
 {}
 
 /// Every input is a data object list or is refused, with one value, one place and one reason.

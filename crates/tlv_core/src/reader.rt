@@ -1,6 +1,6 @@
 //! Forests that come in pieces, with their tree.
 
-ghost use Rattle.std.specs.Prelude.{◌≡◌, ℕ, ◌+◌, ◌<◌, ◌≤◌, ◌↔◌, List, [], ◌++◌, length, take, Some, Err, IfOk, IfErr, OnOk, MatchResult};
+ghost use Rattle.std.specs.Prelude.{◌≡◌, ℕ, ◌+◌, ◌<◌, ◌≤◌, ◌↔◌, List, [], ◌++◌, length, take, Some, None, Err, IfOk, IfErr, OnOk, MatchResult};
 ghost use Rattle.octet_core.specs.Grammar.{Refuses, whole};
 ghost use Rattle.octet_core.specs.declared.stop.Refused.TheVariants as refused;
 ghost use Rattle.tlv_core.specs.declared.reason.Refusal.{Refusal};
@@ -87,6 +87,8 @@ impl ForestReader {
     pub fn finish(self) -> Result<Forest, Stop<TlvReason>>
         ensures repeats { (refusal : Refusal) → self.refusal ≡ Some refusal → result ≡ Err (stop_of refusal) }
         ensures verdict { (b : List ℕ) → HasRead b self → MatchResult result (λ forest. IsForest self.kept.max forest b) (Refuses whole (IsForest self.kept.max) (IsReason self.kept.max) b) }
+        // so what is said of every list that it may have taken is said of some
+        ensures some_taken { self.refusal ≡ None → (b : List ℕ) × HasRead b self }
     {
         let ForestReader {
             progress,

@@ -7,6 +7,7 @@ use crate::{
 use octet_core::{Format, Octets, Refused, Stop, hex_upper, octets_of};
 use std::test::Fail;
 
+mod improper;
 mod parts;
 mod pieces;
 

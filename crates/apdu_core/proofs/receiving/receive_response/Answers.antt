@@ -1,10 +1,9 @@
 use Rattle.apdu_core.specs.Response.{IsResponse, IsReason}
-use Rattle.apdu_core.proofs.Arrivals.{response-arrives, response-lengths}
 use Rattle.apdu_core.proofs.Arriving.{arrives-only}
 use Rattle.apdu_core.proofs.Unique.{one-response}
 use Rattle.apdu_core.proofs.receiving.receive_response.Goals as goal
 
 pub returns-clause-arrives : goal.returns-clause-arrives
-returns-clause-arrives g c = λ v b more size spelled pos le held.
-    arrives-only IsResponse IsReason one-response 65538 c.args.ifs size c.args.number g.R.Source.remaining g.R.Source.failures c.args.reader.now c.read_response.new.reader v b more
-    (response-arrives v b size c.args.ifs 65538 c.args.number more spelled pos le (response-lengths v b spelled).1) held c.read_response.result c.read_response.ensures.received c.read_response.ensures.fault
+returns-clause-arrives g c = λ v sent b more chained spelled held.
+    arrives-only IsResponse IsReason one-response 65538 c.args.ifs c.args.number g.R.Source.remaining g.R.Source.failures c.args.reader.now c.read_response.new.reader v sent b more
+    chained spelled held c.read_response.result c.read_response.ensures.received c.read_response.ensures.fault

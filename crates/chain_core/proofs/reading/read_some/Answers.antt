@@ -20,7 +20,7 @@ returns-in-Ok-clause-moved g c =
       rest = λ enough. omega (arith, long, fits, c.wanted.ensures.rest enough);
     } in
     let before = c.wanted.ensures.taken in
-    let goes : Goes old new piece = fed-goes old new piece c.feed-fed.result c.requires.open inside before.0 before.1 c.feed-fed.ensures.kept.0 c.feed-fed.ensures.kept.1 c.feed-fed.ensures.kept.2 fed in
+    let goes : Goes old new piece = fed-goes old new piece c.feed-fed.result c.requires.open inside before.0 before.1 c.feed-fed.ensures.kept.0 c.feed-fed.ensures.kept.1 c.feed-fed.ensures.kept.2 c.feed-fed.ensures.before fed in
     let some : c.in-Ok.count ≡ 0 → ⊥ = c.in-Ok.count-test.1 in
     record {
       piece = piece;

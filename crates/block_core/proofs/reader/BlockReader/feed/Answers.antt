@@ -31,8 +31,8 @@ returns-clause-fed c =
     elim c.loop-taken-test.branch [ then-loop-taken-test+else-is_open w ↦ inr (rw w.if-is_open.false at w.is_open.ensures) | else-loop-taken-test w ↦ inl (omega arith) ] in
     let invariant = c.loop-taken.invariant in
     let f : Fed c.self-2.inside.stage c.args.self.now c.loop-taken.self c.args.piece.now c.loop-taken.taken =
-    fed-of (c.self-2.inside.ifs) c.self-2.inside.held.items c.self-2.inside.stage c.args.self.now c.loop-taken.self c.args.piece.now c.loop-taken.taken c.self-2.view_is c.self-2.invariant.3 c.self-2.invariant.4 invariant.inside invariant.so_far invariant.closed exit in
-    fed-answered c.self-2.inside.stage c.args.self.now c.loop-taken.self c.args.piece.now c.loop-taken.taken (Ok c.in_ok-done.done) invariant.size f c.in_ok-done.ensures
+    fed-of (c.self-2.inside.ifs) c.self-2.inside.held.items c.self-2.inside.stage c.args.self.now c.loop-taken.self c.args.piece.now c.loop-taken.taken c.self-2.view_is c.self-2.invariant.3 c.self-2.invariant.4 invariant.inside invariant.so_far invariant.closed exit invariant.size in
+    fed-answered c.self-2.inside.stage c.args.self.now c.loop-taken.self c.args.piece.now c.loop-taken.taken (Ok c.in_ok-done.done) f c.in_ok-done.ensures
 
 pub returns-in_err-done-clause-fed : goal.returns-in_err-done-clause-fed
 returns-in_err-done-clause-fed c =
@@ -40,6 +40,6 @@ returns-in_err-done-clause-fed c =
     elim c.loop-taken-test.branch [ then-loop-taken-test+else-is_open w ↦ inr (rw w.if-is_open.false at w.is_open.ensures) | else-loop-taken-test w ↦ inl (omega arith) ] in
     let invariant = c.loop-taken.invariant in
     let f : Fed c.self-2.inside.stage c.args.self.now c.loop-taken.self c.args.piece.now c.loop-taken.taken =
-    fed-of (c.self-2.inside.ifs) c.self-2.inside.held.items c.self-2.inside.stage c.args.self.now c.loop-taken.self c.args.piece.now c.loop-taken.taken c.self-2.view_is c.self-2.invariant.3 c.self-2.invariant.4 invariant.inside invariant.so_far invariant.closed exit in
+    fed-of (c.self-2.inside.ifs) c.self-2.inside.held.items c.self-2.inside.stage c.args.self.now c.loop-taken.self c.args.piece.now c.loop-taken.taken c.self-2.view_is c.self-2.invariant.3 c.self-2.invariant.4 invariant.inside invariant.so_far invariant.closed exit invariant.size in
     let p = err_from_is_err_and c.from_residual.result c.from_residual.ensures.1 in
-    rw (p.1, p.2) (fed-answered c.self-2.inside.stage c.args.self.now c.loop-taken.self c.args.piece.now c.loop-taken.taken (Err c.in_err-done.field-0.0) invariant.size f c.in_err-done.ensures)
+    rw (p.1, p.2) (fed-answered c.self-2.inside.stage c.args.self.now c.loop-taken.self c.args.piece.now c.loop-taken.taken (Err c.in_err-done.field-0.0) f c.in_err-done.ensures)

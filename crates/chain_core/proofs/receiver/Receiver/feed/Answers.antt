@@ -3,7 +3,7 @@ use Rattle.std.proofs.lemmas.List.{length-drop, take_rest}
 use Rattle.std.proofs.Math.Seq.{take-add}
 use Rattle.chain_core.specs.Taken.{Reception, HasTaken, IsOpen, IsClosed, refusal_of}
 use Rattle.chain_core.specs.Receiving.{Goes}
-use Rattle.chain_core.proofs.Feeds.{Fed, goes-then, open-not-closed, fed-on, fed-refused}
+use Rattle.chain_core.proofs.Feeds.{Fed, before-all, goes-then, open-not-closed, fed-on, fed-refused}
 use Rattle.octet_core.specs.Reader.{IsFed}
 use Rattle.octet_core.specs.declared.stop.Stop.{Stop}
 use Rattle.chain_core.specs.declared.reason.ChainReason.{ChainReason}
@@ -40,3 +40,10 @@ returns-clause-fed c =
       | in-Some w ↦ subst Answers (sym w.result-is) (fed-refused old new piece n w.in-Some.refusal f (kept ∙ w.in-Some.is))
       | in-None w ↦ subst Answers (sym w.result-is) (subst (λ (d : Bool). Answers (Ok (n, d))) (sym (ap (λ (s : Reception). s.done) c.self-2.view_is)) (fed-on old new piece n f (kept ∙ w.in-None.is)))
     ]
+
+pub returns-clause-before : goal.returns-clause-before
+returns-clause-before c = λ refusal some t h.
+    let exit : (length c.args.piece.now ≤ c.loop-taken.taken) ⊎ IsClosed c.loop-taken.self =
+    elim c.loop-taken-test.branch [ then-loop-taken-test+else-is_open w ↦ inr (rw w.if-is_open.false at w.is_open.ensures) | else-loop-taken-test w ↦ inl (omega arith) ] in
+    let f : Fed c.args.self.now c.loop-taken.self c.args.piece.now c.loop-taken.taken = record { goes = c.loop-taken.invariant.goes; inside = c.loop-taken.invariant.inside; closed = c.loop-taken.invariant.closed; exit = exit } in
+    before-all c.args.self.now c.loop-taken.self c.args.piece.now c.loop-taken.taken refusal f some t h

@@ -10,11 +10,11 @@ pub returns-in-None-clause-finished : goal.returns-in-None-clause-finished
 returns-in-None-clause-finished c =
     let i = c.self.inside in
     let r : Reception = record { ifs = i.ifs; number = i.first; max = i.max; blocks = i.blocks; joined = i.message.items; under_way = i.reader.taken; done = i.done; refusal = i.refusal } in
-    subst (λ (s : Reception). IsFinished (IsChain s.ifs s.number s.max) (IsReason s.ifs s.number s.max) HasTaken refusal_of s (Ok tt)) c.self.view_is (finished-done r c.in-None.is c.if-self.true)
+    subst (λ (s : Reception). IsFinished (IsChain s.ifs s.number s.max) (IsReason s.ifs s.number s.max) HasTaken refusal_of s (Ok tt)) c.self.view_is (finished-done r c.self.invariant.taken c.in-None.is c.if-self.true)
 
 pub returns-in-None-2-clause-finished : goal.returns-in-None-2-clause-finished
 returns-in-None-2-clause-finished c =
     let i = c.self.inside in
     let r : Reception = record { ifs = i.ifs; number = i.first; max = i.max; blocks = i.blocks; joined = i.message.items; under_way = i.reader.taken; done = i.done; refusal = i.refusal } in
     subst (λ (s : Reception). IsFinished (IsChain s.ifs s.number s.max) (IsReason s.ifs s.number s.max) HasTaken refusal_of s (Err (Short (c.len.result + 4 * i.blocks + c.taken.result)))) c.self.view_is
-    (finished-short r (c.len.result + 4 * i.blocks + c.taken.result) c.in-None.is c.if-self.false (omega (arith, c.len.ensures, c.taken.ensures.octets, i.message.ok.0)))
+    (finished-short r (c.len.result + 4 * i.blocks + c.taken.result) c.self.invariant.taken c.in-None.is c.if-self.false (omega (arith, c.len.ensures, c.taken.ensures.octets, i.message.ok.0)))

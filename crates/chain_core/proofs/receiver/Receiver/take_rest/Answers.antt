@@ -130,5 +130,5 @@ returns-in-Err-At-clause-goes c =
     let place-is : place ≡ length i.message.items + 4 * i.blocks + c.in-Err-At.place = omega (arith, c.len.ensures, i.message.ok.0) in
     let here = subst (λ (k : ℕ). Refused k i.number i.max i.blocks (length i.message.items) i.part (i.reader.taken ++ c.args.piece.now) c.in-Err-At.place) c.self.invariant.size refused in
     let new : Reception = record { ifs = i.ifs; number = i.first; max = i.max; blocks = i.blocks; joined = i.message.items; under_way = c.feed.new.self.taken; done = i.done; refusal = Some (record { place = place; reason = BadLrc }) } in
-    let goes : Goes r new c.args.piece.now = rest-refused r new i.number _ i.part i.reader c.args.piece.now c.in-Err-At.place c.self.invariant free refl here refl refl refl (ap (λ (k : ℕ). Some (record { place = k; reason = BadLrc })) place-is) in
+    let goes : Goes r new c.args.piece.now = rest-refused r new i.number _ i.part i.reader c.args.piece.now c.in-Err-At.place c.self.invariant free refl here refl refl refl refl refl (ap (λ (k : ℕ). Some (record { place = k; reason = BadLrc })) place-is) in
     subst (λ (s : Reception). Goes s new (take (length c.args.piece.now) c.args.piece.now)) c.self.view_is (subst (Goes r new) (sym (take-length c.args.piece.now)) goes)

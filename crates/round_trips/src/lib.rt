@@ -1,0 +1,13 @@
+//! What a caller can know of the codecs together, from their public contracts and laws alone: what one
+//! encodes it decodes as the same value, and an APDU whose chain is fed in two pieces arrives.
+//!
+//! Each function does it and has the statement as its contract. Out of memory is all that can come instead.
+#![tactic(auto)]
+
+pub mod again;
+pub mod pieces;
+#[cfg(test)]
+mod tests;
+
+pub use again::{atr_again, block_again, command_again, dol_again, forest_again, response_again};
+pub use pieces::{command_in_two_pieces, response_in_two_pieces};

@@ -1,0 +1,88 @@
+//! Each round trip once with ample memory.
+
+use crate::{
+    atr_again, block_again, command_again, command_in_two_pieces, dol_again, forest_again,
+    response_again, response_in_two_pieces,
+};
+use apdu_core::{Body, Command, Response};
+use atr_core::Atr;
+use block_core::{Block, Number};
+use octet_core::{Octets, octets_of};
+use std::test::Fail;
+use tlv_core::{Dol, LARGEST_FOREST};
+
+/// SELECT with a name of seven octets.
+fn select(rt: &HostRuntime) -> Result<Command, Fail> {
+    let part = Octets::of(octets_of(rt.alloc(), "A0000000041010")?);
+    let body = Body::ShortBoth { part, le: 256 };
+    Ok(Command::new([0x00, 0xA4, 0x04, 0x00], body)?)
+}
+
+fn done(rt: &HostRuntime) -> Result<Response, Fail> {
+    let part = Octets::of(octets_of(rt.alloc(), "6F008400")?);
+    Ok(Response::new(part, 0x90, 0x00)?)
+}
+
+#[test]
+fn a_block_comes_back(rt: HostRuntime) -> Result<(), Fail> {
+    let block = Block::info(0, Number::One, true, &[0x00, 0xA4]).ok_or("a block")?;
+    assert!(rt; block_again(&block) == block);
+    Ok(())
+}
+
+#[test]
+fn an_answer_to_reset_comes_back(rt: HostRuntime) -> Result<(), Fail> {
+    let octets = octets_of(rt.alloc(), "3B6500002063CB6800")?;
+    let (atr, _) = atr_core::decode(octets.as_slice())?;
+    assert!(rt; atr_again(&atr) == atr);
+    Ok(())
+}
+
+#[test]
+fn apdus_come_back(rt: HostRuntime) -> Result<(), Fail> {
+    let command = select(&rt)?;
+    assert!(rt; command_again(rt.alloc(), &command)? == command);
+    let response = done(&rt)?;
+    assert!(rt; response_again(rt.alloc(), &response)? == response);
+    Ok(())
+}
+
+#[test]
+fn a_forest_comes_back(rt: HostRuntime) -> Result<(), Fail> {
+    let octets = octets_of(rt.alloc(), "006F0A8408A000000003000000")?;
+    let forest = tlv_core::decode(rt.alloc(), octets.as_slice(), LARGEST_FOREST)?;
+    let again = forest_again(rt.alloc(), &forest)?;
+    let spelled = tlv_core::encode(rt.alloc(), &again)?;
+    assert!(rt; spelled.as_slice() == octets.as_slice());
+    Ok(())
+}
+
+#[test]
+fn a_list_comes_back(rt: HostRuntime) -> Result<(), Fail> {
+    let octets = octets_of(rt.alloc(), "9F37045F2A02")?;
+    let dol = Dol::decode(rt.alloc(), octets.as_slice())?;
+    let again = dol_again(rt.alloc(), &dol)?;
+    let spelled = again.encode(rt.alloc())?;
+    assert!(rt; spelled.as_slice() == octets.as_slice());
+    Ok(())
+}
+
+#[test]
+fn a_command_in_two_pieces_arrives(rt: HostRuntime) -> Result<(), Fail> {
+    let command = select(&rt)?;
+    for cut in 0..50usize {
+        let arrived = command_in_two_pieces(rt.alloc(), &command, 3, Number::One, cut)?;
+        assert!(rt; arrived == command);
+    }
+    Ok(())
+}
+
+#[test]
+fn a_response_in_two_pieces_arrives(rt: HostRuntime) -> Result<(), Fail> {
+    let response = done(&rt)?;
+    for cut in 0..20usize {
+        let arrived = response_in_two_pieces(rt.alloc(), &response, 254, Number::Zero, cut)?;
+        assert!(rt; arrived == response);
+    }
+    Ok(())
+}
