@@ -1,0 +1,10 @@
+pub mod Exchange
+pub mod Faults
+pub mod Text
+pub mod Names
+pub mod Reading
+pub mod Words
+pub mod Given
+pub mod Replay
+pub mod Run
+pub mod Recording

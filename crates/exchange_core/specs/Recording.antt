@@ -1,0 +1,278 @@
+-- What a recorder holds: the lines that it wrote, and the link after the events that these lines tell.
+use Rattle.std.specs.Prelude.{◌≡◌, ℕ, ◌++◌, List, [], ◌∷◌, ◌==◌, true, if◌then◌else◌, slice_index, Option, Some, None, Result, Ok, Err, bit_xor, ◌<◌}
+use denote.Ref.{Bor}
+use Rattle.octet_core.specs.Octets.{AreOctets, xor_of}
+use Rattle.block_core.specs.Block.{Parts, front_of, spelling}
+use Rattle.t1_core.specs.Came.{Came, got, damaged, invalid, quiet, class_of}
+use Rattle.t1_core.specs.Terminal.{TerminalState, TerminalStep, TerminalInput, Mark, transmit, ask_ifs, takes, terminal_turn, new_terminal}
+use Rattle.t1_core.specs.Card.{CardState, CardStep, CardInput, replies, more_time, ask_ifs as ask_ifsc, takes as card_takes, card_turn, new_card}
+use Rattle.t1_core.specs.Link.{Link, UnderWay, nothing, to_card, to_terminal, Tables, tables, new_link, run, sent_by_terminal, sent_by_card, happens}
+use Rattle.t1_core.specs.Link as link
+use Rattle.t1_core.specs.Promises.{AllHandOctets}
+use Rattle.t1_core.specs.declared.turns.TerminalTurn.{TerminalTurn}
+use Rattle.t1_core.specs.declared.turns.CardTurn.{CardTurn}
+use Rattle.exchange_core.specs.Exchange.{are_proper}
+use Rattle.exchange_core.specs.Given.{arrived}
+use Rattle.exchange_core.specs.Replay.{End, by_role, terminal_end, terminal_line, card_end, card_line, IsFound}
+use Rattle.exchange_core.specs.declared.exchange.Version.TheVariants.{One}
+use Rattle.exchange_core.specs.declared.line.Arrival.{Arrival}
+use Rattle.exchange_core.specs.declared.line.Arrival.TheVariants.{Whole, Lost, Changed}
+use Rattle.exchange_core.specs.declared.line.Line.{Line}
+use Rattle.exchange_core.specs.declared.line.Line.TheVariants.{Command, Ifsd, Quiet, Reply, Time, Ifsc, FromTerminal, FromCard}
+use Rattle.exchange_core.specs.declared.event.Event.{Event}
+use Rattle.exchange_core.specs.declared.event.Event.TheVariants.{Deliver, Damage, Spoil, Lose, Transmit, AskIfsd, Reply as HostReply, MoreTime, AskIfsc}
+use Rattle.exchange_core.specs.declared.event.EventFault.{EventFault}
+use Rattle.exchange_core.specs.declared.event.EventFault.TheVariants.{NothingUnderWay, Terminal as AtTerminal, Card as AtCard, Memory}
+use Rattle.exchange_core.specs.declared.event.LastTurn.{LastTurn}
+use Rattle.exchange_core.specs.declared.event.LastTurn.TheVariants.{Nothing, Terminal, Card}
+use Rattle.exchange_core.specs.declared.event.RecorderFault.{RecorderFault}
+use Rattle.exchange_core.specs.declared.event.RecorderFault.TheVariants.{Refused, Memory as NoMemory}
+use Rattle.exchange_core.specs.declared.carrying.Change.{Change}
+use Rattle.exchange_core.specs.declared.carrying.Change.TheVariants.{Kept, Damaged, Spoilt}
+
+-- ---- events
+
+-- the event of the link
+abbrev pub event_of : Event → link.Event
+event_of Deliver = link.delivers
+event_of Damage = link.damages
+event_of Spoil = link.spoils
+event_of Lose = link.loses
+event_of (Transmit command) = link.transmits command.now
+event_of (AskIfsd size) = link.asks_ifsd size
+event_of (HostReply octets) = link.host_replies octets.now
+event_of (MoreTime multiple) = link.host_asks_time multiple
+event_of (AskIfsc size) = link.host_asks_ifsc size
+
+-- why an end refuses a call
+abbrev pub terminal_refusal : TerminalStep → Option EventFault
+terminal_refusal (Ok step) = None
+terminal_refusal (Err fault) = Some (AtTerminal fault)
+
+abbrev pub card_refusal : CardStep → Option EventFault
+card_refusal (Ok step) = None
+card_refusal (Err fault) = Some (AtCard fault)
+
+-- the block under way comes to its receiver as this
+abbrev pub arrival_refusal : Link → UnderWay → Came → Option EventFault
+arrival_refusal l nothing came = Some NothingUnderWay
+arrival_refusal l (to_card block) came = card_refusal (card_turn l.card (card_takes came))
+arrival_refusal l (to_terminal block) came = terminal_refusal (terminal_turn l.terminal (takes came))
+
+abbrev pub whole : UnderWay → Came
+whole nothing = quiet
+whole (to_card block) = got block.pcb block.inf
+whole (to_terminal block) = got block.pcb block.inf
+
+abbrev pub loss_refusal : Link → UnderWay → Option EventFault
+loss_refusal l nothing = Some NothingUnderWay
+loss_refusal l (to_card block) = terminal_refusal (terminal_turn l.terminal (takes quiet))
+loss_refusal l (to_terminal block) = terminal_refusal (terminal_turn l.terminal (takes quiet))
+
+-- why an event changes nothing
+abbrev pub refusal_of : Link → link.Event → Option EventFault
+refusal_of l link.delivers = arrival_refusal l l.under_way (whole l.under_way)
+refusal_of l link.damages = arrival_refusal l l.under_way damaged
+refusal_of l link.spoils = arrival_refusal l l.under_way invalid
+refusal_of l link.loses = loss_refusal l l.under_way
+refusal_of l (link.transmits command) = terminal_refusal (terminal_turn l.terminal (transmit command))
+refusal_of l (link.asks_ifsd size) = terminal_refusal (terminal_turn l.terminal (ask_ifs size))
+refusal_of l (link.host_replies octets) = card_refusal (card_turn l.card (replies octets))
+refusal_of l (link.host_asks_time multiple) = card_refusal (card_turn l.card (more_time multiple))
+refusal_of l (link.host_asks_ifsc size) = card_refusal (card_turn l.card (ask_ifsc size))
+
+-- this of why an event changes nothing; of a lack of memory nothing is said
+abbrev pub IfNotMemory : EventFault → Type 0 → Type 0
+IfNotMemory Memory P = Unit {0}
+IfNotMemory fault P = P
+
+-- ---- lines
+
+-- the octets of a block with the last one changed
+abbrev pub damaged_octets : Parts → List ℕ
+damaged_octets v = front_of v ++ bit_xor (xor_of (front_of v)) 1 ∷ []
+
+-- the octets of the same block with node address 1
+abbrev pub spoilt_octets : Parts → List ℕ
+spoilt_octets v = spelling (record { nad = 1; pcb = v.pcb; inf = v.inf })
+
+abbrev pub arrival_of : Change → Parts → Arrival
+arrival_of Kept v = Whole
+arrival_of Damaged v = Changed (damaged_octets v)
+arrival_of Spoilt v = Changed (spoilt_octets v)
+
+abbrev pub change_event : Change → link.Event
+change_event Kept = link.delivers
+change_event Damaged = link.damages
+change_event Spoilt = link.spoils
+
+-- what became of a block tells the event: the node address of a damaged one is still 0
+abbrev pub arrival_event : Arrival → link.Event
+arrival_event Whole = link.delivers
+arrival_event Lost = link.loses
+arrival_event (Changed octets) = if slice_index octets 0 == 0 then link.damages else link.spoils
+
+-- the event that a line tells, where it tells one
+abbrev pub line_events : Line → List link.Event
+line_events (Command octets) = link.transmits octets ∷ []
+line_events (Ifsd size) = link.asks_ifsd size ∷ []
+line_events (Reply octets) = link.host_replies octets ∷ []
+line_events (Time multiple) = link.host_asks_time multiple ∷ []
+line_events (Ifsc size) = link.host_asks_ifsc size ∷ []
+line_events (FromTerminal sent arrival) = arrival_event arrival ∷ []
+line_events (FromCard sent arrival) = arrival_event arrival ∷ []
+line_events line = []
+
+abbrev pub events_of : List Line → List link.Event
+events_of [] = []
+events_of (line ∷ lines) = line_events line ++ events_of lines
+
+-- ---- the recorder
+
+-- The answer to reset, the size of information fields that it gives the card, the lines so far, and the last turn, which no line tells yet.
+pub record Recording : Type 0 where
+  pub atr : List ℕ
+  pub ifsc : ℕ
+  pub lines : List Line
+  pub last : LastTurn
+
+-- The link of the law, after the events that the lines tell.
+abbrev pub link_of : Recording → Link
+link_of r = run tables (events_of r.lines) (new_link r.ifsc)
+
+-- the line of a turn, whose block is lost
+abbrev pub as_lost : Line → Line
+as_lost (FromTerminal sent arrival) = FromTerminal sent Lost
+as_lost (FromCard sent arrival) = FromCard sent Lost
+as_lost line = line
+
+-- the line that tells the last turn
+abbrev pub telling : TerminalState → CardState → LastTurn → List Line
+telling t c Nothing = []
+telling t c (Terminal turn) = as_lost (terminal_line t turn) ∷ []
+telling t c (Card turn) = as_lost (card_line c turn) ∷ []
+
+-- the lines of the exchange: a block that is still under way counts as lost
+abbrev pub closed : Recording → List Line
+closed r = r.lines ++ telling (link_of r).terminal (link_of r).card r.last
+
+-- An event has happened: the link is the one after it, of the same card.
+pub record HasHappened (old new : Recording) (event : link.Event) : Type 0 where
+  pub link : link_of new ≡ happens tables (link_of old) event
+  pub atr : new.atr ≡ old.atr
+  pub ifsc : new.ifsc ≡ old.ifsc
+  pub taken : refusal_of (link_of old) event ≡ None
+
+-- An event could not happen: at the link too it changes nothing.
+pub record IsRefused (old : Recording) (event : link.Event) (fault : EventFault) : Type 0 where
+  pub named : refusal_of (link_of old) event ≡ Some fault
+  pub link : happens tables (link_of old) event ≡ link_of old
+
+-- ---- what holds of a recorder
+
+abbrev pub under_way_of : LastTurn → UnderWay
+under_way_of Nothing = nothing
+under_way_of (Terminal turn) = sent_by_terminal turn
+under_way_of (Card turn) = sent_by_card turn
+
+-- the turn of an end that no line has met yet
+abbrev pub terminal_pending : LastTurn → Option TerminalTurn
+terminal_pending (Terminal turn) = Some turn
+terminal_pending last = None
+
+abbrev pub card_pending : LastTurn → Option CardTurn
+card_pending (Card turn) = Some turn
+card_pending last = None
+
+abbrev pub onward : {A : Type 0} → (A → Result A (List ℕ)) → Result A (List ℕ) → Result A (List ℕ)
+onward next (Ok after) = next after
+onward next (Err text) = Err text
+
+-- lines replayed one after another: the state, and the turn that no line has met yet
+abbrev pub runs : {S T : Type 0} → End S T → List Line → S × Option T → Result (S × Option T) (List ℕ)
+runs end [] at = Ok at
+runs end (line ∷ lines) at = onward (λ after. runs end lines after) (by_role end at.0 at.1 line (end.role at.0 line))
+
+-- The ends are those of the link, and each replays the lines to the state that it is in, where the last turn has met no line.
+pub record IsRecording (r : Recording) (t : TerminalState) (c : CardState) : Type 0 where
+  pub octets : AllHandOctets (events_of r.lines)
+  pub terminal : (link_of r).terminal ≡ t
+  pub card : (link_of r).card ≡ c
+  pub under_way : (link_of r).under_way ≡ under_way_of r.last
+  pub at_terminal : runs terminal_end r.lines (new_terminal r.ifsc, None) ≡ Ok (t, terminal_pending r.last)
+  pub at_card : runs card_end r.lines (new_card r.ifsc, None) ≡ Ok (c, card_pending r.last)
+  pub proper : are_proper One 0 r.lines ≡ true
+  pub found : IsFound r.atr (Ok r.ifsc)
+
+-- ---- calls of the ends
+
+-- what a line is to the terminal that is called with it
+abbrev pub terminal_input : TerminalState → Line → TerminalInput
+terminal_input t (Command octets) = transmit octets
+terminal_input t (Ifsd size) = ask_ifs size
+terminal_input t (FromCard sent arrival) = takes (class_of t.ifsd (arrived sent arrival))
+terminal_input t line = takes quiet
+
+-- what a line is to the card that is called with it
+abbrev pub card_input : CardState → Line → CardInput
+card_input c (Reply octets) = replies octets
+card_input c (Time multiple) = more_time multiple
+card_input c (Ifsc size) = ask_ifsc size
+card_input c (FromTerminal sent arrival) = card_takes (class_of c.ifsc (arrived sent arrival))
+card_input c line = card_takes quiet
+
+abbrev pub Turns : TerminalState → TerminalInput → TerminalTurn → TerminalState → Type 0
+Turns t input turn next = (mark : Mark) × (terminal_turn t input ≡ Ok (turn, next, mark))
+
+-- an optional line as a list
+abbrev pub as_list : Option Line → List Line
+as_list None = []
+as_list (Some line) = line ∷ []
+
+-- a call of the card's host, or a block that comes to the card
+abbrev pub IsCardCall : Line → Type 0
+IsCardCall (Reply octets) = Unit {0}
+IsCardCall (Time multiple) = Unit {0}
+IsCardCall (Ifsc size) = Unit {0}
+IsCardCall (FromTerminal sent arrival) = Unit {0}
+IsCardCall line = ⊥
+
+-- a block is under way
+abbrev pub IsSent : UnderWay → Type 0
+IsSent nothing = ⊥
+IsSent under_way = Unit {0}
+
+-- The terminal may be called with the line: a call of the application, or quiet after the loss of a block.
+abbrev pub MayCall : LastTurn → Line → Type 0
+MayCall last (Command octets) = AreOctets octets
+MayCall last (Ifsd size) = size < 256
+MayCall last Quiet = IsSent (under_way_of last)
+MayCall last line = ⊥
+
+-- the card's host may call the card with the line
+abbrev pub MayReply : Line → Type 0
+MayReply (Reply octets) = AreOctets octets
+MayReply (Time multiple) = multiple < 256
+MayReply (Ifsc size) = size < 256
+MayReply line = ⊥
+
+-- the event of such a call
+abbrev pub call_event : Line → link.Event
+call_event (Command octets) = link.transmits octets
+call_event (Ifsd size) = link.asks_ifsd size
+call_event (Reply octets) = link.host_replies octets
+call_event (Time multiple) = link.host_asks_time multiple
+call_event (Ifsc size) = link.host_asks_ifsc size
+call_event line = link.loses
+
+-- the block under way, lent
+abbrev pub IsLent : Option (Bor Parts) → UnderWay → Type 0
+IsLent None nothing = Unit {0}
+IsLent (Some block) (to_card sent) = block.now ≡ sent
+IsLent (Some block) (to_terminal sent) = block.now ≡ sent
+IsLent lent under_way = ⊥
+
+-- this of the name of a refused answer to reset; of a lack of memory nothing is said
+abbrev pub IfRefused : RecorderFault → (List ℕ → Type 0) → Type 0
+IfRefused (Refused name) P = P name.now
+IfRefused NoMemory P = Unit {0}

@@ -1,0 +1,220 @@
+//! Blocks on their way, and the calls of the ends, as lines.
+
+ghost use Rattle.std.specs.Prelude.{◌≡◌, ◌++◌, ◌+◌, ◌≤◌, List, ℕ, [], ◌∷◌, IfOk, IfErr, OnOk, OnErr, Some, Ok, vec_len, vec_capacity};
+ghost use Rattle.octet_core.specs.Octets.{AreOctets};
+ghost use Rattle.block_core.specs.Block.{spelling};
+ghost use Rattle.t1_core.specs.Terminal.{terminal_turn, turn_of, state_after};
+ghost use Rattle.t1_core.specs.Card.{card_turn, turn_of as card_turn_of, state_after as card_state_after};
+ghost use Rattle.exchange_core.specs.Given.{line_of};
+ghost use Rattle.exchange_core.specs.Recording.{arrival_of, damaged_octets, spoilt_octets, as_lost, as_list, terminal_input, card_input, Turns, terminal_refusal, card_refusal, IfNotMemory, IsCardCall};
+
+use crate::event::EventFault;
+use crate::given::Given;
+use crate::line::{Arrival, Line};
+use block_core::{Block, Pcb, encode};
+use octet_core::Octets;
+use std::alloc::{AllocError, Global};
+use t1_core::{Card, CardFault, CardTurn, Terminal, TerminalFault, TerminalTurn};
+
+/// The node address of a block that is invalid to both ends.
+const ANOTHER_NODE: u8 = 1;
+
+/// What changes in a block that arrives.
+#[derive(Clone, Copy, Debug, PartialEq, Eq)]
+pub(crate) enum Change {
+    /// Nothing.
+    Kept,
+    /// Its last octet.
+    Damaged,
+    /// Its node address, with the check octet that fits.
+    Spoilt,
+}
+
+impl Change {
+    /// What becomes of a block with this change.
+    pub fn arrival(self, alloc: Global, block: &Block) -> Result<Arrival, AllocError>
+        ensures { IfOk result (λ arrival. arrival ≡ arrival_of self block.now) }
+    {
+        match self {
+            Change::Kept => Ok(Arrival::Whole),
+            Change::Damaged => Ok(Arrival::Changed(damaged(alloc, block)?)),
+            Change::Spoilt => Ok(Arrival::Changed(spelled(alloc, &elsewhere(block))?)),
+        }
+    }
+}
+
+/// The octets of a block.
+pub(crate) fn spelled(alloc: Global, block: &Block) -> Result<Octets, AllocError>
+    ensures { IfOk result (λ octets. octets ≡ spelling block.now) }
+{
+    copied(alloc, encode(block).as_slice())
+}
+
+/// A copy of octets.
+pub(crate) fn copied(alloc: Global, octets: &[u8]) -> Result<Octets, AllocError>
+    ensures copy { IfOk result (λ copy. copy ≡ octets.now) }
+    ensures octets { IfOk result (λ copy. AreOctets copy) }
+{
+    Ok(Octets::of(Vec::from_slice(alloc, octets)?))
+}
+
+/// The octets of a block with the last one changed.
+fn damaged(alloc: Global, block: &Block) -> Result<Octets, AllocError>
+    ensures { IfOk result (λ octets. octets ≡ damaged_octets block.now) }
+{
+    let sent = encode(block);
+    let octets = sent.as_slice();
+    let sum = octets.len() - 1;
+    let mut damaged = Vec::from_slice(alloc, &octets[..sum])?;
+    damaged.push(octets[sum] ^ 1)?;
+    Ok(Octets::of(damaged))
+}
+
+/// The same block with another node address.
+fn elsewhere(block: &Block) -> Block
+    ensures { result ≡ record { nad = 1; pcb = block.now.pcb; inf = block.now.inf } }
+{
+    let inf = block.inf();
+    match block.pcb() {
+        Pcb::Info { number, more } => Block::info(ANOTHER_NODE, number, more, inf).unwrap(),
+        Pcb::Ready { number, fault } => Block::ready(ANOTHER_NODE, number, fault),
+        Pcb::Request(about) => Block::request(ANOTHER_NODE, about, inf).unwrap(),
+        Pcb::Response(about) => Block::response(ANOTHER_NODE, about, inf).unwrap(),
+    }
+}
+
+impl Given<'_> {
+    /// The line of what an end gives, where its block is lost.
+    pub fn lost(self, alloc: Global) -> Result<Line, AllocError>
+        ensures { IfOk result (λ line. line ≡ as_lost (line_of self.entry)) }
+    {
+        Ok(match self {
+            Given::FromTerminal(block) => Line::FromTerminal {
+                sent: spelled(alloc, block)?,
+                arrival: Arrival::Lost,
+            },
+            Given::FromCard(block) => Line::FromCard {
+                sent: spelled(alloc, block)?,
+                arrival: Arrival::Lost,
+            },
+            Given::Answer(octets) => Line::Answer(copied(alloc, octets)?),
+            Given::Asked(octets) => Line::Asked(copied(alloc, octets)?),
+            Given::IfsSet => Line::IfsSet,
+            Given::GivenUp => Line::GivenUp,
+            Given::Dead => Line::Dead,
+        })
+    }
+}
+
+/// Calls the terminal with a line, and writes that line after the one that tells the last turn. A refused
+/// call, or a lack of memory, leaves both as they were.
+pub(crate) fn terminal_takes(
+    terminal: &mut Terminal,
+    lines: &mut Vec<Line>,
+    told: Option<Line>,
+    line: Line,
+) -> Result<TerminalTurn, EventFault>
+    ensures turn { IfOk result (λ turn.
+        Turns terminal.old (terminal_input terminal.old line) turn terminal.new) }
+    ensures lines { OnOk result (lines.new.items ≡ lines.old.items ++ (as_list told ++ line ∷ [])) }
+    ensures refused { IfErr result (λ fault. IfNotMemory fault
+        (terminal_refusal (terminal_turn terminal.old (terminal_input terminal.old line)) ≡ Some fault)) }
+    ensures kept { OnErr result ((terminal.new ≡ terminal.old) × (lines.new.items ≡ lines.old.items)) }
+{
+    lines.reserve(2)?;
+    let turn = terminal_turned(terminal, &line)?;
+    write(lines, told, line);
+    Ok(turn)
+}
+
+/// Calls the terminal with a line. A refused call changes nothing.
+fn terminal_turned(terminal: &mut Terminal, line: &Line) -> Result<TerminalTurn, EventFault>
+    ensures turn { IfOk result (λ turn.
+        Turns terminal.old (terminal_input terminal.old line.now) turn terminal.new) }
+    ensures refused { IfErr result (λ fault.
+        terminal_refusal (terminal_turn terminal.old (terminal_input terminal.old line.now)) ≡ Some fault) }
+    ensures kept { OnErr result (terminal.new ≡ terminal.old) }
+{
+    match terminal_called(terminal, line) {
+        Ok(turn) => Ok(turn),
+        Err(fault) => Err(EventFault::Terminal(fault)),
+    }
+}
+
+/// Calls the terminal with a line.
+fn terminal_called(terminal: &mut Terminal, line: &Line) -> Result<TerminalTurn, TerminalFault>
+    ensures turn { result ≡ turn_of (terminal_turn terminal.old (terminal_input terminal.old line.now)) }
+    ensures state { terminal.new
+        ≡ state_after terminal.old (terminal_turn terminal.old (terminal_input terminal.old line.now)) }
+{
+    match line {
+        Line::Command(octets) => terminal.transmit(octets.get()),
+        Line::Ifsd(size) => terminal.ask_ifs(*size),
+        Line::FromCard { sent, arrival } => terminal.received(arrival.octets(sent)),
+        _ => terminal.quiet(),
+    }
+}
+
+/// Calls the card with a line that tells a call of its host or the arrival of a block, and writes that line
+/// after the one that tells the last turn. A refused call, or a lack of memory, leaves both as they were.
+pub(crate) fn card_takes(
+    card: &mut Card,
+    lines: &mut Vec<Line>,
+    told: Option<Line>,
+    line: Line,
+) -> Result<CardTurn, EventFault>
+    requires { IsCardCall line }
+    ensures turn { IfOk result (λ turn.
+        card_turn card.old (card_input card.old line) ≡ Ok (turn, card.new)) }
+    ensures lines { OnOk result (lines.new.items ≡ lines.old.items ++ (as_list told ++ line ∷ [])) }
+    ensures refused { IfErr result (λ fault. IfNotMemory fault
+        (card_refusal (card_turn card.old (card_input card.old line)) ≡ Some fault)) }
+    ensures kept { OnErr result ((card.new ≡ card.old) × (lines.new.items ≡ lines.old.items)) }
+{
+    lines.reserve(2)?;
+    let turn = card_turned(card, &line)?;
+    write(lines, told, line);
+    Ok(turn)
+}
+
+/// Calls the card with a line. A refused call changes nothing.
+fn card_turned(card: &mut Card, line: &Line) -> Result<CardTurn, EventFault>
+    requires { IsCardCall line.now }
+    ensures turn { IfOk result (λ turn.
+        card_turn card.old (card_input card.old line.now) ≡ Ok (turn, card.new)) }
+    ensures refused { IfErr result (λ fault.
+        card_refusal (card_turn card.old (card_input card.old line.now)) ≡ Some fault) }
+    ensures kept { OnErr result (card.new ≡ card.old) }
+{
+    match card_called(card, line) {
+        Ok(turn) => Ok(turn),
+        Err(fault) => Err(EventFault::Card(fault)),
+    }
+}
+
+/// Calls the card with a line.
+fn card_called(card: &mut Card, line: &Line) -> Result<CardTurn, CardFault>
+    requires { IsCardCall line.now }
+    ensures turn { result ≡ card_turn_of (card_turn card.old (card_input card.old line.now)) }
+    ensures state { card.new
+        ≡ card_state_after card.old (card_turn card.old (card_input card.old line.now)) }
+{
+    match line {
+        Line::Reply(octets) => card.reply(octets.get()),
+        Line::Time(multiple) => card.more_time(*multiple),
+        Line::Ifsc(size) => card.ask_ifs(*size),
+        Line::FromTerminal { sent, arrival } => card.received(arrival.octets(sent)),
+        _ => unreachable!(),
+    }
+}
+
+/// Writes the line of the last turn, where there is one, and a further line, for which there is room.
+fn write(lines: &mut Vec<Line>, told: Option<Line>, line: Line)
+    requires { vec_len lines.old + 2 ≤ vec_capacity lines.old }
+    ensures { lines.new.items ≡ lines.old.items ++ (as_list told ++ line ∷ []) }
+{
+    if let Some(told) = told {
+        lines.push(told).unwrap();
+    }
+    lines.push(line).unwrap();
+}

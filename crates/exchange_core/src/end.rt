@@ -1,0 +1,143 @@
+//! The two ends, called line by line.
+
+ghost use Rattle.std.specs.Prelude.{◌≡◌, ℕ, List, Ok, Err, IfOk, IfErr};
+ghost use Rattle.exchange_core.specs.Given.{line_of, way_of};
+ghost use Rattle.exchange_core.specs.declared.way.Way.TheVariants.{In};
+ghost use Rattle.exchange_core.specs.Replay.{End, calls, terminal_end, card_end, terminal_refusal, card_refusal};
+
+use crate::given::Given;
+use crate::line::Line;
+use crate::way::Way;
+use t1_core::{Card, CardFault, CardTurn, Terminal, TerminalFault, TerminalTurn};
+
+/// An end that a file is replayed for.
+pub(crate) trait Replayed {
+    /// What it does next.
+    type Turn: Drop;
+
+    /// Why it refuses a call.
+    type Fault: Copy;
+
+    /// What a line is to it, and the line that a turn gives.
+    ghost end: { End Self Self.Turn };
+
+    /// The name of a refusal.
+    ghost refusal: { Self.Fault → List ℕ };
+
+    /// Which way the line goes.
+    fn way(&self, line: &Line) -> Way
+        ensures { result ≡ way_of (end.role self.now line.now) };
+
+    /// The call that the line is.
+    fn call(&mut self, line: &Line) -> Result<Self::Turn, Self::Fault>
+        requires { way_of (end.role self.old line.now) ≡ In }
+        ensures turn { IfOk result (λ turn.
+            end.role self.old line.now ≡ calls (Ok (turn, self.new))) }
+        ensures refused { IfErr result (λ fault.
+            end.role self.old line.now ≡ calls (Err (refusal fault))) };
+
+    /// The name of a refusal.
+    fn refusal(fault: Self::Fault) -> &'static str
+        ensures { result.now ≡ refusal fault };
+
+    /// What a turn gives, while the end is in the state after it.
+    fn given<'a>(&'a self, turn: &'a Self::Turn) -> Given<'a>
+        ensures { line_of result ≡ end.line self.now turn.now };
+}
+
+impl Replayed for Terminal {
+    type Turn = TerminalTurn;
+
+    type Fault = TerminalFault;
+
+    ghost end = { terminal_end };
+
+    ghost refusal = { terminal_refusal };
+
+    fn way(&self, line: &Line) -> Way {
+        match line {
+            Line::Command(_) | Line::Ifsd(_) | Line::Quiet => Way::In,
+            Line::FromCard { arrival, .. } => arrival.way(),
+            Line::Answer(_) | Line::IfsSet | Line::GivenUp | Line::Dead => Way::Out,
+            Line::FromTerminal { .. } => Way::Out,
+            Line::Reply(_) | Line::Time(_) | Line::Ifsc(_) | Line::Asked(_) => Way::Past,
+            Line::Moment(_) | Line::Note(_) => Way::Past,
+        }
+    }
+
+    fn call(&mut self, line: &Line) -> Result<TerminalTurn, TerminalFault> {
+        match line {
+            Line::Command(octets) => self.transmit(octets.get()),
+            Line::Ifsd(size) => self.ask_ifs(*size),
+            Line::Quiet => self.quiet(),
+            Line::FromCard { sent, arrival } => self.received(arrival.octets(sent)),
+            _ => unreachable!(),
+        }
+    }
+
+    fn refusal(fault: TerminalFault) -> &'static str {
+        match fault {
+            TerminalFault::Dead => "Dead",
+            TerminalFault::Busy => "Busy",
+            TerminalFault::TooLong => "TooLong",
+            TerminalFault::Reserved => "Reserved",
+            TerminalFault::Idle => "Idle",
+        }
+    }
+
+    fn given<'a>(&'a self, turn: &'a TerminalTurn) -> Given<'a> {
+        match turn {
+            TerminalTurn::Send(block) => Given::FromTerminal(block),
+            TerminalTurn::Answered => Given::Answer(self.answer().unwrap_or(&[])),
+            TerminalTurn::IfsSet => Given::IfsSet,
+            TerminalTurn::GivenUp => Given::GivenUp,
+            TerminalTurn::Dead => Given::Dead,
+        }
+    }
+}
+
+impl Replayed for Card {
+    type Turn = CardTurn;
+
+    type Fault = CardFault;
+
+    ghost end = { card_end };
+
+    ghost refusal = { card_refusal };
+
+    fn way(&self, line: &Line) -> Way {
+        match line {
+            Line::Reply(_) | Line::Time(_) | Line::Ifsc(_) => Way::In,
+            Line::FromTerminal { arrival, .. } => arrival.way(),
+            Line::Asked(_) | Line::FromCard { .. } => Way::Out,
+            Line::Command(_) | Line::Ifsd(_) | Line::Quiet => Way::Past,
+            Line::Answer(_) | Line::IfsSet | Line::GivenUp | Line::Dead => Way::Past,
+            Line::Moment(_) | Line::Note(_) => Way::Past,
+        }
+    }
+
+    fn call(&mut self, line: &Line) -> Result<CardTurn, CardFault> {
+        match line {
+            Line::Reply(octets) => self.reply(octets.get()),
+            Line::Time(multiple) => self.more_time(*multiple),
+            Line::Ifsc(size) => self.ask_ifs(*size),
+            Line::FromTerminal { sent, arrival } => self.received(arrival.octets(sent)),
+            _ => unreachable!(),
+        }
+    }
+
+    fn refusal(fault: CardFault) -> &'static str {
+        match fault {
+            CardFault::Order => "Order",
+            CardFault::TooLong => "TooLong",
+            CardFault::Reserved => "Reserved",
+        }
+    }
+
+    fn given<'a>(&'a self, turn: &'a CardTurn) -> Given<'a> {
+        match turn {
+            CardTurn::Send(block) => Given::FromCard(block),
+            CardTurn::Asked => Given::Asked(self.command().unwrap_or(&[])),
+        }
+    }
+}

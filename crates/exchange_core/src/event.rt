@@ -1,0 +1,82 @@
+//! What may happen to two ends on a line, and what comes of it.
+
+ghost use Rattle.std.specs.Prelude.{◌≡◌};
+ghost use Rattle.exchange_core.specs.declared.event.EventFault.TheVariants.{Memory};
+
+use std::alloc::AllocError;
+use t1_core::{CardFault, CardTurn, TerminalFault, TerminalTurn};
+
+/// What may happen next on the line, or at an end of it. The octets are lent.
+#[derive(Clone, Copy, Debug)]
+pub enum Event<'a> {
+    /// The block under way arrives as it was sent.
+    Deliver,
+    /// It arrives with its last octet changed: damaged, to its receiver.
+    Damage,
+    /// It arrives with node address 01 and the check octet that fits: invalid, to its receiver.
+    Spoil,
+    /// It is lost, and the terminal's waiting time ends.
+    Lose,
+    /// The application hands the terminal this command.
+    Transmit(&'a [u8]),
+    /// The application asks for information fields of up to so many octets from the card.
+    AskIfsd(u8),
+    /// The card's host gives this reply.
+    Reply(&'a [u8]),
+    /// The card's host asks for so many times the waiting time.
+    MoreTime(u8),
+    /// The card's host asks for information fields of up to so many octets from the terminal.
+    AskIfsc(u8),
+}
+
+/// Why an event changed nothing and wrote nothing.
+#[derive(Clone, Copy, Debug, PartialEq, Eq)]
+pub enum EventFault {
+    /// No block is under way.
+    NothingUnderWay,
+    /// The terminal refused the call.
+    Terminal(TerminalFault),
+    /// The card refused the call.
+    Card(CardFault),
+    /// Out of memory for the record.
+    Memory,
+}
+
+impl From<AllocError> for EventFault {
+    ghost from_gives = { λ _ fault. fault ≡ Memory };
+
+    fn from(_error: AllocError) -> EventFault {
+        EventFault::Memory
+    }
+}
+
+/// Why there is no recorder.
+#[derive(Clone, Copy, Debug, PartialEq, Eq)]
+pub enum RecorderFault {
+    /// The answer to reset can't be used, by the name that replay gives: `BadAtr`, `NoT1`, `ReservedIfsc` or
+    /// `Crc`.
+    Refused(&'static str),
+    /// Out of memory.
+    Memory,
+}
+
+impl From<AllocError> for RecorderFault {
+    ghost use Rattle.exchange_core.specs.declared.event.RecorderFault.{RecorderFault};
+
+    ghost from_gives = { λ _ fault. fault ≡ RecorderFault.Memory };
+
+    fn from(_error: AllocError) -> RecorderFault {
+        RecorderFault::Memory
+    }
+}
+
+/// What the last event came to: the turn of the end that it called.
+#[derive(Debug, PartialEq, Eq, Drop)]
+pub enum LastTurn {
+    /// Nothing has happened yet.
+    Nothing,
+    /// The terminal's turn.
+    Terminal(TerminalTurn),
+    /// The card's turn.
+    Card(CardTurn),
+}

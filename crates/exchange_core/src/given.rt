@@ -1,0 +1,101 @@
+//! What an end gives, as a line of a file.
+
+ghost use Rattle.std.specs.Prelude.{◌≡◌, ◌++◌, IfOk, string_bytes, bytes_eq};
+ghost use Rattle.block_core.specs.Block.{spelling};
+ghost use Rattle.exchange_core.specs.Given.{line_of};
+ghost use Rattle.exchange_core.specs.Replay.{is_met};
+ghost use Rattle.exchange_core.specs.Text.{line_text, octets_text};
+
+use crate::line::Line;
+use block_core::{Block, encode};
+use octet_core::hex_upper;
+use std::alloc::{AllocError, Global};
+
+/// What an end gives: a turn as the line that it stands for, with the message of the end lent.
+#[derive(Clone, Copy)]
+pub(crate) enum Given<'a> {
+    /// The terminal sends this block.
+    FromTerminal(&'a Block),
+    /// The card sends this block.
+    FromCard(&'a Block),
+    /// The terminal gives the application this answer.
+    Answer(&'a [u8]),
+    /// The card gives its host this command.
+    Asked(&'a [u8]),
+    /// The card took the information size that was asked for.
+    IfsSet,
+    /// The terminal gave up what was under way.
+    GivenUp,
+    /// The terminal found the card dead.
+    Dead,
+}
+
+impl Given<'_> {
+    /// Whether a line is this one, whatever became of its block on the way.
+    pub fn is_met_by(self, line: &Line) -> bool
+        ensures { result ≡ is_met (line_of self.entry) line.now }
+    {
+        match self {
+            Given::FromTerminal(block) => match line {
+                Line::FromTerminal { sent, .. } => is_spelled(block, sent.get()),
+                _ => false,
+            },
+            Given::FromCard(block) => match line {
+                Line::FromCard { sent, .. } => is_spelled(block, sent.get()),
+                _ => false,
+            },
+            Given::Answer(octets) => match line {
+                Line::Answer(recorded) => octets == recorded.get(),
+                _ => false,
+            },
+            Given::Asked(octets) => match line {
+                Line::Asked(recorded) => octets == recorded.get(),
+                _ => false,
+            },
+            Given::IfsSet => matches!(line, Line::IfsSet),
+            Given::GivenUp => matches!(line, Line::GivenUp),
+            Given::Dead => matches!(line, Line::Dead),
+        }
+    }
+
+    /// The text of the line.
+    pub fn text(self, alloc: Global) -> Result<String, AllocError>
+        ensures { IfOk result (λ text. string_bytes text ≡ line_text (line_of self.entry)) }
+    {
+        match self {
+            Given::FromTerminal(block) => octets_line(alloc, "t ", encode(block).as_slice()),
+            Given::FromCard(block) => octets_line(alloc, "c ", encode(block).as_slice()),
+            Given::Answer(octets) => octets_line(alloc, "answer ", octets),
+            Given::Asked(octets) => octets_line(alloc, "asked ", octets),
+            Given::IfsSet => String::from_str(alloc, "ifs-set"),
+            Given::GivenUp => String::from_str(alloc, "given-up"),
+            Given::Dead => String::from_str(alloc, "dead"),
+        }
+    }
+}
+
+/// Whether the octets are those of the block.
+fn is_spelled(block: &Block, octets: &[u8]) -> bool
+    ensures { result ≡ bytes_eq (spelling block.now) octets.now }
+{
+    encode(block).as_slice() == octets
+}
+
+/// A word, its space included, and octets after it.
+fn octets_line(alloc: Global, word: &str, octets: &[u8]) -> Result<String, AllocError>
+    ensures { IfOk result (λ text. string_bytes text ≡ word.now ++ octets_text octets.now) }
+{
+    let digits = octets_word(alloc, octets)?;
+    format!(in alloc; "{word}{digits}")
+}
+
+/// Octets as two digits each in upper case, or `none`.
+fn octets_word(alloc: Global, octets: &[u8]) -> Result<String, AllocError>
+    ensures { IfOk result (λ text. string_bytes text ≡ octets_text octets.now) }
+{
+    if octets.is_empty() {
+        String::from_str(alloc, "none")
+    } else {
+        hex_upper(alloc, octets)
+    }
+}

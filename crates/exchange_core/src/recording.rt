@@ -1,0 +1,256 @@
+//! Both ends on one line, and the record of what happens to them.
+
+ghost use Rattle.std.specs.Prelude.{◌≡◌, List, [], ◌++◌, Ok, Err, IfOk, IfErr, OnOk, OnErr, None};
+ghost use Rattle.t1_core.specs.Link.{new_link};
+ghost use Rattle.t1_core.specs.Promises.{Matches};
+ghost use Rattle.exchange_core.specs.Replay.{IsFound, Replays};
+ghost use Rattle.exchange_core.specs.Recording.{Recording, link_of, closed, telling, as_list, event_of, call_event, change_event, HasHappened, IsRefused, IfNotMemory, IfRefused, IsLent, under_way_of, MayCall, MayReply};
+ghost use Rattle.exchange_core.specs.declared.exchange.Version.TheVariants.{One};
+ghost use Rattle.exchange_core.specs.declared.event.LastTurn.TheVariants.{Nothing};
+ghost use Rattle.exchange_core.specs.declared.event.Event.TheVariants.{Lose};
+ghost use Rattle.exchange_core.specs.declared.replaying.Side.TheVariants as side;
+
+use crate::carrying::{Change, card_takes, copied, spelled, terminal_takes};
+use crate::end::Replayed;
+use crate::event::{Event, EventFault, LastTurn, RecorderFault};
+use crate::exchange::{Exchange, Version};
+use crate::line::{Line, Lines};
+use crate::replaying::params_of;
+use atr_core::T1Params;
+use block_core::Block;
+use octet_core::Octets;
+use std::alloc::{AllocError, Global};
+use std::marker::Model;
+use t1_core::laws::{matched, taken};
+use t1_core::{Card, CardTurn, Terminal, TerminalTurn};
+
+/// A new terminal and a new card on one line, with at most one block under way, and the record of what
+/// happens to them. Contracts see the record and the link of `t1_core` after the events that it tells
+/// (`link_of` in `specs/Recording.antt`), so that the law of the link speaks of both ends.
+#[derive(Debug, Drop)]
+pub struct Recorder {
+    alloc: Global,
+    params: T1Params,
+    atr: Octets,
+    terminal: Terminal,
+    card: Card,
+    last: LastTurn,
+    lines: Vec<Line>,
+}
+
+impl Model for Recorder {
+    ghost use Rattle.exchange_core.specs.Recording.{Recording, IsRecording};
+
+    ghost Value = { Recording };
+
+    ghost view = { λ r. record { atr = r.atr; ifsc = r.params.ifsc; lines = r.lines.items; last = r.last } };
+
+    ghost invariant = { λ r. IsRecording (record { atr = r.atr; ifsc = r.params.ifsc; lines = r.lines.items; last = r.last }) r.terminal r.card };
+}
+
+impl Recorder {
+    /// Both ends of a card with this answer to reset, new, with nothing under way and no line written.
+    ///
+    /// Refused where the octets aren't one whole answer that gives parameters of T=1.
+    pub fn new(alloc: Global, atr: &[u8]) -> Result<Recorder, RecorderFault>
+        ensures empty { IfOk result (λ r. (r.atr ≡ atr.now) × (r.lines ≡ []) × (r.last ≡ Nothing)) }
+        ensures found { IfOk result (λ r. IsFound atr.now (Ok r.ifsc)) }
+        ensures link { IfOk result (λ r. link_of r ≡ new_link r.ifsc) }
+        ensures refused { IfErr result (λ fault. IfRefused fault
+            (λ name. IsFound atr.now (Err name))) }
+    {
+        let params = match params_of(atr) {
+            Ok(params) => params,
+            Err(name) => return Err(RecorderFault::Refused(name)),
+        };
+        Ok(Recorder {
+            alloc,
+            params,
+            atr: copied(alloc, atr)?,
+            terminal: Terminal::new(alloc, params)?,
+            card: Card::new(alloc, params)?,
+            last: LastTurn::Nothing,
+            lines: Vec::new(alloc),
+        })
+    }
+
+    /// The terminal as it is now.
+    pub fn terminal(&self) -> &Terminal
+        ensures { result.now ≡ (link_of self.now).terminal }
+    {
+        &self.terminal
+    }
+
+    /// The card as it is now.
+    pub fn card(&self) -> &Card
+        ensures { result.now ≡ (link_of self.now).card }
+    {
+        &self.card
+    }
+
+    /// What the last event that wasn't refused came to.
+    pub fn last(&self) -> &LastTurn
+        ensures { result.now ≡ self.now.last }
+    {
+        &self.last
+    }
+
+    /// The block under way, `None` where there is none.
+    pub fn under_way(&self) -> Option<&Block>
+        ensures link { IsLent result (link_of self.now).under_way }
+        ensures last { IsLent result (under_way_of self.now.last) }
+    {
+        match &self.last {
+            LastTurn::Terminal(TerminalTurn::Send(block)) => Some(block),
+            LastTurn::Card(CardTurn::Send(block)) => Some(block),
+            _ => None,
+        }
+    }
+
+    /// An event happens, as on the link, and is written down.
+    ///
+    /// An event of the line is refused where no block is under way, a call as the end refuses it. Then, and
+    /// where memory runs out, nothing has changed and nothing is written.
+    pub fn happens(&mut self, event: Event<'_>) -> Result<(), EventFault>
+        ensures happened { OnOk result (HasHappened self.old self.new (event_of event.entry)) }
+        ensures refused { IfErr result (λ fault. IfNotMemory fault
+            (IsRefused self.old (event_of event.entry) fault)) }
+        ensures kept { OnErr result (self.new ≡ self.old) }
+    {
+        match event {
+            Event::Deliver => self.carries(Change::Kept),
+            Event::Damage => self.carries(Change::Damaged),
+            Event::Spoil => self.carries(Change::Spoilt),
+            Event::Lose => self.loses(),
+            Event::Transmit(command) => {
+                let octets = copied(self.alloc, command)?;
+                self.calls_terminal(Line::Command(octets))
+            }
+            Event::AskIfsd(size) => self.calls_terminal(Line::Ifsd(size)),
+            Event::Reply(reply) => {
+                let octets = copied(self.alloc, reply)?;
+                self.calls_card(Line::Reply(octets))
+            }
+            Event::MoreTime(multiple) => self.calls_card(Line::Time(multiple)),
+            Event::AskIfsc(size) => self.calls_card(Line::Ifsc(size)),
+        }
+    }
+
+    /// The record, in version 1. A block that is still under way is written as lost.
+    ///
+    /// It replays at both ends. Out of memory for its last line the record is gone.
+    pub fn exchange(self) -> Result<Exchange, AllocError>
+        ensures is { IfOk result (λ e.
+            e ≡ record { version = One; atr = self.atr; lines = closed self }) }
+        ensures terminal { IfOk result (λ e. Replays e.atr e.lines side.Terminal None) }
+        ensures card { IfOk result (λ e. Replays e.atr e.lines side.Card None) }
+    {
+        let told = told(self.alloc, &self.terminal, &self.card, &self.last)?;
+        let lines = Lines::of(with_line(self.lines, told)?);
+        Ok(Exchange::proper(Version::One, self.atr, lines))
+    }
+
+    /// The block under way is lost, and the terminal's waiting time ends.
+    fn loses(&mut self) -> Result<(), EventFault>
+        ensures happened { OnOk result (HasHappened self.old self.new (event_of Lose)) }
+        ensures refused { IfErr result (λ fault. IfNotMemory fault
+            (IsRefused self.old (event_of Lose) fault)) }
+        ensures kept { OnErr result (self.new ≡ self.old) }
+    {
+        if self.under_way().is_none() {
+            return Err(EventFault::NothingUnderWay);
+        }
+        self.calls_terminal(Line::Quiet)
+    }
+
+    /// The terminal is called with a line; a block that is under way counts as lost.
+    fn calls_terminal(&mut self, line: Line) -> Result<(), EventFault>
+        requires { MayCall self.old.last line }
+        ensures happened { OnOk result (HasHappened self.old self.new (call_event line)) }
+        ensures refused { IfErr result (λ fault. IfNotMemory fault
+            (IsRefused self.old (call_event line) fault)) }
+        ensures kept { OnErr result (self.new ≡ self.old) }
+    {
+        let told = told(self.alloc, &self.terminal, &self.card, &self.last)?;
+        let turn = terminal_takes(&mut self.terminal, &mut self.lines, told, line)?;
+        self.last = LastTurn::Terminal(turn);
+        Ok(())
+    }
+
+    /// The card's host calls it with a line.
+    fn calls_card(&mut self, line: Line) -> Result<(), EventFault>
+        requires { MayReply line }
+        ensures happened { OnOk result (HasHappened self.old self.new (call_event line)) }
+        ensures refused { IfErr result (λ fault. IfNotMemory fault
+            (IsRefused self.old (call_event line) fault)) }
+        ensures kept { OnErr result (self.new ≡ self.old) }
+    {
+        let told = told(self.alloc, &self.terminal, &self.card, &self.last)?;
+        let turn = card_takes(&mut self.card, &mut self.lines, told, line)?;
+        self.last = LastTurn::Card(turn);
+        Ok(())
+    }
+
+    /// The block under way comes to its receiver with this change.
+    fn carries(&mut self, change: Change) -> Result<(), EventFault>
+        ensures happened { OnOk result (HasHappened self.old self.new (change_event change)) }
+        ensures refused { IfErr result (λ fault. IfNotMemory fault
+            (IsRefused self.old (change_event change) fault)) }
+        ensures kept { OnErr result (self.new ≡ self.old) }
+    {
+        taken();
+        match &self.last {
+            LastTurn::Terminal(TerminalTurn::Send(block)) => {
+                let sent = spelled(self.alloc, block)?;
+                let arrival = change.arrival(self.alloc, block)?;
+                let line = Line::FromTerminal { sent, arrival };
+                let turn = card_takes(&mut self.card, &mut self.lines, None, line)?;
+                self.last = LastTurn::Card(turn);
+                Ok(())
+            }
+            LastTurn::Card(CardTurn::Send(block)) => {
+                let sent = spelled(self.alloc, block)?;
+                let arrival = change.arrival(self.alloc, block)?;
+                let line = Line::FromCard { sent, arrival };
+                let turn = terminal_takes(&mut self.terminal, &mut self.lines, None, line)?;
+                self.last = LastTurn::Terminal(turn);
+                Ok(())
+            }
+            _ => Err(EventFault::NothingUnderWay),
+        }
+    }
+}
+
+/// The line that tells the last turn, where there was one; a block that it sends is lost.
+fn told(
+    alloc: Global,
+    terminal: &Terminal,
+    card: &Card,
+    last: &LastTurn,
+) -> Result<Option<Line>, AllocError>
+    ensures { IfOk result (λ told. as_list told ≡ telling terminal.now card.now last.now) }
+{
+    match last {
+        LastTurn::Nothing => Ok(None),
+        LastTurn::Terminal(turn) => Ok(Some(terminal.given(turn).lost(alloc)?)),
+        LastTurn::Card(turn) => Ok(Some(card.given(turn).lost(alloc)?)),
+    }
+}
+
+/// The lines, and one more after them, where there is one.
+fn with_line(mut lines: Vec<Line>, told: Option<Line>) -> Result<Vec<Line>, AllocError>
+    ensures { IfOk result (λ longer. longer.items ≡ lines.items ++ as_list told) }
+{
+    if let Some(told) = told {
+        lines.push(told)?;
+    }
+    Ok(lines)
+}
+
+/// Whatever happens, each answer that the terminal gave is the reply of the card's host to that command, in
+/// order, and no command was given to the host twice.
+pub fn answers_are_replies()
+    ensures { (r : Recording) → Matches (link_of r).exchanges (link_of r).services }
+{
+    matched();
+}

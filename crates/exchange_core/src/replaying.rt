@@ -1,0 +1,183 @@
+//! The replay of one end over a file.
+
+ghost use Rattle.std.specs.Prelude.{◌≡◌, Some, None, Ok, Err, IfOk, IfErr, OnOk, string_bytes};
+ghost use Rattle.exchange_core.specs.declared.replaying.ReplayFault.TheVariants.{Differs, Memory};
+ghost use Rattle.exchange_core.specs.Replay.{Replays, IfDiffers, IsFound, replay_from, replay_line, replay_lines, refused, param_refusal};
+ghost use Rattle.exchange_core.specs.Run.{IsRun};
+
+use crate::end::Replayed;
+use crate::exchange::Exchange;
+use crate::laws::agreeing_is_a_run;
+use crate::line::Line;
+use crate::way::Way;
+use atr_core::laws::one_accepted;
+use atr_core::{ParamFault, T1Params, decode, t1_params};
+use octet_core::Text;
+use std::alloc::{AllocError, Global};
+use t1_core::{Card, Terminal};
+
+/// The line of the answer to reset; line 1 is the header.
+const ATR_LINE: usize = 2;
+
+/// The first line after that of the answer to reset.
+const FIRST_LINE: usize = 3;
+
+/// The end that is replayed.
+#[derive(Clone, Copy, Debug, PartialEq, Eq)]
+pub enum Side {
+    /// The terminal, called with what the application asks, what the card sends, and quiet.
+    Terminal,
+    /// The card, called with what its host says and what the terminal sends.
+    Card,
+}
+
+/// Why a replay failed.
+#[derive(Debug, PartialEq, Eq, Drop)]
+pub enum ReplayFault {
+    /// At this line of the text, counted from 1, the end gives something else: its turn as a line, `refused`
+    /// and a name, or `nothing`.
+    Differs { line: usize, gives: Text },
+    /// Out of memory.
+    Memory,
+}
+
+impl From<AllocError> for ReplayFault {
+    ghost from_gives = { λ _ fault. fault ≡ Memory };
+
+    fn from(_error: AllocError) -> ReplayFault {
+        ReplayFault::Memory
+    }
+}
+
+/// Replays one end of an exchange: a new end, with the parameters of the answer to reset, is called with
+/// each line that goes into it, and each line that it is said to give must be its last turn.
+///
+/// `Differs` at the first line where the end gives something else, or at the line after the last where no
+/// line has met its last turn; at line 2 where the octets aren't one whole answer to reset or it gives no
+/// parameters of T=1. A turn is met once, and before the next call; what became of a block that the end
+/// sends isn't compared. `Memory` where memory runs out.
+pub fn replay(alloc: Global, exchange: &Exchange, side: Side) -> Result<(), ReplayFault>
+    ensures agrees { OnOk result (Replays exchange.now.atr exchange.now.lines side None) }
+    ensures run { OnOk result (IsRun exchange.now.atr exchange.now.lines side) }
+
+    ensures differs { IfErr result (λ fault. IfDiffers fault
+        (λ line gives. Replays exchange.now.atr exchange.now.lines side (Some (line, gives)))) }
+{
+    agreeing_is_a_run();
+    let params = match params_of(exchange.atr()) {
+        Ok(params) => params,
+        Err(name) => return differs(ATR_LINE, refused(alloc, name)?),
+    };
+    replay_from(alloc, params, exchange.lines().get(), side)
+}
+
+/// The parameters of T=1 of octets that are one whole answer to reset, or the name of what is wrong.
+pub(crate) fn params_of(octets: &[u8]) -> Result<T1Params, &'static str>
+    ensures found { IfOk result (λ params. IsFound octets.now (Ok params.ifsc)) }
+    ensures refused { IfErr result (λ name. IsFound octets.now (Err name.now)) }
+{
+    one_accepted();
+    match decode(octets) {
+        Ok((atr, taken)) if taken == octets.len() => t1_params(&atr).map_err(param_refusal),
+        _ => Err("BadAtr"),
+    }
+}
+
+/// The name of what is wrong with the parameters of T=1.
+fn param_refusal(fault: ParamFault) -> &'static str
+    ensures { result.now ≡ param_refusal fault }
+{
+    match fault {
+        ParamFault::NoT1 => "NoT1",
+        ParamFault::ReservedIfsc => "ReservedIfsc",
+        ParamFault::Crc => "Crc",
+    }
+}
+
+/// Replays a new end with these parameters over the lines.
+fn replay_from(
+    alloc: Global,
+    params: T1Params,
+    lines: &[Line],
+    side: Side,
+) -> Result<(), ReplayFault>
+    ensures agrees { OnOk result (replay_from (Ok params.ifsc) lines.now side ≡ None) }
+    ensures differs { IfErr result (λ fault. IfDiffers fault
+        (λ line gives. replay_from (Ok params.ifsc) lines.now side ≡ Some (line, gives))) }
+{
+    match side {
+        Side::Terminal => replay_lines(alloc, Terminal::new(alloc, params)?, lines),
+        Side::Card => replay_lines(alloc, Card::new(alloc, params)?, lines),
+    }
+}
+
+/// Replays an end over the lines.
+fn replay_lines<E: Replayed + Drop>(
+    alloc: Global,
+    mut end: E,
+    lines: &[Line],
+) -> Result<(), ReplayFault>
+    ensures agrees { OnOk result (replay_lines E.end lines.now 3 end None ≡ None) }
+    ensures differs { IfErr result (λ fault. IfDiffers fault
+        (λ line gives. replay_lines E.end lines.now 3 end None ≡ Some (line, gives))) }
+{
+    let mut number = FIRST_LINE;
+    let mut pending = None;
+    for line in lines {
+        pending = replay_line(alloc, &mut end, pending, line, number)?;
+        number += 1;
+    }
+    match pending {
+        None => Ok(()),
+        Some(turn) => differs(number, end.given(&turn).text(alloc)?),
+    }
+}
+
+/// Replays a line: the turn that no line has met after it.
+fn replay_line<E: Replayed>(
+    alloc: Global,
+    end: &mut E,
+    pending: Option<E::Turn>,
+    line: &Line,
+    number: usize,
+) -> Result<Option<E::Turn>, ReplayFault>
+    ensures goes_on { IfOk result (λ after.
+        replay_line E.end end.old pending line.now ≡ Ok (end.new, after)) }
+    ensures differs { IfErr result (λ fault. IfDiffers fault (λ at gives.
+        (at ≡ number) × (replay_line E.end end.old pending line.now ≡ Err gives))) }
+{
+    match (end.way(line), pending) {
+        (Way::Past, pending) => Ok(pending),
+        (Way::In, None) => match end.call(line) {
+            Ok(turn) => Ok(Some(turn)),
+            Err(fault) => differs(number, refused(alloc, E::refusal(fault))?),
+        },
+        (Way::Out, None) => differs(number, String::from_str(alloc, "nothing")?),
+        (Way::In, Some(turn)) => differs(number, end.given(&turn).text(alloc)?),
+        (Way::Out, Some(turn)) => {
+            let given = end.given(&turn);
+            if given.is_met_by(line) {
+                Ok(None)
+            } else {
+                differs(number, given.text(alloc)?)
+            }
+        }
+    }
+}
+
+/// What a refused call gives.
+fn refused(alloc: Global, name: &str) -> Result<String, AllocError>
+    ensures { IfOk result (λ text. string_bytes text ≡ refused name.now) }
+{
+    format!(in alloc; "refused {name}")
+}
+
+/// The file differs at a line, where the end gives this text.
+fn differs<T>(line: usize, gives: String) -> Result<T, ReplayFault>
+    ensures { result ≡ Err (Differs line (string_bytes gives)) }
+{
+    Err(ReplayFault::Differs {
+        line,
+        gives: Text::of(gives),
+    })
+}
