@@ -1,5 +1,10 @@
 pub mod Telling
+pub mod OneOf
+pub mod Exchanges
 pub mod OneAnswer
+pub mod OneText
 pub mod Chains
 pub mod Forests
 pub mod Duplicates
+pub mod Inputs
+pub mod Answering

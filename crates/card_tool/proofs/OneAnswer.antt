@@ -7,7 +7,10 @@ use Rattle.atr_core.specs.Atr.{IsAtr}
 use Rattle.atr_core.proofs.Goes as atr_goes
 use Rattle.block_core.specs.Block.{IsBlock, IsReason}
 use Rattle.block_core.proofs.Goes.{one-verdict}
-use Rattle.card_tool.specs.Answers.{Checks, HasOctets, IsAnswerTo, IsFilled, IsFilledBy, Shows, Tells, accepted, refused, unknown, duplicate, full, listed, no_list}
+use Rattle.card_tool.specs.ExchangeTexts.{Migrates, Replays}
+use Rattle.card_tool.proofs.OneOf.{OneText, ended-by, plain}
+use Rattle.card_tool.proofs.Exchanges.{migrated-once, replayed-once}
+use Rattle.card_tool.specs.Answers.{Checks, IsAnswerTo, IsFilled, IsToldOf, IsFilledBy, Shows, Tells, accepted, refused, unknown, duplicate, full, listed, no_list}
 use Rattle.card_tool.specs.Texts.{accepted_text, duplicate_text, refused_text}
 use Rattle.card_words.specs.Texts.{fault_text}
 use Rattle.card_words.specs.declared.fault.Fault.{Fault}
@@ -41,19 +44,14 @@ use Rattle.card_tool.specs.ForestTexts as forest_texts
 use Rattle.card_tool.specs.ForestTexts.{forest_text, tidied_text}
 use Rattle.card_tool.specs.ListTexts as list_texts
 use Rattle.card_tool.specs.ListTexts.{dol_text, filled_text}
-use Rattle.card_words.specs.Words.{IsSized}
+use Rattle.card_words.specs.Words.{HasOctets, IsSized}
 use Rattle.card_words.specs.declared.request.Kind.{Kind}
 use Rattle.card_words.specs.declared.request.Kind.TheVariants.{Atr, Block, Chain, Command, Response, Tlv, Dol}
 use Rattle.card_words.specs.declared.request.Input.{Input}
 use Rattle.card_words.specs.declared.request.Request.{Request}
-use Rattle.card_words.specs.declared.request.Request.TheVariants.{BuildChain, BuildTidy, BuildFill, Check, Show, Help}
+use Rattle.card_words.specs.declared.request.Request.TheVariants.{BuildChain, BuildTidy, BuildFill, Check, Show, Replay, Migrate, Help}
 use Rattle.card_tool.specs.declared.status.Status.{Status}
 use Rattle.card_tool.specs.declared.status.Status.TheVariants as status
-
--- there is one text with one status of which P holds
-pub record OneText (P : List ℕ → Status → Type 0) : Type 0 where
-  pub one : (t u : List ℕ) (s q : Status) → P t s → P u q → (t ≡ u) × (s ≡ q)
-  pub some : (t : List ℕ) × (s : Status) × P t s
 
 module _ {V R : Type 0} (e : Ending) (S : V → List ℕ → Type 0) (Reason : R → List ℕ → Type 0) (name : R → List ℕ) (told : V → ℕ → List ℕ) (b : List ℕ) (verdict : OneVerdict e S Reason b) where
   one-told : (t u : List ℕ) (s q : Status) → Tells e S Reason name told b t s → Tells e S Reason name told b u q → (t ≡ u) × (s ≡ q)
@@ -149,13 +147,17 @@ module _ (b : List ℕ) (known : Result (List Known) Fault) (octets : AreOctets 
 
 -- ---- requests
 
-plain : (text : List ℕ) → OneText (λ t s. (t ≡ text) × (s ≡ status.Accepted))
-plain text = record { one = λ t u s q h g. (h.0 ∙ sym g.0, h.1 ∙ sym g.1); some = (text, status.Accepted, (refl, refl)) }
+-- what a file comes to, where each file comes to one text
+told-of : (Told : List ℕ → List ℕ → Status → Type 0) → ((octets : List ℕ) → OneText (Told octets)) → (file : Result (List ℕ) Fault) → OneText (IsToldOf Told file)
+told-of Told once (Ok octets) = once octets
+told-of Told once (Err fault) = ended-by (fault_text fault) status.Fault
 
-pub one-answer : (request : Request) → IsSized request → HasOctets request → OneText (IsAnswerTo request)
-one-answer (Check input) sized octets = checked input.kind input sized.1 octets
-one-answer (Show input) sized octets = shown input.kind input sized.1 octets
-one-answer (BuildChain ifs number message) sized octets = plain (blocks_text (links number (cut_of ifs message)))
-one-answer (BuildTidy b) sized octets = told-once whole (IsForest largest) (forest.IsReason largest) forest_texts.reason_text (λ v n. tidied_text v) b (forest_verdict largest b octets)
-one-answer (BuildFill list known) sized octets = filled-once list known octets
-one-answer (Help help) sized octets = plain help
+pub one-answer : (request : Request) (file : Result (List ℕ) Fault) → IsSized request → HasOctets request → OneText (IsAnswerTo request file)
+one-answer (Check input) file sized octets = checked input.kind input sized.1 octets
+one-answer (Show input) file sized octets = shown input.kind input sized.1 octets
+one-answer (BuildChain ifs number message) file sized octets = plain (blocks_text (links number (cut_of ifs message)))
+one-answer (BuildTidy b) file sized octets = told-once whole (IsForest largest) (forest.IsReason largest) forest_texts.reason_text (λ v n. tidied_text v) b (forest_verdict largest b octets)
+one-answer (BuildFill list known) file sized octets = filled-once list known octets
+one-answer (Replay side) file sized octets = told-of (Replays side) (replayed-once side) file
+one-answer Migrate file sized octets = told-of Migrates migrated-once file
+one-answer (Help help) file sized octets = plain help

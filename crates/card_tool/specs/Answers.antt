@@ -1,9 +1,8 @@
 -- What the program answers: one text and one status.
-use Rattle.std.specs.Prelude.{◌≡◌, ◌<◌, ℕ, ◌⊎◌, List, Option, length, take, Result, Ok, Err, MatchResult, string_bytes}
+use Rattle.std.specs.Prelude.{◌≡◌, ◌<◌, ℕ, ◌⊎◌, List, Option, length, take, Result, Ok, Err, MatchResult}
 use Rattle.std.specs.Io.KnownBytes.{Appends}
 use Rattle.octet_core.specs.declared.stop.Stop.{Stop}
 use Rattle.octet_core.specs.Failures.{HasFailed}
-use Rattle.octet_core.specs.Octets.{AreOctets}
 use Rattle.octet_core.specs.Grammar.{Ending, self_ended, whole, Accepts, Refuses}
 use Rattle.atr_core.specs.Atr as atr
 use Rattle.atr_core.specs.Atr.{IsAtr}
@@ -36,7 +35,9 @@ use Rattle.tlv_core.specs.declared.known.Known.{Known}
 use Rattle.tlv_core.specs.declared.reason.DolReason.{DolReason}
 use Rattle.card_tool.specs.ListTexts as list_texts
 use Rattle.card_tool.specs.ListTexts.{dol_text, filled_text}
-use Rattle.card_words.specs.Words.{IsRead}
+use Rattle.card_tool.specs.ExchangeTexts.{Migrates, Replays}
+use Rattle.card_tool.specs.Files.{ReadsWhole}
+use Rattle.card_words.specs.Words.{AskForFile, IsRead, NeedsFile}
 use Rattle.card_tool.specs.declared.status.Status.{Status}
 use Rattle.card_tool.specs.declared.status.Status.TheVariants as status
 use Rattle.card_words.specs.declared.fault.Fault.{Fault}
@@ -46,7 +47,7 @@ use Rattle.card_words.specs.declared.request.Kind.{Kind}
 use Rattle.card_words.specs.declared.request.Kind.TheVariants.{Atr, Block, Chain, Command, Response, Tlv, Dol}
 use Rattle.card_words.specs.declared.request.Input.{Input}
 use Rattle.card_words.specs.declared.request.Request.{Request}
-use Rattle.card_words.specs.declared.request.Request.TheVariants.{BuildChain, BuildTidy, BuildFill, Check, Show, Help}
+use Rattle.card_words.specs.declared.request.Request.TheVariants.{BuildChain, BuildTidy, BuildFill, Check, Show, Replay, Migrate, Help}
 
 -- the text and the status that the verdict on octets has, where a value is told so
 pub data Tells {V R : Type 0} (e : Ending) (S : V → List ℕ → Type 0) (Reason : R → List ℕ → Type 0) (name : R → List ℕ) (told : V → ℕ → List ℕ) (b text : List ℕ) (ended : Status) : Type 0 where
@@ -84,49 +85,76 @@ pub data IsFilled (b : List ℕ) (known : Result (List Known) Fault) (text : Lis
   listed : (entries : List (List ℕ × ℕ)) → IsDol entries b → IsFilledBy known entries text ended → IsFilled b known text ended
   no_list : (stop : Stop DolReason) → Refuses whole IsDol IsDolReason b stop → text ≡ refused_text list_texts.reason_text stop → ended ≡ status.Refused → IsFilled b known text ended
 
--- the text and the status that a request has
-abbrev pub IsAnswerTo : Request → List ℕ → Status → Type 0
-IsAnswerTo (Check input) text ended = Checks input.kind input text ended
-IsAnswerTo (Show input) text ended = Shows input.kind input text ended
-IsAnswerTo (BuildChain ifs number message) text ended = (text ≡ blocks_text (links number (cut_of ifs message))) × (ended ≡ status.Accepted)
-IsAnswerTo (BuildTidy octets) text ended = Tells whole (IsForest largest) (forest.IsReason largest) forest_texts.reason_text (λ v n. tidied_text v) octets text ended
-IsAnswerTo (BuildFill list known) text ended = IsFilled list known text ended
-IsAnswerTo (Help help) text ended = (text ≡ help) × (ended ≡ status.Accepted)
+-- what a file comes to, or the fault for which none was read
+abbrev pub IsToldOf : (List ℕ → List ℕ → Status → Type 0) → Result (List ℕ) Fault → List ℕ → Status → Type 0
+IsToldOf Told file text ended = MatchResult file (λ octets. Told octets text ended) (λ fault. (text ≡ fault_text fault) × (ended ≡ status.Fault))
 
--- what a request takes for octets are octets
-abbrev pub HasOctets : Request → Type 0
-HasOctets (Check input) = AreOctets input.octets
-HasOctets (Show input) = AreOctets input.octets
-HasOctets (BuildChain ifs number message) = AreOctets message
-HasOctets (BuildTidy octets) = AreOctets octets
-HasOctets (BuildFill list known) = AreOctets list
-HasOctets (Help help) = Unit {0}
+-- the text and the status that a request has, with what reading a file gave
+abbrev pub IsAnswerTo : Request → Result (List ℕ) Fault → List ℕ → Status → Type 0
+IsAnswerTo (Check input) file text ended = Checks input.kind input text ended
+IsAnswerTo (Show input) file text ended = Shows input.kind input text ended
+IsAnswerTo (BuildChain ifs number message) file text ended = (text ≡ blocks_text (links number (cut_of ifs message))) × (ended ≡ status.Accepted)
+IsAnswerTo (BuildTidy octets) file text ended = Tells whole (IsForest largest) (forest.IsReason largest) forest_texts.reason_text (λ v n. tidied_text v) octets text ended
+IsAnswerTo (BuildFill list known) file text ended = IsFilled list known text ended
+IsAnswerTo (Replay side) file text ended = IsToldOf (Replays side) file text ended
+IsAnswerTo Migrate file text ended = IsToldOf Migrates file text ended
+IsAnswerTo (Help help) file text ended = (text ≡ help) × (ended ≡ status.Accepted)
 
 -- the text and the status that the words have: those of the request, or the fault's
-pub record IsAnswer (words : List (List ℕ)) (text : List ℕ) (ended : Status) : Type 0 where
+pub record IsAnswer (words : List (List ℕ)) (file : Result (List ℕ) Fault) (text : List ℕ) (ended : Status) : Type 0 where
   pub read : Result Request Fault
   pub is_read : IsRead words read
-  pub is_answer : MatchResult read (λ request. IsAnswerTo request text ended) (λ fault. (text ≡ fault_text fault) × (ended ≡ status.Fault))
+  pub is_answer : MatchResult read (λ request. IsAnswerTo request file text ended) (λ fault. (text ≡ fault_text fault) × (ended ≡ status.Fault))
+
+-- ---- where a reader has the file
+--
+-- held and left are the octets that the reader held before and after, where they are known; before and
+-- after are the counts of its calls that failed.
+
+-- the line on memory with a fault, and no call of the reader failed
+abbrev pub IsWanting : ℕ → ℕ → List ℕ → Status → Type 0
+IsWanting before after text ended = (text ≡ fault_text Memory) × (ended ≡ status.Fault) × (after ≡ before)
+
+-- the text and the status that the words have, with the file that was read where they ask for one
+pub record IsAnswerFrom (words : List (List ℕ)) (held left : Option (List ℕ)) (before after : ℕ) (text : List ℕ) (ended : Status) : Type 0 where
+  pub file : Result (List ℕ) Fault
+  pub is_file : AskForFile words → ReadsWhole held left before after file
+  pub is_answer : IsAnswer words file text ended
+
+-- that, or memory was wanting
+abbrev pub IsRight : List (List ℕ) → Option (List ℕ) → Option (List ℕ) → ℕ → ℕ → List ℕ → Status → Type 0
+IsRight words held left before after text ended = IsAnswerFrom words held left before after text ended ⊎ IsWanting before after text ended
+
+-- the same for a request
+pub record IsAnswerToFrom (request : Request) (held left : Option (List ℕ)) (before after : ℕ) (text : List ℕ) (ended : Status) : Type 0 where
+  pub file : Result (List ℕ) Fault
+  pub is_file : NeedsFile request → ReadsWhole held left before after file
+  pub is_answer : IsAnswerTo request file text ended
+
+abbrev pub IsRightTo : Request → Option (List ℕ) → Option (List ℕ) → ℕ → ℕ → List ℕ → Status → Type 0
+IsRightTo request held left before after text ended = IsAnswerToFrom request held left before after text ended ⊎ IsWanting before after text ended
 
 -- how a text came to a writer, and how the program ended
 pub data IsWritten (text : List ℕ) (right : Status) (old new : Option (List ℕ)) (before after : ℕ) (ended : Status) : Type 0 where
-  -- it is written whole, and the program ends as is right
-  all : Appends old new text → ended ≡ right → IsWritten text right old new before after ended
+  -- it is written whole with no failure, and the program ends as is right
+  all : Appends old new text → after ≡ before → ended ≡ right → IsWritten text right old new before after ended
   -- the writer failed, and a part of it is written
   cut : (count : ℕ) → count < length text → Appends old new (take count text) → HasFailed before after → ended ≡ status.Fault → IsWritten text right old new before after ended
-
--- a right text with its status, or the line on memory with a fault
-abbrev pub RightUnlessMemory : (List ℕ → Status → Type 0) → List ℕ → Status → Type 0
-RightUnlessMemory Right text ended = Right text ended ⊎ ((text ≡ fault_text Memory) × (ended ≡ status.Fault))
 
 -- one text that is right is written
 pub record Writes (Right : List ℕ → Status → Type 0) (old new : Option (List ℕ)) (before after : ℕ) (ended : Status) : Type 0 where
   pub text : List ℕ
   pub right : Status
-  pub is_right : RightUnlessMemory Right text right
+  pub is_right : Right text right
   pub is_written : IsWritten text right old new before after ended
 
--- what makes the answer to words: the answer itself, or a fault
-abbrev pub Answers : List (List ℕ) → Result Answer Fault → Type 0
-Answers words (Ok answer) = IsAnswer words (string_bytes answer.text) answer.status
-Answers words (Err fault) = RightUnlessMemory (IsAnswer words) (fault_text fault) status.Fault
+-- what makes an answer: the answer itself, or a fault
+abbrev pub Gives : (List ℕ → Status → Type 0) → Result Answer Fault → Type 0
+Gives Right (Ok answer) = Right answer.text answer.status
+Gives Right (Err fault) = Right (fault_text fault) status.Fault
+
+abbrev pub Answers : List (List ℕ) → Option (List ℕ) → Option (List ℕ) → ℕ → ℕ → Result Answer Fault → Type 0
+Answers words held left before after = Gives (IsRight words held left before after)
+
+abbrev pub AnswersTo : Request → Option (List ℕ) → Option (List ℕ) → ℕ → ℕ → Result Answer Fault → Type 0
+AnswersTo request held left before after = Gives (IsRightTo request held left before after)

@@ -1,3 +1,6 @@
+pub mod Statuses
+pub mod Files
+pub mod ExchangeTexts
 pub mod Texts
 pub mod AtrTexts
 pub mod ChainTexts

@@ -8,56 +8,59 @@ ghost use Rattle.card_tool.specs.declared.status.Status.TheVariants as ended;
 use crate::reason::Named;
 use crate::status::Status;
 use card_words::Fault;
-use octet_core::Stop;
+use octet_core::{Octets, Stop};
 use std::alloc::{AllocError, Global};
 
 /// A text to be written, and how the program then ends.
 #[derive(Debug, Drop)]
 pub struct Answer {
-    pub text: String,
+    /// The text's octets in UTF-8.
+    pub text: Octets,
     pub status: Status,
 }
 
 impl Answer {
+    /// This text, and how the program then ends.
+    pub(crate) fn of(text: String, status: Status) -> Answer
+        ensures text { result.text ≡ string_bytes text }
+        ensures status { result.status ≡ status }
+    {
+        Answer {
+            text: Octets::of(text.into_bytes()),
+            status,
+        }
+    }
+
     /// The octets are a value, which takes `taken` of them.
     pub(crate) fn accepted(alloc: Global, taken: usize) -> Result<Answer, AllocError>
-        ensures text { IfOk result (λ answer. string_bytes answer.text ≡ accepted_text taken) }
+        ensures text { IfOk result (λ answer. answer.text ≡ accepted_text taken) }
         ensures status { IfOk result (λ answer. answer.status ≡ ended.Accepted) }
     {
         let text = format!(in alloc; "ok {taken} octets\n")?;
-        Ok(Answer {
-            text,
-            status: Status::Accepted,
-        })
+        Ok(Answer::of(text, Status::Accepted))
     }
 
     /// The octets ended at `place`.
     fn short(alloc: Global, place: usize) -> Result<Answer, AllocError>
-        ensures text { IfOk result (λ answer. string_bytes answer.text ≡ short_text place) }
+        ensures text { IfOk result (λ answer. answer.text ≡ short_text place) }
         ensures status { IfOk result (λ answer. answer.status ≡ ended.Refused) }
     {
         let text = format!(in alloc; "short at {place}\n")?;
-        Ok(Answer {
-            text,
-            status: Status::Refused,
-        })
+        Ok(Answer::of(text, Status::Refused))
     }
 
     /// The octet at `place` is refused.
     fn refused_at(alloc: Global, place: usize, reason: &str) -> Result<Answer, AllocError>
-        ensures text { IfOk result (λ answer. string_bytes answer.text ≡ refused_at_text place reason.now) }
+        ensures text { IfOk result (λ answer. answer.text ≡ refused_at_text place reason.now) }
         ensures status { IfOk result (λ answer. answer.status ≡ ended.Refused) }
     {
         let text = format!(in alloc; "refused at {place}: {reason}\n")?;
-        Ok(Answer {
-            text,
-            status: Status::Refused,
-        })
+        Ok(Answer::of(text, Status::Refused))
     }
 
     /// The octets are refused.
     pub(crate) fn refused<R: Named>(alloc: Global, stop: Stop<R>) -> Result<Answer, AllocError>
-        ensures text { IfOk result (λ answer. string_bytes answer.text ≡ refused_text R.text stop) }
+        ensures text { IfOk result (λ answer. answer.text ≡ refused_text R.text stop) }
         ensures status { IfOk result (λ answer. answer.status ≡ ended.Refused) }
     {
         match stop {
@@ -68,36 +71,27 @@ impl Answer {
 
     /// Two known values have one tag.
     pub(crate) fn duplicate(alloc: Global) -> Result<Answer, AllocError>
-        ensures text { IfOk result (λ answer. string_bytes answer.text ≡ duplicate_text) }
+        ensures text { IfOk result (λ answer. answer.text ≡ duplicate_text) }
         ensures status { IfOk result (λ answer. answer.status ≡ ended.Refused) }
     {
         let text = String::from_str(alloc, "refused: Duplicate\n")?;
-        Ok(Answer {
-            text,
-            status: Status::Refused,
-        })
+        Ok(Answer::of(text, Status::Refused))
     }
 
     /// The line of a fault.
     pub(crate) fn faulted(alloc: Global, fault: Fault) -> Result<Answer, AllocError>
-        ensures text { IfOk result (λ answer. string_bytes answer.text ≡ fault_text fault) }
+        ensures text { IfOk result (λ answer. answer.text ≡ fault_text fault) }
         ensures status { IfOk result (λ answer. answer.status ≡ ended.Fault) }
     {
         let text = String::from_str(alloc, fault.text())?;
-        Ok(Answer {
-            text,
-            status: Status::Fault,
-        })
+        Ok(Answer::of(text, Status::Fault))
     }
 
     /// A value, told by a text.
     pub(crate) fn told(text: String) -> Answer
-        ensures text { string_bytes result.text ≡ string_bytes text }
+        ensures text { result.text ≡ string_bytes text }
         ensures status { result.status ≡ ended.Accepted }
     {
-        Answer {
-            text,
-            status: Status::Accepted,
-        }
+        Answer::of(text, Status::Accepted)
     }
 }

@@ -20,7 +20,7 @@ use std::alloc::{AllocError, Global};
 
 /// Whether an answer to reset begins the octets, and how many it takes.
 pub(crate) fn check(alloc: Global, octets: &[u8]) -> Result<Answer, AllocError>
-    ensures { IfOk result (λ answer. Tells self_ended IsAtr IsReason reason_text (λ v n. accepted_text n) octets.now (string_bytes answer.text) answer.status) }
+    ensures { IfOk result (λ answer. Tells self_ended IsAtr IsReason reason_text (λ v n. accepted_text n) octets.now answer.text answer.status) }
 {
     match decode(octets) {
         Ok((_, taken)) => Answer::accepted(alloc, taken),
@@ -30,7 +30,7 @@ pub(crate) fn check(alloc: Global, octets: &[u8]) -> Result<Answer, AllocError>
 
 /// The answer to reset that begins the octets.
 pub(crate) fn show(alloc: Global, octets: &[u8]) -> Result<Answer, AllocError>
-    ensures { IfOk result (λ answer. Tells self_ended IsAtr IsReason reason_text (λ v n. atr_text v) octets.now (string_bytes answer.text) answer.status) }
+    ensures { IfOk result (λ answer. Tells self_ended IsAtr IsReason reason_text (λ v n. atr_text v) octets.now answer.text answer.status) }
 {
     match decode(octets) {
         Ok((atr, _)) => Ok(Answer::told(lines(alloc, &atr)?)),

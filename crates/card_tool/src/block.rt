@@ -18,7 +18,7 @@ use std::alloc::{AllocError, Global};
 pub(crate) fn check(alloc: Global, octets: &[u8], ifs: u8) -> Result<Answer, AllocError>
     requires least { 1 ≤ ifs }
     requires most { ifs ≤ 254 }
-    ensures { IfOk result (λ answer. Tells self_ended (IsBlock ifs) (IsReason ifs) reason_text (λ v n. accepted_text n) octets.now (string_bytes answer.text) answer.status) }
+    ensures { IfOk result (λ answer. Tells self_ended (IsBlock ifs) (IsReason ifs) reason_text (λ v n. accepted_text n) octets.now answer.text answer.status) }
 {
     match decode(octets, ifs) {
         Ok((_, taken)) => Answer::accepted(alloc, taken),
@@ -30,7 +30,7 @@ pub(crate) fn check(alloc: Global, octets: &[u8], ifs: u8) -> Result<Answer, All
 pub(crate) fn show(alloc: Global, octets: &[u8], ifs: u8) -> Result<Answer, AllocError>
     requires least { 1 ≤ ifs }
     requires most { ifs ≤ 254 }
-    ensures { IfOk result (λ answer. Tells self_ended (IsBlock ifs) (IsReason ifs) reason_text (λ v n. block_text v) octets.now (string_bytes answer.text) answer.status) }
+    ensures { IfOk result (λ answer. Tells self_ended (IsBlock ifs) (IsReason ifs) reason_text (λ v n. block_text v) octets.now answer.text answer.status) }
 {
     match decode(octets, ifs) {
         Ok((block, _)) => Ok(Answer::told(lines(alloc, &block)?)),

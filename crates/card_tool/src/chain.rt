@@ -30,7 +30,7 @@ pub(crate) fn check(
 ) -> Result<Answer, AllocError>
     requires least { 1 ≤ ifs }
     requires most { ifs ≤ 254 }
-    ensures { IfOk result (λ answer. Tells self_ended (IsChain ifs number longest_message) (IsReason ifs number longest_message) reason_text (λ v n. accepted_text n) octets.now (string_bytes answer.text) answer.status) }
+    ensures { IfOk result (λ answer. Tells self_ended (IsChain ifs number longest_message) (IsReason ifs number longest_message) reason_text (λ v n. accepted_text n) octets.now answer.text answer.status) }
 {
     match received(alloc, octets, ifs, number) {
         Ok((_, taken)) => Answer::accepted(alloc, taken),
@@ -48,7 +48,7 @@ pub(crate) fn show(
 ) -> Result<Answer, AllocError>
     requires least { 1 ≤ ifs }
     requires most { ifs ≤ 254 }
-    ensures { IfOk result (λ answer. Tells self_ended (IsChain ifs number longest_message) (IsReason ifs number longest_message) reason_text (λ v n. chain_text v) octets.now (string_bytes answer.text) answer.status) }
+    ensures { IfOk result (λ answer. Tells self_ended (IsChain ifs number longest_message) (IsReason ifs number longest_message) reason_text (λ v n. chain_text v) octets.now answer.text answer.status) }
 {
     match received(alloc, octets, ifs, number) {
         Ok((receiver, _)) => Ok(Answer::told(lines(alloc, &receiver)?)),

@@ -16,7 +16,7 @@ use std::alloc::{AllocError, Global};
 
 /// Whether the octets are a command.
 pub(crate) fn check(alloc: Global, octets: &[u8]) -> Result<Answer, AllocError>
-    ensures { IfOk result (λ answer. Tells whole IsCommand IsReason reason_text (λ v n. accepted_text n) octets.now (string_bytes answer.text) answer.status) }
+    ensures { IfOk result (λ answer. Tells whole IsCommand IsReason reason_text (λ v n. accepted_text n) octets.now answer.text answer.status) }
 {
     match CommandRef::decode(octets) {
         Ok(_) => Answer::accepted(alloc, octets.len()),
@@ -26,7 +26,7 @@ pub(crate) fn check(alloc: Global, octets: &[u8]) -> Result<Answer, AllocError>
 
 /// The command that the octets are.
 pub(crate) fn show(alloc: Global, octets: &[u8]) -> Result<Answer, AllocError>
-    ensures { IfOk result (λ answer. Tells whole IsCommand IsReason reason_text (λ v n. command_text v) octets.now (string_bytes answer.text) answer.status) }
+    ensures { IfOk result (λ answer. Tells whole IsCommand IsReason reason_text (λ v n. command_text v) octets.now answer.text answer.status) }
 {
     match CommandRef::decode(octets) {
         Ok(command) => Ok(Answer::told(lines(alloc, &command)?)),

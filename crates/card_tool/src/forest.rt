@@ -19,7 +19,7 @@ use tlv_core::{FlatForest, Forest, ForestCheck, LARGEST_FOREST, Part, TlvReason,
 
 /// Whether the octets are a forest.
 pub(crate) fn check(alloc: Global, octets: &[u8]) -> Result<Answer, AllocError>
-    ensures { IfOk result (λ answer. Tells whole (IsForest largest) (IsReason largest) reason_text (λ v n. accepted_text n) octets.now (string_bytes answer.text) answer.status) }
+    ensures { IfOk result (λ answer. Tells whole (IsForest largest) (IsReason largest) reason_text (λ v n. accepted_text n) octets.now answer.text answer.status) }
 {
     match verdict(octets) {
         Ok(()) => Answer::accepted(alloc, octets.len()),
@@ -29,7 +29,7 @@ pub(crate) fn check(alloc: Global, octets: &[u8]) -> Result<Answer, AllocError>
 
 /// The objects of the forest that the octets spell, each before those inside it.
 pub(crate) fn show(alloc: Global, octets: &[u8]) -> Result<Answer, AllocError>
-    ensures { IfOk result (λ answer. Tells whole (IsForest largest) (IsReason largest) reason_text (λ v n. forest_text v) octets.now (string_bytes answer.text) answer.status) }
+    ensures { IfOk result (λ answer. Tells whole (IsForest largest) (IsReason largest) reason_text (λ v n. forest_text v) octets.now answer.text answer.status) }
 {
     match FlatForest::read(alloc, octets, LARGEST_FOREST) {
         Ok(forest) => Ok(Answer::told(lines(alloc, forest.parts())?)),
@@ -40,7 +40,7 @@ pub(crate) fn show(alloc: Global, octets: &[u8]) -> Result<Answer, AllocError>
 
 /// The forest that the octets spell, in the shortest octets that say the same.
 pub(crate) fn tidy(alloc: Global, octets: &[u8]) -> Result<Answer, AllocError>
-    ensures { IfOk result (λ answer. Tells whole (IsForest largest) (IsReason largest) reason_text (λ v n. tidied_text v) octets.now (string_bytes answer.text) answer.status) }
+    ensures { IfOk result (λ answer. Tells whole (IsForest largest) (IsReason largest) reason_text (λ v n. tidied_text v) octets.now answer.text answer.status) }
 {
     match decode(alloc, octets, LARGEST_FOREST) {
         Ok(forest) => Ok(Answer::told(tidied(alloc, &forest)?)),

@@ -1,14 +1,37 @@
 //! What holds of the program's definitions alone, as contracts.
 
-ghost use Rattle.std.specs.Prelude.{◌≡◌, ℕ, List};
-ghost use Rattle.card_tool.specs.Answers.{HasOctets, IsAnswerTo};
-ghost use Rattle.card_words.specs.Words.{IsSized};
+ghost use Rattle.std.specs.Prelude.{◌≡◌, ◌<◌, ◌⊎◌, ℕ, List, Option, Some, Result, Err};
+ghost use Rattle.clap.specs.Kinds.{IsAmong};
+ghost use Rattle.clap.specs.Words.{fault_of};
+ghost use Rattle.clap.specs.declared.error.kind.ErrorKind.TheVariants.{DisplayHelp};
+ghost use Rattle.octet_core.specs.Failures.{most_failures};
+ghost use Rattle.card_tool.specs.Answers.{IsAnswer, IsAnswerTo};
+ghost use Rattle.card_tool.specs.Files.{file_of, ReadsWhole};
+ghost use Rattle.card_words.specs.Words.{scard, HasOctets, IsSized};
+ghost use Rattle.card_words.specs.declared.fault.Fault.{Fault as AnyFault};
+ghost use Rattle.card_words.specs.declared.fault.Fault.TheVariants.{Memory};
 ghost use Rattle.card_words.specs.declared.request.Request.{Request as AnyRequest};
 ghost use Rattle.card_tool.specs.declared.status.Status.{Status as AnyStatus};
 
-/// Every request has one text and one status, and no other.
+/// Every request has one text and one status, and no other, with what reading its file gave.
 pub fn one_answer()
-    ensures some { (request : AnyRequest) → IsSized request → HasOctets request → (text : List ℕ) × (ended : AnyStatus) × IsAnswerTo request text ended }
-    ensures one { (request : AnyRequest) (text other : List ℕ) (ended different : AnyStatus) → IsSized request → HasOctets request
-        → IsAnswerTo request text ended → IsAnswerTo request other different → (text ≡ other) × (ended ≡ different) }
+    ensures some { (request : AnyRequest) (file : Result (List ℕ) AnyFault) → IsSized request → HasOctets request → (text : List ℕ) × (ended : AnyStatus) × IsAnswerTo request file text ended }
+    ensures one { (request : AnyRequest) (file : Result (List ℕ) AnyFault) (text other : List ℕ) (ended different : AnyStatus) → IsSized request → HasOctets request
+        → IsAnswerTo request file text ended → IsAnswerTo request file other different → (text ≡ other) × (ended ≡ different) }
+{}
+
+/// Every list of words has a text and a status, and no other, but where `clap` answers a call for help:
+/// the text of help is open, and where its word `help` is followed by others, help and `fault: words` both
+/// are right.
+pub fn one_text()
+    ensures some { (words : List (List ℕ)) (file : Result (List ℕ) AnyFault) → (text : List ℕ) × (ended : AnyStatus) × IsAnswer words file text ended }
+    ensures one { (words : List (List ℕ)) (file : Result (List ℕ) AnyFault) (text other : List ℕ) (ended different : AnyStatus)
+        → IsAnswer words file text ended → IsAnswer words file other different → IsAmong DisplayHelp (fault_of scard words) ⊎ ((text ≡ other) × (ended ≡ different)) }
+{}
+
+/// Where the octets of a reader are known and no call of it fails, what is read as a file is those octets, or
+/// `TooLarge` where they are too many, but for memory.
+pub fn one_file()
+    ensures { (octets : List ℕ) (left : Option (List ℕ)) (before after : ℕ) (file : Result (List ℕ) AnyFault) → ReadsWhole (Some octets) left before after file
+        → after ≡ before → before < most_failures → (file ≡ Err Memory) ⊎ (file ≡ file_of octets) }
 {}

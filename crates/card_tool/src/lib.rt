@@ -1,9 +1,10 @@
-//! The program `scard` as a function of its words: all that the program does but for taking its words
-//! and streams from the system.
+//! The program `scard` as a function of its words and of a reader: all that the program does. `serve` takes
+//! the words from the system.
 //!
 //! card_words reads what a command line asks for into a `Request`. `answer` makes the text and the status
-//! that a request has, by a module for each kind of octets, and `run` writes that text. What the text is, is
-//! said by definitions: `IsAnswer` in `specs/Answers.antt`, over card_words' `IsRead`.
+//! that a request has, by a module for each kind of octets and one for files of recorded exchanges, which
+//! `read_whole` reads, and `run` writes that text. What the text is, is said by definitions: `IsAnswer` in
+//! `specs/Answers.antt`, over card_words' `IsRead`. What exchange_core gives stands at the root too.
 #![tactic(auto)]
 
 pub mod answer;
@@ -11,7 +12,10 @@ pub mod atr;
 pub mod block;
 pub mod chain;
 pub mod command;
+mod exchange;
+pub mod file;
 pub mod forest;
+pub mod host;
 pub mod laws;
 pub mod list;
 pub mod program;
@@ -23,5 +27,10 @@ mod tests;
 pub mod text;
 
 pub use card_words::Fault;
+pub use exchange_core::{
+    Arrival, Exchange, ExchangeFault, Line, Lines, ReplayFault, Side, Version, migrate,
+    read_exchange, replay, write_exchange,
+};
+pub use host::serve;
 pub use program::{report, run};
 pub use status::Status;

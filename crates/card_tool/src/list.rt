@@ -18,7 +18,7 @@ use tlv_core::{Dol, DolReason, FillFault, Tag};
 
 /// Whether the octets are a data object list.
 pub(crate) fn check(alloc: Global, octets: &[u8]) -> Result<Answer, AllocError>
-    ensures { IfOk result (λ answer. Tells whole IsDol IsDolReason reason_text (λ v n. accepted_text n) octets.now (string_bytes answer.text) answer.status) }
+    ensures { IfOk result (λ answer. Tells whole IsDol IsDolReason reason_text (λ v n. accepted_text n) octets.now answer.text answer.status) }
 {
     match Dol::decode(alloc, octets) {
         Ok(_) => Answer::accepted(alloc, octets.len()),
@@ -29,7 +29,7 @@ pub(crate) fn check(alloc: Global, octets: &[u8]) -> Result<Answer, AllocError>
 
 /// The data object list that the octets spell.
 pub(crate) fn show(alloc: Global, octets: &[u8]) -> Result<Answer, AllocError>
-    ensures { IfOk result (λ answer. Tells whole IsDol IsDolReason reason_text (λ v n. dol_text v) octets.now (string_bytes answer.text) answer.status) }
+    ensures { IfOk result (λ answer. Tells whole IsDol IsDolReason reason_text (λ v n. dol_text v) octets.now answer.text answer.status) }
 {
     match Dol::decode(alloc, octets) {
         Ok(dol) => Ok(Answer::told(lines(alloc, &dol)?)),
@@ -45,7 +45,7 @@ pub(crate) fn fill(
     octets: &[u8],
     known: &Result<Knowns, Fault>,
 ) -> Result<Answer, AllocError>
-    ensures { IfOk result (λ answer. IsFilled octets.now known.now (string_bytes answer.text) answer.status) }
+    ensures { IfOk result (λ answer. IsFilled octets.now known.now answer.text answer.status) }
 {
     match Dol::decode(alloc, octets) {
         Ok(dol) => fill_by(alloc, &dol, known),
@@ -56,7 +56,7 @@ pub(crate) fn fill(
 
 /// What a list asks for.
 fn fill_by(alloc: Global, dol: &Dol, known: &Result<Knowns, Fault>) -> Result<Answer, AllocError>
-    ensures { IfOk result (λ answer. IsFilledBy known.now dol.now (string_bytes answer.text) answer.status) }
+    ensures { IfOk result (λ answer. IsFilledBy known.now dol.now answer.text answer.status) }
 {
     match known {
         Ok(known) => filled(alloc, dol, known),
@@ -65,7 +65,7 @@ fn fill_by(alloc: Global, dol: &Dol, known: &Result<Knowns, Fault>) -> Result<An
 }
 
 fn filled(alloc: Global, dol: &Dol, known: &Knowns) -> Result<Answer, AllocError>
-    ensures { IfOk result (λ answer. IsFilledBy (Ok known.now) dol.now (string_bytes answer.text) answer.status) }
+    ensures { IfOk result (λ answer. IsFilledBy (Ok known.now) dol.now answer.text answer.status) }
 {
     match tlv_core::fill(alloc, dol, known.get()) {
         Ok(octets) => Ok(Answer::told(line(alloc, octets.as_slice())?)),

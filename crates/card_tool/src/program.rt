@@ -1,14 +1,16 @@
 //! The program: from its words to the text that it writes.
 
-ghost use Rattle.std.specs.Prelude.{◌≡◌, ◌≤◌, IfOk, string_bytes};
-ghost use Rattle.card_tool.specs.Answers.{Answers, Checks, IsAnswer, IsAnswerTo, IsWritten, Shows, Writes};
+ghost use Rattle.std.specs.Prelude.{◌≡◌, ◌≤◌, IfOk};
+ghost use Rattle.card_tool.specs.Answers.{Answers, AnswersTo, Checks, IsRight, IsWritten, Shows, Writes};
+ghost use Rattle.card_tool.specs.Files.{IsBegun};
 ghost use Rattle.card_words.specs.Texts.{fault_text};
-ghost use Rattle.card_words.specs.Words.{texts, IsSized};
+ghost use Rattle.card_words.specs.Words.{texts, AskForFile, IsSized, NeedsFile};
 ghost use Rattle.card_tool.specs.declared.status.Status.TheVariants as ended;
 
 use crate::answer::Answer;
+use crate::file::read_whole;
 use crate::status::Status;
-use crate::{atr, block, chain, command, forest, list, response};
+use crate::{atr, block, chain, command, exchange, forest, list, response};
 use card_words::{Fault, Input, Kind, Request};
 use octet_core::{Sink, Source, write_octets};
 use std::alloc::{AllocError, Global};
@@ -16,17 +18,20 @@ use std::alloc::{AllocError, Global};
 /// Does what the words ask for, of which the first is the program's name, and writes one text.
 ///
 /// Where a growth of memory is refused the text is `fault: memory`; where the writer fails a part of
-/// the text is written; in both cases the status is `Fault`. The reader isn't read.
+/// the text is written; in both cases the status is `Fault`. The reader is read only where the words ask
+/// for a file of recorded exchanges, to its end, but no further than one octet past the largest file.
 pub fn run<R: Source, W: Sink>(
     alloc: Global,
     words: Vec<String>,
-    _reader: &mut R,
+    reader: &mut R,
     writer: &mut W,
 ) -> Status
-    ensures written { Writes (IsAnswer (texts words.items)) (W.contents writer.old) (W.contents writer.new) (W.failures writer.old) (W.failures writer.new) result }
+    ensures written { Writes (IsRight (texts words.items) (R.remaining reader.old) (R.remaining reader.new) (R.failures reader.old) (R.failures reader.new)) (W.contents writer.old) (W.contents writer.new) (W.failures writer.old) (W.failures writer.new) result }
+    ensures unread { (AskForFile (texts words.items) → ⊥) → reader.new ≡ reader.old }
+    ensures few { IsBegun (R.remaining reader.old) (R.remaining reader.new) 4194305 }
 {
-    match answer(alloc, words.as_slice()) {
-        Ok(answer) => write(answer.text.as_str(), answer.status, writer),
+    match answer(alloc, words.as_slice(), reader) {
+        Ok(answer) => write(answer.text.get(), answer.status, writer),
         Err(fault) => report(fault, writer),
     }
 }
@@ -35,34 +40,38 @@ pub fn run<R: Source, W: Sink>(
 pub fn report<W: Sink>(fault: Fault, writer: &mut W) -> Status
     ensures { IsWritten (fault_text fault) ended.Fault (W.contents writer.old) (W.contents writer.new) (W.failures writer.old) (W.failures writer.new) result }
 {
-    write(fault.text(), Status::Fault, writer)
+    write(fault.text().as_bytes(), Status::Fault, writer)
 }
 
-fn write<W: Sink>(text: &str, status: Status, writer: &mut W) -> Status
+fn write<W: Sink>(text: &[u8], status: Status, writer: &mut W) -> Status
     ensures { IsWritten text.now status (W.contents writer.old) (W.contents writer.new) (W.failures writer.old) (W.failures writer.new) result }
 {
-    match write_octets(writer, text.as_bytes()) {
+    match write_octets(writer, text) {
         Ok(()) => status,
         Err(_) => Status::Fault,
     }
 }
 
 /// The text and the status of what the words ask for.
-fn answer(alloc: Global, words: &[String]) -> Result<Answer, Fault>
-    ensures { Answers (texts words.now) result }
+fn answer<R: Source>(alloc: Global, words: &[String], reader: &mut R) -> Result<Answer, Fault>
+    ensures told { Answers (texts words.now) (R.remaining reader.old) (R.remaining reader.new) (R.failures reader.old) (R.failures reader.new) result }
+    ensures unread { (AskForFile (texts words.now) → ⊥) → reader.new ≡ reader.old }
+    ensures few { IsBegun (R.remaining reader.old) (R.remaining reader.new) 4194305 }
 {
     let request = card_words::read(alloc, words)?;
-    Ok(answer_to(alloc, request)?)
+    answer_to(alloc, request, reader)
 }
 
 /// The text and the status of a request.
-fn answer_to(alloc: Global, request: Request) -> Result<Answer, AllocError>
+fn answer_to<R: Source>(alloc: Global, request: Request, reader: &mut R) -> Result<Answer, Fault>
     requires { IsSized request }
-    ensures { IfOk result (λ answer. IsAnswerTo request (string_bytes answer.text) answer.status) }
+    ensures told { AnswersTo request (R.remaining reader.old) (R.remaining reader.new) (R.failures reader.old) (R.failures reader.new) result }
+    ensures unread { (NeedsFile request → ⊥) → reader.new ≡ reader.old }
+    ensures few { IsBegun (R.remaining reader.old) (R.remaining reader.new) 4194305 }
 {
     match request {
-        Request::Check(input) => check(alloc, &input),
-        Request::Show(input) => show(alloc, &input),
+        Request::Check(input) => Ok(check(alloc, &input)?),
+        Request::Show(input) => Ok(show(alloc, &input)?),
         Request::BuildChain {
             ifs,
             number,
@@ -71,8 +80,16 @@ fn answer_to(alloc: Global, request: Request) -> Result<Answer, AllocError>
             let text = chain::blocks(alloc, message.get(), ifs, number)?;
             Ok(Answer::told(text))
         }
-        Request::BuildTidy(octets) => forest::tidy(alloc, octets.get()),
-        Request::BuildFill { list, known } => list::fill(alloc, list.get(), &known),
+        Request::BuildTidy(octets) => Ok(forest::tidy(alloc, octets.get())?),
+        Request::BuildFill { list, known } => Ok(list::fill(alloc, list.get(), &known)?),
+        Request::Replay(side) => {
+            let file = read_whole(alloc, reader)?;
+            Ok(exchange::replayed(alloc, file, side)?)
+        }
+        Request::Migrate => {
+            let file = read_whole(alloc, reader)?;
+            Ok(exchange::migrated(alloc, file)?)
+        }
         Request::Help(text) => Ok(Answer::told(text.into_inner())),
     }
 }
@@ -81,7 +98,7 @@ fn answer_to(alloc: Global, request: Request) -> Result<Answer, AllocError>
 fn check(alloc: Global, input: &Input) -> Result<Answer, AllocError>
     requires least { 1 ≤ input.now.ifs }
     requires most { input.now.ifs ≤ 254 }
-    ensures { IfOk result (λ answer. Checks input.now.kind input.now (string_bytes answer.text) answer.status) }
+    ensures { IfOk result (λ answer. Checks input.now.kind input.now answer.text answer.status) }
 {
     let octets = input.octets.get();
     match input.kind {
@@ -99,7 +116,7 @@ fn check(alloc: Global, input: &Input) -> Result<Answer, AllocError>
 fn show(alloc: Global, input: &Input) -> Result<Answer, AllocError>
     requires least { 1 ≤ input.now.ifs }
     requires most { input.now.ifs ≤ 254 }
-    ensures { IfOk result (λ answer. Shows input.now.kind input.now (string_bytes answer.text) answer.status) }
+    ensures { IfOk result (λ answer. Shows input.now.kind input.now answer.text answer.status) }
 {
     let octets = input.octets.get();
     match input.kind {

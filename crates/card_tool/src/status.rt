@@ -1,5 +1,8 @@
 //! How the program ends.
 
+ghost use Rattle.std.specs.Prelude.{◌≡◌};
+ghost use Rattle.card_tool.specs.Statuses.{exit_number};
+
 /// How the program ends.
 #[derive(Clone, Copy, Debug, PartialEq, Eq)]
 pub enum Status {
@@ -9,4 +12,17 @@ pub enum Status {
     Refused,
     /// The words, the memory or a stream failed: exit status 2.
     Fault,
+}
+
+impl Status {
+    /// The exit status of the program.
+    pub fn number(self) -> u8
+        ensures { result ≡ exit_number self }
+    {
+        match self {
+            Status::Accepted => 0,
+            Status::Refused => 1,
+            Status::Fault => 2,
+        }
+    }
 }

@@ -4,7 +4,9 @@ ghost use Rattle.std.specs.Prelude.{◌≤◌, ◌≢◌};
 
 mod apdus;
 mod chains;
+mod files;
 mod objects;
+mod sessions;
 
 use crate::{Status, run};
 use octet_core::{After, Counted, Feeder, Taker};
@@ -13,7 +15,7 @@ use std::process::Abort;
 use std::test::Fail;
 
 /// The words of a command line, behind the program's name.
-fn words_of(alloc: Global, line: &[&str]) -> Result<Vec<String>, AllocError> {
+pub(super) fn words_of(alloc: Global, line: &[&str]) -> Result<Vec<String>, AllocError> {
     let mut words = Vec::new(alloc);
     words.push(String::from_str(alloc, "scard")?)?;
     for word in line {
@@ -298,8 +300,15 @@ fn shows_answers_to_reset(rt: HostRuntime) -> Result<(), Fail> {
 
 #[test]
 fn words_of_no_form(rt: HostRuntime) -> Result<(), Fail> {
-    let lines: [&[&str]; 16] = [
+    let lines: [&[&str]; 23] = [
         &[],
+        &["replay"],
+        &["replay", "--end"],
+        &["replay", "--end", "reader"],
+        &["replay", "--end", "Card"],
+        &["replay", "--end", "card", "--end", "card"],
+        &["replay", "--end", "card", "file"],
+        &["migrate", "file"],
         &["--version"],
         &["check"],
         &["check", "block"],
@@ -332,7 +341,14 @@ fn words_of_no_form(rt: HostRuntime) -> Result<(), Fail> {
 
 #[test]
 fn answers_a_call_for_help(rt: HostRuntime) -> Result<(), Fail> {
-    let lines: [&[&str]; 4] = [&["--help"], &["-h"], &["help"], &["check", "--help"]];
+    let lines: [&[&str]; 6] = [
+        &["--help"],
+        &["-h"],
+        &["help"],
+        &["check", "--help"],
+        &["replay", "-h"],
+        &["migrate", "--help"],
+    ];
     for line in lines {
         let (writer, status) = told(rt.alloc(), line, 4096, After::End)?;
         assert_eq!(rt; status, Status::Accepted);

@@ -1,5 +1,5 @@
 -- The words that the program takes, and what they ask for.
-use Rattle.std.specs.Prelude.{◌≡◌, ◌≢◌, ◌⊎◌, ◌&&◌, ◌==◌, ◌≤◌, ℕ, length, nat_le, pos, List, [], ◌∷◌, codes, Option, Some, None, true, map, String, string_bytes, Result, Ok, Err, if◌then◌else◌}
+use Rattle.std.specs.Prelude.{◌≡◌, ◌≢◌, ◌⊎◌, ◌&&◌, ◌==◌, ◌≤◌, ℕ, length, nat_le, pos, List, [], ◌∷◌, codes, Option, Some, None, true, map, String, string_bytes, Result, Ok, Err, MatchResult, if◌then◌else◌}
 use Rattle.std.specs.Str.{bytes_eq}
 use Rattle.std.specs.declared.alloc.Global.{Global}
 use Rattle.std.specs.Str.Parse.{digits_value, without_leading_plus}
@@ -9,15 +9,18 @@ use Rattle.clap.specs.Words.{App, Row, Rule, all_of, fault_of, first_of, new_app
 use Rattle.clap.specs.declared.builder.value_parser.ValueParser.TheVariants as parser
 use Rattle.clap.specs.declared.error.kind.ErrorKind.{ErrorKind}
 use Rattle.clap.specs.declared.error.kind.ErrorKind.TheVariants.{DisplayHelp, OutOfMemory}
+use Rattle.octet_core.specs.Octets.{AreOctets}
 use Rattle.card_words.specs.Known.{knowns_of}
 use Rattle.card_words.specs.Value.{◌>>=◌, octets_of_word}
 use Rattle.card_words.specs.declared.fault.Fault.{Fault}
 use Rattle.card_words.specs.declared.fault.Fault.TheVariants.{Words, Memory}
 use Rattle.card_words.specs.declared.request.Kind.{Kind}
 use Rattle.card_words.specs.declared.request.Kind.TheVariants.{Atr, Block, Chain, Command, Response, Tlv, Dol}
+use Rattle.card_words.specs.declared.request.End.{End}
+use Rattle.card_words.specs.declared.request.End.TheVariants as end
 use Rattle.card_words.specs.declared.request.Input.{Input}
 use Rattle.card_words.specs.declared.request.Request.{Request}
-use Rattle.card_words.specs.declared.request.Request.TheVariants.{BuildChain, BuildTidy, BuildFill, Check, Show, Help}
+use Rattle.card_words.specs.declared.request.Request.TheVariants.{BuildChain, BuildTidy, BuildFill, Check, Show, Replay, Migrate, Help}
 use Rattle.block_core.specs.declared.pcb.Number.{Number}
 use Rattle.block_core.specs.declared.pcb.Number.TheVariants.{Zero, One}
 use Rattle.clap.specs.declared.builder.action.ArgAction.TheVariants.{Append}
@@ -50,9 +53,23 @@ words_rule = record (new_rule (codes "words")) { action = Some Append }
 abbrev pub build_app : App
 build_app = with_rule (with_rule (new_app (codes "build")) what_rule) words_rule
 
--- the program as a command
+abbrev pub end_rule : Rule
+end_rule = record (new_rule (codes "end")) { long = Some (codes "end"); required = true }
+
+-- the subcommand that replays recorded exchanges at an end
+abbrev pub replay_app : App
+replay_app = with_rule (new_app (codes "replay")) end_rule
+
+-- the subcommand that takes recorded exchanges into the newest version, which takes no words
+abbrev pub migrate_app : App
+migrate_app = new_app (codes "migrate")
+
+-- the program as a command, first with what it says of octets
+abbrev pub octets_app : App
+octets_app = with_subcommand (with_subcommand (with_subcommand (new_app (codes "scard")) (input_app (codes "check")).top) (input_app (codes "show")).top) build_app.top
+
 unfoldable pub scard : App
-scard = with_subcommand (with_subcommand (with_subcommand (new_app (codes "scard")) (input_app (codes "check")).top) (input_app (codes "show")).top) build_app.top
+scard = with_subcommand (with_subcommand octets_app replay_app.top) migrate_app.top
 
 abbrev pub texts : List (String Global) → List (List ℕ)
 texts words = map string_bytes words
@@ -148,12 +165,27 @@ build_of rows = do
   words ← all_needed (all_of (codes "words") rows)
   build_by what words
 
+-- an end as a word
+abbrev pub end_of_word : List ℕ → Result End Fault
+end_of_word word =
+    if bytes_eq word (codes "terminal") then Ok end.Terminal
+    else (if bytes_eq word (codes "card") then Ok end.Card
+    else Err Words)
+
+abbrev pub replay_of : List Row → Result Request Fault
+replay_of rows = do
+  word ← needed (first_of (codes "end") rows)
+  side ← end_of_word word
+  Ok (Replay side)
+
 abbrev pub request_by : List ℕ → List Row → Result Request Fault
 request_by name rows =
     if bytes_eq name (codes "check") then input_of rows >>= (λ input. Ok (Check input))
     else (if bytes_eq name (codes "show") then input_of rows >>= (λ input. Ok (Show input))
     else (if bytes_eq name (codes "build") then build_of rows
-    else Err Words))
+    else (if bytes_eq name (codes "replay") then replay_of rows
+    else (if bytes_eq name (codes "migrate") then Ok Migrate
+    else Err Words))))
 
 abbrev pub request_of : Option (List ℕ × List Row) → Result Request Fault
 request_of None = Err Words
@@ -166,7 +198,30 @@ IsSized (Show input) = (1 ≤ input.ifs) × (input.ifs ≤ 254)
 IsSized (BuildChain ifs number message) = (1 ≤ ifs) × (ifs ≤ 254) × (length message ≤ 131072)
 IsSized (BuildTidy octets) = Unit {0}
 IsSized (BuildFill list known) = Unit {0}
+IsSized (Replay side) = Unit {0}
+IsSized Migrate = Unit {0}
 IsSized (Help help) = Unit {0}
+
+-- what a request takes for octets are octets
+abbrev pub HasOctets : Request → Type 0
+HasOctets (Check input) = AreOctets input.octets
+HasOctets (Show input) = AreOctets input.octets
+HasOctets (BuildChain ifs number message) = AreOctets message
+HasOctets (BuildTidy octets) = AreOctets octets
+HasOctets (BuildFill list known) = AreOctets list
+HasOctets (Replay side) = Unit {0}
+HasOctets Migrate = Unit {0}
+HasOctets (Help help) = Unit {0}
+
+-- a request that a file of recorded exchanges answers
+abbrev pub NeedsFile : Request → Type 0
+NeedsFile (Replay side) = Unit {0}
+NeedsFile Migrate = Unit {0}
+NeedsFile _ = ⊥
+
+-- words that the parser of command lines takes and that make such a request
+abbrev pub AskForFile : List (List ℕ) → Type 0
+AskForFile words = (fault_of scard words ≡ []) × MatchResult (request_of (subcommand_of scard words)) NeedsFile (λ _. ⊥)
 
 abbrev pub HasOther : Kinds → Type 0
 HasOther kinds = (kind : ErrorKind) × IsAmong kind kinds × (kind ≢ DisplayHelp)

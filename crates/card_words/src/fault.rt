@@ -16,6 +16,10 @@ pub enum Fault {
     Hex,
     /// A growth of memory was refused.
     Memory,
+    /// A call of the reader failed.
+    Read,
+    /// The reader had more octets than a file may have.
+    TooLarge,
 }
 
 impl Fault {
@@ -27,6 +31,8 @@ impl Fault {
             Fault::Words => "fault: words\n",
             Fault::Hex => "fault: hex\n",
             Fault::Memory => "fault: memory\n",
+            Fault::Read => "fault: read\n",
+            Fault::TooLarge => "fault: TooLarge\n",
         }
     }
 }

@@ -12,5 +12,5 @@ mod value;
 pub mod words;
 
 pub use fault::Fault;
-pub use request::{Input, Kind, Knowns, Request};
+pub use request::{End, Input, Kind, Knowns, Request};
 pub use words::read;

@@ -27,6 +27,15 @@ pub enum Kind {
     Dol,
 }
 
+/// An end of a line.
+#[derive(Clone, Copy, Debug, PartialEq, Eq)]
+pub enum End {
+    /// The terminal's end.
+    Terminal,
+    /// The card's end.
+    Card,
+}
+
 /// Octets, and what they are taken for.
 #[derive(Debug, PartialEq, Eq, Drop)]
 pub struct Input {
@@ -94,6 +103,10 @@ pub enum Request {
         /// the octets are a list.
         known: Result<Knowns, Fault>,
     },
+    /// Whether the engine of this end does what the file of recorded exchanges says.
+    Replay(End),
+    /// The file of recorded exchanges in the newest version.
+    Migrate,
     /// This text, by which `clap` answers a call for help.
     Help(Text),
 }

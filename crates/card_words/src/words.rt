@@ -5,12 +5,12 @@ ghost use Rattle.clap.specs.Words.{all_of, app_of, fault_of, first_of, found_of,
 ghost use Rattle.clap.specs.Kinds.{HasKind};
 ghost use Rattle.clap.specs.declared.builder.command.Command.TheViews.{out-Command};
 ghost use Rattle.clap.specs.Values.{kind_of as error_kind};
-ghost use Rattle.card_words.specs.Words.{build_app, build_of, chain_of, hex_rule, ifs_rule, input_app, input_of, kind_of, kind_rule, number_of, number_of_word, number_rule, request_of, scard, size_of, texts, tidy_of, fill_of, what_rule, words_rule, IsHelpOrFault, IsRead, IsSized};
+ghost use Rattle.card_words.specs.Words.{build_app, build_of, chain_of, end_of_word, end_rule, hex_rule, ifs_rule, input_app, input_of, kind_of, kind_rule, number_of, number_of_word, number_rule, replay_app, replay_of, request_of, scard, size_of, texts, tidy_of, fill_of, what_rule, words_rule, HasOctets, IsHelpOrFault, IsRead, IsSized, migrate_app, octets_app};
 ghost use Rattle.card_words.specs.Value.{UnlessMemory};
 
 use crate::fault::Fault;
 use crate::known::knowns;
-use crate::request::{Input, Kind, Request};
+use crate::request::{End, Input, Kind, Request};
 use crate::value::octets;
 use block_core::Number;
 use clap::error::ErrorKind;
@@ -22,6 +22,7 @@ use std::alloc::{AllocError, Global};
 pub fn read(alloc: Global, words: &[String]) -> Result<Request, Fault>
     ensures read { (result ≡ Err Fault.Memory) ⊎ IsRead (texts words.now) result }
     ensures sized { IfOk result IsSized }
+    ensures octets { IfOk result HasOctets }
 {
     match matches_of(alloc, words) {
         Ok(matches) => request(alloc, &matches),
@@ -41,6 +42,8 @@ fn request(alloc: Global, matches: &ArgMatches) -> Result<Request, Fault>
         "check" => Ok(Request::Check(input(alloc, entered)?)),
         "show" => Ok(Request::Show(input(alloc, entered)?)),
         "build" => build(alloc, entered),
+        "replay" => replay(entered),
+        "migrate" => Ok(Request::Migrate),
         _ => Err(Fault::Words),
     }
 }
@@ -83,6 +86,15 @@ fn build(alloc: Global, matches: &ArgMatches) -> Result<Request, Fault>
         "fill" => fill(alloc, words),
         _ => Err(Fault::Words),
     }
+}
+
+/// The end at which recorded exchanges are replayed.
+fn replay(matches: &ArgMatches) -> Result<Request, Fault>
+    ensures read { result ≡ replay_of (rows_of (found_of matches.now)) }
+    ensures sized { IfOk result IsSized }
+{
+    let side = end(word(matches, "end").ok_or(Fault::Words)?)?;
+    Ok(Request::Replay(side))
 }
 
 /// A forest to be tidied.
@@ -162,6 +174,17 @@ fn kind(word: &str) -> Result<Kind, Fault>
     }
 }
 
+/// An end of a line. `clap` takes any word there.
+fn end(word: &str) -> Result<End, Fault>
+    ensures { result ≡ end_of_word word.now }
+{
+    match word {
+        "terminal" => Ok(End::Terminal),
+        "card" => Ok(End::Card),
+        _ => Err(Fault::Words),
+    }
+}
+
 /// An information size, 254 where there is no word. `clap` has refused a word out of range.
 fn size(word: Option<&str>) -> Result<u8, Fault>
     ensures { result ≡ size_of (option_map (λ word. word.now) word.entry) }
@@ -225,6 +248,16 @@ fn matches_of<'a>(alloc: Global, words: &'a [String]) -> Result<ArgMatches<'a>, 
 fn program<'a>(alloc: Global) -> Result<Command<'a>, AllocError>
     ensures { IfOk result (λ command. app_of command ≡ scard) }
 {
+    let replay = replay_command(alloc)?;
+    octets_command(alloc)?
+        .subcommand(replay)?
+        .subcommand(migrate_command(alloc))
+}
+
+/// The program's command with the subcommands on octets.
+fn octets_command<'a>(alloc: Global) -> Result<Command<'a>, AllocError>
+    ensures { IfOk result (λ command. app_of command ≡ octets_app) }
+{
     let check = input_command(
         alloc,
         "check",
@@ -265,6 +298,36 @@ fn build_command<'a>(alloc: Global) -> Result<Command<'a>, AllocError>
         .about("Build octets: chain IFS NUMBER HEX, tidy HEX, or fill DOL F:TAG:VALUE..")
         .arg(what_arg(alloc))?
         .arg(words_arg(alloc))
+}
+
+/// The subcommand that replays recorded exchanges.
+fn replay_command<'a>(alloc: Global) -> Result<Command<'a>, AllocError>
+    ensures app { IfOk result (λ command. app_of command ≡ replay_app) }
+    ensures local { IfOk result (λ command. (out-Command command).has_globals ≡ false) }
+{
+    Command::new(alloc, "replay")
+        .about("Replay the recorded exchanges on standard input at one end")
+        .arg(end_arg(alloc))
+}
+
+/// The subcommand that takes recorded exchanges into the newest version.
+fn migrate_command<'a>(alloc: Global) -> Command<'a>
+    ensures app { app_of result ≡ migrate_app }
+    ensures local { (out-Command result).has_globals ≡ false }
+{
+    Command::new(alloc, "migrate").about(
+        "Write the recorded exchanges on standard input in the newest version",
+    )
+}
+
+fn end_arg<'a>(alloc: Global) -> Arg<'a>
+    ensures rule { rule_of result ≡ end_rule }
+    ensures local { result.global ≡ false }
+{
+    Arg::new(alloc, "end")
+        .long("end")
+        .required(true)
+        .help("The end that is replayed: terminal or card")
 }
 
 fn what_arg<'a>(alloc: Global) -> Arg<'a>

@@ -1,9 +1,9 @@
-use Rattle.std.proofs.Common.{inl, inr, Ok}
+use Rattle.std.proofs.lemmas.Result.{err_from_is_err_and}
+use Rattle.card_words.specs.Words.{texts}
+use Rattle.card_tool.proofs.Answering.{refused-words}
 use Rattle.card_tool.proofs.program.answer.Goals as goal
 
-pub returns : goal.returns
-returns c = record {
-  read = Ok c.in_ok-request.request;
-  is_read = elim c.in_ok-request.ensures.read [ inl e ↦ absurd (cc) | inr read ↦ read ];
-  is_answer = c.in_ok-answer_to.ensures;
-}
+pub returns-in_err-request-clause-told : goal.returns-in_err-request-clause-told
+returns-in_err-request-clause-told g c =
+    let fault = err_from_is_err_and c.from_residual.result c.from_residual.ensures.1 in
+    rw (fault.1, fault.2) (refused-words (texts c.args.words.now) _ _ c.in_err-request.field-0.0 c.in_err-request.ensures.read)

@@ -1,17 +1,14 @@
-use Rattle.std.proofs.Common.{ap, ap₂, refl, codes, ◌≡◌, ◌∙◌}
+use Rattle.std.proofs.Common.{ap, ap₂, refl, ◌≡◌, ◌∙◌}
 use Rattle.std.proofs.lemmas.Result.{IfOk-weaker}
-use Rattle.clap.specs.Words.{App, app_of, new_app, with_subcommand}
-use Rattle.clap.specs.Simple.{app_of_fields}
-use Rattle.card_words.specs.Words.{build_app, input_app, scard}
+use Rattle.clap.specs.Words.{App, with_subcommand}
+use Rattle.card_words.specs.Words.{migrate_app, octets_app, replay_app, scard}
 use Rattle.card_words.proofs.words.program.Goals as goal
 
-scard-is : with_subcommand (with_subcommand (with_subcommand (new_app (codes "scard")) (input_app (codes "check")).top) (input_app (codes "show")).top) build_app.top ≡ scard
+scard-is : with_subcommand (with_subcommand octets_app replay_app.top) migrate_app.top ≡ scard
 unfolding scard
 scard-is = refl
 
 pub returns : goal.returns
 returns c =
-    let about-is : app_of c.about.result ≡ new_app (codes "scard") = ap app_of_fields c.about.ensures ∙ c.new.ensures.app in
-    let check-is = c.in_ok-subcommand.ensures.shape c.in_ok-check.ensures.local ∙ ap₂ with_subcommand about-is (ap (λ (a : App). a.top) c.in_ok-check.ensures.app) in
-    let show-is = c.in_ok-subcommand-2.ensures.shape c.in_ok-show.ensures.local ∙ ap₂ with_subcommand check-is (ap (λ (a : App). a.top) c.in_ok-show.ensures.app) in
-    IfOk-weaker c.subcommand-3.result _ _ (λ command added. added.shape c.in_ok-build.ensures.local ∙ ap₂ with_subcommand show-is (ap (λ (a : App). a.top) c.in_ok-build.ensures.app) ∙ scard-is) c.subcommand-3.ensures
+    let replay-is = c.in_ok-subcommand.ensures.shape c.in_ok-replay.ensures.local ∙ ap₂ with_subcommand c.in_ok-octets_command.ensures (ap (λ (a : App). a.top) c.in_ok-replay.ensures.app) in
+    IfOk-weaker c.subcommand-2.result _ _ (λ command added. added.shape c.migrate_command.ensures.local ∙ ap₂ with_subcommand replay-is (ap (λ (a : App). a.top) c.migrate_command.ensures.app) ∙ scard-is) c.subcommand-2.ensures

@@ -1,0 +1,67 @@
+-- How a request's answer becomes that of the words.
+use Rattle.std.proofs.Common.{◌≡◌, ◌⊎◌, inl, inr, ℕ, List, [], Option, Result, Ok, Err, ap, sym, refl, subst}
+use Rattle.card_words.specs.Texts.{fault_text}
+use Rattle.card_words.specs.Words.{AskForFile, HasOther, IsRead, NeedsFile, taken, called_for_help, not_taken}
+use Rattle.clap.specs.Kinds.{IsAmong}
+use Rattle.clap.specs.declared.error.kind.ErrorKind.TheVariants.{DisplayHelp}
+use Rattle.std.specs.Result.{MatchResult, result_unwrap_or}
+use Rattle.std.proofs.lemmas.Result.{MatchResult-at_ok}
+use Rattle.card_words.specs.declared.fault.Fault.{Fault}
+use Rattle.card_words.specs.declared.fault.Fault.TheVariants.{Memory}
+use Rattle.card_words.specs.declared.request.Request.{Request}
+use Rattle.card_words.specs.declared.request.Request.TheVariants.{Help}
+use Rattle.card_tool.specs.Answers.{Answers, AnswersTo, IsAnswerTo, IsRight, IsRightTo}
+use Rattle.card_tool.specs.declared.answer.Answer.{Answer}
+use Rattle.card_tool.specs.declared.status.Status.{Status}
+use Rattle.card_tool.specs.declared.status.Status.TheVariants as status
+
+abbrev read_as : Fault → Result Request Fault
+read_as fault = Err fault
+
+-- a request that asks for no file is answered without the reader
+pub told-at_once : (request : Request) (held : Option (List ℕ)) (count : ℕ) (text : List ℕ) (ended : Status) → (NeedsFile request → ⊥) → IsAnswerTo request (Ok []) text ended → IsRightTo request held held count count text ended
+told-at_once request held count text ended free answer = inl (record { file = Ok []; is_file = λ needs. absurd (free needs); is_answer = answer })
+
+-- words that were read as a request ask for a file exactly where the request does
+asks : (words : List (List ℕ)) (request : Request) → IsRead words (Ok request) → AskForFile words → NeedsFile request
+asks words request (taken free e) ask = MatchResult-at_ok NeedsFile (λ _. ⊥) request (sym e) ask.1
+asks words request (called_for_help among help e) ask = absurd (subst (IsAmong DisplayHelp) ask.0 among)
+asks words request (not_taken other e) ask = cc e
+
+pub needs : (words : List (List ℕ)) (request : Request) → IsRead words (Ok request) → NeedsFile request → AskForFile words
+needs words request (taken free e) need = (free, subst (λ (r : Result Request Fault). MatchResult r NeedsFile (λ _. ⊥)) e need)
+needs words request (called_for_help among help e) need =
+    let is : request ≡ Help help = ap (λ (r : Result Request Fault). result_unwrap_or r request) e in
+    absurd (subst NeedsFile is need)
+needs words request (not_taken other e) need = cc e
+
+-- words that were refused ask for none
+pub asks-none : (words : List (List ℕ)) (fault : Fault) → IsRead words (Err fault) → AskForFile words → ⊥
+asks-none words fault (taken free e) ask = subst (λ (r : Result Request Fault). MatchResult r NeedsFile (λ _. ⊥)) (sym e) ask.1
+asks-none words fault (called_for_help among help e) ask = cc e
+asks-none words fault (not_taken other e) ask = let bad = subst HasOther ask.0 other in bad.1
+
+module _ (words : List (List ℕ)) (held left : Option (List ℕ)) (before after : ℕ) where
+  right : (request : Request) (text : List ℕ) (ended : Status) → IsRead words (Ok request) → IsRightTo request held left before after text ended → IsRight words held left before after text ended
+  right request text ended read (inl to) = inl (record {
+    file = to.file;
+    is_file = λ ask. to.is_file (asks words request read ask);
+    is_answer = record { read = Ok request; is_read = read; is_answer = to.is_answer };
+  })
+  right request text ended read (inr wanting) = inr wanting
+
+  -- what answers the request answers the words
+  pub answered-words : (request : Request) (r : Result Answer Fault) → IsRead words (Ok request) → AnswersTo request held left before after r → Answers words held left before after r
+  answered-words request (Ok answer) read h = right request answer.text answer.status read h
+  answered-words request (Err fault) read h = right request (fault_text fault) status.Fault read h
+
+-- the line of the fault of words that were refused, or of memory
+pub refused-words : (words : List (List ℕ)) (held : Option (List ℕ)) (count : ℕ) (fault : Fault) → (read_as fault ≡ Err Memory) ⊎ IsRead words (Err fault) → IsRight words held held count count (fault_text fault) status.Fault
+refused-words words held count fault (inl memory) =
+    let same : fault ≡ Memory = cc memory in
+    inr (ap fault_text same, refl, refl)
+refused-words words held count fault (inr refused) = inl (record {
+  file = Ok [];
+  is_file = λ ask. absurd (asks-none words fault refused ask);
+  is_answer = record { read = Err fault; is_read = refused; is_answer = (refl, refl) };
+})

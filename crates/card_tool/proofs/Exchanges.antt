@@ -1,0 +1,119 @@
+-- That a file of recorded exchanges comes to one text.
+use Rattle.std.proofs.Common.{◌≡◌, ◌⊎◌, ◌∙◌, inl, inr, ℕ, List, [], ◌∷◌, Bool, true, false, Option, Some, None, Result, Ok, Err, ap, codes, subst, sym, refl, if◌then◌else◌}
+use Rattle.std.specs.Result.{MatchResult, result_unwrap_or}
+use Rattle.std.specs.List.{slice_split}
+use Rattle.std.specs.Str.{bytes_eq}
+use Rattle.octet_core.specs.Octets.{AreOctets}
+use Rattle.atr_core.proofs.Goes as atr_goes
+use Rattle.atr_core.proofs.Unique.{one-accepted}
+use Rattle.card_words.specs.declared.request.End.{End}
+use Rattle.exchange_core.specs.Exchange.{ExchangeParts, migrated}
+use Rattle.exchange_core.specs.Reading.{at, atr_by, atr_said, exchange_by, exchange_said, is_line_feed, lines_said, octets_said, parts_said, version_said, words_of}
+use Rattle.exchange_core.specs.Replay as replay
+use Rattle.exchange_core.specs.Text.{exchange_text}
+use Rattle.exchange_core.specs.declared.exchange.Version.{Version}
+use Rattle.exchange_core.specs.declared.fault.ExchangeFault.{ExchangeFault}
+use Rattle.exchange_core.specs.declared.replaying.Side.{Side}
+use Rattle.exchange_core.proofs.Found.{one-replay, some-replay}
+use Rattle.exchange_core.proofs.Sound.{bind, octets-sound, same-ok}
+use Rattle.card_tool.specs.ExchangeTexts.{agrees_text, differs_text, file_fault_text, side_of, IsReplayed, Migrates, Replays, agrees, differs}
+use Rattle.card_tool.specs.declared.status.Status.{Status}
+use Rattle.card_tool.specs.declared.status.Status.TheVariants as status
+use Rattle.card_tool.proofs.OneOf.{OneText, ended-by, plain}
+
+-- ---- the answer to reset of a file is octets
+
+cases : {A F : Type 0} (r : Result A F) → ((a : A) × (r ≡ Ok a)) ⊎ ((f : F) × (r ≡ Err f))
+cases (Ok a) = inl (a, refl)
+cases (Err f) = inr (f, refl)
+
+chosen : {A F : Type 0} (b : Bool) (r : Result A F) (f : F) (a : A) → (if b then r else Err f) ≡ Ok a → r ≡ Ok a
+chosen true r f a h = h
+chosen false r f a h = cc h
+
+words-octets : (words : List (List ℕ)) (atr : List ℕ) → atr_by words ≡ Ok atr → AreOctets atr
+words-octets [] atr h = cc h
+words-octets (word ∷ []) atr h = cc h
+words-octets (word ∷ octets ∷ []) atr h = (octets-sound octets atr (chosen (bytes_eq word (codes "atr")) (octets_said octets) _ atr h)).1
+words-octets (word ∷ octets ∷ more ∷ words) atr h = cc h
+
+line-octets : (line atr : List ℕ) → at 2 (atr_said line) ≡ Ok atr → AreOctets atr
+line-octets line atr h =
+    elim (cases (atr_by (words_of line))) [
+      | inl said ↦
+          let same : said.0 ≡ atr = ap (λ (r : Result (List ℕ) ExchangeFault). result_unwrap_or r atr) (rw said.1 at h) in
+          subst AreOctets same (words-octets (words_of line) said.0 said.1)
+      | inr fault ↦ let bad = rw fault.1 at h in cc bad
+    ]
+
+parts-octets : (version : Version) (parts : List (List ℕ)) (e : ExchangeParts) → parts_said version parts ≡ Ok e → AreOctets e.atr
+parts-octets version [] e h = cc h
+parts-octets version (line ∷ []) e h = cc h
+parts-octets version (line ∷ next ∷ parts) e h =
+    let atr = bind (at 2 (atr_said line)) _ e h in
+    let lines = bind (lines_said version 3 0 (next ∷ parts)) _ e atr.2 in
+    let is = same-ok _ e _ refl lines.2 in
+    subst (λ (x : ExchangeParts). AreOctets x.atr) is (line-octets line atr.0 atr.1)
+
+text-octets : (parts : List (List ℕ)) (e : ExchangeParts) → exchange_by parts ≡ Ok e → AreOctets e.atr
+text-octets [] e h = cc h
+text-octets (header ∷ []) e h = cc h
+text-octets (header ∷ next ∷ parts) e h =
+    let version = bind (version_said header) _ e h in
+    parts-octets version.0 (next ∷ parts) e version.2
+
+-- ---- replay
+
+abbrev here : ℕ → List ℕ → Option (ℕ × List ℕ)
+here line gives = Some (line, gives)
+
+abbrev nowhere : Option (ℕ × List ℕ)
+nowhere = None
+
+none-some : (line : ℕ) (gives : List ℕ) → nowhere ≡ here line gives → ⊥
+none-some line gives h = cc h
+
+abbrev place-of : Option (ℕ × List ℕ) → ℕ
+place-of None = 0
+place-of (Some difference) = difference.0
+
+abbrev given-at : Option (ℕ × List ℕ) → List ℕ
+given-at None = []
+given-at (Some difference) = difference.1
+
+same-here : (line place : ℕ) (gives given : List ℕ) → here line gives ≡ here place given → (line ≡ place) × (gives ≡ given)
+same-here line place gives given e = (ap place-of e, ap given-at e)
+
+module _ (e : ExchangeParts) (which : Side) where
+  one-replayed : (t u : List ℕ) (s q : Status) → IsReplayed e which t s → IsReplayed e which u q → (t ≡ u) × (s ≡ q)
+  one-replayed t u s q (agrees r text ended) (agrees x other different) = (text ∙ sym other, ended ∙ sym different)
+  one-replayed t u s q (agrees r text ended) (differs line gives x other different) = absurd (none-some line gives (one-replay one-accepted e.atr e.lines which _ _ r x))
+  one-replayed t u s q (differs line gives r text ended) (agrees x other different) = absurd (none-some line gives (one-replay one-accepted e.atr e.lines which _ _ x r))
+  one-replayed t u s q (differs line gives r text ended) (differs place given x other different) =
+      let same = same-here line place gives given (one-replay one-accepted e.atr e.lines which _ _ r x) in
+      (text ∙ ap (λ (n : ℕ). differs_text n gives) same.0 ∙ ap (differs_text place) same.1 ∙ sym other, ended ∙ sym different)
+
+  replayed-by : (difference : Option (ℕ × List ℕ)) → replay.Replays e.atr e.lines which difference → (t : List ℕ) × (s : Status) × IsReplayed e which t s
+  replayed-by None r = (agrees_text e, status.Accepted, agrees r refl refl)
+  replayed-by (Some (line, gives)) r = (differs_text line gives, status.Refused, differs line gives r refl refl)
+
+  some-replayed : AreOctets e.atr → (t : List ℕ) × (s : Status) × IsReplayed e which t s
+  some-replayed octets = let r = some-replay one-accepted e.atr e.lines which (atr_goes.one-verdict e.atr octets) in replayed-by r.0 r.1
+
+-- ---- files
+
+-- an exchange is told so, where it was said; else its text's fault
+told-said : (Told : ExchangeParts → List ℕ → Status → Type 0) (said : Result ExchangeParts ExchangeFault) → ((e : ExchangeParts) → said ≡ Ok e → OneText (Told e))
+    → OneText (λ text ended. MatchResult said (λ e. Told e text ended) (λ fault. (text ≡ file_fault_text fault) × (ended ≡ status.Fault)))
+told-said Told (Ok e) once = once e refl
+told-said Told (Err fault) once = ended-by (file_fault_text fault) status.Fault
+
+pub replayed-once : (which : End) (file : List ℕ) → OneText (Replays which file)
+replayed-once which file =
+    told-said (λ e. IsReplayed e (side_of which)) (exchange_said file) (λ e is. record {
+      one = one-replayed e (side_of which);
+      some = some-replayed e (side_of which) (text-octets (slice_split is_line_feed file) e is);
+    })
+
+pub migrated-once : (file : List ℕ) → OneText (Migrates file)
+migrated-once file = told-said (λ e text ended. (text ≡ exchange_text (migrated e)) × (ended ≡ status.Accepted)) (exchange_said file) (λ e is. plain (exchange_text (migrated e)))

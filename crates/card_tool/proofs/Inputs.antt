@@ -1,0 +1,79 @@
+-- How a whole input is read, call by call.
+use Rattle.std.proofs.Common.{◌≡◌, ◌≤◌, ◌<◌, ◌∙◌, ◌+◌, ℕ, List, [], ◌++◌, Option, None, Some, Result, Ok, Err, ap, arith, sym, subst, refl, append_assoc, drop, take}
+use Rattle.std.proofs.lemmas.List.{length-take}
+use Rattle.std.proofs.Math.Seq.{take-add}
+use Rattle.std.specs.Io.KnownBytes.{Consumes, Keeps}
+use Rattle.octet_core.specs.Failures.{next_count}
+use Rattle.card_words.specs.declared.fault.Fault.{Fault}
+use Rattle.card_words.specs.declared.fault.Fault.TheVariants.{Words, Hex, Memory, Read, TooLarge}
+use Rattle.card_tool.specs.Files.{largest_file, IsBegun, IsHeld, IsMore, IsTooLarge, IsWhole, ReadsMore, ReadsWhole}
+
+-- two reads in a row
+Consumes-then : (a b c : Option (List ℕ)) (x y : List ℕ) → Consumes a b x → Consumes b c y → Consumes a c (x ++ y)
+Consumes-then None b c x y p q = tt
+Consumes-then (Some a) None c x y p q = absurd p
+Consumes-then (Some a) (Some b) None x y p q = absurd q
+Consumes-then (Some a) (Some b) (Some c) x y p q = p ∙ ap (λ (l : List ℕ). x ++ l) q ∙ sym (append_assoc x y c)
+
+-- a read, and then a call that read nothing
+Consumes-kept : (a b c : Option (List ℕ)) (x : List ℕ) → Consumes a b x → Keeps b c → Consumes a c x
+Consumes-kept None b c x p q = tt
+Consumes-kept (Some a) None c x p q = absurd p
+Consumes-kept (Some a) (Some b) None x p q = absurd q
+Consumes-kept (Some a) (Some b) (Some c) x p q = p ∙ ap (λ (l : List ℕ). x ++ l) (sym q)
+
+-- no octet was read
+Consumes-none : (a : Option (List ℕ)) → Consumes a a []
+Consumes-none None = tt
+Consumes-none (Some a) = refl
+
+pub none-begun : (held : Option (List ℕ)) (most : ℕ) → IsBegun held held most
+none-begun held most = record { read = []; from = Consumes-none held; few = omega arith }
+
+pub none-held : (held : Option (List ℕ)) (count : ℕ) (items : List ℕ) → items ≡ [] → IsHeld held held count count items 0
+none-held held count items none = record { inside = omega arith; most = rw none (omega arith); from = Consumes-none held; count = refl }
+
+module _ (held between left : Option (List ℕ)) (before middle after : ℕ) (old new : List ℕ) (filled : ℕ) (so_far : IsHeld held between before middle old filled) where
+  pub more-held : (count : ℕ) → IsMore between left middle after old new filled count → IsHeld held left before after new (filled + count)
+  more-held count more = record {
+    inside = more.inside;
+    most = more.most;
+    from = subst (Consumes held left) (sym (take-add filled count new))
+        (Consumes-then held between left (take filled new) (take count (drop filled new)) (subst (Consumes held between) (sym more.kept) so_far.from) more.from);
+    count = more.none_failed ∙ so_far.count;
+  }
+
+  begun : filled ≤ largest_file → Keeps between left → IsBegun held left largest_file
+  begun few kept = record { read = take filled old; from = Consumes-kept held between left (take filled old) so_far.from kept; few = omega (arith, few, length-take filled old) }
+
+  pub fault-read : (fault : Fault) → filled ≤ largest_file → ReadsMore between left middle after old new filled (Err fault) → ReadsWhole held left before after (Err fault)
+  fault-read Words few h = absurd h
+  fault-read Hex few h = absurd h
+  fault-read TooLarge few h = absurd h
+  fault-read Read few h = (begun few h.0, h.1 ∙ ap next_count so_far.count)
+  fault-read Memory few h = (begun few h.0, h.1 ∙ so_far.count)
+
+  pub whole-read : (count : ℕ) → count ≡ 0 → filled ≤ largest_file → IsMore between left middle after old new filled count → IsWhole held left before after (take filled new)
+  whole-read count none few more = record {
+    from = subst (λ (n : ℕ). Consumes held left (take n new)) (omega (arith, none)) (more-held count more).from;
+    end = more.end none;
+    fits = omega (arith, few, length-take filled new);
+    count = more.none_failed ∙ so_far.count;
+  }
+
+pub too-large : (held left : Option (List ℕ)) (before after : ℕ) (items : List ℕ) (filled : ℕ) → IsHeld held left before after items filled → largest_file < filled → IsTooLarge held left before after
+too-large held left before after items filled so_far many = record {
+  read = take filled items;
+  from = so_far.from;
+  many = omega (arith, many, so_far.inside, so_far.most, length-take filled items);
+  count = so_far.count;
+}
+
+-- no answer of reading leaves more behind than one octet past the largest file
+pub read-begun : (held left : Option (List ℕ)) (before after : ℕ) (r : Result (List ℕ) Fault) → ReadsWhole held left before after r → IsBegun held left 4194305
+read-begun held left before after (Ok file) h = record { read = file; from = h.from; few = omega (arith, h.fits) }
+read-begun held left before after (Err TooLarge) h = record { read = h.read; from = h.from; few = omega (arith, h.many) }
+read-begun held left before after (Err Read) h = record { read = h.0.read; from = h.0.from; few = omega (arith, h.0.few) }
+read-begun held left before after (Err Memory) h = record { read = h.0.read; from = h.0.from; few = omega (arith, h.0.few) }
+read-begun held left before after (Err Words) h = absurd h
+read-begun held left before after (Err Hex) h = absurd h

@@ -1,0 +1,46 @@
+-- What the program says of a file of recorded exchanges.
+use Rattle.std.specs.Prelude.{◌≡◌, ℕ, ◌+◌, List, ◌++◌, codes, decimal, length, Some, None, MatchResult}
+use Rattle.card_words.specs.declared.request.End.{End}
+use Rattle.card_words.specs.declared.request.End.TheVariants as end
+use Rattle.exchange_core.specs.Exchange.{ExchangeParts, migrated}
+use Rattle.exchange_core.specs.Faults.{exchange_fault_text}
+use Rattle.exchange_core.specs.Reading.{exchange_said}
+use Rattle.exchange_core.specs.Replay as replay
+use Rattle.exchange_core.specs.Text.{exchange_text}
+use Rattle.exchange_core.specs.declared.fault.ExchangeFault.{ExchangeFault}
+use Rattle.exchange_core.specs.declared.replaying.Side.{Side}
+use Rattle.exchange_core.specs.declared.replaying.Side.TheVariants as side
+use Rattle.card_tool.specs.declared.status.Status.{Status}
+use Rattle.card_tool.specs.declared.status.Status.TheVariants as status
+
+-- the end that is replayed
+abbrev pub side_of : End → Side
+side_of end.Terminal = side.Terminal
+side_of end.Card = side.Card
+
+-- the end does what all lines of the file say, the header's and that of the answer to reset too
+abbrev pub agrees_text : ExchangeParts → List ℕ
+agrees_text e = codes "ok " ++ (decimal (length e.lines + 2) ++ codes " lines\n")
+
+-- the end gives something else at this line
+abbrev pub differs_text : ℕ → List ℕ → List ℕ
+differs_text line gives = codes "line " ++ (decimal line ++ (codes ": engine gives " ++ (gives ++ codes "\n")))
+
+-- the text is none of a file
+abbrev pub file_fault_text : ExchangeFault → List ℕ
+file_fault_text fault = codes "fault: " ++ (exchange_fault_text fault ++ codes "\n")
+
+-- what replay comes to
+pub data IsReplayed (e : ExchangeParts) (which : Side) (text : List ℕ) (ended : Status) : Type 0 where
+  agrees : replay.Replays e.atr e.lines which None → text ≡ agrees_text e → ended ≡ status.Accepted → IsReplayed e which text ended
+  differs : (line : ℕ) (gives : List ℕ) → replay.Replays e.atr e.lines which (Some (line, gives)) → text ≡ differs_text line gives → ended ≡ status.Refused → IsReplayed e which text ended
+
+-- what a file's octets come to, where its exchange is told so; or their first fault
+abbrev pub Tells : (ExchangeParts → List ℕ → Status → Type 0) → List ℕ → List ℕ → Status → Type 0
+Tells Told file text ended = MatchResult (exchange_said file) (λ e. Told e text ended) (λ fault. (text ≡ file_fault_text fault) × (ended ≡ status.Fault))
+
+abbrev pub Replays : End → List ℕ → List ℕ → Status → Type 0
+Replays which = Tells (λ e. IsReplayed e (side_of which))
+
+abbrev pub Migrates : List ℕ → List ℕ → Status → Type 0
+Migrates = Tells (λ e text ended. (text ≡ exchange_text (migrated e)) × (ended ≡ status.Accepted))

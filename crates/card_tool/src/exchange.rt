@@ -1,0 +1,90 @@
+//! Recorded exchanges, replayed and migrated.
+
+ghost use Rattle.std.specs.Prelude.{◌≡◌, ◌≢◌, IfOk};
+ghost use Rattle.exchange_core.specs.Text.{exchange_text};
+ghost use Rattle.exchange_core.specs.declared.fault.ExchangeFault.TheVariants.{Memory};
+ghost use Rattle.card_tool.specs.ExchangeTexts.{file_fault_text, side_of, IsReplayed, Migrates, Replays};
+ghost use Rattle.card_tool.specs.declared.status.Status.TheVariants as ended;
+
+use crate::answer::Answer;
+use crate::status::Status;
+use card_words::End;
+use exchange_core::{
+    Exchange, ExchangeFault, ReplayFault, Side, migrate, read_exchange, replay, write_exchange,
+};
+use octet_core::Octets;
+use std::alloc::{AllocError, Global};
+
+/// Whether the end does what the file says, or the first line at which it gives something else, or the
+/// file's fault.
+pub(crate) fn replayed(alloc: Global, file: Octets, end: End) -> Result<Answer, AllocError>
+    ensures { IfOk result (λ answer. Replays end file answer.text answer.status) }
+{
+    match read_exchange(alloc, file.get()) {
+        Ok(exchange) => agreement(alloc, &exchange, side(end)),
+        Err(fault) => refused(alloc, fault),
+    }
+}
+
+/// The file in the newest version, or its fault.
+pub(crate) fn migrated(alloc: Global, file: Octets) -> Result<Answer, AllocError>
+    ensures { IfOk result (λ answer. Migrates file answer.text answer.status) }
+{
+    match read_exchange(alloc, file.get()) {
+        Ok(exchange) => written(alloc, &migrate(exchange)),
+        Err(fault) => refused(alloc, fault),
+    }
+}
+
+/// Whether the end does what the exchange says.
+fn agreement(alloc: Global, exchange: &Exchange, side: Side) -> Result<Answer, AllocError>
+    ensures { IfOk result (λ answer. IsReplayed exchange.now side answer.text answer.status) }
+{
+    match replay(alloc, exchange, side) {
+        Ok(()) => {
+            let lines = exchange.lines().get().len() + 2;
+            let text = format!(in alloc; "ok {lines} lines\n")?;
+            Ok(Answer::of(text, Status::Accepted))
+        }
+        Err(ReplayFault::Differs { line, gives }) => {
+            let text = format!(in alloc; "line {line}: engine gives {}\n", gives.get())?;
+            Ok(Answer::of(text, Status::Refused))
+        }
+        Err(ReplayFault::Memory) => Err(AllocError),
+    }
+}
+
+/// The text of an exchange.
+fn written(alloc: Global, exchange: &Exchange) -> Result<Answer, AllocError>
+    ensures text { IfOk result (λ answer. answer.text ≡ exchange_text exchange.now) }
+    ensures status { IfOk result (λ answer. answer.status ≡ ended.Accepted) }
+{
+    let text = write_exchange(alloc, exchange)?;
+    Ok(Answer {
+        text: Octets::of(text),
+        status: Status::Accepted,
+    })
+}
+
+/// The line of a fault of the file.
+fn refused(alloc: Global, fault: ExchangeFault) -> Result<Answer, AllocError>
+    ensures other { IfOk result (λ _. fault ≢ Memory) }
+    ensures text { IfOk result (λ answer. answer.text ≡ file_fault_text fault) }
+    ensures status { IfOk result (λ answer. answer.status ≡ ended.Fault) }
+{
+    if fault == ExchangeFault::Memory {
+        return Err(AllocError);
+    }
+    let text = format!(in alloc; "fault: {fault}\n")?;
+    Ok(Answer::of(text, Status::Fault))
+}
+
+/// The end that is replayed.
+fn side(end: End) -> Side
+    ensures { result ≡ side_of end }
+{
+    match end {
+        End::Terminal => Side::Terminal,
+        End::Card => Side::Card,
+    }
+}

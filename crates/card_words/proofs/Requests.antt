@@ -1,0 +1,175 @@
+-- That the requests which words make have octets and sizes.
+use Rattle.std.proofs.Common.{◌≡◌, ◌≤◌, ◌⊎◌, ◌∙◌, inl, inr, ℕ, List, [], ◌∷◌, codes, Bool, true, false, Option, Some, None, Result, Ok, Err, IfOk, arith, refl, ap, sym, subst, length, if◌then◌else◌, nat_le, ◌&&◌}
+use Rattle.std.specs.Result.{result_unwrap_or}
+use Rattle.std.proofs.lemmas.Bool.Decides.{nat_tests}
+use Rattle.std.specs.Str.{bytes_eq}
+use Rattle.hex.specs.Hex.{decode_of}
+use Rattle.hex.specs.declared.error.FromHexError.{FromHexError}
+use Rattle.hex.proofs.HexLemmas.{decode_of-ok}
+use Rattle.clap.specs.Words.{Row, all_of, fault_of, first_of, subcommand_of}
+use Rattle.octet_core.specs.Octets.{AreOctets}
+use Rattle.card_words.specs.Known.{knowns_of}
+use Rattle.card_words.specs.Value.{◌>>=◌, hex_octets, octets_of_word, UnlessMemory}
+use Rattle.card_words.specs.Words.{byte_or, size_of, number_of, number_of_word, needed, kind_of, input_of, short_message, chain_by, chain_of, tidy_of, fill_of, all_needed, build_by, build_of, end_of_word, replay_of, request_by, request_of, scard, HasOctets, IsRead, IsSized, taken, called_for_help, not_taken}
+use Rattle.card_words.specs.declared.fault.Fault.{Fault}
+use Rattle.card_words.specs.declared.fault.Fault.TheVariants.{Words}
+use Rattle.card_words.specs.declared.request.Input.{Input}
+use Rattle.card_words.specs.declared.request.Request.{Request}
+use Rattle.card_words.specs.declared.request.Request.TheVariants.{BuildChain, BuildTidy, BuildFill, Check, Show, Replay, Migrate, Help}
+
+both-steps : {A B : Type 0} (r : Result A Fault) (f : A → Result B Fault) (b : B) → r >>= f ≡ Ok b → (a : A) × (r ≡ Ok a) × (f a ≡ Ok b)
+both-steps (Ok a) f b h = (a, refl, h)
+both-steps (Err e) f b h = cc h
+
+one-of : {A : Type 0} (b : Bool) (x y : Result A Fault) (a : A) → (if b then x else y) ≡ Ok a → (x ≡ Ok a) ⊎ (y ≡ Ok a)
+one-of true x y a h = inl h
+one-of false x y a h = inr h
+
+abbrev read_as : {A : Type 0} → A → Result A Fault
+read_as a = Ok a
+
+same : {A : Type 0} (a b : A) → read_as a ≡ read_as b → a ≡ b
+same {A = A} a b h = ap (λ (r : Result A Fault). result_unwrap_or r b) h
+
+-- ---- words
+
+read-hex : (read : Result (List ℕ) FromHexError) (octets : List ℕ) → hex_octets read ≡ Ok octets → read ≡ Ok octets
+read-hex (Ok b) octets h = ap Ok (same b octets h)
+read-hex (Err e) octets h = cc h
+
+word-octets : (word octets : List ℕ) → octets_of_word word ≡ Ok octets → AreOctets octets
+word-octets word octets h =
+    elim (one-of (bytes_eq word (codes "none")) (Ok []) (hex_octets (decode_of word)) octets h) [
+      | inl none ↦ subst AreOctets (same [] octets none) (λ i. omega arith)
+      | inr hex ↦ (decode_of-ok word octets (read-hex (decode_of word) octets hex)).3
+    ]
+
+sized-by : (n ifs : ℕ) (b : Bool) → nat_le 1 n && nat_le n 254 ≡ b → (if b then Ok n else Err Words) ≡ Ok ifs → (1 ≤ ifs) × (ifs ≤ 254)
+sized-by n ifs true t h = let e : n ≡ ifs = same n ifs h in grind (arith, nat_tests)
+sized-by n ifs false t h = cc h
+
+sized : (word : Option (List ℕ)) (ifs : ℕ) → size_of word ≡ Ok ifs → (1 ≤ ifs) × (ifs ≤ 254)
+sized None ifs h = let e : 254 ≡ ifs = same 254 ifs h in (omega arith, omega arith)
+sized (Some word) ifs h = sized-by (byte_or 0 word) ifs (nat_le 1 (byte_or 0 word) && nat_le (byte_or 0 word) 254) refl h
+
+-- ---- requests
+
+abbrev IsProper : Request → Type 0
+IsProper request = IsSized request × HasOctets request
+
+input-proper : (rows : List Row) (input : Input) → input_of rows ≡ Ok input → (1 ≤ input.ifs) × (input.ifs ≤ 254) × AreOctets input.octets
+input-proper rows input h =
+    let size = both-steps (size_of (first_of (codes "ifs") rows)) _ input h in
+    let number = both-steps (number_of (first_of (codes "number") rows)) _ input size.2 in
+    let kind_word = both-steps (needed (first_of (codes "kind") rows)) _ input number.2 in
+    let kind = both-steps (kind_of kind_word.0) _ input kind_word.2 in
+    let hex = both-steps (needed (first_of (codes "hex") rows)) _ input kind.2 in
+    let octets = both-steps (octets_of_word hex.0) _ input hex.2 in
+    let is = same _ input octets.2 in
+    let small = sized (first_of (codes "ifs") rows) size.0 size.1 in
+    subst (λ (i : Input). (1 ≤ i.ifs) × (i.ifs ≤ 254) × AreOctets i.octets) is (small.0, small.1, word-octets hex.0 octets.0 octets.1)
+
+short-by : (b : List ℕ) (message : List ℕ) (t : Bool) → nat_le (length b) 131072 ≡ t → (if t then Ok b else Err Words) ≡ Ok message → (b ≡ message) × (length message ≤ 131072)
+short-by b message true t h = let e : b ≡ message = same b message h in (e, subst (λ (l : List ℕ). length l ≤ 131072) e (grind (arith, nat_tests)))
+short-by b message false t h = cc h
+
+chain-proper : (size number_word hex : List ℕ) (request : Request) → chain_by size number_word hex ≡ Ok request → IsProper request
+chain-proper size number_word hex request h =
+    let ifs = both-steps (size_of (Some size)) _ request h in
+    let number = both-steps (number_of_word number_word) _ request ifs.2 in
+    let octets = both-steps (octets_of_word hex) _ request number.2 in
+    let message = both-steps (short_message octets.0) _ request octets.2 in
+    let small = sized (Some size) ifs.0 ifs.1 in
+    let short = short-by octets.0 message.0 (nat_le (length octets.0) 131072) refl message.1 in
+    subst IsProper (same _ request message.2) ((small.0, small.1, short.1), subst AreOctets short.0 (word-octets hex octets.0 octets.1))
+
+chains-proper : (words : List (List ℕ)) (request : Request) → chain_of words ≡ Ok request → IsProper request
+chains-proper [] request h = cc h
+chains-proper (a ∷ []) request h = cc h
+chains-proper (a ∷ b ∷ []) request h = cc h
+chains-proper (a ∷ b ∷ c ∷ []) request h = chain-proper a b c request h
+chains-proper (a ∷ b ∷ c ∷ d ∷ words) request h = cc h
+
+tidy-proper : (words : List (List ℕ)) (request : Request) → tidy_of words ≡ Ok request → IsProper request
+tidy-proper [] request h = cc h
+tidy-proper (hex ∷ []) request h =
+    let octets = both-steps (octets_of_word hex) _ request h in
+    subst IsProper (same _ request octets.2) (tt, word-octets hex octets.0 octets.1)
+tidy-proper (a ∷ b ∷ words) request h = cc h
+
+fill-proper : (words : List (List ℕ)) (request : Request) → fill_of words ≡ Ok request → IsProper request
+fill-proper [] request h = cc h
+fill-proper (hex ∷ words) request h =
+    let octets = both-steps (octets_of_word hex) _ request h in
+    subst IsProper (same _ request octets.2) (tt, word-octets hex octets.0 octets.1)
+
+build-proper : (rows : List Row) (request : Request) → build_of rows ≡ Ok request → IsProper request
+build-proper rows request h =
+    let what = both-steps (needed (first_of (codes "what") rows)) _ request h in
+    let words = both-steps (all_needed (all_of (codes "words") rows)) _ request what.2 in
+    elim (one-of (bytes_eq what.0 (codes "chain")) (chain_of words.0) _ request words.2) [
+      | inl chain ↦ chains-proper words.0 request chain
+      | inr other ↦
+          elim (one-of (bytes_eq what.0 (codes "tidy")) (tidy_of words.0) _ request other) [
+            | inl tidy ↦ tidy-proper words.0 request tidy
+            | inr rest ↦
+                elim (one-of (bytes_eq what.0 (codes "fill")) (fill_of words.0) (Err Words) request rest) [
+                  | inl fill ↦ fill-proper words.0 request fill
+                  | inr none ↦ cc none
+                ]
+          ]
+    ]
+
+replay-proper : (rows : List Row) (request : Request) → replay_of rows ≡ Ok request → IsProper request
+replay-proper rows request h =
+    let word = both-steps (needed (first_of (codes "end") rows)) _ request h in
+    let side = both-steps (end_of_word word.0) _ request word.2 in
+    subst IsProper (same _ request side.2) (tt, tt)
+
+named-proper : (name : List ℕ) (rows : List Row) (request : Request) → request_by name rows ≡ Ok request → IsProper request
+named-proper name rows request h =
+    elim (one-of (bytes_eq name (codes "check")) _ _ request h) [
+      | inl check ↦
+          let input = both-steps (input_of rows) _ request check in
+          let proper = input-proper rows input.0 input.1 in
+          subst IsProper (same _ request input.2) ((proper.0, proper.1), proper.2)
+      | inr other ↦
+          elim (one-of (bytes_eq name (codes "show")) _ _ request other) [
+            | inl show ↦
+                let input = both-steps (input_of rows) _ request show in
+                let proper = input-proper rows input.0 input.1 in
+                subst IsProper (same _ request input.2) ((proper.0, proper.1), proper.2)
+            | inr rest ↦
+                elim (one-of (bytes_eq name (codes "build")) (build_of rows) _ request rest) [
+                  | inl build ↦ build-proper rows request build
+                  | inr files ↦
+                      elim (one-of (bytes_eq name (codes "replay")) (replay_of rows) _ request files) [
+                        | inl replay ↦ replay-proper rows request replay
+                        | inr last ↦
+                            elim (one-of (bytes_eq name (codes "migrate")) (Ok Migrate) (Err Words) request last) [
+                              | inl migrate ↦ subst IsProper (same Migrate request migrate) (tt, tt)
+                              | inr none ↦ cc none
+                            ]
+                      ]
+                ]
+          ]
+    ]
+
+pub request-proper : (entered : Option (List ℕ × List Row)) (request : Request) → request_of entered ≡ Ok request → IsSized request × HasOctets request
+request-proper None request h = cc h
+request-proper (Some entered) request h = named-proper entered.0 entered.1 request h
+
+-- the same of what words are read as
+pub read-proper : (words : List (List ℕ)) (request : Request) → IsRead words (Ok request) → IsSized request × HasOctets request
+read-proper words request (taken free e) = request-proper (subcommand_of scard words) request (sym e)
+read-proper words request (called_for_help among help e) = subst IsProper (sym (same request (Help help) e)) (tt, tt)
+read-proper words request (not_taken other e) = absurd (cc)
+
+pub read-octets : (words : List (List ℕ)) (read : Result Request Fault) → IsRead words read → IfOk read HasOctets
+read-octets words (Ok request) h = (read-proper words request h).1
+read-octets words (Err fault) h = tt
+
+pub request-octets : (entered : Option (List ℕ × List Row)) (result : Result Request Fault) → UnlessMemory result (request_of entered) → IfOk result HasOctets
+request-octets entered (Ok request) (inl memory) = absurd (cc)
+request-octets entered (Ok request) (inr is) = (request-proper entered request (sym is)).1
+request-octets entered (Err fault) h = tt
