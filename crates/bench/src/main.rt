@@ -6,6 +6,7 @@
 
 mod apdus;
 mod chains;
+mod exchanges;
 mod forests;
 mod session;
 mod work;
@@ -17,7 +18,8 @@ fn main(rt: HostRuntime) -> io::Result<()> {
     chains::carry_each(&rt, timed)?;
     apdus::decode_each(&rt, timed)?;
     forests::judge_each(&rt, timed)?;
-    session::exchange_each(&rt, timed)
+    session::exchange_each(&rt, timed)?;
+    exchanges::replay_each(&rt, timed)
 }
 
 /// Whether a word asks for times.
