@@ -1,6 +1,7 @@
 //! Texts that are read and written, and recorded sessions that both ends replay.
 
 mod drawn;
+mod faults;
 mod recording;
 mod replay;
 mod sessions;

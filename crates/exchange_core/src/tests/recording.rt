@@ -1,6 +1,7 @@
 //! Sessions of both ends over a line that disturbs blocks: what they end with, and their records replayed.
 
-use super::replay::{ACTED_ON, lines};
+use super::exchange as recorded;
+use super::sessions::ACTED_ON;
 use crate::{
     Arrival, Event, EventFault, Exchange, LastTurn, Line, Recorder, RecorderFault, Side, replay,
 };
@@ -268,8 +269,16 @@ fn sessions_given_up(rt: HostRuntime) -> Result<(), Fail> {
     ];
     let exchange = record(rt.alloc(), twice, &mut losses)?;
     assert_replays(&rt, rt.alloc(), &exchange);
-    let expected = lines(rt.alloc(), &[ACTED_ON])?;
-    assert!(rt; exchange.lines().get() == expected.get(), "{exchange:?}");
+    let expected = recorded(
+        rt.alloc(),
+        "scard-exchange 1",
+        "3B808131204555",
+        &[ACTED_ON],
+    )?;
+    assert!(rt;
+        exchange.lines().get() == expected.lines().get(),
+        "{exchange:?}"
+    );
 
     let once = Session {
         application: &[Event::Transmit(&SELECT)],
@@ -305,8 +314,11 @@ fn events_that_are_refused(rt: HostRuntime) -> Result<(), Fail> {
     // the block under way at the end counts as lost
     let exchange = recorder.exchange()?;
     let texts = ["command 00A4040000", "t 00000500A4040000A5 lost"];
-    let expected = lines(rt.alloc(), &texts)?;
-    assert!(rt; exchange.lines().get() == expected.get(), "{exchange:?}");
+    let expected = recorded(rt.alloc(), "scard-exchange 1", "3B808131204555", &texts)?;
+    assert!(rt;
+        exchange.lines().get() == expected.lines().get(),
+        "{exchange:?}"
+    );
     assert_replays(&rt, rt.alloc(), &exchange);
     Ok(())
 }

@@ -1,6 +1,6 @@
-//! Texts that are read and written again, and texts that are refused.
+//! Texts that are read and written again.
 
-use crate::{ExchangeFault, migrate, read_exchange, write_exchange};
+use crate::{migrate, read_exchange, write_exchange};
 use std::test::Fail;
 
 /// A session that has each line of version 1, and each arrival of a block.
@@ -55,56 +55,4 @@ fn migrates_by_its_header(rt: HostRuntime) -> Result<(), Fail> {
     assert!(rt; &text.as_slice()[..17] == b"scard-exchange 2\n".as_slice());
     assert!(rt; &text.as_slice()[17..] == &FIRST[17..]);
     Ok(())
-}
-
-#[test]
-fn names_the_first_fault(rt: HostRuntime) {
-    let rows: [(&[u8], ExchangeFault); 13] = [
-        (b"", ExchangeFault::Header),
-        (b"scard-exchange 3\n", ExchangeFault::Header),
-        (b"scard-exchange 1\n", ExchangeFault::End { line: 2 }),
-        (b"scard-exchange 2\n", ExchangeFault::End { line: 2 }),
-        (
-            b"scard-exchange 1\natr 3b00\n",
-            ExchangeFault::Hex { line: 2 },
-        ),
-        (
-            b"scard-exchange 1\natr 3B00\nreset\n",
-            ExchangeFault::Word { line: 3 },
-        ),
-        (
-            b"scard-exchange 1\natr 3B00\nquiet",
-            ExchangeFault::End { line: 3 },
-        ),
-        (
-            b"scard-exchange 1\natr 3B00\nat 0\n",
-            ExchangeFault::Word { line: 3 },
-        ),
-        (
-            b"scard-exchange 2\natr 3B00\nat 05\n",
-            ExchangeFault::Word { line: 3 },
-        ),
-        (
-            b"scard-exchange 2\natr 3B00\nat 1000000000000000\n",
-            ExchangeFault::Word { line: 3 },
-        ),
-        (
-            b"scard-exchange 2\natr 3B00\nnote\n",
-            ExchangeFault::Word { line: 3 },
-        ),
-        (
-            b"scard-exchange 2\natr 3B00\nnote \n",
-            ExchangeFault::Word { line: 3 },
-        ),
-        (
-            b"scard-exchange 2\natr 3B00\nat 5\nat 4\n",
-            ExchangeFault::Falls { line: 4 },
-        ),
-    ];
-    for (text, fault) in rows {
-        match read_exchange(rt.alloc(), text) {
-            Ok(_) => assert!(rt; false),
-            Err(found) => assert_eq!(rt; found, fault),
-        }
-    }
 }
