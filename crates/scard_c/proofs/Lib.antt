@@ -1,0 +1,4 @@
+pub mod Loosed
+pub mod Puts
+pub mod Refusals
+pub mod Values

@@ -1,0 +1,10 @@
+pub mod Verdict
+pub mod Number
+pub mod Block
+pub mod Hex
+pub mod Apdu
+pub mod Atr
+pub mod Chain
+pub mod Tlv
+pub mod Held
+pub mod Ends

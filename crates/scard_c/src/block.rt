@@ -1,0 +1,169 @@
+//! Blocks of T=1 (ISO/IEC 7816-3, clause 11.3).
+
+ghost use Rattle.std.specs.Prelude.{◌≡◌, ◌≢◌, ◌↔◌, ◌⊎◌, ◌≤◌, ◌<◌, length, [], IfSome, IfNone};
+ghost use Rattle.octet_core.specs.Grammar.{self_ended, Refuses};
+ghost use Rattle.block_core.specs.Block.{Parts, IsBlock, IsReason, Suits};
+ghost use Rattle.block_core.specs.declared.pcb.Pcb.TheVariants.{Info, Ready, Request, Response};
+ghost use Rattle.scard_c.specs.Verdict.{IsRefusal, Tells, Puts, wrong_argument};
+ghost use Rattle.scard_c.specs.Number.{IsReserved, number_of, fault_of, subject_of};
+ghost use Rattle.scard_c.specs.Block.{block_reason, block_seen, IsDecoded, IsUnfit, IsOf};
+
+use crate::number::{fault_of, is_reserved, number_of, subject_of};
+use crate::output::put;
+use crate::verdict::{Numbered, Verdict};
+use block_core::{Block, BlockReason, Pcb, decode, encode};
+
+/// A block as it was decoded. Its information field is `inf_len` octets from place `inf_place` on of the
+/// octets.
+#[repr(C)]
+#[derive(Clone, Copy)]
+pub struct CBlock {
+    pub nad: u8,
+    pub pcb: u8,
+    pub inf_place: u8,
+    pub inf_len: u8,
+}
+
+/// The block with which the octets begin, under an information size of 1 to 254. `OK` says how many octets
+/// it takes.
+#[unsafe(no_mangle)]
+pub extern "C" fn scard_block_decode(octets: &[u8], ifs: u8, out: &mut CBlock) -> Verdict
+    ensures ok { result.status ≡ 0 → IsDecoded ifs octets.now result out.new }
+    ensures refused { IsRefusal result →
+        Tells block_reason (Refuses self_ended (IsBlock ifs) (IsReason ifs) octets.now) result }
+    ensures argument { result.status ≡ 4 ↔ IsReserved ifs }
+    ensures memory { result.status ≢ 3 }
+    ensures stays { result.status ≢ 0 → out.new ≡ out.old }
+{
+    if is_reserved(ifs) {
+        return Verdict::argument();
+    }
+    match decode(octets, ifs) {
+        Ok((block, taken)) => {
+            *out = seen(&block);
+            Verdict::ok(taken)
+        }
+        Err(stop) => Verdict::stopped(stop),
+    }
+}
+
+/// Writes an I-block. `ARGUMENT` with place 0 where `ns` is neither 0 nor 1, or the field has more than 254
+/// octets.
+#[unsafe(no_mangle)]
+pub extern "C" fn scard_block_i(nad: u8, ns: u8, more: bool, inf: &[u8], out: &mut [u8]) -> Verdict
+    ensures written { IfSome (number_of ns) (λ number. length inf.now ≤ 254 →
+        Puts (IsBlock 254 (record { nad = nad; pcb = Info number more; inf = inf.now })) out.old out.new result) }
+    ensures number { IfNone (number_of ns) (result ≡ wrong_argument 0) }
+    ensures long { 254 < length inf.now → result ≡ wrong_argument 0 }
+{
+    let Some(number) = number_of(ns) else {
+        return Verdict::argument();
+    };
+    put_block(Block::info(nad, number, more, inf), out)
+}
+
+/// Writes an R-block. `ARGUMENT` with place 0 where `nr` is neither 0 nor 1, or `fault` is above 2.
+#[unsafe(no_mangle)]
+pub extern "C" fn scard_block_r(nad: u8, nr: u8, fault: u8, out: &mut [u8]) -> Verdict
+    ensures written { IfSome (number_of nr) (λ number. IfSome (fault_of fault) (λ fault.
+        Puts (IsBlock 254 (record { nad = nad; pcb = Ready number fault; inf = [] })) out.old out.new result)) }
+    ensures number { IfNone (number_of nr) (result ≡ wrong_argument 0) }
+    ensures fault { IfNone (fault_of fault) (result ≡ wrong_argument 0) }
+{
+    let (Some(number), Some(fault)) = (number_of(nr), fault_of(fault)) else {
+        return Verdict::argument();
+    };
+    put_block(Some(Block::ready(nad, number, fault)), out)
+}
+
+/// Writes an S-block that asks. `ARGUMENT` with place 0 where `about` is above 3, or the field isn't what
+/// it calls for.
+#[unsafe(no_mangle)]
+pub extern "C" fn scard_block_s_request(nad: u8, about: u8, inf: &[u8], out: &mut [u8]) -> Verdict
+    ensures written { IfSome (subject_of about) (λ s. Suits 254 (Request s) inf.now →
+        Puts (IsBlock 254 (record { nad = nad; pcb = Request s; inf = inf.now })) out.old out.new result) }
+    ensures about { IfNone (subject_of about) (result ≡ wrong_argument 0) }
+    ensures unfit { IfSome (subject_of about) (λ s. (Suits 254 (Request s) inf.now → ⊥) →
+        result ≡ wrong_argument 0) }
+{
+    let Some(about) = subject_of(about) else {
+        return Verdict::argument();
+    };
+    put_block(Block::request(nad, about, inf), out)
+}
+
+/// Writes an S-block that answers. `ARGUMENT` with place 0 where `about` is above 3, or the field isn't
+/// what the request calls for.
+#[unsafe(no_mangle)]
+pub extern "C" fn scard_block_s_response(nad: u8, about: u8, inf: &[u8], out: &mut [u8]) -> Verdict
+    ensures written { IfSome (subject_of about) (λ s. Suits 254 (Response s) inf.now →
+        Puts (IsBlock 254 (record { nad = nad; pcb = Response s; inf = inf.now })) out.old out.new result) }
+    ensures about { IfNone (subject_of about) (result ≡ wrong_argument 0) }
+    ensures unfit { IfSome (subject_of about) (λ s. (Suits 254 (Response s) inf.now → ⊥) →
+        result ≡ wrong_argument 0) }
+{
+    let Some(about) = subject_of(about) else {
+        return Verdict::argument();
+    };
+    put_block(Block::response(nad, about, inf), out)
+}
+
+/// Writes the block with this control octet and field. `ARGUMENT` with place 0 where there is none.
+#[unsafe(no_mangle)]
+pub extern "C" fn scard_block_encode(nad: u8, pcb: u8, inf: &[u8], out: &mut [u8]) -> Verdict
+    ensures { ((v : Parts) × IsOf nad pcb inf.now v × Puts (IsBlock 254 v) out.old out.new result)
+        ⊎ (IsUnfit pcb inf.now × (result ≡ wrong_argument 0) × (out.new ≡ out.old)) }
+{
+    put_block(block_of(nad, pcb, inf), out)
+}
+
+/// The block with this control octet and field, if there is one.
+fn block_of(nad: u8, pcb: u8, inf: &[u8]) -> Option<Block>
+    ensures found { IfSome result (λ block. IsOf nad pcb inf.now block) }
+    ensures none { IfNone result (IsUnfit pcb inf.now) }
+{
+    match Pcb::of(pcb)? {
+        Pcb::Info { number, more } => Block::info(nad, number, more, inf),
+        Pcb::Ready { number, fault } if inf.is_empty() => Some(Block::ready(nad, number, fault)),
+        Pcb::Ready { .. } => None,
+        Pcb::Request(about) => Block::request(nad, about, inf),
+        Pcb::Response(about) => Block::response(nad, about, inf),
+    }
+}
+
+/// Puts a block into a buffer, where there is one.
+pub(crate) fn put_block(block: Option<Block>, out: &mut [u8]) -> Verdict
+    ensures written { IfSome block (λ block. Puts (IsBlock 254 block) out.old out.new result) }
+    ensures none { IfNone block (result ≡ wrong_argument 0) }
+    ensures stays { IfNone block (out.new ≡ out.old) }
+{
+    match block {
+        Some(block) => put(encode(&block).as_slice(), out),
+        None => Verdict::argument(),
+    }
+}
+
+fn seen(block: &Block) -> CBlock
+    ensures { result ≡ block_seen block.now }
+{
+    CBlock {
+        nad: block.nad(),
+        pcb: block.pcb().octet(),
+        inf_place: 3,
+        inf_len: block.inf().len() as u8,
+    }
+}
+
+impl Numbered for BlockReason {
+    ghost number = { block_reason };
+
+    fn number(self) -> u8 {
+        match self {
+            BlockReason::BadPcb => 1,
+            BlockReason::BadLen => 2,
+            BlockReason::OverIfs => 3,
+            BlockReason::BadIfs => 4,
+            BlockReason::BadLrc => 5,
+        }
+    }
+}

@@ -1,0 +1,318 @@
+//! Both ends of T=1 behind handles (ISO/IEC 7816-3, clause 11.6).
+
+ghost use Rattle.std.specs.Prelude.{◌≡◌, ◌≢◌, ◌↔◌, ◌≤◌, ◌<◌, length, None, Some};
+ghost use Rattle.atr_core.specs.T1.{IsUsable};
+ghost use Rattle.t1_core.specs.Came.{class_of, quiet};
+ghost use Rattle.t1_core.specs.Terminal.{new_terminal, transmit, ask_ifs, takes};
+ghost use Rattle.t1_core.specs.Card.{new_card, replies, more_time, ask_ifs as card_ask_ifs, takes as card_takes};
+ghost use Rattle.scard_c.specs.declared.engine.Engine.TheVariants.{Terminal as TerminalEnd, Card as CardEnd};
+ghost use Rattle.scard_c.specs.Verdict.{wrong_argument, no_memory, ok_at};
+ghost use Rattle.scard_c.specs.Ends.{no_room, TerminalTakes, CardTakes, message_of, PutsMessage};
+
+use crate::engine::{Engine, NO_END};
+use crate::handle::Handle;
+use crate::output::put;
+use crate::turn::CTurn;
+use crate::verdict::Verdict;
+use atr_core::T1Params;
+use block_core::LONGEST_BLOCK;
+use std::alloc::Global;
+use t1_core::{Card, Terminal};
+
+/// Opens a terminal for a card with these parameters of T=1; what the handle held is freed. It reserves all
+/// the memory that it needs. `ARGUMENT` where `ifsc` is 0 or 255, or an index is above 15. Unless it is
+/// `OK` the handle stays.
+#[unsafe(no_mangle)]
+pub extern "C" fn scard_terminal_open(
+    alloc: Global,
+    handle: &mut Handle,
+    ifsc: u8,
+    bwi: u8,
+    cwi: u8,
+) -> Verdict
+    ensures ok { result.status ≡ 0 → handle.new.engine ≡ Some (TerminalEnd (new_terminal ifsc)) }
+    ensures stays { result.status ≢ 0 → handle.new.engine ≡ handle.old.engine }
+    ensures argument { result.status ≡ 4 ↔ (IsUsable (record { ifsc = ifsc; bwi = bwi; cwi = cwi }) → ⊥) }
+{
+    let Some(params) = T1Params::new(ifsc, bwi, cwi) else {
+        return Verdict::argument();
+    };
+    match Terminal::new(alloc, params) {
+        Ok(terminal) => opened(alloc, handle, Engine::Terminal(terminal)),
+        Err(_) => Verdict::memory(),
+    }
+}
+
+/// Opens a card with these parameters of T=1; what the handle held is freed. It reserves all the memory
+/// that it needs. `ARGUMENT` where `ifsc` is 0 or 255, or an index is above 15. Unless it is `OK` the
+/// handle stays.
+#[unsafe(no_mangle)]
+pub extern "C" fn scard_card_open(
+    alloc: Global,
+    handle: &mut Handle,
+    ifsc: u8,
+    bwi: u8,
+    cwi: u8,
+) -> Verdict
+    ensures ok { result.status ≡ 0 → handle.new.engine ≡ Some (CardEnd (new_card ifsc)) }
+    ensures stays { result.status ≢ 0 → handle.new.engine ≡ handle.old.engine }
+    ensures argument { result.status ≡ 4 ↔ (IsUsable (record { ifsc = ifsc; bwi = bwi; cwi = cwi }) → ⊥) }
+{
+    let Some(params) = T1Params::new(ifsc, bwi, cwi) else {
+        return Verdict::argument();
+    };
+    match Card::new(alloc, params) {
+        Ok(card) => opened(alloc, handle, Engine::Card(card)),
+        Err(_) => Verdict::memory(),
+    }
+}
+
+fn opened(alloc: Global, handle: &mut Handle, engine: Engine) -> Verdict
+    ensures ok { result.status ≡ 0 → handle.new.engine ≡ Some engine }
+    ensures stays { result.status ≢ 0 → handle.new.engine ≡ handle.old.engine }
+    ensures memory { result.status ≢ 4 }
+{
+    match Box::new(alloc, engine) {
+        Ok(engine) => {
+            handle.put(engine);
+            Verdict::ok(0)
+        }
+        Err(_) => Verdict::memory(),
+    }
+}
+
+/// Frees what the handle holds, if anything.
+#[unsafe(no_mangle)]
+pub extern "C" fn scard_close(alloc: Global, handle: &mut Handle)
+    ensures { handle.new.engine ≡ None }
+{
+    drop(handle.take(alloc));
+}
+
+/// The terminal's application hands over a command of at most 65,544 octets.
+#[unsafe(no_mangle)]
+pub extern "C" fn scard_terminal_transmit(
+    alloc: Global,
+    handle: &mut Handle,
+    command: &[u8],
+    out: &mut [u8],
+) -> CTurn
+    ensures room { length out.old < 258 → result ≡ no_room }
+    ensures stays { length out.old < 258 →
+        (handle.new.engine ≡ handle.old.engine) × (out.new ≡ out.old) }
+    ensures turn { 258 ≤ length out.old →
+        TerminalTakes (λ _. transmit command.now)
+        handle.old.engine handle.new.engine out.old out.new result }
+{
+    if out.len() < LONGEST_BLOCK {
+        return CTurn::no_room();
+    }
+    let Some(mut engine) = handle.take(alloc) else {
+        return CTurn::of(NO_END);
+    };
+    let turn = engine.transmit(command, out);
+    handle.put(engine);
+    turn
+}
+
+/// The line delivered these octets to the terminal as one block.
+#[unsafe(no_mangle)]
+pub extern "C" fn scard_terminal_received(
+    alloc: Global,
+    handle: &mut Handle,
+    octets: &[u8],
+    out: &mut [u8],
+) -> CTurn
+    ensures room { length out.old < 258 → result ≡ no_room }
+    ensures stays { length out.old < 258 →
+        (handle.new.engine ≡ handle.old.engine) × (out.new ≡ out.old) }
+    ensures turn { 258 ≤ length out.old →
+        TerminalTakes (λ t. takes (class_of t.ifsd octets.now))
+        handle.old.engine handle.new.engine out.old out.new result }
+{
+    if out.len() < LONGEST_BLOCK {
+        return CTurn::no_room();
+    }
+    let Some(mut engine) = handle.take(alloc) else {
+        return CTurn::of(NO_END);
+    };
+    let turn = engine.terminal_received(octets, out);
+    handle.put(engine);
+    turn
+}
+
+/// Nothing came to the terminal within the waiting time.
+#[unsafe(no_mangle)]
+pub extern "C" fn scard_terminal_quiet(alloc: Global, handle: &mut Handle, out: &mut [u8]) -> CTurn
+    ensures room { length out.old < 258 → result ≡ no_room }
+    ensures stays { length out.old < 258 →
+        (handle.new.engine ≡ handle.old.engine) × (out.new ≡ out.old) }
+    ensures turn { 258 ≤ length out.old →
+        TerminalTakes (λ _. takes quiet)
+        handle.old.engine handle.new.engine out.old out.new result }
+{
+    if out.len() < LONGEST_BLOCK {
+        return CTurn::no_room();
+    }
+    let Some(mut engine) = handle.take(alloc) else {
+        return CTurn::of(NO_END);
+    };
+    let turn = engine.quiet(out);
+    handle.put(engine);
+    turn
+}
+
+/// The terminal asks the card to send information fields of up to `size` octets, 1 to 254.
+#[unsafe(no_mangle)]
+pub extern "C" fn scard_terminal_ask_ifs(
+    alloc: Global,
+    handle: &mut Handle,
+    size: u8,
+    out: &mut [u8],
+) -> CTurn
+    ensures room { length out.old < 258 → result ≡ no_room }
+    ensures stays { length out.old < 258 →
+        (handle.new.engine ≡ handle.old.engine) × (out.new ≡ out.old) }
+    ensures turn { 258 ≤ length out.old →
+        TerminalTakes (λ _. ask_ifs size)
+        handle.old.engine handle.new.engine out.old out.new result }
+{
+    if out.len() < LONGEST_BLOCK {
+        return CTurn::no_room();
+    }
+    let Some(mut engine) = handle.take(alloc) else {
+        return CTurn::of(NO_END);
+    };
+    let turn = engine.terminal_ask_ifs(size, out);
+    handle.put(engine);
+    turn
+}
+
+/// The line delivered these octets to the card as one block.
+#[unsafe(no_mangle)]
+pub extern "C" fn scard_card_received(
+    alloc: Global,
+    handle: &mut Handle,
+    octets: &[u8],
+    out: &mut [u8],
+) -> CTurn
+    ensures room { length out.old < 258 → result ≡ no_room }
+    ensures stays { length out.old < 258 →
+        (handle.new.engine ≡ handle.old.engine) × (out.new ≡ out.old) }
+    ensures turn { 258 ≤ length out.old →
+        CardTakes (λ c. card_takes (class_of c.ifsc octets.now))
+        handle.old.engine handle.new.engine out.old out.new result }
+{
+    if out.len() < LONGEST_BLOCK {
+        return CTurn::no_room();
+    }
+    let Some(mut engine) = handle.take(alloc) else {
+        return CTurn::of(NO_END);
+    };
+    let turn = engine.card_received(octets, out);
+    handle.put(engine);
+    turn
+}
+
+/// The card's host hands over its reply of at most 65,538 octets.
+#[unsafe(no_mangle)]
+pub extern "C" fn scard_card_reply(
+    alloc: Global,
+    handle: &mut Handle,
+    octets: &[u8],
+    out: &mut [u8],
+) -> CTurn
+    ensures room { length out.old < 258 → result ≡ no_room }
+    ensures stays { length out.old < 258 →
+        (handle.new.engine ≡ handle.old.engine) × (out.new ≡ out.old) }
+    ensures turn { 258 ≤ length out.old →
+        CardTakes (λ _. replies octets.now)
+        handle.old.engine handle.new.engine out.old out.new result }
+{
+    if out.len() < LONGEST_BLOCK {
+        return CTurn::no_room();
+    }
+    let Some(mut engine) = handle.take(alloc) else {
+        return CTurn::of(NO_END);
+    };
+    let turn = engine.reply(octets, out);
+    handle.put(engine);
+    turn
+}
+
+/// The card's host asks for more waiting time, by any multiple of it.
+#[unsafe(no_mangle)]
+pub extern "C" fn scard_card_more_time(
+    alloc: Global,
+    handle: &mut Handle,
+    multiple: u8,
+    out: &mut [u8],
+) -> CTurn
+    ensures room { length out.old < 258 → result ≡ no_room }
+    ensures stays { length out.old < 258 →
+        (handle.new.engine ≡ handle.old.engine) × (out.new ≡ out.old) }
+    ensures turn { 258 ≤ length out.old →
+        CardTakes (λ _. more_time multiple)
+        handle.old.engine handle.new.engine out.old out.new result }
+{
+    if out.len() < LONGEST_BLOCK {
+        return CTurn::no_room();
+    }
+    let Some(mut engine) = handle.take(alloc) else {
+        return CTurn::of(NO_END);
+    };
+    let turn = engine.more_time(multiple, out);
+    handle.put(engine);
+    turn
+}
+
+/// The card asks the terminal to send information fields of up to `size` octets, 1 to 254.
+#[unsafe(no_mangle)]
+pub extern "C" fn scard_card_ask_ifs(
+    alloc: Global,
+    handle: &mut Handle,
+    size: u8,
+    out: &mut [u8],
+) -> CTurn
+    ensures room { length out.old < 258 → result ≡ no_room }
+    ensures stays { length out.old < 258 →
+        (handle.new.engine ≡ handle.old.engine) × (out.new ≡ out.old) }
+    ensures turn { 258 ≤ length out.old →
+        CardTakes (λ _. card_ask_ifs size)
+        handle.old.engine handle.new.engine out.old out.new result }
+{
+    if out.len() < LONGEST_BLOCK {
+        return CTurn::no_room();
+    }
+    let Some(mut engine) = handle.take(alloc) else {
+        return CTurn::of(NO_END);
+    };
+    let turn = engine.card_ask_ifs(size, out);
+    handle.put(engine);
+    turn
+}
+
+/// Puts the answer of a terminal into a buffer, from the turn that completes it on until the next command
+/// is taken; or the command of a card, while its host owes the reply. `ARGUMENT` with place 0 where there
+/// is none.
+#[unsafe(no_mangle)]
+pub extern "C" fn scard_message(alloc: Global, handle: &mut Handle, out: &mut [u8]) -> Verdict
+    ensures message { PutsMessage (message_of handle.old.engine) out.old out.new result }
+    ensures stays { handle.new.engine ≡ handle.old.engine }
+{
+    let Some(engine) = handle.take(alloc) else {
+        return Verdict::argument();
+    };
+    let verdict = put_message(&engine, out);
+    handle.put(engine);
+    verdict
+}
+
+fn put_message(engine: &Engine, out: &mut [u8]) -> Verdict
+    ensures { PutsMessage (message_of (Some engine.now)) out.old out.new result }
+{
+    match engine.message() {
+        Some(message) => put(message, out),
+        None => Verdict::argument(),
+    }
+}

@@ -1,0 +1,408 @@
+/* scard: the proved smart card stack for programs in C and C++.
+ *
+ * Answers to reset, T=1 blocks and chains (ISO/IEC 7816-3), commands and responses (ISO/IEC 7816-4), data objects
+ * (EMV 4.3 Book 3), and both ends of a T=1 session. Link with libscard.a; docs/C.md says how, and what is proved.
+ *
+ * Lengths and places count octets, places from 0. Octets go in as a pointer and a length, buffers as a pointer and
+ * the room behind it. A null pointer is fine where the length or the room is 0. No call keeps a pointer that it
+ * was given, and none reads or writes past a length. Octets that go in may not lie in a buffer that the same call
+ * writes. What a call writes, and when, stands at the call; in all other cases it leaves what its pointers point
+ * to as it was.
+ *
+ * The library has no state of its own: two threads may be in any calls at a time, each with its own handles and
+ * buffers.
+ */
+#ifndef SCARD_H
+#define SCARD_H
+
+#include <stdbool.h>
+#include <stddef.h>
+#include <stdint.h>
+
+#ifdef __cplusplus
+extern "C" {
+#endif
+
+/* ---- verdicts ---- */
+
+enum scard_status {
+    /* The octets are a spelling, and `place` is how many it takes; or `place` octets were written. */
+    SCARD_OK = 0,
+    /* The octets ended at `place`, where a spelling could go on. */
+    SCARD_SHORT = 1,
+    /* The octet at `place` is the first after which no spelling goes on, and `reason` says why. */
+    SCARD_AT = 2,
+    /* Out of memory. */
+    SCARD_MEMORY = 3,
+    /* An argument is out of its range, and `place` is 0; or a buffer is too small, and `place` is the room needed. */
+    SCARD_ARGUMENT = 4
+};
+
+struct scard_verdict {
+    uint8_t status; /* enum scard_status */
+    uint8_t reason; /* the reason by the codec, below; 0 unless the status is SCARD_AT */
+    size_t place;
+};
+
+/* The codecs, for scard_reason_name. */
+enum scard_codec {
+    SCARD_CODEC_ATR = 1,
+    SCARD_CODEC_BLOCK = 2,
+    SCARD_CODEC_CHAIN = 3,
+    SCARD_CODEC_COMMAND = 4,
+    SCARD_CODEC_RESPONSE = 5,
+    SCARD_CODEC_TLV = 6,
+    SCARD_CODEC_DOL = 7,
+    SCARD_CODEC_HEX = 8
+};
+
+enum scard_atr_reason {
+    SCARD_ATR_BAD_TS = 1,   /* TS is neither 3B nor 3F */
+    SCARD_ATR_TOO_LONG = 2, /* after this TD every answer has more than 33 octets */
+    SCARD_ATR_BAD_TCK = 3   /* TCK is wrong */
+};
+
+enum scard_block_reason {
+    SCARD_BLOCK_BAD_PCB = 1,  /* PCB is none of the 18 */
+    SCARD_BLOCK_BAD_LEN = 2,  /* LEN is FF, or not the length that this R- or S-block has */
+    SCARD_BLOCK_OVER_IFS = 3, /* LEN of an I-block is above the information size */
+    SCARD_BLOCK_BAD_IFS = 4,  /* the octet of an IFS request or response is 00 or FF */
+    SCARD_BLOCK_BAD_LRC = 5   /* LRC is wrong */
+};
+
+enum scard_chain_reason {
+    SCARD_CHAIN_BAD_NAD = 1,         /* NAD is not 00 */
+    SCARD_CHAIN_BAD_PCB = 2,         /* no block has this PCB */
+    SCARD_CHAIN_NOT_INFO = 3,        /* an R- or S-block */
+    SCARD_CHAIN_BAD_SEQUENCE = 4,    /* an I-block with the wrong number */
+    SCARD_CHAIN_TOO_MANY_BLOCKS = 5, /* M=1 in the last block that a chain can have */
+    SCARD_CHAIN_BAD_LEN = 6,         /* LEN is FF */
+    SCARD_CHAIN_OVER_IFS = 7,        /* LEN is above the information size */
+    SCARD_CHAIN_TOO_LONG = 8,        /* the message would pass its limit */
+    SCARD_CHAIN_BAD_LRC = 9          /* LRC is wrong */
+};
+
+enum scard_command_reason {
+    SCARD_COMMAND_TRAILING = 1 /* the octet is after the last that the length fields allow */
+};
+
+enum scard_response_reason {
+    SCARD_RESPONSE_TOO_LONG = 1 /* the octet is after the last that the longest response has */
+};
+
+enum scard_tlv_reason {
+    SCARD_TLV_TOO_DEEP = 1,    /* an object begins inside one of depth 16 */
+    SCARD_TLV_TAG_SECOND = 2,  /* the low seven bits of a second tag octet are all 0 */
+    SCARD_TLV_TAG_LONG = 3,    /* a fourth tag octet would follow */
+    SCARD_TLV_LENGTH_FORM = 4, /* a length field begins with 80, or with 85 to FF */
+    SCARD_TLV_OVERRUN = 5,     /* what must still come passes the end of the open object */
+    SCARD_TLV_TOO_LONG = 6     /* what must still come passes the limit of the whole */
+};
+
+enum scard_dol_reason {
+    SCARD_DOL_TAG_ZERO = 1,   /* a tag begins with 00 */
+    SCARD_DOL_TAG_SECOND = 2, /* the low seven bits of a second tag octet are all 0 */
+    SCARD_DOL_TAG_LONG = 3    /* a fourth tag octet would follow */
+};
+
+enum scard_hex_reason {
+    SCARD_HEX_DIGIT = 1, /* no hexadecimal digit */
+    SCARD_HEX_ODD = 2    /* the text has an odd number of digits; `place` is its length */
+};
+
+/* The name of a reason, "" where the codec has none with this number. */
+static inline const char *scard_reason_name(int codec, int reason)
+{
+    static const char *const names[9][10] = {
+        {""},
+        {"", "BadTs", "TooLong", "BadTck"},
+        {"", "BadPcb", "BadLen", "OverIfs", "BadIfs", "BadLrc"},
+        {"", "BadNad", "BadPcb", "NotInfo", "BadSequence", "TooManyBlocks", "BadLen", "OverIfs", "TooLong", "BadLrc"},
+        {"", "Trailing"},
+        {"", "TooLong"},
+        {"", "TooDeep", "TagSecond", "TagLong", "LengthForm", "Overrun", "TooLong"},
+        {"", "TagZero", "TagSecond", "TagLong"},
+        {"", "Digit", "Odd"}};
+    if (codec < 1 || codec > 8 || reason < 1 || reason > 9 || names[codec][reason] == NULL) {
+        return "";
+    }
+    return names[codec][reason];
+}
+
+/* ---- octets ---- */
+
+/* The longitudinal redundancy check (ISO/IEC 7816-3, clause 11.3): the exclusive-or of all octets, 0 for none. */
+uint8_t scard_lrc(const uint8_t *octets, size_t count);
+
+/* Writes octets as hexadecimal text in upper case, two digits each, with no 0 after it. Room: 2 * count.
+ * OK, MEMORY, ARGUMENT. */
+struct scard_verdict scard_hex_encode(const uint8_t *octets, size_t count, char *text, size_t room);
+
+/* Writes the octets of a hexadecimal text in either case. Room: length / 2. The first octet that is no digit is
+ * refused; a text of an odd length is refused at its end. OK, AT (enum scard_hex_reason), MEMORY, ARGUMENT.
+ */
+struct scard_verdict scard_hex_decode(const char *text, size_t length, uint8_t *out, size_t room);
+
+/* ---- answers to reset (ISO/IEC 7816-3, clause 8) ---- */
+
+/* TA, TB and TC, each there where its mark isn't 0. */
+struct scard_interface {
+    uint8_t has_ta, ta;
+    uint8_t has_tb, tb;
+    uint8_t has_tc, tc;
+};
+
+/* One TD: the protocol T that it indicates, 0 to 15, and the bytes after it. */
+struct scard_indicated {
+    uint8_t protocol;
+    struct scard_interface bytes;
+};
+
+struct scard_atr {
+    uint8_t convention;                    /* 0 direct (TS is 3B), any other inverse (TS is 3F) */
+    struct scard_interface first;          /* TA1, TB1, TC1 */
+    uint8_t indicated_count;               /* the TDs in their order, at most 31 */
+    struct scard_indicated indicated[31];
+    uint8_t historical_count;              /* the historical bytes, at most 15 */
+    uint8_t historical[15];
+    uint8_t has_tck, tck;                  /* read back by decode; no other call looks at them */
+};
+
+/* The verdict on octets as an answer to reset; what follows the answer isn't looked at. OK, SHORT, AT. */
+struct scard_verdict scard_atr_check(const uint8_t *octets, size_t count);
+
+/* The same, and the answer is written to *out at OK. */
+struct scard_verdict scard_atr_decode(const uint8_t *octets, size_t count, struct scard_atr *out);
+
+/* Writes the octets of an answer. Room: at most 33. ARGUMENT with place 0: a count is too large, a protocol is
+ * above 15, or it would have more than 33 octets. OK, ARGUMENT.
+ */
+struct scard_verdict scard_atr_encode(const struct scard_atr *atr, uint8_t *out, size_t room);
+
+/* What scard_atr_t1_params says; any other number is SCARD_ARGUMENT, where the struct says no answer. */
+enum scard_t1_fault {
+    SCARD_T1_USABLE = 0,        /* *out is written; in all other cases it stays */
+    SCARD_T1_NO_T1 = 1,         /* T=1 isn't offered */
+    SCARD_T1_RESERVED_IFSC = 2, /* IFSC is 00 or FF */
+    SCARD_T1_CRC = 3            /* the CRC is asked for, which this stack doesn't do */
+};
+
+struct scard_t1 {
+    uint8_t ifsc; /* the information size of the card, 1 to 254 */
+    uint8_t bwi;  /* the indexes of its waiting times, 0 to 15 */
+    uint8_t cwi;
+};
+
+/* The parameters of T=1 that an answer gives (ISO/IEC 7816-3, clause 11.4), or their defaults 32, 4 and 13. */
+uint8_t scard_atr_t1_params(const struct scard_atr *atr, struct scard_t1 *out);
+
+struct scard_rates {
+    uint16_t fi; /* 0 where reserved */
+    uint16_t di; /* 0 where reserved */
+};
+
+/* The integers Fi and Di of TA1 (clause 8.3), or 372 and 1. SCARD_OK, or SCARD_ARGUMENT where the struct says no
+   answer. */
+uint8_t scard_atr_rates(const struct scard_atr *atr, struct scard_rates *out);
+
+/* ---- blocks of T=1 (ISO/IEC 7816-3, clause 11.3) ---- */
+
+/* The room that every block fits into. */
+#define SCARD_BLOCK_ROOM 258
+
+struct scard_block {
+    uint8_t nad;
+    uint8_t pcb;
+    uint8_t inf_place; /* the information field is inf_len octets from this place on of the octets: 3 */
+    uint8_t inf_len;
+};
+
+/* What an R-block says of the block that it answers. */
+enum scard_block_fault { SCARD_FAULT_FREE = 0, SCARD_FAULT_REDUNDANCY = 1, SCARD_FAULT_OTHER = 2 };
+
+/* What an S-block is about. IFS carries one octet, 1 to 254; WTX one of any value; the others none. */
+enum scard_block_about { SCARD_S_RESYNCH = 0, SCARD_S_IFS = 1, SCARD_S_ABORT = 2, SCARD_S_WTX = 3 };
+
+/* The block with which the octets begin, where I-blocks have at most `ifs` octets, 1 to 254; it is written to *out
+ * at OK. OK, SHORT, AT, ARGUMENT.
+ */
+struct scard_verdict scard_block_decode(const uint8_t *octets, size_t count, uint8_t ifs, struct scard_block *out);
+
+/* Write a block. `ns` and `nr` are 0 or 1, an information field has at most 254 octets. Room: SCARD_BLOCK_ROOM, or
+ * the field's octets and 4. ARGUMENT with place 0: there is no such block. OK, ARGUMENT.
+ */
+struct scard_verdict scard_block_i(uint8_t nad, uint8_t ns, bool more, const uint8_t *inf, size_t count,
+                                   uint8_t *out, size_t room);
+struct scard_verdict scard_block_r(uint8_t nad, uint8_t nr, uint8_t fault, uint8_t *out, size_t room);
+struct scard_verdict scard_block_s_request(uint8_t nad, uint8_t about, const uint8_t *inf, size_t count,
+                                           uint8_t *out, size_t room);
+struct scard_verdict scard_block_s_response(uint8_t nad, uint8_t about, const uint8_t *inf, size_t count,
+                                            uint8_t *out, size_t room);
+
+/* The same by the control octet, one of 18. */
+struct scard_verdict scard_block_encode(uint8_t nad, uint8_t pcb, const uint8_t *inf, size_t count,
+                                        uint8_t *out, size_t room);
+
+/* ---- chains of I-blocks (ISO/IEC 7816-3, clause 11.6) ---- */
+
+/* Writes the block of the chain that begins at octet `start` of the message: min(ifs, what is left) octets of it,
+ * with more to come where any are left after them, and the number `ns`. Room: SCARD_BLOCK_ROOM. ARGUMENT with
+ * place 0: `ifs` is 0 or 255, `ns` isn't 0 or 1, or `start` is past the message. OK, ARGUMENT.
+ */
+struct scard_verdict scard_chain_block(const uint8_t *message, size_t count, size_t start, uint8_t ifs, uint8_t ns,
+                                       uint8_t *out, size_t room);
+
+/* Writes the whole chain of a message of at most 131,072 octets, the first block with the number `ns`. Room: the
+ * message and 4 octets a block; the empty message has one block. OK, ARGUMENT.
+ */
+struct scard_verdict scard_chain_cut(const uint8_t *message, size_t count, uint8_t ifs, uint8_t ns,
+                                     uint8_t *out, size_t room);
+
+/* ---- commands and responses (ISO/IEC 7816-3, clause 12; ISO/IEC 7816-4, clause 5.1) ---- */
+
+enum scard_shape {
+    SCARD_CASE_1 = 1,       /* nothing after the header */
+    SCARD_CASE_2_SHORT = 2, /* Le, 1 to 256 */
+    SCARD_CASE_3_SHORT = 3, /* a data field of 1 to 255 octets */
+    SCARD_CASE_4_SHORT = 4, /* both */
+    SCARD_CASE_2_LONG = 5,  /* Le, 1 to 65,536 */
+    SCARD_CASE_3_LONG = 6,  /* a data field of 1 to 65,535 octets */
+    SCARD_CASE_4_LONG = 7   /* both */
+};
+
+struct scard_command {
+    uint8_t cla, ins, p1, p2;
+    uint8_t shape; /* enum scard_shape */
+    uint8_t has_le;    /* 1 where there is an Le field, else 0 */
+    uint32_t le;       /* the most octets that are expected back; 0 where there is no Le */
+    size_t data_place; /* the data field is data_len octets from this place on of the octets */
+    size_t data_len;
+};
+
+struct scard_response {
+    uint8_t sw1, sw2;
+    size_t data_len; /* the data field is the front of the octets */
+};
+
+/* The command, or the response, that all the octets are; it is written to *out at OK. OK, SHORT, AT. */
+struct scard_verdict scard_command_decode(const uint8_t *octets, size_t count, struct scard_command *out);
+struct scard_verdict scard_response_decode(const uint8_t *octets, size_t count, struct scard_response *out);
+
+/* Writes the command with the header, shape and Le of a struct, and this data field; the struct's other fields
+ * aren't looked at. Give an Le of 0 and no data field to a shape that hasn't them. Room: at most the data field
+ * and 9. ARGUMENT with place 0: its length fields can't tell them. OK, MEMORY, ARGUMENT.
+ */
+struct scard_verdict scard_command_encode(const struct scard_command *command, const uint8_t *data, size_t count,
+                                          uint8_t *out, size_t room);
+
+/* Writes a response. Room: the data field, at most 65,536 octets, and 2. OK, MEMORY, ARGUMENT. */
+struct scard_verdict scard_response_encode(const uint8_t *data, size_t count, uint8_t sw1, uint8_t sw2,
+                                           uint8_t *out, size_t room);
+
+enum scard_status_class {
+    SCARD_CLASS_NORMAL = 1,
+    SCARD_CLASS_WARNING = 2,
+    SCARD_CLASS_EXECUTION = 3,
+    SCARD_CLASS_CHECKING = 4,
+    SCARD_CLASS_PROPRIETARY = 5,
+    SCARD_CLASS_INVALID = 6
+};
+
+/* The class of two status bytes: enum scard_status_class. */
+uint8_t scard_status_class(uint8_t sw1, uint8_t sw2);
+
+/* ---- data objects (EMV 4.3 Book 3, Annex B and clause 5.4) ---- */
+
+/* The largest forest. */
+#define SCARD_TLV_LARGEST 1048576
+
+/* The verdict on octets as a forest: a list of data objects and filler octets 00, at most `max` octets, itself at
+ * most SCARD_TLV_LARGEST. OK, SHORT, AT, ARGUMENT.
+ */
+struct scard_verdict scard_tlv_check(const uint8_t *octets, size_t count, size_t max);
+
+/* Writes the same objects without fillers and with each length in its shortest form. Room: `count` suffices.
+ * OK, SHORT, AT, MEMORY, ARGUMENT. */
+struct scard_verdict scard_tlv_tidy(const uint8_t *octets, size_t count, size_t max, uint8_t *out, size_t room);
+
+/* The verdict on octets as a data object list: tags, each with a length octet. OK, SHORT, AT, MEMORY. */
+struct scard_verdict scard_dol_check(const uint8_t *octets, size_t count);
+
+/* ---- both ends of a T=1 session (ISO/IEC 7816-3, clause 11.6) ---- */
+
+/* A terminal or a card. Begin with SCARD_HANDLE_EMPTY, and close what was opened. Never copy one, and never change
+ * one but by these calls.
+ */
+struct scard_handle {
+    void *at;
+    bool is_full;
+};
+
+#define SCARD_HANDLE_EMPTY {NULL, false}
+
+enum scard_turn_kind {
+    /* Send the first `count` octets of the buffer, and wait for the other end. */
+    SCARD_SEND = 0,
+    /* Terminal: the answer is complete. Card: its host owes the reply to a command. scard_message has either. */
+    SCARD_DONE = 1,
+    /* Terminal: the card took the information size. */
+    SCARD_IFS_SET = 2,
+    /* Terminal: the ends were resynchronized, and the exchange or the question about a size is given up. */
+    SCARD_GIVEN_UP = 3,
+    /* Terminal: the card answers no more. */
+    SCARD_DEAD = 4,
+    /* The call was refused, and changed nothing. */
+    SCARD_REFUSED_DEAD = 16,     /* the card was found dead */
+    SCARD_REFUSED_BUSY = 17,     /* an exchange, or a question about a size, is under way */
+    SCARD_REFUSED_TOO_LONG = 18, /* a command above 65,544 octets, or a reply above 65,538 */
+    SCARD_REFUSED_RESERVED = 19, /* the sizes 0 and 255 are reserved */
+    SCARD_REFUSED_IDLE = 20,     /* the terminal awaits no block */
+    SCARD_REFUSED_ORDER = 21,    /* it isn't the turn of the card's host, or a block came in it */
+    SCARD_NO_END = 32,           /* the handle holds no such end */
+    SCARD_NO_ROOM = 33           /* the buffer has less than SCARD_BLOCK_ROOM octets */
+};
+
+struct scard_turn {
+    uint8_t kind; /* enum scard_turn_kind */
+    size_t count;
+};
+
+/* Open an end for these parameters of T=1. All the memory of an end is taken here, some 131 KB; what the handle
+ * held is freed. Unless it is OK the handle stays as it was. OK, MEMORY, ARGUMENT (`ifsc` is 0 or 255, or an index
+ * is above 15).
+ */
+struct scard_verdict scard_terminal_open(struct scard_handle *handle, uint8_t ifsc, uint8_t bwi, uint8_t cwi);
+struct scard_verdict scard_card_open(struct scard_handle *handle, uint8_t ifsc, uint8_t bwi, uint8_t cwi);
+
+/* Frees what the handle holds, and leaves it empty. An empty handle is fine. */
+void scard_close(struct scard_handle *handle);
+
+/* The calls of an end. Each wants a buffer of SCARD_BLOCK_ROOM octets, and writes the octets of a block to it at
+ * SCARD_SEND alone. `received` takes what the line delivered as one block, whatever it is; `quiet` says that
+ * nothing came within the waiting time, which this library doesn't measure.
+ */
+struct scard_turn scard_terminal_transmit(struct scard_handle *handle, const uint8_t *command, size_t count,
+                                          uint8_t *out, size_t room);
+struct scard_turn scard_terminal_received(struct scard_handle *handle, const uint8_t *octets, size_t count,
+                                          uint8_t *out, size_t room);
+struct scard_turn scard_terminal_quiet(struct scard_handle *handle, uint8_t *out, size_t room);
+struct scard_turn scard_terminal_ask_ifs(struct scard_handle *handle, uint8_t size, uint8_t *out, size_t room);
+
+struct scard_turn scard_card_received(struct scard_handle *handle, const uint8_t *octets, size_t count,
+                                      uint8_t *out, size_t room);
+struct scard_turn scard_card_reply(struct scard_handle *handle, const uint8_t *reply, size_t count,
+                                   uint8_t *out, size_t room);
+struct scard_turn scard_card_more_time(struct scard_handle *handle, uint8_t multiple, uint8_t *out, size_t room);
+struct scard_turn scard_card_ask_ifs(struct scard_handle *handle, uint8_t size, uint8_t *out, size_t room);
+
+/* Writes the terminal's answer, from the turn SCARD_DONE on until the next command is taken; or the card's
+ * command, while its host owes the reply. Room: what the verdict's place says; 65,544 suffices. OK, ARGUMENT (with
+ * place 0: there is none).
+ */
+struct scard_verdict scard_message(struct scard_handle *handle, uint8_t *out, size_t room);
+
+#ifdef __cplusplus
+}
+#endif
+
+#endif

@@ -1,0 +1,89 @@
+/* Counted checks, and octets in heap blocks of exactly their size. */
+#ifndef CHECK_H
+#define CHECK_H
+
+#include "scard.h"
+
+#include <stdio.h>
+#include <stdlib.h>
+#include <string.h>
+
+static int checks, failures;
+
+#define CHECK(condition)                                                              \
+    do {                                                                              \
+        checks++;                                                                     \
+        if (!(condition)) {                                                           \
+            failures++;                                                               \
+            fprintf(stderr, "%s:%d: not so: %s\n", __FILE__, __LINE__, #condition);   \
+        }                                                                             \
+    } while (0)
+
+struct octets {
+    uint8_t *at;
+    size_t count;
+};
+
+static inline int digit_of(char c)
+{
+    if (c >= '0' && c <= '9') {
+        return c - '0';
+    }
+    return c >= 'a' ? c - 'a' + 10 : c - 'A' + 10;
+}
+
+/* The octets of a text that is hexadecimal, in a block of their own. */
+static inline struct octets of_hex(const char *text)
+{
+    struct octets made;
+    size_t place;
+    made.count = strlen(text) / 2;
+    made.at = (uint8_t *)malloc(made.count);
+    if (made.at == NULL && made.count > 0) {
+        abort();
+    }
+    for (place = 0; place < made.count; place++) {
+        made.at[place] = (uint8_t)(digit_of(text[2 * place]) * 16 + digit_of(text[2 * place + 1]));
+    }
+    return made;
+}
+
+/* Whether octets are those of a hexadecimal text. */
+static inline int is_hex(const uint8_t *octets, size_t count, const char *text)
+{
+    struct octets wanted = of_hex(text);
+    int same = wanted.count == count && (count == 0 || memcmp(wanted.at, octets, count) == 0);
+    free(wanted.at);
+    return same;
+}
+
+/* A verdict as the line of the command line program. */
+static inline const char *line_of(struct scard_verdict v, int codec)
+{
+    static char line[80];
+    switch (v.status) {
+    case SCARD_OK:
+        snprintf(line, sizeof line, "ok %zu octets", v.place);
+        break;
+    case SCARD_SHORT:
+        snprintf(line, sizeof line, "short at %zu", v.place);
+        break;
+    case SCARD_AT:
+        snprintf(line, sizeof line, "refused at %zu: %s", v.place, scard_reason_name(codec, v.reason));
+        break;
+    case SCARD_MEMORY:
+        snprintf(line, sizeof line, "memory");
+        break;
+    default:
+        snprintf(line, sizeof line, "argument %zu", v.place);
+    }
+    return line;
+}
+
+static inline int verdict_of_checks(const char *name)
+{
+    printf("%s: %d checks, %d failed\n", name, checks, failures);
+    return failures == 0 ? 0 : 1;
+}
+
+#endif

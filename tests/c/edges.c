@@ -1,0 +1,99 @@
+/* Each call with null and 0, and with every front of octets in a heap block of exactly that size. */
+#include "check.h"
+
+static void nothing(void)
+{
+    struct scard_atr atr;
+    struct scard_block block;
+    struct scard_command command;
+    struct scard_response response;
+    struct scard_handle handle = SCARD_HANDLE_EMPTY;
+    CHECK(scard_lrc(NULL, 0) == 0);
+    CHECK(scard_hex_encode(NULL, 0, NULL, 0).status == SCARD_OK);
+    CHECK(scard_hex_decode(NULL, 0, NULL, 0).status == SCARD_OK);
+    CHECK(scard_atr_check(NULL, 0).status == SCARD_SHORT);
+    CHECK(scard_atr_decode(NULL, 0, &atr).status == SCARD_SHORT);
+    CHECK(scard_block_decode(NULL, 0, 254, &block).status == SCARD_SHORT);
+    CHECK(scard_block_i(0, 0, false, NULL, 0, NULL, 0).place == 4);
+    CHECK(scard_block_r(0, 0, 0, NULL, 0).place == 4);
+    CHECK(scard_block_s_request(0, SCARD_S_RESYNCH, NULL, 0, NULL, 0).place == 4);
+    CHECK(scard_block_s_response(0, SCARD_S_RESYNCH, NULL, 0, NULL, 0).place == 4);
+    CHECK(scard_block_encode(0, 0, NULL, 0, NULL, 0).place == 4);
+    CHECK(scard_chain_block(NULL, 0, 0, 254, 0, NULL, 0).place == 4);
+    CHECK(scard_chain_cut(NULL, 0, 254, 0, NULL, 0).place == 4);
+    CHECK(scard_command_decode(NULL, 0, &command).status == SCARD_SHORT);
+    CHECK(scard_response_decode(NULL, 0, &response).status == SCARD_SHORT);
+    memset(&command, 0, sizeof command);
+    command.shape = SCARD_CASE_1;
+    CHECK(scard_command_encode(&command, NULL, 0, NULL, 0).place == 4);
+    CHECK(scard_response_encode(NULL, 0, 0x90, 0, NULL, 0).place == 2);
+    CHECK(scard_tlv_check(NULL, 0, 0).status == SCARD_OK);
+    CHECK(scard_tlv_tidy(NULL, 0, 0, NULL, 0).status == SCARD_OK);
+    CHECK(scard_dol_check(NULL, 0).status == SCARD_OK);
+    CHECK(scard_terminal_transmit(&handle, NULL, 0, NULL, 0).kind == SCARD_NO_ROOM);
+    CHECK(scard_terminal_received(&handle, NULL, 0, NULL, 0).kind == SCARD_NO_ROOM);
+    CHECK(scard_terminal_quiet(&handle, NULL, 0).kind == SCARD_NO_ROOM);
+    CHECK(scard_terminal_ask_ifs(&handle, 1, NULL, 0).kind == SCARD_NO_ROOM);
+    CHECK(scard_card_received(&handle, NULL, 0, NULL, 0).kind == SCARD_NO_ROOM);
+    CHECK(scard_card_reply(&handle, NULL, 0, NULL, 0).kind == SCARD_NO_ROOM);
+    CHECK(scard_card_more_time(&handle, 1, NULL, 0).kind == SCARD_NO_ROOM);
+    CHECK(scard_card_ask_ifs(&handle, 1, NULL, 0).kind == SCARD_NO_ROOM);
+    CHECK(scard_message(&handle, NULL, 0).status == SCARD_ARGUMENT);
+    scard_close(&handle);
+}
+
+/* Every call that reads octets, on a front of them: it answers, and the sanitizer sees that it reads no further. */
+static void front(const uint8_t *octets, size_t count)
+{
+    uint8_t *own = (uint8_t *)malloc(count);
+    uint8_t *out = (uint8_t *)malloc(4 * count + 4);
+    struct scard_atr atr;
+    struct scard_block block;
+    struct scard_command command;
+    struct scard_response response;
+    struct scard_verdict v;
+    if (count > 0) {
+        memcpy(own, octets, count);
+    }
+    v = scard_atr_decode(own, count, &atr);
+    CHECK(v.place <= count && v.status <= SCARD_AT);
+    v = scard_block_decode(own, count, 254, &block);
+    CHECK(v.place <= count && v.status <= SCARD_AT);
+    v = scard_command_decode(own, count, &command);
+    CHECK(v.place <= count && v.status <= SCARD_AT);
+    v = scard_response_decode(own, count, &response);
+    CHECK(v.place <= count && v.status <= SCARD_AT);
+    v = scard_tlv_check(own, count, SCARD_TLV_LARGEST);
+    CHECK(v.place <= count && v.status <= SCARD_AT);
+    v = scard_tlv_tidy(own, count, SCARD_TLV_LARGEST, out, count);
+    CHECK(v.place <= count && v.status <= SCARD_AT);
+    v = scard_dol_check(own, count);
+    CHECK(v.place <= count && v.status <= SCARD_AT);
+    v = scard_hex_decode((const char *)own, count, out, count / 2);
+    CHECK(v.place <= count && v.status <= SCARD_AT);
+    v = scard_hex_encode(own, count, (char *)out, 2 * count);
+    CHECK(v.status == SCARD_OK && v.place == 2 * count);
+    v = scard_chain_cut(own, count, 3, 0, out, 4 * count + 4);
+    CHECK(v.status == SCARD_OK && v.place == count + 4 * (count == 0 ? 1 : (count + 2) / 3));
+    v = scard_chain_cut(own, count, 3, 0, out, v.place - 1);
+    CHECK(v.status == SCARD_ARGUMENT);
+    free(own);
+    free(out);
+}
+
+int main(void)
+{
+    static const char *const samples[] = {
+        "3B8F8001804F0CA000000306030001000000006AFF",     "00000500A4040000A5", "00A4040007A000000004101000",
+        "6F108407A0000000041010A505BF0C0250009F02065F2A", "00D6000000000201020000", "3030413461345B"};
+    size_t sample, count;
+    nothing();
+    for (sample = 0; sample < sizeof samples / sizeof samples[0]; sample++) {
+        struct octets octets = of_hex(samples[sample]);
+        for (count = 0; count <= octets.count; count++) {
+            front(octets.at, count);
+        }
+        free(octets.at);
+    }
+    return verdict_of_checks("edges");
+}
