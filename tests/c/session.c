@@ -5,20 +5,36 @@ static struct scard_handle terminal = SCARD_HANDLE_EMPTY;
 static struct scard_handle card = SCARD_HANDLE_EMPTY;
 static uint8_t block[SCARD_BLOCK_ROOM];
 
-static struct scard_turn to_terminal(const char *text)
+/* The calls of an end that take octets and may make a block. */
+typedef struct scard_turn call(struct scard_handle *, const uint8_t *, size_t, uint8_t *, size_t);
+
+/* One of these calls with the octets of a text, the block in `block`. */
+static struct scard_turn given(call *make, struct scard_handle *handle, const char *text)
 {
     struct octets octets = of_hex(text);
-    struct scard_turn turn = scard_terminal_received(&terminal, octets.at, octets.count, block, sizeof block);
+    struct scard_turn turn = make(handle, octets.at, octets.count, block, sizeof block);
     free(octets.at);
     return turn;
 }
 
+static struct scard_turn to_terminal(const char *text)
+{
+    return given(scard_terminal_received, &terminal, text);
+}
+
 static struct scard_turn to_card(const char *text)
 {
-    struct octets octets = of_hex(text);
-    struct scard_turn turn = scard_card_received(&card, octets.at, octets.count, block, sizeof block);
-    free(octets.at);
-    return turn;
+    return given(scard_card_received, &card, text);
+}
+
+static struct scard_turn transmit(const char *text)
+{
+    return given(scard_terminal_transmit, &terminal, text);
+}
+
+static struct scard_turn reply(const char *text)
+{
+    return given(scard_card_reply, &card, text);
 }
 
 static int sends(struct scard_turn turn, const char *text)
@@ -31,22 +47,6 @@ static int holds(struct scard_handle *handle, const char *text)
     uint8_t message[16];
     struct scard_verdict v = scard_message(handle, message, sizeof message);
     return v.status == SCARD_OK && is_hex(message, v.place, text);
-}
-
-static struct scard_turn transmit(const char *text)
-{
-    struct octets octets = of_hex(text);
-    struct scard_turn turn = scard_terminal_transmit(&terminal, octets.at, octets.count, block, sizeof block);
-    free(octets.at);
-    return turn;
-}
-
-static struct scard_turn reply(const char *text)
-{
-    struct octets octets = of_hex(text);
-    struct scard_turn turn = scard_card_reply(&card, octets.at, octets.count, block, sizeof block);
-    free(octets.at);
-    return turn;
 }
 
 static void opens(void)
