@@ -1,5 +1,6 @@
 pub mod Atr
 pub mod T1
+pub mod Waiting
 pub mod Rates
 pub mod Partial
 pub mod Taking

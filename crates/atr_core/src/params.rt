@@ -3,6 +3,7 @@
 ghost use Rattle.std.specs.Prelude.{◌≡◌, ◌≤◌, ◌<◌, SomeIff, drop};
 ghost use Rattle.std.specs.Option.{option_or};
 ghost use Rattle.atr_core.specs.T1.{T1Values, IsUsable, t1_params_of, first_after_t1, offers_t1};
+ghost use Rattle.atr_core.specs.Waiting.{block_cycles, block_waiting, character_waiting};
 
 use crate::{Atr, Indicated, Interface};
 use std::marker::Model;
@@ -72,6 +73,41 @@ impl T1Params {
         ensures most { result ≤ 15 }
     {
         self.cwi
+    }
+
+    /// The character waiting time CWT in elementary time units: 11 + 2^CWI, so 12 to 32,779.
+    ///
+    /// It is the longest time between the leading edges of two characters of one block (ISO/IEC 7816-3,
+    /// clause 11.4).
+    pub fn cwt_etu(&self) -> u32
+        ensures value { result ≡ character_waiting self.now }
+        ensures most { result ≤ 32779 }
+    {
+        11 + (1 << self.cwi)
+    }
+
+    /// The part of the block waiting time BWT after its 11 elementary time units, in cycles of the card's
+    /// clock: 2^BWI x 960 x 372.
+    ///
+    /// BWT is the longest time between the leading edge of the last character of a block that the card
+    /// received and that of the first character of its answer (ISO/IEC 7816-3, clause 11.4).
+    pub fn bwt_cycles(&self) -> u64
+        ensures value { result ≡ block_cycles self.now }
+        ensures most { result ≤ 11702108160 }
+    {
+        (1 << self.bwi) * 357_120
+    }
+
+    /// The block waiting time BWT in parts of an elementary time unit, `fi` of which are one unit:
+    /// 11 x `fi` + 2^BWI x 960 x 372 x `di`.
+    ///
+    /// `fi` and `di` are the integers Fi and Di that are in use, 372 and 1 until others are negotiated
+    /// ([`rates`](crate::rates) says which the card offers). No fraction is lost: divide by `fi` for
+    /// elementary time units, or by `di` and the clock's frequency for seconds, and round up.
+    pub fn bwt(&self, fi: u16, di: u16) -> u64
+        ensures { result ≡ block_waiting self.now fi di }
+    {
+        11 * fi as u64 + self.bwt_cycles() * di as u64
     }
 }
 

@@ -244,3 +244,18 @@ fn each_cut_of_an_answer_in_two(rt: HostRuntime) {
         assert_eq!(rt; reader.feed(rest), Ok((rest.len(), true)));
     }
 }
+
+#[test]
+fn waiting_times(rt: HostRuntime) {
+    let first = T1Params::new(32, 4, 13).expect(&rt, "parameters");
+    assert_eq!(rt; first.cwt_etu(), 8_203);
+    assert_eq!(rt; first.bwt_cycles(), 5_713_920);
+    assert_eq!(rt; first.bwt(372, 1), 15_371 * 372);
+    let least = T1Params::new(32, 0, 0).expect(&rt, "parameters");
+    assert_eq!(rt; least.cwt_etu(), 12);
+    assert_eq!(rt; least.bwt(372, 1), 971 * 372);
+    assert_eq!(rt; least.bwt(512, 8), 11 * 512 + 357_120 * 8);
+    let greatest = T1Params::new(32, 9, 15).expect(&rt, "parameters");
+    assert_eq!(rt; greatest.cwt_etu(), 32_779);
+    assert_eq!(rt; greatest.bwt(372, 1), 491_531 * 372);
+}

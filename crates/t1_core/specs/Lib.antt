@@ -1,5 +1,6 @@
 pub mod Came
 pub mod Terminal
+pub mod Waiting
 pub mod Card
 pub mod Link
 pub mod Promises

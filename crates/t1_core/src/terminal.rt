@@ -58,7 +58,7 @@ impl Model for Terminal {
 }
 
 impl Terminal {
-    /// A new terminal, idle, with buffers for the longest command and answer; `Err` for want of memory.
+    /// A new terminal, idle, with buffers for the longest command and answer; `Err` out of memory.
     /// No later call takes any. It takes information fields of 32 octets, and the card those of IFSC.
     pub fn new(alloc: Global, params: T1Params) -> Result<Terminal, AllocError>
         ensures { IfOk result (λ terminal. terminal ≡ new_terminal params.ifsc) }
@@ -150,7 +150,9 @@ impl Terminal {
         }
     }
 
-    /// Nothing came within the waiting time. Refused `Dead` or `Idle`.
+    /// Nothing came within the waiting time: `T1Params::bwt` times [`TerminalTurn::waiting`] of the turn
+    /// before. A block of which only the first octets came within CWT goes to `received`. Refused `Dead` or
+    /// `Idle`.
     pub fn quiet(&mut self) -> Result<TerminalTurn, TerminalFault>
         ensures turn { result ≡ turn_of (terminal_turn self.old (takes quiet)) }
         ensures state { self.new ≡ state_after self.old (terminal_turn self.old (takes quiet)) }

@@ -168,6 +168,18 @@ fn more_time(rt: HostRuntime) -> Result<(), Fail> {
 }
 
 #[test]
+fn how_long_is_waited(rt: HostRuntime) -> Result<(), Fail> {
+    for (multiple, times) in [(0x00u8, 1), (0x01, 1), (0xFF, 255)] {
+        let mut t = in_answer(rt.alloc())?;
+        let request = [0x00, 0xC3, 0x01, multiple, 0xC2 ^ multiple];
+        assert_eq!(rt; t.received(&request).map(|turn| turn.waiting()), Ok(times));
+        assert_eq!(rt; t.quiet().map(|turn| turn.waiting()), Ok(1));
+        assert_eq!(rt; t.received(&DONE_BLOCK).map(|turn| turn.waiting()), Ok(1));
+    }
+    Ok(())
+}
+
+#[test]
 fn a_size_and_a_chained_answer(rt: HostRuntime) -> Result<(), Fail> {
     let mut t = terminal(rt.alloc())?;
     let mut c = card(rt.alloc())?;

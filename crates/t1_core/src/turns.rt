@@ -1,6 +1,9 @@
 //! What a call of an end answers, and what an end waits in.
 
-use block_core::Block;
+ghost use Rattle.std.specs.Prelude.{◌≡◌, ◌≤◌};
+ghost use Rattle.t1_core.specs.Waiting.{granted, waiting_times};
+
+use block_core::{Block, Pcb, S};
 
 /// What the terminal does next.
 #[derive(Debug, PartialEq, Eq, Drop)]
@@ -15,6 +18,33 @@ pub enum TerminalTurn {
     GivenUp,
     /// The card answers no more, not even RESYNCH.
     Dead,
+}
+
+impl TerminalTurn {
+    /// How many block waiting times may go by after this turn before the terminal is told `quiet`: the
+    /// multiple that the card asked for where this turn grants it, else 1. A multiple of 0 counts as 1.
+    ///
+    /// One such time is `T1Params::bwt` (ISO/IEC 7816-3, clause 11.4).
+    pub fn waiting(&self) -> u8
+        ensures times { result ≡ waiting_times self.now }
+        ensures least { 1 ≤ result }
+    {
+        match self {
+            TerminalTurn::Send(block) => granted(block),
+            _ => 1,
+        }
+    }
+}
+
+/// The multiple that a block grants; 1 where it grants none.
+fn granted(block: &Block) -> u8
+    ensures times { result ≡ granted block.now.pcb block.now.inf }
+    ensures least { 1 ≤ result }
+{
+    match (block.pcb(), block.inf()) {
+        (Pcb::Response(S::Wtx), &[multiple]) if multiple > 0 => multiple,
+        _ => 1,
+    }
 }
 
 /// Why the terminal refused a call. A refused call changes nothing.
