@@ -3,6 +3,8 @@
 ghost use Rattle.std.specs.Prelude.{◌≡◌};
 ghost use Rattle.octet_core.specs.declared.stop.Stop.TheVariants.{At};
 
+use std::alloc::AllocError;
+
 /// Why octets are no spelling of a value. Places count octets from 0.
 #[derive(Clone, Copy, Debug, PartialEq, Eq)]
 pub enum Stop<R> {
@@ -19,6 +21,26 @@ pub enum Refused<R> {
     Stop(Stop<R>),
     /// A growth was refused. The octets may be a spelling or not.
     Memory,
+}
+
+impl<R> From<AllocError> for Refused<R> {
+    ghost use Rattle.octet_core.specs.declared.stop.Refused.TheVariants.{Memory};
+
+    ghost from_gives = { λ _ refused. refused ≡ Memory };
+
+    fn from(_error: AllocError) -> Refused<R> {
+        Refused::Memory
+    }
+}
+
+impl<R> From<Stop<R>> for Refused<R> {
+    ghost use Rattle.octet_core.specs.declared.stop.Refused.TheVariants.{Stop as Stopped};
+
+    ghost from_gives = { λ stop refused. refused ≡ Stopped stop };
+
+    fn from(stop: Stop<R>) -> Refused<R> {
+        Refused::Stop(stop)
+    }
 }
 
 /// A refusal that a reader keeps and repeats: the octet at `place`, counted from the first that it was
