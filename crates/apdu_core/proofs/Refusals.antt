@@ -93,7 +93,7 @@ short-long_part b octets none more lt =
     (λ t. elim t [ inl u ↦ u.0 none | inr u ↦ elim u [ inl w ↦ omega (arith, w.1) | inr w ↦ omega arith ] ])
     (λ w. elim w [ of_header e ↦ omega arith | of_short_le e ↦ omega arith | of_short_part x l g ↦ x none | of_long_le x e ↦ omega arith | of_long_part x y e ↦ omega arith | of_long_both x y e ↦ omega arith ])
 
--- one octet of an extended Le behind a data field
+-- one octet of an extended Le after a data field
 pub short-long_le : (b : List ℕ) → AreOctets b → slice_index b 4 ≡ 0 → long_count b ≢ 0 → length b ≡ long_count b + 8 → Refuses whole IsCommand IsReason b (Short (length b))
 short-long_le b octets none some is =
     short-by b octets
@@ -124,21 +124,21 @@ refused-by b p octets more inside goes trails =
       inl (t, refl),
     )
 
--- behind a short Lc, its data field and a short Le
+-- after a short Lc, its data field and a short Le
 pub trailing-short : (b : List ℕ) → AreOctets b → slice_index b 4 ≢ 0 → slice_index b 4 + 6 < length b → Refuses whole IsCommand IsReason b (At (slice_index b 4 + 6) Trailing)
 trailing-short b octets some lt =
     refused-by b (slice_index b 4 + 6) octets (omega arith) lt
     (λ t. elim t [ inl u ↦ omega arith | inr u ↦ elim u [ inl w ↦ some w.0 | inr w ↦ some w.0 ] ])
     (inl (some, omega arith))
 
--- behind an extended Le alone
+-- after an extended Le alone
 pub trailing-long_le : (b : List ℕ) → AreOctets b → slice_index b 4 ≡ 0 → long_count b ≡ 0 → 7 < length b → Refuses whole IsCommand IsReason b (At 7 Trailing)
 trailing-long_le b octets none zero_lc lt =
     refused-by b 7 octets (omega arith) lt
     (λ t. elim t [ inl u ↦ u.0 none | inr u ↦ elim u [ inl w ↦ omega arith | inr w ↦ w.1 zero_lc ] ])
     (inr (inl (none, zero_lc, omega arith)))
 
--- behind an extended Lc, its data field and an extended Le
+-- after an extended Lc, its data field and an extended Le
 pub trailing-long : (b : List ℕ) → AreOctets b → slice_index b 4 ≡ 0 → long_count b ≢ 0 → long_count b + 9 < length b → Refuses whole IsCommand IsReason b (At (long_count b + 9) Trailing)
 trailing-long b octets none some lt =
     refused-by b (long_count b + 9) octets (omega arith) lt

@@ -76,7 +76,7 @@ le_of (LongLe le) = Some le
 le_of (LongPart part) = None
 le_of (LongBoth part le) = Some le
 
--- the place of the data field, behind the header and Lc; of a body without one, behind the header
+-- the place of the data field, after the header and Lc; of a body without one, after the header
 abbrev pub part_place : Body → ℕ
 part_place Empty = 4
 part_place (ShortLe le) = 4
@@ -113,7 +113,7 @@ HasSpelling c = (b : List ℕ) × IsCommand c b
 abbrev pub long_count : List ℕ → ℕ
 long_count b = slice_index b 5 * 256 + slice_index b 6
 
--- the last octet of b stands after the last that the length fields allow:
+-- the last octet of b is after the last that the length fields allow:
 -- a short Lc, an extended Le alone, or an extended Lc
 abbrev pub IsTrailing : List ℕ → Type 0
 IsTrailing b = ((slice_index b 4 ≢ 0) × (slice_index b 4 + 6 < length b))

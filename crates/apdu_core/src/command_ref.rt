@@ -88,7 +88,7 @@ impl<'a> CommandRef<'a> {
         }
     }
 
-    /// The data field, lent from the octets that were read, where it stands behind Lc; of a body without
+    /// The data field, lent from the octets that were read, where it is after Lc; of a body without
     /// one no octets.
     pub fn part(&self) -> &'a [u8]
         ensures { result.now ≡ part_of self.now.body }
@@ -128,7 +128,7 @@ impl<'a> CommandRef<'a> {
 impl<'a> BodyRef<'a> {
     ghost use Rattle.apdu_core.specs.Borrowed.{IsBodyOf, body_of};
 
-    /// The body behind the header of a command.
+    /// The body after the header of a command.
     fn read(octets: &'a [u8]) -> Result<BodyRef<'a>, Stop<CommandReason>>
         requires { 4 ≤ length octets.now }
         ensures found { IfOk result (λ body. IsBodyOf octets.now (body_of body)) }

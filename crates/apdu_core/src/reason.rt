@@ -3,7 +3,7 @@
 /// Why octets are no command APDU.
 #[derive(Clone, Copy, Debug, PartialEq, Eq)]
 pub enum CommandReason {
-    /// The octet stands after the last that the length fields allow.
+    /// The octet is after the last that the length fields allow.
     Trailing,
 }
 

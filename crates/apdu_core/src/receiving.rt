@@ -84,7 +84,7 @@ impl<R> From<Refused<R>> for ReceiveFault<R> {
 ///
 /// `Memory` comes where memory was refused: for the message, and then nothing was read, or for the copy
 /// of the part, and then exactly a chain whose message is a command. `Read` comes where a call of the
-/// reader failed, which isn't tried again, behind `taken` octets with which a chain begins. `Chain` is the
+/// reader failed, which isn't tried again, after `taken` octets with which a chain begins. `Chain` is the
 /// refusal of what was read as a chain: `Short` where the reader ended, `At` the first octet after which no
 /// chain goes on, and then no octet is read past the first three of its block, or past that octet.
 /// `Apdu` is the refusal of the message as a command; exactly the chain was then read.

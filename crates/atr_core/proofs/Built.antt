@@ -38,7 +38,7 @@ checked-built a n o p q r t0 hn ho hp hq hr ht =
     let fourth : q ≡ t ∷ interface_octets a.first a.indicated = hq ∙ ap (λ (l : List ℕ). l ++ td_octets a.indicated) third ∙ ap (λ (l : List ℕ). t ∷ l) (sym (interface-td a.first a.indicated)) in
     hr ∙ ap (λ (l : List ℕ). l ++ a.historical) fourth
 
--- what TCK checks has room behind TS
+-- what TCK checks has room after TS
 pub checked-room : (a : AtrParts) → IsProper a → 1 + length (checked_octets a) + length (option_to_list (tck_of a)) ≤ 33
 checked-room a h = omega (arith, h.most, length-append (checked_octets a) (option_to_list (tck_of a)))
 

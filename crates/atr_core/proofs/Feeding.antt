@@ -84,6 +84,6 @@ finished p count stands is = record {
   some_taken = λ free. (taken_of p, record { free = refl; is = refl; begun = begun-open p stands });
 }
 
--- octets from the first on, behind which more must come
+-- octets from the first on, after which more must come
 pub short-open : (p : Partial) (octets : List ℕ) (n : ℕ) → IsTaken [] octets n (Open p) → IsShort self_ended IsAtr octets n
 short-open p octets n h = subst (IsShort self_ended IsAtr octets) (sym h.2) (short octets (subst Unfinished h.1 (goes-on p h.0)))

@@ -57,7 +57,7 @@ AwaitsTd left = (awaits_byte left ≡ false) × (left.td ≡ true)
 abbrev pub awaited_count : Announced → ℕ
 awaited_count left = count_of left.ta + count_of left.tb + count_of left.tc + count_of left.td
 
--- no byte has come that stands after one that is awaited
+-- no byte has come that is after one that is awaited
 pub record InOrder (bytes : Interface) (left : Announced) : Type 0 where
   pub ta : IsTrue left.ta → (bytes.ta ≡ None) × (bytes.tb ≡ None) × (bytes.tc ≡ None)
   pub tb : IsTrue left.tb → (bytes.tb ≡ None) × (bytes.tc ≡ None)

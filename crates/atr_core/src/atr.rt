@@ -191,7 +191,7 @@ fn interface_len(first: Interface, indicated: &[Indicated]) -> usize
     first.count() + after_len(indicated)
 }
 
-/// How many TDs and interface bytes behind TDs stand.
+/// How many TDs and interface bytes after TDs stand.
 fn after_len(indicated: &[Indicated]) -> usize
     requires { length indicated.now ≤ 31 }
     ensures { result ≡ sum_by (λ x. 1 + length (octets_of x.bytes)) indicated.now }

@@ -123,7 +123,7 @@ pub enum ParamFault {
 }
 
 /// The parameters of T=1 that the answer gives, by the first TA, TB and TC for T=1, each found apart
-/// behind the second TD or a later one, or their defaults 20, 4D and 00 (ISO/IEC 7816-3, clause
+/// after the second TD or a later one, or their defaults 20, 4D and 00 (ISO/IEC 7816-3, clause
 /// 11.4). Else the first of the faults that holds, in the order of [`ParamFault`].
 pub fn t1_params(atr: &Atr) -> Result<T1Params, ParamFault>
     ensures { result ≡ t1_params_of atr.now }

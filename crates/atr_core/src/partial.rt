@@ -291,7 +291,7 @@ impl Header {
     }
 }
 
-/// Whether a TCK stands after a TD with this protocol; `before` says it of the TDs before it.
+/// Whether a TCK is after a TD with this protocol; `before` says it of the TDs before it.
 fn needs_tck_after(protocol: u8, before: bool) -> bool
     ensures { result ≡ (not (protocol == 0) || before) }
 {

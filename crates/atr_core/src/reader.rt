@@ -132,7 +132,7 @@ impl AtrReader {
     }
 }
 
-/// Takes octets of a piece behind `count` octets, until the answer is whole or one is refused: how many,
+/// Takes octets of a piece after `count` octets, until the answer is whole or one is refused: how many,
 /// and what they have come to.
 pub(crate) fn taken(partial: Partial, count: usize, piece: &[u8]) -> (usize, Stage)
     requires stands { Stands partial }

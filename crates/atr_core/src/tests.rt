@@ -134,7 +134,7 @@ fn parameters_of_t1(rt: HostRuntime) -> Result<(), Fail> {
         (b"\x3B\x80\x81\x41\x01\x41".as_slice(), Err(ParamFault::Crc)),
         // The bytes after TD1 aren't specific: TA2 isn't IFSC.
         (b"\x3B\x80\x91\x00\x01\x10".as_slice(), Ok((32, 4, 13))),
-        // The first TA stands after TD3, the first TB after TD2.
+        // The first TA is after TD3, the first TB after TD2.
         (
             b"\x3B\x80\x81\xA1\x45\x11\x80\x74".as_slice(),
             Ok((128, 4, 5)),

@@ -20,7 +20,7 @@ all-of n b e = ap (λ (k : ℕ). take k b) (sym e) ∙ take-length b
 
 -- ---- refusals at the last of the octets
 
--- nothing goes on behind the last octet, though something does behind those before it
+-- nothing goes on after the last octet, though something does after those before it
 refused-last : (ifs n : ℕ) (b : List ℕ) (r : BlockReason) → length b ≡ n + 1 → ((v : Parts) (m : ℕ) → (m ≤ length b) × IsBlock ifs v (take m b) → ⊥)
     → Begins (IsBlock ifs) (take n b) → (Begins (IsBlock ifs) (take (n + 1) b) → ⊥) → IsReason ifs r (take (n + 1) b) → IsRefused ifs b r
 refused-last ifs n b r len none begun stuck reason =

@@ -63,6 +63,6 @@ IsTested ifs (Rest pcb end) held = (length held ≡ end + 1) × (end ≡ 3 + sli
 IsTested ifs (Done block) held = ⊥
 IsTested ifs (Refused refusal) held = ⊥
 
--- no block goes on behind the last of the octets held, for this reason
+-- no block goes on after the last of the octets held, for this reason
 abbrev pub IsRefused : ℕ → List ℕ → BlockReason → Type 0
 IsRefused ifs held reason = RefusesAt self_ended (IsBlock ifs) (IsReason ifs) held (At (length held - 1) reason)

@@ -39,7 +39,7 @@ pub enum S {
 /// What a block is: one of 18 kinds. Every other control octet is refused.
 #[derive(Clone, Copy, Debug, PartialEq, Eq)]
 pub enum Pcb {
-    /// An I-block; with `more` the chain goes on behind it.
+    /// An I-block; with `more` the chain goes on after it.
     Info { number: Number, more: bool },
     /// An R-block: the number that its sender expects, and a fault.
     Ready { number: Number, fault: Fault },

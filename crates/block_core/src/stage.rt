@@ -13,7 +13,7 @@ use octet_core::{Refusal, Stop};
 /// How far a block has come, by the octet that is tested next.
 #[derive(Debug, Drop)]
 pub(crate) enum Stage {
-    /// PCB, behind NAD.
+    /// PCB, after NAD.
     Front,
     /// LEN.
     Len(Pcb),
@@ -56,7 +56,7 @@ impl Stage {
         }
     }
 
-    /// The stage behind the octet that is tested, the last of those held. `sum` is their exclusive-or.
+    /// The stage after the octet that is tested, the last of those held. `sum` is their exclusive-or.
     pub(crate) fn advanced(&self, held: &[u8], sum: u8, ifs: u8) -> Stage
         requires most { ifs ≤ 254 }
         requires tested { IsTested ifs self.now held.now }

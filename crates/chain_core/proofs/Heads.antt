@@ -33,7 +33,7 @@ counted true last blocks few some h = omega (arith, few (h refl))
 
 -- ---- the reader of the block
 
--- a reader takes an octet behind which a block goes on, but isn't whole
+-- a reader takes an octet after which a block goes on, but isn't whole
 pub fed-one : (old new : Reading) (x : ℕ) (result : Result (ℕ × Bool) (Stop BlockReason)) → IsFed (IsBlock old.ifs) (block.IsReason old.ifs) reading.HasTaken reading.refusal_of old new (x ∷ []) result
     → reading.HasTaken old old.taken → length old.taken < 3 → Begins (IsBlock old.ifs) (old.taken ++ x ∷ []) → reading.HasTaken new (old.taken ++ x ∷ [])
 fed-one old new x (Ok (n, false)) f h few begun =
@@ -58,7 +58,7 @@ front-of c x k lt = get_or_append_left c (x ∷ []) 0 k lt
 pcb-more : (number : Number) (blocks : ℕ) (more : Bool) (c : List ℕ) (x : ℕ) → 1 < length c → IsPcb number blocks more c → IsPcb number blocks more (c ++ x ∷ [])
 pcb-more number blocks more c x lt h = (h.0 ∙ sym (front-of c x 1 lt), h.1)
 
--- the part that comes next, behind an octet that is taken
+-- the part that comes next, after an octet that is taken
 pub at-behind : (number : Number) (last : Bool) (ifs max room blocks joined : ℕ) (p next : part.Part) (c : List ℕ) (x : ℕ) → (last ≡ false → blocks + 2 ≤ 131072) → blocks + 1 ≤ 131072 → joined ≤ max → room ≡ max - joined
     → IsAtPart number max blocks joined p c → IsBehind number last ifs room p x next → IsAtPart number max blocks joined next (c ++ x ∷ [])
 at-behind number last ifs max room blocks joined parts.Nad next c x few some fits is at h =

@@ -133,7 +133,7 @@ not-chain ifs max number before c part gs h =
 
 -- ---- refusals
 
--- the next octet is refused, where a spelling goes on before it and none behind it
+-- the next octet is refused, where a spelling goes on before it and none after it
 pub refused-next : {V R : Type 0} (S : V → List ℕ → Type 0) (Reason : R → List ℕ → Type 0) → ((b : List ℕ) (v w : V) (n m : ℕ) → Accepts self_ended S b v n → Accepts self_ended S b w m → (v ≡ w) × (n ≡ m))
     → (b : List ℕ) (x : ℕ) (r : R) → Begins S b → ((v : V) → S v b → ⊥) → (Begins S (b ++ x ∷ []) → ⊥) → Reason r (b ++ x ∷ []) → RefusesAt self_ended S Reason (b ++ x ∷ []) (At (length b) r)
 refused-next S Reason one b x r begun not_yet stuck reason =

@@ -82,7 +82,7 @@ unfolding IsFirst
 first-lrc ifs number max before c lt long bad =
     inr (λ m. omega (arith, m.0, lt), inr (λ m. omega (arith, m.0, lt), inr (λ m. omega (arith, m.0, lt), inr (λ m. omega (arith, m.0, lt), inr (λ m. omega (arith, m.0, lt), inr (λ m. omega (arith, m.0, lt), inr (λ m. omega (arith, m.0, lt), inr (λ m. omega (arith, m.0, lt), inl ((long, bad), refl)))))))))
 
--- what an I-block is refused for behind its first three octets
+-- what an I-block is refused for after its first three octets
 lrc-only : (ifs : ℕ) (number : Number) (more : Bool) (c : List ℕ) (r : BlockReason) → 3 < length c → pcb_octet (Info number more) ≡ slice_index c 1 → block.Meets ifs c r → (length c ≡ slice_index c 2 + 4) × (xor_of c ≢ 0)
 lrc-only ifs number more c faults.BadPcb lt pcb m = absurd (omega (arith, m.0))
 lrc-only ifs number more c faults.BadLen lt pcb m = absurd (omega (arith, m.0))

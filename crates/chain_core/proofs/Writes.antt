@@ -4,7 +4,7 @@ use Rattle.std.proofs.lemmas.List.{length-append, length-drop, length-take, take
 use Rattle.std.proofs.Math.Seq.{take-add, take-append_seam, drop-append_seam, drop-append-add}
 
 module _ (all p rest : List ℕ) (i : ℕ) (inside : i ≤ length all) (left : drop i all ≡ p ++ rest) where
-  -- the octets p come behind the first i
+  -- the octets p come after the first i
   pub part-inside : i + length p ≤ length all
   part-inside = omega (arith, length-drop i all, ap length left, length-append p rest)
 

@@ -63,7 +63,7 @@ IsHeadFault number last ifs room parts.Pcb x r = IsPcbFault number last x r
 IsHeadFault number last ifs room (parts.Len more) x r = IsLenFault ifs room x r
 IsHeadFault number last ifs room (parts.Rest more len) x r = ⊥
 
--- what comes behind it
+-- what comes after it
 abbrev pub IsBehind : Number → Bool → ℕ → ℕ → part.Part → ℕ → part.Part → Type 0
 IsBehind number last ifs room parts.Nad x next = (x ≡ 0) × (next ≡ parts.Pcb)
 IsBehind number last ifs room parts.Pcb x next = (more : Bool) × (next ≡ parts.Len more) × (pcb_octet (Info number more) ≡ x) × (more ≡ true → last ≡ false)

@@ -15,7 +15,7 @@ use Rattle.chain_core.specs.declared.reason.ChainReason.{ChainReason}
 use Rattle.chain_core.specs.declared.reading.ReadRefusal.{ReadRefusal}
 use Rattle.chain_core.specs.declared.reading.ReadRefusal.TheVariants.{Read, Stop}
 
--- the octets read were the first that the source held, and the receiver took them behind what it took before
+-- the octets read were the first that the source held, and the receiver took them after what it took before
 pub record IsTaken (held left : Option (List ℕ)) (old new : Reception) (read : List ℕ) : Type 0 where
   pub from : Consumes held left read
   pub taken : (t : List ℕ) → HasTaken old t → HasTaken new (t ++ read)
@@ -36,7 +36,7 @@ pub record ReadsChain (held left : Option (List ℕ)) (old new : Reception) : Ty
   pub done : new.done ≡ true
   pub kept : new.refusal ≡ None
 
--- the source failed behind so many octets
+-- the source failed after so many octets
 pub record ReadsPart (held left : Option (List ℕ)) (old new : Reception) (taken : ℕ) : Type 0 where
   pub read : List ℕ
   pub is : IsTaken held left old new read

@@ -94,7 +94,7 @@ pub(crate) fn check_len(len: u8, ifs: u8, room: usize) -> Result<(), ChainReason
     Ok(())
 }
 
-/// What comes behind one of the first three octets of a block. `number` is the number of the block, `last`
+/// What comes after one of the first three octets of a block. `number` is the number of the block, `last`
 /// says that it is the last that a chain can have, and `room` octets have room in the message.
 pub(crate) fn behind(
     part: Part,

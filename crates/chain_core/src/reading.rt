@@ -15,7 +15,7 @@ use octet_core::{Source, Stop};
 /// Why no whole chain was read.
 #[derive(Clone, Copy, Debug, PartialEq, Eq)]
 pub enum ReadRefusal {
-    /// The source failed, by an interruption too, behind `taken` octets of this call, which the receiver
+    /// The source failed, by an interruption too, after `taken` octets of this call, which the receiver
     /// has taken.
     Read { taken: usize },
     /// The chain was refused, or the source ended before it was whole.
@@ -25,13 +25,13 @@ pub enum ReadRefusal {
 /// The most octets that one call of a source is asked for: the longest field and the LRC.
 const MOST_WANTED: usize = 255;
 
-/// Reads a chain (ISO/IEC 7816-3, clause 11.6) to its end, behind what the receiver took before. The source
+/// Reads a chain (ISO/IEC 7816-3, clause 11.6) to its end, after what the receiver took before. The source
 /// is asked for NAD, PCB and LEN of a block, and then for LEN + 1 octets, or for what is left of either, so
 /// what follows the chain stays unread.
 ///
-/// `Read` comes where a call of the source failed, which isn't tried again: the receiver stands as behind
+/// `Read` comes where a call of the source failed, which isn't tried again: the receiver is as after
 /// the `taken` octets, and a further call goes on from there. `Short` comes where the source ended, with the
-/// octets of the chain that came before the end, and the receiver stands as behind them. `At` gives the first
+/// octets of the chain that came before the end, and the receiver is as after them. `At` gives the first
 /// octet after which no chain goes on, counted from the first that was fed since the receiver was new or
 /// restarted, and its reason; the receiver keeps it. No octet is then read past the first three of the block
 /// in which that octet stands, or past that octet.

@@ -13,7 +13,7 @@ const CHAIN: [u8; 17] = [
     0x01,
 ];
 
-/// The same chain, and an octet behind it.
+/// The same chain, and an octet after it.
 const CHAIN_AND_MORE: [u8; 18] = [
     0x00, 0x20, 0x02, 0x00, 0xA4, 0x86, 0x00, 0x60, 0x02, 0x04, 0x00, 0x66, 0x00, 0x00, 0x01, 0x00,
     0x01, 0xFF,
@@ -109,7 +109,7 @@ fn received_in_two_pieces(rt: HostRuntime) -> Result<(), Fail> {
     Ok(())
 }
 
-/// Whether the chain is taken, and the octet behind it not, where a piece ends behind the octet at each
+/// Whether the chain is taken, and the octet after it not, where a piece ends after the octet at each
 /// place whose bit is set in `cuts`.
 fn is_received(receiver: &mut Receiver, cuts: u32) -> bool {
     let mut from = 0;
@@ -226,7 +226,7 @@ fn cut_long_messages(rt: HostRuntime) -> Result<(), Fail> {
     Ok(())
 }
 
-/// The chain behind its first seven octets, and an octet that follows it.
+/// The chain after its first seven octets, and an octet that follows it.
 const REST: [u8; 11] = [
     0x60, 0x02, 0x04, 0x00, 0x66, 0x00, 0x00, 0x01, 0x00, 0x01, 0xFF,
 ];

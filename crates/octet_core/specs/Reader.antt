@@ -11,7 +11,7 @@ use Rattle.octet_core.specs.Grammar.{self_ended, RefusesAt}
 module _ {V R State : Type 0} (S : V → List ℕ → Type 0) (Reason : R → List ℕ → Type 0) (HasTaken : State → List ℕ → Type 0) (refusal_of : State → Option (Refusal R)) where
   -- what it answers to a piece: how many octets it took and whether it is done, or a refusal
   pub record IsFed (old new : State) (piece : List ℕ) (result : Result (ℕ × Bool) (Stop R)) : Type 0 where
-    -- what it takes comes behind what it took before, and is the front of the piece
+    -- what it takes comes after what it took before, and is the front of the piece
     pub taken : IfOk result (λ x. (x.0 ≤ length piece) × ((t : List ℕ) → HasTaken old t → HasTaken new (t ++ take x.0 piece)))
     -- it is done exactly where all that it took is a spelling
     pub done : IfOk result (λ x. (t : List ℕ) → HasTaken old t → IsTrue x.1 ↔ ((v : V) × S v (t ++ take x.0 piece)))

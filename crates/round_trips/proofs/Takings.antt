@@ -21,7 +21,7 @@ module _ {V R State : Type 0} (S : V → List ℕ → Type 0) (Reason : R → Li
       let parts : x ++ y ≡ take (p + 1) x ++ (drop (p + 1) x ++ y) = ap (λ (l : List ℕ). l ++ y) (sym (take-append-drop (p + 1) x)) ∙ append_assoc (take (p + 1) x) (drop (p + 1) x) y in
       r.0.stuck (v, drop (p + 1) x ++ y, subst (S v) parts h)
 
-  -- after a piece behind t, with y to come, it has taken the piece, or all
+  -- after a piece after t, with y to come, it has taken the piece, or all
   step : (old new : State) (t x y : List ℕ) (v : V) (result : Result (ℕ × Bool) (Stop R)) → HasTaken old t → S v ((t ++ x) ++ y) → IsFed S Reason HasTaken refusal_of old new x result → HasTaken new (t ++ x) ⊎ HasAll new v
   step old new t x y v (Err stop) h s f = absurd (front-not-refused v (t ++ x) y stop s (f.refused t h))
   step old new t x y v (Ok (n, true)) h s f =

@@ -120,7 +120,7 @@ true_suits size (Response kind) inf h = true_about kind inf h
 
 -- ---- the octets before the check octet
 
--- the field stands behind three octets
+-- the field is after three octets
 field_is : (b : List ℕ) → 3 ≤ length b → drop 3 (take (get_or b 2 0 + 3) b) ≡ take (get_or b 2 0) (drop 3 b)
 field_is [] le = absurd (omega arith)
 field_is (a ∷ []) le = absurd (omega arith)

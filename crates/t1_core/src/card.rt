@@ -63,7 +63,7 @@ impl Model for Card {
 
 impl Card {
     /// A new card that waits for a command, with buffers for the longest command and reply; `Err` for
-    /// want of memory. No later call takes any. It takes information fields of IFSC octets, and the
+    /// lack of memory. No later call takes any. It takes information fields of IFSC octets, and the
     /// terminal those of 32.
     pub fn new(alloc: Global, params: T1Params) -> Result<Card, AllocError>
         ensures { IfOk result (λ card. card ≡ new_card params.ifsc) }
@@ -365,7 +365,7 @@ impl Request {
     }
 }
 
-/// The octets stand behind those that came, or alone.
+/// The octets come after those that came, or alone.
 fn put_behind(command: &mut Vec<u8>, goes_on: bool, inf: &[u8])
     requires { length (if goes_on then command.old.items else []) + length inf.now ≤ vec_capacity command.old }
     ensures items { command.new.items ≡ (if goes_on then command.old.items else []) ++ inf.now }

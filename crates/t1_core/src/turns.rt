@@ -98,7 +98,7 @@ pub(crate) enum TerminalWait {
     Ack(Cut),
     /// The last I-block of the command is under way.
     Answer(Cut),
-    /// The answer goes on behind what was joined.
+    /// The answer goes on after what was joined.
     More,
     /// A size was asked for.
     Ifs(u8),

@@ -61,7 +61,7 @@ pub empty_tree : (h : ObjectHeader) (y : Node) → IsEmptyNode h y → IsEmptyIt
 empty_tree h y (inl e) = inl (e.0, ap (λ (n : Node). tree_of (n ∷ [])) e.1)
 empty_tree h y (inr e) = inr (e.0, ap (λ (n : Node). tree_of (n ∷ [])) e.1)
 
--- an object is open behind the others
+-- an object is open after the others
 pub open_done : (b : List ℕ) (k : Kept) (before now : List OpenObject) (o : OpenObject) (list list_now : List Node) (value : Option OpenValue) → now ≡ before ++ o ∷ [] → o.before.items ≡ list → list_now ≡ [] → value_of value ≡ None
     → HasGrown b k (record { opened = map opened_of before ++ record { before = tree_of list; tag = o.header.tag; form = o.header.form; len = o.header.len } ∷ []; list = End; value = None })
     → HasGrown b k (record { opened = map opened_of now; list = tree_of list_now; value = value_of value })

@@ -28,7 +28,7 @@ pub record Grew (b : List ℕ) (k : Kept) (all : List Placed) : Type 0 where
   pub grown : HasGrown b k tree
   pub placed_is : placed tree ≡ all
 
--- with an item behind the innermost list, all is closed that can be
+-- with an item after the innermost list, all is closed that can be
 closed_grew : (b : List ℕ) (k : Kept) (opened : List Opened) (list : Tree) (all : List Placed) → k.header ≡ [] → k.value_left ≡ 0 → ClosingSome b k.rooms opened list → placed_in 1 0 opened (placed_list list None) ≡ all → Grew b k all
 closed_grew b k opened list all none z h e =
     let c = all_closed h.closed b k.rooms opened list h.closing in
@@ -42,14 +42,14 @@ placed_next d count next.Filler = []
 placed_next d count (next.Under longer) = []
 placed_next d count (next.Object o) = record { depth = d; tag = o.tag; form = o.form; place = count; len = o.len } ∷ []
 
--- an octet comes behind these lists, in which so much is placed
+-- an octet comes after these lists, in which so much is placed
 record Comes (b : List ℕ) (k : Kept) (x : ℕ) (next : Next) (opened : List Opened) (list : Tree) : Type 0 where
   pub taken : HasTaken b k
   pub zero_left : k.value_left ≡ 0
   pub step : IsStep k x next
   pub at : AtHeader b k opened list
 
--- the place behind the header that is whole
+-- the place after the header that is whole
 value_at : (b : List ℕ) (k : Kept) (x : ℕ) (o : ObjectHeader) (opened : List Opened) (list : Tree) → Comes b k x (next.Object o) opened list → value_place (inner_place 0 opened + length (spelling list)) o.tag o.form o.len ≡ k.count + 1
 value_at b k x o opened list h =
     omega (arith, inner_place-is opened k.rooms 1 0 (spelling list ++ k.header) b h.at.opened_yet, length-append (spelling list) k.header, ap length h.step.follows.2, length-append k.header (x ∷ []), h.taken.count)
@@ -62,7 +62,7 @@ object_at b k x o opened list h =
     ap (λ (d : ℕ). placed_at (1 + d) place o.tag o.form o.len ∷ []) (open_length opened k.rooms 1 (spelling list ++ k.header) b h.at.opened_yet)
     ∙ ap (λ (p : ℕ). record { depth = 1 + length k.rooms; tag = o.tag; form = o.form; place = p; len = o.len } ∷ []) (value_at b k x o opened list h)
 
--- an empty object is placed behind the list
+-- an empty object is placed after the list
 empty_placed : (o : ObjectHeader) (list item : Tree) (d place : ℕ) → ((constructed_bit o.tag ≡ 0) × (item ≡ Primitive o.tag o.form [] End)) ⊎ ((constructed_bit o.tag ≡ 1) × (item ≡ Constructed o.tag o.form End End)) → o.len ≡ 0
     → placed_list (join list item) None d place ≡ placed_list list None d place ++ placed_at d (place + length (spelling list)) o.tag o.form o.len ∷ []
 empty_placed o list item d place is e =

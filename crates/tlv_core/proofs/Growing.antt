@@ -128,7 +128,7 @@ zeros_last : (n : ℕ) → zeros (suc n) ≡ zeros n ++ 0 ∷ []
 zeros_last zero = refl
 zeros_last (suc n) = ap (λ (l : List ℕ). 0 ∷ l) (zeros_last n)
 
--- the object that is closed, behind the list before it
+-- the object that is closed, after the list before it
 abbrev pub closed_list : Opened → Tree → Tree
 closed_list o list = join o.before (Constructed o.tag o.form list End)
 
@@ -144,7 +144,7 @@ close_one b rooms closed opened o list h =
     let inner : IsProper ((1 + length before) + 1) list = subst (λ (e : ℕ). IsProper e list) depth h.proper in
     (record { opened_yet = subst (λ (l : List ℕ). AreOpen 1 opened before l b) spelled c.opened_yet; proper = proper-join o.before item (1 + length before) c.proper (c.object, inner, tt) }, c.full)
 
--- ---- more octets behind the innermost list
+-- ---- more octets after the innermost list
 
 pub record ClosingSome (b rooms : List ℕ) (opened : List Opened) (list : Tree) : Type 0 where
   pub closed : ℕ

@@ -102,7 +102,7 @@ empty_grown b k x o item opened list taken z step none is h =
     let octets : k.header ++ x ∷ [] ≡ spelling item = sym step.follows.2 ∙ ap (header_of o.tag o.form) none ∙ i.1 in
     item_grown opened k.rooms list k.header b 1 (k.max - length b) (x ∷ []) item h.opened_yet h.proper refl fits octets i.0
 
--- the octets behind the list, where the header is whole
+-- the octets after the list, where the header is whole
 header_stays : (b : List ℕ) (k : Kept) (x : ℕ) (o : ObjectHeader) (opened : List Opened) (list : Tree) → AtObject b k x o → IsStep k x (next.Object o) → 0 < o.len → AtHeader b k opened list
     → Stays opened (spent 1 k.rooms) (spelling list ++ header_of o.tag o.form o.len) (b ++ x ∷ []) (length k.rooms)
 header_stays b k x o opened list at step some h =

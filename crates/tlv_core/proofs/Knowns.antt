@@ -66,7 +66,7 @@ behind xs zero j lt = omega arith
 behind [] (suc n) j lt = absurd (omega arith)
 behind (x ∷ xs) (suc n) j lt = omega (arith, behind xs n j lt)
 
--- a value with the tag of the one at a place stands behind it
+-- a value with the tag of the one at a place is after it
 pub twice : (known : List Known) (place : ℕ) (x : Known) → place < length known → x ≡ get_or known place x → is_some (known_for x.tag (drop (place + 1) known)) ≡ true → HasDuplicate known
 twice known place x lt e some =
     let l = some_of (known_for x.tag (drop (place + 1) known)) some in

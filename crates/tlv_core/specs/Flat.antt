@@ -34,7 +34,7 @@ parts_of d (Constructed tag form nodes rest) = record { depth = d; tag = tag; fo
 abbrev pub part_seen : Part → PartValue
 part_seen part = record { depth = part.depth; tag = part.tag; form = part.form; value = part.value.now }
 
--- the part of this object comes behind the others
+-- the part of this object comes after the others
 abbrev pub IsKeptPart : List ℕ → Placed → List Part → List Part → Type 0
 IsKeptPart b p old new = map part_seen new ≡ map part_seen old ++ part_in b p ∷ []
 
@@ -48,14 +48,14 @@ abbrev pub placed_value : ℕ → ℕ → Option ValueSoFar → List Placed
 placed_value d place None = []
 placed_value d place (Some v) = placed_at d place v.tag v.form v.len ∷ []
 
--- the open objects, each behind the list before it, and then what is placed in the innermost list
+-- the open objects, each after the list before it, and then what is placed in the innermost list
 abbrev pub placed_in : ℕ → ℕ → List Opened → (ℕ → ℕ → List Placed) → List Placed
 placed_in d place [] inner = inner d place
 placed_in d place (o ∷ opened) inner =
     preorder d place o.before
     ++ (placed_at d (place + length (spelling o.before)) o.tag o.form o.len ∷ placed_in (d + 1) (value_place (place + length (spelling o.before)) o.tag o.form o.len) opened inner)
 
--- a list, and the value that is under way behind it
+-- a list, and the value that is under way after it
 abbrev pub placed_list : Tree → Option ValueSoFar → ℕ → ℕ → List Placed
 placed_list list value d place = preorder d place list ++ placed_value d (place + length (spelling list)) value
 

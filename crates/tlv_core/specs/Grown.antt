@@ -22,7 +22,7 @@ pub record ValueSoFar : Type 0 where
   pub len : ℕ
   pub octets : List ℕ
 
--- the open objects, outermost first, the innermost list, and the value that is under way behind it, if one is
+-- the open objects, outermost first, the innermost list, and the value that is under way after it, if one is
 pub record Grown : Type 0 where
   pub opened : List Opened
   pub list : Tree
@@ -43,7 +43,7 @@ AreOpen d [] (room ∷ rooms) inner b = ⊥
 AreOpen d (o ∷ opened) [] inner b = ⊥
 AreOpen d (o ∷ opened) (room ∷ rooms) inner b = (value : List ℕ) × IsOpen d o room value b × AreOpen (d + 1) opened rooms inner value
 
--- the octets behind the innermost list: those of a header, or the header and the value that is under way
+-- the octets after the innermost list: those of a header, or the header and the value that is under way
 abbrev pub under_way : Option ValueSoFar → List ℕ → List ℕ
 under_way None header = header
 under_way (Some v) header = header_of v.tag v.form v.len ++ v.octets

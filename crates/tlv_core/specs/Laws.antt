@@ -29,7 +29,7 @@ pub record EndsInLong (b : List ℕ) : Type 0 where
 abbrev pub IsCompletedBy : ℕ → List ℕ → List ℕ → Type 0
 IsCompletedBy max b middle = (t : Tree) × (count : ℕ) × IsForest max t ((b ++ middle) ++ zeros count)
 
--- A forest begins with b exactly where no octet of b meets a reason. Then zeros complete b, behind one octet 01 where b
+-- A forest begins with b exactly where no octet of b meets a reason. Then zeros complete b, after one octet 01 where b
 -- ends in a first tag octet that others follow.
 abbrev pub Completion : ℕ → List ℕ → Type 0
 Completion max b = (Begins (IsForest max) b ↔ MeetsNone max b) × (Begins (IsForest max) b → (EndsInLong b → IsCompletedBy max b (1 ∷ [])) × ((EndsInLong b → ⊥) → IsCompletedBy max b []))

@@ -44,7 +44,7 @@ longer_value (Some v) add = Some (record { tag = v.tag; form = v.form; len = v.l
 abbrev pub extended : Grown → List ℕ → Grown
 extended g add = record { opened = g.opened; list = g.list; value = longer_value g.value add }
 
--- behind the octets b, which make this tree, the octet x comes and makes this of the header
+-- after the octets b, which make this tree, the octet x comes and makes this of the header
 pub record TakesNext (b : List ℕ) (k : Kept) (x : ℕ) (next : Next) (g : Grown) : Type 0 where
   pub taken : HasTaken b k
   pub idle : k.value_left ≡ 0

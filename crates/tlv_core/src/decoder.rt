@@ -13,7 +13,7 @@ use std::alloc::Global;
 
 /// The forest that all the octets spell, at most `max` of them, itself at most 1,048,576; or why they
 /// spell none: `Short` at their end where a forest goes on, `At` the first octet after which none does,
-/// or want of memory, which may come before either.
+/// or lack of memory, which may come before either.
 pub fn decode(alloc: Global, octets: &[u8], max: usize) -> Result<Forest, Refused<TlvReason>>
     requires { max ≤ 1048576 }
     ensures found { IfOk result (λ forest. Accepts whole (IsForest max) octets.now forest (length octets.now)) }

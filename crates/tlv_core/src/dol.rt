@@ -45,7 +45,7 @@ impl Dol {
     }
 
     /// The list that all the octets spell, or why they spell none: `Short` at their end where one goes
-    /// on, `At` the first octet after which none does, or want of memory.
+    /// on, `At` the first octet after which none does, or lack of memory.
     pub fn decode(alloc: Global, octets: &[u8]) -> Result<Self, Refused<DolReason>>
         ensures found { IfOk result (λ dol. Accepts whole IsDol octets.now dol (length octets.now)) }
         ensures refused { IfErr result (RefusesUnlessMemory whole IsDol IsDolReason octets.now) }
@@ -73,7 +73,7 @@ impl Dol {
         }))
     }
 
-    /// The octets that spell the list, or want of memory.
+    /// The octets that spell the list, or lack of memory.
     pub fn encode(&self, alloc: Global) -> Result<Vec<u8>, AllocError>
         ensures { IfOk result (λ octets. IsDol self.now octets.items) }
     {

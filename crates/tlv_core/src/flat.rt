@@ -39,7 +39,7 @@ impl<'a> Model for FlatForest<'a> {
 impl<'a> FlatForest<'a> {
     /// The parts of the forest that all the octets spell, at most `max` of them, itself at most
     /// 1,048,576; or why they spell none: `Short` at their end where a forest goes on, `At` the first
-    /// octet after which none does, or want of memory.
+    /// octet after which none does, or lack of memory.
     pub fn read(
         alloc: Global,
         octets: &'a [u8],

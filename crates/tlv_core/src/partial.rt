@@ -31,7 +31,7 @@ pub(crate) struct OpenValue {
 }
 
 /// What the octets of a forest so far have come to: the objects that are open, outermost first, the
-/// innermost list, and the value under way behind it, if one is.
+/// innermost list, and the value under way after it, if one is.
 #[derive(Drop)]
 pub(crate) struct Partial {
     alloc: Global,
@@ -119,7 +119,7 @@ impl Partial {
         }
     }
 
-    /// Takes octets of the value under way. Want of memory leaves it as it was.
+    /// Takes octets of the value under way. Lack of memory leaves it as it was.
     pub(crate) fn extend(&mut self, octets: &[u8]) -> Result<(), AllocError>
         ensures ok { OnOk result (grown_of self.new ≡ extended (grown_of self.old) octets.now) }
         ensures err { OnErr result (grown_of self.new ≡ grown_of self.old) }
@@ -147,7 +147,7 @@ impl Partial {
         }
     }
 
-    /// Adds a node behind the innermost list, and closes objects until `level` of them are open.
+    /// Adds a node after the innermost list, and closes objects until `level` of them are open.
     fn add(&mut self, node: Node, level: usize)
         requires idle { self.old.value ≡ None }
         requires room { vec_len self.old.list < vec_capacity self.old.list }

@@ -45,7 +45,7 @@ impl ForestReader {
     ghost use Rattle.tlv_core.specs.Read.{HasBegun, HasRead, IsEndedFeed, stop_of};
 
     /// A reader of a forest of at most `max` octets, itself at most 1,048,576, before its first octet; or
-    /// want of memory for its stack, which it takes once.
+    /// lack of memory for its stack, which it takes once.
     pub fn new(alloc: Global, max: usize) -> Result<ForestReader, AllocError>
         requires { max ≤ 1048576 }
         ensures limit { IfOk result (λ reader. reader.kept.max ≡ max) }
@@ -60,7 +60,7 @@ impl ForestReader {
 
     /// Takes the next piece. A refusal comes with the number of octets of the piece that were taken.
     ///
-    /// `Memory` is want of memory: the reader stands as after those octets, and may be fed the rest. A
+    /// `Memory` is lack of memory: the reader is as after those octets, and may be fed the rest. A
     /// stop is `At` the first octet after which no forest goes on, counted from the first octet ever
     /// fed, and never `Short`; from then on each call takes no octet and answers the same.
     pub fn feed(&mut self, piece: &[u8]) -> Result<(), (usize, Refused<TlvReason>)>

@@ -12,7 +12,7 @@ use crate::survey::octets_of;
 use crate::tag::Tag;
 use std::alloc::{AllocError, Global};
 
-/// The octets that spell the forest, or want of memory.
+/// The octets that spell the forest, or lack of memory.
 pub fn encode(alloc: Global, forest: &Forest) -> Result<Vec<u8>, AllocError>
     ensures { IfOk result (λ octets. IsForest largest forest.now octets.items) }
 {

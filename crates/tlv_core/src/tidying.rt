@@ -14,7 +14,7 @@ use octet_core::Octets;
 use std::alloc::{AllocError, Global};
 
 /// The same objects without fillers, each in the shortest form of its length, its nodes before itself;
-/// or want of memory. No forest that says the same has fewer octets.
+/// or lack of memory. No forest that says the same has fewer octets.
 pub fn tidy(alloc: Global, forest: &Forest) -> Result<Forest, AllocError>
     ensures { IfOk result (λ tidied. tidied ≡ tidy_form forest.now) }
 {

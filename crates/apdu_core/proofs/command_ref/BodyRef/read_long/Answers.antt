@@ -9,7 +9,7 @@ use Rattle.apdu_core.specs.declared.reason.CommandReason.TheVariants.{Trailing}
 use Rattle.apdu_core.proofs.Refusals.{short-long, short-long_part, short-long_le, trailing-long_le, trailing-long}
 use Rattle.apdu_core.proofs.command_ref.BodyRef.read_long.Goals as goal
 
--- more than seven octets, where some are left behind these
+-- more than seven octets, where some are left after these
 more_than_seven : (b : List ℕ) (empty : Bool) → 7 ≤ length b → empty ≡ (length (take (length b - 7) (drop 7 b)) == 0) → empty ≡ false → 7 < length b
 more_than_seven b empty le tells none =
     let left : 0 < length (take (length b - 7) (drop 7 b)) = grind (arith, nat_tests) in
