@@ -1,4 +1,4 @@
-//! Commands decoded where their octets stand.
+//! Commands decoded in place.
 
 use crate::work::Work;
 use apdu_core::CommandRef;

@@ -1,6 +1,6 @@
 //! How long the stack takes, over messages and forests of growing size. It judges nothing.
 //!
-//! Without words it does each work once and prints its size, so that two runs print the same. Behind the
+//! Without words it does each work once and prints its size, so that two runs print the same. After the
 //! word `times` each line also says how many microseconds the work took.
 #![tactic(auto)]
 
@@ -19,6 +19,7 @@ fn main(rt: HostRuntime) -> io::Result<()> {
     apdus::decode_each(&rt, timed)?;
     forests::judge_each(&rt, timed)?;
     session::exchange_each(&rt, timed)?;
+    session::record_each(&rt, timed)?;
     exchanges::replay_each(&rt, timed)
 }
 

@@ -1,8 +1,9 @@
-//! Exchanges between both ends of T=1 in memory.
+//! Exchanges between both ends of T=1 in memory: the bare ends, and both ends under a recorder.
 
 use crate::work::Work;
 use atr_core::T1Params;
 use block_core::{Block, encode};
+use exchange_core::{Event, LastTurn, Recorder};
 use std::alloc::Global;
 use std::io::{self, ErrorKind};
 use std::time::Instant;
@@ -41,6 +42,61 @@ pub(crate) fn exchange_each(rt: &HostRuntime, timed: bool) -> io::Result<()> {
         work.tell(rt, started, timed)?;
     }
     Ok(())
+}
+
+/// The answers to reset of cards that take information fields of 254 and 32 octets.
+const ATR_254: [u8; 7] = [0x3B, 0x80, 0x81, 0x31, 0xFE, 0x45, 0x8B];
+
+const ATR_32: [u8; 7] = [0x3B, 0x80, 0x81, 0x31, 0x20, 0x45, 0x55];
+
+/// The same exchanges, each recorded.
+pub(crate) fn record_each(rt: &HostRuntime, timed: bool) -> io::Result<()> {
+    let command = vec![in rt.alloc(); 0xA5u8; COMMAND]?;
+    let reply = vec![in rt.alloc(); 0x5Au8; RESPONSE]?;
+    for (atr, size, name) in [
+        (&ATR_254, 254, "longest exchange recorded, sizes 254"),
+        (&ATR_32, 32, "longest exchange recorded, sizes 32"),
+    ] {
+        let Some(mut recorder) = recorder(rt.alloc(), atr, size) else {
+            return Err(ErrorKind::InvalidData.into());
+        };
+        let started = Instant::now(rt)?;
+        let Some(parts) = carried(&mut recorder, command.as_slice(), reply.as_slice()) else {
+            return Err(ErrorKind::InvalidData.into());
+        };
+        let work = Work {
+            name,
+            octets: COMMAND + RESPONSE,
+            parts,
+            unit: "blocks",
+        };
+        work.tell(rt, started, timed)?;
+    }
+    Ok(())
+}
+
+/// A recorder of both ends, of which each takes information fields of this size.
+fn recorder(alloc: Global, atr: &[u8], size: u8) -> Option<Recorder> {
+    let mut recorder = Recorder::new(alloc, atr).ok()?;
+    recorder.happens(Event::AskIfsd(size)).ok()?;
+    recorder.happens(Event::Deliver).ok()?;
+    recorder.happens(Event::Deliver).ok()?;
+    (*recorder.last() == LastTurn::Terminal(TerminalTurn::IfsSet)).then_some(recorder)
+}
+
+/// How many blocks an exchange under a recorder takes, none where it isn't answered.
+fn carried(recorder: &mut Recorder, command: &[u8], reply: &[u8]) -> Option<usize> {
+    recorder.happens(Event::Transmit(command)).ok()?;
+    for blocks in 0..140_000usize {
+        if recorder.under_way().is_none() {
+            return (recorder.terminal().answer() == Some(reply)).then_some(blocks);
+        }
+        recorder.happens(Event::Deliver).ok()?;
+        if *recorder.last() == LastTurn::Card(CardTurn::Asked) {
+            recorder.happens(Event::Reply(reply)).ok()?;
+        }
+    }
+    None
 }
 
 /// Both ends, of which each takes information fields of this size.

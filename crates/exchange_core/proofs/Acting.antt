@@ -1,5 +1,5 @@
 -- What each event that is taken does to both ends, and the lines that tell it.
-use Rattle.std.proofs.Common.{◌≡◌, ℕ, ◌+◌, ◌++◌, List, [], ◌∷◌, refl, sym, ap, subst, ◌∙◌, true, Option, Some, None, Ok}
+use Rattle.std.proofs.Common.{◌≡◌, ℕ, ◌+◌, ◌++◌, List, [], ◌∷◌, refl, sym, ap, subst, ◌∙◌, true, Option, Some, None, Result, Ok, Err}
 use denote.Ref.{Bor}
 use Rattle.std.specs.Option.{is_some}
 use Rattle.block_core.specs.Block.{Parts, spelling}
@@ -16,7 +16,7 @@ use Rattle.t1_core.proofs.Kept.{good_always}
 use Rattle.exchange_core.specs.Exchange.{are_proper}
 use Rattle.exchange_core.specs.Text.{line_text}
 use Rattle.exchange_core.specs.Replay.{Replays, terminal_end, card_end, terminal_role, card_role, terminal_line, card_line, calls, terminal_gives, card_gives}
-use Rattle.exchange_core.specs.Recording.{Recording, link_of, IsRecording, MayCall, MayReply, IsSent, Turns, terminal_input, card_input, call_event, change_event, refusal_of, terminal_refusal, card_refusal, arrival_refusal, loss_refusal, telling, terminal_pending, card_pending, under_way_of, events_of, runs, arrival_of, whole, HasHappened, IsRefused, IfNotMemory, IsLent}
+use Rattle.exchange_core.specs.Recording.{Recording, link_of, IsRecording, MayCall, MayReply, IsSent, Turns, terminal_input, card_input, call_event, change_event, outcome_of, terminal_outcome, card_outcome, arrival_outcome, loss_outcome, telling, terminal_pending, card_pending, under_way_of, events_of, runs, arrival_of, whole, recorded, added, untold, carried, IfNotMemory, IsLent}
 use Rattle.exchange_core.specs.Given.{arrived}
 use Rattle.exchange_core.specs.declared.carrying.Change.{Change}
 use Rattle.exchange_core.specs.declared.carrying.Change.TheVariants.{Kept, Damaged, Spoilt}
@@ -33,7 +33,7 @@ use Rattle.exchange_core.specs.declared.replaying.Side.TheVariants as side
 use Rattle.exchange_core.proofs.Folds.{runs-on, replays-none, meets, tells-terminal, tells-card, rests, loss, proper-told, proper-on, events-on}
 use Rattle.exchange_core.proofs.Resting.{idle-rests, host-rests, taken-idle, taken-host}
 use Rattle.exchange_core.proofs.Changed.{came_of, came, told-change}
-use Rattle.exchange_core.proofs.Recorded.{Acts, keeps, has-happened, refused, terminal-made, card-made, terminal-taken, card-taken, terminal-called, card-called}
+use Rattle.exchange_core.proofs.Recorded.{Acts, keeps, has-recorded, has-stepped, refused, terminal-made, card-made, terminal-taken, card-taken, terminal-called, card-called}
 
 -- ---- calls
 
@@ -44,6 +44,10 @@ idle-now r t c h e = sym h.under_way ∙ idle-rests (link_of r) (good_always r.i
 host-now : (r : Recording) (t : TerminalState) (c : CardState) → IsRecording r t c → c.waits ≡ host → under_way_of r.last ≡ nothing
 host-now r t c h e = sym h.under_way ∙ host-rests (link_of r) (good_always r.ifsc (events_of r.lines)) (ap (λ (s : CardState). s.waits) h.card ∙ e)
 
+-- the line of the last turn, by the states of both ends
+told-is : (r : Recording) (t : TerminalState) (c : CardState) → IsRecording r t c → untold r ≡ telling t c r.last
+told-is r t c h = ap (λ (s : TerminalState). telling s (link_of r).card r.last) h.terminal ∙ ap (λ (s : CardState). telling t s r.last) h.card
+
 -- a line after the one of the last turn
 one-event : (t : TerminalState) (c : CardState) (last : LastTurn) (line : Line) → under_way_of last ≡ nothing → events_of (telling t c last ++ line ∷ []) ≡ events_of (line ∷ [])
 one-event t c last line e = events-on (telling t c last) (line ∷ []) ∙ ap (λ (es : List Event). es ++ events_of (line ∷ [])) (rests t c last e)
@@ -52,12 +56,13 @@ terminal-acts : (r : Recording) (t : TerminalState) (c : CardState) (line : Line
     → IsRecording r t c → Turns t input turn next
     → events_of (telling t c r.last ++ line ∷ []) ≡ event ∷ [] → HandsOctets event
     → happens tables (link_of r) event ≡ terminal_makes (link_of r) other (terminal_turn (link_of r).terminal input) → other.card ≡ (link_of r).card
-    → refusal_of (link_of r) event ≡ terminal_refusal (terminal_turn (link_of r).terminal input)
+    → outcome_of (link_of r) event ≡ terminal_outcome (terminal_turn (link_of r).terminal input)
+    → added r event ≡ untold r ++ line ∷ []
     → terminal_role t line ≡ calls (terminal_gives (terminal_turn t input))
     → runs card_end (line ∷ []) (c, None) ≡ Ok (c, None)
     → are_proper One 0 (line ∷ []) ≡ true
     → Acts r t c (telling t c r.last ++ line ∷ []) event (Terminal turn) next c
-terminal-acts r t c line input turn next event other h turns events octets happening same refusal role passing proper =
+terminal-acts r t c line input turn next event other h turns events octets happening same outcome adding role passing proper =
     let at_link : terminal_turn (link_of r).terminal input ≡ Ok (turn, next, turns.0) = ap (λ (s : TerminalState). terminal_turn s input) h.terminal ∙ turns.1 in
     let made = terminal-made (link_of r) other (terminal_turn (link_of r).terminal input) turn next turns.0 at_link in
     record {
@@ -69,19 +74,21 @@ terminal-acts r t c line input turn next event other h turns events octets happe
       at_terminal = runs-on terminal_end (telling t c r.last) (line ∷ []) _ _ (tells-terminal t c r.last) ∙ terminal-called t line (terminal_turn t input) turn next turns.0 role turns.1;
       at_card = runs-on card_end (telling t c r.last) (line ∷ []) _ _ (tells-card t c r.last) ∙ passing;
       proper = proper-on (telling t c r.last) (line ∷ []) (proper-told t c r.last) proper;
-      taken = refusal ∙ terminal-taken (terminal_turn (link_of r).terminal input) turn next turns.0 at_link;
+      writes = adding ∙ ap (λ (l : List Line). l ++ line ∷ []) (told-is r t c h);
+      outcome = outcome ∙ terminal-taken (terminal_turn (link_of r).terminal input) turn next turns.0 at_link;
     }
 
 card-acts : (r : Recording) (t : TerminalState) (c : CardState) (line : Line) (input : CardInput) (turn : CardTurn) (next : CardState) (event : Event) (other : Link)
     → IsRecording r t c → card_turn c input ≡ Ok (turn, next)
     → events_of (telling t c r.last ++ line ∷ []) ≡ event ∷ [] → HandsOctets event
     → happens tables (link_of r) event ≡ card_makes (link_of r) other (card_turn (link_of r).card input) → other.terminal ≡ (link_of r).terminal
-    → refusal_of (link_of r) event ≡ card_refusal (card_turn (link_of r).card input)
+    → outcome_of (link_of r) event ≡ card_outcome (card_turn (link_of r).card input)
+    → added r event ≡ untold r ++ line ∷ []
     → card_role c line ≡ calls (card_gives (card_turn c input))
     → runs terminal_end (line ∷ []) (t, None) ≡ Ok (t, None)
     → are_proper One 0 (line ∷ []) ≡ true
     → Acts r t c (telling t c r.last ++ line ∷ []) event (Card turn) t next
-card-acts r t c line input turn next event other h turns events octets happening same refusal role passing proper =
+card-acts r t c line input turn next event other h turns events octets happening same outcome adding role passing proper =
     let at_link : card_turn (link_of r).card input ≡ Ok (turn, next) = ap (λ (s : CardState). card_turn s input) h.card ∙ turns in
     let made = card-made (link_of r) other (card_turn (link_of r).card input) turn next at_link in
     record {
@@ -93,7 +100,8 @@ card-acts r t c line input turn next event other h turns events octets happening
       at_terminal = runs-on terminal_end (telling t c r.last) (line ∷ []) _ _ (tells-terminal t c r.last) ∙ passing;
       at_card = runs-on card_end (telling t c r.last) (line ∷ []) _ _ (tells-card t c r.last) ∙ card-called c line (card_turn c input) turn next role turns;
       proper = proper-on (telling t c r.last) (line ∷ []) (proper-told t c r.last) proper;
-      taken = refusal ∙ card-taken (card_turn (link_of r).card input) turn next at_link;
+      writes = adding ∙ ap (λ (l : List Line). l ++ line ∷ []) (told-is r t c h);
+      outcome = outcome ∙ card-taken (card_turn (link_of r).card input) turn next at_link;
     }
 
 lost-is : (l : Link) (w : UnderWay) → IsSent w → lost tables l w ≡ terminal_makes l (record l { disturbed = l.disturbed + 1 }) (terminal_turn l.terminal (takes quiet))
@@ -101,7 +109,7 @@ lost-is l nothing h = absurd h
 lost-is l (to_card block) h = refl
 lost-is l (to_terminal block) h = refl
 
-loss-is : (l : Link) (w : UnderWay) → IsSent w → loss_refusal l w ≡ terminal_refusal (terminal_turn l.terminal (takes quiet))
+loss-is : (l : Link) (w : UnderWay) → IsSent w → loss_outcome l w ≡ terminal_outcome (terminal_turn l.terminal (takes quiet))
 loss-is l nothing h = absurd h
 loss-is l (to_card block) h = refl
 loss-is l (to_terminal block) h = refl
@@ -112,17 +120,17 @@ pub called-acts : (r : Recording) (t : TerminalState) (c : CardState) (line : Li
 called-acts r t c (Command m) turn next h may turns =
     let l = link_of r in
     terminal-acts r t c (Command m) (transmit m) turn next (transmits m) (record l { exchanges = unanswered m ∷ l.exchanges; disturbed = 0; failed = 0 }) h turns
-    (one-event t c r.last (Command m) (idle-now r t c h (taken-idle t.waits _ turn next turns.0 turns.1))) may refl refl refl refl refl refl
+    (one-event t c r.last (Command m) (idle-now r t c h (taken-idle t.waits _ turn next turns.0 turns.1))) may refl refl refl refl refl refl refl
 called-acts r t c (Ifsd n) turn next h may turns =
     let l = link_of r in
     terminal-acts r t c (Ifsd n) (ask_ifs n) turn next (asks_ifsd n) (record l { disturbed = 0; failed = 0 }) h turns
-    (one-event t c r.last (Ifsd n) (idle-now r t c h (taken-idle t.waits _ turn next turns.0 turns.1))) may refl refl refl refl refl refl
+    (one-event t c r.last (Ifsd n) (idle-now r t c h (taken-idle t.waits _ turn next turns.0 turns.1))) may refl refl refl refl refl refl refl
 called-acts r t c Quiet turn next h may turns =
     let l = link_of r in
     let sent : IsSent l.under_way = subst IsSent (sym h.under_way) may in
     terminal-acts r t c Quiet (takes quiet) turn next loses (record l { disturbed = l.disturbed + 1 }) h turns
     (events-on (telling t c r.last) (Quiet ∷ []) ∙ ap (λ (es : List Event). es ++ events_of (Quiet ∷ [])) (loss t c r.last may)) tt
-    (lost-is l l.under_way sent) refl (loss-is l l.under_way sent) refl refl refl
+    (lost-is l l.under_way sent) refl (loss-is l l.under_way sent) refl refl refl refl
 called-acts r t c (Answer octets) turn next h may turns = absurd may
 called-acts r t c IfsSet turn next h may turns = absurd may
 called-acts r t c GivenUp turn next h may turns = absurd may
@@ -142,15 +150,15 @@ pub replied-acts : (r : Recording) (t : TerminalState) (c : CardState) (line : L
 replied-acts r t c (Reply m) turn next h may turns =
     let l = link_of r in
     card-acts r t c (Reply m) (replies m) turn next (host_replies m) (record l { services = with_reply l.services m }) h turns
-    (one-event t c r.last (Reply m) (host-now r t c h (taken-host c.waits _ turn next turns))) may refl refl refl refl refl refl
+    (one-event t c r.last (Reply m) (host-now r t c h (taken-host c.waits _ turn next turns))) may refl refl refl refl refl refl refl
 replied-acts r t c (Time n) turn next h may turns =
     let l = link_of r in
     card-acts r t c (Time n) (more_time n) turn next (host_asks_time n) l h turns
-    (one-event t c r.last (Time n) (host-now r t c h (taken-host c.waits _ turn next turns))) may refl refl refl refl refl refl
+    (one-event t c r.last (Time n) (host-now r t c h (taken-host c.waits _ turn next turns))) may refl refl refl refl refl refl refl
 replied-acts r t c (Ifsc n) turn next h may turns =
     let l = link_of r in
     card-acts r t c (Ifsc n) (ask_ifsc n) turn next (host_asks_ifsc n) l h turns
-    (one-event t c r.last (Ifsc n) (host-now r t c h (taken-host c.waits _ turn next turns))) may refl refl refl refl refl refl
+    (one-event t c r.last (Ifsc n) (host-now r t c h (taken-host c.waits _ turn next turns))) may refl refl refl refl refl refl refl
 replied-acts r t c (Command octets) turn next h may turns = absurd may
 replied-acts r t c (Ifsd n) turn next h may turns = absurd may
 replied-acts r t c Quiet turn next h may turns = absurd may
@@ -199,17 +207,22 @@ to-terminal-is l b Kept e = ap (λ (w : UnderWay). delivered tables l w) e
 to-terminal-is l b Damaged e = ap (λ (w : UnderWay). arrives tables l w damaged) e
 to-terminal-is l b Spoilt e = ap (λ (w : UnderWay). arrives tables l w invalid) e
 
-card-refusal-is : (l : Link) (b : Parts) (change : Change) → l.under_way ≡ to_card b
-    → refusal_of l (change_event change) ≡ card_refusal (card_turn l.card (card_takes (came_of change b)))
-card-refusal-is l b Kept e = ap (λ (w : UnderWay). arrival_refusal l w (whole w)) e
-card-refusal-is l b Damaged e = ap (λ (w : UnderWay). arrival_refusal l w damaged) e
-card-refusal-is l b Spoilt e = ap (λ (w : UnderWay). arrival_refusal l w invalid) e
+card-outcome-is : (l : Link) (b : Parts) (change : Change) → l.under_way ≡ to_card b
+    → outcome_of l (change_event change) ≡ card_outcome (card_turn l.card (card_takes (came_of change b)))
+card-outcome-is l b Kept e = ap (λ (w : UnderWay). arrival_outcome l w (whole w)) e
+card-outcome-is l b Damaged e = ap (λ (w : UnderWay). arrival_outcome l w damaged) e
+card-outcome-is l b Spoilt e = ap (λ (w : UnderWay). arrival_outcome l w invalid) e
 
-terminal-refusal-is : (l : Link) (b : Parts) (change : Change) → l.under_way ≡ to_terminal b
-    → refusal_of l (change_event change) ≡ terminal_refusal (terminal_turn l.terminal (takes (came_of change b)))
-terminal-refusal-is l b Kept e = ap (λ (w : UnderWay). arrival_refusal l w (whole w)) e
-terminal-refusal-is l b Damaged e = ap (λ (w : UnderWay). arrival_refusal l w damaged) e
-terminal-refusal-is l b Spoilt e = ap (λ (w : UnderWay). arrival_refusal l w invalid) e
+terminal-outcome-is : (l : Link) (b : Parts) (change : Change) → l.under_way ≡ to_terminal b
+    → outcome_of l (change_event change) ≡ terminal_outcome (terminal_turn l.terminal (takes (came_of change b)))
+terminal-outcome-is l b Kept e = ap (λ (w : UnderWay). arrival_outcome l w (whole w)) e
+terminal-outcome-is l b Damaged e = ap (λ (w : UnderWay). arrival_outcome l w damaged) e
+terminal-outcome-is l b Spoilt e = ap (λ (w : UnderWay). arrival_outcome l w invalid) e
+
+added-is : (r : Recording) (change : Change) → added r (change_event change) ≡ carried (link_of r).under_way change
+added-is r Kept = refl
+added-is r Damaged = refl
+added-is r Spoilt = refl
 
 card-role : (c : CardState) (b : Parts) (change : Change) → card_role c (FromTerminal (spelling b) (arrival_of change b)) ≡ calls (card_gives (card_turn c (card_takes (class_of c.ifsc (arrived (spelling b) (arrival_of change b))))))
 card-role c b Kept = refl
@@ -257,7 +270,8 @@ to-card-acts r t c b change turn next taken h e turns =
       at_terminal = ap (λ (last : LastTurn). runs terminal_end (line ∷ []) (t, terminal_pending last)) e ∙ meets (t, None) (spelling b) (line_text (terminal_line t (Send b)));
       at_card = ap (λ (last : LastTurn). runs card_end (line ∷ []) (c, card_pending last)) e ∙ card-called c line (card_turn c (card_input c line)) turn next (card-role c b change) turns;
       proper = refl;
-      taken = card-refusal-is l b change way ∙ card-taken (card_turn l.card (card_takes (came_of change b))) turn next at_link;
+      writes = added-is r change ∙ ap (λ (w : UnderWay). carried w change) way;
+      outcome = card-outcome-is l b change way ∙ card-taken (card_turn l.card (card_takes (came_of change b))) turn next at_link;
     }
 
 pub to-terminal-acts : (r : Recording) (t : TerminalState) (c : CardState) (b : Parts) (change : Change) (turn : TerminalTurn) (next : TerminalState)
@@ -282,7 +296,8 @@ to-terminal-acts r t c b change turn next taken h e turns =
       at_terminal = ap (λ (last : LastTurn). runs terminal_end (line ∷ []) (t, terminal_pending last)) e ∙ terminal-called t line (terminal_turn t (terminal_input t line)) turn next turns.0 (terminal-role t b change) turns.1;
       at_card = ap (λ (last : LastTurn). runs card_end (line ∷ []) (c, card_pending last)) e ∙ meets (c, None) (spelling b) (line_text (card_line c (Sends b)));
       proper = refl;
-      taken = terminal-refusal-is l b change way ∙ terminal-taken (terminal_turn l.terminal (takes (came_of change b))) turn next turns.0 at_link;
+      writes = added-is r change ∙ ap (λ (w : UnderWay). carried w change) way;
+      outcome = terminal-outcome-is l b change way ∙ terminal-taken (terminal_turn l.terminal (takes (came_of change b))) turn next turns.0 at_link;
     }
 
 -- ---- the record that is closed
@@ -307,12 +322,16 @@ closed-proper r t c h = proper-on r.lines (telling t c r.last) h.proper (proper-
 abbrev pub with_lines : Recording → List Line → LastTurn → Recording
 with_lines r lines last = record { atr = r.atr; ifsc = r.ifsc; lines = lines; last = last }
 
+-- the recorder after an event, and its link
+abbrev pub Follows : Recording → Recording → Event → Type 0
+Follows old new event = (recorded old event ≡ Ok new) × (link_of new ≡ happens tables (link_of old) event)
+
 -- both ends and the record after an event
 pub leaves : (r : Recording) (t t' : TerminalState) (c c' : CardState) (more lines : List Line) (event : Event) (last : LastTurn)
     → lines ≡ r.lines ++ more → IsRecording r t c → Acts r t c more event last t' c'
-    → IsRecording (with_lines r lines last) t' c' × HasHappened r (with_lines r lines last) event
+    → IsRecording (with_lines r lines last) t' c' × Follows r (with_lines r lines last) event
 leaves r t t' c c' more lines event last e h a =
-    subst (λ (l : List Line). IsRecording (with_lines r l last) t' c' × HasHappened r (with_lines r l last) event) (sym e) (keeps h a, has-happened a)
+    subst (λ (l : List Line). IsRecording (with_lines r l last) t' c' × Follows r (with_lines r l last) event) (sym e) (keeps h a, (has-recorded a, has-stepped a))
 
 if-not-memory : {P Q : Type 0} (fault : EventFault) → (P → Q) → IfNotMemory fault P → IfNotMemory fault Q
 if-not-memory Memory f h = tt
@@ -320,16 +339,16 @@ if-not-memory NothingUnderWay f h = f h
 if-not-memory (AtTerminal own) f h = f h
 if-not-memory (AtCard own) f h = f h
 
-refuses : (r : Recording) (event : Event) (refusal : Option EventFault) (fault : EventFault) → refusal_of (link_of r) event ≡ refusal → IfNotMemory fault (refusal ≡ Some fault) → IfNotMemory fault (IsRefused r event fault)
-refuses r event refusal fault e h = if-not-memory fault (λ named. refused r event fault (e ∙ named)) h
+refuses : (r : Recording) (event : Event) (outcome : Result LastTurn EventFault) (fault : EventFault) → outcome_of (link_of r) event ≡ outcome → IfNotMemory fault (outcome ≡ Err fault) → IfNotMemory fault (recorded r event ≡ Err fault)
+refuses r event outcome fault e h = if-not-memory fault (λ named. refused r event fault (e ∙ named)) h
 
 pub call-refused : (r : Recording) (t : TerminalState) (c : CardState) (line : Line) (fault : EventFault)
-    → IsRecording r t c → MayCall r.last line → IfNotMemory fault (terminal_refusal (terminal_turn t (terminal_input t line)) ≡ Some fault)
-    → IfNotMemory fault (IsRefused r (call_event line) fault)
-call-refused r t c (Command m) fault h may named = refuses r (transmits m) _ fault (ap (λ (s : TerminalState). terminal_refusal (terminal_turn s (transmit m))) h.terminal) named
-call-refused r t c (Ifsd n) fault h may named = refuses r (asks_ifsd n) _ fault (ap (λ (s : TerminalState). terminal_refusal (terminal_turn s (ask_ifs n))) h.terminal) named
+    → IsRecording r t c → MayCall r.last line → IfNotMemory fault (terminal_outcome (terminal_turn t (terminal_input t line)) ≡ Err fault)
+    → IfNotMemory fault (recorded r (call_event line) ≡ Err fault)
+call-refused r t c (Command m) fault h may named = refuses r (transmits m) _ fault (ap (λ (s : TerminalState). terminal_outcome (terminal_turn s (transmit m))) h.terminal) named
+call-refused r t c (Ifsd n) fault h may named = refuses r (asks_ifsd n) _ fault (ap (λ (s : TerminalState). terminal_outcome (terminal_turn s (ask_ifs n))) h.terminal) named
 call-refused r t c Quiet fault h may named =
-    refuses r loses _ fault (loss-is (link_of r) (link_of r).under_way (subst IsSent (sym h.under_way) may) ∙ ap (λ (s : TerminalState). terminal_refusal (terminal_turn s (takes quiet))) h.terminal) named
+    refuses r loses _ fault (loss-is (link_of r) (link_of r).under_way (subst IsSent (sym h.under_way) may) ∙ ap (λ (s : TerminalState). terminal_outcome (terminal_turn s (takes quiet))) h.terminal) named
 call-refused r t c (Answer octets) fault h may named = absurd may
 call-refused r t c IfsSet fault h may named = absurd may
 call-refused r t c GivenUp fault h may named = absurd may
@@ -344,11 +363,11 @@ call-refused r t c (Moment n) fault h may named = absurd may
 call-refused r t c (Note text) fault h may named = absurd may
 
 pub reply-refused : (r : Recording) (t : TerminalState) (c : CardState) (line : Line) (fault : EventFault)
-    → IsRecording r t c → MayReply line → IfNotMemory fault (card_refusal (card_turn c (card_input c line)) ≡ Some fault)
-    → IfNotMemory fault (IsRefused r (call_event line) fault)
-reply-refused r t c (Reply m) fault h may named = refuses r (host_replies m) _ fault (ap (λ (s : CardState). card_refusal (card_turn s (replies m))) h.card) named
-reply-refused r t c (Time n) fault h may named = refuses r (host_asks_time n) _ fault (ap (λ (s : CardState). card_refusal (card_turn s (more_time n))) h.card) named
-reply-refused r t c (Ifsc n) fault h may named = refuses r (host_asks_ifsc n) _ fault (ap (λ (s : CardState). card_refusal (card_turn s (ask_ifsc n))) h.card) named
+    → IsRecording r t c → MayReply line → IfNotMemory fault (card_outcome (card_turn c (card_input c line)) ≡ Err fault)
+    → IfNotMemory fault (recorded r (call_event line) ≡ Err fault)
+reply-refused r t c (Reply m) fault h may named = refuses r (host_replies m) _ fault (ap (λ (s : CardState). card_outcome (card_turn s (replies m))) h.card) named
+reply-refused r t c (Time n) fault h may named = refuses r (host_asks_time n) _ fault (ap (λ (s : CardState). card_outcome (card_turn s (more_time n))) h.card) named
+reply-refused r t c (Ifsc n) fault h may named = refuses r (host_asks_ifsc n) _ fault (ap (λ (s : CardState). card_outcome (card_turn s (ask_ifsc n))) h.card) named
 reply-refused r t c (Command octets) fault h may named = absurd may
 reply-refused r t c (Ifsd n) fault h may named = absurd may
 reply-refused r t c Quiet fault h may named = absurd may
@@ -364,30 +383,30 @@ reply-refused r t c (Note text) fault h may named = absurd may
 
 pub to-card-refused : (r : Recording) (t : TerminalState) (c : CardState) (b : Parts) (change : Change) (fault : EventFault)
     → AlwaysTaken tables → IsRecording r t c → r.last ≡ Terminal (Send b)
-    → IfNotMemory fault (card_refusal (card_turn c (card_input c (FromTerminal (spelling b) (arrival_of change b)))) ≡ Some fault)
-    → IfNotMemory fault (IsRefused r (change_event change) fault)
+    → IfNotMemory fault (card_outcome (card_turn c (card_input c (FromTerminal (spelling b) (arrival_of change b)))) ≡ Err fault)
+    → IfNotMemory fault (recorded r (change_event change) ≡ Err fault)
 to-card-refused r t c b change fault taken h e named =
     refuses r (change_event change) _ fault (
-    card-refusal-is (link_of r) b change (way-of r t c (Terminal (Send b)) h e)
-    ∙ ap (λ (s : CardState). card_refusal (card_turn s (card_takes (came_of change b)))) h.card
-    ∙ ap (λ (x : Came). card_refusal (card_turn c (card_takes x))) (sym (came c.ifsc b change (card-class r t c b taken h e)))) named
+    card-outcome-is (link_of r) b change (way-of r t c (Terminal (Send b)) h e)
+    ∙ ap (λ (s : CardState). card_outcome (card_turn s (card_takes (came_of change b)))) h.card
+    ∙ ap (λ (x : Came). card_outcome (card_turn c (card_takes x))) (sym (came c.ifsc b change (card-class r t c b taken h e)))) named
 
 pub to-terminal-refused : (r : Recording) (t : TerminalState) (c : CardState) (b : Parts) (change : Change) (fault : EventFault)
     → AlwaysTaken tables → IsRecording r t c → r.last ≡ Card (Sends b)
-    → IfNotMemory fault (terminal_refusal (terminal_turn t (terminal_input t (FromCard (spelling b) (arrival_of change b)))) ≡ Some fault)
-    → IfNotMemory fault (IsRefused r (change_event change) fault)
+    → IfNotMemory fault (terminal_outcome (terminal_turn t (terminal_input t (FromCard (spelling b) (arrival_of change b)))) ≡ Err fault)
+    → IfNotMemory fault (recorded r (change_event change) ≡ Err fault)
 to-terminal-refused r t c b change fault taken h e named =
     refuses r (change_event change) _ fault (
-    terminal-refusal-is (link_of r) b change (way-of r t c (Card (Sends b)) h e)
-    ∙ ap (λ (s : TerminalState). terminal_refusal (terminal_turn s (takes (came_of change b)))) h.terminal
-    ∙ ap (λ (x : Came). terminal_refusal (terminal_turn t (takes x))) (sym (came t.ifsd b change (terminal-class r t c b taken h e)))) named
+    terminal-outcome-is (link_of r) b change (way-of r t c (Card (Sends b)) h e)
+    ∙ ap (λ (s : TerminalState). terminal_outcome (terminal_turn s (takes (came_of change b)))) h.terminal
+    ∙ ap (λ (x : Came). terminal_outcome (terminal_turn t (takes x))) (sym (came t.ifsd b change (terminal-class r t c b taken h e)))) named
 
 -- the same of lines whose octets and arrival are known by equations
 pub to-card-leaves : (r : Recording) (t : TerminalState) (c : CardState) (b : Parts) (change : Change) (sent : List ℕ) (arrival : Arrival) (turn : CardTurn) (next : CardState) (lines : List Line)
     → AlwaysTaken tables → IsRecording r t c → r.last ≡ Terminal (Send b) → sent ≡ spelling b → arrival ≡ arrival_of change b
     → card_turn c (card_input c (FromTerminal sent arrival)) ≡ Ok (turn, next)
     → lines ≡ r.lines ++ FromTerminal sent arrival ∷ []
-    → IsRecording (with_lines r lines (Card turn)) t next × HasHappened r (with_lines r lines (Card turn)) (change_event change)
+    → IsRecording (with_lines r lines (Card turn)) t next × Follows r (with_lines r lines (Card turn)) (change_event change)
 to-card-leaves r t c b change sent arrival turn next lines taken h e sent-is arrival-is turns lines-is =
     let now = subst (λ (x : Arrival). card_turn c (card_input c (FromTerminal (spelling b) x)) ≡ Ok (turn, next)) arrival-is
     (subst (λ (s : List ℕ). card_turn c (card_input c (FromTerminal s arrival)) ≡ Ok (turn, next)) sent-is turns) in
@@ -399,7 +418,7 @@ pub to-terminal-leaves : (r : Recording) (t : TerminalState) (c : CardState) (b 
     → AlwaysTaken tables → IsRecording r t c → r.last ≡ Card (Sends b) → sent ≡ spelling b → arrival ≡ arrival_of change b
     → Turns t (terminal_input t (FromCard sent arrival)) turn next
     → lines ≡ r.lines ++ FromCard sent arrival ∷ []
-    → IsRecording (with_lines r lines (Terminal turn)) next c × HasHappened r (with_lines r lines (Terminal turn)) (change_event change)
+    → IsRecording (with_lines r lines (Terminal turn)) next c × Follows r (with_lines r lines (Terminal turn)) (change_event change)
 to-terminal-leaves r t c b change sent arrival turn next lines taken h e sent-is arrival-is turns lines-is =
     let now = subst (λ (x : Arrival). Turns t (terminal_input t (FromCard (spelling b) x)) turn next) arrival-is
     (subst (λ (s : List ℕ). Turns t (terminal_input t (FromCard s arrival)) turn next) sent-is turns) in
@@ -409,21 +428,21 @@ to-terminal-leaves r t c b change sent arrival turn next lines taken h e sent-is
 
 pub to-card-refuses : (r : Recording) (t : TerminalState) (c : CardState) (b : Parts) (change : Change) (sent : List ℕ) (arrival : Arrival) (fault : EventFault)
     → AlwaysTaken tables → IsRecording r t c → r.last ≡ Terminal (Send b) → sent ≡ spelling b → arrival ≡ arrival_of change b
-    → IfNotMemory fault (card_refusal (card_turn c (card_input c (FromTerminal sent arrival))) ≡ Some fault)
-    → IfNotMemory fault (IsRefused r (change_event change) fault)
+    → IfNotMemory fault (card_outcome (card_turn c (card_input c (FromTerminal sent arrival))) ≡ Err fault)
+    → IfNotMemory fault (recorded r (change_event change) ≡ Err fault)
 to-card-refuses r t c b change sent arrival fault taken h e sent-is arrival-is named =
     to-card-refused r t c b change fault taken h e
-    (subst (λ (x : Arrival). IfNotMemory fault (card_refusal (card_turn c (card_input c (FromTerminal (spelling b) x))) ≡ Some fault)) arrival-is
-    (subst (λ (s : List ℕ). IfNotMemory fault (card_refusal (card_turn c (card_input c (FromTerminal s arrival))) ≡ Some fault)) sent-is named))
+    (subst (λ (x : Arrival). IfNotMemory fault (card_outcome (card_turn c (card_input c (FromTerminal (spelling b) x))) ≡ Err fault)) arrival-is
+    (subst (λ (s : List ℕ). IfNotMemory fault (card_outcome (card_turn c (card_input c (FromTerminal s arrival))) ≡ Err fault)) sent-is named))
 
 pub to-terminal-refuses : (r : Recording) (t : TerminalState) (c : CardState) (b : Parts) (change : Change) (sent : List ℕ) (arrival : Arrival) (fault : EventFault)
     → AlwaysTaken tables → IsRecording r t c → r.last ≡ Card (Sends b) → sent ≡ spelling b → arrival ≡ arrival_of change b
-    → IfNotMemory fault (terminal_refusal (terminal_turn t (terminal_input t (FromCard sent arrival))) ≡ Some fault)
-    → IfNotMemory fault (IsRefused r (change_event change) fault)
+    → IfNotMemory fault (terminal_outcome (terminal_turn t (terminal_input t (FromCard sent arrival))) ≡ Err fault)
+    → IfNotMemory fault (recorded r (change_event change) ≡ Err fault)
 to-terminal-refuses r t c b change sent arrival fault taken h e sent-is arrival-is named =
     to-terminal-refused r t c b change fault taken h e
-    (subst (λ (x : Arrival). IfNotMemory fault (terminal_refusal (terminal_turn t (terminal_input t (FromCard (spelling b) x))) ≡ Some fault)) arrival-is
-    (subst (λ (s : List ℕ). IfNotMemory fault (terminal_refusal (terminal_turn t (terminal_input t (FromCard s arrival))) ≡ Some fault)) sent-is named))
+    (subst (λ (x : Arrival). IfNotMemory fault (terminal_outcome (terminal_turn t (terminal_input t (FromCard (spelling b) x))) ≡ Err fault)) arrival-is
+    (subst (λ (s : List ℕ). IfNotMemory fault (terminal_outcome (terminal_turn t (terminal_input t (FromCard s arrival))) ≡ Err fault)) sent-is named))
 
 -- a block that is lent is under way
 pub lent-sent : (lent : Option (Bor Parts)) (w : UnderWay) → is_some lent ≡ true → IsLent lent w → IsSent w

@@ -1,23 +1,59 @@
--- A block that arrives is a call of its receiver, and a call of an engine gives what its step says.
-use Rattle.std.proofs.Common.{◌≡◌, ℕ, List, Result, Ok, Err, IfOk, IfErr, refl}
-use Rattle.t1_core.specs.Terminal.{TerminalState, TerminalStep, turn_of, state_after}
-use Rattle.t1_core.specs.Card.{CardState, CardStep, turn_of as card_turn_of, state_after as card_state_after}
+-- Which call of an end a line is, and that a call of an engine gives what its step says.
+use Rattle.std.proofs.Common.{◌≡◌, Result, Ok, Err, IfOk, IfErr, refl}
+use Rattle.t1_core.specs.Terminal.{TerminalState, TerminalStep, terminal_turn, turn_of, state_after}
+use Rattle.t1_core.specs.Card.{CardState, CardStep, card_turn, turn_of as card_turn_of, state_after as card_state_after}
 use Rattle.t1_core.specs.declared.turns.TerminalTurn.{TerminalTurn}
 use Rattle.t1_core.specs.declared.turns.TerminalFault.{TerminalFault}
 use Rattle.t1_core.specs.declared.turns.CardTurn.{CardTurn}
 use Rattle.t1_core.specs.declared.turns.CardFault.{CardFault}
-use Rattle.exchange_core.specs.declared.line.Arrival.{Arrival}
 use Rattle.exchange_core.specs.declared.line.Arrival.TheVariants.{Whole, Lost, Changed}
 use Rattle.exchange_core.specs.declared.way.Way.TheVariants.{In}
-use Rattle.exchange_core.specs.Replay.{Role, calls, arriving, terminal_gives, terminal_refusal, card_gives, card_refusal}
-use Rattle.exchange_core.specs.Given.{way_of, arrived}
+use Rattle.exchange_core.specs.declared.line.Line.{Line}
+use Rattle.exchange_core.specs.declared.line.Line.TheVariants.{Command, Ifsd, Quiet, Answer, IfsSet, GivenUp, Dead, Reply, Time, Ifsc, Asked, FromTerminal, FromCard, Moment, Note}
+use Rattle.exchange_core.specs.Replay.{calls, terminal_role, terminal_gives, terminal_refusal, card_role, card_gives, card_refusal}
+use Rattle.exchange_core.specs.Recording.{terminal_input, card_input, IsCardCall}
+use Rattle.exchange_core.specs.Given.{way_of}
 
--- a call brings the octets that arrived
-pub arrives : {S T : Type 0} (taking : List ℕ → Role S T) (sent : List ℕ) (arrival : Arrival)
-    → way_of (arriving taking sent arrival) ≡ In → arriving taking sent arrival ≡ taking (arrived sent arrival)
-arrives taking sent Whole is_call = refl
-arrives taking sent Lost is_call = cc
-arrives taking sent (Changed octets) is_call = refl
+-- what a call of the terminal is to it
+pub terminal-role : (t : TerminalState) (line : Line) → way_of (terminal_role t line) ≡ In → terminal_role t line ≡ calls (terminal_gives (terminal_turn t (terminal_input t line)))
+terminal-role t (Command octets) is_call = refl
+terminal-role t (Ifsd size) is_call = refl
+terminal-role t Quiet is_call = refl
+terminal-role t (FromCard sent Whole) is_call = refl
+terminal-role t (FromCard sent (Changed octets)) is_call = refl
+terminal-role t (FromCard sent Lost) is_call = cc
+terminal-role t (Answer octets) is_call = cc
+terminal-role t IfsSet is_call = cc
+terminal-role t GivenUp is_call = cc
+terminal-role t Dead is_call = cc
+terminal-role t (FromTerminal sent arrival) is_call = cc
+terminal-role t (Reply octets) is_call = cc
+terminal-role t (Time multiple) is_call = cc
+terminal-role t (Ifsc size) is_call = cc
+terminal-role t (Asked octets) is_call = cc
+terminal-role t (Moment moment) is_call = cc
+terminal-role t (Note text) is_call = cc
+
+-- what a call of the card is to it
+pub card-role : (c : CardState) (line : Line) → way_of (card_role c line) ≡ In
+    → IsCardCall line × (card_role c line ≡ calls (card_gives (card_turn c (card_input c line))))
+card-role c (Reply octets) is_call = (tt, refl)
+card-role c (Time multiple) is_call = (tt, refl)
+card-role c (Ifsc size) is_call = (tt, refl)
+card-role c (FromTerminal sent Whole) is_call = (tt, refl)
+card-role c (FromTerminal sent (Changed octets)) is_call = (tt, refl)
+card-role c (FromTerminal sent Lost) is_call = cc
+card-role c (Asked octets) is_call = cc
+card-role c (FromCard sent arrival) is_call = cc
+card-role c (Command octets) is_call = cc
+card-role c (Ifsd size) is_call = cc
+card-role c Quiet is_call = cc
+card-role c (Answer octets) is_call = cc
+card-role c IfsSet is_call = cc
+card-role c GivenUp is_call = cc
+card-role c Dead is_call = cc
+card-role c (Moment moment) is_call = cc
+card-role c (Note text) is_call = cc
 
 pub terminal-turn : (t after : TerminalState) (step : TerminalStep) (outcome : Result TerminalTurn TerminalFault)
     → outcome ≡ turn_of step → after ≡ state_after t step

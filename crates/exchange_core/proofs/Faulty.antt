@@ -1,4 +1,4 @@
--- A text is that of an exchange, or has a fault; want of memory is none.
+-- A text is that of an exchange, or has a fault; `Memory` is none.
 use Rattle.std.proofs.Common.{◌≡◌, ℕ, ◌+◌, List, [], ◌∷◌, Bool, true, false, Option, Some, None, Result, Ok, Err, refl, ap, codes, if◌then◌else◌, inl, inr, ◌⊎◌}
 use Rattle.std.specs.List.{after_first, slice_split}
 use Rattle.std.specs.Str.{bytes_eq}
@@ -28,7 +28,7 @@ use Rattle.exchange_core.proofs.WholeSound.{exchange-sound}
 same-err : {A E : Type 0} (f g : E) (r : Result A E) → r ≡ Err f → r ≡ Err g → f ≡ g
 same-err f g r d e = let s : r ≡ r = refl in cc
 
--- no want of memory
+-- no fault is `Memory`
 abbrev Fine : {A E : Type 0} → E → Result A E → Type 0
 Fine memory r = r ≡ Err memory → ⊥
 

@@ -1,5 +1,5 @@
 -- Each event keeps what holds of a recorder.
-use Rattle.std.proofs.Common.{◌≡◌, ◌+◌, ◌++◌, List, [], ◌∷◌, refl, sym, ap, subst, ◌∙◌, true, Some, None, Ok, Err}
+use Rattle.std.proofs.Common.{◌≡◌, ◌+◌, ◌++◌, List, [], ◌∷◌, refl, sym, ap, subst, ◌∙◌, true, Some, None, Result, Ok, Err}
 use Rattle.t1_core.specs.Came.{Came, got, damaged, invalid, quiet}
 use Rattle.t1_core.specs.Terminal.{TerminalState, TerminalStep, Mark, transmit, ask_ifs, takes, terminal_turn}
 use Rattle.t1_core.specs.Card.{CardState, CardStep, replies, more_time, ask_ifs as ask_ifsc, takes as card_takes, card_turn}
@@ -9,16 +9,21 @@ use Rattle.t1_core.specs.declared.turns.TerminalTurn.{TerminalTurn}
 use Rattle.t1_core.specs.declared.turns.CardTurn.{CardTurn}
 use Rattle.exchange_core.specs.Exchange.{are_proper}
 use Rattle.exchange_core.specs.Replay.{terminal_end, card_end, terminal_role, card_role, calls, terminal_gives, card_gives}
-use Rattle.exchange_core.specs.Recording.{Recording, link_of, IsRecording, HasHappened, IsRefused, refusal_of, terminal_refusal, card_refusal, arrival_refusal, loss_refusal, terminal_pending, card_pending, under_way_of, events_of, runs, whole}
+use Rattle.exchange_core.specs.Recording.{Recording, link_of, IsRecording, recorded, with_outcome, added, outcome_of, terminal_outcome, card_outcome, arrival_outcome, loss_outcome, terminal_pending, card_pending, under_way_of, events_of, runs, whole}
 use Rattle.exchange_core.specs.declared.exchange.Version.TheVariants.{One}
 use Rattle.exchange_core.specs.declared.line.Line.{Line}
 use Rattle.exchange_core.specs.declared.event.EventFault.{EventFault}
 use Rattle.exchange_core.specs.declared.event.LastTurn.{LastTurn}
+use Rattle.exchange_core.specs.declared.event.LastTurn.TheVariants.{Terminal, Card}
 use Rattle.exchange_core.proofs.Folds.{runs-on, proper-on, events-on, run-on, octets-on}
 
 -- the record with more lines and another last turn
 abbrev pub further : Recording → List Line → LastTurn → Recording
 further r more last = record { atr = r.atr; ifsc = r.ifsc; lines = r.lines ++ more; last = last }
+
+-- the recorder after an event that is taken
+abbrev taken : Recording → List Line → LastTurn → Result Recording EventFault
+taken r more last = Ok (further r more last)
 
 -- What an event does: the lines that tell it, and where it leaves both ends.
 pub record Acts (r : Recording) (t : TerminalState) (c : CardState) (more : List Line) (event : Event) (last : LastTurn) (t' : TerminalState) (c' : CardState) : Type 0 where
@@ -30,7 +35,8 @@ pub record Acts (r : Recording) (t : TerminalState) (c : CardState) (more : List
   pub at_terminal : runs terminal_end more (t, terminal_pending r.last) ≡ Ok (t', terminal_pending last)
   pub at_card : runs card_end more (c, card_pending r.last) ≡ Ok (c', card_pending last)
   pub proper : are_proper One 0 more ≡ true
-  pub taken : refusal_of (link_of r) event ≡ None
+  pub outcome : outcome_of (link_of r) event ≡ Ok last
+  pub writes : added r event ≡ more
 
 -- the link after the lines
 links : (r : Recording) (more : List Line) (last : LastTurn) (event : Event) → events_of more ≡ event ∷ [] → link_of (further r more last) ≡ happens tables (link_of r) event
@@ -53,37 +59,43 @@ keeps {r} {t} {t'} {c} {c'} {more} {event} {last} h a =
       found = h.found;
     }
 
-pub has-happened : {r : Recording} {t t' : TerminalState} {c c' : CardState} {more : List Line} {event : Event} {last : LastTurn}
-    → Acts r t c more event last t' c' → HasHappened r (further r more last) event
-has-happened {r} {t} {t'} {c} {c'} {more} {event} {last} a =
-    record { link = links r more last event a.events; atr = refl; ifsc = refl; taken = a.taken }
+-- the link steps, and the recorder with it
+pub has-stepped : {r : Recording} {t t' : TerminalState} {c c' : CardState} {more : List Line} {event : Event} {last : LastTurn}
+    → Acts r t c more event last t' c' → link_of (further r more last) ≡ happens tables (link_of r) event
+has-stepped {r} {t} {t'} {c} {c'} {more} {event} {last} a = links r more last event a.events
+
+pub has-recorded : {r : Recording} {t t' : TerminalState} {c c' : CardState} {more : List Line} {event : Event} {last : LastTurn}
+    → Acts r t c more event last t' c' → recorded r event ≡ Ok (further r more last)
+has-recorded {r} {t} {t'} {c} {c'} {more} {event} {last} a =
+    ap (λ (outcome : Result LastTurn EventFault). with_outcome r event outcome) a.outcome
+    ∙ ap (λ (l : List Line). taken r l last) a.writes
 
 -- ---- what a refusal leaves
 
-terminal-stays : (before l : Link) (step : TerminalStep) (fault : EventFault) → terminal_refusal step ≡ Some fault → terminal_makes before l step ≡ before
+terminal-stays : (before l : Link) (step : TerminalStep) (fault : EventFault) → terminal_outcome step ≡ Err fault → terminal_makes before l step ≡ before
 terminal-stays before l (Ok step) fault e = cc
 terminal-stays before l (Err own) fault e = refl
 
-card-stays : (before l : Link) (step : CardStep) (fault : EventFault) → card_refusal step ≡ Some fault → card_makes before l step ≡ before
+card-stays : (before l : Link) (step : CardStep) (fault : EventFault) → card_outcome step ≡ Err fault → card_makes before l step ≡ before
 card-stays before l (Ok step) fault e = cc
 card-stays before l (Err own) fault e = refl
 
-arrival-stays : (l : Link) (w : UnderWay) (x : Came) (fault : EventFault) → arrival_refusal l w x ≡ Some fault → arrives tables l w x ≡ l
+arrival-stays : (l : Link) (w : UnderWay) (x : Came) (fault : EventFault) → arrival_outcome l w x ≡ Err fault → arrives tables l w x ≡ l
 arrival-stays l nothing x fault e = refl
 arrival-stays l (to_card block) x fault e = card-stays l (record l { disturbed = l.disturbed + 1 }) (card_turn l.card (card_takes x)) fault e
 arrival-stays l (to_terminal block) x fault e = terminal-stays l (record l { disturbed = l.disturbed + 1 }) (terminal_turn l.terminal (takes x)) fault e
 
-delivery-stays : (l : Link) (w : UnderWay) (fault : EventFault) → arrival_refusal l w (whole w) ≡ Some fault → delivered tables l w ≡ l
+delivery-stays : (l : Link) (w : UnderWay) (fault : EventFault) → arrival_outcome l w (whole w) ≡ Err fault → delivered tables l w ≡ l
 delivery-stays l nothing fault e = refl
 delivery-stays l (to_card block) fault e = card-stays l l (card_turn l.card (card_takes (got block.pcb block.inf))) fault e
 delivery-stays l (to_terminal block) fault e = terminal-stays l l (terminal_turn l.terminal (takes (got block.pcb block.inf))) fault e
 
-loss-stays : (l : Link) (w : UnderWay) (fault : EventFault) → loss_refusal l w ≡ Some fault → lost tables l w ≡ l
+loss-stays : (l : Link) (w : UnderWay) (fault : EventFault) → loss_outcome l w ≡ Err fault → lost tables l w ≡ l
 loss-stays l nothing fault e = refl
 loss-stays l (to_card block) fault e = terminal-stays l (record l { disturbed = l.disturbed + 1 }) (terminal_turn l.terminal (takes quiet)) fault e
 loss-stays l (to_terminal block) fault e = terminal-stays l (record l { disturbed = l.disturbed + 1 }) (terminal_turn l.terminal (takes quiet)) fault e
 
-stays : (l : Link) (event : Event) (fault : EventFault) → refusal_of l event ≡ Some fault → happens tables l event ≡ l
+stays : (l : Link) (event : Event) (fault : EventFault) → outcome_of l event ≡ Err fault → happens tables l event ≡ l
 stays l delivers fault e = delivery-stays l l.under_way fault e
 stays l damages fault e = arrival-stays l l.under_way damaged fault e
 stays l spoils fault e = arrival-stays l l.under_way invalid fault e
@@ -94,8 +106,15 @@ stays l (host_replies m) fault e = card-stays l (record l { services = with_repl
 stays l (host_asks_time n) fault e = card-stays l l (card_turn l.card (more_time n)) fault e
 stays l (host_asks_ifsc n) fault e = card-stays l l (card_turn l.card (ask_ifsc n)) fault e
 
-pub refused : (r : Recording) (event : Event) (fault : EventFault) → refusal_of (link_of r) event ≡ Some fault → IsRefused r event fault
-refused r event fault e = record { named = e; link = stays (link_of r) event fault e }
+refused-outcome : (r : Recording) (event : Event) (outcome : Result LastTurn EventFault) (fault : EventFault) → with_outcome r event outcome ≡ Err fault → outcome ≡ Err fault
+refused-outcome r event (Ok last) fault e = cc
+refused-outcome r event (Err own) fault e = cc
+
+pub refused-stays : (r : Recording) (event : Event) (fault : EventFault) → recorded r event ≡ Err fault → happens tables (link_of r) event ≡ link_of r
+refused-stays r event fault e = stays (link_of r) event fault (refused-outcome r event (outcome_of (link_of r) event) fault e)
+
+pub refused : (r : Recording) (event : Event) (fault : EventFault) → outcome_of (link_of r) event ≡ Err fault → recorded r event ≡ Err fault
+refused r event fault e = ap (λ (outcome : Result LastTurn EventFault). with_outcome r event outcome) e
 
 -- ---- what a step leaves
 
@@ -107,10 +126,10 @@ pub card-made : (before l : Link) (step : CardStep) (turn : CardTurn) (next : Ca
     → ((card_makes before l step).terminal ≡ l.terminal) × ((card_makes before l step).card ≡ next) × ((card_makes before l step).under_way ≡ sent_by_card turn)
 card-made before l step turn next e = rw e (refl, refl, refl)
 
-pub terminal-taken : (step : TerminalStep) (turn : TerminalTurn) (next : TerminalState) (mark : Mark) → step ≡ Ok (turn, next, mark) → terminal_refusal step ≡ None
+pub terminal-taken : (step : TerminalStep) (turn : TerminalTurn) (next : TerminalState) (mark : Mark) → step ≡ Ok (turn, next, mark) → terminal_outcome step ≡ Ok (Terminal turn)
 terminal-taken step turn next mark e = rw e refl
 
-pub card-taken : (step : CardStep) (turn : CardTurn) (next : CardState) → step ≡ Ok (turn, next) → card_refusal step ≡ None
+pub card-taken : (step : CardStep) (turn : CardTurn) (next : CardState) → step ≡ Ok (turn, next) → card_outcome step ≡ Ok (Card turn)
 card-taken step turn next e = rw e refl
 
 -- a call in the replay, where no turn is untold

@@ -71,16 +71,16 @@ stops version number least line [] fault h e = absurd (h refl)
 stops version number least line (next ∷ parts) fault h e = rw e refl
 
 -- the first fault
-pub line-stops : (version : Version) (text : List ℕ) (lines : List Line) (number least : ℕ) (rest line behind : List ℕ) (fault : ExchangeFault) → IsSequel version text lines number least rest → slice_split is_line_feed rest ≡ line ∷ slice_split is_line_feed behind
+pub line-stops : (version : Version) (text : List ℕ) (lines : List Line) (number least : ℕ) (rest line next : List ℕ) (fault : ExchangeFault) → IsSequel version text lines number least rest → slice_split is_line_feed rest ≡ line ∷ slice_split is_line_feed next
     → line_at version number least line ≡ Err fault → lines_said version 3 0 (slice_split is_line_feed text) ≡ Err fault
-line-stops version text lines number least rest line behind fault h parts e =
-    h.said ∙ ap (λ (p : List (List ℕ)). after lines (lines_said version number least p)) parts ∙ ap (after lines) (stops version number least line (slice_split is_line_feed behind) fault (some-words is_line_feed behind) e)
+line-stops version text lines number least rest line next fault h parts e =
+    h.said ∙ ap (λ (p : List (List ℕ)). after lines (lines_said version number least p)) parts ∙ ap (after lines) (stops version number least line (slice_split is_line_feed next) fault (some-words is_line_feed next) e)
 
 -- one line more
-pub next-sequel : (version : Version) (text : List ℕ) (lines : List Line) (number least : ℕ) (rest line behind : List ℕ) (first : Line) → IsSequel version text lines number least rest → slice_split is_line_feed rest ≡ line ∷ slice_split is_line_feed behind
-    → length line + 1 + length behind ≡ length rest → line_at version number least line ≡ Ok first → IsSequel version text (lines ++ first ∷ []) (number + 1) (moment_after least first) behind
-next-sequel version text lines number least rest line behind first h parts shorter e = record {
-  said = h.said ∙ ap (λ (p : List (List ℕ)). after lines (lines_said version number least p)) parts ∙ goes-on version number least line (slice_split is_line_feed behind) first lines (some-words is_line_feed behind) e;
+pub next-sequel : (version : Version) (text : List ℕ) (lines : List Line) (number least : ℕ) (rest line next : List ℕ) (first : Line) → IsSequel version text lines number least rest → slice_split is_line_feed rest ≡ line ∷ slice_split is_line_feed next
+    → length line + 1 + length next ≡ length rest → line_at version number least line ≡ Ok first → IsSequel version text (lines ++ first ∷ []) (number + 1) (moment_after least first) next
+next-sequel version text lines number least rest line next first h parts shorter e = record {
+  said = h.said ∙ ap (λ (p : List (List ℕ)). after lines (lines_said version number least p)) parts ∙ goes-on version number least line (slice_split is_line_feed next) first lines (some-words is_line_feed next) e;
   proper = λ more k. rw (append_assoc lines (first ∷ []) more) (h.proper (first ∷ more) (both-true (may_follow version least first) (are_proper version (moment_after least first) more) (line-follows version number least line first e) k));
   count = omega (arith, h.count, shorter);
 }
@@ -99,11 +99,11 @@ pub unless-ok : {A : Type 0} (x : A) (r : Result A ExchangeFault) → UnlessMemo
 unless-ok x r (inl e) = cc
 unless-ok x r (inr e) = sym e
 
--- a fault of the line is the text's, unless memory was wanting
-pub line-fault : (version : Version) (text : List ℕ) (lines : List Line) (number least : ℕ) (rest line behind : List ℕ) (fault : ExchangeFault) → IsSequel version text lines number least rest → slice_split is_line_feed rest ≡ line ∷ slice_split is_line_feed behind
+-- a fault of the line is the text's, unless it is out of memory
+pub line-fault : (version : Version) (text : List ℕ) (lines : List Line) (number least : ℕ) (rest line next : List ℕ) (fault : ExchangeFault) → IsSequel version text lines number least rest → slice_split is_line_feed rest ≡ line ∷ slice_split is_line_feed next
     → UnlessMemory (Err fault) (line_at version number least line) → UnlessMemory (Err fault) (lines_said version 3 0 (slice_split is_line_feed text))
-line-fault version text lines number least rest line behind fault h parts (inl e) = inl cc
-line-fault version text lines number least rest line behind fault h parts (inr e) = inr (sym (line-stops version text lines number least rest line behind fault h parts (sym e)))
+line-fault version text lines number least rest line next fault h parts (inl e) = inl cc
+line-fault version text lines number least rest line next fault h parts (inr e) = inr (sym (line-stops version text lines number least rest line next fault h parts (sym e)))
 
 -- ---- the whole text
 
@@ -126,20 +126,20 @@ headed header [] version h e = absurd (h refl)
 headed header (next ∷ parts) version h e = rw e refl
 
 -- a fault of the second line
-pub second-fault : (version : Version) (text line behind : List ℕ) (fault : ExchangeFault) → slice_split is_line_feed text ≡ line ∷ slice_split is_line_feed behind
+pub second-fault : (version : Version) (text line next : List ℕ) (fault : ExchangeFault) → slice_split is_line_feed text ≡ line ∷ slice_split is_line_feed next
     → UnlessMemory (Err fault) (at 2 (atr_said line)) → UnlessMemory {X = ExchangeParts} (Err fault) (parts_said version (slice_split is_line_feed text))
-second-fault version text line behind fault parts h = rw parts (second version line (slice_split is_line_feed behind) fault (some-words is_line_feed behind) h)
+second-fault version text line next fault parts h = rw parts (second version line (slice_split is_line_feed next) fault (some-words is_line_feed next) h)
 
 -- a fault of a later line
-pub later-fault : (version : Version) (text line behind atr : List ℕ) (fault : ExchangeFault) → slice_split is_line_feed text ≡ line ∷ slice_split is_line_feed behind
-    → UnlessMemory (Ok atr) (at 2 (atr_said line)) → UnlessMemory (Err fault) (lines_said version 3 0 (slice_split is_line_feed behind)) → UnlessMemory {X = ExchangeParts} (Err fault) (parts_said version (slice_split is_line_feed text))
-later-fault version text line behind atr fault parts h k = rw parts (later version line atr (slice_split is_line_feed behind) fault (some-words is_line_feed behind) (unless-ok atr (at 2 (atr_said line)) h) k)
+pub later-fault : (version : Version) (text line next atr : List ℕ) (fault : ExchangeFault) → slice_split is_line_feed text ≡ line ∷ slice_split is_line_feed next
+    → UnlessMemory (Ok atr) (at 2 (atr_said line)) → UnlessMemory (Err fault) (lines_said version 3 0 (slice_split is_line_feed next)) → UnlessMemory {X = ExchangeParts} (Err fault) (parts_said version (slice_split is_line_feed text))
+later-fault version text line next atr fault parts h k = rw parts (later version line atr (slice_split is_line_feed next) fault (some-words is_line_feed next) (unless-ok atr (at 2 (atr_said line)) h) k)
 
 -- no fault
-pub all-said : (version : Version) (text line behind atr : List ℕ) (lines : List Line) → slice_split is_line_feed text ≡ line ∷ slice_split is_line_feed behind
-    → UnlessMemory (Ok atr) (at 2 (atr_said line)) → UnlessMemory (Ok lines) (lines_said version 3 0 (slice_split is_line_feed behind)) → parts_said version (slice_split is_line_feed text) ≡ Ok (record { version = version; atr = atr; lines = lines })
-all-said version text line behind atr lines parts h k = rw parts (whole version line atr (slice_split is_line_feed behind) lines (some-words is_line_feed behind) (unless-ok atr (at 2 (atr_said line)) h) (unless-ok lines (lines_said version 3 0 (slice_split is_line_feed behind)) k))
+pub all-said : (version : Version) (text line next atr : List ℕ) (lines : List Line) → slice_split is_line_feed text ≡ line ∷ slice_split is_line_feed next
+    → UnlessMemory (Ok atr) (at 2 (atr_said line)) → UnlessMemory (Ok lines) (lines_said version 3 0 (slice_split is_line_feed next)) → parts_said version (slice_split is_line_feed text) ≡ Ok (record { version = version; atr = atr; lines = lines })
+all-said version text line next atr lines parts h k = rw parts (whole version line atr (slice_split is_line_feed next) lines (some-words is_line_feed next) (unless-ok atr (at 2 (atr_said line)) h) (unless-ok lines (lines_said version 3 0 (slice_split is_line_feed next)) k))
 
 -- what follows the header
-pub header-said : (text header behind : List ℕ) (version : Version) → slice_split is_line_feed text ≡ header ∷ slice_split is_line_feed behind → version_said header ≡ Ok version → exchange_said text ≡ parts_said version (slice_split is_line_feed behind)
-header-said text header behind version parts e = rw parts (headed header (slice_split is_line_feed behind) version (some-words is_line_feed behind) e)
+pub header-said : (text header next : List ℕ) (version : Version) → slice_split is_line_feed text ≡ header ∷ slice_split is_line_feed next → version_said header ≡ Ok version → exchange_said text ≡ parts_said version (slice_split is_line_feed next)
+header-said text header next version parts e = rw parts (headed header (slice_split is_line_feed next) version (some-words is_line_feed next) e)

@@ -219,7 +219,7 @@ exchange_by parts = Err fault.Header
 abbrev pub exchange_said : List ℕ → Result ExchangeParts ExchangeFault
 exchange_said text = exchange_by (slice_split is_line_feed text)
 
--- the same where memory may be wanting
+-- a result that is the expected one, or out of memory
 abbrev pub LineUnlessMemory : {X : Type 0} → Result X LineFault → Result X LineFault → Type 0
 LineUnlessMemory result expected = (result ≡ Err Memory) ⊎ (result ≡ expected)
 

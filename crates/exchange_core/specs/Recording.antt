@@ -44,44 +44,43 @@ event_of (HostReply octets) = link.host_replies octets.now
 event_of (MoreTime multiple) = link.host_asks_time multiple
 event_of (AskIfsc size) = link.host_asks_ifsc size
 
--- why an end refuses a call
-abbrev pub terminal_refusal : TerminalStep → Option EventFault
-terminal_refusal (Ok step) = None
-terminal_refusal (Err fault) = Some (AtTerminal fault)
+-- what a step of an end comes to: its turn, or why it refuses the call
+abbrev pub terminal_outcome : TerminalStep → Result LastTurn EventFault
+terminal_outcome (Ok step) = Ok (Terminal step.0)
+terminal_outcome (Err fault) = Err (AtTerminal fault)
 
-abbrev pub card_refusal : CardStep → Option EventFault
-card_refusal (Ok step) = None
-card_refusal (Err fault) = Some (AtCard fault)
+abbrev pub card_outcome : CardStep → Result LastTurn EventFault
+card_outcome (Ok step) = Ok (Card step.0)
+card_outcome (Err fault) = Err (AtCard fault)
 
 -- the block under way comes to its receiver as this
-abbrev pub arrival_refusal : Link → UnderWay → Came → Option EventFault
-arrival_refusal l nothing came = Some NothingUnderWay
-arrival_refusal l (to_card block) came = card_refusal (card_turn l.card (card_takes came))
-arrival_refusal l (to_terminal block) came = terminal_refusal (terminal_turn l.terminal (takes came))
+abbrev pub arrival_outcome : Link → UnderWay → Came → Result LastTurn EventFault
+arrival_outcome l nothing came = Err NothingUnderWay
+arrival_outcome l (to_card block) came = card_outcome (card_turn l.card (card_takes came))
+arrival_outcome l (to_terminal block) came = terminal_outcome (terminal_turn l.terminal (takes came))
 
 abbrev pub whole : UnderWay → Came
 whole nothing = quiet
 whole (to_card block) = got block.pcb block.inf
 whole (to_terminal block) = got block.pcb block.inf
 
-abbrev pub loss_refusal : Link → UnderWay → Option EventFault
-loss_refusal l nothing = Some NothingUnderWay
-loss_refusal l (to_card block) = terminal_refusal (terminal_turn l.terminal (takes quiet))
-loss_refusal l (to_terminal block) = terminal_refusal (terminal_turn l.terminal (takes quiet))
+abbrev pub loss_outcome : Link → UnderWay → Result LastTurn EventFault
+loss_outcome l nothing = Err NothingUnderWay
+loss_outcome l under_way = terminal_outcome (terminal_turn l.terminal (takes quiet))
 
--- why an event changes nothing
-abbrev pub refusal_of : Link → link.Event → Option EventFault
-refusal_of l link.delivers = arrival_refusal l l.under_way (whole l.under_way)
-refusal_of l link.damages = arrival_refusal l l.under_way damaged
-refusal_of l link.spoils = arrival_refusal l l.under_way invalid
-refusal_of l link.loses = loss_refusal l l.under_way
-refusal_of l (link.transmits command) = terminal_refusal (terminal_turn l.terminal (transmit command))
-refusal_of l (link.asks_ifsd size) = terminal_refusal (terminal_turn l.terminal (ask_ifs size))
-refusal_of l (link.host_replies octets) = card_refusal (card_turn l.card (replies octets))
-refusal_of l (link.host_asks_time multiple) = card_refusal (card_turn l.card (more_time multiple))
-refusal_of l (link.host_asks_ifsc size) = card_refusal (card_turn l.card (ask_ifsc size))
+-- what an event comes to: the turn of the end that it calls, or why it changes nothing
+abbrev pub outcome_of : Link → link.Event → Result LastTurn EventFault
+outcome_of l link.delivers = arrival_outcome l l.under_way (whole l.under_way)
+outcome_of l link.damages = arrival_outcome l l.under_way damaged
+outcome_of l link.spoils = arrival_outcome l l.under_way invalid
+outcome_of l link.loses = loss_outcome l l.under_way
+outcome_of l (link.transmits command) = terminal_outcome (terminal_turn l.terminal (transmit command))
+outcome_of l (link.asks_ifsd size) = terminal_outcome (terminal_turn l.terminal (ask_ifs size))
+outcome_of l (link.host_replies octets) = card_outcome (card_turn l.card (replies octets))
+outcome_of l (link.host_asks_time multiple) = card_outcome (card_turn l.card (more_time multiple))
+outcome_of l (link.host_asks_ifsc size) = card_outcome (card_turn l.card (ask_ifsc size))
 
--- this of why an event changes nothing; of a lack of memory nothing is said
+-- this of why an event changes nothing; of being out of memory nothing is said
 abbrev pub IfNotMemory : EventFault → Type 0 → Type 0
 IfNotMemory Memory P = Unit {0}
 IfNotMemory fault P = P
@@ -152,21 +151,40 @@ telling t c Nothing = []
 telling t c (Terminal turn) = as_lost (terminal_line t turn) ∷ []
 telling t c (Card turn) = as_lost (card_line c turn) ∷ []
 
--- the lines of the exchange: a block that is still under way counts as lost
+-- the line of the last turn, which no line tells yet: a block that is under way counts as lost
+abbrev pub untold : Recording → List Line
+untold r = telling (link_of r).terminal (link_of r).card r.last
+
+-- the lines of the exchange
 abbrev pub closed : Recording → List Line
-closed r = r.lines ++ telling (link_of r).terminal (link_of r).card r.last
+closed r = r.lines ++ untold r
 
--- An event has happened: the link is the one after it, of the same card.
-pub record HasHappened (old new : Recording) (event : link.Event) : Type 0 where
-  pub link : link_of new ≡ happens tables (link_of old) event
-  pub atr : new.atr ≡ old.atr
-  pub ifsc : new.ifsc ≡ old.ifsc
-  pub taken : refusal_of (link_of old) event ≡ None
+-- the line of the block under way, which comes to its receiver with this change
+abbrev pub carried : UnderWay → Change → List Line
+carried nothing change = []
+carried (to_card block) change = FromTerminal (spelling block) (arrival_of change block) ∷ []
+carried (to_terminal block) change = FromCard (spelling block) (arrival_of change block) ∷ []
 
--- An event could not happen: at the link too it changes nothing.
-pub record IsRefused (old : Recording) (event : link.Event) (fault : EventFault) : Type 0 where
-  pub named : refusal_of (link_of old) event ≡ Some fault
-  pub link : happens tables (link_of old) event ≡ link_of old
+-- The lines that an event adds. The line of a block that is carried is the one that tells the last turn; a call comes after that line.
+abbrev pub added : Recording → link.Event → List Line
+added r link.delivers = carried (link_of r).under_way Kept
+added r link.damages = carried (link_of r).under_way Damaged
+added r link.spoils = carried (link_of r).under_way Spoilt
+added r link.loses = untold r ++ Quiet ∷ []
+added r (link.transmits command) = untold r ++ Command command ∷ []
+added r (link.asks_ifsd size) = untold r ++ Ifsd size ∷ []
+added r (link.host_replies octets) = untold r ++ Reply octets ∷ []
+added r (link.host_asks_time multiple) = untold r ++ Time multiple ∷ []
+added r (link.host_asks_ifsc size) = untold r ++ Ifsc size ∷ []
+
+-- the recorder after an event with this outcome
+abbrev pub with_outcome : Recording → link.Event → Result LastTurn EventFault → Result Recording EventFault
+with_outcome r event (Ok last) = Ok (record r { lines = r.lines ++ added r event; last = last })
+with_outcome r event (Err fault) = Err fault
+
+-- The recorder after an event, or why the event changes nothing.
+abbrev pub recorded : Recording → link.Event → Result Recording EventFault
+recorded r event = with_outcome r event (outcome_of (link_of r) event)
 
 -- ---- what holds of a recorder
 
@@ -272,7 +290,7 @@ IsLent (Some block) (to_card sent) = block.now ≡ sent
 IsLent (Some block) (to_terminal sent) = block.now ≡ sent
 IsLent lent under_way = ⊥
 
--- this of the name of a refused answer to reset; of a lack of memory nothing is said
+-- this of the name of a refused answer to reset; of being out of memory nothing is said
 abbrev pub IfRefused : RecorderFault → (List ℕ → Type 0) → Type 0
 IfRefused (Refused name) P = P name.now
 IfRefused NoMemory P = Unit {0}

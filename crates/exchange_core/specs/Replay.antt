@@ -197,7 +197,7 @@ pub record Replays (atr : List ℕ) (lines : List Line) (side : Side) (differenc
   pub is_found : IsFound atr found
   pub is : replay_from found lines side ≡ difference
 
--- this of the line and the text of a difference; of want of memory nothing is said
+-- this of the line and the text of a difference; of being out of memory nothing is said
 abbrev pub IfDiffers : ReplayFault → (ℕ → List ℕ → Type 0) → Type 0
 IfDiffers (Differs line text) P = P line text
 IfDiffers Memory P = Unit {0}

@@ -1,20 +1,21 @@
 //! Blocks on their way, and the calls of the ends, as lines.
 
-ghost use Rattle.std.specs.Prelude.{◌≡◌, ◌++◌, ◌+◌, ◌≤◌, List, ℕ, [], ◌∷◌, IfOk, IfErr, OnOk, OnErr, Some, Ok, vec_len, vec_capacity};
+ghost use Rattle.std.specs.Prelude.{◌≡◌, ◌++◌, ◌+◌, ◌≤◌, List, ℕ, [], ◌∷◌, IfOk, IfErr, OnOk, OnErr, Ok, Err, vec_len, vec_capacity};
 ghost use Rattle.octet_core.specs.Octets.{AreOctets};
 ghost use Rattle.block_core.specs.Block.{spelling};
-ghost use Rattle.t1_core.specs.Terminal.{terminal_turn, turn_of, state_after};
-ghost use Rattle.t1_core.specs.Card.{card_turn, turn_of as card_turn_of, state_after as card_state_after};
+ghost use Rattle.t1_core.specs.Terminal.{terminal_turn};
+ghost use Rattle.t1_core.specs.Card.{card_turn};
 ghost use Rattle.exchange_core.specs.Given.{line_of};
-ghost use Rattle.exchange_core.specs.Recording.{arrival_of, damaged_octets, spoilt_octets, as_lost, as_list, terminal_input, card_input, Turns, terminal_refusal, card_refusal, IfNotMemory, IsCardCall};
+ghost use Rattle.exchange_core.specs.Recording.{arrival_of, damaged_octets, spoilt_octets, as_lost, as_list, terminal_input, card_input, Turns, terminal_outcome, card_outcome, IfNotMemory, IsCardCall};
 
+use crate::end::{card_called, terminal_called};
 use crate::event::EventFault;
 use crate::given::Given;
 use crate::line::{Arrival, Line};
 use block_core::{Block, Pcb, encode};
 use octet_core::Octets;
 use std::alloc::{AllocError, Global};
-use t1_core::{Card, CardFault, CardTurn, Terminal, TerminalFault, TerminalTurn};
+use t1_core::{Card, CardTurn, Terminal, TerminalTurn};
 
 /// The node address of a block that is invalid to both ends.
 const ANOTHER_NODE: u8 = 1;
@@ -118,7 +119,7 @@ pub(crate) fn terminal_takes(
         Turns terminal.old (terminal_input terminal.old line) turn terminal.new) }
     ensures lines { OnOk result (lines.new.items ≡ lines.old.items ++ (as_list told ++ line ∷ [])) }
     ensures refused { IfErr result (λ fault. IfNotMemory fault
-        (terminal_refusal (terminal_turn terminal.old (terminal_input terminal.old line)) ≡ Some fault)) }
+        (terminal_outcome (terminal_turn terminal.old (terminal_input terminal.old line)) ≡ Err fault)) }
     ensures kept { OnErr result ((terminal.new ≡ terminal.old) × (lines.new.items ≡ lines.old.items)) }
 {
     lines.reserve(2)?;
@@ -132,26 +133,12 @@ fn terminal_turned(terminal: &mut Terminal, line: &Line) -> Result<TerminalTurn,
     ensures turn { IfOk result (λ turn.
         Turns terminal.old (terminal_input terminal.old line.now) turn terminal.new) }
     ensures refused { IfErr result (λ fault.
-        terminal_refusal (terminal_turn terminal.old (terminal_input terminal.old line.now)) ≡ Some fault) }
+        terminal_outcome (terminal_turn terminal.old (terminal_input terminal.old line.now)) ≡ Err fault) }
     ensures kept { OnErr result (terminal.new ≡ terminal.old) }
 {
     match terminal_called(terminal, line) {
         Ok(turn) => Ok(turn),
         Err(fault) => Err(EventFault::Terminal(fault)),
-    }
-}
-
-/// Calls the terminal with a line.
-fn terminal_called(terminal: &mut Terminal, line: &Line) -> Result<TerminalTurn, TerminalFault>
-    ensures turn { result ≡ turn_of (terminal_turn terminal.old (terminal_input terminal.old line.now)) }
-    ensures state { terminal.new
-        ≡ state_after terminal.old (terminal_turn terminal.old (terminal_input terminal.old line.now)) }
-{
-    match line {
-        Line::Command(octets) => terminal.transmit(octets.get()),
-        Line::Ifsd(size) => terminal.ask_ifs(*size),
-        Line::FromCard { sent, arrival } => terminal.received(arrival.octets(sent)),
-        _ => terminal.quiet(),
     }
 }
 
@@ -168,7 +155,7 @@ pub(crate) fn card_takes(
         card_turn card.old (card_input card.old line) ≡ Ok (turn, card.new)) }
     ensures lines { OnOk result (lines.new.items ≡ lines.old.items ++ (as_list told ++ line ∷ [])) }
     ensures refused { IfErr result (λ fault. IfNotMemory fault
-        (card_refusal (card_turn card.old (card_input card.old line)) ≡ Some fault)) }
+        (card_outcome (card_turn card.old (card_input card.old line)) ≡ Err fault)) }
     ensures kept { OnErr result ((card.new ≡ card.old) × (lines.new.items ≡ lines.old.items)) }
 {
     lines.reserve(2)?;
@@ -183,28 +170,12 @@ fn card_turned(card: &mut Card, line: &Line) -> Result<CardTurn, EventFault>
     ensures turn { IfOk result (λ turn.
         card_turn card.old (card_input card.old line.now) ≡ Ok (turn, card.new)) }
     ensures refused { IfErr result (λ fault.
-        card_refusal (card_turn card.old (card_input card.old line.now)) ≡ Some fault) }
+        card_outcome (card_turn card.old (card_input card.old line.now)) ≡ Err fault) }
     ensures kept { OnErr result (card.new ≡ card.old) }
 {
     match card_called(card, line) {
         Ok(turn) => Ok(turn),
         Err(fault) => Err(EventFault::Card(fault)),
-    }
-}
-
-/// Calls the card with a line.
-fn card_called(card: &mut Card, line: &Line) -> Result<CardTurn, CardFault>
-    requires { IsCardCall line.now }
-    ensures turn { result ≡ card_turn_of (card_turn card.old (card_input card.old line.now)) }
-    ensures state { card.new
-        ≡ card_state_after card.old (card_turn card.old (card_input card.old line.now)) }
-{
-    match line {
-        Line::Reply(octets) => card.reply(octets.get()),
-        Line::Time(multiple) => card.more_time(*multiple),
-        Line::Ifsc(size) => card.ask_ifs(*size),
-        Line::FromTerminal { sent, arrival } => card.received(arrival.octets(sent)),
-        _ => unreachable!(),
     }
 }
 

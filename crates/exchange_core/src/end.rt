@@ -1,7 +1,10 @@
 //! The two ends, called line by line.
 
 ghost use Rattle.std.specs.Prelude.{◌≡◌, ℕ, List, Ok, Err, IfOk, IfErr};
+ghost use Rattle.t1_core.specs.Terminal.{terminal_turn, turn_of, state_after};
+ghost use Rattle.t1_core.specs.Card.{card_turn, turn_of as card_turn_of, state_after as card_state_after};
 ghost use Rattle.exchange_core.specs.Given.{line_of, way_of};
+ghost use Rattle.exchange_core.specs.Recording.{terminal_input, card_input, IsCardCall};
 ghost use Rattle.exchange_core.specs.declared.way.Way.TheVariants.{In};
 ghost use Rattle.exchange_core.specs.Replay.{End, calls, terminal_end, card_end, terminal_refusal, card_refusal};
 
@@ -66,13 +69,7 @@ impl Replayed for Terminal {
     }
 
     fn call(&mut self, line: &Line) -> Result<TerminalTurn, TerminalFault> {
-        match line {
-            Line::Command(octets) => self.transmit(octets.get()),
-            Line::Ifsd(size) => self.ask_ifs(*size),
-            Line::Quiet => self.quiet(),
-            Line::FromCard { sent, arrival } => self.received(arrival.octets(sent)),
-            _ => unreachable!(),
-        }
+        terminal_called(self, line)
     }
 
     fn refusal(fault: TerminalFault) -> &'static str {
@@ -117,13 +114,7 @@ impl Replayed for Card {
     }
 
     fn call(&mut self, line: &Line) -> Result<CardTurn, CardFault> {
-        match line {
-            Line::Reply(octets) => self.reply(octets.get()),
-            Line::Time(multiple) => self.more_time(*multiple),
-            Line::Ifsc(size) => self.ask_ifs(*size),
-            Line::FromTerminal { sent, arrival } => self.received(arrival.octets(sent)),
-            _ => unreachable!(),
-        }
+        card_called(self, line)
     }
 
     fn refusal(fault: CardFault) -> &'static str {
@@ -139,5 +130,38 @@ impl Replayed for Card {
             CardTurn::Send(block) => Given::FromCard(block),
             CardTurn::Asked => Given::Asked(self.command().unwrap_or(&[])),
         }
+    }
+}
+
+/// The call of the terminal that a line is; any other line counts as quiet.
+pub(crate) fn terminal_called(
+    terminal: &mut Terminal,
+    line: &Line,
+) -> Result<TerminalTurn, TerminalFault>
+    ensures turn { result ≡ turn_of (terminal_turn terminal.old (terminal_input terminal.old line.now)) }
+    ensures state { terminal.new
+        ≡ state_after terminal.old (terminal_turn terminal.old (terminal_input terminal.old line.now)) }
+{
+    match line {
+        Line::Command(octets) => terminal.transmit(octets.get()),
+        Line::Ifsd(size) => terminal.ask_ifs(*size),
+        Line::FromCard { sent, arrival } => terminal.received(arrival.octets(sent)),
+        _ => terminal.quiet(),
+    }
+}
+
+/// The call of the card that a line is.
+pub(crate) fn card_called(card: &mut Card, line: &Line) -> Result<CardTurn, CardFault>
+    requires { IsCardCall line.now }
+    ensures turn { result ≡ card_turn_of (card_turn card.old (card_input card.old line.now)) }
+    ensures state { card.new
+        ≡ card_state_after card.old (card_turn card.old (card_input card.old line.now)) }
+{
+    match line {
+        Line::Reply(octets) => card.reply(octets.get()),
+        Line::Time(multiple) => card.more_time(*multiple),
+        Line::Ifsc(size) => card.ask_ifs(*size),
+        Line::FromTerminal { sent, arrival } => card.received(arrival.octets(sent)),
+        _ => unreachable!(),
     }
 }

@@ -2,6 +2,7 @@
 
 ghost use Rattle.std.specs.Prelude.{◌≡◌, ◌≢◌, MatchResult, true};
 ghost use Rattle.exchange_core.specs.Exchange.{are_proper, ExchangeParts, migrated};
+ghost use Rattle.exchange_core.specs.Text.{header_text};
 
 use crate::line::Lines;
 use crate::proper::are_proper;
@@ -15,6 +16,18 @@ pub enum Version {
     One,
     /// Moments and notes may be among the lines.
     Two,
+}
+
+impl Version {
+    /// The first line of a text of the version.
+    pub(crate) fn header(self) -> &'static str
+        ensures { result.now ≡ header_text self }
+    {
+        match self {
+            Version::One => "scard-exchange 1",
+            Version::Two => "scard-exchange 2",
+        }
+    }
 }
 
 /// What went over the line: the octets of the answer to reset, and the lines that follow it.

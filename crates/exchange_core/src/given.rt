@@ -1,17 +1,18 @@
 //! What an end gives, as a line of a file.
 
-ghost use Rattle.std.specs.Prelude.{◌≡◌, ◌++◌, IfOk, string_bytes, bytes_eq};
+ghost use Rattle.std.specs.Prelude.{◌≡◌, IfOk, string_bytes, bytes_eq};
 ghost use Rattle.block_core.specs.Block.{spelling};
 ghost use Rattle.exchange_core.specs.Given.{line_of};
 ghost use Rattle.exchange_core.specs.Replay.{is_met};
-ghost use Rattle.exchange_core.specs.Text.{line_text, octets_text};
+ghost use Rattle.exchange_core.specs.Text.{line_text};
 
 use crate::line::Line;
+use crate::name::Name;
+use crate::writing::push_message;
 use block_core::{Block, encode};
-use octet_core::hex_upper;
 use std::alloc::{AllocError, Global};
 
-/// What an end gives: a turn as the line that it stands for, with the message of the end lent.
+/// What an end gives: a turn as its line, with the message of the end lent.
 #[derive(Clone, Copy)]
 pub(crate) enum Given<'a> {
     /// The terminal sends this block.
@@ -62,15 +63,26 @@ impl Given<'_> {
     pub fn text(self, alloc: Global) -> Result<String, AllocError>
         ensures { IfOk result (λ text. string_bytes text ≡ line_text (line_of self.entry)) }
     {
+        let mut text = String::new(alloc);
         match self {
-            Given::FromTerminal(block) => octets_line(alloc, "t ", encode(block).as_slice()),
-            Given::FromCard(block) => octets_line(alloc, "c ", encode(block).as_slice()),
-            Given::Answer(octets) => octets_line(alloc, "answer ", octets),
-            Given::Asked(octets) => octets_line(alloc, "asked ", octets),
-            Given::IfsSet => String::from_str(alloc, "ifs-set"),
-            Given::GivenUp => String::from_str(alloc, "given-up"),
-            Given::Dead => String::from_str(alloc, "dead"),
+            Given::FromTerminal(block) => {
+                push_message(
+                    alloc,
+                    &mut text,
+                    Name::FromTerminal,
+                    encode(block).as_slice(),
+                )?
+            }
+            Given::FromCard(block) => {
+                push_message(alloc, &mut text, Name::FromCard, encode(block).as_slice())?
+            }
+            Given::Answer(octets) => push_message(alloc, &mut text, Name::Answer, octets)?,
+            Given::Asked(octets) => push_message(alloc, &mut text, Name::Asked, octets)?,
+            Given::IfsSet => text.push_str(Name::IfsSet.word())?,
+            Given::GivenUp => text.push_str(Name::GivenUp.word())?,
+            Given::Dead => text.push_str(Name::Dead.word())?,
         }
+        Ok(text)
     }
 }
 
@@ -79,23 +91,4 @@ fn is_spelled(block: &Block, octets: &[u8]) -> bool
     ensures { result ≡ bytes_eq (spelling block.now) octets.now }
 {
     encode(block).as_slice() == octets
-}
-
-/// A word, its space included, and octets after it.
-fn octets_line(alloc: Global, word: &str, octets: &[u8]) -> Result<String, AllocError>
-    ensures { IfOk result (λ text. string_bytes text ≡ word.now ++ octets_text octets.now) }
-{
-    let digits = octets_word(alloc, octets)?;
-    format!(in alloc; "{word}{digits}")
-}
-
-/// Octets as two digits each in upper case, or `none`.
-fn octets_word(alloc: Global, octets: &[u8]) -> Result<String, AllocError>
-    ensures { IfOk result (λ text. string_bytes text ≡ octets_text octets.now) }
-{
-    if octets.is_empty() {
-        String::from_str(alloc, "none")
-    } else {
-        hex_upper(alloc, octets)
-    }
 }

@@ -26,7 +26,7 @@ pub fn one_exchange()
         → exchange_text e ≡ exchange_text f → e ≡ f }
 {}
 
-/// Every text is that of an exchange or has one first fault, never both; no fault of a text is want of memory.
+/// Every text is that of an exchange or has one first fault, never both; no fault of a text is `Memory`.
 pub fn exchange_or_fault()
     ensures some { (text : List ℕ)
         → ((e : ExchangeParts) × IsExchange e × (exchange_text e ≡ text))

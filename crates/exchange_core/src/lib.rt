@@ -32,6 +32,6 @@ pub use exchange::{Exchange, Version, migrate};
 pub use fault::ExchangeFault;
 pub use line::{Arrival, Line, Lines};
 pub use reading::read_exchange;
-pub use recording::{Recorder, answers_are_replies};
+pub use recording::{Recorder, answers_are_replies, refused_event_changes_nothing};
 pub use replaying::{ReplayFault, Side, replay};
 pub use writing::write_exchange;

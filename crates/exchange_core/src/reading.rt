@@ -12,7 +12,7 @@ use crate::fault::{ExchangeFault, LineFault};
 use crate::line::{Line, Lines};
 use crate::proper::moment_after;
 use crate::saying::{line_said, octets_said};
-use crate::words::{LINE_FEED, cut_at, first_word, the_word};
+use crate::words::{ATR, LINE_FEED, cut_at, first_word, the_word};
 use octet_core::Octets;
 use std::alloc::{AllocError, Global};
 
@@ -52,9 +52,9 @@ fn second_line(alloc: Global, line: &[u8]) -> Result<Octets, ExchangeFault>
 fn version_said(line: &[u8]) -> Result<Version, ExchangeFault>
     ensures { result ≡ reading.version_said line.now }
 {
-    if line == b"scard-exchange 1".as_slice() {
+    if line == Version::One.header().as_bytes() {
         Ok(Version::One)
-    } else if line == b"scard-exchange 2".as_slice() {
+    } else if line == Version::Two.header().as_bytes() {
         Ok(Version::Two)
     } else {
         Err(ExchangeFault::Header)
@@ -67,7 +67,7 @@ fn atr_said(alloc: Global, line: &[u8]) -> Result<Octets, LineFault>
 {
     let (word, rest) = first_word(line);
     let octets = the_word(rest)?;
-    if word == b"atr".as_slice() {
+    if word == ATR.as_bytes() {
         octets_said(alloc, octets)
     } else {
         Err(LineFault::Word)

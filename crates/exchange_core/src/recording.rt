@@ -1,13 +1,15 @@
 //! Both ends on one line, and the record of what happens to them.
 
 ghost use Rattle.std.specs.Prelude.{◌≡◌, List, [], ◌++◌, Ok, Err, IfOk, IfErr, OnOk, OnErr, None};
-ghost use Rattle.t1_core.specs.Link.{new_link};
+ghost use Rattle.t1_core.specs.Link as t1_link;
+ghost use Rattle.t1_core.specs.Link.{new_link, tables, happens};
 ghost use Rattle.t1_core.specs.Promises.{Matches};
 ghost use Rattle.exchange_core.specs.Replay.{IsFound, Replays};
-ghost use Rattle.exchange_core.specs.Recording.{Recording, link_of, closed, telling, as_list, event_of, call_event, change_event, HasHappened, IsRefused, IfNotMemory, IfRefused, IsLent, under_way_of, MayCall, MayReply};
+ghost use Rattle.exchange_core.specs.Recording.{Recording, link_of, closed, telling, as_list, event_of, call_event, change_event, recorded, IfNotMemory, IfRefused, IsLent, under_way_of, MayCall, MayReply};
 ghost use Rattle.exchange_core.specs.declared.exchange.Version.TheVariants.{One};
 ghost use Rattle.exchange_core.specs.declared.event.LastTurn.TheVariants.{Nothing};
 ghost use Rattle.exchange_core.specs.declared.event.Event.TheVariants.{Lose};
+ghost use Rattle.exchange_core.specs.declared.event.EventFault.{EventFault};
 ghost use Rattle.exchange_core.specs.declared.replaying.Side.TheVariants as side;
 
 use crate::carrying::{Change, card_takes, copied, spelled, terminal_takes};
@@ -112,9 +114,10 @@ impl Recorder {
     /// An event of the line is refused where no block is under way, a call as the end refuses it. Then, and
     /// where memory runs out, nothing has changed and nothing is written.
     pub fn happens(&mut self, event: Event<'_>) -> Result<(), EventFault>
-        ensures happened { OnOk result (HasHappened self.old self.new (event_of event.entry)) }
+        ensures recorded { OnOk result (recorded self.old (event_of event.entry) ≡ Ok self.new) }
+        ensures link { OnOk result (link_of self.new ≡ happens tables (link_of self.old) (event_of event.entry)) }
         ensures refused { IfErr result (λ fault. IfNotMemory fault
-            (IsRefused self.old (event_of event.entry) fault)) }
+            (recorded self.old (event_of event.entry) ≡ Err fault)) }
         ensures kept { OnErr result (self.new ≡ self.old) }
     {
         match event {
@@ -152,9 +155,10 @@ impl Recorder {
 
     /// The block under way is lost, and the terminal's waiting time ends.
     fn loses(&mut self) -> Result<(), EventFault>
-        ensures happened { OnOk result (HasHappened self.old self.new (event_of Lose)) }
+        ensures recorded { OnOk result (recorded self.old (event_of Lose) ≡ Ok self.new) }
+        ensures link { OnOk result (link_of self.new ≡ happens tables (link_of self.old) (event_of Lose)) }
         ensures refused { IfErr result (λ fault. IfNotMemory fault
-            (IsRefused self.old (event_of Lose) fault)) }
+            (recorded self.old (event_of Lose) ≡ Err fault)) }
         ensures kept { OnErr result (self.new ≡ self.old) }
     {
         if self.under_way().is_none() {
@@ -166,9 +170,10 @@ impl Recorder {
     /// The terminal is called with a line; a block that is under way counts as lost.
     fn calls_terminal(&mut self, line: Line) -> Result<(), EventFault>
         requires { MayCall self.old.last line }
-        ensures happened { OnOk result (HasHappened self.old self.new (call_event line)) }
+        ensures recorded { OnOk result (recorded self.old (call_event line) ≡ Ok self.new) }
+        ensures link { OnOk result (link_of self.new ≡ happens tables (link_of self.old) (call_event line)) }
         ensures refused { IfErr result (λ fault. IfNotMemory fault
-            (IsRefused self.old (call_event line) fault)) }
+            (recorded self.old (call_event line) ≡ Err fault)) }
         ensures kept { OnErr result (self.new ≡ self.old) }
     {
         let told = told(self.alloc, &self.terminal, &self.card, &self.last)?;
@@ -180,9 +185,10 @@ impl Recorder {
     /// The card's host calls it with a line.
     fn calls_card(&mut self, line: Line) -> Result<(), EventFault>
         requires { MayReply line }
-        ensures happened { OnOk result (HasHappened self.old self.new (call_event line)) }
+        ensures recorded { OnOk result (recorded self.old (call_event line) ≡ Ok self.new) }
+        ensures link { OnOk result (link_of self.new ≡ happens tables (link_of self.old) (call_event line)) }
         ensures refused { IfErr result (λ fault. IfNotMemory fault
-            (IsRefused self.old (call_event line) fault)) }
+            (recorded self.old (call_event line) ≡ Err fault)) }
         ensures kept { OnErr result (self.new ≡ self.old) }
     {
         let told = told(self.alloc, &self.terminal, &self.card, &self.last)?;
@@ -193,9 +199,10 @@ impl Recorder {
 
     /// The block under way comes to its receiver with this change.
     fn carries(&mut self, change: Change) -> Result<(), EventFault>
-        ensures happened { OnOk result (HasHappened self.old self.new (change_event change)) }
+        ensures recorded { OnOk result (recorded self.old (change_event change) ≡ Ok self.new) }
+        ensures link { OnOk result (link_of self.new ≡ happens tables (link_of self.old) (change_event change)) }
         ensures refused { IfErr result (λ fault. IfNotMemory fault
-            (IsRefused self.old (change_event change) fault)) }
+            (recorded self.old (change_event change) ≡ Err fault)) }
         ensures kept { OnErr result (self.new ≡ self.old) }
     {
         taken();
@@ -246,6 +253,12 @@ fn with_line(mut lines: Vec<Line>, told: Option<Line>) -> Result<Vec<Line>, Allo
     }
     Ok(lines)
 }
+
+/// An event that is refused changes nothing at the link either.
+pub fn refused_event_changes_nothing()
+    ensures { (r : Recording) (event : t1_link.Event) (fault : EventFault)
+        → recorded r event ≡ Err fault → happens tables (link_of r) event ≡ link_of r }
+{}
 
 /// Whatever happens, each answer that the terminal gave is the reply of the card's host to that command, in
 /// order, and no command was given to the host twice.

@@ -11,7 +11,7 @@ use crate::fault::LineFault;
 use crate::line::{Arrival, Line};
 use crate::name::Name;
 use crate::proper::is_note;
-use crate::words::{first_word, no_word, the_word};
+use crate::words::{AS, LOST, NONE, first_word, no_word, the_word};
 use hex::FromHexError;
 use octet_core::{Octets, Text, decimal_of};
 use std::alloc::Global;
@@ -98,10 +98,10 @@ fn arrival(alloc: Global, rest: Option<&[u8]>) -> Result<Arrival, LineFault>
         return Ok(Arrival::Whole);
     };
     let (way, rest) = first_word(rest);
-    if way == b"lost".as_slice() {
+    if way == LOST.as_bytes() {
         no_word(rest)?;
         Ok(Arrival::Lost)
-    } else if way == b"as".as_slice() {
+    } else if way == AS.as_bytes() {
         Ok(Arrival::Changed(one_octets(alloc, rest)?))
     } else {
         Err(LineFault::Word)
@@ -136,7 +136,7 @@ fn note(alloc: Global, version: Version, text: &[u8]) -> Result<Line, LineFault>
 pub(crate) fn octets_said(alloc: Global, word: &[u8]) -> Result<Octets, LineFault>
     ensures { LineUnlessMemory result (reading.octets_said word.now) }
 {
-    if word == b"none".as_slice() {
+    if word == NONE.as_bytes() {
         return Ok(Octets::of(Vec::new(alloc)));
     }
     if !are_upper_digits(word) {

@@ -1,5 +1,6 @@
 //! Texts that are read and written, and recorded sessions that both ends replay.
 
+mod chains;
 mod drawn;
 mod faults;
 mod recording;

@@ -14,6 +14,18 @@ pub(crate) const LINE_FEED: u8 = b'\n';
 /// What parts two words.
 const SPACE: u8 = b' ';
 
+/// The first word of the second line.
+pub(crate) const ATR: &str = "atr";
+
+/// The word for no octets.
+pub(crate) const NONE: &str = "none";
+
+/// The word for a lost block, after its octets.
+pub(crate) const LOST: &str = "lost";
+
+/// The word for a changed block, between its octets and those that arrived.
+pub(crate) const AS: &str = "as";
+
 /// The octets before the first `mark` and those after it; `None` where there is none.
 pub(crate) fn cut_at(octets: &[u8], mark: u8) -> Option<(&[u8], &[u8])>
     ensures parts { MatchOption result

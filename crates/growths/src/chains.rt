@@ -21,7 +21,7 @@ fn is_read_and_written(alloc: Global) -> Result<bool, AllocError> {
     Ok(text.as_str() == "00A4")
 }
 
-/// The longest message arrives whatever is refused behind `Receiver::new`.
+/// The longest message arrives whatever is refused after `Receiver::new`.
 pub(crate) fn receiver(alloc: Global) -> Outcome {
     let message = [0xA5; 131_072];
     match Receiver::new(alloc, 254, Number::Zero, message.len()) {

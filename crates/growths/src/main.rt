@@ -1,13 +1,14 @@
 //! Every call that takes memory, once each, with its answer compared.
 //!
 //! It is meant to be run with each growth of memory refused in turn, `rt try --fail-alloc 1..`. It ends
-//! with status 2 where some call answered that memory was wanting. It writes a line for each call whose
+//! with status 2 where some call answered that it is out of memory. It writes a line for each call whose
 //! answer was wrong, and ends with status 0: as it does where all were right, so that the line shows as a
 //! difference.
 #![tactic(auto)]
 
 mod apdus;
 mod chains;
+mod exchanges;
 mod objects;
 mod outcome;
 mod program;
@@ -31,6 +32,8 @@ fn main(rt: HostRuntime) -> io::Result<ExitCode> {
         ("parts", objects::parts(rt.alloc())),
         ("lists", objects::lists(rt.alloc())),
         ("session", session::longest(rt.alloc())),
+        ("recorder", exchanges::recorded(rt.alloc())),
+        ("exchanges", exchanges::replayed(rt.alloc())),
         ("program", program::lines(rt.alloc())),
     ];
     let mut status = ExitCode::from(0);

@@ -7,14 +7,14 @@ use std::alloc::AllocError;
 pub(crate) enum Outcome {
     /// It gave the answer that it should.
     Right,
-    /// It said that memory was wanting.
+    /// It said that it is out of memory.
     Memory,
     /// It gave another answer.
     Wrong,
 }
 
 impl Outcome {
-    /// Of an answer that is right or not, or wants memory.
+    /// Of an answer that is right or not, or that it is out of memory.
     pub(crate) fn of(answer: Result<bool, AllocError>) -> Outcome {
         match answer {
             Ok(true) => Outcome::Right,

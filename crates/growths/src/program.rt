@@ -7,7 +7,7 @@ use card_tool::{Status, run};
 use octet_core::{After, Counted, Feeder, Taker};
 use std::alloc::{AllocError, Global};
 
-/// What the program says of a line, or that memory is wanting.
+/// What the program says of a line, or that it is out of memory.
 pub(crate) fn lines(alloc: Global) -> Outcome {
     let rows = [
         ("check block 00000500A4040000A5", "ok 9 octets\n"),

@@ -1,4 +1,4 @@
-//! A session between both ends of T=1.
+//! A session between the bare ends of T=1, which ask for memory in their constructors alone.
 
 use crate::outcome::Outcome;
 use atr_core::T1Params;
@@ -6,7 +6,7 @@ use block_core::{Block, encode};
 use std::alloc::{AllocError, Global};
 use t1_core::{Card, CardTurn, Terminal, TerminalTurn};
 
-/// The longest command and response pass whatever is refused behind the constructors.
+/// The longest command and response pass whatever is refused after the constructors.
 pub(crate) fn longest(alloc: Global) -> Outcome {
     let Some(params) = T1Params::new(254, 4, 5) else {
         return Outcome::Wrong;

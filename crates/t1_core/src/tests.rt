@@ -2,7 +2,7 @@
 
 use crate::{Card, CardFault, CardTurn, Terminal, TerminalFault, TerminalTurn};
 use atr_core::T1Params;
-use block_core::{Block, encode};
+use block_core::encode;
 use std::alloc::Global;
 use std::test::Fail;
 
@@ -285,49 +285,12 @@ fn an_answer_outlives_a_question_given_up(rt: HostRuntime) -> Result<(), Fail> {
     Ok(())
 }
 
-/// Whether an exchange over a line without faults is answered.
-fn is_exchanged(terminal: &mut Terminal, card: &mut Card, command: &[u8], reply: &[u8]) -> bool {
-    let mut turn = terminal.transmit(command);
-    for _ in 0..140_000u32 {
-        match turn {
-            Ok(TerminalTurn::Send(block)) => {
-                let Some(octets) = served(card, encode(&block).as_slice(), command, reply) else {
-                    return false;
-                };
-                turn = terminal.received(encode(&octets).as_slice());
-            }
-            Ok(TerminalTurn::Answered) => return is_answer(terminal, reply),
-            _ => return false,
-        }
-    }
-    false
-}
-
-/// What the card sends for a block, where its host replies at once.
-fn served(card: &mut Card, octets: &[u8], command: &[u8], reply: &[u8]) -> Option<Block> {
-    match card.received(octets) {
-        Ok(CardTurn::Send(block)) => Some(block),
-        Ok(CardTurn::Asked) if is_command(card, command) => match card.reply(reply) {
-            Ok(CardTurn::Send(block)) => Some(block),
-            _ => None,
-        },
-        _ => None,
-    }
-}
-
 #[test]
-fn the_longest_messages(rt: HostRuntime) -> Result<(), Fail> {
+fn messages_that_are_too_long(rt: HostRuntime) -> Result<(), Fail> {
     let command = vec![in rt.alloc(); 0xA5u8; 65_545]?;
     let reply = vec![in rt.alloc(); 0x5Au8; 65_539]?;
-    let longest = command.as_slice().get(..65_544).ok_or("a shorter command")?;
-    let answer = reply.as_slice().get(..65_538).ok_or("a shorter reply")?;
-    for ifsc in [1u8, 254] {
-        let mut t = Terminal::new(rt.alloc(), params(ifsc)?)?;
-        let mut c = Card::new(rt.alloc(), params(ifsc)?)?;
-        assert_eq!(rt; t.transmit(&command), Err(TerminalFault::TooLong));
-        assert!(rt; is_exchanged(&mut t, &mut c, longest, answer));
-        assert!(rt; is_exchanged(&mut t, &mut c, &SELECT, &DONE));
-    }
+    let mut t = terminal(rt.alloc())?;
+    assert_eq!(rt; t.transmit(&command), Err(TerminalFault::TooLong));
     let mut c = card(rt.alloc())?;
     assert_eq!(rt; c.received(&SELECT_BLOCK), Ok(CardTurn::Asked));
     assert_eq!(rt; c.reply(&reply), Err(CardFault::TooLong));

@@ -15,11 +15,11 @@ use t1_core::{CardFault, CardTurn, TerminalFault};
 /// The answer to reset of a card that takes information fields of 32 octets.
 pub(super) const ATR: [u8; 7] = [0x3B, 0x80, 0x81, 0x31, 0x20, 0x45, 0x55];
 
-const SELECT: [u8; 5] = [0x00, 0xA4, 0x04, 0x00, 0x00];
+pub(super) const SELECT: [u8; 5] = [0x00, 0xA4, 0x04, 0x00, 0x00];
 
 const READ: [u8; 5] = [0x00, 0xB0, 0x00, 0x00, 0x02];
 
-const DONE: [u8; 2] = [0x90, 0x00];
+pub(super) const DONE: [u8; 2] = [0x90, 0x00];
 
 const DATA: [u8; 4] = [0xAA, 0xBB, 0x90, 0x00];
 
@@ -45,31 +45,32 @@ const CHAINED: [&str; 6] = [
 ];
 
 /// The most events of a session.
-const MOST_EVENTS: u32 = 100;
+const MOST_EVENTS: u32 = 200_000;
 
-/// What the application and the card's host call, in their order.
+/// The answer to reset of a card, and what the application and the card's host call, in their order.
 #[derive(Clone, Copy)]
-struct Session<'a> {
-    application: &'a [Event<'a>],
-    host: &'a [Event<'a>],
+pub(super) struct Session<'a> {
+    pub(super) atr: &'a [u8],
+    pub(super) application: &'a [Event<'a>],
+    pub(super) host: &'a [Event<'a>],
 }
 
 /// A block to be disturbed, once: by its number on the line, from 1, or at its first sending.
 #[derive(Clone, Copy)]
-struct Disturbance<'a> {
+pub(super) struct Disturbance<'a> {
     which: Which<'a>,
     event: Event<'a>,
     is_done: bool,
 }
 
 #[derive(Clone, Copy)]
-enum Which<'a> {
+pub(super) enum Which<'a> {
     Nth(u32),
     First(&'a [u8]),
 }
 
 impl<'a> Disturbance<'a> {
-    fn of(which: Which<'a>, event: Event<'a>) -> Disturbance<'a> {
+    pub(super) fn of(which: Which<'a>, event: Event<'a>) -> Disturbance<'a> {
         Disturbance {
             which,
             event,
@@ -97,12 +98,12 @@ fn fate<'a>(disturbances: &mut [Disturbance<'a>], number: u32, octets: &[u8]) ->
 }
 
 /// The record of a session: it ends where the application or the host has no more calls.
-fn record(
+pub(super) fn record(
     alloc: Global,
     session: Session<'_>,
     disturbances: &mut [Disturbance<'_>],
 ) -> Result<Exchange, Fail> {
-    let mut recorder = Recorder::new(alloc, &ATR).map_err(|_| "no recorder")?;
+    let mut recorder = Recorder::new(alloc, session.atr).map_err(|_| "no recorder")?;
     let mut application = session.application;
     let mut host = session.host;
     let mut number = 0u32;
@@ -154,7 +155,7 @@ pub(super) fn assert_replays(rt: &impl Abort, alloc: Global, exchange: &Exchange
 }
 
 /// Asserts that a record replays at both ends, brought the host one command, and ends with the answer.
-fn assert_answered(rt: &impl Abort, alloc: Global, exchange: &Exchange, answer: &[u8]) {
+pub(super) fn assert_answered(rt: &impl Abort, alloc: Global, exchange: &Exchange, answer: &[u8]) {
     assert_replays(rt, alloc, exchange);
     let lines = exchange.lines().get();
     assert_eq!(rt; asked(lines), 1, "{exchange:?}");
@@ -233,6 +234,7 @@ fn disturb_pair(
 #[test]
 fn each_block_of_a_chained_session_disturbed(rt: HostRuntime) -> Result<(), Fail> {
     let session = Session {
+        atr: &ATR,
         application: &[Event::AskIfsd(2), Event::Transmit(&READ)],
         host: &[Event::Reply(&DATA)],
     };
@@ -242,12 +244,14 @@ fn each_block_of_a_chained_session_disturbed(rt: HostRuntime) -> Result<(), Fail
 #[test]
 fn each_pair_of_blocks_of_short_sessions_disturbed(rt: HostRuntime) -> Result<(), Fail> {
     let plain = Session {
+        atr: &ATR,
         application: &[Event::Transmit(&SELECT)],
         host: &[Event::Reply(&DONE)],
     };
     disturb_each(&rt, rt.alloc(), plain, &PLAIN, &DONE)?;
     disturb_pairs(&rt, rt.alloc(), plain, &PLAIN, &DONE)?;
     let timed = Session {
+        atr: &ATR,
         application: &[Event::Transmit(&SELECT)],
         host: &[Event::MoreTime(1), Event::Reply(&DONE)],
     };
@@ -258,6 +262,7 @@ fn each_pair_of_blocks_of_short_sessions_disturbed(rt: HostRuntime) -> Result<()
 #[test]
 fn sessions_given_up(rt: HostRuntime) -> Result<(), Fail> {
     let twice = Session {
+        atr: &ATR,
         application: &[Event::Transmit(&SELECT), Event::Transmit(&SELECT)],
         host: &[Event::Reply(&DONE)],
     };
@@ -281,6 +286,7 @@ fn sessions_given_up(rt: HostRuntime) -> Result<(), Fail> {
     );
 
     let once = Session {
+        atr: &ATR,
         application: &[Event::Transmit(&SELECT)],
         host: &[Event::Reply(&DONE)],
     };

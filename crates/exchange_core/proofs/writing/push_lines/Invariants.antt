@@ -1,9 +1,10 @@
 use Rattle.std.proofs.Common.{◌≡◌, ◌++◌, drop}
+use Rattle.std.specs.Prelude.{string_bytes}
 use Rattle.exchange_core.specs.Exchange.{AllHaveOctets}
 use Rattle.exchange_core.specs.Text.{lines_text}
 use Rattle.exchange_core.proofs.writing.push_lines.Given as goal
 
 abbrev pub invariant-loop-line : goal.invariant-loop-line
 invariant-loop-line l =
-    (l.text.items ++ lines_text (drop l.line-index l.line-items) ≡ l.fn.text.items ++ lines_text l.line-items)
+    (string_bytes l.text ++ lines_text (drop l.line-index l.line-items) ≡ string_bytes l.fn.text ++ lines_text l.line-items)
     × (AllHaveOctets (drop l.line-index l.line-items) → AllHaveOctets l.line-items)

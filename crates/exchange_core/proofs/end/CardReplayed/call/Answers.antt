@@ -1,14 +1,11 @@
-use Rattle.exchange_core.proofs.Calls.{arrives, card-turn, card-refused}
+use Rattle.exchange_core.proofs.Calls.{card-role, card-turn, card-refused}
 use Rattle.exchange_core.proofs.end.CardReplayed.call.Goals as goal
 
-pub returns-in-FromTerminal-clause-turn : goal.returns-in-FromTerminal-clause-turn
-returns-in-FromTerminal-clause-turn c =
-    let at = c.in-FromTerminal.is in let is_call = rw at at c.requires in
-    let turn = card-turn _ _ _ _ c.received.ensures.turn c.received.ensures.state in
-    rw at (rw (arrives _ _ _ is_call) (rw (← c.octets.ensures) turn))
+pub card_called-requires : goal.card_called-requires
+card_called-requires c = (card-role _ _ c.requires).0
 
-pub returns-in-FromTerminal-clause-refused : goal.returns-in-FromTerminal-clause-refused
-returns-in-FromTerminal-clause-refused c =
-    let at = c.in-FromTerminal.is in let is_call = rw at at c.requires in
-    let refused = card-refused _ _ c.received.ensures.turn in
-    rw at (rw (arrives _ _ _ is_call) (rw (← c.octets.ensures) refused))
+pub returns-clause-turn : goal.returns-clause-turn
+returns-clause-turn c = rw (card-role _ _ c.requires).1 (card-turn _ _ _ _ c.card_called.ensures.turn c.card_called.ensures.state)
+
+pub returns-clause-refused : goal.returns-clause-refused
+returns-clause-refused c = rw (card-role _ _ c.requires).1 (card-refused _ _ c.card_called.ensures.turn)

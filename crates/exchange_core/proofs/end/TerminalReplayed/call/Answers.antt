@@ -1,14 +1,8 @@
-use Rattle.exchange_core.proofs.Calls.{arrives, terminal-turn, terminal-refused}
+use Rattle.exchange_core.proofs.Calls.{terminal-role, terminal-turn, terminal-refused}
 use Rattle.exchange_core.proofs.end.TerminalReplayed.call.Goals as goal
 
-pub returns-in-FromCard-clause-turn : goal.returns-in-FromCard-clause-turn
-returns-in-FromCard-clause-turn c =
-    let at = c.in-FromCard.is in let is_call = rw at at c.requires in
-    let turn = terminal-turn _ _ _ _ c.received.ensures.turn c.received.ensures.state in
-    rw at (rw (arrives _ _ _ is_call) (rw (← c.octets.ensures) turn))
+pub returns-clause-turn : goal.returns-clause-turn
+returns-clause-turn c = rw (terminal-role _ _ c.requires) (terminal-turn _ _ _ _ c.terminal_called.ensures.turn c.terminal_called.ensures.state)
 
-pub returns-in-FromCard-clause-refused : goal.returns-in-FromCard-clause-refused
-returns-in-FromCard-clause-refused c =
-    let at = c.in-FromCard.is in let is_call = rw at at c.requires in
-    let refused = terminal-refused _ _ c.received.ensures.turn in
-    rw at (rw (arrives _ _ _ is_call) (rw (← c.octets.ensures) refused))
+pub returns-clause-refused : goal.returns-clause-refused
+returns-clause-refused c = rw (terminal-role _ _ c.requires) (terminal-refused _ _ c.terminal_called.ensures.turn)

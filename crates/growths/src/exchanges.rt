@@ -1,0 +1,112 @@
+//! An exchange between both ends, recorded, written, read and replayed.
+
+use crate::outcome::Outcome;
+use exchange_core::{
+    Event, EventFault, Exchange, ExchangeFault, Recorder, RecorderFault, ReplayFault, Side,
+    read_exchange, replay, write_exchange,
+};
+use std::alloc::{AllocError, Global};
+
+/// The answer to reset of a card that takes information fields of 32 octets.
+const ATR: [u8; 7] = [0x3B, 0x80, 0x81, 0x31, 0x20, 0x45, 0x55];
+
+const SELECT: [u8; 5] = [0x00, 0xA4, 0x04, 0x00, 0x00];
+
+const DONE: [u8; 2] = [0x90, 0x00];
+
+/// One of each kind of event; the last block is still under way.
+const EVENTS: [Event<'static>; 17] = [
+    Event::AskIfsd(254),
+    Event::Deliver,
+    Event::Deliver,
+    Event::Transmit(&SELECT),
+    Event::Damage,
+    Event::Deliver,
+    Event::Spoil,
+    Event::Deliver,
+    Event::Deliver,
+    Event::MoreTime(1),
+    Event::Deliver,
+    Event::Deliver,
+    Event::AskIfsc(16),
+    Event::Deliver,
+    Event::Deliver,
+    Event::Reply(&DONE),
+    Event::Lose,
+];
+
+/// The text of their record.
+const TEXT: &str = "scard-exchange 1
+atr 3B808131204555
+ifsd FE
+t 00C101FE3E
+c 00E101FE1E
+ifs-set
+command 00A4040000
+t 00000500A4040000A5 as 00000500A4040000A4
+c 00810081
+t 00000500A4040000A5 as 01000500A4040000A4
+c 00820082
+t 00000500A4040000A5
+asked 00A4040000
+time 01
+c 00C30101C3
+t 00E30101E3
+asked 00A4040000
+ifsc 10
+c 00C10110D0
+t 00E10110F0
+asked 00A4040000
+reply 9000
+c 000002900092 lost
+quiet
+t 00800080 lost
+";
+
+/// The record of the events is written.
+pub(crate) fn recorded(alloc: Global) -> Outcome {
+    match record(alloc) {
+        Ok(exchange) => written(alloc, &exchange),
+        Err(outcome) => outcome,
+    }
+}
+
+fn record(alloc: Global) -> Result<Exchange, Outcome> {
+    let mut recorder = match Recorder::new(alloc, &ATR) {
+        Ok(recorder) => recorder,
+        Err(RecorderFault::Memory) => return Err(Outcome::Memory),
+        Err(RecorderFault::Refused(_)) => return Err(Outcome::Wrong),
+    };
+    for event in &EVENTS {
+        match recorder.happens(*event) {
+            Ok(()) => {}
+            Err(EventFault::Memory) => return Err(Outcome::Memory),
+            Err(_) => return Err(Outcome::Wrong),
+        }
+    }
+    recorder.exchange().map_err(|_| Outcome::Memory)
+}
+
+fn written(alloc: Global, exchange: &Exchange) -> Outcome {
+    match write_exchange(alloc, exchange) {
+        Ok(text) => Outcome::of(Ok(text.as_slice() == TEXT.as_bytes())),
+        Err(AllocError) => Outcome::Memory,
+    }
+}
+
+/// The text is read, and replays at both ends.
+pub(crate) fn replayed(alloc: Global) -> Outcome {
+    let exchange = match read_exchange(alloc, TEXT.as_bytes()) {
+        Ok(exchange) => exchange,
+        Err(ExchangeFault::Memory) => return Outcome::Memory,
+        Err(_) => return Outcome::Wrong,
+    };
+    for side in [Side::Terminal, Side::Card] {
+        match replay(alloc, &exchange, side) {
+            Ok(()) => {}
+            Err(ReplayFault::Memory) => return Outcome::Memory,
+            Err(ReplayFault::Differs { .. }) => return Outcome::Wrong,
+        }
+    }
+    Outcome::Right
+}
