@@ -1,13 +1,14 @@
 /* scard: the proved smart card stack for programs in C and C++.
  *
  * Answers to reset, T=1 blocks and chains (ISO/IEC 7816-3), commands and responses (ISO/IEC 7816-4), data objects
- * (EMV 4.3 Book 3), and both ends of a T=1 session. Link with libscard.a; docs/C.md says how, and what is proved.
+ * (EMV 4.3 Book 3), readers of octets in pieces, and both ends of a T=1 session. Link with libscard.a; docs/C.md says
+ * how, and what is proved.
  *
- * Lengths and places count octets, places from 0. Octets go in as a pointer and a length, buffers as a pointer and
- * the room behind it. A null pointer is fine where the length or the room is 0. No call keeps a pointer that it
- * was given, and none reads or writes past a length. Octets that go in may not lie in a buffer that the same call
- * writes. What a call writes, and when, stands at the call; in all other cases it leaves what its pointers point
- * to as it was.
+ * Lengths and places count octets, places from 0; those of an array of structs count structs. Octets go in as a
+ * pointer and a length, buffers as a pointer and their room. A null pointer is fine where the length or the room is
+ * 0. No call keeps a pointer that it was given, and none reads or writes past a length. Octets that go in may not lie
+ * in a buffer that the same call writes. What a call writes, and when, is said at the call; in all other cases it
+ * leaves what its pointers point to as it was.
  *
  * The library has no state of its own: two threads may be in any calls at a time, each with its own handles and
  * buffers.
@@ -35,7 +36,11 @@ enum scard_status {
     /* Out of memory. */
     SCARD_MEMORY = 3,
     /* An argument is out of its range, and `place` is 0; or a buffer is too small, and `place` is the room needed. */
-    SCARD_ARGUMENT = 4
+    SCARD_ARGUMENT = 4,
+    /* Two known values have one tag. */
+    SCARD_DUPLICATE = 5,
+    /* A reader took the whole piece, `place` octets, and more must come. */
+    SCARD_MORE = 6
 };
 
 struct scard_verdict {
@@ -325,13 +330,71 @@ struct scard_verdict scard_tlv_check(const uint8_t *octets, size_t count, size_t
  * OK, SHORT, AT, MEMORY, ARGUMENT. */
 struct scard_verdict scard_tlv_tidy(const uint8_t *octets, size_t count, size_t max, uint8_t *out, size_t room);
 
+/* A tag: its octets, 1 to 3, and 0 after them; and how many they are. As an argument the octets after `count` aren't
+ * looked at, and a count above 3 is taken as 3.
+ */
+struct scard_tag {
+    uint8_t octets[3];
+    uint8_t count;
+};
+
+/* An object of a forest. Its value is `len` octets from place `place` on of the octets of the forest; that of a
+ * constructed object has the objects inside it.
+ */
+struct scard_part {
+    uint8_t depth;          /* 1 to 16, 1 for an outermost object */
+    uint8_t is_constructed; /* 1 where it is constructed, else 0 */
+    uint8_t len_octets;     /* how many octets its length field has, 1 to 5 */
+    struct scard_tag tag;
+    size_t place;
+    size_t len;
+};
+
+/* Writes the objects of a forest of at most `max` octets, each before those inside it, without the fillers, to the
+ * array `parts`; `place` is how many there are. Room, in parts: what the verdict's place says; half of `count`
+ * suffices. OK, SHORT, AT, MEMORY, ARGUMENT.
+ */
+struct scard_verdict scard_tlv_parts(const uint8_t *octets, size_t count, size_t max,
+                                     struct scard_part *parts, size_t room);
+
+/* The place in the array of the first object on a path of tags, or `count` where there is none. On a path of one
+ * tag it is the first outermost object that has it; on a longer one the first that the rest of the path finds
+ * directly inside an object with the first tag, these tried in order. `parts` are those of one forest. No memory.
+ */
+size_t scard_tlv_first(const struct scard_part *parts, size_t count, const struct scard_tag *path, size_t tags);
+
 /* The verdict on octets as a data object list: tags, each with a length octet. OK, SHORT, AT, MEMORY. */
 struct scard_verdict scard_dol_check(const uint8_t *octets, size_t count);
 
+/* How a value is cut and padded to a length. */
+enum scard_format {
+    SCARD_NUMERIC = 0,            /* loses its leftmost octets, or gets leading 00 */
+    SCARD_COMPRESSED_NUMERIC = 1, /* loses its rightmost octets, or gets trailing FF */
+    SCARD_OTHER = 2               /* loses its rightmost octets, or gets trailing 00 */
+};
+
+/* A value that is known for a tag. */
+struct scard_known {
+    struct scard_tag tag;
+    uint8_t format; /* enum scard_format */
+    const uint8_t *value;
+    size_t count;
+};
+
+/* Writes the octets that a data object list asks for: for each entry as many as it says, which are the known value
+ * of its tag, cut or padded; or 00, where the tag is that of a constructed object or has no known value. Room: the
+ * sum of the lengths in the list, at most 255 for each two octets of it. `known_count` counts structs. The refusal
+ * of the list has the reasons of enum scard_dol_reason. DUPLICATE: two known values have one tag, also where the
+ * list doesn't name it. ARGUMENT with place 0: a known tag is none, or a format is above 2.
+ * OK, SHORT, AT, MEMORY, ARGUMENT, DUPLICATE.
+ */
+struct scard_verdict scard_dol_fill(const uint8_t *list, size_t count, const struct scard_known *known,
+                                    size_t known_count, uint8_t *out, size_t room);
+
 /* ---- both ends of a T=1 session (ISO/IEC 7816-3, clause 11.6) ---- */
 
-/* A terminal or a card. Begin with SCARD_HANDLE_EMPTY, and close what was opened. Never copy one, and never change
- * one but by these calls.
+/* A terminal, a card or a reader. Begin with SCARD_HANDLE_EMPTY, and close what was opened. Never copy one, and
+ * never change one but by these calls.
  */
 struct scard_handle {
     void *at;
@@ -396,10 +459,70 @@ struct scard_turn scard_card_more_time(struct scard_handle *handle, uint8_t mult
 struct scard_turn scard_card_ask_ifs(struct scard_handle *handle, uint8_t size, uint8_t *out, size_t room);
 
 /* Writes the terminal's answer, from the turn SCARD_DONE on until the next command is taken; or the card's
- * command, while its host owes the reply. Room: what the verdict's place says; 65,544 suffices. OK, ARGUMENT (with
- * place 0: there is none).
+ * command, while its host owes the reply; or the message of a receiver of chains, once its chain is whole. Room:
+ * what the verdict's place says; 65,544 suffices for an end, `max` for a receiver. OK, ARGUMENT (with place 0:
+ * there is none).
  */
 struct scard_verdict scard_message(struct scard_handle *handle, uint8_t *out, size_t room);
+
+/* ---- octets that come in pieces ---- */
+
+/* Open a reader in a handle: of one answer to reset; of one block, where I-blocks have at most `ifs` octets, 1 to
+ * 254; of one chain, whose first block has the number `ns`, 0 or 1, and whose message at most `max` octets, itself
+ * at most 131,072; of one forest of at most `max` octets, itself at most SCARD_TLV_LARGEST. All the memory of a
+ * reader is taken here, some 700 octets, for a receiver `max` octets more. What the handle held is freed. Unless it
+ * is OK the handle stays as it was. To begin anew, open again. OK, MEMORY, ARGUMENT.
+ */
+struct scard_verdict scard_atr_reader_open(struct scard_handle *handle);
+struct scard_verdict scard_block_reader_open(struct scard_handle *handle, uint8_t ifs);
+struct scard_verdict scard_receiver_open(struct scard_handle *handle, uint8_t ifs, uint8_t ns, size_t max);
+struct scard_verdict scard_tlv_check_open(struct scard_handle *handle, size_t max);
+
+/* Gives the next octets to a reader, in pieces of any length. OK: what it reads is whole now, and took `place` octets
+ * of this piece; after that it takes none. MORE: it took the whole piece. AT: the octet at `place`, counted from the
+ * first ever given, is the first after which nothing goes on; from then on this is answered again. A check of a
+ * forest, which doesn't end by itself, never answers OK. The reasons are those of what the reader reads. ARGUMENT: the
+ * handle holds no reader. OK, MORE, AT, ARGUMENT.
+ */
+struct scard_verdict scard_reader_feed(struct scard_handle *handle, const uint8_t *octets, size_t count);
+
+/* The verdict on all octets that a reader took: OK with place 0 where they are whole, SHORT with their number where
+ * they could go on, or the refusal. It changes nothing. OK, SHORT, AT, ARGUMENT (the handle holds no reader).
+ */
+struct scard_verdict scard_reader_finish(struct scard_handle *handle);
+
+/* The answer to reset that a reader has, once it is whole: it is written to *out at OK. OK with place 0, ARGUMENT. */
+struct scard_verdict scard_atr_reader_value(struct scard_handle *handle, struct scard_atr *out);
+
+/* The block that a reader has, once it is whole: its octets are written to `octets`, and *out says where the
+ * information field is in them. Room: SCARD_BLOCK_ROOM. At OK both are written, else neither. OK, ARGUMENT (with
+ * place 0: there is none).
+ */
+struct scard_verdict scard_block_reader_value(struct scard_handle *handle, struct scard_block *out,
+                                              uint8_t *octets, size_t room);
+
+/* ---- the structs ---- */
+
+/* The structs above, for scard_struct_size. */
+enum scard_struct {
+    SCARD_STRUCT_VERDICT = 1,
+    SCARD_STRUCT_INTERFACE = 2,
+    SCARD_STRUCT_INDICATED = 3,
+    SCARD_STRUCT_ATR = 4,
+    SCARD_STRUCT_T1 = 5,
+    SCARD_STRUCT_RATES = 6,
+    SCARD_STRUCT_BLOCK = 7,
+    SCARD_STRUCT_COMMAND = 8,
+    SCARD_STRUCT_RESPONSE = 9,
+    SCARD_STRUCT_TURN = 10,
+    SCARD_STRUCT_TAG = 11,
+    SCARD_STRUCT_PART = 12,
+    SCARD_STRUCT_KNOWN = 13,
+    SCARD_STRUCT_HANDLE = 14
+};
+
+/* How many octets a struct has in the library, to be compared with its sizeof; 0 for any other number. */
+size_t scard_struct_size(uint8_t number);
 
 #ifdef __cplusplus
 }

@@ -14,46 +14,26 @@ static void print_hex(const uint8_t *octets, size_t count)
     }
 }
 
-/* Prints the objects of octets that scard_tlv_check accepted, so that nothing can pass their end. */
-static void dump(const uint8_t *octets, size_t count, int depth)
+/* Prints objects, each before those inside it. */
+static void dump(const uint8_t *octets, const struct scard_part *parts, size_t count)
 {
-    size_t place = 0;
-    while (place < count) {
-        size_t tag = place, length = 0;
-        if (octets[place] == 0) {
-            place++;
-            continue;
-        }
-        if (octets[place++] % 32 == 31) {
-            while (octets[place++] >= 128) {
-            }
-        }
-        printf("%*s", 2 * depth, "");
-        print_hex(octets + tag, place - tag);
-        if (octets[place] < 128) {
-            length = octets[place++];
-        } else {
-            int more = octets[place++] - 128;
-            while (more-- > 0) {
-                length = length * 256 + octets[place++];
-            }
-        }
-        if (octets[tag] / 32 % 2 == 1) {
-            putchar('\n');
-            dump(octets + place, length, depth + 1);
-        } else {
+    size_t part;
+    for (part = 0; part < count; part++) {
+        printf("%*s", 2 * (parts[part].depth - 1), "");
+        print_hex(parts[part].tag.octets, parts[part].tag.count);
+        if (!parts[part].is_constructed) {
             putchar(' ');
-            print_hex(octets + place, length);
-            putchar('\n');
+            print_hex(octets + parts[part].place, parts[part].len);
         }
-        place += length;
+        putchar('\n');
     }
 }
 
 int main(int count, char **words)
 {
     static uint8_t octets[MOST];
-    struct scard_verdict read, checked;
+    static struct scard_part parts[MOST / 2]; /* an object has two octets at the least */
+    struct scard_verdict read, found;
     if (count != 2) {
         fputs("usage: tlv_dump HEX\n", stderr);
         return 2;
@@ -63,12 +43,16 @@ int main(int count, char **words)
         fprintf(stderr, "no octets: %s at %zu\n", scard_reason_name(SCARD_CODEC_HEX, read.reason), read.place);
         return 2;
     }
-    checked = scard_tlv_check(octets, read.place, MOST);
-    if (checked.status != SCARD_OK) {
-        printf("%s at %zu\n", checked.status == SCARD_SHORT ? "short" : scard_reason_name(SCARD_CODEC_TLV, checked.reason),
-               checked.place);
+    found = scard_tlv_parts(octets, read.place, MOST, parts, MOST / 2);
+    if (found.status == SCARD_MEMORY) {
+        fputs("out of memory\n", stderr);
+        return 2;
+    }
+    if (found.status != SCARD_OK) {
+        printf("%s at %zu\n", found.status == SCARD_SHORT ? "short" : scard_reason_name(SCARD_CODEC_TLV, found.reason),
+               found.place);
         return 1;
     }
-    dump(octets, read.place, 0);
+    dump(octets, parts, found.place);
     return 0;
 }

@@ -29,7 +29,13 @@ static void nothing(void)
     CHECK(scard_response_encode(NULL, 0, 0x90, 0, NULL, 0).place == 2);
     CHECK(scard_tlv_check(NULL, 0, 0).status == SCARD_OK);
     CHECK(scard_tlv_tidy(NULL, 0, 0, NULL, 0).status == SCARD_OK);
+    CHECK(scard_tlv_parts(NULL, 0, 0, NULL, 0).status == SCARD_OK);
+    CHECK(scard_tlv_first(NULL, 0, NULL, 0) == 0);
     CHECK(scard_dol_check(NULL, 0).status == SCARD_OK);
+    CHECK(scard_dol_fill(NULL, 0, NULL, 0, NULL, 0).status == SCARD_OK);
+    CHECK(scard_reader_feed(&handle, NULL, 0).status == SCARD_ARGUMENT);
+    CHECK(scard_reader_finish(&handle).status == SCARD_ARGUMENT);
+    CHECK(scard_block_reader_value(&handle, &block, NULL, 0).status == SCARD_ARGUMENT);
     CHECK(scard_terminal_transmit(&handle, NULL, 0, NULL, 0).kind == SCARD_NO_ROOM);
     CHECK(scard_terminal_received(&handle, NULL, 0, NULL, 0).kind == SCARD_NO_ROOM);
     CHECK(scard_terminal_quiet(&handle, NULL, 0).kind == SCARD_NO_ROOM);
@@ -42,6 +48,31 @@ static void nothing(void)
     scard_close(&handle);
 }
 
+static int same(struct scard_verdict v, struct scard_verdict w)
+{
+    return v.status == w.status && v.reason == w.reason && (v.status == SCARD_OK || v.place == w.place);
+}
+
+/* A reader that is given a front whole says at the end what the call for whole octets says. */
+static void in_pieces(const uint8_t *own, size_t count)
+{
+    struct scard_handle handle = SCARD_HANDLE_EMPTY;
+    struct scard_block block;
+    CHECK(scard_atr_reader_open(&handle).status == SCARD_OK);
+    CHECK(scard_reader_feed(&handle, own, count).place <= count);
+    CHECK(same(scard_reader_finish(&handle), scard_atr_check(own, count)));
+    CHECK(scard_block_reader_open(&handle, 254).status == SCARD_OK);
+    CHECK(scard_reader_feed(&handle, own, count).place <= count);
+    CHECK(same(scard_reader_finish(&handle), scard_block_decode(own, count, 254, &block)));
+    CHECK(scard_tlv_check_open(&handle, SCARD_TLV_LARGEST).status == SCARD_OK);
+    CHECK(scard_reader_feed(&handle, own, count).place <= count);
+    CHECK(same(scard_reader_finish(&handle), scard_tlv_check(own, count, SCARD_TLV_LARGEST)));
+    CHECK(scard_receiver_open(&handle, 254, 0, 1000).status == SCARD_OK);
+    CHECK(scard_reader_feed(&handle, own, count).place <= count);
+    CHECK(scard_reader_finish(&handle).status <= SCARD_AT);
+    scard_close(&handle);
+}
+
 /* Every call that reads octets, on a front of them: it answers, and the sanitizer sees that it reads no further. */
 static void front(const uint8_t *octets, size_t count)
 {
@@ -51,10 +82,23 @@ static void front(const uint8_t *octets, size_t count)
     struct scard_block block;
     struct scard_command command;
     struct scard_response response;
+    struct scard_part *parts = (struct scard_part *)malloc(count / 2 * sizeof *parts);
+    uint8_t *filled = (uint8_t *)malloc(count / 2 * 255);
+    struct scard_known known;
     struct scard_verdict v;
     if (count > 0) {
         memcpy(own, octets, count);
     }
+    memset(&known, 0, sizeof known);
+    known.tag.octets[0] = 0x5A;
+    known.tag.count = 1;
+    known.value = own;
+    known.count = count;
+    v = scard_tlv_parts(own, count, SCARD_TLV_LARGEST, parts, count / 2);
+    CHECK(v.place <= count && v.status <= SCARD_AT);
+    v = scard_dol_fill(own, count, &known, 1, filled, count / 2 * 255);
+    CHECK(v.status <= SCARD_AT);
+    in_pieces(own, count);
     v = scard_atr_decode(own, count, &atr);
     CHECK(v.place <= count && v.status <= SCARD_AT);
     v = scard_block_decode(own, count, 254, &block);
@@ -79,6 +123,8 @@ static void front(const uint8_t *octets, size_t count)
     CHECK(v.status == SCARD_ARGUMENT);
     free(own);
     free(out);
+    free(parts);
+    free(filled);
 }
 
 int main(void)

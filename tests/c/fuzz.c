@@ -1,4 +1,6 @@
-/* Random and changed octets: what is decoded is encoded again as the same octets, and tidying twice is once. */
+/* Random and changed octets: what is decoded is encoded again as the same octets, the parts of a forest are where their
+ * tags are, and tidying twice is once.
+ */
 #include "check.h"
 
 enum { INPUTS = 1000000, MOST = 64 };
@@ -35,6 +37,25 @@ static int same(struct scard_verdict v, const uint8_t *out, const uint8_t *octet
     return v.status == SCARD_OK && v.place == count && memcmp(out, octets, count) == 0;
 }
 
+/* The parts of a forest are inside it, each after its tag and length field. */
+static int lie(const uint8_t *octets, size_t count, struct scard_verdict checked)
+{
+    struct scard_part parts[MOST / 2];
+    struct scard_verdict v = scard_tlv_parts(octets, count, SCARD_TLV_LARGEST, parts, MOST / 2);
+    size_t part;
+    if (checked.status != SCARD_OK) {
+        return v.status == checked.status && v.reason == checked.reason && v.place == checked.place;
+    }
+    for (part = 0; part < v.place; part++) {
+        size_t header = parts[part].tag.count + (size_t)parts[part].len_octets;
+        if (parts[part].place < header || parts[part].place + parts[part].len > count
+            || memcmp(octets + parts[part].place - header, parts[part].tag.octets, parts[part].tag.count) != 0) {
+            return 0;
+        }
+    }
+    return v.status == SCARD_OK;
+}
+
 static int again(const uint8_t *octets, size_t count)
 {
     uint8_t out[8 * MOST];
@@ -67,6 +88,7 @@ static int again(const uint8_t *octets, size_t count)
     }
     v = scard_tlv_check(octets, count, SCARD_TLV_LARGEST);
     good &= v.place <= count && v.status <= SCARD_AT;
+    good &= lie(octets, count, v);
     w = scard_tlv_tidy(octets, count, SCARD_TLV_LARGEST, out, count);
     good &= v.status == w.status && v.reason == w.reason;
     if (w.status == SCARD_OK) {

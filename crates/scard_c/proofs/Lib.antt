@@ -1,4 +1,6 @@
+pub mod Firsts
 pub mod Loosed
 pub mod Puts
 pub mod Refusals
 pub mod Values
+pub mod Walks

@@ -31,7 +31,7 @@ shape_number LongLe = 5
 shape_number LongPart = 6
 shape_number LongBoth = 7
 
--- the place of the data field in the octets of a command; of one without, behind the header
+-- the place of the data field in the octets of a command; of one without, after the header
 abbrev pub data_place : Shape → ℕ
 data_place Empty = 4
 data_place ShortLe = 4

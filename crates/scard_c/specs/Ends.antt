@@ -1,5 +1,5 @@
--- Both ends of T=1 behind handles, as C sees them.
-use Rattle.std.specs.Prelude.{◌≡◌, ℕ, ◌++◌, List, length, drop, Option, None, Some, Result, Ok, Err}
+-- Both ends of T=1 in handles, as C sees them.
+use Rattle.std.specs.Prelude.{◌≡◌, ℕ, ◌++◌, ◌&&◌, List, length, drop, Option, None, Some, is_none, if◌then◌else◌, Result, Ok, Err}
 use Rattle.block_core.specs.Block.{Parts, IsBlock}
 use Rattle.t1_core.specs.declared.turns.TerminalTurn.{TerminalTurn}
 use Rattle.t1_core.specs.declared.turns.TerminalTurn.TheVariants.{Send, Answered, IfsSet, GivenUp, Dead}
@@ -17,7 +17,9 @@ use Rattle.scard_c.specs.Verdict.{put_verdict, put_into, wrong_argument}
 use Rattle.scard_c.specs.declared.verdict.Verdict.{Verdict}
 use Rattle.scard_c.specs.declared.turn.CTurn.{CTurn}
 use Rattle.scard_c.specs.declared.engine.Engine.{Engine}
-use Rattle.scard_c.specs.declared.engine.Engine.TheVariants.{Terminal, Card}
+use Rattle.scard_c.specs.declared.engine.Engine.TheVariants.{Terminal, Card, InPieces}
+use Rattle.scard_c.specs.declared.reader.Reader.TheVariants.{Atr, Block, Chain, Forest}
+use Rattle.chain_core.specs.Taken.{Reception}
 
 -- a turn that sends nothing
 abbrev pub turned : ℕ → CTurn
@@ -83,17 +85,27 @@ pub record TakesCardTurn (c : CardState) (input : CardInput) (now : Option Engin
 abbrev pub TerminalTakes : (TerminalState → TerminalInput) → Option Engine → Option Engine → List ℕ → List ℕ → CTurn → Type 0
 TerminalTakes input None now old new turn = IsNoEnd None now old new turn
 TerminalTakes input (Some (Card c)) now old new turn = IsNoEnd (Some (Card c)) now old new turn
+TerminalTakes input (Some (InPieces r)) now old new turn = IsNoEnd (Some (InPieces r)) now old new turn
 TerminalTakes input (Some (Terminal t)) now old new turn = TakesTurn t (input t) now old new turn
 
 -- what a call of a card does with what a handle holds
 abbrev pub CardTakes : (CardState → CardInput) → Option Engine → Option Engine → List ℕ → List ℕ → CTurn → Type 0
 CardTakes input None now old new turn = IsNoEnd None now old new turn
 CardTakes input (Some (Terminal t)) now old new turn = IsNoEnd (Some (Terminal t)) now old new turn
+CardTakes input (Some (InPieces r)) now old new turn = IsNoEnd (Some (InPieces r)) now old new turn
 CardTakes input (Some (Card c)) now old new turn = TakesCardTurn c (input c) now old new turn
 
--- the answer of a terminal, or the command for which a card's host owes the reply
+-- the message of a chain, once it is whole
+abbrev pub joined_of : Reception → Option (List ℕ)
+joined_of r = if is_none r.refusal && r.done then Some r.joined else None
+
+-- the answer of a terminal, the command for which a card's host owes the reply, or the message of a whole chain
 abbrev pub message_of : Option Engine → Option (List ℕ)
 message_of None = None
+message_of (Some (InPieces (Atr s))) = None
+message_of (Some (InPieces (Block s))) = None
+message_of (Some (InPieces (Chain s))) = joined_of s
+message_of (Some (InPieces (Forest s))) = None
 message_of (Some (Terminal t)) = t.answered
 message_of (Some (Card c)) = owed c c.waits
 

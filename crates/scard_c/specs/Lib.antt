@@ -6,5 +6,9 @@ pub mod Apdu
 pub mod Atr
 pub mod Chain
 pub mod Tlv
+pub mod Parts
+pub mod Fill
 pub mod Held
 pub mod Ends
+pub mod Readers
+pub mod Layout

@@ -6,7 +6,7 @@ ghost use Rattle.apdu_core.specs.Command.{IsCommand, IsReason};
 ghost use Rattle.apdu_core.specs.Response.{IsResponse, IsReason as IsResponseReason};
 ghost use Rattle.apdu_core.specs.Status.{IsOfClass};
 ghost use Rattle.apdu_core.specs.declared.status.StatusClass.{StatusClass as AnyClass};
-ghost use Rattle.scard_c.specs.Verdict.{Tells, Puts, ok_at, wrong_argument};
+ghost use Rattle.scard_c.specs.Verdict.{Tells, Puts, ok_at, no_memory, wrong_argument};
 ghost use Rattle.scard_c.specs.Apdu.{command_reason, response_reason, shape_number, data_place, class_number, response_seen, IsSeen, IsDecoded, IsDecodedResponse, body_with, command_with, HasBody};
 
 use crate::output::put;
@@ -99,7 +99,8 @@ pub extern "C" fn scard_command_encode(
         Puts (IsCommand (command_with command.now body)) out.old out.new result) }
     ensures unfit { result.status ≢ 3 →
         (HasBody (body_with command.now.shape command.now.le field.now) → ⊥) → result ≡ wrong_argument 0 }
-    ensures memory { result.status ≡ 3 → out.new ≡ out.old }
+    ensures memory { result.status ≡ 3 → result ≡ no_memory }
+    ensures stays { result.status ≢ 0 → out.new ≡ out.old }
 {
     let body = match body_with(alloc, command.shape, command.le, field) {
         Ok(Some(body)) => body,
@@ -129,7 +130,8 @@ pub extern "C" fn scard_response_encode(
     ensures written { result.status ≢ 3 → length field.now ≤ 65536 →
         Puts (IsResponse (record { part = field.now; sw1 = sw1; sw2 = sw2 })) out.old out.new result }
     ensures long { result.status ≢ 3 → 65536 < length field.now → result ≡ wrong_argument 0 }
-    ensures memory { result.status ≡ 3 → out.new ≡ out.old }
+    ensures memory { result.status ≡ 3 → result ≡ no_memory }
+    ensures stays { result.status ≢ 0 → out.new ≡ out.old }
 {
     let Ok(part) = copy_of(alloc, field) else {
         return Verdict::memory();
@@ -186,7 +188,7 @@ fn body_with(alloc: Global, shape: u8, le: u32, field: &[u8]) -> Result<Option<B
     Ok(Some(body))
 }
 
-fn copy_of(alloc: Global, octets: &[u8]) -> Result<Octets, AllocError>
+pub(crate) fn copy_of(alloc: Global, octets: &[u8]) -> Result<Octets, AllocError>
     ensures { IfOk result (λ copy. copy ≡ octets.now) }
 {
     let copy = Vec::from_slice(alloc, octets)?;

@@ -5,7 +5,7 @@ ghost use Rattle.octet_core.specs.Grammar.{self_ended, Accepts, Refuses};
 ghost use Rattle.atr_core.specs.Atr.{AtrParts, IsAtr, IsReason, tck_of};
 ghost use Rattle.atr_core.specs.T1.{t1_params_of};
 ghost use Rattle.atr_core.specs.Rates.{rates_of};
-ghost use Rattle.scard_c.specs.Verdict.{Tells, Puts, wrong_argument};
+ghost use Rattle.scard_c.specs.Verdict.{Tells, Puts, ok_at, wrong_argument};
 ghost use Rattle.scard_c.specs.Atr.{atr_reason, byte_of, interface_of, indicated_of, convention_of, atr_of, SaysAtr, IsDecoded, IsT1, rates_seen};
 
 use crate::output::put;
@@ -76,6 +76,7 @@ pub struct CRates {
 pub extern "C" fn scard_atr_check(octets: &[u8]) -> Verdict
     ensures ok { result.status ≡ 0 →
         (atr : AtrParts) × Accepts self_ended IsAtr octets.now atr result.place }
+    ensures place { result.status ≡ 0 → result ≡ ok_at result.place }
     ensures refused { result.status ≢ 0 →
         Tells atr_reason (Refuses self_ended IsAtr IsReason octets.now) result }
 {
@@ -89,6 +90,7 @@ pub extern "C" fn scard_atr_check(octets: &[u8]) -> Verdict
 #[unsafe(no_mangle)]
 pub extern "C" fn scard_atr_decode(octets: &[u8], out: &mut CAtr) -> Verdict
     ensures ok { result.status ≡ 0 → IsDecoded octets.now result out.new }
+    ensures place { result.status ≡ 0 → result ≡ ok_at result.place }
     ensures refused { result.status ≢ 0 →
         Tells atr_reason (Refuses self_ended IsAtr IsReason octets.now) result }
     ensures stays { result.status ≢ 0 → out.new ≡ out.old }
@@ -221,7 +223,7 @@ fn listed(given: &[CIndicated]) -> ArrayVec<Indicated, 31>
     listed
 }
 
-fn seen(atr: &Atr) -> CAtr
+pub(crate) fn seen(atr: &Atr) -> CAtr
     ensures atr { atr_of result ≡ atr.now }
     ensures tck { byte_of result.has_tck result.tck ≡ tck_of atr.now }
 {

@@ -1,10 +1,10 @@
 //! Blocks of T=1 (ISO/IEC 7816-3, clause 11.3).
 
-ghost use Rattle.std.specs.Prelude.{◌≡◌, ◌≢◌, ◌↔◌, ◌⊎◌, ◌≤◌, ◌<◌, length, [], IfSome, IfNone};
+ghost use Rattle.std.specs.Prelude.{◌≡◌, ◌≢◌, ◌⊎◌, ◌≤◌, ◌<◌, length, [], IfSome, IfNone};
 ghost use Rattle.octet_core.specs.Grammar.{self_ended, Refuses};
 ghost use Rattle.block_core.specs.Block.{Parts, IsBlock, IsReason, Suits};
 ghost use Rattle.block_core.specs.declared.pcb.Pcb.TheVariants.{Info, Ready, Request, Response};
-ghost use Rattle.scard_c.specs.Verdict.{IsRefusal, Tells, Puts, wrong_argument};
+ghost use Rattle.scard_c.specs.Verdict.{Tells, Puts, ok_at, wrong_argument};
 ghost use Rattle.scard_c.specs.Number.{IsReserved, number_of, fault_of, subject_of};
 ghost use Rattle.scard_c.specs.Block.{block_reason, block_seen, IsDecoded, IsUnfit, IsOf};
 
@@ -29,10 +29,10 @@ pub struct CBlock {
 #[unsafe(no_mangle)]
 pub extern "C" fn scard_block_decode(octets: &[u8], ifs: u8, out: &mut CBlock) -> Verdict
     ensures ok { result.status ≡ 0 → IsDecoded ifs octets.now result out.new }
-    ensures refused { IsRefusal result →
+    ensures place { result.status ≡ 0 → result ≡ ok_at result.place }
+    ensures refused { (IsReserved ifs → ⊥) → result.status ≢ 0 →
         Tells block_reason (Refuses self_ended (IsBlock ifs) (IsReason ifs) octets.now) result }
-    ensures argument { result.status ≡ 4 ↔ IsReserved ifs }
-    ensures memory { result.status ≢ 3 }
+    ensures argument { IsReserved ifs → result ≡ wrong_argument 0 }
     ensures stays { result.status ≢ 0 → out.new ≡ out.old }
 {
     if is_reserved(ifs) {
@@ -55,6 +55,7 @@ pub extern "C" fn scard_block_i(nad: u8, ns: u8, more: bool, inf: &[u8], out: &m
         Puts (IsBlock 254 (record { nad = nad; pcb = Info number more; inf = inf.now })) out.old out.new result) }
     ensures number { IfNone (number_of ns) (result ≡ wrong_argument 0) }
     ensures long { 254 < length inf.now → result ≡ wrong_argument 0 }
+    ensures stays { result.status ≢ 0 → out.new ≡ out.old }
 {
     let Some(number) = number_of(ns) else {
         return Verdict::argument();
@@ -69,6 +70,7 @@ pub extern "C" fn scard_block_r(nad: u8, nr: u8, fault: u8, out: &mut [u8]) -> V
         Puts (IsBlock 254 (record { nad = nad; pcb = Ready number fault; inf = [] })) out.old out.new result)) }
     ensures number { IfNone (number_of nr) (result ≡ wrong_argument 0) }
     ensures fault { IfNone (fault_of fault) (result ≡ wrong_argument 0) }
+    ensures stays { result.status ≢ 0 → out.new ≡ out.old }
 {
     let (Some(number), Some(fault)) = (number_of(nr), fault_of(fault)) else {
         return Verdict::argument();
@@ -85,6 +87,7 @@ pub extern "C" fn scard_block_s_request(nad: u8, about: u8, inf: &[u8], out: &mu
     ensures about { IfNone (subject_of about) (result ≡ wrong_argument 0) }
     ensures unfit { IfSome (subject_of about) (λ s. (Suits 254 (Request s) inf.now → ⊥) →
         result ≡ wrong_argument 0) }
+    ensures stays { result.status ≢ 0 → out.new ≡ out.old }
 {
     let Some(about) = subject_of(about) else {
         return Verdict::argument();
@@ -101,6 +104,7 @@ pub extern "C" fn scard_block_s_response(nad: u8, about: u8, inf: &[u8], out: &m
     ensures about { IfNone (subject_of about) (result ≡ wrong_argument 0) }
     ensures unfit { IfSome (subject_of about) (λ s. (Suits 254 (Response s) inf.now → ⊥) →
         result ≡ wrong_argument 0) }
+    ensures stays { result.status ≢ 0 → out.new ≡ out.old }
 {
     let Some(about) = subject_of(about) else {
         return Verdict::argument();
@@ -135,7 +139,7 @@ fn block_of(nad: u8, pcb: u8, inf: &[u8]) -> Option<Block>
 pub(crate) fn put_block(block: Option<Block>, out: &mut [u8]) -> Verdict
     ensures written { IfSome block (λ block. Puts (IsBlock 254 block) out.old out.new result) }
     ensures none { IfNone block (result ≡ wrong_argument 0) }
-    ensures stays { IfNone block (out.new ≡ out.old) }
+    ensures stays { result.status ≢ 0 → out.new ≡ out.old }
 {
     match block {
         Some(block) => put(encode(&block).as_slice(), out),
@@ -143,7 +147,7 @@ pub(crate) fn put_block(block: Option<Block>, out: &mut [u8]) -> Verdict
     }
 }
 
-fn seen(block: &Block) -> CBlock
+pub(crate) fn seen(block: &Block) -> CBlock
     ensures { result ≡ block_seen block.now }
 {
     CBlock {

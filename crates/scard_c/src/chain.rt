@@ -1,6 +1,6 @@
 //! Messages as chains of I-blocks (ISO/IEC 7816-3, clause 11.6).
 
-ghost use Rattle.std.specs.Prelude.{◌≡◌, ◌↔◌, ◌⊎◌, ◌≤◌, ◌<◌, ◌+◌, ◌++◌, length, take, drop, IfSome, IfNone};
+ghost use Rattle.std.specs.Prelude.{◌≡◌, ◌≢◌, ◌≤◌, ◌<◌, ◌+◌, ◌++◌, length, take, drop, IfSome, IfNone};
 ghost use Rattle.block_core.specs.Block.{IsBlock};
 ghost use Rattle.chain_core.specs.Chain.{spelling};
 ghost use Rattle.chain_core.specs.Cut.{cut_of, first_link};
@@ -14,8 +14,8 @@ use crate::verdict::{Numbered, Verdict};
 use block_core::{Number, encode};
 use chain_core::{ChainReason, block_at, cut};
 
-/// The octets of the longest message that is cut.
-const LONGEST_MESSAGE: usize = 131_072;
+/// The octets of the longest message of a chain.
+pub(crate) const LONGEST_MESSAGE: usize = 131_072;
 
 /// Writes the first block of the chain into which the message from place `start` on is cut.
 ///
@@ -34,6 +34,7 @@ pub extern "C" fn scard_chain_block(
     ensures size { IsReserved ifs → result ≡ wrong_argument 0 }
     ensures number { IfNone (number_of ns) (result ≡ wrong_argument 0) }
     ensures start { length message.now < start → result ≡ wrong_argument 0 }
+    ensures stays { result.status ≢ 0 → out.new ≡ out.old }
 {
     if is_reserved(ifs) || start > message.len() {
         return Verdict::argument();
@@ -57,6 +58,7 @@ pub extern "C" fn scard_chain_cut(message: &[u8], ifs: u8, ns: u8, out: &mut [u8
     ensures size { IsReserved ifs → result ≡ wrong_argument 0 }
     ensures number { IfNone (number_of ns) (result ≡ wrong_argument 0) }
     ensures long { 131072 < length message.now → result ≡ wrong_argument 0 }
+    ensures stays { result.status ≢ 0 → out.new ≡ out.old }
 {
     if is_reserved(ifs) || message.len() > LONGEST_MESSAGE {
         return Verdict::argument();

@@ -1,6 +1,6 @@
-//! Both ends of T=1 behind handles (ISO/IEC 7816-3, clause 11.6).
+//! Both ends of T=1 in handles (ISO/IEC 7816-3, clause 11.6).
 
-ghost use Rattle.std.specs.Prelude.{◌≡◌, ◌≢◌, ◌↔◌, ◌≤◌, ◌<◌, length, None, Some};
+ghost use Rattle.std.specs.Prelude.{◌≡◌, ◌≢◌, ◌≤◌, ◌<◌, length, None, Some};
 ghost use Rattle.atr_core.specs.T1.{IsUsable};
 ghost use Rattle.t1_core.specs.Came.{class_of, quiet};
 ghost use Rattle.t1_core.specs.Terminal.{new_terminal, transmit, ask_ifs, takes};
@@ -9,10 +9,10 @@ ghost use Rattle.scard_c.specs.declared.engine.Engine.TheVariants.{Terminal as T
 ghost use Rattle.scard_c.specs.Verdict.{wrong_argument, no_memory, ok_at};
 ghost use Rattle.scard_c.specs.Ends.{no_room, TerminalTakes, CardTakes, message_of, PutsMessage};
 
-use crate::engine::{Engine, NO_END};
+use crate::engine::Engine;
 use crate::handle::Handle;
 use crate::output::put;
-use crate::turn::CTurn;
+use crate::turn::{CTurn, NO_END};
 use crate::verdict::Verdict;
 use atr_core::T1Params;
 use block_core::LONGEST_BLOCK;
@@ -30,9 +30,12 @@ pub extern "C" fn scard_terminal_open(
     bwi: u8,
     cwi: u8,
 ) -> Verdict
-    ensures ok { result.status ≡ 0 → handle.new.engine ≡ Some (TerminalEnd (new_terminal ifsc)) }
+    ensures ok { result.status ≡ 0 →
+        (result ≡ ok_at 0) × (handle.new.engine ≡ Some (TerminalEnd (new_terminal ifsc))) }
     ensures stays { result.status ≢ 0 → handle.new.engine ≡ handle.old.engine }
-    ensures argument { result.status ≡ 4 ↔ (IsUsable (record { ifsc = ifsc; bwi = bwi; cwi = cwi }) → ⊥) }
+    ensures argument { (IsUsable (record { ifsc = ifsc; bwi = bwi; cwi = cwi }) → ⊥) → result ≡ wrong_argument 0 }
+    ensures memory { IsUsable (record { ifsc = ifsc; bwi = bwi; cwi = cwi }) →
+        result.status ≢ 0 → result ≡ no_memory }
 {
     let Some(params) = T1Params::new(ifsc, bwi, cwi) else {
         return Verdict::argument();
@@ -54,9 +57,12 @@ pub extern "C" fn scard_card_open(
     bwi: u8,
     cwi: u8,
 ) -> Verdict
-    ensures ok { result.status ≡ 0 → handle.new.engine ≡ Some (CardEnd (new_card ifsc)) }
+    ensures ok { result.status ≡ 0 →
+        (result ≡ ok_at 0) × (handle.new.engine ≡ Some (CardEnd (new_card ifsc))) }
     ensures stays { result.status ≢ 0 → handle.new.engine ≡ handle.old.engine }
-    ensures argument { result.status ≡ 4 ↔ (IsUsable (record { ifsc = ifsc; bwi = bwi; cwi = cwi }) → ⊥) }
+    ensures argument { (IsUsable (record { ifsc = ifsc; bwi = bwi; cwi = cwi }) → ⊥) → result ≡ wrong_argument 0 }
+    ensures memory { IsUsable (record { ifsc = ifsc; bwi = bwi; cwi = cwi }) →
+        result.status ≢ 0 → result ≡ no_memory }
 {
     let Some(params) = T1Params::new(ifsc, bwi, cwi) else {
         return Verdict::argument();
@@ -67,10 +73,10 @@ pub extern "C" fn scard_card_open(
     }
 }
 
-fn opened(alloc: Global, handle: &mut Handle, engine: Engine) -> Verdict
-    ensures ok { result.status ≡ 0 → handle.new.engine ≡ Some engine }
+pub(crate) fn opened(alloc: Global, handle: &mut Handle, engine: Engine) -> Verdict
+    ensures ok { result.status ≡ 0 → (result ≡ ok_at 0) × (handle.new.engine ≡ Some engine) }
     ensures stays { result.status ≢ 0 → handle.new.engine ≡ handle.old.engine }
-    ensures memory { result.status ≢ 4 }
+    ensures memory { result.status ≢ 0 → result ≡ no_memory }
 {
     match Box::new(alloc, engine) {
         Ok(engine) => {
@@ -293,8 +299,8 @@ pub extern "C" fn scard_card_ask_ifs(
 }
 
 /// Puts the answer of a terminal into a buffer, from the turn that completes it on until the next command
-/// is taken; or the command of a card, while its host owes the reply. `ARGUMENT` with place 0 where there
-/// is none.
+/// is taken; or the command of a card, while its host owes the reply; or the message of a receiver of
+/// chains, once the chain is whole. `ARGUMENT` with place 0 where there is none.
 #[unsafe(no_mangle)]
 pub extern "C" fn scard_message(alloc: Global, handle: &mut Handle, out: &mut [u8]) -> Verdict
     ensures message { PutsMessage (message_of handle.old.engine) out.old out.new result }

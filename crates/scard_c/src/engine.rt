@@ -1,16 +1,16 @@
-//! What is behind a handle.
+//! What a handle holds.
 
-use crate::turn::CTurn;
+use crate::reader::Reader;
+use crate::turn::{CTurn, NO_END};
+use crate::verdict::Verdict;
 use t1_core::{Card, Terminal};
-
-/// The kind of a turn where the handle holds no such end.
-pub(crate) const NO_END: u8 = 32;
 
 /// The engines that a handle can hold.
 #[derive(Drop)]
 pub enum Engine {
     Terminal(Terminal),
     Card(Card),
+    InPieces(Reader),
 }
 
 impl Engine {
@@ -20,6 +20,7 @@ impl Engine {
     ghost use Rattle.t1_core.specs.Card.{replies, more_time, ask_ifs as card_ask_ifs, takes as card_takes};
     ghost use Rattle.t1_core.specs.Views.{IsSlice};
     ghost use Rattle.scard_c.specs.Ends.{TerminalTakes, CardTakes, message_of};
+    ghost use Rattle.scard_c.specs.Readers.{Feeds, Ends};
 
     /// A command for the terminal.
     pub(crate) fn transmit(&mut self, command: &[u8], out: &mut [u8]) -> CTurn
@@ -29,7 +30,7 @@ impl Engine {
     {
         match self {
             Engine::Terminal(end) => CTurn::of_terminal(end.transmit(command), out),
-            Engine::Card(_) => CTurn::of(NO_END),
+            Engine::Card(_) | Engine::InPieces(_) => CTurn::of(NO_END),
         }
     }
 
@@ -41,7 +42,7 @@ impl Engine {
     {
         match self {
             Engine::Terminal(end) => CTurn::of_terminal(end.received(octets), out),
-            Engine::Card(_) => CTurn::of(NO_END),
+            Engine::Card(_) | Engine::InPieces(_) => CTurn::of(NO_END),
         }
     }
 
@@ -53,7 +54,7 @@ impl Engine {
     {
         match self {
             Engine::Terminal(end) => CTurn::of_terminal(end.quiet(), out),
-            Engine::Card(_) => CTurn::of(NO_END),
+            Engine::Card(_) | Engine::InPieces(_) => CTurn::of(NO_END),
         }
     }
 
@@ -65,7 +66,7 @@ impl Engine {
     {
         match self {
             Engine::Terminal(end) => CTurn::of_terminal(end.ask_ifs(size), out),
-            Engine::Card(_) => CTurn::of(NO_END),
+            Engine::Card(_) | Engine::InPieces(_) => CTurn::of(NO_END),
         }
     }
 
@@ -77,7 +78,7 @@ impl Engine {
     {
         match self {
             Engine::Card(end) => CTurn::of_card(end.received(octets), out),
-            Engine::Terminal(_) => CTurn::of(NO_END),
+            Engine::Terminal(_) | Engine::InPieces(_) => CTurn::of(NO_END),
         }
     }
 
@@ -89,7 +90,7 @@ impl Engine {
     {
         match self {
             Engine::Card(end) => CTurn::of_card(end.reply(octets), out),
-            Engine::Terminal(_) => CTurn::of(NO_END),
+            Engine::Terminal(_) | Engine::InPieces(_) => CTurn::of(NO_END),
         }
     }
 
@@ -101,7 +102,7 @@ impl Engine {
     {
         match self {
             Engine::Card(end) => CTurn::of_card(end.more_time(multiple), out),
-            Engine::Terminal(_) => CTurn::of(NO_END),
+            Engine::Terminal(_) | Engine::InPieces(_) => CTurn::of(NO_END),
         }
     }
 
@@ -113,17 +114,39 @@ impl Engine {
     {
         match self {
             Engine::Card(end) => CTurn::of_card(end.ask_ifs(size), out),
-            Engine::Terminal(_) => CTurn::of(NO_END),
+            Engine::Terminal(_) | Engine::InPieces(_) => CTurn::of(NO_END),
         }
     }
 
-    /// The answer of a terminal, or the command for which the card's host owes the reply.
+    /// The answer of a terminal, the command for which the card's host owes the reply, or the message of a
+    /// whole chain.
     pub(crate) fn message(&self) -> Option<&[u8]>
         ensures { IsSlice result (message_of (Some self.now)) }
     {
         match self {
             Engine::Terminal(terminal) => terminal.answer(),
             Engine::Card(card) => card.command(),
+            Engine::InPieces(reader) => reader.message(),
+        }
+    }
+
+    /// The next octets for a reader.
+    pub(crate) fn feed(&mut self, piece: &[u8]) -> Verdict
+        ensures { Feeds (Some self.old) piece.now (Some self.new) result }
+    {
+        match self {
+            Engine::InPieces(reader) => reader.feed(piece),
+            Engine::Terminal(_) | Engine::Card(_) => Verdict::argument(),
+        }
+    }
+
+    /// No more octets come for a reader.
+    pub(crate) fn finish(&self) -> Verdict
+        ensures { Ends (Some self.now) result }
+    {
+        match self {
+            Engine::InPieces(reader) => reader.finish(),
+            Engine::Terminal(_) | Engine::Card(_) => Verdict::argument(),
         }
     }
 }

@@ -3,7 +3,7 @@
 ghost use Rattle.std.specs.Prelude.{◌≡◌, ◌≢◌};
 ghost use Rattle.hex.specs.Hex.{encode_upper};
 ghost use Rattle.octet_core.specs.Octets.{xor_of};
-ghost use Rattle.scard_c.specs.Verdict.{IsRefusal, Tells, put_verdict, put_into};
+ghost use Rattle.scard_c.specs.Verdict.{IsRefusal, Tells, no_memory, put_verdict, put_into};
 ghost use Rattle.scard_c.specs.Hex.{hex_reason, RefusesText, PutsText};
 
 use crate::output::put;
@@ -37,6 +37,7 @@ pub extern "C" fn scard_hex_decode(alloc: Global, text: &[u8], out: &mut [u8]) -
     ensures written { result.status ≢ 3 → (IsRefusal result → ⊥) →
         PutsText text.now out.old out.new result }
     ensures refused { IsRefusal result → Tells hex_reason (RefusesText text.now) result }
+    ensures memory { result.status ≡ 3 → result ≡ no_memory }
     ensures stays { result.status ≢ 0 → out.new ≡ out.old }
 {
     match hex::decode(alloc, text) {
@@ -60,7 +61,7 @@ pub extern "C" fn scard_hex_decode(alloc: Global, text: &[u8], out: &mut [u8]) -
 pub extern "C" fn scard_hex_encode(alloc: Global, octets: &[u8], out: &mut [u8]) -> Verdict
     ensures verdict { result.status ≢ 3 → result ≡ put_verdict (encode_upper octets.now) out.old }
     ensures text { result.status ≢ 3 → out.new ≡ put_into (encode_upper octets.now) out.old }
-    ensures memory { result.status ≡ 3 → out.new ≡ out.old }
+    ensures memory { result.status ≡ 3 → (result ≡ no_memory) × (out.new ≡ out.old) }
 {
     match hex_upper(alloc, octets) {
         Ok(text) => put(text.as_bytes(), out),

@@ -1,6 +1,6 @@
 //! Octets that are put into a buffer of the caller's.
 
-ghost use Rattle.std.specs.Prelude.{◌≡◌};
+ghost use Rattle.std.specs.Prelude.{◌≡◌, ◌≢◌};
 ghost use Rattle.scard_c.specs.Verdict.{put_verdict, put_into};
 
 use crate::verdict::Verdict;
@@ -9,6 +9,7 @@ use crate::verdict::Verdict;
 pub(crate) fn put(octets: &[u8], out: &mut [u8]) -> Verdict
     ensures verdict { result ≡ put_verdict octets.now out.old }
     ensures buffer { out.new ≡ put_into octets.now out.old }
+    ensures stays { result.status ≢ 0 → out.new ≡ out.old }
 {
     if octets.len() > out.len() {
         return Verdict::lacking(octets.len());

@@ -1,19 +1,17 @@
 //! Data objects (EMV 4.3 Book 3, Annex B; ISO/IEC 7816-4, clause 5.2.2).
 
-ghost use Rattle.std.specs.Prelude.{◌≡◌, ◌≢◌, ◌<◌, ◌↔◌, length, IfOk, IfErr};
+ghost use Rattle.std.specs.Prelude.{◌≡◌, ◌≢◌, ◌≤◌, ◌<◌, length, IfOk};
 ghost use Rattle.octet_core.specs.Grammar.{whole, Refuses};
-ghost use Rattle.octet_core.specs.Grammar.{RefusesUnlessMemory, Accepts};
 ghost use Rattle.tlv_core.specs.Forest.{IsForest, largest};
 ghost use Rattle.tlv_core.specs.Dol.{IsDol, IsDolReason};
 ghost use Rattle.tlv_core.specs.Tree.{Tree};
 ghost use Rattle.tlv_core.specs.Tidy.{tidy as tidy_form};
 ghost use Rattle.tlv_core.specs.Reasons.{IsReason};
-ghost use Rattle.scard_c.specs.Verdict.{IsRefusal, Tells, Puts, ok_at, wrong_argument};
+ghost use Rattle.scard_c.specs.Verdict.{IsRefusal, Tells, ok_at, no_memory, wrong_argument};
 ghost use Rattle.scard_c.specs.Tlv.{tlv_reason, dol_reason, IsSomeForest, IsSomeDol, IsTidied};
 
 use crate::output::put;
 use crate::verdict::{Numbered, Verdict};
-use octet_core::Refused;
 use std::alloc::{AllocError, Global};
 use tlv_core::{
     Dol, DolReason, Forest, ForestCheck, LARGEST_FOREST, TlvReason, decode, encode, tidy,
@@ -26,10 +24,9 @@ use tlv_core::{
 pub extern "C" fn scard_tlv_check(octets: &[u8], max: usize) -> Verdict
     ensures ok { result.status ≡ 0 → IsSomeForest max octets.now }
     ensures place { result.status ≡ 0 → result ≡ ok_at (length octets.now) }
-    ensures refused { IsRefusal result →
+    ensures refused { max ≤ 1048576 → result.status ≢ 0 →
         Tells tlv_reason (Refuses whole (IsForest max) (IsReason max) octets.now) result }
-    ensures argument { result.status ≡ 4 ↔ (1048576 < max) }
-    ensures memory { result.status ≢ 3 }
+    ensures argument { 1048576 < max → result ≡ wrong_argument 0 }
 {
     if max > LARGEST_FOREST {
         return Verdict::argument();
@@ -55,9 +52,11 @@ pub extern "C" fn scard_tlv_tidy(
     max: usize,
     out: &mut [u8],
 ) -> Verdict
-    ensures ok { result.status ≡ 0 → IsTidied max octets.now out.old out.new result }
+    ensures tidied { max ≤ 1048576 → (IsRefusal result → ⊥) → result.status ≢ 3 →
+        IsTidied max octets.now out.old out.new result }
     ensures refused { IsRefusal result →
         Tells tlv_reason (Refuses whole (IsForest max) (IsReason max) octets.now) result }
+    ensures memory { result.status ≡ 3 → result ≡ no_memory }
     ensures argument { 1048576 < max → result ≡ wrong_argument 0 }
     ensures stays { result.status ≢ 0 → out.new ≡ out.old }
 {
@@ -86,9 +85,9 @@ fn tidied(alloc: Global, forest: &Forest) -> Result<Vec<u8>, AllocError>
 pub extern "C" fn scard_dol_check(alloc: Global, octets: &[u8]) -> Verdict
     ensures ok { result.status ≡ 0 → IsSomeDol octets.now }
     ensures place { result.status ≡ 0 → result ≡ ok_at (length octets.now) }
-    ensures refused { IsRefusal result →
+    ensures refused { result.status ≢ 0 → result.status ≢ 3 →
         Tells dol_reason (Refuses whole IsDol IsDolReason octets.now) result }
-    ensures argument { result.status ≢ 4 }
+    ensures memory { result.status ≡ 3 → result ≡ no_memory }
 {
     match Dol::decode(alloc, octets) {
         Ok(_) => Verdict::ok(octets.len()),

@@ -6,6 +6,45 @@ ghost use Rattle.scard_c.specs.Ends.{turned, IsTurned, Sends, IsTerminalTurn, Is
 use block_core::{Block, LONGEST_BLOCK, encode};
 use t1_core::{CardFault, CardTurn, TerminalFault, TerminalTurn};
 
+/// Send a block.
+const SEND: u8 = 0;
+
+/// The answer is complete, or the host owes a reply.
+const DONE: u8 = 1;
+
+/// The size is set.
+const IFS_SET: u8 = 2;
+
+/// The exchange is given up.
+const GIVEN_UP: u8 = 3;
+
+/// The card is dead.
+const DEAD: u8 = 4;
+
+/// Refused: the card is dead.
+const REFUSED_DEAD: u8 = 16;
+
+/// Refused: an exchange is under way.
+const REFUSED_BUSY: u8 = 17;
+
+/// Refused: too long.
+const REFUSED_TOO_LONG: u8 = 18;
+
+/// Refused: a reserved size.
+const REFUSED_RESERVED: u8 = 19;
+
+/// Refused: nothing is awaited.
+const REFUSED_IDLE: u8 = 20;
+
+/// Refused: not the host's turn.
+const REFUSED_ORDER: u8 = 21;
+
+/// The handle holds no such end.
+pub(crate) const NO_END: u8 = 32;
+
+/// The buffer is too small.
+const NO_ROOM: u8 = 33;
+
 /// What an end does next.
 ///
 /// `kind` 0: send the first `count` octets of the buffer. 1: the answer is complete, or the host owes a
@@ -33,7 +72,7 @@ impl CTurn {
         ensures { result ≡ no_room }
     {
         CTurn {
-            kind: 33,
+            kind: NO_ROOM,
             count: LONGEST_BLOCK,
         }
     }
@@ -46,7 +85,7 @@ impl CTurn {
         let octets = encode(block);
         let count = octets.len();
         out[..count].copy_from_slice(octets.as_slice());
-        CTurn { kind: 0, count }
+        CTurn { kind: SEND, count }
     }
 
     /// What a call of a terminal answered.
@@ -56,15 +95,15 @@ impl CTurn {
     {
         match given {
             Ok(TerminalTurn::Send(block)) => CTurn::sends(&block, out),
-            Ok(TerminalTurn::Answered) => CTurn::of(1),
-            Ok(TerminalTurn::IfsSet) => CTurn::of(2),
-            Ok(TerminalTurn::GivenUp) => CTurn::of(3),
-            Ok(TerminalTurn::Dead) => CTurn::of(4),
-            Err(TerminalFault::Dead) => CTurn::of(16),
-            Err(TerminalFault::Busy) => CTurn::of(17),
-            Err(TerminalFault::TooLong) => CTurn::of(18),
-            Err(TerminalFault::Reserved) => CTurn::of(19),
-            Err(TerminalFault::Idle) => CTurn::of(20),
+            Ok(TerminalTurn::Answered) => CTurn::of(DONE),
+            Ok(TerminalTurn::IfsSet) => CTurn::of(IFS_SET),
+            Ok(TerminalTurn::GivenUp) => CTurn::of(GIVEN_UP),
+            Ok(TerminalTurn::Dead) => CTurn::of(DEAD),
+            Err(TerminalFault::Dead) => CTurn::of(REFUSED_DEAD),
+            Err(TerminalFault::Busy) => CTurn::of(REFUSED_BUSY),
+            Err(TerminalFault::TooLong) => CTurn::of(REFUSED_TOO_LONG),
+            Err(TerminalFault::Reserved) => CTurn::of(REFUSED_RESERVED),
+            Err(TerminalFault::Idle) => CTurn::of(REFUSED_IDLE),
         }
     }
 
@@ -75,10 +114,10 @@ impl CTurn {
     {
         match given {
             Ok(CardTurn::Send(block)) => CTurn::sends(&block, out),
-            Ok(CardTurn::Asked) => CTurn::of(1),
-            Err(CardFault::Order) => CTurn::of(21),
-            Err(CardFault::TooLong) => CTurn::of(18),
-            Err(CardFault::Reserved) => CTurn::of(19),
+            Ok(CardTurn::Asked) => CTurn::of(DONE),
+            Err(CardFault::Order) => CTurn::of(REFUSED_ORDER),
+            Err(CardFault::TooLong) => CTurn::of(REFUSED_TOO_LONG),
+            Err(CardFault::Reserved) => CTurn::of(REFUSED_RESERVED),
         }
     }
 }

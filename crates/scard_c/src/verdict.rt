@@ -1,7 +1,7 @@
 //! Verdicts as C sees them.
 
 ghost use Rattle.std.specs.Prelude.{◌≡◌, ℕ};
-ghost use Rattle.scard_c.specs.Verdict.{ok_at, no_memory, wrong_argument, told, told_refused};
+ghost use Rattle.scard_c.specs.Verdict.{ok_at, no_memory, wrong_argument, twice_known, told, told_refused, more_at, told_fed, told_end};
 
 use octet_core::{Refused, Stop};
 
@@ -20,6 +20,12 @@ pub const MEMORY: u8 = 3;
 /// An argument is out of its range and `place` is 0, or a buffer is too small and `place` is the room that
 /// is needed.
 pub const ARGUMENT: u8 = 4;
+
+/// Two known values have one tag.
+pub const DUPLICATE: u8 = 5;
+
+/// A reader took the whole piece, `place` octets, and more must come.
+pub const MORE: u8 = 6;
 
 /// A verdict: the status, the number of the reason by the codec, 0 where there is none, and a place or a
 /// count of octets.
@@ -69,6 +75,49 @@ impl Verdict {
         ensures { result ≡ wrong_argument 0 }
     {
         Verdict::lacking(0)
+    }
+
+    /// What a reader answered to a piece.
+    pub(crate) fn fed<R: Numbered + Drop>(answer: Result<(usize, bool), Stop<R>>) -> Verdict
+        ensures { result ≡ told_fed R.number answer }
+    {
+        match answer {
+            Ok((taken, true)) => Verdict::ok(taken),
+            Ok((taken, false)) => Verdict::more(taken),
+            Err(stop) => Verdict::stopped(stop),
+        }
+    }
+
+    /// What a reader answered where no more octets come.
+    pub(crate) fn ended<R: Numbered + Drop>(answer: Result<(), Stop<R>>) -> Verdict
+        ensures { result ≡ told_end R.number answer }
+    {
+        match answer {
+            Ok(()) => Verdict::ok(0),
+            Err(stop) => Verdict::stopped(stop),
+        }
+    }
+
+    /// A reader took so many octets, and more must come.
+    pub(crate) fn more(count: usize) -> Verdict
+        ensures { result ≡ more_at count }
+    {
+        Verdict {
+            status: MORE,
+            reason: 0,
+            place: count,
+        }
+    }
+
+    /// Two known values have one tag.
+    pub(crate) fn duplicate() -> Verdict
+        ensures { result ≡ twice_known }
+    {
+        Verdict {
+            status: DUPLICATE,
+            reason: 0,
+            place: 0,
+        }
     }
 
     /// A buffer has less than this room.

@@ -1,0 +1,38 @@
+//! The sizes of the structs that C and the library share.
+
+ghost use Rattle.std.specs.Prelude.{◌≡◌, slice_index};
+ghost use Rattle.scard_c.specs.Layout.{sizes};
+
+use crate::apdu::{CCommand, CResponse};
+use crate::atr::{CAtr, CIndicated, CInterface, CRates, CT1};
+use crate::block::CBlock;
+use crate::filling::CKnown;
+use crate::handle::Handle;
+use crate::parts::{CPart, CTag};
+use crate::turn::CTurn;
+use crate::verdict::Verdict;
+use std::mem::size_of;
+
+/// How many octets a struct has in the library, by its number in the header; 0 for any other number.
+#[unsafe(no_mangle)]
+pub extern "C" fn scard_struct_size(number: u8) -> usize
+    ensures { result ≡ slice_index sizes number }
+{
+    match number {
+        1 => size_of::<Verdict>(),
+        2 => size_of::<CInterface>(),
+        3 => size_of::<CIndicated>(),
+        4 => size_of::<CAtr>(),
+        5 => size_of::<CT1>(),
+        6 => size_of::<CRates>(),
+        7 => size_of::<CBlock>(),
+        8 => size_of::<CCommand>(),
+        9 => size_of::<CResponse>(),
+        10 => size_of::<CTurn>(),
+        11 => size_of::<CTag>(),
+        12 => size_of::<CPart>(),
+        13 => size_of::<CKnown<'_>>(),
+        14 => size_of::<Handle>(),
+        _ => 0,
+    }
+}

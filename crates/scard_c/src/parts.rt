@@ -1,0 +1,197 @@
+//! The parts of a forest (EMV 4.3 Book 3, Annex B; ISO/IEC 7816-4, clause 5.2.2).
+
+ghost use Rattle.std.specs.Prelude.{◌≡◌, ◌≢◌, ◌≤◌, ◌<◌, ◌+◌, length, map, drop, zero, slice_get};
+ghost use Rattle.octet_core.specs.Grammar.{whole, Refuses};
+ghost use Rattle.tlv_core.specs.Forest.{IsForest, IsProper};
+ghost use Rattle.tlv_core.specs.Tree.{Tree};
+ghost use Rattle.tlv_core.specs.Reasons.{IsReason};
+ghost use Rattle.tlv_core.specs.Flat.{part_seen};
+ghost use Rattle.scard_c.specs.Verdict.{IsRefusal, Tells, put_verdict, put_into, no_memory, wrong_argument};
+ghost use Rattle.scard_c.specs.Tlv.{tlv_reason};
+ghost use Rattle.scard_c.specs.Parts.{PutsParts, HasParts, walk, part_shown, tag_shown, placed_at, place_of, passed, fillers_of, tag_of, tag_is, is_on, found, parts_shown, FindsFirst};
+
+use crate::verdict::Verdict;
+use std::alloc::Global;
+use tlv_core::{FlatForest, LARGEST_FOREST, Part, Tag};
+
+/// A tag: `count` octets, 1 to 3, and 0 after them.
+#[repr(C)]
+#[derive(Clone, Copy)]
+pub struct CTag {
+    pub octets: [u8; 3],
+    pub count: u8,
+}
+
+/// An object of a forest. Its value is `len` octets from place `place` on of the octets; that of a
+/// constructed one has its nodes.
+#[repr(C)]
+#[derive(Clone, Copy)]
+pub struct CPart {
+    /// The depth at which it is, 1 to 16.
+    pub depth: u8,
+    /// 1 where it is constructed, else 0.
+    pub is_constructed: u8,
+    /// How many octets its length field has, 1 to 5.
+    pub len_octets: u8,
+    pub tag: CTag,
+    pub place: usize,
+    pub len: usize,
+}
+
+/// Puts the parts of a forest of at most `max` octets into an array: its objects in the order of their
+/// headers, each before those inside it, without the fillers. `OK` says how many there are.
+///
+/// `ARGUMENT` with place 0 where `max` is above 1,048,576, and with their number where the array is too
+/// short.
+#[unsafe(no_mangle)]
+pub extern "C" fn scard_tlv_parts(
+    alloc: Global,
+    octets: &[u8],
+    max: usize,
+    out: &mut [CPart],
+) -> Verdict
+    ensures parts { max ≤ 1048576 → (IsRefusal result → ⊥) → result.status ≢ 3 →
+        PutsParts max octets.now out.old out.new result }
+    ensures refused { IsRefusal result →
+        Tells tlv_reason (Refuses whole (IsForest max) (IsReason max) octets.now) result }
+    ensures memory { result.status ≡ 3 → result ≡ no_memory }
+    ensures argument { 1048576 < max → result ≡ wrong_argument 0 }
+    ensures stays { result.status ≢ 0 → out.new ≡ out.old }
+{
+    if max > LARGEST_FOREST {
+        return Verdict::argument();
+    }
+    match FlatForest::read(alloc, octets, max) {
+        Ok(forest) => put_parts(octets, forest.parts(), out),
+        Err(refused) => Verdict::refused(refused),
+    }
+}
+
+/// The place among the parts of a forest of the first object on a path of tags, or their number where there
+/// is none: for a path of one tag, of the first outermost object that has it; for a longer one, of the
+/// first that the rest of the path finds inside an object with the first tag, such objects tried in order.
+#[unsafe(no_mangle)]
+pub extern "C" fn scard_tlv_first(parts: &[CPart], path: &[CTag]) -> usize
+    ensures inside { result ≤ length parts.now }
+    ensures found { drop result parts.now ≡ found path.now 0 parts.now }
+    ensures tree { (t : Tree) → IsProper 1 t → parts.now ≡ parts_shown t →
+        FindsFirst (map tag_of path.now) t (slice_get parts.now result) }
+{
+    first_of(parts, path)
+}
+
+/// The place of the first part that ends the path, or the number of parts.
+fn first_of(parts: &[CPart], path: &[CTag]) -> usize
+    ensures inside { result ≤ length parts.now }
+    ensures found { drop result parts.now ≡ found path.now 0 parts.now }
+{
+    let mut met = 0;
+    for (index, part) in parts.iter().enumerate() {
+        met = met.min((part.depth as usize).saturating_sub(1));
+        if is_on(path, met, part) {
+            met += 1;
+            if met == path.len() {
+                return index;
+            }
+        }
+    }
+    parts.len()
+}
+
+/// Whether a part is the next of the path after so many tags.
+fn is_on(path: &[CTag], met: usize, part: &CPart) -> bool
+    requires { met < 256 }
+    ensures { result ≡ is_on path.now met part.now }
+{
+    part.depth as usize == met + 1 && is_tag_after(path, met, &part.tag)
+}
+
+fn is_tag_after(path: &[CTag], met: usize, tag: &CTag) -> bool
+    ensures { result ≡ tag_is (slice_get path.now met) (tag_of tag.now) }
+{
+    match path.get(met) {
+        Some(own) => octets_of(own) == octets_of(tag),
+        None => false,
+    }
+}
+
+/// The octets of a tag: a count above 3 is taken as 3.
+pub(crate) fn octets_of(tag: &CTag) -> &[u8]
+    ensures { result.now ≡ tag_of tag.now }
+{
+    &tag.octets[..(tag.count as usize).min(3)]
+}
+
+/// Puts the parts of these octets into an array, if it has room for them.
+fn put_parts(octets: &[u8], parts: &[Part<'_>], out: &mut [CPart]) -> Verdict
+    requires { HasParts octets.now (map part_seen parts.now) }
+    ensures verdict { result ≡ put_verdict (map part_shown (walk octets.now 0 (map part_seen parts.now))) out.old }
+    ensures array { out.new ≡ put_into (map part_shown (walk octets.now 0 (map part_seen parts.now))) out.old }
+    ensures stays { result.status ≢ 0 → out.new ≡ out.old }
+{
+    if parts.len() > out.len() {
+        return Verdict::lacking(parts.len());
+    }
+    let mut at = 0;
+    for (index, part) in parts.iter().enumerate() {
+        let place = place_of(octets, at, part);
+        out[index] = shown(part, place);
+        at = passed(place, part);
+    }
+    Verdict::ok(parts.len())
+}
+
+/// Where the value of the next object is, after `at` octets.
+fn place_of(octets: &[u8], at: usize, part: &Part<'_>) -> usize
+    requires inside { at ≤ length octets.now }
+    requires fits { place_of octets.now at (part_seen part.now) ≤ length octets.now }
+    ensures { result ≡ place_of octets.now at (part_seen part.now) }
+{
+    let header = part.tag.octets().len() + part.length_field().len();
+    at + fillers_of(&octets[at..]) + header
+}
+
+/// How many fillers the octets begin with.
+fn fillers_of(octets: &[u8]) -> usize
+    ensures { result ≡ fillers_of octets.now }
+{
+    octets.iter().take_while(|octet| **octet == 0).count()
+}
+
+/// How many octets were passed once an object was found: up to its nodes, or to its end.
+fn passed(place: usize, part: &Part<'_>) -> usize
+    requires { place + length part.now.value.now < 18446744073709551616 }
+    ensures { result ≡ passed place (part_seen part.now) }
+{
+    if part.tag.is_constructed() {
+        place
+    } else {
+        place + part.value.len()
+    }
+}
+
+fn shown(part: &Part<'_>, place: usize) -> CPart
+    requires { part.now.depth ≤ 16 }
+    ensures { result ≡ part_shown (placed_at place (part_seen part.now)) }
+{
+    CPart {
+        depth: part.depth as u8,
+        is_constructed: u8::from(part.tag.is_constructed()),
+        len_octets: part.length_field().len() as u8,
+        tag: tag_shown(&part.tag),
+        place,
+        len: part.value.len(),
+    }
+}
+
+fn tag_shown(tag: &Tag) -> CTag
+    ensures { result ≡ tag_shown tag.now }
+{
+    let given = tag.octets();
+    let mut octets = [0; 3];
+    octets[..given.len()].copy_from_slice(given);
+    CTag {
+        octets,
+        count: given.len() as u8,
+    }
+}
