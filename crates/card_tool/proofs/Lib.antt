@@ -1,6 +1,7 @@
 pub mod Telling
 pub mod OneOf
 pub mod Exchanges
+pub mod Simulations
 pub mod OneAnswer
 pub mod OneText
 pub mod Chains

@@ -10,6 +10,7 @@ use Rattle.block_core.proofs.Goes.{one-verdict}
 use Rattle.card_tool.specs.ExchangeTexts.{Migrates, Replays}
 use Rattle.card_tool.proofs.OneOf.{OneText, ended-by, plain}
 use Rattle.card_tool.proofs.Exchanges.{migrated-once, replayed-once}
+use Rattle.card_tool.proofs.Simulations.{simulated-once}
 use Rattle.card_tool.specs.Answers.{Checks, IsAnswerTo, IsFilled, IsToldOf, IsFilledBy, Shows, Tells, accepted, refused, unknown, duplicate, full, listed, no_list}
 use Rattle.card_tool.specs.Texts.{accepted_text, duplicate_text, refused_text}
 use Rattle.card_words.specs.Texts.{fault_text}
@@ -49,7 +50,7 @@ use Rattle.card_words.specs.declared.request.Kind.{Kind}
 use Rattle.card_words.specs.declared.request.Kind.TheVariants.{Atr, Block, Chain, Command, Response, Tlv, Dol}
 use Rattle.card_words.specs.declared.request.Input.{Input}
 use Rattle.card_words.specs.declared.request.Request.{Request}
-use Rattle.card_words.specs.declared.request.Request.TheVariants.{BuildChain, BuildTidy, BuildFill, Check, Show, Replay, Migrate, Help}
+use Rattle.card_words.specs.declared.request.Request.TheVariants.{BuildChain, BuildTidy, BuildFill, Check, Show, Replay, Migrate, Simulate, Help}
 use Rattle.card_tool.specs.declared.status.Status.{Status}
 use Rattle.card_tool.specs.declared.status.Status.TheVariants as status
 
@@ -160,4 +161,5 @@ one-answer (BuildTidy b) file sized octets = told-once whole (IsForest largest) 
 one-answer (BuildFill list known) file sized octets = filled-once list known octets
 one-answer (Replay side) file sized octets = told-of (Replays side) (replayed-once side) file
 one-answer Migrate file sized octets = told-of Migrates migrated-once file
+one-answer (Simulate session) file sized octets = simulated-once session octets.0
 one-answer (Help help) file sized octets = plain help

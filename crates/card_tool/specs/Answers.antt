@@ -36,6 +36,7 @@ use Rattle.tlv_core.specs.declared.reason.DolReason.{DolReason}
 use Rattle.card_tool.specs.ListTexts as list_texts
 use Rattle.card_tool.specs.ListTexts.{dol_text, filled_text}
 use Rattle.card_tool.specs.ExchangeTexts.{Migrates, Replays}
+use Rattle.card_tool.specs.SimulationTexts.{Simulates}
 use Rattle.card_tool.specs.Files.{ReadsWhole}
 use Rattle.card_words.specs.Words.{AskForFile, IsRead, NeedsFile}
 use Rattle.card_tool.specs.declared.status.Status.{Status}
@@ -47,7 +48,7 @@ use Rattle.card_words.specs.declared.request.Kind.{Kind}
 use Rattle.card_words.specs.declared.request.Kind.TheVariants.{Atr, Block, Chain, Command, Response, Tlv, Dol}
 use Rattle.card_words.specs.declared.request.Input.{Input}
 use Rattle.card_words.specs.declared.request.Request.{Request}
-use Rattle.card_words.specs.declared.request.Request.TheVariants.{BuildChain, BuildTidy, BuildFill, Check, Show, Replay, Migrate, Help}
+use Rattle.card_words.specs.declared.request.Request.TheVariants.{BuildChain, BuildTidy, BuildFill, Check, Show, Replay, Migrate, Simulate, Help}
 
 -- the text and the status that the verdict on octets has, where a value is told so
 pub data Tells {V R : Type 0} (e : Ending) (S : V → List ℕ → Type 0) (Reason : R → List ℕ → Type 0) (name : R → List ℕ) (told : V → ℕ → List ℕ) (b text : List ℕ) (ended : Status) : Type 0 where
@@ -98,6 +99,7 @@ IsAnswerTo (BuildTidy octets) file text ended = Tells whole (IsForest largest) (
 IsAnswerTo (BuildFill list known) file text ended = IsFilled list known text ended
 IsAnswerTo (Replay side) file text ended = IsToldOf (Replays side) file text ended
 IsAnswerTo Migrate file text ended = IsToldOf Migrates file text ended
+IsAnswerTo (Simulate session) file text ended = Simulates session text ended
 IsAnswerTo (Help help) file text ended = (text ≡ help) × (ended ≡ status.Accepted)
 
 -- the text and the status that the words have: those of the request, or the fault's

@@ -1,6 +1,7 @@
 pub mod Statuses
 pub mod Files
 pub mod ExchangeTexts
+pub mod SimulationTexts
 pub mod Texts
 pub mod AtrTexts
 pub mod ChainTexts

@@ -24,6 +24,10 @@ abbrev pub octets_text : List ℕ → List ℕ
 octets_text [] = codes "none"
 octets_text (x ∷ xs) = encode_upper (x ∷ xs)
 
+-- the whole is refused, by this name
+abbrev pub refused_as_text : List ℕ → List ℕ
+refused_as_text name = codes "refused: " ++ (name ++ codes "\n")
+
 -- two known values have one tag
 abbrev pub duplicate_text : List ℕ
 duplicate_text = codes "refused: Duplicate\n"

@@ -2,7 +2,7 @@
 
 ghost use Rattle.std.specs.Prelude.{◌≡◌, ◌++◌, IfOk, string_bytes, codes, decimal};
 ghost use Rattle.card_words.specs.Texts.{fault_text};
-ghost use Rattle.card_tool.specs.Texts.{accepted_text, duplicate_text, refused_at_text, refused_text, short_text};
+ghost use Rattle.card_tool.specs.Texts.{accepted_text, duplicate_text, refused_as_text, refused_at_text, refused_text, short_text};
 ghost use Rattle.card_tool.specs.declared.status.Status.TheVariants as ended;
 
 use crate::reason::Named;
@@ -67,6 +67,15 @@ impl Answer {
             Stop::Short { place } => Answer::short(alloc, place),
             Stop::At { place, reason } => Answer::refused_at(alloc, place, reason.name()),
         }
+    }
+
+    /// The whole is refused, by this name.
+    pub(crate) fn refused_as(alloc: Global, name: &str) -> Result<Answer, AllocError>
+        ensures text { IfOk result (λ answer. answer.text ≡ refused_as_text name.now) }
+        ensures status { IfOk result (λ answer. answer.status ≡ ended.Refused) }
+    {
+        let text = format!(in alloc; "refused: {name}\n")?;
+        Ok(Answer::of(text, Status::Refused))
     }
 
     /// Two known values have one tag.

@@ -55,7 +55,7 @@ fn agreement(alloc: Global, exchange: &Exchange, side: Side) -> Result<Answer, A
 }
 
 /// The text of an exchange.
-fn written(alloc: Global, exchange: &Exchange) -> Result<Answer, AllocError>
+pub(crate) fn written(alloc: Global, exchange: &Exchange) -> Result<Answer, AllocError>
     ensures text { IfOk result (λ answer. answer.text ≡ exchange_text exchange.now) }
     ensures status { IfOk result (λ answer. answer.status ≡ ended.Accepted) }
 {

@@ -2,9 +2,10 @@
 //! the words from the system.
 //!
 //! card_words reads what a command line asks for into a `Request`. `answer` makes the text and the status
-//! that a request has, by a module for each kind of octets and one for files of recorded exchanges, which
-//! `read_whole` reads, and `run` writes that text. What the text is, is said by definitions: `IsAnswer` in
-//! `specs/Answers.antt`, over card_words' `IsRead`. What exchange_core gives stands at the root too.
+//! that a request has, by a module for each kind of octets, one for files of recorded exchanges, which
+//! `read_whole` reads, and one for simulated sessions, and `run` writes that text. What the text is, is said by
+//! definitions: `IsAnswer` in `specs/Answers.antt`, over card_words' `IsRead`. What exchange_core gives stands
+//! at the root too.
 #![tactic(auto)]
 
 pub mod answer;
@@ -21,6 +22,7 @@ pub mod list;
 pub mod program;
 mod reason;
 pub mod response;
+mod simulation;
 pub mod status;
 #[cfg(test)]
 mod tests;

@@ -10,7 +10,7 @@ ghost use Rattle.card_tool.specs.declared.status.Status.TheVariants as ended;
 use crate::answer::Answer;
 use crate::file::read_whole;
 use crate::status::Status;
-use crate::{atr, block, chain, command, exchange, forest, list, response};
+use crate::{atr, block, chain, command, exchange, forest, list, response, simulation};
 use card_words::{Fault, Input, Kind, Request};
 use octet_core::{Sink, Source, write_octets};
 use std::alloc::{AllocError, Global};
@@ -90,6 +90,7 @@ fn answer_to<R: Source>(alloc: Global, request: Request, reader: &mut R) -> Resu
             let file = read_whole(alloc, reader)?;
             Ok(exchange::migrated(alloc, file)?)
         }
+        Request::Simulate(session) => Ok(simulation::simulated(alloc, &session)?),
         Request::Help(text) => Ok(Answer::told(text.into_inner())),
     }
 }

@@ -7,6 +7,7 @@ mod chains;
 mod files;
 mod objects;
 mod sessions;
+mod simulations;
 
 use crate::{Status, run};
 use octet_core::{After, Counted, Feeder, Taker};
@@ -341,13 +342,14 @@ fn words_of_no_form(rt: HostRuntime) -> Result<(), Fail> {
 
 #[test]
 fn answers_a_call_for_help(rt: HostRuntime) -> Result<(), Fail> {
-    let lines: [&[&str]; 6] = [
+    let lines: [&[&str]; 7] = [
         &["--help"],
         &["-h"],
         &["help"],
         &["check", "--help"],
         &["replay", "-h"],
         &["migrate", "--help"],
+        &["simulate", "--help"],
     ];
     for line in lines {
         let (writer, status) = told(rt.alloc(), line, 4096, After::End)?;

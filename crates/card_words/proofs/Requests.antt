@@ -1,21 +1,23 @@
 -- That the requests which words make have octets and sizes.
-use Rattle.std.proofs.Common.{◌≡◌, ◌≤◌, ◌⊎◌, ◌∙◌, inl, inr, ℕ, List, [], ◌∷◌, codes, Bool, true, false, Option, Some, None, Result, Ok, Err, IfOk, arith, refl, ap, sym, subst, length, if◌then◌else◌, nat_le, ◌&&◌}
+use Rattle.std.proofs.Common.{◌≡◌, ◌≤◌, ◌⊎◌, inl, inr, ℕ, List, [], ◌∷◌, codes, Bool, true, false, Option, Some, None, Result, Ok, Err, IfOk, arith, refl, ap, sym, subst, length, if◌then◌else◌, nat_le, ◌&&◌}
 use Rattle.std.specs.Result.{result_unwrap_or}
 use Rattle.std.proofs.lemmas.Bool.Decides.{nat_tests}
 use Rattle.std.specs.Str.{bytes_eq}
 use Rattle.hex.specs.Hex.{decode_of}
 use Rattle.hex.specs.declared.error.FromHexError.{FromHexError}
 use Rattle.hex.proofs.HexLemmas.{decode_of-ok}
-use Rattle.clap.specs.Words.{Row, all_of, fault_of, first_of, subcommand_of}
+use Rattle.clap.specs.Words.{Row, all_of, first_of, subcommand_of}
 use Rattle.octet_core.specs.Octets.{AreOctets}
-use Rattle.card_words.specs.Known.{knowns_of}
-use Rattle.card_words.specs.Value.{◌>>=◌, hex_octets, octets_of_word, UnlessMemory}
-use Rattle.card_words.specs.Words.{byte_or, size_of, number_of, number_of_word, needed, kind_of, input_of, short_message, chain_by, chain_of, tidy_of, fill_of, all_needed, build_by, build_of, end_of_word, replay_of, request_by, request_of, scard, HasOctets, IsRead, IsSized, taken, called_for_help, not_taken}
+use Rattle.card_words.specs.Session.{blocks_of, pair_of, pairs_of, AreOctetPairs, IsSize}
+use Rattle.card_words.specs.Value.{◌>>=◌, hex_octets, octets_of_word, parted, UnlessMemory}
+use Rattle.card_words.specs.Words.{byte_or, size_of, number_of, number_of_word, needed, kind_of, input_of, short_message, chain_by, chain_of, tidy_of, fill_of, all_needed, build_of, end_of_word, replay_of, all_or_none, asked_size, session_of, request_by, request_of, scard, HasOctets, IsRead, IsSized, taken, called_for_help, not_taken}
 use Rattle.card_words.specs.declared.fault.Fault.{Fault}
 use Rattle.card_words.specs.declared.fault.Fault.TheVariants.{Words}
+use Rattle.card_words.specs.declared.session.Pair.{Pair}
+use Rattle.card_words.specs.declared.session.Session.{Session}
 use Rattle.card_words.specs.declared.request.Input.{Input}
 use Rattle.card_words.specs.declared.request.Request.{Request}
-use Rattle.card_words.specs.declared.request.Request.TheVariants.{BuildChain, BuildTidy, BuildFill, Check, Show, Replay, Migrate, Help}
+use Rattle.card_words.specs.declared.request.Request.TheVariants.{Migrate, Help}
 
 both-steps : {A B : Type 0} (r : Result A Fault) (f : A → Result B Fault) (b : B) → r >>= f ≡ Ok b → (a : A) × (r ≡ Ok a) × (f a ≡ Ok b)
 both-steps (Ok a) f b h = (a, refl, h)
@@ -126,6 +128,38 @@ replay-proper rows request h =
     let side = both-steps (end_of_word word.0) _ request word.2 in
     subst IsProper (same _ request side.2) (tt, tt)
 
+asked : (word : Option (List ℕ)) (size : Option ℕ) → asked_size word ≡ Ok size → IsSize size
+asked None size h = subst IsSize (same None size h) tt
+asked (Some word) size h =
+    let one = both-steps (size_of (Some word)) _ size h in
+    subst IsSize (same _ size one.2) (sized (Some word) one.0 one.1)
+
+pair-octets : (word : List ℕ) (pair : Pair) → pair_of word ≡ Ok pair → AreOctets pair.command × AreOctets pair.reply
+pair-octets word pair h =
+    let both = both-steps (parted word) _ pair h in
+    let command = both-steps (octets_of_word both.0.0) _ pair both.2 in
+    let reply = both-steps (octets_of_word both.0.1) _ pair command.2 in
+    subst (λ (p : Pair). AreOctets p.command × AreOctets p.reply) (same _ pair reply.2) (word-octets both.0.0 command.0 command.1, word-octets both.0.1 reply.0 reply.1)
+
+pairs-octets : (words : List (List ℕ)) (pairs : List Pair) → pairs_of words ≡ Ok pairs → AreOctetPairs pairs
+pairs-octets [] pairs h = subst AreOctetPairs (same [] pairs h) tt
+pairs-octets (word ∷ words) pairs h =
+    let pair = both-steps (pair_of word) _ pairs h in
+    let more = both-steps (pairs_of words) _ pairs pair.2 in
+    let one = pair-octets word pair.0 pair.1 in
+    subst AreOctetPairs (same _ pairs more.2) (one.0, one.1, pairs-octets words more.0 more.1)
+
+session-proper : (rows : List Row) (session : Session) → session_of rows ≡ Ok session → IsSize session.ifsd × AreOctets session.atr × AreOctetPairs session.pairs
+session-proper rows session h =
+    let ifsd = both-steps (asked_size (first_of (codes "ifsd") rows)) _ session h in
+    let lost = both-steps (blocks_of (first_of (codes "lose") rows)) _ session ifsd.2 in
+    let damaged = both-steps (blocks_of (first_of (codes "damage") rows)) _ session lost.2 in
+    let spoilt = both-steps (blocks_of (first_of (codes "spoil") rows)) _ session damaged.2 in
+    let atr_word = both-steps (needed (first_of (codes "atr") rows)) _ session spoilt.2 in
+    let atr = both-steps (octets_of_word atr_word.0) _ session atr_word.2 in
+    let pairs = both-steps (pairs_of (all_or_none (all_of (codes "pairs") rows))) _ session atr.2 in
+    subst (λ (s : Session). IsSize s.ifsd × AreOctets s.atr × AreOctetPairs s.pairs) (same _ session pairs.2) (asked (first_of (codes "ifsd") rows) ifsd.0 ifsd.1, word-octets atr_word.0 atr.0 atr.1, pairs-octets (all_or_none (all_of (codes "pairs") rows)) pairs.0 pairs.1)
+
 named-proper : (name : List ℕ) (rows : List Row) (request : Request) → request_by name rows ≡ Ok request → IsProper request
 named-proper name rows request h =
     elim (one-of (bytes_eq name (codes "check")) _ _ request h) [
@@ -146,9 +180,16 @@ named-proper name rows request h =
                       elim (one-of (bytes_eq name (codes "replay")) (replay_of rows) _ request files) [
                         | inl replay ↦ replay-proper rows request replay
                         | inr last ↦
-                            elim (one-of (bytes_eq name (codes "migrate")) (Ok Migrate) (Err Words) request last) [
+                            elim (one-of (bytes_eq name (codes "migrate")) (Ok Migrate) _ request last) [
                               | inl migrate ↦ subst IsProper (same Migrate request migrate) (tt, tt)
-                              | inr none ↦ cc none
+                              | inr both ↦
+                                  elim (one-of (bytes_eq name (codes "simulate")) _ (Err Words) request both) [
+                                    | inl simulate ↦
+                                        let session = both-steps (session_of rows) _ request simulate in
+                                        let proper = session-proper rows session.0 session.1 in
+                                        subst IsProper (same _ request session.2) (proper.0, (proper.1, proper.2))
+                                    | inr none ↦ cc none
+                                  ]
                             ]
                       ]
                 ]

@@ -1,21 +1,13 @@
 -- Known values as words, each F:TAG:VALUE.
-use Rattle.std.specs.Prelude.{◌&&◌, ◌==◌, not, ℕ, nat_lt, ◌%◌, List, [], ◌∷◌, length, codes, Bool, false, Result, Ok, Err, if◌then◌else◌}
+use Rattle.std.specs.Prelude.{◌&&◌, ◌==◌, not, ℕ, nat_lt, ◌%◌, List, [], ◌∷◌, codes, Bool, false, Result, Ok, Err, if◌then◌else◌}
 use Rattle.std.specs.Str.{bytes_eq}
-use Rattle.std.specs.List.{position_or_len, before_first, after_first}
 use Rattle.hex.specs.Hex.{decode_of}
 use Rattle.octet_core.specs.declared.format.Format.{Format}
 use Rattle.octet_core.specs.declared.format.Format.TheVariants.{Numeric, CompressedNumeric, Other}
 use Rattle.tlv_core.specs.declared.known.Known.{Known}
-use Rattle.card_words.specs.Value.{◌>>=◌, hex_octets, octets_of_word}
+use Rattle.card_words.specs.Value.{◌>>=◌, each, hex_octets, octets_of_word, parted}
 use Rattle.card_words.specs.declared.fault.Fault.{Fault}
 use Rattle.card_words.specs.declared.fault.Fault.TheVariants.{Words}
-
-abbrev pub is_colon : ℕ → Bool
-is_colon x = x == 58
-
--- what stands before the first colon of a word and what behind it
-abbrev pub parted : List ℕ → Result (List ℕ × List ℕ) Fault
-parted word = if position_or_len is_colon word == length word then Err Words else Ok (before_first is_colon word, after_first is_colon word)
 
 -- numeric, compressed numeric or another format
 abbrev pub format_of : List ℕ → Result Format Fault
@@ -55,8 +47,4 @@ known_of word = do
   known_by first.0 second.0 second.1
 
 abbrev pub knowns_of : List (List ℕ) → Result (List Known) Fault
-knowns_of [] = Ok []
-knowns_of (word ∷ words) = do
-  known ← known_of word
-  more ← knowns_of words
-  Ok (known ∷ more)
+knowns_of = each known_of

@@ -1,10 +1,11 @@
 -- Octets as a word, and what reading one word after another comes to.
-use Rattle.std.specs.Prelude.{◌≡◌, ◌⊎◌, List, ℕ, [], codes, Result, Ok, Err, if◌then◌else◌}
+use Rattle.std.specs.Prelude.{◌≡◌, ◌⊎◌, ◌==◌, List, ℕ, [], ◌∷◌, length, codes, Bool, Result, Ok, Err, if◌then◌else◌}
 use Rattle.std.specs.Str.{bytes_eq}
+use Rattle.std.specs.List.{position_or_len, before_first, after_first}
 use Rattle.hex.specs.Hex.{decode_of}
 use Rattle.hex.specs.declared.error.FromHexError.{FromHexError}
 use Rattle.card_words.specs.declared.fault.Fault.{Fault}
-use Rattle.card_words.specs.declared.fault.Fault.TheVariants.{Hex, Memory}
+use Rattle.card_words.specs.declared.fault.Fault.TheVariants.{Words, Hex, Memory}
 
 -- the first fault counts
 infixl 10 ◌>>=◌
@@ -20,6 +21,21 @@ hex_octets (Err e) = Err Hex
 abbrev pub octets_of_word : List ℕ → Result (List ℕ) Fault
 octets_of_word word = if bytes_eq word (codes "none") then Ok [] else hex_octets (decode_of word)
 
--- the same where memory may be wanting
+-- the same, or out of memory
 abbrev pub UnlessMemory : {X : Type 0} → Result X Fault → Result X Fault → Type 0
 UnlessMemory result expected = (result ≡ Err Memory) ⊎ (result ≡ expected)
+
+abbrev pub is_colon : ℕ → Bool
+is_colon x = x == 58
+
+-- what is before the first colon of a word, and what is after it
+abbrev pub parted : List ℕ → Result (List ℕ × List ℕ) Fault
+parted word = if position_or_len is_colon word == length word then Err Words else Ok (before_first is_colon word, after_first is_colon word)
+
+-- words that say a value each, from left to right
+abbrev pub each : {A : Type 0} → (List ℕ → Result A Fault) → List (List ℕ) → Result (List A) Fault
+each said [] = Ok []
+each said (word ∷ words) = do
+  value ← said word
+  more ← each said words
+  Ok (value ∷ more)

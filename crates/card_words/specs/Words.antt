@@ -11,6 +11,7 @@ use Rattle.clap.specs.declared.error.kind.ErrorKind.{ErrorKind}
 use Rattle.clap.specs.declared.error.kind.ErrorKind.TheVariants.{DisplayHelp, OutOfMemory}
 use Rattle.octet_core.specs.Octets.{AreOctets}
 use Rattle.card_words.specs.Known.{knowns_of}
+use Rattle.card_words.specs.Session.{blocks_of, pairs_of, AreOctetPairs, IsSize}
 use Rattle.card_words.specs.Value.{◌>>=◌, octets_of_word}
 use Rattle.card_words.specs.declared.fault.Fault.{Fault}
 use Rattle.card_words.specs.declared.fault.Fault.TheVariants.{Words, Memory}
@@ -20,7 +21,8 @@ use Rattle.card_words.specs.declared.request.End.{End}
 use Rattle.card_words.specs.declared.request.End.TheVariants as end
 use Rattle.card_words.specs.declared.request.Input.{Input}
 use Rattle.card_words.specs.declared.request.Request.{Request}
-use Rattle.card_words.specs.declared.request.Request.TheVariants.{BuildChain, BuildTidy, BuildFill, Check, Show, Replay, Migrate, Help}
+use Rattle.card_words.specs.declared.session.Session.{Session}
+use Rattle.card_words.specs.declared.request.Request.TheVariants.{BuildChain, BuildTidy, BuildFill, Check, Show, Replay, Migrate, Simulate, Help}
 use Rattle.block_core.specs.declared.pcb.Number.{Number}
 use Rattle.block_core.specs.declared.pcb.Number.TheVariants.{Zero, One}
 use Rattle.clap.specs.declared.builder.action.ArgAction.TheVariants.{Append}
@@ -49,7 +51,7 @@ what_rule = record (new_rule (codes "what")) { required = true }
 abbrev pub words_rule : Rule
 words_rule = record (new_rule (codes "words")) { action = Some Append }
 
--- the subcommand that builds what a word says, of the words behind it
+-- the subcommand that builds what a word says, of the words after it
 abbrev pub build_app : App
 build_app = with_rule (with_rule (new_app (codes "build")) what_rule) words_rule
 
@@ -64,19 +66,39 @@ replay_app = with_rule (new_app (codes "replay")) end_rule
 abbrev pub migrate_app : App
 migrate_app = new_app (codes "migrate")
 
+abbrev pub atr_rule : Rule
+atr_rule = record (new_rule (codes "atr")) { required = true }
+
+abbrev pub pairs_rule : Rule
+pairs_rule = record (new_rule (codes "pairs")) { action = Some Append }
+
+abbrev pub ifsd_rule : Rule
+ifsd_rule = record (new_rule (codes "ifsd")) { long = Some (codes "ifsd"); parser = Some (parser.Signed (pos 1) (pos 254)) }
+
+-- an option that names blocks by their numbers
+abbrev pub blocks_rule : List ℕ → Rule
+blocks_rule name = record (new_rule name) { long = Some name }
+
+-- the subcommand that records a session of both ends, first with its words and the size that is asked for
+abbrev pub session_app : App
+session_app = with_rule (with_rule (with_rule (new_app (codes "simulate")) atr_rule) pairs_rule) ifsd_rule
+
+abbrev pub simulate_app : App
+simulate_app = with_rule (with_rule (with_rule session_app (blocks_rule (codes "lose"))) (blocks_rule (codes "damage"))) (blocks_rule (codes "spoil"))
+
 -- the program as a command, first with what it says of octets
 abbrev pub octets_app : App
 octets_app = with_subcommand (with_subcommand (with_subcommand (new_app (codes "scard")) (input_app (codes "check")).top) (input_app (codes "show")).top) build_app.top
 
 unfoldable pub scard : App
-scard = with_subcommand (with_subcommand octets_app replay_app.top) migrate_app.top
+scard = with_subcommand (with_subcommand (with_subcommand octets_app replay_app.top) migrate_app.top) simulate_app.top
 
 abbrev pub texts : List (String Global) → List (List ℕ)
 texts words = map string_bytes words
 
 -- ---- numbers
 
--- the number below 256 that the word gives in decimal digits, behind a plus or not, and else the one given
+-- the number below 256 that the word gives in decimal digits, after a plus or not, and else the one given
 abbrev pub byte_or : ℕ → List ℕ → ℕ
 byte_or otherwise word = if is_unsigned_in 0 255 word then digits_value 10 (without_leading_plus word) else otherwise
 
@@ -178,6 +200,27 @@ replay_of rows = do
   side ← end_of_word word
   Ok (Replay side)
 
+-- an information size that is asked for, where there is a word
+abbrev pub asked_size : Option (List ℕ) → Result (Option ℕ) Fault
+asked_size None = Ok None
+asked_size (Some word) = size_of (Some word) >>= (λ size. Ok (Some size))
+
+abbrev pub all_or_none : Option (List (List ℕ)) → List (List ℕ)
+all_or_none None = []
+all_or_none (Some words) = words
+
+-- the options first, then the words in their order
+abbrev pub session_of : List Row → Result Session Fault
+session_of rows = do
+  ifsd ← asked_size (first_of (codes "ifsd") rows)
+  lost ← blocks_of (first_of (codes "lose") rows)
+  damaged ← blocks_of (first_of (codes "damage") rows)
+  spoilt ← blocks_of (first_of (codes "spoil") rows)
+  atr_word ← needed (first_of (codes "atr") rows)
+  atr ← octets_of_word atr_word
+  pairs ← pairs_of (all_or_none (all_of (codes "pairs") rows))
+  Ok (record { atr = atr; ifsd = ifsd; pairs = pairs; lost = lost; damaged = damaged; spoilt = spoilt })
+
 abbrev pub request_by : List ℕ → List Row → Result Request Fault
 request_by name rows =
     if bytes_eq name (codes "check") then input_of rows >>= (λ input. Ok (Check input))
@@ -185,7 +228,8 @@ request_by name rows =
     else (if bytes_eq name (codes "build") then build_of rows
     else (if bytes_eq name (codes "replay") then replay_of rows
     else (if bytes_eq name (codes "migrate") then Ok Migrate
-    else Err Words))))
+    else (if bytes_eq name (codes "simulate") then session_of rows >>= (λ session. Ok (Simulate session))
+    else Err Words)))))
 
 abbrev pub request_of : Option (List ℕ × List Row) → Result Request Fault
 request_of None = Err Words
@@ -200,6 +244,7 @@ IsSized (BuildTidy octets) = Unit {0}
 IsSized (BuildFill list known) = Unit {0}
 IsSized (Replay side) = Unit {0}
 IsSized Migrate = Unit {0}
+IsSized (Simulate session) = IsSize session.ifsd
 IsSized (Help help) = Unit {0}
 
 -- what a request takes for octets are octets
@@ -211,6 +256,7 @@ HasOctets (BuildTidy octets) = AreOctets octets
 HasOctets (BuildFill list known) = AreOctets list
 HasOctets (Replay side) = Unit {0}
 HasOctets Migrate = Unit {0}
+HasOctets (Simulate session) = AreOctets session.atr × AreOctetPairs session.pairs
 HasOctets (Help help) = Unit {0}
 
 -- a request that a file of recorded exchanges answers

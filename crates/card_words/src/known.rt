@@ -1,13 +1,12 @@
 //! Known values as words.
 
 ghost use Rattle.std.specs.Prelude.{◌≡◌, ◌++◌, ◌∷◌, [], map, OnOk};
-ghost use Rattle.std.specs.Result.{result_map_both};
-ghost use Rattle.card_words.specs.Known.{format_of, known_by, known_of, knowns_of, parted, tag_of, tag_of_word};
+ghost use Rattle.card_words.specs.Known.{format_of, known_by, known_of, knowns_of, tag_of, tag_of_word};
 ghost use Rattle.card_words.specs.Value.{UnlessMemory};
 
 use crate::fault::Fault;
 use crate::request::Knowns;
-use crate::value::octets;
+use crate::value::{octets, parts};
 use octet_core::{Format, octets_of};
 use std::alloc::{AllocError, Global};
 use tlv_core::{Known, Tag};
@@ -47,13 +46,6 @@ fn known_by(alloc: Global, format_word: &str, tag_word: &str, value: &str) -> Re
     let tag = tag(alloc, tag_word)?;
     let value = octets(alloc, value)?;
     Ok(Known { tag, format, value })
-}
-
-/// What stands before the first colon, and what behind it.
-fn parts(word: &str) -> Result<(&str, &str), Fault>
-    ensures { result_map_both (λ p. (p.0.now, p.1.now)) (λ fault. fault) result ≡ parted word.now }
-{
-    word.split_once(':').ok_or(Fault::Words)
 }
 
 fn format(word: &str) -> Result<Format, Fault>

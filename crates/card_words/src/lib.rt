@@ -8,9 +8,11 @@
 pub mod fault;
 mod known;
 pub mod request;
+pub mod session;
 mod value;
 pub mod words;
 
 pub use fault::Fault;
 pub use request::{End, Input, Kind, Knowns, Request};
+pub use session::{BlockNumbers, Pair, Pairs, Session};
 pub use words::read;

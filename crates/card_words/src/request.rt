@@ -3,6 +3,7 @@
 ghost use Rattle.std.specs.Prelude.{◌≡◌};
 
 use crate::fault::Fault;
+use crate::session::Session;
 use block_core::Number;
 use octet_core::{Octets, Text};
 use std::marker::Model;
@@ -107,6 +108,8 @@ pub enum Request {
     Replay(End),
     /// The file of recorded exchanges in the newest version.
     Migrate,
+    /// The exchange that a recorder of both ends writes of this session.
+    Simulate(Session),
     /// This text, by which `clap` answers a call for help.
     Help(Text),
 }

@@ -5,12 +5,14 @@ ghost use Rattle.clap.specs.Words.{all_of, app_of, fault_of, first_of, found_of,
 ghost use Rattle.clap.specs.Kinds.{HasKind};
 ghost use Rattle.clap.specs.declared.builder.command.Command.TheViews.{out-Command};
 ghost use Rattle.clap.specs.Values.{kind_of as error_kind};
-ghost use Rattle.card_words.specs.Words.{build_app, build_of, chain_of, end_of_word, end_rule, hex_rule, ifs_rule, input_app, input_of, kind_of, kind_rule, number_of, number_of_word, number_rule, replay_app, replay_of, request_of, scard, size_of, texts, tidy_of, fill_of, what_rule, words_rule, HasOctets, IsHelpOrFault, IsRead, IsSized, migrate_app, octets_app};
+ghost use Rattle.card_words.specs.Words.{build_app, build_of, chain_of, end_of_word, end_rule, asked_size, atr_rule, blocks_rule, hex_rule, ifsd_rule, pairs_rule, session_app, session_of, simulate_app, ifs_rule, input_app, input_of, kind_of, kind_rule, number_of, number_of_word, number_rule, replay_app, replay_of, request_of, scard, size_of, texts, tidy_of, fill_of, what_rule, words_rule, HasOctets, IsHelpOrFault, IsRead, IsSized, migrate_app, octets_app};
+ghost use Rattle.card_words.specs.Session.{IsSize};
 ghost use Rattle.card_words.specs.Value.{UnlessMemory};
 
 use crate::fault::Fault;
 use crate::known::knowns;
 use crate::request::{End, Input, Kind, Request};
+use crate::session::{Session, read_blocks, read_pairs};
 use crate::value::octets;
 use block_core::Number;
 use clap::error::ErrorKind;
@@ -44,6 +46,7 @@ fn request(alloc: Global, matches: &ArgMatches) -> Result<Request, Fault>
         "build" => build(alloc, entered),
         "replay" => replay(entered),
         "migrate" => Ok(Request::Migrate),
+        "simulate" => Ok(Request::Simulate(session(alloc, entered)?)),
         _ => Err(Fault::Words),
     }
 }
@@ -73,7 +76,7 @@ fn input(alloc: Global, matches: &ArgMatches) -> Result<Input, Fault>
     })
 }
 
-/// What is to be built, of the words behind its name.
+/// What is to be built, of the words after its name.
 fn build(alloc: Global, matches: &ArgMatches) -> Result<Request, Fault>
     ensures read { UnlessMemory result (build_of (rows_of (found_of matches.now))) }
     ensures sized { IfOk result IsSized }
@@ -95,6 +98,27 @@ fn replay(matches: &ArgMatches) -> Result<Request, Fault>
 {
     let side = end(word(matches, "end").ok_or(Fault::Words)?)?;
     Ok(Request::Replay(side))
+}
+
+/// A session of both ends.
+fn session(alloc: Global, matches: &ArgMatches) -> Result<Session, Fault>
+    ensures read { UnlessMemory result (session_of (rows_of (found_of matches.now))) }
+    ensures sized { IfOk result (λ session. IsSize session.ifsd) }
+{
+    let ifsd = asked_size(word(matches, "ifsd"))?;
+    let lost = read_blocks(alloc, word(matches, "lose"))?;
+    let damaged = read_blocks(alloc, word(matches, "damage"))?;
+    let spoilt = read_blocks(alloc, word(matches, "spoil"))?;
+    let atr = octets(alloc, word(matches, "atr").ok_or(Fault::Words)?)?;
+    let pairs = read_pairs(alloc, all_words(matches, "pairs").unwrap_or(&[]))?;
+    Ok(Session {
+        atr,
+        ifsd,
+        pairs,
+        lost,
+        damaged,
+        spoilt,
+    })
 }
 
 /// A forest to be tidied.
@@ -200,6 +224,17 @@ fn size(word: Option<&str>) -> Result<u8, Fault>
     }
 }
 
+/// The information size that is asked for, where there is a word.
+fn asked_size(word: Option<&str>) -> Result<Option<u8>, Fault>
+    ensures read { result ≡ asked_size (option_map (λ word. word.now) word.entry) }
+    ensures sized { IfOk result IsSize }
+{
+    match word {
+        Some(word) => Ok(Some(size(Some(word))?)),
+        None => Ok(None),
+    }
+}
+
 /// The number of a block, zero where there is no word. `clap` has refused another one.
 fn number_or_zero(word: Option<&str>) -> Result<Number, Fault>
     ensures { result ≡ number_of (option_map (λ word. word.now) word.entry) }
@@ -249,9 +284,11 @@ fn program<'a>(alloc: Global) -> Result<Command<'a>, AllocError>
     ensures { IfOk result (λ command. app_of command ≡ scard) }
 {
     let replay = replay_command(alloc)?;
+    let simulate = simulate_command(alloc)?;
     octets_command(alloc)?
         .subcommand(replay)?
-        .subcommand(migrate_command(alloc))
+        .subcommand(migrate_command(alloc))?
+        .subcommand(simulate)
 }
 
 /// The program's command with the subcommands on octets.
@@ -318,6 +355,73 @@ fn migrate_command<'a>(alloc: Global) -> Command<'a>
     Command::new(alloc, "migrate").about(
         "Write the recorded exchanges on standard input in the newest version",
     )
+}
+
+/// The subcommand that records a session of both ends.
+fn simulate_command<'a>(alloc: Global) -> Result<Command<'a>, AllocError>
+    ensures app { IfOk result (λ command. app_of command ≡ simulate_app) }
+    ensures local { IfOk result (λ command. (out-Command command).has_globals ≡ false) }
+{
+    session_command(alloc)?
+        .arg(blocks_arg(alloc, "lose", "The numbers of blocks that are lost, as 2,5"))?
+        .arg(blocks_arg(
+            alloc,
+            "damage",
+            "The numbers of blocks that arrive with their last octet changed",
+        ))?
+        .arg(blocks_arg(
+            alloc,
+            "spoil",
+            "The numbers of blocks that arrive with another node address",
+        ))
+}
+
+/// The same without the options that name blocks.
+fn session_command<'a>(alloc: Global) -> Result<Command<'a>, AllocError>
+    ensures app { IfOk result (λ command. app_of command ≡ session_app) }
+    ensures local { IfOk result (λ command. (out-Command command).has_globals ≡ false) }
+{
+    Command::new(alloc, "simulate")
+        .about("Record a session of a terminal and a card, each of whose blocks may be disturbed")
+        .arg(atr_arg(alloc))?
+        .arg(pairs_arg(alloc))?
+        .arg(ifsd_arg(alloc))
+}
+
+fn atr_arg<'a>(alloc: Global) -> Arg<'a>
+    ensures rule { rule_of result ≡ atr_rule }
+    ensures local { result.global ≡ false }
+{
+    Arg::new(alloc, "atr")
+        .required(true)
+        .help("The card's answer to reset in hexadecimal")
+}
+
+fn pairs_arg<'a>(alloc: Global) -> Arg<'a>
+    ensures rule { rule_of result ≡ pairs_rule }
+    ensures local { result.global ≡ false }
+{
+    Arg::new(alloc, "pairs")
+        .action(ArgAction::Append)
+        .help("Commands and the replies to them, each COMMAND:REPLY")
+}
+
+fn ifsd_arg<'a>(alloc: Global) -> Arg<'a>
+    ensures rule { rule_of result ≡ ifsd_rule }
+    ensures local { result.global ≡ false }
+{
+    Arg::new(alloc, "ifsd")
+        .long("ifsd")
+        .value_parser(value_parser!(u8).range(1..=254))
+        .help("The information size that the terminal asks for first, 1 to 254")
+}
+
+/// An option that names blocks by their numbers.
+fn blocks_arg<'a>(alloc: Global, name: &'a str, help: &'a str) -> Arg<'a>
+    ensures rule { rule_of result ≡ blocks_rule name.now }
+    ensures local { result.global ≡ false }
+{
+    Arg::new(alloc, name).long(name).help(help)
 }
 
 fn end_arg<'a>(alloc: Global) -> Arg<'a>

@@ -35,7 +35,7 @@ longer-found atr v n one accepted left =
 
 -- ---- one thing is found
 
-one-found : OneAccepted → (atr : List ℕ) (x y : Result ℕ (List ℕ)) → IsFound atr x → IsFound atr y → x ≡ y
+pub one-found : OneAccepted → (atr : List ℕ) (x y : Result ℕ (List ℕ)) → IsFound atr x → IsFound atr y → x ≡ y
 one-found one atr x y (inl (a, is, e)) (inl (b, also, f)) =
     let whole = accepted-whole atr in
     let same : a ≡ b = (one atr a b (length atr) (length atr) (whole a is) (whole b also)).0 in
@@ -60,7 +60,7 @@ accepted-found one atr v n accepted (inr (inl shorter)) =
 accepted-found one atr v n accepted (inr (inr longer)) =
     (Err (codes "BadAtr"), longer-found atr v n one accepted (omega arith))
 
-verdict-found : OneAccepted → (atr : List ℕ)
+pub verdict-found : OneAccepted → (atr : List ℕ)
     → ((v : AtrParts) × (n : ℕ) × Accepts self_ended IsAtr atr v n)
     ⊎ ((stop : Stop AtrReason) × Refuses self_ended IsAtr IsReason atr stop)
     → (found : Result ℕ (List ℕ)) × IsFound atr found

@@ -1,0 +1,55 @@
+-- A simulated session as words: an answer to reset, pairs COMMAND:REPLY, and lists of blocks.
+use Rattle.std.specs.Prelude.{◌≤◌, ◌==◌, ℕ, nat_lt, List, [], ◌∷◌, Option, Some, None, Result, Ok, Err, if◌then◌else◌}
+use Rattle.std.specs.List.{slice_split}
+use Rattle.octet_core.specs.Decimal.{decimal_number}
+use Rattle.octet_core.specs.Octets.{AreOctets}
+use Rattle.card_words.specs.Value.{◌>>=◌, each, octets_of_word, parted}
+use Rattle.card_words.specs.declared.fault.Fault.{Fault}
+use Rattle.card_words.specs.declared.fault.Fault.TheVariants.{Words}
+use Rattle.card_words.specs.declared.session.Pair.{Pair}
+
+-- ---- command and reply
+
+abbrev pub pair_by : List ℕ → List ℕ → Result Pair Fault
+pair_by command_word reply_word = do
+  command ← octets_of_word command_word
+  reply ← octets_of_word reply_word
+  Ok (record { command = command; reply = reply })
+
+-- COMMAND:REPLY, parted at its first colon before anything else is looked at
+abbrev pub pair_of : List ℕ → Result Pair Fault
+pair_of word = do
+  both ← parted word
+  pair_by both.0 both.1
+
+abbrev pub pairs_of : List (List ℕ) → Result (List Pair) Fault
+pairs_of = each pair_of
+
+-- ---- blocks by their numbers
+
+-- a number from 1, in decimal digits without a leading 0, below 10 to the power of 15
+abbrev pub counted : Option ℕ → Result ℕ Fault
+counted None = Err Words
+counted (Some n) = if nat_lt 0 n then Ok n else Err Words
+
+abbrev pub block_number : List ℕ → Result ℕ Fault
+block_number word = counted (decimal_number word)
+
+-- one number or more, parted by commas
+abbrev pub block_numbers : List ℕ → Result (List ℕ) Fault
+block_numbers word = each block_number (slice_split (λ x. x == 44) word)
+
+-- no blocks where there is no word
+abbrev pub blocks_of : Option (List ℕ) → Result (List ℕ) Fault
+blocks_of None = Ok []
+blocks_of (Some word) = block_numbers word
+
+-- ---- what holds of a session that words make
+
+abbrev pub IsSize : Option ℕ → Type 0
+IsSize None = Unit {0}
+IsSize (Some size) = (1 ≤ size) × (size ≤ 254)
+
+abbrev pub AreOctetPairs : List Pair → Type 0
+AreOctetPairs [] = Unit {0}
+AreOctetPairs (pair ∷ pairs) = AreOctets pair.command × AreOctets pair.reply × AreOctetPairs pairs

@@ -1,0 +1,41 @@
+//! Why there is no exchange of a session.
+
+use exchange_core::RecorderFault;
+use std::alloc::AllocError;
+
+/// Why there is no exchange of a session.
+#[derive(Clone, Copy, Debug, PartialEq, Eq)]
+pub enum SimulationFault {
+    /// The answer to reset can't be used, by the name that replay gives: `BadAtr`, `NoT1`, `ReservedIfsc` or
+    /// `Crc`.
+    Refused(&'static str),
+    /// The session went on after so many events that its text has too many octets.
+    TooLarge,
+    /// Out of memory.
+    Memory,
+}
+
+impl From<AllocError> for SimulationFault {
+    ghost use Rattle.std.specs.Prelude.{◌≡◌};
+    ghost use Rattle.simulator.specs.declared.fault.SimulationFault.{SimulationFault};
+
+    ghost from_gives = { λ _ fault. fault ≡ SimulationFault.Memory };
+
+    fn from(_error: AllocError) -> SimulationFault {
+        SimulationFault::Memory
+    }
+}
+
+impl From<RecorderFault> for SimulationFault {
+    ghost use Rattle.std.specs.Prelude.{◌≡◌};
+    ghost use Rattle.simulator.specs.Faults.{simulation_fault};
+
+    ghost from_gives = { λ why fault. fault ≡ simulation_fault why };
+
+    fn from(fault: RecorderFault) -> SimulationFault {
+        match fault {
+            RecorderFault::Refused(name) => SimulationFault::Refused(name),
+            RecorderFault::Memory => SimulationFault::Memory,
+        }
+    }
+}

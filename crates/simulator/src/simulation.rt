@@ -1,0 +1,150 @@
+//! The exchange of a session.
+
+ghost use Rattle.std.specs.Prelude.{◌≡◌, ◌≢◌, ◌<◌, ◌+◌, ◌^◌, Some, None, IfOk, IfErr, OnOk};
+ghost use Rattle.std.specs.Option.{option_map};
+ghost use Rattle.exchange_core.specs.Recording.{event_of};
+ghost use Rattle.exchange_core.specs.Replay.{Replays};
+ghost use Rattle.exchange_core.specs.declared.event.EventFault.{EventFault};
+ghost use Rattle.exchange_core.specs.declared.replaying.Side.TheVariants as side;
+ghost use Rattle.card_words.specs.declared.session.Session.{Session};
+ghost use Rattle.simulator.specs.declared.fault.SimulationFault.{SimulationFault};
+ghost use Rattle.simulator.specs.Simulation.{begins, next, sends, simulated, start, AreFates, IfTooLarge, IsSimulated};
+
+use crate::fates::Fates;
+use crate::fault::SimulationFault;
+use card_words::{Pair, Session};
+use exchange_core::{Event, EventFault, Exchange, LastTurn, Recorder};
+use std::alloc::Global;
+use std::marker::Model;
+use t1_core::{CardTurn, TerminalTurn};
+
+/// The exchange of a session, in version 1.
+///
+/// The terminal asks for the session's size first, where it has one, and then sends one command after
+/// another, also where it gave one up. The card's host gives each command the reply of its pair. A block
+/// that a list names by its number, from 1, is lost, damaged or spoilt; where several lists name it, the
+/// first of these counts. The session ends where no command is left, where the terminal found the card dead,
+/// and before an event that an end refuses, as a command that is too long.
+///
+/// `Refused` where the answer to reset can't be used, `Memory` where memory runs out. `TooLarge` where
+/// `largest` events happened and the session hasn't ended: its text has more octets than that. The exchange
+/// replays at both ends.
+pub fn simulate(
+    alloc: Global,
+    session: &Session,
+    largest: usize,
+) -> Result<Exchange, SimulationFault>
+    ensures simulated { IsSimulated largest session.now result }
+    ensures terminal { IfOk result (λ e. Replays e.atr e.lines side.Terminal None) }
+    ensures card { IfOk result (λ e. Replays e.atr e.lines side.Card None) }
+{
+    let mut recorder = Recorder::new(alloc, session.atr.get())?;
+    let fates = Fates::of(alloc, session)?;
+    run(&mut recorder, session, &fates, largest)?;
+    Ok(recorder.exchange()?)
+}
+
+/// How far a session has come.
+#[derive(Drop)]
+struct Place<'a> {
+    /// The pairs that weren't begun yet.
+    left: &'a [Pair],
+    /// The reply of the pair that was begun last.
+    reply: &'a [u8],
+    /// How many blocks were sent.
+    sent: usize,
+}
+
+impl<'a> Model for Place<'a> {
+    ghost use Rattle.simulator.specs.Simulation.{Place};
+
+    ghost Value = { Place };
+
+    ghost view = { λ p. record { left = p.left.now; reply = p.reply.now; sent = p.sent } };
+}
+
+/// The session runs from its start to its end.
+fn run(
+    recorder: &mut Recorder,
+    session: &Session,
+    fates: &Fates,
+    most: usize,
+) -> Result<(), SimulationFault>
+    requires { AreFates fates.now session.now }
+    ensures ended { OnOk result
+        (simulated most session.now (start session.now) recorder.old ≡ Some recorder.new) }
+    ensures fault { IfErr result (λ fault. IfTooLarge fault
+        (simulated most session.now (start session.now) recorder.old ≡ None)) }
+{
+    let mut at = Place {
+        left: session.pairs.get(),
+        reply: &[],
+        sent: 0,
+    };
+    'events: for done in 0..most {
+        let Some(event) = next(session, fates, recorder.last(), &mut at) else {
+            return Ok(());
+        };
+        match recorder.happens(event) {
+            Ok(()) => {}
+            Err(fault) => return refused(fault),
+        }
+    }
+    Err(SimulationFault::TooLarge)
+}
+
+/// An event is refused: the session ends, unless memory ran out.
+fn refused(fault: EventFault) -> Result<(), SimulationFault>
+    ensures other { OnOk result (fault ≢ EventFault.Memory) }
+    ensures memory { IfErr result (λ why. why ≡ SimulationFault.Memory) }
+{
+    match fault {
+        EventFault::Memory => Err(SimulationFault::Memory),
+        _ => Ok(()),
+    }
+}
+
+/// What happens next, none where the session ends.
+fn next<'a>(
+    session: &'a Session,
+    fates: &Fates,
+    last: &LastTurn,
+    at: &mut Place<'a>,
+) -> Option<Event<'a>>
+    requires room { at.old.sent + 1 < 2 ^ 64 }
+    requires fates { AreFates fates.now session.now }
+    ensures { next session.now at.old last.now
+        ≡ option_map (λ event. (event_of event, at.new)) result }
+{
+    match last {
+        LastTurn::Nothing => match session.ifsd {
+            Some(size) => Some(Event::AskIfsd(size)),
+            None => begins(at),
+        },
+        LastTurn::Terminal(TerminalTurn::Send(_)) => Some(sends(fates, at)),
+        LastTurn::Terminal(TerminalTurn::Dead) => None,
+        LastTurn::Terminal(_) => begins(at),
+        LastTurn::Card(CardTurn::Send(_)) => Some(sends(fates, at)),
+        LastTurn::Card(CardTurn::Asked) => Some(Event::Reply(at.reply)),
+    }
+}
+
+/// The next command, where a pair is left.
+fn begins<'a>(at: &mut Place<'a>) -> Option<Event<'a>>
+    ensures { begins at.old at.old.left ≡ option_map (λ event. (event_of event, at.new)) result }
+{
+    let (pair, left) = at.left.split_first()?;
+    at.left = left;
+    at.reply = pair.reply.get();
+    Some(Event::Transmit(pair.command.get()))
+}
+
+/// The next block is sent.
+fn sends(fates: &Fates, at: &mut Place<'_>) -> Event<'static>
+    requires { at.old.sent + 1 < 2 ^ 64 }
+    ensures { (s : Session) → AreFates fates.now s
+        → sends s at.old ≡ Some (event_of result, at.new) }
+{
+    at.sent += 1;
+    fates.of_block(at.sent as u64)
+}
