@@ -3,7 +3,7 @@
 use crate::outcome::Outcome;
 use exchange_core::{
     Event, EventFault, Exchange, ExchangeFault, Recorder, RecorderFault, ReplayFault, Side,
-    read_exchange, replay, write_exchange,
+    migrate, read_exchange, replay, write_exchange,
 };
 use std::alloc::{AllocError, Global};
 
@@ -34,6 +34,9 @@ const EVENTS: [Event<'static>; 17] = [
     Event::Reply(&DONE),
     Event::Lose,
 ];
+
+/// The first line of version 1.
+const FIRST: &str = "scard-exchange 1";
 
 /// The text of their record.
 const TEXT: &str = "scard-exchange 1
@@ -78,13 +81,19 @@ fn record(alloc: Global) -> Result<Exchange, Outcome> {
         Err(RecorderFault::Refused(_)) => return Err(Outcome::Wrong),
     };
     for event in &EVENTS {
-        match recorder.happens(*event) {
-            Ok(()) => {}
-            Err(EventFault::Memory) => return Err(Outcome::Memory),
-            Err(_) => return Err(Outcome::Wrong),
+        if told(&mut recorder, *event).is_err() {
+            return Err(Outcome::Wrong);
         }
     }
     recorder.exchange().map_err(|_| Outcome::Memory)
+}
+
+/// An event for whose lines memory was refused happens when it is tried again.
+fn told(recorder: &mut Recorder, event: Event<'static>) -> Result<(), EventFault> {
+    match recorder.happens(event) {
+        Err(EventFault::Memory) => recorder.happens(event),
+        told => told,
+    }
 }
 
 fn written(alloc: Global, exchange: &Exchange) -> Outcome {
@@ -94,7 +103,7 @@ fn written(alloc: Global, exchange: &Exchange) -> Outcome {
     }
 }
 
-/// The text is read, and replays at both ends.
+/// The text is read, replays at both ends, and is migrated.
 pub(crate) fn replayed(alloc: Global) -> Outcome {
     let exchange = match read_exchange(alloc, TEXT.as_bytes()) {
         Ok(exchange) => exchange,
@@ -108,5 +117,15 @@ pub(crate) fn replayed(alloc: Global) -> Outcome {
             Err(ReplayFault::Differs { .. }) => return Outcome::Wrong,
         }
     }
-    Outcome::Right
+    Outcome::of(is_migrated(alloc, exchange))
+}
+
+/// Whether the exchange is written in version 2 with the same lines after the first.
+fn is_migrated(alloc: Global, exchange: Exchange) -> Result<bool, AllocError> {
+    let text = write_exchange(alloc, &migrate(exchange))?;
+    let wanted = format!(in alloc;
+        "scard-exchange 2{}",
+        TEXT.strip_prefix(FIRST).unwrap_or(TEXT)
+    )?;
+    Ok(text.as_slice() == wanted.as_bytes())
 }

@@ -1,9 +1,8 @@
 //! Every call that takes memory, once each, with its answer compared.
 //!
-//! It is meant to be run with each growth of memory refused in turn, `rt try --fail-alloc 1..`. It ends
-//! with status 2 where some call answered that it is out of memory. It writes a line for each call whose
-//! answer was wrong, and ends with status 0: as it does where all were right, so that the line shows as a
-//! difference.
+//! It is meant to be run with one growth of memory refused, each in turn, as `refuse-growths` does. It ends
+//! with status 2 where a call answered that it was out of memory, and else with 0. It writes a line for each
+//! call whose answer was wrong, and for each one after the first that was out of memory.
 #![tactic(auto)]
 
 mod apdus;
@@ -36,14 +35,15 @@ fn main(rt: HostRuntime) -> io::Result<ExitCode> {
         ("exchanges", exchanges::replayed(rt.alloc())),
         ("program", program::lines(rt.alloc())),
     ];
-    let mut status = ExitCode::from(0);
+    let mut is_refused = false;
     for (name, outcome) in outcomes {
         match outcome {
             Outcome::Right => {}
-            Outcome::Memory => status = ExitCode::from(2),
+            Outcome::Memory if !is_refused => is_refused = true,
+            Outcome::Memory => println!(rt; "{name}: out of memory too")?,
             Outcome::Wrong => println!(rt; "{name}: wrong")?,
         }
     }
     println!(rt; "all calls made")?;
-    Ok(status)
+    Ok(ExitCode::from(if is_refused { 2 } else { 0 }))
 }

@@ -42,7 +42,7 @@ fn is_forest_kept(alloc: Global) -> Result<bool, AllocError> {
     }
 }
 
-/// A forest is read in pieces, and the rest of a piece is fed again where it is out of memory.
+/// A forest is read in pieces, and the rest of a piece is fed again where it was out of memory.
 pub(crate) fn pieces(alloc: Global) -> Outcome {
     let Ok(mut reader) = ForestReader::new(alloc, FOREST.len()) else {
         return Outcome::Memory;

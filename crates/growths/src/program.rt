@@ -7,28 +7,48 @@ use card_tool::{Status, run};
 use octet_core::{After, Counted, Feeder, Taker};
 use std::alloc::{AllocError, Global};
 
-/// What the program says of a line, or that it is out of memory.
+/// A file of a session of one exchange.
+const FILE: &str =
+    "scard-exchange 1\natr 3B808131204555\ncommand 00A4040000\nt 00000500A4040000A5\n\
+asked 00A4040000\nreply 9000\nc 000002900092\nanswer 9000\n";
+
+/// The same file in version 2.
+const NEWER: &str =
+    "scard-exchange 2\natr 3B808131204555\ncommand 00A4040000\nt 00000500A4040000A5\n\
+asked 00A4040000\nreply 9000\nc 000002900092\nanswer 9000\n";
+
+/// Words, and the text that the program writes.
+const ROWS: [(&str, &str); 12] = [
+    ("check block 00000500A4040000A5", "ok 9 octets\n"),
+    ("check atr 3B808131204555", "ok 7 octets\n"),
+    (
+        "show chain --ifs 2 00200200A486006002040066000001000100",
+        "blocks 3\nmessage 00A4040000\n",
+    ),
+    (
+        "show command 00A4040000",
+        "case 2 short\nheader 00A40400\npart none\nle 256\n",
+    ),
+    ("show response 9000", "part none\nstatus 9000 normal\n"),
+    ("show tlv 00005A81011200", "objects 1\n5A 8101 12\n"),
+    ("build chain 2 0 00A404", "00200200A486\n0040010445\n"),
+    ("build tidy 00005A81011200", "5A0112\n"),
+    (
+        "build fill 9F02065F2A029A03 n:9F02:1000 n:5F2A:0978",
+        "0000000010000978000000\n",
+    ),
+    ("replay --end card", "ok 8 lines\n"),
+    ("migrate", NEWER),
+    ("simulate 3B808131204555 00A4040000:9000", FILE),
+];
+
+/// What the program says of each row's words. At most one of them is out of memory.
 pub(crate) fn lines(alloc: Global) -> Outcome {
-    let rows = [
-        ("check block 00000500A4040000A5", "ok 9 octets\n"),
-        (
-            "show chain --ifs 2 00200200A486006002040066000001000100",
-            "blocks 3\nmessage 00A4040000\n",
-        ),
-        (
-            "build fill 9F02065F2A029A03 n:9F02:1000 n:5F2A:0978",
-            "0000000010000978000000\n",
-        ),
-        ("show tlv 00005A81011200", "objects 1\n5A 8101 12\n"),
-    ];
-    for (line, text) in rows {
-        match said(alloc, line, text) {
-            Ok(Outcome::Right) => {}
-            Ok(outcome) => return outcome,
-            Err(AllocError) => return Outcome::Memory,
-        }
+    let mut outcome = Outcome::Right;
+    for (line, text) in ROWS {
+        outcome = outcome.and(said(alloc, line, text).unwrap_or(Outcome::Memory));
     }
-    Outcome::Right
+    outcome
 }
 
 fn said(alloc: Global, line: &str, text: &str) -> Result<Outcome, AllocError> {
@@ -37,7 +57,7 @@ fn said(alloc: Global, line: &str, text: &str) -> Result<Outcome, AllocError> {
     for word in line.split(' ') {
         words.push(String::from_str(alloc, word)?)?;
     }
-    let mut reader = Counted::new(Feeder::new(b"", 1, After::Fails));
+    let mut reader = Counted::new(Feeder::new(FILE.as_bytes(), 64, After::End));
     let mut writer = Counted::new(Taker::new(4096, 4096, After::End));
     let status = run(alloc, words, &mut reader, &mut writer);
     let taker = writer.into_inner();

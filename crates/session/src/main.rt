@@ -8,7 +8,9 @@ use std::io;
 use t1_core::{Card, CardTurn, Terminal, TerminalTurn};
 
 const ATR: [u8; 7] = [0x3B, 0x80, 0x81, 0x31, 0x20, 0x45, 0x55];
+
 const SELECT: [u8; 5] = [0x00, 0xA4, 0x04, 0x00, 0x00];
+
 const DONE: [u8; 2] = [0x90, 0x00];
 
 /// The most blocks that a card may ask to be answered before the terminal's application stops.
