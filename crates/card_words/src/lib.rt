@@ -6,6 +6,7 @@
 #![tactic(auto)]
 
 pub mod fault;
+mod forms;
 mod known;
 pub mod request;
 pub mod session;

@@ -2,7 +2,7 @@ use Rattle.std.proofs.Common.{ap, ap₂, codes, ◌≡◌, ◌∙◌}
 use Rattle.std.proofs.lemmas.Result.{IfOk-weaker}
 use Rattle.clap.specs.Words.{App, app_of, new_app, with_subcommand}
 use Rattle.clap.specs.Simple.{app_of_fields}
-use Rattle.card_words.proofs.words.octets_command.Goals as goal
+use Rattle.card_words.proofs.forms.octets_command.Goals as goal
 
 pub returns : goal.returns
 returns c =

@@ -2,7 +2,7 @@ use Rattle.std.proofs.Common.{ap, ap₂, refl, ◌≡◌, ◌∙◌}
 use Rattle.std.proofs.lemmas.Result.{IfOk-weaker}
 use Rattle.clap.specs.Words.{App, with_subcommand}
 use Rattle.card_words.specs.Words.{migrate_app, octets_app, replay_app, scard, simulate_app}
-use Rattle.card_words.proofs.words.program.Goals as goal
+use Rattle.card_words.proofs.forms.program.Goals as goal
 
 scard-is : with_subcommand (with_subcommand (with_subcommand octets_app replay_app.top) migrate_app.top) simulate_app.top ≡ scard
 unfolding scard

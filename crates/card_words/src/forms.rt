@@ -1,0 +1,220 @@
+//! The form of the words, as a command of `clap`.
+
+ghost use Rattle.std.specs.Prelude.{◌≡◌, IfOk, false};
+ghost use Rattle.clap.specs.Words.{app_of, rule_of};
+ghost use Rattle.clap.specs.declared.builder.command.Command.TheViews.{out-Command};
+ghost use Rattle.card_words.specs.Words.{atr_rule, blocks_rule, build_app, end_rule, hex_rule, ifs_rule, ifsd_rule, input_app, kind_rule, migrate_app, number_rule, octets_app, pairs_rule, replay_app, scard, session_app, simulate_app, what_rule, words_rule};
+
+use clap::{Arg, ArgAction, Command, value_parser};
+use std::alloc::{AllocError, Global};
+
+/// The program as a command of `clap`.
+pub(crate) fn program<'a>(alloc: Global) -> Result<Command<'a>, AllocError>
+    ensures { IfOk result (λ command. app_of command ≡ scard) }
+{
+    let replay = replay_command(alloc)?;
+    let simulate = simulate_command(alloc)?;
+    octets_command(alloc)?
+        .subcommand(replay)?
+        .subcommand(migrate_command(alloc))?
+        .subcommand(simulate)
+}
+
+/// The program's command with the subcommands on octets.
+fn octets_command<'a>(alloc: Global) -> Result<Command<'a>, AllocError>
+    ensures { IfOk result (λ command. app_of command ≡ octets_app) }
+{
+    let check = input_command(
+        alloc,
+        "check",
+        "Say whether octets are a value, and how many it takes",
+    )?;
+    let show = input_command(alloc, "show", "Show the value that octets spell")?;
+    let build = build_command(alloc)?;
+    Command::new(alloc, "scard")
+        .about("Answers to reset, T=1 blocks, APDUs and data objects of smart cards")
+        .subcommand(check)?
+        .subcommand(show)?
+        .subcommand(build)
+}
+
+/// A subcommand that takes a kind, octets and an information size.
+fn input_command<'a>(
+    alloc: Global,
+    name: &'a str,
+    about: &'a str,
+) -> Result<Command<'a>, AllocError>
+    ensures app { IfOk result (λ command. app_of command ≡ input_app name.now) }
+    ensures local { IfOk result (λ command. (out-Command command).has_globals ≡ false) }
+{
+    Command::new(alloc, name)
+        .about(about)
+        .arg(kind_arg(alloc))?
+        .arg(hex_arg(alloc))?
+        .arg(ifs_arg(alloc))?
+        .arg(number_arg(alloc))
+}
+
+/// The subcommand that builds what a word says.
+fn build_command<'a>(alloc: Global) -> Result<Command<'a>, AllocError>
+    ensures app { IfOk result (λ command. app_of command ≡ build_app) }
+    ensures local { IfOk result (λ command. (out-Command command).has_globals ≡ false) }
+{
+    Command::new(alloc, "build")
+        .about("Build octets: chain IFS NUMBER HEX, tidy HEX, or fill DOL F:TAG:VALUE..")
+        .arg(what_arg(alloc))?
+        .arg(words_arg(alloc))
+}
+
+/// The subcommand that replays recorded exchanges.
+fn replay_command<'a>(alloc: Global) -> Result<Command<'a>, AllocError>
+    ensures app { IfOk result (λ command. app_of command ≡ replay_app) }
+    ensures local { IfOk result (λ command. (out-Command command).has_globals ≡ false) }
+{
+    Command::new(alloc, "replay")
+        .about("Replay the recorded exchanges on standard input at one end")
+        .arg(end_arg(alloc))
+}
+
+/// The subcommand that takes recorded exchanges into the newest version.
+fn migrate_command<'a>(alloc: Global) -> Command<'a>
+    ensures app { app_of result ≡ migrate_app }
+    ensures local { (out-Command result).has_globals ≡ false }
+{
+    Command::new(alloc, "migrate").about(
+        "Write the recorded exchanges on standard input in the newest version",
+    )
+}
+
+/// The subcommand that records a session of both ends.
+fn simulate_command<'a>(alloc: Global) -> Result<Command<'a>, AllocError>
+    ensures app { IfOk result (λ command. app_of command ≡ simulate_app) }
+    ensures local { IfOk result (λ command. (out-Command command).has_globals ≡ false) }
+{
+    session_command(alloc)?
+        .arg(blocks_arg(alloc, "lose", "The numbers of blocks that are lost, as 2,5"))?
+        .arg(blocks_arg(
+            alloc,
+            "damage",
+            "The numbers of blocks that arrive with their last octet changed",
+        ))?
+        .arg(blocks_arg(
+            alloc,
+            "spoil",
+            "The numbers of blocks that arrive with another node address",
+        ))
+}
+
+/// The same without the options that name blocks.
+fn session_command<'a>(alloc: Global) -> Result<Command<'a>, AllocError>
+    ensures app { IfOk result (λ command. app_of command ≡ session_app) }
+    ensures local { IfOk result (λ command. (out-Command command).has_globals ≡ false) }
+{
+    Command::new(alloc, "simulate")
+        .about("Record a session of a terminal and a card, each of whose blocks may be disturbed")
+        .arg(atr_arg(alloc))?
+        .arg(pairs_arg(alloc))?
+        .arg(ifsd_arg(alloc))
+}
+
+fn atr_arg<'a>(alloc: Global) -> Arg<'a>
+    ensures rule { rule_of result ≡ atr_rule }
+    ensures local { result.global ≡ false }
+{
+    Arg::new(alloc, "atr")
+        .required(true)
+        .help("The card's answer to reset in hexadecimal")
+}
+
+fn pairs_arg<'a>(alloc: Global) -> Arg<'a>
+    ensures rule { rule_of result ≡ pairs_rule }
+    ensures local { result.global ≡ false }
+{
+    Arg::new(alloc, "pairs")
+        .action(ArgAction::Append)
+        .help("Commands and the replies to them, each COMMAND:REPLY")
+}
+
+fn ifsd_arg<'a>(alloc: Global) -> Arg<'a>
+    ensures rule { rule_of result ≡ ifsd_rule }
+    ensures local { result.global ≡ false }
+{
+    Arg::new(alloc, "ifsd")
+        .long("ifsd")
+        .value_parser(value_parser!(u8).range(1..=254))
+        .help("The information size that the terminal asks for first, 1 to 254")
+}
+
+/// An option that names blocks by their numbers.
+fn blocks_arg<'a>(alloc: Global, name: &'a str, help: &'a str) -> Arg<'a>
+    ensures rule { rule_of result ≡ blocks_rule name.now }
+    ensures local { result.global ≡ false }
+{
+    Arg::new(alloc, name).long(name).help(help)
+}
+
+fn end_arg<'a>(alloc: Global) -> Arg<'a>
+    ensures rule { rule_of result ≡ end_rule }
+    ensures local { result.global ≡ false }
+{
+    Arg::new(alloc, "end")
+        .long("end")
+        .required(true)
+        .help("The end that is replayed: terminal or card")
+}
+
+fn what_arg<'a>(alloc: Global) -> Arg<'a>
+    ensures rule { rule_of result ≡ what_rule }
+    ensures local { result.global ≡ false }
+{
+    Arg::new(alloc, "what")
+        .required(true)
+        .help("What is built: chain, tidy or fill")
+}
+
+fn words_arg<'a>(alloc: Global) -> Arg<'a>
+    ensures rule { rule_of result ≡ words_rule }
+    ensures local { result.global ≡ false }
+{
+    Arg::new(alloc, "words")
+        .action(ArgAction::Append)
+        .help("The words that it is built of")
+}
+
+fn number_arg<'a>(alloc: Global) -> Arg<'a>
+    ensures rule { rule_of result ≡ number_rule }
+    ensures local { result.global ≡ false }
+{
+    Arg::new(alloc, "number")
+        .long("number")
+        .value_parser(value_parser!(u8).range(0..=1))
+        .help("The number of the first block of a chain, 0 or 1 [default: 0]")
+}
+
+fn kind_arg<'a>(alloc: Global) -> Arg<'a>
+    ensures rule { rule_of result ≡ kind_rule }
+    ensures local { result.global ≡ false }
+{
+    Arg::new(alloc, "kind").required(true).help(
+        "What the octets are taken for: atr, block, chain, command, response, tlv or dol",
+    )
+}
+
+fn hex_arg<'a>(alloc: Global) -> Arg<'a>
+    ensures rule { rule_of result ≡ hex_rule }
+    ensures local { result.global ≡ false }
+{
+    Arg::new(alloc, "hex")
+        .required(true)
+        .help("The octets in hexadecimal, or none")
+}
+
+fn ifs_arg<'a>(alloc: Global) -> Arg<'a>
+    ensures rule { rule_of result ≡ ifs_rule }
+    ensures local { result.global ≡ false }
+{
+    Arg::new(alloc, "ifs")
+        .long("ifs")
+        .value_parser(value_parser!(u8).range(1..=254))
+        .help("The information size, 1 to 254 [default: 254]")
+}
