@@ -102,8 +102,10 @@ fn all_arrives(rt: HostRuntime) -> Result<(), Fail> {
         None,
         &TWO,
         ALL_ARRIVE,
-        "command 00A4040000\nt 00000500A4040000A5\nasked 00A4040000\nreply 9000\nc 000002900092\nanswer 9000\n\
-         command 00B0000002\nt 00400500B0000002F7\nasked 00B0000002\nreply AABB9000\nc 004004AABB9000C5\n\
+        "command 00A4040000\nt 00000500A4040000A5\nasked 00A4040000\nreply 9000\nc 000002900092\n\
+         answer 9000\n\
+         command 00B0000002\nt 00400500B0000002F7\nasked 00B0000002\nreply AABB9000\n\
+         c 004004AABB9000C5\n\
          answer AABB9000\n",
     )
 }
@@ -146,7 +148,8 @@ fn each_block_lost(rt: HostRuntime) -> Result<(), Fail> {
             lost: &[1],
             ..ALL_ARRIVE
         },
-        "command 00A4040000\nt 00000500A4040000A5 lost\nquiet\nt 00800080\nc 00800080\nt 00000500A4040000A5\n\
+        "command 00A4040000\nt 00000500A4040000A5 lost\nquiet\nt 00800080\nc 00800080\n\
+         t 00000500A4040000A5\n\
          asked 00A4040000\nreply 9000\nc 000002900092\nanswer 9000\n",
     )?;
     assert_lines(
@@ -158,7 +161,8 @@ fn each_block_lost(rt: HostRuntime) -> Result<(), Fail> {
             lost: &[2],
             ..ALL_ARRIVE
         },
-        "command 00A4040000\nt 00000500A4040000A5\nasked 00A4040000\nreply 9000\nc 000002900092 lost\nquiet\n\
+        "command 00A4040000\nt 00000500A4040000A5\nasked 00A4040000\nreply 9000\n\
+         c 000002900092 lost\nquiet\n\
          t 00800080\nc 000002900092\nanswer 9000\n",
     )
 }
@@ -174,7 +178,8 @@ fn each_block_damaged(rt: HostRuntime) -> Result<(), Fail> {
             damaged: &[1],
             ..ALL_ARRIVE
         },
-        "command 00A4040000\nt 00000500A4040000A5 as 00000500A4040000A4\nc 00810081\nt 00000500A4040000A5\n\
+        "command 00A4040000\nt 00000500A4040000A5 as 00000500A4040000A4\nc 00810081\n\
+         t 00000500A4040000A5\n\
          asked 00A4040000\nreply 9000\nc 000002900092\nanswer 9000\n",
     )?;
     assert_lines(
@@ -202,7 +207,8 @@ fn each_block_spoilt(rt: HostRuntime) -> Result<(), Fail> {
             spoilt: &[1],
             ..ALL_ARRIVE
         },
-        "command 00A4040000\nt 00000500A4040000A5 as 01000500A4040000A4\nc 00820082\nt 00000500A4040000A5\n\
+        "command 00A4040000\nt 00000500A4040000A5 as 01000500A4040000A4\nc 00820082\n\
+         t 00000500A4040000A5\n\
          asked 00A4040000\nreply 9000\nc 000002900092\nanswer 9000\n",
     )?;
     assert_lines(
@@ -233,7 +239,8 @@ fn the_first_list_counts(rt: HostRuntime) -> Result<(), Fail> {
         &ONE,
         blocks,
         "command 00A4040000\nt 00000500A4040000A5 lost\nquiet\nt 00800080\nc 00800080 as 00800081\n\
-         t 00810081\nc 00800080\nt 00000500A4040000A5\nasked 00A4040000\nreply 9000\nc 000002900092\nanswer 9000\n",
+         t 00810081\nc 00800080\nt 00000500A4040000A5\nasked 00A4040000\nreply 9000\n\
+         c 000002900092\nanswer 9000\n",
     )
 }
 
@@ -249,10 +256,12 @@ fn goes_on_after_an_exchange_that_was_given_up(rt: HostRuntime) -> Result<(), Fa
         None,
         &TWO,
         blocks,
-        "command 00A4040000\nt 00000500A4040000A5\nasked 00A4040000\nreply 9000\nc 000002900092 lost\nquiet\n\
+        "command 00A4040000\nt 00000500A4040000A5\nasked 00A4040000\nreply 9000\n\
+         c 000002900092 lost\nquiet\n\
          t 00800080\nc 000002900092 lost\nquiet\nt 00800080\nc 000002900092 lost\nquiet\n\
          t 00800080\nc 000002900092 lost\nquiet\nt 00C000C0\nc 00E000E0\ngiven-up\n\
-         command 00B0000002\nt 00000500B0000002B7\nasked 00B0000002\nreply AABB9000\nc 000004AABB900085\n\
+         command 00B0000002\nt 00000500B0000002B7\nasked 00B0000002\nreply AABB9000\n\
+         c 000004AABB900085\n\
          answer AABB9000\n",
     )
 }
@@ -288,8 +297,10 @@ fn ends_where_the_card_is_dead(rt: HostRuntime) -> Result<(), Fail> {
         None,
         &TWO,
         blocks,
-        "command 00A4040000\nt 00000500A4040000A5 lost\nquiet\nt 00800080 lost\nquiet\nt 00800080 lost\nquiet\n\
-         t 00800080 lost\nquiet\nt 00C000C0 lost\nquiet\nt 00C000C0 lost\nquiet\nt 00C000C0 lost\nquiet\n\
+        "command 00A4040000\nt 00000500A4040000A5 lost\nquiet\nt 00800080 lost\nquiet\n\
+         t 00800080 lost\nquiet\n\
+         t 00800080 lost\nquiet\nt 00C000C0 lost\nquiet\nt 00C000C0 lost\nquiet\n\
+         t 00C000C0 lost\nquiet\n\
          dead\n",
     )
 }
@@ -317,7 +328,7 @@ fn assert_line_count(
 
 #[test]
 fn ends_before_an_event_that_is_refused(rt: HostRuntime) -> Result<(), Fail> {
-    // a command that is too long, and a reply: nothing happens, or the host was asked and that is all
+    // a command that is too long: nothing happens; a reply: the host was asked, and that is all
     assert_line_count(&rt, rt.alloc(), 65_545, 0, 0)?;
     assert_line_count(&rt, rt.alloc(), 5, 65_539, 3)?;
     // the longest ones: 2,049 blocks of each, and as many R-blocks but for the last two

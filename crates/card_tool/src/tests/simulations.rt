@@ -38,7 +38,8 @@ fn sessions_of_one_exchange(rt: HostRuntime) -> Result<(), Fail> {
     let rows = [
         (
             "",
-            "command 00A4040000\nt 00000500A4040000A5\nasked 00A4040000\nreply 9000\nc 000002900092\n\
+            "command 00A4040000\nt 00000500A4040000A5\nasked 00A4040000\nreply 9000\n\
+             c 000002900092\n\
              answer 9000\n",
             8,
         ),
@@ -63,21 +64,26 @@ fn sessions_of_one_exchange(rt: HostRuntime) -> Result<(), Fail> {
         (
             " --ifsd 16",
             "ifsd 10\nt 00C10110D0\nc 00E10110F0\nifs-set\n\
-             command 00A4040000\nt 00000500A4040000A5\nasked 00A4040000\nreply 9000\nc 000002900092\n\
+             command 00A4040000\nt 00000500A4040000A5\nasked 00A4040000\nreply 9000\n\
+             c 000002900092\n\
              answer 9000\n",
             12,
         ),
         (
             " --lose 9,1 --damage 3,1 --spoil 3,999999999999999",
-            "command 00A4040000\nt 00000500A4040000A5 lost\nquiet\nt 00800080\nc 00800080 as 00800081\n\
-             t 00810081\nc 00800080\nt 00000500A4040000A5\nasked 00A4040000\nreply 9000\nc 000002900092\n\
+            "command 00A4040000\nt 00000500A4040000A5 lost\nquiet\nt 00800080\n\
+             c 00800080 as 00800081\n\
+             t 00810081\nc 00800080\nt 00000500A4040000A5\nasked 00A4040000\nreply 9000\n\
+             c 000002900092\n\
              answer 9000\n",
             14,
         ),
         (
             " none: 00B0000002:AABB9000",
-            "command 00A4040000\nt 00000500A4040000A5\nasked 00A4040000\nreply 9000\nc 000002900092\n\
-             answer 9000\ncommand none\nt 00400040\nasked none\nreply none\nc 00400040\nanswer none\n\
+            "command 00A4040000\nt 00000500A4040000A5\nasked 00A4040000\nreply 9000\n\
+             c 000002900092\n\
+             answer 9000\ncommand none\nt 00400040\nasked none\nreply none\nc 00400040\n\
+             answer none\n\
              command 00B0000002\nt 00000500B0000002B7\nasked 00B0000002\nreply AABB9000\n\
              c 000004AABB900085\nanswer AABB9000\n",
             20,
@@ -96,7 +102,8 @@ fn goes_on_and_ends(rt: HostRuntime) -> Result<(), Fail> {
         &rt,
         rt.alloc(),
         " 00B0000002:AABB9000 --lose 2,4,6,8",
-        "command 00A4040000\nt 00000500A4040000A5\nasked 00A4040000\nreply 9000\nc 000002900092 lost\nquiet\n\
+        "command 00A4040000\nt 00000500A4040000A5\nasked 00A4040000\nreply 9000\n\
+         c 000002900092 lost\nquiet\n\
          t 00800080\nc 000002900092 lost\nquiet\nt 00800080\nc 000002900092 lost\nquiet\n\
          t 00800080\nc 000002900092 lost\nquiet\nt 00C000C0\nc 00E000E0\ngiven-up\n\
          command 00B0000002\nt 00000500B0000002B7\nasked 00B0000002\nreply AABB9000\n\
@@ -108,7 +115,8 @@ fn goes_on_and_ends(rt: HostRuntime) -> Result<(), Fail> {
         rt.alloc(),
         " 00B0000002:AABB9000 --lose 1,2,3,4,5,6,7",
         "command 00A4040000\nt 00000500A4040000A5 lost\nquiet\nt 00800080 lost\nquiet\n\
-         t 00800080 lost\nquiet\nt 00800080 lost\nquiet\nt 00C000C0 lost\nquiet\nt 00C000C0 lost\nquiet\n\
+         t 00800080 lost\nquiet\nt 00800080 lost\nquiet\nt 00C000C0 lost\nquiet\n\
+         t 00C000C0 lost\nquiet\n\
          t 00C000C0 lost\nquiet\ndead\n",
         18,
     )
