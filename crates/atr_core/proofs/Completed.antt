@@ -21,7 +21,7 @@ use Rattle.atr_core.specs.declared.partial.Tail.{Tail}
 use Rattle.atr_core.specs.declared.partial.Partial.{Partial}
 use Rattle.atr_core.specs.declared.partial.Partial.TheVariants as partial
 use Rattle.atr_core.specs.Atr.{count_of, AtrParts, ts_of, announcing, goes_on, octets_of, up_to_td, interface_octets, needs_tck, tck_of, checked_octets, IsProper, IsAtr, IsReason, Meets}
-use Rattle.atr_core.specs.Partial.{or_awaited, told, filled, is_announced, awaited_count, first_under, tds_under, from_t0, header_checked, header_taken, HeaderHolds, tail_checked, tail_taken, TailHolds, TailAwaits, Stands, taken_of}
+use Rattle.atr_core.specs.Partial.{or_awaited, told, filled, is_announced, awaited_count, first_under, tds_under, from_t0, header_checked, header_taken, HeaderHolds, tail_checked, tail_taken, TailHolds, TailAwaits, Holds, is_whole, taken_of}
 use Rattle.atr_core.proofs.Unique.{one-spelled}
 use Rattle.atr_core.proofs.Reasons.{meets-stuck}
 use Rattle.atr_core.proofs.Lengths.{spelling-length, tck-length}
@@ -207,12 +207,13 @@ tail-goes-on t holds awaits =
 
 -- ---- all stages
 
--- after what has come more must
-pub goes-on : (p : Partial) → Stands p → Unfinished (taken_of p)
-goes-on partial.Start s = (plain Direct, ts_of Direct, 0 ∷ [], from-ts Direct)
-goes-on (partial.Opened c) s = (plain c, 0, [], from-ts c)
-goes-on (partial.Header h) s = header-goes-on h s.0 s.1
-goes-on (partial.Tail t) s = tail-goes-on t s.0 s.1
+-- after what has come more must, unless it is all
+pub goes-on : (p : Partial) → Holds p → is_whole p ≡ false → Unfinished (taken_of p)
+goes-on partial.Start s unended = (plain Direct, ts_of Direct, 0 ∷ [], from-ts Direct)
+goes-on (partial.Opened c) s unended = (plain c, 0, [], from-ts c)
+goes-on (partial.Header h) s unended = header-goes-on h s.0 s.1
+goes-on (partial.Tail t) s unended = tail-goes-on t s.0 s.1
+goes-on (partial.Whole a) s unended = absurd (cc)
 
 -- what a longer spelling begins with is none
 unspelled : (c : List ℕ) (v : AtrParts) (n : ℕ) → n ≤ length c → Unfinished c → IsAtr v (take n c) → ⊥

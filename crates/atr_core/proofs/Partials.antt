@@ -1,5 +1,5 @@
 -- What the octets are that have come of an answer to reset.
-use Rattle.std.proofs.Common.{◌≡◌, ◌≢◌, ℕ, suc, ◌+◌, ◌/◌, ◌%◌, ◌<◌, ◌≤◌, ◌++◌, List, [], ◌∷◌, length, refl, sym, ap, subst, ◌∙◌, arith, Option, None, Some, option_to_list, append_assoc, Bool, true, false, not, ◌||◌, ◌==◌, if◌then◌else◌, IfNone, count_ones, bit_xor, inl, inr}
+use Rattle.std.proofs.Common.{◌≡◌, ◌≢◌, ℕ, suc, ◌+◌, ◌/◌, ◌%◌, ◌<◌, ◌≤◌, ◌++◌, List, [], ◌∷◌, length, refl, sym, ap, subst, ◌∙◌, arith, Option, None, Some, option_to_list, append_assoc, Bool, true, false, not, ◌||◌, ◌==◌, if◌then◌else◌, IfNone, count_ones, bit_xor, inl, inr, MatchBool, Ok}
 use mir.Val.{bool_byte}
 use Rattle.std.proofs.lemmas.List.{length-append, append-nil}
 use Rattle.std.specs.List.{AllByRecursion, fold}
@@ -14,7 +14,7 @@ use Rattle.atr_core.specs.declared.partial.Announced.{Announced}
 use Rattle.atr_core.specs.declared.partial.Header.{Header}
 use Rattle.atr_core.specs.declared.partial.Tail.{Tail}
 use Rattle.atr_core.specs.Atr.{count_of, AtrParts, ts_of, announcing, goes_on, octets_of, up_to_td, interface_octets, needs_tck, tck_of, checked_octets, EndsInTd, HasNibbles, IsProper, IsAtr, IsReason}
-use Rattle.atr_core.specs.Partial.{or_awaited, told, filled, no_bytes, Announces, awaits_byte, is_announced, AwaitsTd, awaited_count, InOrder, Puts, first_under, tds_under, first_of, tds_of, from_t0, header_checked, header_taken, HeaderHolds, tail_checked, tail_taken, parts_of, TailHolds, TailAwaits}
+use Rattle.atr_core.specs.Partial.{or_awaited, told, filled, no_bytes, Announces, awaits_byte, is_announced, AwaitsTd, awaited_count, InOrder, Puts, first_under, tds_under, first_of, tds_of, from_t0, header_checked, header_taken, HeaderHolds, tail_checked, tail_taken, parts_of, TailHolds, TailAwaits, TailEnds, IsTailStep}
 use Rattle.atr_core.proofs.Unique.{present, td_of, no-td}
 use Rattle.atr_core.proofs.Reasons.{ones-of}
 use Rattle.atr_core.proofs.Lengths.{spelling-length}
@@ -323,6 +323,20 @@ tck-taken t x holds e tck same =
     let stands : option_to_list (tck_of a) ≡ xor_of (checked_octets a) ∷ [] = ap (λ (b : Bool). option_to_list (if b then Some (xor_of (checked_octets a)) else None)) needs in
     encoded a (tail_taken t ++ x ∷ []) (tail-proper t holds e) (subst AreOctets (sym (all-checked t e)) (λ i. holds.octets (suc i)))
     ((λ i. ts_of t.convention ∷ (sym (all-checked t e) i ++ sum i ∷ [])) ∙ ap (λ (l : List ℕ). ts_of t.convention ∷ checked_octets a ++ l) (sym stands))
+
+-- where no TCK is to come
+tail-whole : (t : Tail) → TailHolds t → length t.historical.items ≡ t.historical_len → t.tck ≡ false → IsAtr (parts_of t) (tail_taken t)
+tail-whole t holds e tck =
+    let a : AtrParts = parts_of t in
+    let needs : needs_tck a.indicated ≡ false = sym holds.tck ∙ tck in
+    let none : option_to_list (tck_of a) ≡ [] = ap (λ (b : Bool). option_to_list (if b then Some (xor_of (checked_octets a)) else None)) needs in
+    encoded a (tail_taken t) (tail-proper t holds e) (subst AreOctets (sym (all-checked t e)) (λ i. holds.octets (suc i)))
+    (ap (λ (l : List ℕ). ts_of t.convention ∷ l) (sym (all-checked t e) ∙ sym (append-nil (checked_octets a))) ∙ ap (λ (l : List ℕ). ts_of t.convention ∷ checked_octets a ++ l) (sym none))
+
+-- the octets with the one that came, told apart by whether more must come
+pub tail-step : (octets : List ℕ) (t : Tail) (b : Bool) → TailHolds t → tail_taken t ≡ octets → MatchBool b (TailAwaits t) (TailEnds t) → IsTailStep octets t (Ok (not b))
+tail-step octets t true holds is awaits = (holds, awaits, is)
+tail-step octets t false holds is ends = (holds, ends.0, subst (IsAtr (parts_of t)) is (tail-whole t holds ends.0 ends.1))
 
 counted-true : (b : Bool) → 1 ≤ count_of b → b ≡ true
 counted-true false le = absurd (omega arith)

@@ -10,9 +10,7 @@ use Rattle.atr_core.specs.declared.partial.Header.{Header}
 use Rattle.atr_core.specs.declared.partial.Tail.{Tail}
 use Rattle.atr_core.specs.declared.partial.Partial.{Partial}
 use Rattle.atr_core.specs.declared.partial.Partial.TheVariants as partial
-use Rattle.atr_core.specs.declared.partial.Step.{Step}
-use Rattle.atr_core.specs.declared.partial.Step.TheVariants as step
-use Rattle.atr_core.specs.Atr.{AtrParts, count_of, ts_of, announcing, goes_on, octets_of, up_to_td, interface_octets, needs_tck, IsAtr, IsReason}
+use Rattle.atr_core.specs.Atr.{AtrParts, count_of, ts_of, announcing, goes_on, octets_of, up_to_td, interface_octets, needs_tck, spelling, IsAtr, IsReason}
 
 -- ---- interface bytes under way
 
@@ -143,14 +141,33 @@ pub record TailHolds (t : Tail) : Type 0 where
 abbrev pub TailAwaits : Tail → Type 0
 TailAwaits t = length t.historical.items + 1 ≤ t.historical_len + count_of t.tck
 
+-- all have come, and no TCK is to come
+abbrev pub TailEnds : Tail → Type 0
+TailEnds t = (length t.historical.items ≡ t.historical_len) × (t.tck ≡ false)
+
+-- the octets after the interface bytes: more of them, the last, or refused at the last octet
+abbrev pub IsTailStep : List ℕ → Tail → Result Bool AtrReason → Type 0
+IsTailStep octets t (Ok false) = TailHolds t × TailAwaits t × (tail_taken t ≡ octets)
+IsTailStep octets t (Ok true) = TailHolds t × (length t.historical.items ≡ t.historical_len) × IsAtr (parts_of t) octets
+IsTailStep octets t (Err reason) = IsReason reason octets
+
 -- ---- all stages
 
--- what is kept agrees with the octets that have come, and more must
-abbrev pub Stands : Partial → Type 0
-Stands partial.Start = Unit {0}
-Stands (partial.Opened convention) = Unit {0}
-Stands (partial.Header h) = HeaderHolds h × (is_announced h.awaited ≡ true)
-Stands (partial.Tail t) = TailHolds t × TailAwaits t
+-- they are a whole answer
+abbrev pub is_whole : Partial → Bool
+is_whole partial.Start = false
+is_whole (partial.Opened convention) = false
+is_whole (partial.Header h) = false
+is_whole (partial.Tail t) = false
+is_whole (partial.Whole a) = true
+
+-- what is kept agrees with the octets that have come, and more must come unless they are a whole answer
+abbrev pub Holds : Partial → Type 0
+Holds partial.Start = Unit {0}
+Holds (partial.Opened convention) = Unit {0}
+Holds (partial.Header h) = HeaderHolds h × (is_announced h.awaited ≡ true)
+Holds (partial.Tail t) = TailHolds t × TailAwaits t
+Holds (partial.Whole a) = IsAtr a (spelling a)
 
 -- the octets that have come
 abbrev pub taken_of : Partial → List ℕ
@@ -158,9 +175,8 @@ taken_of partial.Start = []
 taken_of (partial.Opened convention) = ts_of convention ∷ []
 taken_of (partial.Header h) = header_taken h
 taken_of (partial.Tail t) = tail_taken t
+taken_of (partial.Whole a) = spelling a
 
--- what the octets are: the first of an answer, a whole one, or refused at the last octet
-abbrev pub IsStep : List ℕ → Result Step AtrReason → Type 0
-IsStep octets (Ok (step.More p)) = Stands p × (taken_of p ≡ octets)
-IsStep octets (Ok (step.Whole a)) = IsAtr a octets
-IsStep octets (Err reason) = IsReason reason octets
+-- these octets have come
+abbrev pub IsNow : List ℕ → Partial → Type 0
+IsNow octets p = Holds p × (taken_of p ≡ octets)

@@ -5,7 +5,6 @@ ghost use Rattle.octet_core.specs.Grammar.{Accepts, Refuses, self_ended};
 ghost use Rattle.atr_core.specs.Atr.{IsAtr, IsReason};
 
 use crate::partial::Partial;
-use crate::reader::{Stage, taken};
 use crate::{Atr, AtrReason};
 use octet_core::Stop;
 
@@ -18,10 +17,13 @@ pub fn decode(octets: &[u8]) -> Result<(Atr, usize), Stop<AtrReason>>
     ensures found { IfOk result (λ found. Accepts self_ended IsAtr octets.now found.0 found.1) }
     ensures refused { IfErr result (λ stop. Refuses self_ended IsAtr IsReason octets.now stop) }
 {
-    let (count, stage) = taken(Partial::Start, 0, octets);
-    match stage {
-        Stage::Open(_) => Err(Stop::Short { place: count }),
-        Stage::Whole(atr) => Ok((atr, count)),
-        Stage::Refused(refusal) => Err(refusal.stop()),
+    let mut partial = Partial::Start;
+    let count = match partial.take_piece(0, octets) {
+        Ok(count) => count,
+        Err(refusal) => return Err(refusal.stop()),
+    };
+    match partial {
+        Partial::Whole(atr) => Ok((atr, count)),
+        _ => Err(Stop::Short { place: count }),
     }
 }

@@ -1,14 +1,14 @@
 //! An answer to reset of which some octets have come, octet by octet.
 
-ghost use Rattle.std.specs.Prelude.{◌≡◌, ◌+◌, ◌<◌, ◌≤◌, ◌/◌, ◌%◌, ◌++◌, [], ◌∷◌, true, false, Ok, IfOk, IfErr, IfSome, IfNone, IsTrue, length, not, ◌||◌, ◌==◌};
-ghost use Rattle.atr_core.specs.Atr.{IsReason, ts_of};
-ghost use Rattle.atr_core.specs.Partial.{Announces, AwaitsByte, AwaitsTd, HeaderHolds, InOrder, IsStep, Puts, Stands, TailHolds, first_of, header_taken, is_announced, parts_of, tail_taken, taken_of, tds_of};
+ghost use Rattle.std.specs.Prelude.{◌≡◌, ℕ, List, MatchOption, ◌+◌, ◌<◌, ◌≤◌, ◌/◌, ◌%◌, ◌++◌, [], ◌∷◌, true, false, IfOk, IfErr, IfSome, IfNone, IsTrue, MatchBool, length, not, ◌||◌, ◌==◌};
+ghost use Rattle.atr_core.specs.Atr.{AtrParts, IsAtr, IsReason, ts_of};
+ghost use Rattle.atr_core.specs.Partial.{Announces, AwaitsByte, AwaitsTd, HeaderHolds, Holds, InOrder, IsNow, IsTailStep, Puts, TailAwaits, TailEnds, TailHolds, awaits_byte, first_of, header_taken, is_announced, is_whole, parts_of, tail_taken, taken_of, tds_of};
 
 use crate::atr::MOST_OCTETS;
 use crate::{Atr, AtrReason, Convention, Indicated, Interface};
 use arrayvec::ArrayVec;
 
-/// The octets of an answer that have come, where more must.
+/// The octets of an answer that have come.
 #[derive(Drop)]
 pub(crate) enum Partial {
     /// None: TS is next.
@@ -19,14 +19,7 @@ pub(crate) enum Partial {
     Header(Header),
     /// A historical byte or TCK is next.
     Tail(Tail),
-}
-
-/// What an octet makes of the octets before it, where an answer goes on.
-#[derive(Drop)]
-pub(crate) enum Step {
-    /// More must come.
-    More(Partial),
-    /// They are a whole answer.
+    /// All of them.
     Whole(Atr),
 }
 
@@ -79,30 +72,60 @@ pub(crate) struct Announced {
 }
 
 impl Partial {
-    /// Takes the next octet: what it makes of those before it, or why no answer goes on.
-    pub(crate) fn take(self, octet: u8) -> Result<Step, AtrReason>
-        requires { Stands self }
-        ensures { IsStep (taken_of self ++ octet ∷ []) result }
+    /// Whether they are a whole answer, after which none is taken.
+    pub(crate) fn is_whole(&self) -> bool
+        ensures { result ≡ is_whole self.now }
+    {
+        matches!(self, Partial::Whole(_))
+    }
+
+    /// The answer, once it is whole.
+    pub(crate) fn answer(&self) -> Option<&Atr>
+        requires { Holds self.now }
+        ensures { (t : List ℕ) → t ≡ taken_of self.now → MatchOption result ((v : AtrParts) → IsAtr v t → ⊥) (λ atr. IsAtr atr.now t) }
     {
         match self {
-            Partial::Start => opened(octet),
-            Partial::Opened(convention) => Ok(Header::new(convention, octet).step()),
-            Partial::Header(header) => header.take(octet),
-            Partial::Tail(tail) => tail.take(octet),
+            Partial::Whole(atr) => Some(atr),
+            _ => None,
         }
+    }
+
+    /// Takes the next octet, or says why no answer goes on.
+    pub(crate) fn take(&mut self, octet: u8) -> Result<(), AtrReason>
+        requires holds { Holds self.old }
+        requires unended { is_whole self.old ≡ false }
+        ensures taken { IfOk result (λ done. IsNow (taken_of self.old ++ octet ∷ []) self.new) }
+        ensures refused { IfErr result (λ reason. IsReason reason (taken_of self.old ++ octet ∷ [])) }
+    {
+        match self {
+            Partial::Start => *self = Partial::Opened(opened(octet)?),
+            Partial::Opened(convention) => *self = Header::new(*convention, octet).settled(),
+            Partial::Header(header) => {
+                if header.take(octet)? {
+                    *self = header.end().settled();
+                }
+            }
+            Partial::Tail(tail) => {
+                if tail.take(octet)? {
+                    *self = Partial::Whole(tail.atr());
+                }
+            }
+            Partial::Whole(_) => {}
+        }
+        Ok(())
     }
 }
 
-/// Takes TS.
-fn opened(ts: u8) -> Result<Step, AtrReason>
-    ensures { IsStep (ts ∷ []) result }
+/// What TS says.
+fn opened(ts: u8) -> Result<Convention, AtrReason>
+    ensures is { IfOk result (λ convention. ts_of convention ≡ ts) }
+    ensures refused { IfErr result (λ reason. IsReason reason (ts ∷ [])) }
 {
-    let convention = match ts {
-        0x3B => Convention::Direct,
-        0x3F => Convention::Inverse,
-        _ => return Err(AtrReason::BadTs),
-    };
-    Ok(Step::More(Partial::Opened(convention)))
+    match ts {
+        0x3B => Ok(Convention::Direct),
+        0x3F => Ok(Convention::Inverse),
+        _ => Err(AtrReason::BadTs),
+    }
 }
 
 impl Announced {
@@ -116,6 +139,20 @@ impl Announced {
             tc: octet / 0x40 % 2 == 1,
             td: octet / 0x80 == 1,
         }
+    }
+
+    /// Whether TA, TB or TC is awaited.
+    fn has_byte(self) -> bool
+        ensures { result ≡ awaits_byte self }
+    {
+        self.ta || self.tb || self.tc
+    }
+
+    /// Whether anything is awaited.
+    fn is_some(self) -> bool
+        ensures { result ≡ is_announced self }
+    {
+        self.has_byte() || self.td
     }
 }
 
@@ -186,43 +223,54 @@ impl Header {
         }
     }
 
-    /// Takes an interface byte or a TD.
-    fn take(self, octet: u8) -> Result<Step, AtrReason>
-        requires { Stands (Partial.Header self) }
-        ensures { IsStep (header_taken self ++ octet ∷ []) result }
+    /// What has come after TS and T0: all up to the interface bytes where none is announced.
+    fn settled(self) -> Partial
+        requires { HeaderHolds self }
+        ensures { IsNow (header_taken self) result }
     {
-        let awaited = self.awaited;
-        if awaited.ta || awaited.tb || awaited.tc {
-            Ok(self.take_byte(octet).step())
-        } else {
-            Ok(self.take_td(octet)?.step())
+        let mut header = self;
+        if header.awaited.is_some() {
+            return Partial::Header(header);
         }
+        header.end().settled()
+    }
+
+    /// Takes an interface byte or a TD: whether it is the last.
+    fn take(&mut self, octet: u8) -> Result<bool, AtrReason>
+        requires holds { HeaderHolds self.old }
+        requires announced { is_announced self.old.awaited ≡ true }
+        ensures holds { IfOk result (λ last. HeaderHolds self.new) }
+        ensures taken { IfOk result (λ last. header_taken self.new ≡ header_taken self.old ++ octet ∷ []) }
+        ensures last { IfOk result (λ last. last ≡ not (is_announced self.new.awaited)) }
+        ensures refused { IfErr result (λ reason. IsReason reason (header_taken self.old ++ octet ∷ [])) }
+    {
+        if self.awaited.has_byte() {
+            self.take_byte(octet);
+        } else {
+            self.take_td(octet)?;
+        }
+        Ok(!self.awaited.is_some())
     }
 
     /// Takes the first of TA, TB and TC that is awaited.
-    fn take_byte(self, octet: u8) -> Header
-        requires holds { HeaderHolds self }
-        requires awaited { AwaitsByte self.awaited }
-        ensures holds { HeaderHolds result }
-        ensures taken { header_taken result ≡ header_taken self ++ octet ∷ [] }
+    fn take_byte(&mut self, octet: u8)
+        requires holds { HeaderHolds self.old }
+        requires awaited { AwaitsByte self.old.awaited }
+        ensures holds { HeaderHolds self.new }
+        ensures taken { header_taken self.new ≡ header_taken self.old ++ octet ∷ [] }
     {
-        let (bytes, awaited) = self.bytes.with(self.awaited, octet);
-        Header {
-            bytes,
-            awaited,
-            sum: self.sum ^ octet,
-            count: self.count + 1,
-            ..self
-        }
+        (self.bytes, self.awaited) = self.bytes.with(self.awaited, octet);
+        self.sum ^= octet;
+        self.count += 1;
     }
 
     /// Takes a TD, or refuses it as too long.
-    fn take_td(self, octet: u8) -> Result<Header, AtrReason>
-        requires holds { HeaderHolds self }
-        requires awaited { AwaitsTd self.awaited }
-        ensures holds { IfOk result HeaderHolds }
-        ensures taken { IfOk result (λ header. header_taken header ≡ header_taken self ++ octet ∷ []) }
-        ensures refused { IfErr result (λ reason. IsReason reason (header_taken self ++ octet ∷ [])) }
+    fn take_td(&mut self, octet: u8) -> Result<(), AtrReason>
+        requires holds { HeaderHolds self.old }
+        requires awaited { AwaitsTd self.old.awaited }
+        ensures holds { IfOk result (λ done. HeaderHolds self.new) }
+        ensures taken { IfOk result (λ done. header_taken self.new ≡ header_taken self.old ++ octet ∷ []) }
+        ensures refused { IfErr result (λ reason. IsReason reason (header_taken self.old ++ octet ∷ [])) }
     {
         let count = self.count + 1;
         let tck = needs_tck_after(octet % 16, self.tck);
@@ -230,23 +278,20 @@ impl Header {
         if count + announced + self.historical_len + usize::from(tck) > MOST_OCTETS {
             return Err(AtrReason::TooLong);
         }
-        let sum = self.sum ^ octet;
-        let before = self.close_section();
-        Ok(Header {
-            under: Some(octet % 16),
-            bytes: Interface::default(),
-            awaited: Announced::by(octet),
-            tck,
-            sum,
-            count,
-            ..before
-        })
+        self.close_section();
+        self.under = Some(octet % 16);
+        self.bytes = Interface::default();
+        self.awaited = Announced::by(octet);
+        self.tck = tck;
+        self.sum ^= octet;
+        self.count = count;
+        Ok(())
     }
 
     /// Puts the bytes under way to those of T0 or to the TDs whose bytes have all come.
-    fn close_section(mut self) -> Header
-        requires { length self.indicated.items < 31 }
-        ensures { result ≡ record self { first = first_of self; indicated = record { items = tds_of self } } }
+    fn close_section(&mut self)
+        requires { length self.old.indicated.items < 31 }
+        ensures { self.new ≡ record self.old { first = first_of self.old; indicated = record { items = tds_of self.old } } }
     {
         match self.under {
             None => self.first = self.bytes,
@@ -255,38 +300,24 @@ impl Header {
                 bytes: self.bytes,
             }),
         }
-        self
-    }
-
-    /// What the octets are that have come: part of an answer, or a whole one.
-    fn step(self) -> Step
-        requires { HeaderHolds self }
-        ensures { IsStep (header_taken self) (Ok result) }
-    {
-        let awaited = self.awaited;
-        if awaited.ta || awaited.tb || awaited.tc || awaited.td {
-            Step::More(Partial::Header(self))
-        } else {
-            self.end().step()
-        }
     }
 
     /// After the last interface byte.
-    fn end(self) -> Tail
-        requires holds { HeaderHolds self }
-        requires none { is_announced self.awaited ≡ false }
+    fn end(&mut self) -> Tail
+        requires holds { HeaderHolds self.old }
+        requires none { is_announced self.old.awaited ≡ false }
         ensures holds { TailHolds result }
-        ensures taken { tail_taken result ≡ header_taken self }
+        ensures taken { tail_taken result ≡ header_taken self.old }
     {
-        let closed = self.close_section();
+        self.close_section();
         Tail {
-            convention: closed.convention,
-            first: closed.first,
-            indicated: closed.indicated,
+            convention: self.convention,
+            first: self.first,
+            indicated: self.indicated.take(),
             historical: ArrayVec::new(),
-            historical_len: closed.historical_len,
-            tck: closed.tck,
-            sum: closed.sum,
+            historical_len: self.historical_len,
+            tck: self.tck,
+            sum: self.sum,
         }
     }
 }
@@ -299,40 +330,54 @@ fn needs_tck_after(protocol: u8, before: bool) -> bool
 }
 
 impl Tail {
-    /// Takes a historical byte or TCK.
-    fn take(mut self, octet: u8) -> Result<Step, AtrReason>
-        requires { Stands (Partial.Tail self) }
-        ensures { IsStep (tail_taken self ++ octet ∷ []) result }
+    /// What has come after the last interface byte: a whole answer where nothing more must.
+    fn settled(self) -> Partial
+        requires { TailHolds self }
+        ensures { IsNow (tail_taken self) result }
+    {
+        let mut tail = self;
+        if tail.awaits() {
+            return Partial::Tail(tail);
+        }
+        Partial::Whole(tail.atr())
+    }
+
+    /// Takes a historical byte or TCK: whether it is the last.
+    fn take(&mut self, octet: u8) -> Result<bool, AtrReason>
+        requires holds { TailHolds self.old }
+        requires awaits { TailAwaits self.old }
+        ensures { IsTailStep (tail_taken self.old ++ octet ∷ []) self.new result }
     {
         if self.historical.len() < self.historical_len {
             self.historical.push(octet);
             self.sum ^= octet;
-            return Ok(self.step());
+            return Ok(!self.awaits());
         }
         if octet != self.sum {
             return Err(AtrReason::BadTck);
         }
-        Ok(Step::Whole(self.atr()))
+        Ok(true)
     }
 
-    /// What the octets are that have come: part of an answer, or a whole one.
-    fn step(self) -> Step
-        requires { TailHolds self }
-        ensures { IsStep (tail_taken self) (Ok result) }
+    /// Whether more must come.
+    fn awaits(&self) -> bool
+        requires { TailHolds self.now }
+        ensures { MatchBool result (TailAwaits self.now) (TailEnds self.now) }
     {
-        if self.historical.len() < self.historical_len || self.tck {
-            Step::More(Partial::Tail(self))
-        } else {
-            Step::Whole(self.atr())
-        }
+        self.historical.len() < self.historical_len || self.tck
     }
 
     /// The answer, once all historical bytes have come.
-    fn atr(self) -> Atr
-        requires holds { TailHolds self }
-        requires all { length self.historical.items ≡ self.historical_len }
-        ensures { result ≡ parts_of self }
+    fn atr(&mut self) -> Atr
+        requires holds { TailHolds self.old }
+        requires all { length self.old.historical.items ≡ self.old.historical_len }
+        ensures { result ≡ parts_of self.old }
     {
-        Atr::of_parts(self.convention, self.first, self.indicated, self.historical)
+        Atr::of_parts(
+            self.convention,
+            self.first,
+            self.indicated.take(),
+            self.historical.take(),
+        )
     }
 }

@@ -1,39 +1,23 @@
 //! Answers to reset that come in pieces.
 
-ghost use Rattle.std.specs.Prelude.{◌≡◌, ◌↔◌, ◌≤◌, ℕ, List, [], None, IsSome, IsNone, MatchOption, length};
+ghost use Rattle.std.specs.Prelude.{◌≡◌, ◌↔◌, ◌≤◌, ℕ, List, [], None, false, IsSome, IsNone, MatchOption, length};
 ghost use Rattle.octet_core.specs.Reader.{IsFed, IsFinished};
 ghost use Rattle.atr_core.specs.Atr.{AtrParts, IsAtr, IsReason};
-ghost use Rattle.atr_core.specs.Partial.{Stands, taken_of};
-ghost use Rattle.atr_core.specs.Taking.{answer_of, HasTaken, IsTaken, nothing_taken, refusal_kept};
+ghost use Rattle.atr_core.specs.Partial.{Holds, is_whole, taken_of};
+ghost use Rattle.atr_core.specs.Taking.{HasTaken, IsTaken, nothing_taken, refusal_kept};
 
-use crate::partial::{Partial, Step};
+use crate::partial::Partial;
 use crate::{Atr, AtrReason};
 use octet_core::{Refusal, Stop};
 use std::marker::Model;
-use std::mem;
 
 /// What the octets so far have come to.
 #[derive(Drop)]
 pub(crate) enum Stage {
-    /// More must come.
-    Open(Partial),
-    /// They are a whole answer.
-    Whole(Atr),
+    /// An answer goes on or ends with them.
+    Taken(Partial),
     /// One was refused.
     Refused(Refusal<AtrReason>),
-}
-
-impl Stage {
-    /// What a feed answers that took octets up to here.
-    fn answer(&self, taken: usize) -> Result<(usize, bool), Stop<AtrReason>>
-        ensures { result ≡ answer_of self.now taken }
-    {
-        match self {
-            Stage::Open(_) => Ok((taken, false)),
-            Stage::Whole(_) => Ok((taken, true)),
-            Stage::Refused(refusal) => Err(refusal.stop()),
-        }
-    }
 }
 
 /// A reader of one answer to reset that is fed in pieces of any length (ISO/IEC 7816-3, clause 8.2). It
@@ -51,11 +35,11 @@ impl Model for AtrReader {
 
     ghost Value = { Taking };
 
-    ghost use Rattle.atr_core.specs.Taking.{Holds, taking_of};
+    ghost use Rattle.atr_core.specs.Taking.{Agrees, taking_of};
 
     ghost view = { λ reader. taking_of reader.stage };
 
-    ghost invariant = { λ reader. Holds reader.stage reader.count };
+    ghost invariant = { λ reader. Agrees reader.stage reader.count };
 }
 
 impl AtrReader {
@@ -64,7 +48,7 @@ impl AtrReader {
         ensures { result ≡ nothing_taken }
     {
         AtrReader {
-            stage: Stage::Open(Partial::Start),
+            stage: Stage::Taken(Partial::Start),
             count: 0,
         }
     }
@@ -78,21 +62,19 @@ impl AtrReader {
     pub fn feed(&mut self, piece: &[u8]) -> Result<(usize, bool), Stop<AtrReason>>
         ensures { IsFed IsAtr IsReason HasTaken refusal_kept self.old self.new piece.now result }
     {
-        match mem::replace(&mut self.stage, Stage::Open(Partial::Start)) {
-            Stage::Open(partial) => {
-                let (taken, stage) = taken(partial, self.count, piece);
-                let answer = stage.answer(taken);
-                if let Stage::Open(_) = stage {
-                    self.count += taken;
-                }
-                self.stage = stage;
-                answer
+        let partial = match &mut self.stage {
+            Stage::Taken(partial) => partial,
+            Stage::Refused(refusal) => return Err(refusal.stop()),
+        };
+        if partial.is_whole() {
+            return Ok((0, true));
+        }
+        match partial.take_piece(self.count, piece) {
+            Ok(taken) => {
+                self.count += taken;
+                Ok((taken, partial.is_whole()))
             }
-            Stage::Whole(atr) => {
-                self.stage = Stage::Whole(atr);
-                Ok((0, true))
-            }
-            Stage::Refused(refusal) => {
+            Err(refusal) => {
                 self.stage = Stage::Refused(refusal);
                 Err(refusal.stop())
             }
@@ -105,8 +87,7 @@ impl AtrReader {
         ensures refused { IsSome (refusal_kept self.now) → IsNone result }
     {
         match &self.stage {
-            Stage::Whole(atr) => Some(atr),
-            Stage::Open(_) => None,
+            Stage::Taken(partial) => partial.answer(),
             Stage::Refused(_) => None,
         }
     }
@@ -116,43 +97,50 @@ impl AtrReader {
     pub fn finish(&self) -> Result<(), Stop<AtrReason>>
         ensures { IsFinished IsAtr IsReason HasTaken refusal_kept self.now result }
     {
-        match &self.stage {
-            Stage::Open(_) => Err(Stop::Short { place: self.count }),
-            Stage::Whole(_) => Ok(()),
-            Stage::Refused(refusal) => Err(refusal.stop()),
+        let partial = match &self.stage {
+            Stage::Taken(partial) => partial,
+            Stage::Refused(refusal) => return Err(refusal.stop()),
+        };
+        if partial.is_whole() {
+            return Ok(());
         }
+        Err(Stop::Short { place: self.count })
     }
 
     /// Begins anew, with nothing taken and no refusal.
     pub fn reset(&mut self)
         ensures { self.new ≡ nothing_taken }
     {
-        self.stage = Stage::Open(Partial::Start);
+        self.stage = Stage::Taken(Partial::Start);
         self.count = 0;
     }
 }
 
-/// Takes octets of a piece after `count` octets, until the answer is whole or one is refused: how many,
-/// and what they have come to.
-pub(crate) fn taken(partial: Partial, count: usize, piece: &[u8]) -> (usize, Stage)
-    requires stands { Stands partial }
-    requires count { count ≡ length (taken_of partial) }
-    ensures { IsTaken (taken_of partial) piece.now result.0 result.1 }
-{
-    let mut partial = partial;
-    for (place, octet) in piece.iter().enumerate() {
-        partial = match partial.take(*octet) {
-            Ok(Step::More(more)) => more,
-            Ok(Step::Whole(atr)) => return (place + 1, Stage::Whole(atr)),
-            Err(reason) => {
+impl Partial {
+    /// Takes octets of a piece after `count` octets, until the answer is whole or one is refused: how
+    /// many.
+    pub(crate) fn take_piece(
+        &mut self,
+        count: usize,
+        piece: &[u8],
+    ) -> Result<usize, Refusal<AtrReason>>
+        requires holds { Holds self.old }
+        requires unended { is_whole self.old ≡ false }
+        requires count { count ≡ length (taken_of self.old) }
+        ensures { IsTaken (taken_of self.old) piece.now self.new result }
+    {
+        for (place, octet) in piece.iter().enumerate() {
+            if let Err(reason) = self.take(*octet) {
                 let place_ever = count + place;
-                let refusal = Refusal {
+                return Err(Refusal {
                     place: place_ever,
                     reason,
-                };
-                return (place, Stage::Refused(refusal));
+                });
             }
-        };
+            if self.is_whole() {
+                return Ok(place + 1);
+            }
+        }
+        Ok(piece.len())
     }
-    (piece.len(), Stage::Open(partial))
 }

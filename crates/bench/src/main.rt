@@ -4,6 +4,7 @@
 //! word `times` each line also says how many microseconds the work took.
 #![tactic(auto)]
 
+mod answers;
 mod apdus;
 mod chains;
 mod exchanges;
@@ -15,6 +16,7 @@ use std::{env, io};
 
 fn main(rt: HostRuntime) -> io::Result<()> {
     let timed = is_timed(&rt)?;
+    answers::decode_each(&rt, timed)?;
     chains::carry_each(&rt, timed)?;
     apdus::decode_each(&rt, timed)?;
     forests::judge_each(&rt, timed)?;

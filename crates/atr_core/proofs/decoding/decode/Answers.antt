@@ -1,7 +1,7 @@
-use Rattle.std.proofs.Common.{[], subst}
-use Rattle.atr_core.specs.Taking.{IsTaken}
-use Rattle.atr_core.proofs.Feeding.{short-open}
+use Rattle.atr_core.proofs.Feeding.{short-open, unended-of}
 use Rattle.atr_core.proofs.decoding.decode.Goals as goal
 
-pub returns-in-Open-clause-refused : goal.returns-in-Open-clause-refused
-returns-in-Open-clause-refused c = short-open c.in-Open.field-0 c.args.octets.now c.taken-count.result.0 (subst (IsTaken [] c.args.octets.now c.taken-count.result.0) c.in-Open.is c.taken-count.ensures)
+pub returns-in_default : goal.returns-in_default
+returns-in_default c =
+    let q = c.take_piece.new.self in
+    record { found = tt; refused = short-open q c.args.octets.now c.in-Ok.count (unended-of q c.in_default.not-Whole) c.in-Ok.ensures }

@@ -1,4 +1,4 @@
-use Rattle.std.proofs.Common.{refl, sym, subst, [], List, ℕ}
+use Rattle.std.proofs.Common.{refl, sym, subst}
 use Rattle.octet_core.specs.Grammar.{Begins}
 use Rattle.atr_core.specs.Atr.{IsAtr}
 use Rattle.atr_core.specs.declared.partial.Partial.TheVariants as partial
@@ -6,4 +6,4 @@ use Rattle.atr_core.proofs.Feeding.{begun-open}
 use Rattle.atr_core.proofs.laws.new_has_taken_nothing.Goals as goal
 
 pub returns : goal.returns
-returns c = λ t. (λ h. h.is, λ e. record { free = refl; is = e; begun = subst (Begins IsAtr) (sym e) (begun-open partial.Start tt) })
+returns c = λ t. (λ h. h.is, λ e. record { free = refl; is = e; begun = subst (Begins IsAtr) (sym e) (begun-open partial.Start tt refl) })

@@ -1,25 +1,39 @@
-use Rattle.std.proofs.Common.{◌≡◌, ◌∙◌, ℕ, ◌+◌, ◌≤◌, length, List, sym, ap, subst, arith}
+use Rattle.std.proofs.Common.{◌≡◌, ◌∙◌, Bool, Err, Ok, arith, sym, true, ap, subst}
 use Rattle.octet_core.specs.Reader.{IsFed}
+use Rattle.octet_core.specs.declared.stop.Stop.{Stop}
+use Rattle.atr_core.specs.declared.reason.AtrReason.{AtrReason}
 use Rattle.atr_core.specs.Atr.{IsAtr, IsReason}
-use Rattle.atr_core.specs.Partial.{Stands, taken_of}
-use Rattle.atr_core.specs.Taking.{answer_of, HasTaken, Holds, IsTaken, Taking, refusal_kept, taking_of}
+use Rattle.atr_core.specs.Taking.{Agrees, HasTaken, Taking, refusal_kept, taking_of}
 use Rattle.atr_core.specs.declared.reader.Stage.{Stage}
-use Rattle.atr_core.specs.declared.reader.Stage.TheVariants.{Open}
-use Rattle.atr_core.proofs.Feeding.{fed, open-total}
+use Rattle.atr_core.specs.declared.reader.Stage.TheVariants.{Taken, Refused}
+use Rattle.atr_core.proofs.Feeding.{fed, fed-full, fed-refused, holds-few, total-few}
 use Rattle.atr_core.proofs.reader.AtrReader.feed.Goals as goal
+
+pub returns-then-is_whole : goal.returns-then-is_whole
+returns-then-is_whole c =
+    let p = c.in-Taken.partial in
+    let agrees = subst (λ (s : Stage). Agrees s c.self.inside.count) c.in-Taken.is c.self.invariant in
+    let old : taking_of (Taken p) ≡ c.args.self.now = ap taking_of (sym c.in-Taken.is) ∙ c.self.view_is in
+    subst (λ (s : Taking). IsFed IsAtr IsReason HasTaken refusal_kept s (taking_of (Taken p)) c.args.piece.now (Ok (0, true))) old (fed-full p c.args.piece.now agrees.0 (sym c.if-is_whole.ensures))
 
 pub overflow_add-self : goal.overflow_add-self
 overflow_add-self c =
-    let was : c.self.inside.stage ≡ Open c.in-Open.partial = sym c.in-Open.ensures.value in
-    let holds = subst (λ (s : Stage). Holds s c.self.inside.count) was c.self.invariant in
-    let total : length (taken_of c.in-Open.partial) + c.taken-taken.result.0 ≤ 33 =
-    open-total c.in-Open.partial c.in-Open-stage.field-0 c.args.piece.now c.taken-taken.result.0 (subst (IsTaken (taken_of c.in-Open.partial) c.args.piece.now c.taken-taken.result.0) c.in-Open-stage.is c.taken-taken.ensures) in
-    omega (arith, total, holds.1)
+    let p = c.in-Taken.partial in let q = c.take_piece.new.self in
+    let agrees = subst (λ (s : Stage). Agrees s c.self.inside.count) c.in-Taken.is c.self.invariant in
+    omega (arith, agrees.1, total-few p q c.args.piece.now c.in-Ok.taken c.in-Ok.ensures, holds-few q c.in-Ok.ensures.0)
 
-pub returns-after-stage : goal.returns-after-stage
-returns-after-stage c =
-    let was : c.self.inside.stage ≡ Open c.in-Open.partial = sym c.in-Open.ensures.value in
-    let holds = subst (λ (s : Stage). Holds s c.self.inside.count) was c.self.invariant in
-    let old : taking_of (Open c.in-Open.partial) ≡ c.args.self.now = ap taking_of (sym was) ∙ c.self.view_is in
-    rw c.answer-answer.ensures (subst (λ (s : Taking). IsFed IsAtr IsReason HasTaken refusal_kept s (taking_of c.taken-taken.result.1) c.args.piece.now (answer_of c.taken-taken.result.1 c.taken-taken.result.0)) old
-    (fed c.in-Open.partial c.args.piece.now c.taken-taken.result.0 c.taken-taken.result.1 holds.0 c.taken-taken.ensures))
+pub returns-in-Ok : goal.returns-in-Ok
+returns-in-Ok c =
+    let p = c.in-Taken.partial in let q = c.take_piece.new.self in let n = c.in-Ok.taken in
+    let agrees = subst (λ (s : Stage). Agrees s c.self.inside.count) c.in-Taken.is c.self.invariant in
+    let old : taking_of (Taken p) ≡ c.args.self.now = ap taking_of (sym c.in-Taken.is) ∙ c.self.view_is in
+    let IsFedSo : Taking → Bool → Type 0 = λ s b. IsFed IsAtr IsReason HasTaken refusal_kept s (taking_of (Taken q)) c.args.piece.now (Ok (n, b)) in
+    subst (λ (s : Taking). IsFedSo s c.is_whole-in-Ok.result) old (subst (IsFedSo (taking_of (Taken p))) (sym c.is_whole-in-Ok.ensures) (fed p q c.args.piece.now n agrees.0 (sym c.if-is_whole.ensures) c.in-Ok.ensures))
+
+pub returns-in-Err : goal.returns-in-Err
+returns-in-Err c =
+    let p = c.in-Taken.partial in let q = c.take_piece.new.self in let r = c.in-Err.refusal in
+    let agrees = subst (λ (s : Stage). Agrees s c.self.inside.count) c.in-Taken.is c.self.invariant in
+    let old : taking_of (Taken p) ≡ c.args.self.now = ap taking_of (sym c.in-Taken.is) ∙ c.self.view_is in
+    let IsFedSo : Taking → Stop AtrReason → Type 0 = λ s stop. IsFed IsAtr IsReason HasTaken refusal_kept s (taking_of (Refused r)) c.args.piece.now (Err stop) in
+    subst (λ (s : Taking). IsFedSo s c.stop-in-Err.result) old (subst (IsFedSo (taking_of (Taken p))) (sym c.stop-in-Err.ensures) (fed-refused p q c.args.piece.now r agrees.0 (sym c.if-is_whole.ensures) c.in-Err.ensures))

@@ -3,12 +3,12 @@ use Rattle.octet_core.specs.Reader.{IsFinished}
 use Rattle.octet_core.specs.declared.stop.Stop.TheVariants.{Short}
 use Rattle.atr_core.specs.Atr.{IsAtr, IsReason}
 use Rattle.atr_core.specs.declared.reader.Stage.{Stage}
-use Rattle.atr_core.specs.Taking.{HasTaken, Holds, Taking, refusal_kept, taking_of}
+use Rattle.atr_core.specs.Taking.{Agrees, HasTaken, Taking, refusal_kept, taking_of}
 use Rattle.atr_core.proofs.Feeding.{finished}
 use Rattle.atr_core.proofs.reader.AtrReader.finish.Goals as goal
 
-pub returns-in-Open : goal.returns-in-Open
-returns-in-Open c =
-    let holds = subst (λ (s : Stage). Holds s c.self.inside.count) c.in-Open.is c.self.invariant in
-    subst (λ (s : Taking). IsFinished IsAtr IsReason HasTaken refusal_kept s (Err (Short c.self.inside.count))) (ap taking_of (sym c.in-Open.is) ∙ c.self.view_is)
-    (finished c.in-Open.field-0 c.self.inside.count holds.0 holds.1)
+pub returns : goal.returns
+returns c =
+    let agrees = subst (λ (s : Stage). Agrees s c.self.inside.count) c.in-Taken.is c.self.invariant in
+    subst (λ (s : Taking). IsFinished IsAtr IsReason HasTaken refusal_kept s (Err (Short c.self.inside.count))) (ap taking_of (sym c.in-Taken.is) ∙ c.self.view_is)
+    (finished c.in-Taken.partial c.self.inside.count agrees.0 (sym c.if-is_whole.ensures) agrees.1)
