@@ -1,7 +1,9 @@
 -- How a request's answer becomes that of the words.
 use Rattle.std.proofs.Common.{◌≡◌, ◌⊎◌, inl, inr, ℕ, List, [], Option, Result, Ok, Err, ap, sym, refl, subst}
 use Rattle.card_words.specs.Texts.{fault_text}
-use Rattle.card_words.specs.Words.{AskForFile, HasOther, IsRead, NeedsFile, taken, called_for_help, not_taken}
+use Rattle.card_words.specs.Given.{octets_given, IsFromReader}
+use Rattle.card_words.specs.declared.given.Given.{Given}
+use Rattle.card_words.specs.Words.{AskForFile, AskForOctets, HasOther, IsRead, NeedsFile, NeedsOctets, taken, called_for_help, not_taken}
 use Rattle.clap.specs.Kinds.{IsAmong}
 use Rattle.clap.specs.declared.error.kind.ErrorKind.TheVariants.{DisplayHelp}
 use Rattle.std.specs.Result.{MatchResult, result_unwrap_or}
@@ -10,7 +12,8 @@ use Rattle.card_words.specs.declared.fault.Fault.{Fault}
 use Rattle.card_words.specs.declared.fault.Fault.TheVariants.{Memory}
 use Rattle.card_words.specs.declared.request.Request.{Request}
 use Rattle.card_words.specs.declared.request.Request.TheVariants.{Help}
-use Rattle.card_tool.specs.Answers.{Answers, AnswersTo, IsAnswerTo, IsRight, IsRightTo}
+use Rattle.card_tool.specs.Answers.{Answers, AnswersTo, IsAnswerTo, IsRight, IsRightTo, IsToldOf}
+use Rattle.card_tool.specs.Files.{IsTaken}
 use Rattle.card_tool.specs.declared.answer.Answer.{Answer}
 use Rattle.card_tool.specs.declared.status.Status.{Status}
 use Rattle.card_tool.specs.declared.status.Status.TheVariants as status
@@ -65,3 +68,41 @@ refused-words words held count fault (inr refused) = inl (record {
   is_file = λ ask. absurd (asks-none words fault refused ask);
   is_answer = record { read = Err fault; is_read = refused; is_answer = (refl, refl) };
 })
+
+-- words ask for octets as they are read where the request does
+pub needs-octets : (words : List (List ℕ)) (request : Request) → IsRead words (Ok request) → NeedsOctets request → AskForOctets words
+needs-octets words request (taken free e) need = (free, subst (λ (r : Result Request Fault). MatchResult r NeedsOctets (λ _. ⊥)) e need)
+needs-octets words request (called_for_help among help e) need =
+    let is : request ≡ Help help = ap (λ (r : Result Request Fault). result_unwrap_or r request) e in
+    absurd (subst NeedsOctets is need)
+needs-octets words request (not_taken other e) need = cc e
+
+-- ---- octets that are given
+
+-- a request that tells of the octets that are given
+module _ (request : Request) (given : Given) (Told : List ℕ → List ℕ → Status → Type 0) (held left : Option (List ℕ)) (before after : ℕ) (need : NeedsFile request → IsFromReader given)
+    (answers : (file : Result (List ℕ) Fault) (text : List ℕ) (ended : Status) → IsToldOf Told (octets_given given file) text ended → IsAnswerTo request file text ended) where
+  pub told-octets : (octets text : List ℕ) (ended : Status) → IsTaken given held left before after (Ok octets) → Told octets text ended → IsRightTo request held left before after text ended
+  told-octets octets text ended had told = inl (record {
+    file = had.file;
+    is_file = λ asked. had.is_file (need asked);
+    is_answer = answers had.file text ended (elim had.is_taken [
+      | inl is ↦ subst (λ (r : Result (List ℕ) Fault). IsToldOf Told r text ended) is told
+      | inr memory ↦ absurd (cc memory.0)
+    ]);
+  })
+
+  pub told-fault : (fault : Fault) → IsTaken given held left before after (Err fault) → IsRightTo request held left before after (fault_text fault) status.Fault
+  told-fault fault had =
+      elim had.is_taken [
+        | inl is ↦
+            inl (record {
+              file = had.file;
+              is_file = λ asked. had.is_file (need asked);
+              is_answer = answers had.file (fault_text fault) status.Fault (subst (λ (r : Result (List ℕ) Fault). IsToldOf Told r (fault_text fault) status.Fault) is (refl, refl));
+            })
+        | inr memory ↦ let same : fault ≡ Memory = cc memory.0 in inr (ap fault_text same, refl, memory.1)
+      ]
+
+  pub told-wanting : (octets : List ℕ) → IsTaken given held left before after (Ok octets) → IsRightTo request held left before after (fault_text Memory) status.Fault
+  told-wanting octets had = inr (refl, refl, had.count)

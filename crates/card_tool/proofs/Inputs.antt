@@ -1,12 +1,17 @@
 -- How a whole input is read, call by call.
-use Rattle.std.proofs.Common.{◌≡◌, ◌≤◌, ◌<◌, ◌∙◌, ◌+◌, ℕ, List, [], ◌++◌, Option, None, Some, Result, Ok, Err, ap, arith, sym, subst, refl, append_assoc, drop, take}
+use Rattle.std.proofs.Common.{◌≡◌, ◌≤◌, ◌<◌, ◌∙◌, ◌+◌, inl, inr, ℕ, List, [], ◌++◌, Option, None, Some, Result, Ok, Err, IfOk, ap, arith, sym, subst, refl, append_assoc, drop, take}
 use Rattle.std.proofs.lemmas.List.{length-take}
 use Rattle.std.proofs.Math.Seq.{take-add}
 use Rattle.std.specs.Io.KnownBytes.{Consumes, Keeps}
 use Rattle.octet_core.specs.Failures.{next_count}
 use Rattle.card_words.specs.declared.fault.Fault.{Fault}
 use Rattle.card_words.specs.declared.fault.Fault.TheVariants.{Words, Hex, Memory, Read, TooLarge}
-use Rattle.card_tool.specs.Files.{largest_file, IsBegun, IsHeld, IsMore, IsTooLarge, IsWhole, ReadsMore, ReadsWhole}
+use Rattle.card_words.specs.Given.{octets_in}
+use Rattle.card_words.specs.Value.{UnlessMemory}
+use Rattle.card_words.specs.declared.given.Form.{Form}
+use Rattle.card_words.specs.declared.given.Given.TheVariants as given
+use Rattle.card_words.specs.declared.given.Given.TheVariants.{Word}
+use Rattle.card_tool.specs.Files.{largest_file, IsBegun, IsHeld, IsMore, IsTaken, IsTooLarge, IsWhole, ReadsMore, ReadsWhole}
 
 -- two reads in a row
 Consumes-then : (a b c : Option (List ℕ)) (x y : List ℕ) → Consumes a b x → Consumes b c y → Consumes a c (x ++ y)
@@ -77,3 +82,23 @@ read-begun held left before after (Err Read) h = record { read = h.0.read; from 
 read-begun held left before after (Err Memory) h = record { read = h.0.read; from = h.0.from; few = omega (arith, h.0.few) }
 read-begun held left before after (Err Words) h = absurd h
 read-begun held left before after (Err Hex) h = absurd h
+
+-- ---- octets that are given
+
+pub word-taken : (octets : List ℕ) (held : Option (List ℕ)) (count : ℕ) → IsTaken (Word octets) held held count count (Ok octets)
+word-taken octets held count = record { file = Ok []; is_file = λ asked. absurd asked; is_taken = inl refl; count = refl }
+
+pub read-fault : (form : Form) (held left : Option (List ℕ)) (before after : ℕ) (fault : Fault) → ReadsWhole held left before after (Err fault) → IsTaken (given.Read form) held left before after (Err fault)
+read-fault form held left before after fault h = record { file = Err fault; is_file = λ asked. h; is_taken = inl refl; count = tt }
+
+counted : (before after : ℕ) (taken : Result (List ℕ) Fault) → after ≡ before → IfOk taken (λ _. after ≡ before)
+counted before after (Ok octets) h = h
+counted before after (Err fault) h = tt
+
+pub read-taken : (form : Form) (held left : Option (List ℕ)) (before after : ℕ) (text : List ℕ) (taken : Result (List ℕ) Fault) → ReadsWhole held left before after (Ok text) → UnlessMemory taken (octets_in form text) → IsTaken (given.Read form) held left before after taken
+read-taken form held left before after text taken h said = record {
+  file = Ok text;
+  is_file = λ asked. h;
+  is_taken = elim said [ inl memory ↦ inr (memory, h.count) | inr is ↦ inl is ];
+  count = counted before after taken h.count;
+}

@@ -1,5 +1,5 @@
 -- That a request has one answer.
-use Rattle.std.proofs.Common.{◌≡◌, ◌≤◌, ◌∙◌, inl, inr, ℕ, List, Result, Ok, Err, ap, length, subst, sym, refl}
+use Rattle.std.proofs.Common.{◌≡◌, ◌≤◌, ◌∙◌, inl, inr, ℕ, List, Result, Ok, Err, IfOk, ap, length, subst, sym, refl}
 use Rattle.octet_core.specs.Octets.{AreOctets}
 use Rattle.octet_core.specs.Grammar.{Ending, OneVerdict, self_ended, whole}
 use Rattle.atr_core.specs.Atr as atr
@@ -11,7 +11,7 @@ use Rattle.card_tool.specs.ExchangeTexts.{Migrates, Replays}
 use Rattle.card_tool.proofs.OneOf.{OneText, ended-by, plain}
 use Rattle.card_tool.proofs.Exchanges.{migrated-once, replayed-once}
 use Rattle.card_tool.proofs.Simulations.{simulated-once}
-use Rattle.card_tool.specs.Answers.{Checks, IsAnswerTo, IsFilled, IsToldOf, IsFilledBy, Shows, Tells, accepted, refused, unknown, duplicate, full, listed, no_list}
+use Rattle.card_tool.specs.Answers.{Checks, IsAnswerTo, IsFilled, IsToldOf, IsFilledBy, Shows, Tells, Tidies, accepted, refused, unknown, duplicate, full, listed, no_list}
 use Rattle.card_tool.specs.Texts.{accepted_text, duplicate_text, refused_text}
 use Rattle.card_words.specs.Texts.{fault_text}
 use Rattle.card_words.specs.declared.fault.Fault.{Fault}
@@ -45,10 +45,12 @@ use Rattle.card_tool.specs.ForestTexts as forest_texts
 use Rattle.card_tool.specs.ForestTexts.{forest_text, tidied_text}
 use Rattle.card_tool.specs.ListTexts as list_texts
 use Rattle.card_tool.specs.ListTexts.{dol_text, filled_text}
-use Rattle.card_words.specs.Words.{HasOctets, IsSized}
+use Rattle.card_words.specs.Given.{octets_given}
+use Rattle.card_words.specs.Words.{HasOctets, IsSized, NeedsOctets}
+use Rattle.card_words.proofs.Givens.{octets-given}
 use Rattle.card_words.specs.declared.request.Kind.{Kind}
 use Rattle.card_words.specs.declared.request.Kind.TheVariants.{Atr, Block, Chain, Command, Response, Tlv, Dol}
-use Rattle.card_words.specs.declared.request.Input.{Input}
+use Rattle.card_words.specs.declared.request.Expected.{Expected}
 use Rattle.card_words.specs.declared.request.Request.{Request}
 use Rattle.card_words.specs.declared.request.Request.TheVariants.{BuildChain, BuildTidy, BuildFill, Check, Show, Replay, Migrate, Simulate, Help}
 use Rattle.card_tool.specs.declared.status.Status.{Status}
@@ -76,25 +78,28 @@ module _ {V R : Type 0} (e : Ending) (S : V → List ℕ → Type 0) (Reason : R
 
 -- ---- the kinds
 
-checked : (kind : Kind) (input : Input) → input.ifs ≤ 254 → AreOctets input.octets → OneText (Checks kind input)
-checked Atr input small octets = told-once self_ended IsAtr atr.IsReason atr_texts.reason_text (λ v n. accepted_text n) input.octets (atr_goes.one-verdict input.octets octets)
-checked Block input small octets = told-once self_ended (IsBlock input.ifs) (IsReason input.ifs) reason_text (λ v n. accepted_text n) input.octets (one-verdict input.ifs input.octets small octets)
-checked Chain input small octets =
-    told-once self_ended (IsChain input.ifs input.number longest_message) (chain.IsReason input.ifs input.number longest_message) chain_texts.reason_text (λ v n. accepted_text n) input.octets (chain_goes.one-verdict input.ifs input.number longest_message input.octets small octets)
-checked Command input small octets = told-once whole IsCommand command.IsReason command_texts.reason_text (λ v n. accepted_text n) input.octets (command-one_verdict input.octets octets)
-checked Response input small octets = told-once whole IsResponse response.IsReason response_texts.reason_text (λ v n. accepted_text n) input.octets (response-one_verdict input.octets octets)
-checked Tlv input small octets = told-once whole (IsForest largest) (forest.IsReason largest) forest_texts.reason_text (λ v n. accepted_text n) input.octets (forest_verdict largest input.octets octets)
-checked Dol input small octets = told-once whole IsDol IsDolReason list_texts.reason_text (λ v n. accepted_text n) input.octets (dol_verdict input.octets octets)
+checked : (kind : Kind) (expected : Expected) (b : List ℕ) → expected.ifs ≤ 254 → AreOctets b → OneText (Checks kind expected b)
+checked Atr expected b small octets = told-once self_ended IsAtr atr.IsReason atr_texts.reason_text (λ v n. accepted_text n) b (atr_goes.one-verdict b octets)
+checked Block expected b small octets = told-once self_ended (IsBlock expected.ifs) (IsReason expected.ifs) reason_text (λ v n. accepted_text n) b (one-verdict expected.ifs b small octets)
+checked Chain expected b small octets =
+    told-once self_ended (IsChain expected.ifs expected.number longest_message) (chain.IsReason expected.ifs expected.number longest_message) chain_texts.reason_text (λ v n. accepted_text n) b (chain_goes.one-verdict expected.ifs expected.number longest_message b small octets)
+checked Command expected b small octets = told-once whole IsCommand command.IsReason command_texts.reason_text (λ v n. accepted_text n) b (command-one_verdict b octets)
+checked Response expected b small octets = told-once whole IsResponse response.IsReason response_texts.reason_text (λ v n. accepted_text n) b (response-one_verdict b octets)
+checked Tlv expected b small octets = told-once whole (IsForest largest) (forest.IsReason largest) forest_texts.reason_text (λ v n. accepted_text n) b (forest_verdict largest b octets)
+checked Dol expected b small octets = told-once whole IsDol IsDolReason list_texts.reason_text (λ v n. accepted_text n) b (dol_verdict b octets)
 
-shown : (kind : Kind) (input : Input) → input.ifs ≤ 254 → AreOctets input.octets → OneText (Shows kind input)
-shown Atr input small octets = told-once self_ended IsAtr atr.IsReason atr_texts.reason_text (λ v n. atr_text v) input.octets (atr_goes.one-verdict input.octets octets)
-shown Block input small octets = told-once self_ended (IsBlock input.ifs) (IsReason input.ifs) reason_text (λ v n. block_text v) input.octets (one-verdict input.ifs input.octets small octets)
-shown Chain input small octets =
-    told-once self_ended (IsChain input.ifs input.number longest_message) (chain.IsReason input.ifs input.number longest_message) chain_texts.reason_text (λ v n. chain_text v) input.octets (chain_goes.one-verdict input.ifs input.number longest_message input.octets small octets)
-shown Command input small octets = told-once whole IsCommand command.IsReason command_texts.reason_text (λ v n. command_text v) input.octets (command-one_verdict input.octets octets)
-shown Response input small octets = told-once whole IsResponse response.IsReason response_texts.reason_text (λ v n. response_text v) input.octets (response-one_verdict input.octets octets)
-shown Tlv input small octets = told-once whole (IsForest largest) (forest.IsReason largest) forest_texts.reason_text (λ v n. forest_text v) input.octets (forest_verdict largest input.octets octets)
-shown Dol input small octets = told-once whole IsDol IsDolReason list_texts.reason_text (λ v n. dol_text v) input.octets (dol_verdict input.octets octets)
+shown : (kind : Kind) (expected : Expected) (b : List ℕ) → expected.ifs ≤ 254 → AreOctets b → OneText (Shows kind expected b)
+shown Atr expected b small octets = told-once self_ended IsAtr atr.IsReason atr_texts.reason_text (λ v n. atr_text v) b (atr_goes.one-verdict b octets)
+shown Block expected b small octets = told-once self_ended (IsBlock expected.ifs) (IsReason expected.ifs) reason_text (λ v n. block_text v) b (one-verdict expected.ifs b small octets)
+shown Chain expected b small octets =
+    told-once self_ended (IsChain expected.ifs expected.number longest_message) (chain.IsReason expected.ifs expected.number longest_message) chain_texts.reason_text (λ v n. chain_text v) b (chain_goes.one-verdict expected.ifs expected.number longest_message b small octets)
+shown Command expected b small octets = told-once whole IsCommand command.IsReason command_texts.reason_text (λ v n. command_text v) b (command-one_verdict b octets)
+shown Response expected b small octets = told-once whole IsResponse response.IsReason response_texts.reason_text (λ v n. response_text v) b (response-one_verdict b octets)
+shown Tlv expected b small octets = told-once whole (IsForest largest) (forest.IsReason largest) forest_texts.reason_text (λ v n. forest_text v) b (forest_verdict largest b octets)
+shown Dol expected b small octets = told-once whole IsDol IsDolReason list_texts.reason_text (λ v n. dol_text v) b (dol_verdict b octets)
+
+tidied : (b : List ℕ) → AreOctets b → OneText (Tidies b)
+tidied b octets = told-once whole (IsForest largest) (forest.IsReason largest) forest_texts.reason_text (λ v n. tidied_text v) b (forest_verdict largest b octets)
 
 -- ---- filling
 
@@ -148,18 +153,25 @@ module _ (b : List ℕ) (known : Result (List Known) Fault) (octets : AreOctets 
 
 -- ---- requests
 
+-- what octets come to, where any come to one text
+told-octets : (Told : List ℕ → List ℕ → Status → Type 0) → ((b : List ℕ) → AreOctets b → OneText (Told b)) → (r : Result (List ℕ) Fault) → IfOk r AreOctets → OneText (IsToldOf Told r)
+told-octets Told once (Ok b) octets = once b octets
+told-octets Told once (Err fault) octets = ended-by (fault_text fault) status.Fault
+
 -- what a file comes to, where each file comes to one text
 told-of : (Told : List ℕ → List ℕ → Status → Type 0) → ((octets : List ℕ) → OneText (Told octets)) → (file : Result (List ℕ) Fault) → OneText (IsToldOf Told file)
 told-of Told once (Ok octets) = once octets
 told-of Told once (Err fault) = ended-by (fault_text fault) status.Fault
 
-pub one-answer : (request : Request) (file : Result (List ℕ) Fault) → IsSized request → HasOctets request → OneText (IsAnswerTo request file)
-one-answer (Check input) file sized octets = checked input.kind input sized.1 octets
-one-answer (Show input) file sized octets = shown input.kind input sized.1 octets
-one-answer (BuildChain ifs number message) file sized octets = plain (blocks_text (links number (cut_of ifs message)))
-one-answer (BuildTidy b) file sized octets = told-once whole (IsForest largest) (forest.IsReason largest) forest_texts.reason_text (λ v n. tidied_text v) b (forest_verdict largest b octets)
-one-answer (BuildFill list known) file sized octets = filled-once list known octets
-one-answer (Replay side) file sized octets = told-of (Replays side) (replayed-once side) file
-one-answer Migrate file sized octets = told-of Migrates migrated-once file
-one-answer (Simulate session) file sized octets = simulated-once session octets.0
-one-answer (Help help) file sized octets = plain help
+pub one-answer : (request : Request) (file : Result (List ℕ) Fault) → IsSized request → HasOctets request → (NeedsOctets request → IfOk file AreOctets) → OneText (IsAnswerTo request file)
+one-answer (Check input) file sized octets as_read =
+    told-octets (Checks input.expected.kind input.expected) (λ b. checked input.expected.kind input.expected b sized.1) (octets_given input.given file) (octets-given input.given file octets as_read)
+one-answer (Show input) file sized octets as_read =
+    told-octets (Shows input.expected.kind input.expected) (λ b. shown input.expected.kind input.expected b sized.1) (octets_given input.given file) (octets-given input.given file octets as_read)
+one-answer (BuildChain ifs number message) file sized octets as_read = plain (blocks_text (links number (cut_of ifs message)))
+one-answer (BuildTidy given) file sized octets as_read = told-octets Tidies tidied (octets_given given file) (octets-given given file octets as_read)
+one-answer (BuildFill list known) file sized octets as_read = filled-once list known octets
+one-answer (Replay side) file sized octets as_read = told-of (Replays side) (replayed-once side) file
+one-answer Migrate file sized octets as_read = told-of Migrates migrated-once file
+one-answer (Simulate session) file sized octets as_read = simulated-once session octets.0
+one-answer (Help help) file sized octets as_read = plain help

@@ -38,6 +38,7 @@ use Rattle.card_tool.specs.ListTexts.{dol_text, filled_text}
 use Rattle.card_tool.specs.ExchangeTexts.{Migrates, Replays}
 use Rattle.card_tool.specs.SimulationTexts.{Simulates}
 use Rattle.card_tool.specs.Files.{ReadsWhole}
+use Rattle.card_words.specs.Given.{octets_given}
 use Rattle.card_words.specs.Words.{AskForFile, IsRead, NeedsFile}
 use Rattle.card_tool.specs.declared.status.Status.{Status}
 use Rattle.card_tool.specs.declared.status.Status.TheVariants as status
@@ -46,7 +47,7 @@ use Rattle.card_words.specs.declared.fault.Fault.TheVariants.{Memory}
 use Rattle.card_tool.specs.declared.answer.Answer.{Answer}
 use Rattle.card_words.specs.declared.request.Kind.{Kind}
 use Rattle.card_words.specs.declared.request.Kind.TheVariants.{Atr, Block, Chain, Command, Response, Tlv, Dol}
-use Rattle.card_words.specs.declared.request.Input.{Input}
+use Rattle.card_words.specs.declared.request.Expected.{Expected}
 use Rattle.card_words.specs.declared.request.Request.{Request}
 use Rattle.card_words.specs.declared.request.Request.TheVariants.{BuildChain, BuildTidy, BuildFill, Check, Show, Replay, Migrate, Simulate, Help}
 
@@ -56,24 +57,28 @@ pub data Tells {V R : Type 0} (e : Ending) (S : V → List ℕ → Type 0) (Reas
   refused : (stop : Stop R) → Refuses e S Reason b stop → text ≡ refused_text name stop → ended ≡ status.Refused → Tells e S Reason name told b text ended
 
 -- how many octets the value takes
-abbrev pub Checks : Kind → Input → List ℕ → Status → Type 0
-Checks Atr input = Tells self_ended IsAtr atr.IsReason atr_texts.reason_text (λ v n. accepted_text n) input.octets
-Checks Block input = Tells self_ended (IsBlock input.ifs) (IsReason input.ifs) reason_text (λ v n. accepted_text n) input.octets
-Checks Chain input = Tells self_ended (IsChain input.ifs input.number longest_message) (chain.IsReason input.ifs input.number longest_message) chain_texts.reason_text (λ v n. accepted_text n) input.octets
-Checks Command input = Tells whole IsCommand command.IsReason command_texts.reason_text (λ v n. accepted_text n) input.octets
-Checks Response input = Tells whole IsResponse response.IsReason response_texts.reason_text (λ v n. accepted_text n) input.octets
-Checks Tlv input = Tells whole (IsForest largest) (forest.IsReason largest) forest_texts.reason_text (λ v n. accepted_text n) input.octets
-Checks Dol input = Tells whole IsDol IsDolReason list_texts.reason_text (λ v n. accepted_text n) input.octets
+abbrev pub Checks : Kind → Expected → List ℕ → List ℕ → Status → Type 0
+Checks Atr expected b = Tells self_ended IsAtr atr.IsReason atr_texts.reason_text (λ v n. accepted_text n) b
+Checks Block expected b = Tells self_ended (IsBlock expected.ifs) (IsReason expected.ifs) reason_text (λ v n. accepted_text n) b
+Checks Chain expected b = Tells self_ended (IsChain expected.ifs expected.number longest_message) (chain.IsReason expected.ifs expected.number longest_message) chain_texts.reason_text (λ v n. accepted_text n) b
+Checks Command expected b = Tells whole IsCommand command.IsReason command_texts.reason_text (λ v n. accepted_text n) b
+Checks Response expected b = Tells whole IsResponse response.IsReason response_texts.reason_text (λ v n. accepted_text n) b
+Checks Tlv expected b = Tells whole (IsForest largest) (forest.IsReason largest) forest_texts.reason_text (λ v n. accepted_text n) b
+Checks Dol expected b = Tells whole IsDol IsDolReason list_texts.reason_text (λ v n. accepted_text n) b
 
 -- the value itself
-abbrev pub Shows : Kind → Input → List ℕ → Status → Type 0
-Shows Atr input = Tells self_ended IsAtr atr.IsReason atr_texts.reason_text (λ v n. atr_text v) input.octets
-Shows Block input = Tells self_ended (IsBlock input.ifs) (IsReason input.ifs) reason_text (λ v n. block_text v) input.octets
-Shows Chain input = Tells self_ended (IsChain input.ifs input.number longest_message) (chain.IsReason input.ifs input.number longest_message) chain_texts.reason_text (λ v n. chain_text v) input.octets
-Shows Command input = Tells whole IsCommand command.IsReason command_texts.reason_text (λ v n. command_text v) input.octets
-Shows Response input = Tells whole IsResponse response.IsReason response_texts.reason_text (λ v n. response_text v) input.octets
-Shows Tlv input = Tells whole (IsForest largest) (forest.IsReason largest) forest_texts.reason_text (λ v n. forest_text v) input.octets
-Shows Dol input = Tells whole IsDol IsDolReason list_texts.reason_text (λ v n. dol_text v) input.octets
+abbrev pub Shows : Kind → Expected → List ℕ → List ℕ → Status → Type 0
+Shows Atr expected b = Tells self_ended IsAtr atr.IsReason atr_texts.reason_text (λ v n. atr_text v) b
+Shows Block expected b = Tells self_ended (IsBlock expected.ifs) (IsReason expected.ifs) reason_text (λ v n. block_text v) b
+Shows Chain expected b = Tells self_ended (IsChain expected.ifs expected.number longest_message) (chain.IsReason expected.ifs expected.number longest_message) chain_texts.reason_text (λ v n. chain_text v) b
+Shows Command expected b = Tells whole IsCommand command.IsReason command_texts.reason_text (λ v n. command_text v) b
+Shows Response expected b = Tells whole IsResponse response.IsReason response_texts.reason_text (λ v n. response_text v) b
+Shows Tlv expected b = Tells whole (IsForest largest) (forest.IsReason largest) forest_texts.reason_text (λ v n. forest_text v) b
+Shows Dol expected b = Tells whole IsDol IsDolReason list_texts.reason_text (λ v n. dol_text v) b
+
+-- the forest in the fewest octets that say the same
+abbrev pub Tidies : List ℕ → List ℕ → Status → Type 0
+Tidies b = Tells whole (IsForest largest) (forest.IsReason largest) forest_texts.reason_text (λ v n. tidied_text v) b
 
 -- what a list asks for: a fault of what is known, then two known values with one tag, else the octets that fill it
 pub data IsFilledBy (known : Result (List Known) Fault) (entries : List (List ℕ × ℕ)) (text : List ℕ) (ended : Status) : Type 0 where
@@ -86,16 +91,16 @@ pub data IsFilled (b : List ℕ) (known : Result (List Known) Fault) (text : Lis
   listed : (entries : List (List ℕ × ℕ)) → IsDol entries b → IsFilledBy known entries text ended → IsFilled b known text ended
   no_list : (stop : Stop DolReason) → Refuses whole IsDol IsDolReason b stop → text ≡ refused_text list_texts.reason_text stop → ended ≡ status.Refused → IsFilled b known text ended
 
--- what a file comes to, or the fault for which none was read
+-- what octets come to, or the fault for which there are none
 abbrev pub IsToldOf : (List ℕ → List ℕ → Status → Type 0) → Result (List ℕ) Fault → List ℕ → Status → Type 0
-IsToldOf Told file text ended = MatchResult file (λ octets. Told octets text ended) (λ fault. (text ≡ fault_text fault) × (ended ≡ status.Fault))
+IsToldOf Told octets text ended = MatchResult octets (λ b. Told b text ended) (λ fault. (text ≡ fault_text fault) × (ended ≡ status.Fault))
 
--- the text and the status that a request has, with what reading a file gave
+-- the text and the status that a request has, with what reading standard input gave
 abbrev pub IsAnswerTo : Request → Result (List ℕ) Fault → List ℕ → Status → Type 0
-IsAnswerTo (Check input) file text ended = Checks input.kind input text ended
-IsAnswerTo (Show input) file text ended = Shows input.kind input text ended
+IsAnswerTo (Check input) file text ended = IsToldOf (Checks input.expected.kind input.expected) (octets_given input.given file) text ended
+IsAnswerTo (Show input) file text ended = IsToldOf (Shows input.expected.kind input.expected) (octets_given input.given file) text ended
 IsAnswerTo (BuildChain ifs number message) file text ended = (text ≡ blocks_text (links number (cut_of ifs message))) × (ended ≡ status.Accepted)
-IsAnswerTo (BuildTidy octets) file text ended = Tells whole (IsForest largest) (forest.IsReason largest) forest_texts.reason_text (λ v n. tidied_text v) octets text ended
+IsAnswerTo (BuildTidy given) file text ended = IsToldOf Tidies (octets_given given file) text ended
 IsAnswerTo (BuildFill list known) file text ended = IsFilled list known text ended
 IsAnswerTo (Replay side) file text ended = IsToldOf (Replays side) file text ended
 IsAnswerTo Migrate file text ended = IsToldOf Migrates file text ended
@@ -108,7 +113,7 @@ pub record IsAnswer (words : List (List ℕ)) (file : Result (List ℕ) Fault) (
   pub is_read : IsRead words read
   pub is_answer : MatchResult read (λ request. IsAnswerTo request file text ended) (λ fault. (text ≡ fault_text fault) × (ended ≡ status.Fault))
 
--- ---- where a reader has the file
+-- ---- where a reader has the octets or the file
 --
 -- held and left are the octets that the reader held before and after, where they are known; before and
 -- after are the counts of its calls that failed.
@@ -117,7 +122,7 @@ pub record IsAnswer (words : List (List ℕ)) (file : Result (List ℕ) Fault) (
 abbrev pub IsWanting : ℕ → ℕ → List ℕ → Status → Type 0
 IsWanting before after text ended = (text ≡ fault_text Memory) × (ended ≡ status.Fault) × (after ≡ before)
 
--- the text and the status that the words have, with the file that was read where they ask for one
+-- the text and the status that the words have, with what was read where they ask for it
 pub record IsAnswerFrom (words : List (List ℕ)) (held left : Option (List ℕ)) (before after : ℕ) (text : List ℕ) (ended : Status) : Type 0 where
   pub file : Result (List ℕ) Fault
   pub is_file : AskForFile words → ReadsWhole held left before after file

@@ -2,9 +2,11 @@
 --
 -- held and left are the octets that the reader held before and after, where they are known; before and
 -- after are the counts of its calls that failed.
-use Rattle.std.specs.Prelude.{◌≡◌, ℕ, ◌+◌, ◌≤◌, List, Option, drop, length, nat_le, take, Result, Ok, Err, if◌then◌else◌}
+use Rattle.std.specs.Prelude.{◌≡◌, ◌⊎◌, ℕ, ◌+◌, ◌≤◌, List, Option, drop, length, nat_le, take, Result, Ok, Err, IfOk, if◌then◌else◌}
 use Rattle.std.specs.Io.KnownBytes.{Consumes, IsAtEnd, Keeps}
 use Rattle.octet_core.specs.Failures.{next_count}
+use Rattle.card_words.specs.Given.{octets_given, IsFromReader}
+use Rattle.card_words.specs.declared.given.Given.{Given}
 use Rattle.card_words.specs.declared.fault.Fault.{Fault}
 use Rattle.card_words.specs.declared.fault.Fault.TheVariants.{Memory, Read, TooLarge}
 
@@ -43,6 +45,13 @@ ReadsWhole held left before after (Err TooLarge) = IsTooLarge held left before a
 ReadsWhole held left before after (Err Read) = IsBegun held left largest_file × (after ≡ next_count before)
 ReadsWhole held left before after (Err Memory) = IsBegun held left largest_file × (after ≡ before)
 ReadsWhole held left before after (Err _) = ⊥
+
+-- What taking the octets gives: those that the word gave, or that were read and have this form; or their fault; or that memory ran out, with no failed call.
+pub record IsTaken (given : Given) (held left : Option (List ℕ)) (before after : ℕ) (taken : Result (List ℕ) Fault) : Type 0 where
+  pub file : Result (List ℕ) Fault
+  pub is_file : IsFromReader given → ReadsWhole held left before after file
+  pub is_taken : (taken ≡ octets_given given file) ⊎ ((taken ≡ Err Memory) × (after ≡ before))
+  pub count : IfOk taken (λ _. after ≡ before)
 
 -- ---- one call of the reader
 

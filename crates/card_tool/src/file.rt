@@ -1,9 +1,10 @@
-//! A whole input, read into one buffer.
+//! A whole input, read into one buffer, and the octets that it gives.
 
 ghost use Rattle.std.specs.Prelude.{◌≡◌, ◌<◌, ◌≤◌, OnOk, length, take};
-ghost use Rattle.card_tool.specs.Files.{ReadsMore, ReadsWhole};
+ghost use Rattle.card_tool.specs.Files.{IsBegun, IsTaken, ReadsMore, ReadsWhole};
+ghost use Rattle.card_words.specs.Given.{IsFromReader};
 
-use card_words::Fault;
+use card_words::{Fault, Given};
 use octet_core::{Octets, Source};
 use std::alloc::{AllocError, Global};
 
@@ -12,6 +13,26 @@ pub const LARGEST_FILE: usize = 4_194_304;
 
 /// How many octets the buffer has at first.
 const FIRST_ROOM: usize = 4_096;
+
+/// The octets that a word gave, or those that the reader has in the form that was asked for. The reader is
+/// read only then.
+pub(crate) fn octets_given<R: Source>(
+    alloc: Global,
+    given: Given,
+    reader: &mut R,
+) -> Result<Octets, Fault>
+    ensures taken { IsTaken given (R.remaining reader.old) (R.remaining reader.new) (R.failures reader.old) (R.failures reader.new) result }
+    ensures unread { (IsFromReader given → ⊥) → reader.new ≡ reader.old }
+    ensures few { IsBegun (R.remaining reader.old) (R.remaining reader.new) 4194305 }
+{
+    match given {
+        Given::Word(octets) => Ok(octets),
+        Given::Read(form) => {
+            let text = read_whole(alloc, reader)?;
+            form.octets(alloc, text)
+        }
+    }
+}
 
 /// All octets that the reader has, at most 4,194,304, in a buffer of at most one octet more.
 ///

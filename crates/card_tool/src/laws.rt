@@ -1,22 +1,24 @@
 //! What holds of the program's definitions alone, as contracts.
 
-ghost use Rattle.std.specs.Prelude.{◌≡◌, ◌<◌, ◌⊎◌, ℕ, List, Option, Some, Result, Err};
+ghost use Rattle.std.specs.Prelude.{◌≡◌, ◌<◌, ◌⊎◌, ℕ, List, Option, Some, Result, Err, IfOk};
 ghost use Rattle.clap.specs.Kinds.{IsAmong};
 ghost use Rattle.clap.specs.Words.{fault_of};
 ghost use Rattle.clap.specs.declared.error.kind.ErrorKind.TheVariants.{DisplayHelp};
 ghost use Rattle.octet_core.specs.Failures.{most_failures};
+ghost use Rattle.octet_core.specs.Octets.{AreOctets};
 ghost use Rattle.card_tool.specs.Answers.{IsAnswer, IsAnswerTo};
 ghost use Rattle.card_tool.specs.Files.{file_of, ReadsWhole};
-ghost use Rattle.card_words.specs.Words.{scard, HasOctets, IsSized};
+ghost use Rattle.card_words.specs.Words.{scard, AskForOctets, HasOctets, IsSized, NeedsOctets};
 ghost use Rattle.card_words.specs.declared.fault.Fault.{Fault as AnyFault};
 ghost use Rattle.card_words.specs.declared.fault.Fault.TheVariants.{Memory};
 ghost use Rattle.card_words.specs.declared.request.Request.{Request as AnyRequest};
 ghost use Rattle.card_tool.specs.declared.status.Status.{Status as AnyStatus};
 
-/// Every request has one text and one status, and no other, with what reading its file gave.
+/// Every request has one text and one status, and no other, with what reading standard input gave. What is
+/// taken as it was read has to be octets.
 pub fn one_answer()
-    ensures some { (request : AnyRequest) (file : Result (List ℕ) AnyFault) → IsSized request → HasOctets request → (text : List ℕ) × (ended : AnyStatus) × IsAnswerTo request file text ended }
-    ensures one { (request : AnyRequest) (file : Result (List ℕ) AnyFault) (text other : List ℕ) (ended different : AnyStatus) → IsSized request → HasOctets request
+    ensures some { (request : AnyRequest) (file : Result (List ℕ) AnyFault) → IsSized request → HasOctets request → (NeedsOctets request → IfOk file AreOctets) → (text : List ℕ) × (ended : AnyStatus) × IsAnswerTo request file text ended }
+    ensures one { (request : AnyRequest) (file : Result (List ℕ) AnyFault) (text other : List ℕ) (ended different : AnyStatus) → IsSized request → HasOctets request → (NeedsOctets request → IfOk file AreOctets)
         → IsAnswerTo request file text ended → IsAnswerTo request file other different → (text ≡ other) × (ended ≡ different) }
 {}
 
@@ -24,8 +26,8 @@ pub fn one_answer()
 /// the text of help is open, and where its word `help` is followed by others, help and `fault: words` both
 /// are right.
 pub fn one_text()
-    ensures some { (words : List (List ℕ)) (file : Result (List ℕ) AnyFault) → (text : List ℕ) × (ended : AnyStatus) × IsAnswer words file text ended }
-    ensures one { (words : List (List ℕ)) (file : Result (List ℕ) AnyFault) (text other : List ℕ) (ended different : AnyStatus)
+    ensures some { (words : List (List ℕ)) (file : Result (List ℕ) AnyFault) → (AskForOctets words → IfOk file AreOctets) → (text : List ℕ) × (ended : AnyStatus) × IsAnswer words file text ended }
+    ensures one { (words : List (List ℕ)) (file : Result (List ℕ) AnyFault) (text other : List ℕ) (ended different : AnyStatus) → (AskForOctets words → IfOk file AreOctets)
         → IsAnswer words file text ended → IsAnswer words file other different → IsAmong DisplayHelp (fault_of scard words) ⊎ ((text ≡ other) × (ended ≡ different)) }
 {}
 

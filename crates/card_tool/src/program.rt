@@ -8,10 +8,10 @@ ghost use Rattle.card_words.specs.Words.{texts, AskForFile, IsSized, NeedsFile};
 ghost use Rattle.card_tool.specs.declared.status.Status.TheVariants as ended;
 
 use crate::answer::Answer;
-use crate::file::read_whole;
+use crate::file::{octets_given, read_whole};
 use crate::status::Status;
 use crate::{atr, block, chain, command, exchange, forest, list, response, simulation};
-use card_words::{Fault, Input, Kind, Request};
+use card_words::{Expected, Fault, Kind, Request};
 use octet_core::{Sink, Source, write_octets};
 use std::alloc::{AllocError, Global};
 
@@ -19,7 +19,8 @@ use std::alloc::{AllocError, Global};
 ///
 /// Where a growth of memory is refused the text is `fault: memory`; where the writer fails a part of
 /// the text is written; in both cases the status is `Fault`. The reader is read only where the words ask
-/// for a file of recorded exchanges, to its end, but no further than one octet past the largest file.
+/// for octets of standard input or for a file of recorded exchanges, to its end, but no further than one
+/// octet past the largest file.
 pub fn run<R: Source, W: Sink>(
     alloc: Global,
     words: Vec<String>,
@@ -70,8 +71,14 @@ fn answer_to<R: Source>(alloc: Global, request: Request, reader: &mut R) -> Resu
     ensures few { IsBegun (R.remaining reader.old) (R.remaining reader.new) 4194305 }
 {
     match request {
-        Request::Check(input) => Ok(check(alloc, &input)?),
-        Request::Show(input) => Ok(show(alloc, &input)?),
+        Request::Check(input) => {
+            let octets = octets_given(alloc, input.given, reader)?;
+            Ok(check(alloc, input.expected, octets.get())?)
+        }
+        Request::Show(input) => {
+            let octets = octets_given(alloc, input.given, reader)?;
+            Ok(show(alloc, input.expected, octets.get())?)
+        }
         Request::BuildChain {
             ifs,
             number,
@@ -80,7 +87,10 @@ fn answer_to<R: Source>(alloc: Global, request: Request, reader: &mut R) -> Resu
             let text = chain::blocks(alloc, message.get(), ifs, number)?;
             Ok(Answer::told(text))
         }
-        Request::BuildTidy(octets) => Ok(forest::tidy(alloc, octets.get())?),
+        Request::BuildTidy(given) => {
+            let octets = octets_given(alloc, given, reader)?;
+            Ok(forest::tidy(alloc, octets.get())?)
+        }
         Request::BuildFill { list, known } => Ok(list::fill(alloc, list.get(), &known)?),
         Request::Replay(side) => {
             let file = read_whole(alloc, reader)?;
@@ -96,16 +106,15 @@ fn answer_to<R: Source>(alloc: Global, request: Request, reader: &mut R) -> Resu
 }
 
 /// How many octets the value takes.
-fn check(alloc: Global, input: &Input) -> Result<Answer, AllocError>
-    requires least { 1 ≤ input.now.ifs }
-    requires most { input.now.ifs ≤ 254 }
-    ensures { IfOk result (λ answer. Checks input.now.kind input.now answer.text answer.status) }
+fn check(alloc: Global, expected: Expected, octets: &[u8]) -> Result<Answer, AllocError>
+    requires least { 1 ≤ expected.ifs }
+    requires most { expected.ifs ≤ 254 }
+    ensures { IfOk result (λ answer. Checks expected.kind expected octets.now answer.text answer.status) }
 {
-    let octets = input.octets.get();
-    match input.kind {
+    match expected.kind {
         Kind::Atr => atr::check(alloc, octets),
-        Kind::Block => block::check(alloc, octets, input.ifs),
-        Kind::Chain => chain::check(alloc, octets, input.ifs, input.number),
+        Kind::Block => block::check(alloc, octets, expected.ifs),
+        Kind::Chain => chain::check(alloc, octets, expected.ifs, expected.number),
         Kind::Command => command::check(alloc, octets),
         Kind::Response => response::check(alloc, octets),
         Kind::Tlv => forest::check(alloc, octets),
@@ -114,16 +123,15 @@ fn check(alloc: Global, input: &Input) -> Result<Answer, AllocError>
 }
 
 /// The value itself.
-fn show(alloc: Global, input: &Input) -> Result<Answer, AllocError>
-    requires least { 1 ≤ input.now.ifs }
-    requires most { input.now.ifs ≤ 254 }
-    ensures { IfOk result (λ answer. Shows input.now.kind input.now answer.text answer.status) }
+fn show(alloc: Global, expected: Expected, octets: &[u8]) -> Result<Answer, AllocError>
+    requires least { 1 ≤ expected.ifs }
+    requires most { expected.ifs ≤ 254 }
+    ensures { IfOk result (λ answer. Shows expected.kind expected octets.now answer.text answer.status) }
 {
-    let octets = input.octets.get();
-    match input.kind {
+    match expected.kind {
         Kind::Atr => atr::show(alloc, octets),
-        Kind::Block => block::show(alloc, octets, input.ifs),
-        Kind::Chain => chain::show(alloc, octets, input.ifs, input.number),
+        Kind::Block => block::show(alloc, octets, expected.ifs),
+        Kind::Chain => chain::show(alloc, octets, expected.ifs, expected.number),
         Kind::Command => command::show(alloc, octets),
         Kind::Response => response::show(alloc, octets),
         Kind::Tlv => forest::show(alloc, octets),

@@ -5,9 +5,11 @@ ghost use Rattle.std.specs.Prelude.{◌≤◌, ◌≢◌};
 mod apdus;
 mod chains;
 mod files;
+mod largest;
 mod objects;
 mod sessions;
 mod simulations;
+mod standard_input;
 
 use crate::{Status, run};
 use octet_core::{After, Counted, Feeder, Taker};
@@ -355,6 +357,17 @@ fn answers_a_call_for_help(rt: HostRuntime) -> Result<(), Fail> {
         let (writer, status) = told(rt.alloc(), line, 4096, After::End)?;
         assert_eq!(rt; status, Status::Accepted);
         assert!(rt; writer.kept().len() > 40);
+    }
+    let lines: [&[&str]; 4] = [
+        &["--help"],
+        &["check", "--help"],
+        &["show", "--help"],
+        &["build", "--help"],
+    ];
+    for line in lines {
+        let (writer, _) = told(rt.alloc(), line, 4096, After::End)?;
+        let option = b"--stdin".as_slice();
+        assert!(rt; writer.kept().windows(7).any(|text| text == option));
     }
     Ok(())
 }

@@ -1,5 +1,5 @@
 -- That the requests which words make have octets and sizes.
-use Rattle.std.proofs.Common.{◌≡◌, ◌≤◌, ◌⊎◌, inl, inr, ℕ, List, [], ◌∷◌, codes, Bool, true, false, Option, Some, None, Result, Ok, Err, IfOk, arith, refl, ap, sym, subst, length, if◌then◌else◌, nat_le, ◌&&◌}
+use Rattle.std.proofs.Common.{◌≡◌, ◌≤◌, ◌⊎◌, inl, inr, ℕ, List, [], ◌∷◌, codes, Bool, true, false, Option, Some, None, is_some, Result, Ok, Err, IfOk, arith, refl, ap, sym, subst, length, if◌then◌else◌, nat_le, ◌&&◌}
 use Rattle.std.specs.Result.{result_unwrap_or}
 use Rattle.std.proofs.lemmas.Bool.Decides.{nat_tests}
 use Rattle.std.specs.Str.{bytes_eq}
@@ -8,18 +8,21 @@ use Rattle.hex.specs.declared.error.FromHexError.{FromHexError}
 use Rattle.hex.proofs.HexLemmas.{decode_of-ok}
 use Rattle.clap.specs.Words.{Row, all_of, first_of, subcommand_of}
 use Rattle.octet_core.specs.Octets.{AreOctets}
+use Rattle.card_words.specs.Given.{form_of, given_of, GivesOctets}
 use Rattle.card_words.specs.Session.{blocks_of, pair_of, pairs_of, AreOctetPairs, IsSize}
 use Rattle.card_words.specs.Value.{◌>>=◌, hex_octets, octets_of_word, parted, UnlessMemory}
-use Rattle.card_words.specs.Words.{byte_or, size_of, number_of, number_of_word, needed, kind_of, input_of, short_message, chain_by, chain_of, tidy_of, fill_of, all_needed, build_of, end_of_word, replay_of, all_or_none, asked_size, session_of, request_by, request_of, scard, HasOctets, IsRead, IsSized, taken, called_for_help, not_taken}
+use Rattle.card_words.specs.Words.{byte_or, size_of, number_of, number_of_word, needed, kind_of, expected_of, input_of, short_message, chain_by, chain_of, tidy_of, fill_of, build_words, build_of, end_of_word, replay_of, all_or_none, asked_size, session_of, request_by, request_of, scard, HasOctets, IsRead, IsSized, taken, called_for_help, not_taken}
 use Rattle.card_words.specs.declared.fault.Fault.{Fault}
 use Rattle.card_words.specs.declared.fault.Fault.TheVariants.{Words}
 use Rattle.card_words.specs.declared.session.Pair.{Pair}
 use Rattle.card_words.specs.declared.session.Session.{Session}
+use Rattle.card_words.specs.declared.given.Given.{Given}
+use Rattle.card_words.specs.declared.request.Expected.{Expected}
 use Rattle.card_words.specs.declared.request.Input.{Input}
 use Rattle.card_words.specs.declared.request.Request.{Request}
-use Rattle.card_words.specs.declared.request.Request.TheVariants.{Migrate, Help}
+use Rattle.card_words.specs.declared.request.Request.TheVariants.{BuildTidy, Migrate, Help}
 
-both-steps : {A B : Type 0} (r : Result A Fault) (f : A → Result B Fault) (b : B) → r >>= f ≡ Ok b → (a : A) × (r ≡ Ok a) × (f a ≡ Ok b)
+pub both-steps : {A B : Type 0} (r : Result A Fault) (f : A → Result B Fault) (b : B) → r >>= f ≡ Ok b → (a : A) × (r ≡ Ok a) × (f a ≡ Ok b)
 both-steps (Ok a) f b h = (a, refl, h)
 both-steps (Err e) f b h = cc h
 
@@ -27,15 +30,15 @@ one-of : {A : Type 0} (b : Bool) (x y : Result A Fault) (a : A) → (if b then x
 one-of true x y a h = inl h
 one-of false x y a h = inr h
 
-abbrev read_as : {A : Type 0} → A → Result A Fault
+abbrev pub read_as : {A : Type 0} → A → Result A Fault
 read_as a = Ok a
 
-same : {A : Type 0} (a b : A) → read_as a ≡ read_as b → a ≡ b
+pub same : {A : Type 0} (a b : A) → read_as a ≡ read_as b → a ≡ b
 same {A = A} a b h = ap (λ (r : Result A Fault). result_unwrap_or r b) h
 
 -- ---- words
 
-read-hex : (read : Result (List ℕ) FromHexError) (octets : List ℕ) → hex_octets read ≡ Ok octets → read ≡ Ok octets
+pub read-hex : (read : Result (List ℕ) FromHexError) (octets : List ℕ) → hex_octets read ≡ Ok octets → read ≡ Ok octets
 read-hex (Ok b) octets h = ap Ok (same b octets h)
 read-hex (Err e) octets h = cc h
 
@@ -59,17 +62,33 @@ sized (Some word) ifs h = sized-by (byte_or 0 word) ifs (nat_le 1 (byte_or 0 wor
 abbrev IsProper : Request → Type 0
 IsProper request = IsSized request × HasOctets request
 
-input-proper : (rows : List Row) (input : Input) → input_of rows ≡ Ok input → (1 ≤ input.ifs) × (input.ifs ≤ 254) × AreOctets input.octets
+expected-sized : (rows : List Row) (expected : Expected) → expected_of rows ≡ Ok expected → (1 ≤ expected.ifs) × (expected.ifs ≤ 254)
+expected-sized rows expected h =
+    let size = both-steps (size_of (first_of (codes "ifs") rows)) _ expected h in
+    let number = both-steps (number_of (first_of (codes "number") rows)) _ expected size.2 in
+    let kind_word = both-steps (needed (first_of (codes "kind") rows)) _ expected number.2 in
+    let kind = both-steps (kind_of kind_word.0) _ expected kind_word.2 in
+    let is = same _ expected kind.2 in
+    subst (λ (e : Expected). (1 ≤ e.ifs) × (e.ifs ≤ 254)) is (sized (first_of (codes "ifs") rows) size.0 size.1)
+
+-- octets that a word gives, or that are on standard input
+given-octets : (hex form : Option (List ℕ)) (given : Given) → given_of hex form ≡ Ok given → GivesOctets given
+given-octets (Some hex) None given h =
+    let octets = both-steps (octets_of_word hex) _ given h in
+    subst GivesOctets (same _ given octets.2) (word-octets hex octets.0 octets.1)
+given-octets None (Some word) given h =
+    let form = both-steps (form_of word) _ given h in
+    subst GivesOctets (same _ given form.2) tt
+given-octets (Some hex) (Some word) given h = cc h
+given-octets None None given h = cc h
+
+input-proper : (rows : List Row) (input : Input) → input_of rows ≡ Ok input → (1 ≤ input.expected.ifs) × (input.expected.ifs ≤ 254) × GivesOctets input.given
 input-proper rows input h =
-    let size = both-steps (size_of (first_of (codes "ifs") rows)) _ input h in
-    let number = both-steps (number_of (first_of (codes "number") rows)) _ input size.2 in
-    let kind_word = both-steps (needed (first_of (codes "kind") rows)) _ input number.2 in
-    let kind = both-steps (kind_of kind_word.0) _ input kind_word.2 in
-    let hex = both-steps (needed (first_of (codes "hex") rows)) _ input kind.2 in
-    let octets = both-steps (octets_of_word hex.0) _ input hex.2 in
-    let is = same _ input octets.2 in
-    let small = sized (first_of (codes "ifs") rows) size.0 size.1 in
-    subst (λ (i : Input). (1 ≤ i.ifs) × (i.ifs ≤ 254) × AreOctets i.octets) is (small.0, small.1, word-octets hex.0 octets.0 octets.1)
+    let expected = both-steps (expected_of rows) _ input h in
+    let given = both-steps (given_of (first_of (codes "hex") rows) (first_of (codes "stdin") rows)) _ input expected.2 in
+    let small = expected-sized rows expected.0 expected.1 in
+    let octets = given-octets (first_of (codes "hex") rows) (first_of (codes "stdin") rows) given.0 given.1 in
+    subst (λ (i : Input). (1 ≤ i.expected.ifs) × (i.expected.ifs ≤ 254) × GivesOctets i.given) (same _ input given.2) (small.0, small.1, octets)
 
 short-by : (b : List ℕ) (message : List ℕ) (t : Bool) → nat_le (length b) 131072 ≡ t → (if t then Ok b else Err Words) ≡ Ok message → (b ≡ message) × (length message ≤ 131072)
 short-by b message true t h = let e : b ≡ message = same b message h in (e, subst (λ (l : List ℕ). length l ≤ 131072) e (grind (arith, nat_tests)))
@@ -92,12 +111,15 @@ chains-proper (a ∷ b ∷ []) request h = cc h
 chains-proper (a ∷ b ∷ c ∷ []) request h = chain-proper a b c request h
 chains-proper (a ∷ b ∷ c ∷ d ∷ words) request h = cc h
 
-tidy-proper : (words : List (List ℕ)) (request : Request) → tidy_of words ≡ Ok request → IsProper request
-tidy-proper [] request h = cc h
-tidy-proper (hex ∷ []) request h =
-    let octets = both-steps (octets_of_word hex) _ request h in
-    subst IsProper (same _ request octets.2) (tt, word-octets hex octets.0 octets.1)
-tidy-proper (a ∷ b ∷ words) request h = cc h
+tidied-proper : (hex form : Option (List ℕ)) (request : Request) → given_of hex form >>= (λ given. Ok (BuildTidy given)) ≡ Ok request → IsProper request
+tidied-proper hex form request h =
+    let given = both-steps (given_of hex form) _ request h in
+    subst IsProper (same _ request given.2) (tt, given-octets hex form given.0 given.1)
+
+tidy-proper : (words : List (List ℕ)) (form : Option (List ℕ)) (request : Request) → tidy_of words form ≡ Ok request → IsProper request
+tidy-proper [] form request h = tidied-proper None form request h
+tidy-proper (hex ∷ []) form request h = tidied-proper (Some hex) form request h
+tidy-proper (a ∷ b ∷ words) form request h = cc h
 
 fill-proper : (words : List (List ℕ)) (request : Request) → fill_of words ≡ Ok request → IsProper request
 fill-proper [] request h = cc h
@@ -105,20 +127,28 @@ fill-proper (hex ∷ words) request h =
     let octets = both-steps (octets_of_word hex) _ request h in
     subst IsProper (same _ request octets.2) (tt, word-octets hex octets.0 octets.1)
 
+words-proper : (what : List ℕ) (words : List (List ℕ)) (request : Request) → build_words what words ≡ Ok request → IsProper request
+words-proper what words request h =
+    elim (one-of (bytes_eq what (codes "chain")) (chain_of words) _ request h) [
+      | inl chain ↦ chains-proper words request chain
+      | inr other ↦
+          elim (one-of (bytes_eq what (codes "fill")) (fill_of words) (Err Words) request other) [
+            | inl fill ↦ fill-proper words request fill
+            | inr none ↦ cc none
+          ]
+    ]
+
 build-proper : (rows : List Row) (request : Request) → build_of rows ≡ Ok request → IsProper request
 build-proper rows request h =
+    let words : List (List ℕ) = all_or_none (all_of (codes "words") rows) in
+    let form : Option (List ℕ) = first_of (codes "stdin") rows in
     let what = both-steps (needed (first_of (codes "what") rows)) _ request h in
-    let words = both-steps (all_needed (all_of (codes "words") rows)) _ request what.2 in
-    elim (one-of (bytes_eq what.0 (codes "chain")) (chain_of words.0) _ request words.2) [
-      | inl chain ↦ chains-proper words.0 request chain
+    elim (one-of (bytes_eq what.0 (codes "tidy")) (tidy_of words form) _ request what.2) [
+      | inl tidy ↦ tidy-proper words form request tidy
       | inr other ↦
-          elim (one-of (bytes_eq what.0 (codes "tidy")) (tidy_of words.0) _ request other) [
-            | inl tidy ↦ tidy-proper words.0 request tidy
-            | inr rest ↦
-                elim (one-of (bytes_eq what.0 (codes "fill")) (fill_of words.0) (Err Words) request rest) [
-                  | inl fill ↦ fill-proper words.0 request fill
-                  | inr none ↦ cc none
-                ]
+          elim (one-of (is_some form) (Err Words) _ request other) [
+            | inl none ↦ cc none
+            | inr rest ↦ words-proper what.0 words request rest
           ]
     ]
 

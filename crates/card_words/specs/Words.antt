@@ -1,5 +1,5 @@
 -- The words that the program takes, and what they ask for.
-use Rattle.std.specs.Prelude.{◌≡◌, ◌≢◌, ◌⊎◌, ◌&&◌, ◌==◌, ◌≤◌, ℕ, length, nat_le, pos, List, [], ◌∷◌, codes, Option, Some, None, true, map, String, string_bytes, Result, Ok, Err, MatchResult, if◌then◌else◌}
+use Rattle.std.specs.Prelude.{◌≡◌, ◌≢◌, ◌⊎◌, ◌&&◌, ◌==◌, ◌≤◌, ℕ, length, nat_le, pos, List, [], ◌∷◌, codes, Option, Some, None, is_some, true, map, String, string_bytes, Result, Ok, Err, MatchResult, if◌then◌else◌}
 use Rattle.std.specs.Str.{bytes_eq}
 use Rattle.std.specs.declared.alloc.Global.{Global}
 use Rattle.std.specs.Str.Parse.{digits_value, without_leading_plus}
@@ -10,6 +10,7 @@ use Rattle.clap.specs.declared.builder.value_parser.ValueParser.TheVariants as p
 use Rattle.clap.specs.declared.error.kind.ErrorKind.{ErrorKind}
 use Rattle.clap.specs.declared.error.kind.ErrorKind.TheVariants.{DisplayHelp, OutOfMemory}
 use Rattle.octet_core.specs.Octets.{AreOctets}
+use Rattle.card_words.specs.Given.{given_of, GivesOctets, IsAsRead, IsFromReader}
 use Rattle.card_words.specs.Known.{knowns_of}
 use Rattle.card_words.specs.Session.{blocks_of, pairs_of, AreOctetPairs, IsSize}
 use Rattle.card_words.specs.Value.{◌>>=◌, octets_of_word}
@@ -19,6 +20,7 @@ use Rattle.card_words.specs.declared.request.Kind.{Kind}
 use Rattle.card_words.specs.declared.request.Kind.TheVariants.{Atr, Block, Chain, Command, Response, Tlv, Dol}
 use Rattle.card_words.specs.declared.request.End.{End}
 use Rattle.card_words.specs.declared.request.End.TheVariants as end
+use Rattle.card_words.specs.declared.request.Expected.{Expected}
 use Rattle.card_words.specs.declared.request.Input.{Input}
 use Rattle.card_words.specs.declared.request.Request.{Request}
 use Rattle.card_words.specs.declared.session.Session.{Session}
@@ -33,7 +35,15 @@ abbrev pub kind_rule : Rule
 kind_rule = record (new_rule (codes "kind")) { required = true }
 
 abbrev pub hex_rule : Rule
-hex_rule = record (new_rule (codes "hex")) { required = true }
+hex_rule = new_rule (codes "hex")
+
+-- an option that takes any word
+abbrev pub option_rule : List ℕ → Rule
+option_rule name = record (new_rule name) { long = Some name }
+
+-- the form of octets on standard input
+abbrev pub stdin_rule : Rule
+stdin_rule = option_rule (codes "stdin")
 
 abbrev pub ifs_rule : Rule
 ifs_rule = record (new_rule (codes "ifs")) { long = Some (codes "ifs"); parser = Some (parser.Signed (pos 1) (pos 254)) }
@@ -41,9 +51,13 @@ ifs_rule = record (new_rule (codes "ifs")) { long = Some (codes "ifs"); parser =
 abbrev pub number_rule : Rule
 number_rule = record (new_rule (codes "number")) { long = Some (codes "number"); parser = Some (parser.Signed (pos 0) (pos 1)) }
 
--- a subcommand that takes a kind, octets, an information size and a first number
+-- a subcommand that takes what octets are taken for: a kind, an information size and a first number
+abbrev pub expected_app : List ℕ → App
+expected_app name = with_rule (with_rule (with_rule (new_app name) kind_rule) ifs_rule) number_rule
+
+-- the same with the octets
 abbrev pub input_app : List ℕ → App
-input_app name = with_rule (with_rule (with_rule (with_rule (new_app name) kind_rule) hex_rule) ifs_rule) number_rule
+input_app name = with_rule (with_rule (expected_app name) hex_rule) stdin_rule
 
 abbrev pub what_rule : Rule
 what_rule = record (new_rule (codes "what")) { required = true }
@@ -53,7 +67,7 @@ words_rule = record (new_rule (codes "words")) { action = Some Append }
 
 -- the subcommand that builds what a word says, of the words after it
 abbrev pub build_app : App
-build_app = with_rule (with_rule (new_app (codes "build")) what_rule) words_rule
+build_app = with_rule (with_rule (with_rule (new_app (codes "build")) what_rule) words_rule) stdin_rule
 
 abbrev pub end_rule : Rule
 end_rule = record (new_rule (codes "end")) { long = Some (codes "end"); required = true }
@@ -75,16 +89,12 @@ pairs_rule = record (new_rule (codes "pairs")) { action = Some Append }
 abbrev pub ifsd_rule : Rule
 ifsd_rule = record (new_rule (codes "ifsd")) { long = Some (codes "ifsd"); parser = Some (parser.Signed (pos 1) (pos 254)) }
 
--- an option that names blocks by their numbers
-abbrev pub blocks_rule : List ℕ → Rule
-blocks_rule name = record (new_rule name) { long = Some name }
-
 -- the subcommand that records a session of both ends, first with its words and the size that is asked for
 abbrev pub session_app : App
 session_app = with_rule (with_rule (with_rule (new_app (codes "simulate")) atr_rule) pairs_rule) ifsd_rule
 
 abbrev pub simulate_app : App
-simulate_app = with_rule (with_rule (with_rule session_app (blocks_rule (codes "lose"))) (blocks_rule (codes "damage"))) (blocks_rule (codes "spoil"))
+simulate_app = with_rule (with_rule (with_rule session_app (option_rule (codes "lose"))) (option_rule (codes "damage"))) (option_rule (codes "spoil"))
 
 -- the program as a command, first with what it says of octets
 abbrev pub octets_app : App
@@ -107,6 +117,10 @@ byte_or otherwise word = if is_unsigned_in 0 255 word then digits_value 10 (with
 abbrev pub needed : Option (List ℕ) → Result (List ℕ) Fault
 needed None = Err Words
 needed (Some word) = Ok word
+
+abbrev pub all_or_none : Option (List (List ℕ)) → List (List ℕ)
+all_or_none None = []
+all_or_none (Some words) = words
 
 abbrev pub kind_of : List ℕ → Result Kind Fault
 kind_of word =
@@ -132,16 +146,21 @@ abbrev pub number_of : Option (List ℕ) → Result Number Fault
 number_of None = Ok Zero
 number_of (Some word) = number_of_word word
 
--- the options first, since their range is a matter of the words' form; then the words in their order
-abbrev pub input_of : List Row → Result Input Fault
-input_of rows = do
+-- the options first, since their range is a matter of the words' form; then the kind
+abbrev pub expected_of : List Row → Result Expected Fault
+expected_of rows = do
   ifs ← size_of (first_of (codes "ifs") rows)
   number ← number_of (first_of (codes "number") rows)
   kind_word ← needed (first_of (codes "kind") rows)
   kind ← kind_of kind_word
-  hex ← needed (first_of (codes "hex") rows)
-  octets ← octets_of_word hex
-  Ok (record { kind = kind; octets = octets; ifs = ifs; number = number })
+  Ok (record { kind = kind; ifs = ifs; number = number })
+
+-- what is expected, and then the octets
+abbrev pub input_of : List Row → Result Input Fault
+input_of rows = do
+  expected ← expected_of rows
+  given ← given_of (first_of (codes "hex") rows) (first_of (codes "stdin") rows)
+  Ok (record { expected = expected; given = given })
 
 -- a message that a chain can carry
 abbrev pub short_message : List ℕ → Result (List ℕ) Fault
@@ -160,32 +179,35 @@ abbrev pub chain_of : List (List ℕ) → Result Request Fault
 chain_of (size ∷ number_word ∷ hex ∷ []) = chain_by size number_word hex
 chain_of _ = Err Words
 
--- HEX
-abbrev pub tidy_of : List (List ℕ) → Result Request Fault
-tidy_of (hex ∷ []) = octets_of_word hex >>= (λ octets. Ok (BuildTidy octets))
-tidy_of _ = Err Words
+-- HEX, or a form of octets on standard input
+abbrev pub tidy_of : List (List ℕ) → Option (List ℕ) → Result Request Fault
+tidy_of [] form = given_of None form >>= (λ given. Ok (BuildTidy given))
+tidy_of (hex ∷ []) form = given_of (Some hex) form >>= (λ given. Ok (BuildTidy given))
+tidy_of _ form = Err Words
 
 -- DOL KNOWN..: what is wrong with a known value counts only where the list is one
 abbrev pub fill_of : List (List ℕ) → Result Request Fault
 fill_of [] = Err Words
 fill_of (hex ∷ words) = octets_of_word hex >>= (λ octets. Ok (BuildFill octets (knowns_of words)))
 
-abbrev pub all_needed : Option (List (List ℕ)) → Result (List (List ℕ)) Fault
-all_needed None = Err Words
-all_needed (Some words) = Ok words
-
-abbrev pub build_by : List ℕ → List (List ℕ) → Result Request Fault
-build_by what words =
+-- what is built of words alone
+abbrev pub build_words : List ℕ → List (List ℕ) → Result Request Fault
+build_words what words =
     if bytes_eq what (codes "chain") then chain_of words
-    else (if bytes_eq what (codes "tidy") then tidy_of words
     else (if bytes_eq what (codes "fill") then fill_of words
-    else Err Words))
+    else Err Words)
+
+-- only a forest that is tidied is taken from standard input
+abbrev pub build_by : List ℕ → List (List ℕ) → Option (List ℕ) → Result Request Fault
+build_by what words form =
+    if bytes_eq what (codes "tidy") then tidy_of words form
+    else (if is_some form then Err Words
+    else build_words what words)
 
 abbrev pub build_of : List Row → Result Request Fault
 build_of rows = do
   what ← needed (first_of (codes "what") rows)
-  words ← all_needed (all_of (codes "words") rows)
-  build_by what words
+  build_by what (all_or_none (all_of (codes "words") rows)) (first_of (codes "stdin") rows)
 
 -- an end as a word
 abbrev pub end_of_word : List ℕ → Result End Fault
@@ -204,10 +226,6 @@ replay_of rows = do
 abbrev pub asked_size : Option (List ℕ) → Result (Option ℕ) Fault
 asked_size None = Ok None
 asked_size (Some word) = size_of (Some word) >>= (λ size. Ok (Some size))
-
-abbrev pub all_or_none : Option (List (List ℕ)) → List (List ℕ)
-all_or_none None = []
-all_or_none (Some words) = words
 
 -- the options first, then the words in their order
 abbrev pub session_of : List Row → Result Session Fault
@@ -237,37 +255,53 @@ request_of (Some entered) = request_by entered.0 entered.1
 
 -- an information size that a request asks for is one
 abbrev pub IsSized : Request → Type 0
-IsSized (Check input) = (1 ≤ input.ifs) × (input.ifs ≤ 254)
-IsSized (Show input) = (1 ≤ input.ifs) × (input.ifs ≤ 254)
+IsSized (Check input) = (1 ≤ input.expected.ifs) × (input.expected.ifs ≤ 254)
+IsSized (Show input) = (1 ≤ input.expected.ifs) × (input.expected.ifs ≤ 254)
 IsSized (BuildChain ifs number message) = (1 ≤ ifs) × (ifs ≤ 254) × (length message ≤ 131072)
-IsSized (BuildTidy octets) = Unit {0}
+IsSized (BuildTidy given) = Unit {0}
 IsSized (BuildFill list known) = Unit {0}
 IsSized (Replay side) = Unit {0}
 IsSized Migrate = Unit {0}
 IsSized (Simulate session) = IsSize session.ifsd
 IsSized (Help help) = Unit {0}
 
--- what a request takes for octets are octets
+-- what a request has for octets are octets
 abbrev pub HasOctets : Request → Type 0
-HasOctets (Check input) = AreOctets input.octets
-HasOctets (Show input) = AreOctets input.octets
+HasOctets (Check input) = GivesOctets input.given
+HasOctets (Show input) = GivesOctets input.given
 HasOctets (BuildChain ifs number message) = AreOctets message
-HasOctets (BuildTidy octets) = AreOctets octets
+HasOctets (BuildTidy given) = GivesOctets given
 HasOctets (BuildFill list known) = AreOctets list
 HasOctets (Replay side) = Unit {0}
 HasOctets Migrate = Unit {0}
 HasOctets (Simulate session) = AreOctets session.atr × AreOctetPairs session.pairs
 HasOctets (Help help) = Unit {0}
 
--- a request that a file of recorded exchanges answers
+-- a request that standard input answers: octets, or a file of recorded exchanges
 abbrev pub NeedsFile : Request → Type 0
+NeedsFile (Check input) = IsFromReader input.given
+NeedsFile (Show input) = IsFromReader input.given
+NeedsFile (BuildTidy given) = IsFromReader given
 NeedsFile (Replay side) = Unit {0}
 NeedsFile Migrate = Unit {0}
 NeedsFile _ = ⊥
 
+-- a request that takes what it reads for octets, as they are
+abbrev pub NeedsOctets : Request → Type 0
+NeedsOctets (Check input) = IsAsRead input.given
+NeedsOctets (Show input) = IsAsRead input.given
+NeedsOctets (BuildTidy given) = IsAsRead given
+NeedsOctets _ = ⊥
+
 -- words that the parser of command lines takes and that make such a request
+abbrev pub AskFor : (Request → Type 0) → List (List ℕ) → Type 0
+AskFor Needs words = (fault_of scard words ≡ []) × MatchResult (request_of (subcommand_of scard words)) Needs (λ _. ⊥)
+
 abbrev pub AskForFile : List (List ℕ) → Type 0
-AskForFile words = (fault_of scard words ≡ []) × MatchResult (request_of (subcommand_of scard words)) NeedsFile (λ _. ⊥)
+AskForFile = AskFor NeedsFile
+
+abbrev pub AskForOctets : List (List ℕ) → Type 0
+AskForOctets = AskFor NeedsOctets
 
 abbrev pub HasOther : Kinds → Type 0
 HasOther kinds = (kind : ErrorKind) × IsAmong kind kinds × (kind ≢ DisplayHelp)

@@ -3,7 +3,7 @@
 ghost use Rattle.std.specs.Prelude.{◌≡◌, IfOk, false};
 ghost use Rattle.clap.specs.Words.{app_of, rule_of};
 ghost use Rattle.clap.specs.declared.builder.command.Command.TheViews.{out-Command};
-ghost use Rattle.card_words.specs.Words.{atr_rule, blocks_rule, build_app, end_rule, hex_rule, ifs_rule, ifsd_rule, input_app, kind_rule, migrate_app, number_rule, octets_app, pairs_rule, replay_app, scard, session_app, simulate_app, what_rule, words_rule};
+ghost use Rattle.card_words.specs.Words.{atr_rule, build_app, end_rule, expected_app, hex_rule, ifs_rule, ifsd_rule, input_app, kind_rule, migrate_app, number_rule, octets_app, option_rule, pairs_rule, replay_app, scard, session_app, simulate_app, stdin_rule, what_rule, words_rule};
 
 use clap::{Arg, ArgAction, Command, value_parser};
 use std::alloc::{AllocError, Global};
@@ -27,9 +27,13 @@ fn octets_command<'a>(alloc: Global) -> Result<Command<'a>, AllocError>
     let check = input_command(
         alloc,
         "check",
-        "Say whether octets are a value, and how many it takes",
+        "Say whether octets are a value, and how many it takes: KIND HEX, or KIND --stdin FORM",
     )?;
-    let show = input_command(alloc, "show", "Show the value that octets spell")?;
+    let show = input_command(
+        alloc,
+        "show",
+        "Show the value that octets spell: KIND HEX, or KIND --stdin FORM",
+    )?;
     let build = build_command(alloc)?;
     Command::new(alloc, "scard")
         .about("Answers to reset, T=1 blocks, APDUs and data objects of smart cards")
@@ -38,7 +42,7 @@ fn octets_command<'a>(alloc: Global) -> Result<Command<'a>, AllocError>
         .subcommand(build)
 }
 
-/// A subcommand that takes a kind, octets and an information size.
+/// A subcommand that takes octets, and what they are taken for.
 fn input_command<'a>(
     alloc: Global,
     name: &'a str,
@@ -47,10 +51,23 @@ fn input_command<'a>(
     ensures app { IfOk result (λ command. app_of command ≡ input_app name.now) }
     ensures local { IfOk result (λ command. (out-Command command).has_globals ≡ false) }
 {
+    expected_command(alloc, name, about)?
+        .arg(hex_arg(alloc))?
+        .arg(stdin_arg(alloc))
+}
+
+/// The same without the octets: a kind, an information size and a first number.
+fn expected_command<'a>(
+    alloc: Global,
+    name: &'a str,
+    about: &'a str,
+) -> Result<Command<'a>, AllocError>
+    ensures app { IfOk result (λ command. app_of command ≡ expected_app name.now) }
+    ensures local { IfOk result (λ command. (out-Command command).has_globals ≡ false) }
+{
     Command::new(alloc, name)
         .about(about)
         .arg(kind_arg(alloc))?
-        .arg(hex_arg(alloc))?
         .arg(ifs_arg(alloc))?
         .arg(number_arg(alloc))
 }
@@ -61,9 +78,13 @@ fn build_command<'a>(alloc: Global) -> Result<Command<'a>, AllocError>
     ensures local { IfOk result (λ command. (out-Command command).has_globals ≡ false) }
 {
     Command::new(alloc, "build")
-        .about("Build octets: chain IFS NUMBER HEX, tidy HEX, or fill DOL F:TAG:VALUE..")
+        .about(
+            "Build octets: chain IFS NUMBER HEX, tidy HEX, tidy --stdin FORM, \
+             or fill DOL F:TAG:VALUE..",
+        )
         .arg(what_arg(alloc))?
-        .arg(words_arg(alloc))
+        .arg(words_arg(alloc))?
+        .arg(stdin_arg(alloc))
 }
 
 /// The subcommand that replays recorded exchanges.
@@ -92,13 +113,13 @@ fn simulate_command<'a>(alloc: Global) -> Result<Command<'a>, AllocError>
     ensures local { IfOk result (λ command. (out-Command command).has_globals ≡ false) }
 {
     session_command(alloc)?
-        .arg(blocks_arg(alloc, "lose", "The numbers of blocks that are lost, as 2,5"))?
-        .arg(blocks_arg(
+        .arg(option_arg(alloc, "lose", "The numbers of blocks that are lost, as 2,5"))?
+        .arg(option_arg(
             alloc,
             "damage",
             "The numbers of blocks that arrive with their last octet changed",
         ))?
-        .arg(blocks_arg(
+        .arg(option_arg(
             alloc,
             "spoil",
             "The numbers of blocks that arrive with another node address",
@@ -145,9 +166,9 @@ fn ifsd_arg<'a>(alloc: Global) -> Arg<'a>
         .help("The information size that the terminal asks for first, 1 to 254")
 }
 
-/// An option that names blocks by their numbers.
-fn blocks_arg<'a>(alloc: Global, name: &'a str, help: &'a str) -> Arg<'a>
-    ensures rule { rule_of result ≡ blocks_rule name.now }
+/// An option that takes any word.
+fn option_arg<'a>(alloc: Global, name: &'a str, help: &'a str) -> Arg<'a>
+    ensures rule { rule_of result ≡ option_rule name.now }
     ensures local { result.global ≡ false }
 {
     Arg::new(alloc, name).long(name).help(help)
@@ -204,9 +225,18 @@ fn hex_arg<'a>(alloc: Global) -> Arg<'a>
     ensures rule { rule_of result ≡ hex_rule }
     ensures local { result.global ≡ false }
 {
-    Arg::new(alloc, "hex")
-        .required(true)
-        .help("The octets in hexadecimal, or none")
+    Arg::new(alloc, "hex").help("The octets in hexadecimal, or none; or give --stdin")
+}
+
+fn stdin_arg<'a>(alloc: Global) -> Arg<'a>
+    ensures rule { rule_of result ≡ stdin_rule }
+    ensures local { result.global ≡ false }
+{
+    option_arg(
+        alloc,
+        "stdin",
+        "In place of HEX: read the octets from standard input, as FORM says: hex or octets",
+    )
 }
 
 fn ifs_arg<'a>(alloc: Global) -> Arg<'a>

@@ -7,13 +7,16 @@
 
 pub mod fault;
 mod forms;
+pub mod given;
 mod known;
+mod loose;
 pub mod request;
 pub mod session;
 mod value;
 pub mod words;
 
 pub use fault::Fault;
-pub use request::{End, Input, Kind, Knowns, Request};
+pub use given::{Form, Given};
+pub use request::{End, Expected, Input, Kind, Knowns, Request};
 pub use session::{BlockNumbers, Pair, Pairs, Session};
 pub use words::read;

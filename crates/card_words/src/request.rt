@@ -3,6 +3,7 @@
 ghost use Rattle.std.specs.Prelude.{◌≡◌};
 
 use crate::fault::Fault;
+use crate::given::Given;
 use crate::session::Session;
 use block_core::Number;
 use octet_core::{Octets, Text};
@@ -37,15 +38,21 @@ pub enum End {
     Card,
 }
 
-/// Octets, and what they are taken for.
-#[derive(Debug, PartialEq, Eq, Drop)]
-pub struct Input {
+/// What octets are taken for.
+#[derive(Clone, Copy, Debug, PartialEq, Eq)]
+pub struct Expected {
     pub kind: Kind,
-    pub octets: Octets,
     /// The information size, 1 to 254.
     pub ifs: u8,
     /// The number of the first block of a chain.
     pub number: Number,
+}
+
+/// Octets, and what they are taken for.
+#[derive(Debug, PartialEq, Eq, Drop)]
+pub struct Input {
+    pub expected: Expected,
+    pub given: Given,
 }
 
 /// Values that are known for tags, in the order of their words, which contracts see as a list.
@@ -95,7 +102,7 @@ pub enum Request {
         message: Octets,
     },
     /// The forest that the octets spell, in the shortest octets that say the same.
-    BuildTidy(Octets),
+    BuildTidy(Given),
     /// The octets that a data object list asks for.
     BuildFill {
         /// The octets of the list.

@@ -4,14 +4,15 @@ ghost use Rattle.std.specs.Prelude.{◌≡◌, ◌⊎◌, ◌≤◌, [], Err, If
 ghost use Rattle.clap.specs.Words.{all_of, fault_of, first_of, found_of, rows_of, subcommand_of, subcommand_rows_of};
 ghost use Rattle.clap.specs.Kinds.{HasKind};
 ghost use Rattle.clap.specs.Values.{kind_of as error_kind};
-ghost use Rattle.card_words.specs.Words.{build_of, chain_of, end_of_word, asked_size, session_of, input_of, kind_of, number_of, number_of_word, replay_of, request_of, scard, size_of, texts, tidy_of, fill_of, HasOctets, IsHelpOrFault, IsRead, IsSized};
+ghost use Rattle.card_words.specs.Words.{build_of, build_words, chain_of, end_of_word, asked_size, expected_of, session_of, input_of, kind_of, number_of, number_of_word, replay_of, request_of, scard, size_of, texts, tidy_of, fill_of, HasOctets, IsHelpOrFault, IsRead, IsSized};
 ghost use Rattle.card_words.specs.Session.{IsSize};
 ghost use Rattle.card_words.specs.Value.{UnlessMemory};
 
 use crate::fault::Fault;
 use crate::forms::program;
+use crate::given::read_given;
 use crate::known::knowns;
-use crate::request::{End, Input, Kind, Request};
+use crate::request::{End, Expected, Input, Kind, Request};
 use crate::session::{Session, read_blocks, read_pairs};
 use crate::value::octets;
 use block_core::Number;
@@ -58,22 +59,27 @@ fn entered<'a, 'b>(matches: &'b ArgMatches<'a>) -> Option<(&'a str, &'b ArgMatch
     matches.subcommand()
 }
 
-/// A kind, octets and an information size.
+/// Octets, and what they are taken for.
 fn input(alloc: Global, matches: &ArgMatches) -> Result<Input, Fault>
     ensures read { UnlessMemory result (input_of (rows_of (found_of matches.now))) }
-    ensures least { IfOk result (λ input. 1 ≤ input.ifs) }
-    ensures most { IfOk result (λ input. input.ifs ≤ 254) }
+    ensures least { IfOk result (λ input. 1 ≤ input.expected.ifs) }
+    ensures most { IfOk result (λ input. input.expected.ifs ≤ 254) }
+{
+    let expected = expected(matches)?;
+    let given = read_given(alloc, word(matches, "hex"), word(matches, "stdin"))?;
+    Ok(Input { expected, given })
+}
+
+/// A kind, an information size and a first number.
+fn expected(matches: &ArgMatches) -> Result<Expected, Fault>
+    ensures read { result ≡ expected_of (rows_of (found_of matches.now)) }
+    ensures least { IfOk result (λ expected. 1 ≤ expected.ifs) }
+    ensures most { IfOk result (λ expected. expected.ifs ≤ 254) }
 {
     let ifs = size(word(matches, "ifs"))?;
     let number = number_or_zero(word(matches, "number"))?;
     let kind = kind(word(matches, "kind").ok_or(Fault::Words)?)?;
-    let octets = octets(alloc, word(matches, "hex").ok_or(Fault::Words)?)?;
-    Ok(Input {
-        kind,
-        octets,
-        ifs,
-        number,
-    })
+    Ok(Expected { kind, ifs, number })
 }
 
 /// What is to be built, of the words after its name.
@@ -82,10 +88,24 @@ fn build(alloc: Global, matches: &ArgMatches) -> Result<Request, Fault>
     ensures sized { IfOk result IsSized }
 {
     let what = word(matches, "what").ok_or(Fault::Words)?;
-    let words = all_words(matches, "words").ok_or(Fault::Words)?;
+    let words = all_words(matches, "words").unwrap_or(&[]);
+    let form = word(matches, "stdin");
+    if what == "tidy" {
+        return tidy(alloc, words, form);
+    }
+    if form.is_some() {
+        return Err(Fault::Words);
+    }
+    build_of_words(alloc, what, words)
+}
+
+/// What is to be built of words alone.
+fn build_of_words(alloc: Global, what: &str, words: &[&str]) -> Result<Request, Fault>
+    ensures read { UnlessMemory result (build_words what.now (map (λ word. word.now) words.now)) }
+    ensures sized { IfOk result IsSized }
+{
     match what {
         "chain" => chain(alloc, words),
-        "tidy" => tidy(alloc, words),
         "fill" => fill(alloc, words),
         _ => Err(Fault::Words),
     }
@@ -122,14 +142,16 @@ fn session(alloc: Global, matches: &ArgMatches) -> Result<Session, Fault>
 }
 
 /// A forest to be tidied.
-fn tidy(alloc: Global, words: &[&str]) -> Result<Request, Fault>
-    ensures read { UnlessMemory result (tidy_of (map (λ word. word.now) words.now)) }
+fn tidy(alloc: Global, words: &[&str], form: Option<&str>) -> Result<Request, Fault>
+    ensures read { UnlessMemory result (tidy_of (map (λ word. word.now) words.now) (option_map (λ word. word.now) form.entry)) }
     ensures sized { IfOk result IsSized }
 {
-    let [hex] = words else {
-        return Err(Fault::Words);
+    let hex = match words {
+        [] => None,
+        [hex] => Some(*hex),
+        _ => return Err(Fault::Words),
     };
-    Ok(Request::BuildTidy(octets(alloc, hex)?))
+    Ok(Request::BuildTidy(read_given(alloc, hex, form)?))
 }
 
 /// A data object list to be filled, and what is known.

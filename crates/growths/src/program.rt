@@ -42,22 +42,36 @@ const ROWS: [(&str, &str); 12] = [
     ("simulate 3B808131204555 00A4040000:9000", FILE),
 ];
 
+/// Words that ask for octets of standard input, what it has, and the text that the program writes.
+const READ_ROWS: [(&str, &str, &str); 3] = [
+    ("check atr --stdin hex", "3B 80 80\n01 01", "ok 5 octets\n"),
+    (
+        "show tlv --stdin hex",
+        "0x0000 0x5A81\r\n0112 00",
+        "objects 1\n5A 8101 12\n",
+    ),
+    ("build tidy --stdin octets", "P\u{1}A", "500141\n"),
+];
+
 /// What the program says of each row's words. At most one of them is out of memory.
 pub(crate) fn lines(alloc: Global) -> Outcome {
     let mut outcome = Outcome::Right;
     for (line, text) in ROWS {
-        outcome = outcome.and(said(alloc, line, text).unwrap_or(Outcome::Memory));
+        outcome = outcome.and(said(alloc, line, FILE, text).unwrap_or(Outcome::Memory));
+    }
+    for (line, read, text) in READ_ROWS {
+        outcome = outcome.and(said(alloc, line, read, text).unwrap_or(Outcome::Memory));
     }
     outcome
 }
 
-fn said(alloc: Global, line: &str, text: &str) -> Result<Outcome, AllocError> {
+fn said(alloc: Global, line: &str, read: &str, text: &str) -> Result<Outcome, AllocError> {
     let mut words = Vec::new(alloc);
     words.push(String::from_str(alloc, "scard")?)?;
     for word in line.split(' ') {
         words.push(String::from_str(alloc, word)?)?;
     }
-    let mut reader = Counted::new(Feeder::new(FILE.as_bytes(), 64, After::End));
+    let mut reader = Counted::new(Feeder::new(read.as_bytes(), 64, After::End));
     let mut writer = Counted::new(Taker::new(4096, 4096, After::End));
     let status = run(alloc, words, &mut reader, &mut writer);
     let taker = writer.into_inner();

@@ -13,11 +13,11 @@ use std::test::Fail;
 
 /// What the program says of a file that a reader gives by steps of so many octets.
 #[derive(Clone, Copy)]
-struct Saying<'a> {
-    line: &'a [&'a str],
-    file: &'a [u8],
-    step: usize,
-    after: After,
+pub(super) struct Saying<'a> {
+    pub(super) line: &'a [&'a str],
+    pub(super) file: &'a [u8],
+    pub(super) step: usize,
+    pub(super) after: After,
 }
 
 /// The program's text and status, and how many octets it read.
@@ -53,7 +53,7 @@ pub(super) fn said_of(
 }
 
 /// Asserts what the program says, and how many octets it reads.
-fn says(
+pub(super) fn says(
     rt: &impl Abort,
     alloc: Global,
     saying: &Saying,
@@ -111,7 +111,7 @@ fn a_reader_that_fails(rt: HostRuntime) -> Result<(), Fail> {
 }
 
 /// So many octets 00.
-fn zeros(alloc: Global, count: usize) -> Result<Vec<u8>, AllocError>
+pub(super) fn zeros(alloc: Global, count: usize) -> Result<Vec<u8>, AllocError>
     ensures { IfOk result (λ octets. length octets.items ≡ count) }
 {
     let mut octets = Vec::new(alloc);

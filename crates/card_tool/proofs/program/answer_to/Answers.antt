@@ -1,20 +1,11 @@
 use Rattle.std.proofs.Common.{◌∙◌}
-use Rattle.card_words.specs.declared.request.Request.TheVariants.{BuildChain, BuildTidy, BuildFill, Check, Show, Simulate, Help}
+use Rattle.card_words.specs.declared.request.Request.TheVariants.{BuildChain, BuildFill, Simulate, Help}
 use Rattle.card_tool.proofs.Answering.{told-at_once}
 use Rattle.card_tool.proofs.Inputs.{none-begun}
 use Rattle.card_tool.proofs.program.answer_to.Goals as goal
 
-pub returns-in_ok-check-in-Check-clause-told : goal.returns-in_ok-check-in-Check-clause-told
-returns-in_ok-check-in-Check-clause-told g c = rw c.in-Check.is (told-at_once (Check c.in-Check.input) _ _ _ _ (λ none. none) c.in_ok-check-in-Check.ensures)
-
-pub returns-in_ok-show-in-Show-clause-told : goal.returns-in_ok-show-in-Show-clause-told
-returns-in_ok-show-in-Show-clause-told g c = rw c.in-Show.is (told-at_once (Show c.in-Show.input) _ _ _ _ (λ none. none) c.in_ok-show-in-Show.ensures)
-
 pub returns-in_ok-text-in-BuildChain-clause-told : goal.returns-in_ok-text-in-BuildChain-clause-told
-returns-in_ok-text-in-BuildChain-clause-told g c = rw c.in-BuildChain.is (told-at_once (BuildChain c.in-BuildChain.ifs c.in-BuildChain.number c.in-BuildChain.message) _ _ _ _ (λ none. none) (c.told.ensures.text ∙ rw c.get.ensures at c.in_ok-text-in-BuildChain.ensures, c.told.ensures.status))
-
-pub returns-in_ok-tidy-in-BuildTidy-clause-told : goal.returns-in_ok-tidy-in-BuildTidy-clause-told
-returns-in_ok-tidy-in-BuildTidy-clause-told g c = rw c.in-BuildTidy.is (told-at_once (BuildTidy c.in-BuildTidy.octets) _ _ _ _ (λ none. none) (rw c.get-in-BuildTidy.ensures at c.in_ok-tidy-in-BuildTidy.ensures))
+returns-in_ok-text-in-BuildChain-clause-told g c = rw c.in-BuildChain.is (told-at_once (BuildChain c.in-BuildChain.ifs c.in-BuildChain.number c.in-BuildChain.message) _ _ _ _ (λ none. none) (c.told.ensures.text ∙ rw c.get-in-BuildChain.ensures at c.in_ok-text-in-BuildChain.ensures, c.told.ensures.status))
 
 pub returns-in_ok-fill-in-BuildFill-clause-told : goal.returns-in_ok-fill-in-BuildFill-clause-told
 returns-in_ok-fill-in-BuildFill-clause-told g c = rw c.in-BuildFill.is (told-at_once (BuildFill c.in-BuildFill.list c.in-BuildFill.known) _ _ _ _ (λ none. none) (rw c.get-in-BuildFill.ensures at c.in_ok-fill-in-BuildFill.ensures))

@@ -1,0 +1,53 @@
+-- Where octets come from: a word, or standard input in a form.
+use Rattle.std.specs.Prelude.{List, ℕ, codes, Option, Some, None, Result, Ok, Err, if◌then◌else◌}
+use Rattle.std.specs.Str.{bytes_eq}
+use Rattle.octet_core.specs.Octets.{AreOctets}
+use Rattle.card_words.specs.Loose.{loose_octets}
+use Rattle.card_words.specs.Value.{◌>>=◌, octets_of_word}
+use Rattle.card_words.specs.declared.fault.Fault.{Fault}
+use Rattle.card_words.specs.declared.fault.Fault.TheVariants.{Words}
+use Rattle.card_words.specs.declared.given.Form.{Form}
+use Rattle.card_words.specs.declared.given.Form.TheVariants as form
+use Rattle.card_words.specs.declared.given.Given.{Given}
+use Rattle.card_words.specs.declared.given.Given.TheVariants.{Word, Read}
+
+-- ---- as words
+
+abbrev pub form_of : List ℕ → Result Form Fault
+form_of word =
+    if bytes_eq word (codes "hex") then Ok form.Hex
+    else (if bytes_eq word (codes "octets") then Ok form.Octets
+    else Err Words)
+
+-- a HEX word, or a form of standard input: one of them, and not both
+abbrev pub given_of : Option (List ℕ) → Option (List ℕ) → Result Given Fault
+given_of (Some hex) None = octets_of_word hex >>= (λ octets. Ok (Word octets))
+given_of None (Some word) = form_of word >>= (λ form. Ok (Read form))
+given_of _ _ = Err Words
+
+-- ---- what they are
+
+-- the octets that a text in this form gives
+abbrev pub octets_in : Form → List ℕ → Result (List ℕ) Fault
+octets_in form.Hex text = loose_octets text
+octets_in form.Octets text = Ok text
+
+-- the octets, with what reading standard input gave
+abbrev pub octets_given : Given → Result (List ℕ) Fault → Result (List ℕ) Fault
+octets_given (Word octets) file = Ok octets
+octets_given (Read form) file = file >>= octets_in form
+
+-- they are on standard input
+abbrev pub IsFromReader : Given → Type 0
+IsFromReader (Word octets) = ⊥
+IsFromReader (Read form) = Unit {0}
+
+-- they are what is read there, as it is
+abbrev pub IsAsRead : Given → Type 0
+IsAsRead (Read form.Octets) = Unit {0}
+IsAsRead _ = ⊥
+
+-- what a word gave are octets
+abbrev pub GivesOctets : Given → Type 0
+GivesOctets (Word octets) = AreOctets octets
+GivesOctets (Read form) = Unit {0}

@@ -1,0 +1,32 @@
+-- Octets as a text: hexadecimal in groups, which blanks part.
+use Rattle.std.specs.Prelude.{◌≡◌, ◌++◌, ◌&&◌, ◌||◌, ◌==◌, ℕ, drop, List, ◌∷◌, Bool, false, Result, Ok, Err, if◌then◌else◌}
+use Rattle.std.specs.List.{concat, slice_split}
+use Rattle.hex.specs.Hex.{decode_of}
+use Rattle.card_words.specs.Value.{◌>>=◌, each, hex_octets, UnlessMemory}
+use Rattle.card_words.specs.declared.fault.Fault.{Fault}
+
+-- a space, a tab, or what ends a line: LF, CR
+abbrev pub is_blank : ℕ → Bool
+is_blank x = x == 32 || (x == 9 || (x == 10 || x == 13))
+
+-- 0x or 0X, and more after it
+abbrev pub is_marked : List ℕ → Bool
+is_marked (x ∷ y ∷ z ∷ more) = x == 48 && (y == 120 || y == 88)
+is_marked _ = false
+
+-- what is after the 0x of a group, or all of it
+abbrev pub digits_of : List ℕ → List ℕ
+digits_of group = if is_marked group then drop 2 group else group
+
+-- two digits an octet, in either case
+abbrev pub group_octets : List ℕ → Result (List ℕ) Fault
+group_octets group = hex_octets (decode_of (digits_of group))
+
+-- the octets of all groups; between two blanks there is one of no octets
+abbrev pub loose_octets : List ℕ → Result (List ℕ) Fault
+loose_octets text = each group_octets (slice_split is_blank text) >>= (λ groups. Ok (concat groups))
+
+-- the octets of one more group come after the others
+abbrev pub AddsGroup : List ℕ → List ℕ → List ℕ → Result (Unit {0}) Fault → Type 0
+AddsGroup group old new (Ok _) = (octets : List ℕ) × (group_octets group ≡ Ok octets) × (new ≡ old ++ octets)
+AddsGroup group old new (Err fault) = UnlessMemory (Err fault) (group_octets group)

@@ -1,0 +1,68 @@
+//! Where octets come from: a word, or standard input.
+
+ghost use Rattle.std.specs.Prelude.{◌≡◌, option_map};
+ghost use Rattle.card_words.specs.Given.{form_of, given_of, octets_in};
+ghost use Rattle.card_words.specs.Value.{UnlessMemory};
+
+use crate::fault::Fault;
+use crate::loose::loose_octets;
+use crate::value::octets;
+use octet_core::Octets;
+use std::alloc::Global;
+
+/// What octets on standard input are written as.
+#[derive(Clone, Copy, Debug, PartialEq, Eq)]
+pub enum Form {
+    /// Hexadecimal in either case, two digits an octet, in groups that spaces, tabs and line ends part. A
+    /// group may begin with `0x` or `0X`.
+    Hex,
+    /// The octets themselves.
+    Octets,
+}
+
+/// Where octets come from.
+#[derive(Debug, PartialEq, Eq, Drop)]
+pub enum Given {
+    /// A word gives them.
+    Word(Octets),
+    /// They are on standard input, in this form.
+    Read(Form),
+}
+
+impl Form {
+    /// The octets that a text in this form gives. A text that is no hexadecimal is `Hex`.
+    pub fn octets(self, alloc: Global, text: Octets) -> Result<Octets, Fault>
+        ensures { UnlessMemory result (octets_in self text) }
+    {
+        match self {
+            Form::Hex => loose_octets(alloc, text.get()),
+            Form::Octets => Ok(text),
+        }
+    }
+}
+
+/// Octets as a HEX word, or on standard input in a form: one of them, and not both.
+pub(crate) fn read_given(
+    alloc: Global,
+    hex: Option<&str>,
+    form_word: Option<&str>,
+) -> Result<Given, Fault>
+    ensures { UnlessMemory result (given_of (option_map (λ word. word.now) hex.entry) (option_map (λ word. word.now) form_word.entry)) }
+{
+    match (hex, form_word) {
+        (Some(hex), None) => Ok(Given::Word(octets(alloc, hex)?)),
+        (None, Some(word)) => Ok(Given::Read(read_form(word)?)),
+        _ => Err(Fault::Words),
+    }
+}
+
+/// A form as a word. `clap` takes any word there.
+fn read_form(word: &str) -> Result<Form, Fault>
+    ensures { result ≡ form_of word.now }
+{
+    match word {
+        "hex" => Ok(Form::Hex),
+        "octets" => Ok(Form::Octets),
+        _ => Err(Fault::Words),
+    }
+}

@@ -1,0 +1,50 @@
+//! Octets as a text: hexadecimal in groups.
+
+ghost use Rattle.std.specs.Prelude.{◌≡◌};
+ghost use Rattle.card_words.specs.Loose.{digits_of, is_blank, loose_octets, AddsGroup};
+ghost use Rattle.card_words.specs.Value.{UnlessMemory};
+
+use crate::fault::Fault;
+use octet_core::Octets;
+use std::alloc::Global;
+
+/// The octets that a text gives in hexadecimal, two digits each, in groups that blanks part.
+pub(crate) fn loose_octets(alloc: Global, text: &[u8]) -> Result<Octets, Fault>
+    ensures { UnlessMemory result (loose_octets text.now) }
+{
+    let mut octets = Vec::with_capacity(alloc, text.len() / 2)?;
+    for group in text.split(|octet| is_blank(*octet)) {
+        push_group(&mut octets, group)?;
+    }
+    Ok(Octets::of(octets))
+}
+
+/// Whether an octet of a text is a space, a tab, or ends a line.
+fn is_blank(octet: u8) -> bool
+    ensures { result ≡ is_blank octet }
+{
+    matches!(octet, b' ' | b'\t' | b'\n' | b'\r')
+}
+
+/// Adds the octets of a group, which has no blanks.
+fn push_group(octets: &mut Vec<u8>, group: &[u8]) -> Result<(), Fault>
+    ensures { AddsGroup group.now octets.old.items octets.new.items result }
+{
+    let digits = digits(group);
+    let first = octets.len();
+    octets.resize(first + digits.len() / 2, 0)?;
+    match hex::decode_to_slice(digits, &mut octets[first..]) {
+        Ok(()) => Ok(()),
+        Err(_) => Err(Fault::Hex),
+    }
+}
+
+/// What is after the `0x` of a group, or all of it. After a `0x` there is something.
+fn digits(group: &[u8]) -> &[u8]
+    ensures { result.now ≡ digits_of group.now }
+{
+    match group {
+        [b'0', b'x' | b'X', rest @ ..] if !rest.is_empty() => rest,
+        _ => group,
+    }
+}
