@@ -1,0 +1,99 @@
+//! That every call and every reader says the same of octets.
+
+use crate::answers::{answer, is_said_again};
+use crate::case::{Case, Fault};
+use crate::feeding::{is_fed_so, is_read_so};
+use crate::kind::{Answer, Kind};
+use std::alloc::Global;
+
+/// The answer to octets, where each call on the whole list gives it, and the readers of the kind
+/// give it too where they are fed whole and octet by octet, and a chain also where it is read from
+/// a source.
+pub(crate) fn agreed(alloc: Global, kind: Kind, octets: &[u8]) -> Result<Answer, Fault> {
+    let answer = answer(alloc, kind, octets)?;
+    let case = Case {
+        what: "another call on the whole list",
+        octets,
+        place: 0,
+        piece: 0,
+    };
+    case.expect(alloc, is_said_again(alloc, kind, octets, &answer)?)?;
+    if kind.is_fed() {
+        is_fed(alloc, kind, octets, &answer)?;
+    }
+    if let Kind::Chain(chain) = kind {
+        for step in [1, 2, octets.len().max(1)] {
+            let case = Case {
+                what: "a chain read from a source",
+                octets,
+                place: 0,
+                piece: step,
+            };
+            case.expect(alloc, is_read_so(alloc, chain, octets, step, &answer)?)?;
+        }
+    }
+    Ok(answer)
+}
+
+/// The readers, fed whole and octet by octet.
+fn is_fed(alloc: Global, kind: Kind, octets: &[u8], answer: &Answer) -> Result<(), Fault> {
+    let case = Case {
+        what: "fed whole",
+        octets,
+        place: 0,
+        piece: 0,
+    };
+    case.expect(alloc, is_fed_so(alloc, kind, &[octets], answer)?)?;
+    let each: Vec<&[u8]> = octets.chunks(1).collect(alloc)?;
+    let case = Case {
+        what: "fed octet by octet",
+        ..case
+    };
+    case.expect(alloc, is_fed_so(alloc, kind, each.as_slice(), answer)?)
+}
+
+/// The readers, fed in two pieces, cut at each place.
+pub(crate) fn agrees_in_two(
+    alloc: Global,
+    kind: Kind,
+    octets: &[u8],
+    answer: &Answer,
+) -> Result<(), Fault> {
+    for place in 0..octets.len() {
+        let (front, back) = octets.split_at(place);
+        let case = Case {
+            what: "fed in two pieces",
+            octets,
+            place,
+            piece: 0,
+        };
+        case.expect(alloc, is_fed_so(alloc, kind, &[front, back], answer)?)?;
+    }
+    Ok(())
+}
+
+/// The readers, fed in three pieces, cut at each two places: how many such cuts.
+pub(crate) fn agrees_in_three(
+    alloc: Global,
+    kind: Kind,
+    octets: &[u8],
+    answer: &Answer,
+) -> Result<u64, Fault> {
+    let mut cuts = 0u64;
+    for place in 0..octets.len() {
+        let (front, rest) = octets.split_at(place);
+        for piece in 0..rest.len() {
+            let (middle, back) = rest.split_at(piece);
+            let case = Case {
+                what: "fed in three pieces",
+                octets,
+                place,
+                piece,
+            };
+            let pieces = [front, middle, back];
+            case.expect(alloc, is_fed_so(alloc, kind, &pieces, answer)?)?;
+            cuts = cuts.saturating_add(1);
+        }
+    }
+    Ok(cuts)
+}

@@ -1,0 +1,165 @@
+//! What the calls on a whole list say of octets.
+
+ghost use Rattle.std.specs.Prelude.{◌≤◌};
+
+use crate::kind::{Answer, Chain, Kind, Reason, Value, stop_of};
+use apdu_core::{
+    Body, Command, CommandRef, Response, ResponseRef, Shape, decode_command, decode_response,
+};
+use chain_core::Receiver;
+use octet_core::{Octets, Refused};
+use std::alloc::{AllocError, Global};
+use tlv_core::{Dol, FlatForest};
+
+/// The longest message of a chain.
+const LONGEST_MESSAGE: usize = 131_072;
+
+/// How many octets a forest has at most here.
+pub(crate) const FOREST: usize = 65_536;
+
+/// What the first call on a whole list says.
+pub(crate) fn answer(alloc: Global, kind: Kind, octets: &[u8]) -> Result<Answer, AllocError> {
+    match kind {
+        Kind::Atr => Ok(match atr_core::decode(octets) {
+            Ok((atr, taken)) => Ok((Value::Atr(atr), taken)),
+            Err(stop) => Err(stop_of(stop, Reason::Atr)),
+        }),
+        Kind::Block(size) => Ok(match block_core::decode(octets, size.octets()) {
+            Ok((block, taken)) => Ok((Value::Block(block), taken)),
+            Err(stop) => Err(stop_of(stop, Reason::Block)),
+        }),
+        Kind::Chain(chain) => chain_answer(alloc, chain, octets),
+        Kind::Command => command_answer(alloc, octets),
+        Kind::Response => response_answer(alloc, octets),
+        Kind::Forest => forest_answer(alloc, octets),
+        Kind::List => list_answer(alloc, octets),
+    }
+}
+
+/// A receiver of such a chain.
+pub(crate) fn receiver(alloc: Global, chain: Chain) -> Result<Receiver, AllocError> {
+    let max = chain.max.min(LONGEST_MESSAGE);
+    Receiver::new(alloc, chain.size.octets(), chain.number, max)
+}
+
+fn chain_answer(alloc: Global, chain: Chain, octets: &[u8]) -> Result<Answer, AllocError> {
+    let mut receiver = receiver(alloc, chain)?;
+    let fed = receiver.feed(octets);
+    let said = receiver.finish();
+    Ok(match (fed, said, receiver.message()) {
+        (Ok((taken, _)), Ok(()), Some(message)) => {
+            let message = Octets::of(Vec::from_slice(alloc, message)?);
+            Ok((Value::Message(message), taken))
+        }
+        (Err(stop), _, _) | (_, Err(stop), _) => Err(stop_of(stop, Reason::Chain)),
+        (Ok((taken, _)), Ok(()), None) => Ok((Value::Message(Octets::of(Vec::new(alloc))), taken)),
+    })
+}
+
+fn command_answer(alloc: Global, octets: &[u8]) -> Result<Answer, AllocError> {
+    match decode_command(alloc, octets) {
+        Ok(command) => Ok(Ok((Value::Command(command), octets.len()))),
+        Err(Refused::Stop(stop)) => Ok(Err(stop_of(stop, Reason::Command))),
+        Err(Refused::Memory) => Err(AllocError),
+    }
+}
+
+fn response_answer(alloc: Global, octets: &[u8]) -> Result<Answer, AllocError> {
+    match decode_response(alloc, octets) {
+        Ok(response) => Ok(Ok((Value::Response(response), octets.len()))),
+        Err(Refused::Stop(stop)) => Ok(Err(stop_of(stop, Reason::Response))),
+        Err(Refused::Memory) => Err(AllocError),
+    }
+}
+
+fn forest_answer(alloc: Global, octets: &[u8]) -> Result<Answer, AllocError> {
+    match tlv_core::decode(alloc, octets, FOREST) {
+        Ok(forest) => {
+            let spelled = Octets::of(tlv_core::encode(alloc, &forest)?);
+            Ok(Ok((Value::Forest(spelled), octets.len())))
+        }
+        Err(Refused::Stop(stop)) => Ok(Err(stop_of(stop, Reason::Forest))),
+        Err(Refused::Memory) => Err(AllocError),
+    }
+}
+
+fn list_answer(alloc: Global, octets: &[u8]) -> Result<Answer, AllocError> {
+    match Dol::decode(alloc, octets) {
+        Ok(list) => {
+            let spelled = Octets::of(list.encode(alloc)?);
+            Ok(Ok((Value::List(spelled), octets.len())))
+        }
+        Err(Refused::Stop(stop)) => Ok(Err(stop_of(stop, Reason::List))),
+        Err(Refused::Memory) => Err(AllocError),
+    }
+}
+
+/// Whether the other calls on a whole list say the same: what the encoder makes of the value, the
+/// value that is lent, and the flat parts of a forest.
+pub(crate) fn is_said_again(
+    alloc: Global,
+    kind: Kind,
+    octets: &[u8],
+    answer: &Answer,
+) -> Result<bool, AllocError> {
+    Ok(match (kind, answer) {
+        (Kind::Command, _) => is_lent_command(octets, answer),
+        (Kind::Response, _) => is_lent_response(octets, answer),
+        (Kind::Forest, _) => is_flat(alloc, octets, answer)?,
+        (Kind::List, Ok((Value::List(spelled), _))) => spelled.get() == octets,
+        (Kind::Atr, Ok((Value::Atr(atr), taken))) => {
+            Some(atr_core::encode(atr).as_slice()) == octets.get(..*taken)
+        }
+        (Kind::Block(_), Ok((Value::Block(block), taken))) => {
+            Some(block_core::encode(block).as_slice()) == octets.get(..*taken)
+        }
+        (_, Err(_)) | (Kind::Chain(_), Ok((Value::Message(_), _))) => true,
+        _ => false,
+    })
+}
+
+fn is_lent_command(octets: &[u8], answer: &Answer) -> bool {
+    match (CommandRef::decode(octets), answer) {
+        (Ok(lent), Ok((Value::Command(command), _))) => is_same_command(&lent, command),
+        (Err(stop), Err(said)) => stop_of(stop, Reason::Command) == *said,
+        _ => false,
+    }
+}
+
+fn is_same_command(lent: &CommandRef<'_>, command: &Command) -> bool {
+    let none: &[u8] = &[];
+    let (shape, part, le) = match command.body() {
+        Body::Empty => (Shape::Empty, none, None),
+        Body::ShortLe { le } => (Shape::ShortLe, none, Some(*le)),
+        Body::ShortPart { part } => (Shape::ShortPart, part.get(), None),
+        Body::ShortBoth { part, le } => (Shape::ShortBoth, part.get(), Some(*le)),
+        Body::LongLe { le } => (Shape::LongLe, none, Some(*le)),
+        Body::LongPart { part } => (Shape::LongPart, part.get(), None),
+        Body::LongBoth { part, le } => (Shape::LongBoth, part.get(), Some(*le)),
+    };
+    lent.header() == command.header()
+        && lent.shape() == shape
+        && lent.part() == part
+        && lent.le() == le
+}
+
+fn is_lent_response(octets: &[u8], answer: &Answer) -> bool {
+    match (ResponseRef::decode(octets), answer) {
+        (Ok(lent), Ok((Value::Response(response), _))) => is_same_response(&lent, response),
+        (Err(stop), Err(said)) => stop_of(stop, Reason::Response) == *said,
+        _ => false,
+    }
+}
+
+fn is_same_response(lent: &ResponseRef<'_>, response: &Response) -> bool {
+    lent.part() == response.part() && lent.sw1() == response.sw1() && lent.sw2() == response.sw2()
+}
+
+fn is_flat(alloc: Global, octets: &[u8], answer: &Answer) -> Result<bool, AllocError> {
+    match (FlatForest::read(alloc, octets, FOREST), answer) {
+        (Ok(_), Ok((Value::Forest(spelled), _))) => Ok(spelled.get() == octets),
+        (Err(Refused::Stop(stop)), Err(said)) => Ok(stop_of(stop, Reason::Forest) == *said),
+        (Err(Refused::Memory), _) => Err(AllocError),
+        _ => Ok(false),
+    }
+}

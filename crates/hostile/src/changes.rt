@@ -1,0 +1,120 @@
+//! Octets of which one was changed.
+
+use crate::agreeing::{agreed, agrees_in_two};
+use crate::case::{Case, Fault};
+use crate::kind::{Answer, Kind};
+use crate::vectors::Vector;
+use octet_core::Stop;
+use std::alloc::{AllocError, Global};
+
+/// What was said of changed octets.
+#[derive(Clone, Copy, Debug, Default)]
+struct Changed {
+    accepted: u64,
+    short: u64,
+    refused: u64,
+    /// Changes of the length of a block, and how many of them left a block.
+    lengths: u64,
+    blocks: u64,
+}
+
+/// The place of a block's length.
+const LENGTH: usize = 2;
+
+/// Each octet of each list is set to each other value. All calls and readers agree, in every two
+/// pieces too. A block is refused at a place unless its length was changed.
+pub(crate) fn change_each(alloc: Global, vectors: &[Vector]) -> Result<String, Fault> {
+    let mut changed = Changed::default();
+    for vector in vectors {
+        for place in 0..vector.octets.len() {
+            changed = change(alloc, vector, place, changed)?;
+        }
+    }
+    let Changed {
+        accepted,
+        short,
+        refused,
+        lengths,
+        blocks,
+    } = changed;
+    Ok(format!(in alloc;
+        "changed: {accepted} lists accepted, {short} short, {refused} refused; \
+        {lengths} changes of a block's length leave {blocks} blocks"
+    )?)
+}
+
+/// An octet is set to each other value.
+fn change(
+    alloc: Global,
+    vector: &Vector,
+    place: usize,
+    changed: Changed,
+) -> Result<Changed, Fault> {
+    let mut changed = changed;
+    for value in 0..=255u8 {
+        if vector.octets.as_slice().get(place) != Some(&value) {
+            let octets = with(alloc, vector.octets.as_slice(), place, value)?;
+            let answer = agreed(alloc, vector.kind, octets.as_slice())?;
+            if vector.kind.is_fed() {
+                agrees_in_two(alloc, vector.kind, octets.as_slice(), &answer)?;
+            }
+            is_kept_out(alloc, vector.kind, octets.as_slice(), place, &answer)?;
+            changed = changed.and(vector.kind, place, &answer);
+        }
+    }
+    Ok(changed)
+}
+
+/// The octets with one of them set to a value.
+pub(crate) fn with(
+    alloc: Global,
+    octets: &[u8],
+    place: usize,
+    value: u8,
+) -> Result<Vec<u8>, AllocError> {
+    let mut changed = Vec::from_slice(alloc, octets)?;
+    if let Some(octet) = changed.get_mut(place) {
+        *octet = value;
+    }
+    Ok(changed)
+}
+
+/// A block with a change outside its length is refused at a place.
+fn is_kept_out(
+    alloc: Global,
+    kind: Kind,
+    octets: &[u8],
+    place: usize,
+    answer: &Answer,
+) -> Result<(), Fault> {
+    let case = Case {
+        what: "a changed block",
+        octets,
+        place,
+        piece: 0,
+    };
+    let is_refused = matches!(answer, Err(Stop::At { .. }));
+    case.expect(
+        alloc,
+        is_refused || !matches!(kind, Kind::Block(_)) || place == LENGTH,
+    )
+}
+
+impl Changed {
+    /// With one answer more.
+    fn and(self, kind: Kind, place: usize, answer: &Answer) -> Changed {
+        let mut changed = self;
+        match answer {
+            Ok(_) => changed.accepted = self.accepted.saturating_add(1),
+            Err(Stop::Short { .. }) => changed.short = self.short.saturating_add(1),
+            Err(Stop::At { .. }) => changed.refused = self.refused.saturating_add(1),
+        }
+        if matches!(kind, Kind::Block(_)) && place == LENGTH {
+            changed.lengths = self.lengths.saturating_add(1);
+            if answer.is_ok() {
+                changed.blocks = self.blocks.saturating_add(1);
+            }
+        }
+        changed
+    }
+}

@@ -1,0 +1,222 @@
+//! What the readers say of octets that come in pieces.
+
+ghost use Rattle.std.specs.Prelude.{◌≤◌};
+
+use crate::answers::{FOREST, receiver};
+use crate::kind::{Answer, Chain, Kind, Reason, Value, stop_of};
+use atr_core::AtrReader;
+use block_core::BlockReader;
+use chain_core::{ReadRefusal, Receiver, read_chain};
+use octet_core::{After, Counted, Feeder, Refused, Stop};
+use std::alloc::{AllocError, Global};
+use tlv_core::{ForestCheck, ForestReader, TlvReason, encode};
+
+/// A reader that is fed in pieces.
+trait Reader {
+    /// How many octets of a piece it takes, and whether the value is complete.
+    fn takes(&mut self, piece: &[u8]) -> Result<(usize, bool), Stop<Reason>>;
+
+    /// What it says where no more comes.
+    fn ends(&self) -> Result<(), Stop<Reason>>;
+}
+
+impl Reader for AtrReader {
+    fn takes(&mut self, piece: &[u8]) -> Result<(usize, bool), Stop<Reason>> {
+        self.feed(piece).map_err(|stop| stop_of(stop, Reason::Atr))
+    }
+
+    fn ends(&self) -> Result<(), Stop<Reason>> {
+        self.finish().map_err(|stop| stop_of(stop, Reason::Atr))
+    }
+}
+
+impl Reader for BlockReader {
+    fn takes(&mut self, piece: &[u8]) -> Result<(usize, bool), Stop<Reason>> {
+        self.feed(piece)
+            .map_err(|stop| stop_of(stop, Reason::Block))
+    }
+
+    fn ends(&self) -> Result<(), Stop<Reason>> {
+        self.finish().map_err(|stop| stop_of(stop, Reason::Block))
+    }
+}
+
+impl Reader for Receiver {
+    fn takes(&mut self, piece: &[u8]) -> Result<(usize, bool), Stop<Reason>> {
+        self.feed(piece)
+            .map_err(|stop| stop_of(stop, Reason::Chain))
+    }
+
+    fn ends(&self) -> Result<(), Stop<Reason>> {
+        self.finish().map_err(|stop| stop_of(stop, Reason::Chain))
+    }
+}
+
+impl Reader for ForestCheck {
+    fn takes(&mut self, piece: &[u8]) -> Result<(usize, bool), Stop<Reason>> {
+        match self.feed(piece) {
+            Ok(()) => Ok((piece.len(), false)),
+            Err(stop) => Err(stop_of(stop, Reason::Forest)),
+        }
+    }
+
+    fn ends(&self) -> Result<(), Stop<Reason>> {
+        self.finish().map_err(|stop| stop_of(stop, Reason::Forest))
+    }
+}
+
+/// How many octets a reader takes of the pieces, or where and why it stops. None where it doesn't
+/// do as a reader does: it takes a piece whole unless the value ends in it, and nothing after that;
+/// it keeps its refusal.
+fn fed<R: Reader>(reader: &mut R, pieces: &[&[u8]]) -> Option<Result<usize, Stop<Reason>>> {
+    let mut total = 0usize;
+    let mut is_done = false;
+    let mut refusal = None;
+    for piece in pieces {
+        match (reader.takes(piece), refusal) {
+            (Ok((0, true)), None) if is_done => {}
+            (Ok((taken, done)), None) if !is_done && (done || taken == piece.len()) => {
+                total = total.saturating_add(taken);
+                is_done = done;
+            }
+            (Err(stop), None) if !is_done => refusal = Some(stop),
+            (Err(stop), Some(first)) if stop == first => {}
+            _ => return None,
+        }
+    }
+    match (reader.ends(), refusal) {
+        (Ok(()), None) => Some(Ok(total)),
+        (Err(stop), None) if !is_done => Some(Err(stop)),
+        (Err(stop), Some(first)) if stop == first => Some(Err(stop)),
+        _ => None,
+    }
+}
+
+/// Whether a reader said what the whole list's answer says, its value apart.
+fn is_same(said: Option<Result<usize, Stop<Reason>>>, answer: &Answer) -> bool {
+    match (said, answer) {
+        (Some(Ok(taken)), Ok((_, whole))) => taken == *whole,
+        (Some(Err(stop)), Err(whole)) => stop == *whole,
+        _ => false,
+    }
+}
+
+/// Whether the readers of a kind say of the pieces what the call on the whole list said.
+pub(crate) fn is_fed_so(
+    alloc: Global,
+    kind: Kind,
+    pieces: &[&[u8]],
+    answer: &Answer,
+) -> Result<bool, AllocError> {
+    match kind {
+        Kind::Atr => Ok(is_atr_so(pieces, answer)),
+        Kind::Block(size) => Ok(is_block_so(size.octets(), pieces, answer)),
+        Kind::Chain(chain) => is_chain_so(alloc, chain, pieces, answer),
+        Kind::Forest => {
+            let said = fed(&mut ForestCheck::new(FOREST), pieces);
+            Ok(is_same(said, answer) && is_tree_so(alloc, pieces, answer)?)
+        }
+        Kind::Command | Kind::Response | Kind::List => Ok(true),
+    }
+}
+
+fn is_atr_so(pieces: &[&[u8]], answer: &Answer) -> bool {
+    let mut reader = AtrReader::new();
+    let said = fed(&mut reader, pieces);
+    is_same(said, answer)
+        && match answer {
+            Ok((Value::Atr(atr), _)) => reader.value() == Some(atr),
+            _ => reader.value().is_none(),
+        }
+}
+
+fn is_block_so(size: u8, pieces: &[&[u8]], answer: &Answer) -> bool
+    requires least { 1 ≤ size }
+    requires most { size ≤ 254 }
+{
+    let mut reader = BlockReader::new(size);
+    let said = fed(&mut reader, pieces);
+    is_same(said, answer)
+        && match answer {
+            Ok((Value::Block(block), _)) => reader.value() == Some(block),
+            _ => reader.value().is_none(),
+        }
+}
+
+fn is_chain_so(
+    alloc: Global,
+    chain: Chain,
+    pieces: &[&[u8]],
+    answer: &Answer,
+) -> Result<bool, AllocError> {
+    let mut reader = receiver(alloc, chain)?;
+    let said = fed(&mut reader, pieces);
+    Ok(is_same(said, answer) && is_message_so(&reader, answer))
+}
+
+/// Whether a receiver has the message of an answer, and none where that is no value.
+fn is_message_so(receiver: &Receiver, answer: &Answer) -> bool {
+    match answer {
+        Ok((Value::Message(message), _)) => receiver.message() == Some(message.get()),
+        _ => receiver.message().is_none(),
+    }
+}
+
+/// Whether a chain that is read from a source, so many octets a call, says what the whole list's
+/// answer says, and leaves what follows the chain unread.
+pub(crate) fn is_read_so(
+    alloc: Global,
+    chain: Chain,
+    octets: &[u8],
+    step: usize,
+    answer: &Answer,
+) -> Result<bool, AllocError>
+    requires { 1 ≤ step }
+{
+    let mut receiver = receiver(alloc, chain)?;
+    let mut reader = Counted::new(Feeder::new(octets, step, After::End));
+    let said = read_chain(&mut reader, &mut receiver);
+    let given = reader.into_inner().given();
+    let is_said = match (said, answer) {
+        (Ok(()), Ok((_, taken))) => given == *taken as u64,
+        (Err(ReadRefusal::Stop(stop)), Err(whole)) => stop_of(stop, Reason::Chain) == *whole,
+        _ => false,
+    };
+    Ok(is_said && is_message_so(&receiver, answer))
+}
+
+/// Whether the tree that is read in pieces is the one of the whole list.
+fn is_tree_so(alloc: Global, pieces: &[&[u8]], answer: &Answer) -> Result<bool, AllocError> {
+    let mut reader = ForestReader::new(alloc, FOREST)?;
+    let Some(refusal) = grown(&mut reader, pieces)? else {
+        return Ok(false);
+    };
+    match (reader.finish(), answer) {
+        (Ok(forest), Ok((Value::Forest(spelled), _))) => {
+            Ok(refusal.is_none() && encode(alloc, &forest)?.as_slice() == spelled.get())
+        }
+        (Err(stop), Err(whole)) => Ok(
+            (refusal.is_none() || refusal == Some(stop)) && stop_of(stop, Reason::Forest) == *whole,
+        ),
+        _ => Ok(false),
+    }
+}
+
+/// The refusal of a forest's reader that was fed the pieces, where there was one; none at all where
+/// it doesn't keep it.
+fn grown(
+    reader: &mut ForestReader,
+    pieces: &[&[u8]],
+) -> Result<Option<Option<Stop<TlvReason>>>, AllocError> {
+    let mut refusal = None;
+    for piece in pieces {
+        match (reader.feed(piece), refusal) {
+            (Ok(()), None) => {}
+            (Err((_, Refused::Memory)), _) => return Err(AllocError),
+            (Err((_, Refused::Stop(stop))), None) => refusal = Some(stop),
+            (Err((0, Refused::Stop(stop))), Some(first)) if stop == first => {}
+            _ => return Ok(None),
+        }
+    }
+    Ok(Some(refusal))
+}

@@ -1,0 +1,110 @@
+//! Files of recorded exchanges with an octet cut, changed, or all after it gone.
+
+use crate::case::{Case, Fault};
+use crate::changes::with;
+use exchange_core::{
+    Exchange, ExchangeFault, ReplayFault, Side, read_exchange, replay, write_exchange,
+};
+use std::alloc::Global;
+
+/// What was said of files.
+#[derive(Clone, Copy, Debug, Default)]
+struct Said {
+    read: u64,
+    faults: u64,
+    /// How many that were read replay at both ends.
+    replayed: u64,
+}
+
+/// Each file with each octet cut, changed, and with all from it on gone, is an exchange with this
+/// text or a fault.
+pub(crate) fn spoil_each(alloc: Global, files: &[Vec<u8>]) -> Result<String, Fault> {
+    let mut said = Said::default();
+    for file in files {
+        said = judged(alloc, file.as_slice(), file.len(), said)?;
+        for place in 0..file.len() {
+            let (front, rest) = file.as_slice().split_at(place);
+            said = judged(alloc, front, place, said)?;
+            said = without_first(alloc, front, rest, said)?;
+            said = changed(alloc, file.as_slice(), place, said)?;
+        }
+    }
+    let Said {
+        read,
+        faults,
+        replayed,
+    } = said;
+    Ok(format!(in alloc;
+        "files: {faults} faults, {read} read and written again, \
+        of which {replayed} replay at both ends"
+    )?)
+}
+
+/// A file without the first octet of its rest.
+fn without_first(alloc: Global, front: &[u8], rest: &[u8], said: Said) -> Result<Said, Fault> {
+    let mut octets = Vec::from_slice(alloc, front)?;
+    if let Some((_, back)) = rest.split_first() {
+        octets.extend_from_slice(back)?;
+    }
+    judged(alloc, octets.as_slice(), front.len(), said)
+}
+
+/// A file of which one octet is set to each other value.
+fn changed(alloc: Global, file: &[u8], place: usize, said: Said) -> Result<Said, Fault> {
+    let mut said = said;
+    for value in 0..=255u8 {
+        if file.get(place) != Some(&value) {
+            let octets = with(alloc, file, place, value)?;
+            said = judged(alloc, octets.as_slice(), place, said)?;
+        }
+    }
+    Ok(said)
+}
+
+/// With one text more: it is read, written as it was, and replays the same twice, or has a fault.
+fn judged(alloc: Global, text: &[u8], place: usize, said: Said) -> Result<Said, Fault> {
+    let mut said = said;
+    match read_exchange(alloc, text) {
+        Ok(exchange) => {
+            said.read = said.read.saturating_add(1);
+            if is_replayed(alloc, &exchange, text, place)? {
+                said.replayed = said.replayed.saturating_add(1);
+            }
+        }
+        Err(ExchangeFault::Memory) => return Err(Fault::Memory),
+        Err(_) => said.faults = said.faults.saturating_add(1),
+    }
+    Ok(said)
+}
+
+/// Whether an exchange replays at both ends.
+fn is_replayed(
+    alloc: Global,
+    exchange: &Exchange,
+    text: &[u8],
+    place: usize,
+) -> Result<bool, Fault> {
+    let written = write_exchange(alloc, exchange)?;
+    let case = Case {
+        what: "a file that is written again",
+        octets: text,
+        place,
+        piece: 0,
+    };
+    case.expect(alloc, written.as_slice() == text)?;
+    let mut replays = true;
+    for side in [Side::Terminal, Side::Card] {
+        let first = replay(alloc, exchange, side);
+        let again = replay(alloc, exchange, side);
+        if matches!(&first, Err(ReplayFault::Memory)) {
+            return Err(Fault::Memory);
+        }
+        let case = Case {
+            what: "a file that is replayed twice",
+            ..case
+        };
+        case.expect(alloc, first == again)?;
+        replays &= first.is_ok();
+    }
+    Ok(replays)
+}

@@ -1,0 +1,108 @@
+//! Kinds of octets, and what is said of octets of any kind.
+
+ghost use Rattle.std.specs.Prelude.{◌≤◌};
+
+use apdu_core::{Command, CommandReason, Response, ResponseReason};
+use atr_core::{Atr, AtrReason};
+use block_core::{Block, BlockReason, Number};
+use chain_core::ChainReason;
+use octet_core::{Octets, Stop};
+use tlv_core::{DolReason, TlvReason};
+
+/// An information size.
+#[derive(Clone, Copy, Debug, PartialEq, Eq)]
+pub(crate) enum Size {
+    Two,
+    ThirtyTwo,
+    Largest,
+}
+
+impl Size {
+    /// How many octets a field has at most.
+    pub(crate) fn octets(self) -> u8
+        ensures least { 1 ≤ result }
+        ensures most { result ≤ 254 }
+    {
+        match self {
+            Size::Two => 2,
+            Size::ThirtyTwo => 32,
+            Size::Largest => 254,
+        }
+    }
+}
+
+/// How a chain is read: its information size, its first number, and the octets of its message at
+/// most.
+#[derive(Clone, Copy, Debug, PartialEq, Eq)]
+pub(crate) struct Chain {
+    pub(crate) size: Size,
+    pub(crate) number: Number,
+    pub(crate) max: usize,
+}
+
+/// A kind of octets, with what its decoder is told.
+#[derive(Clone, Copy, Debug, PartialEq, Eq)]
+pub(crate) enum Kind {
+    Atr,
+    Block(Size),
+    Chain(Chain),
+    Command,
+    Response,
+    Forest,
+    List,
+}
+
+impl Kind {
+    /// Whether the end of a value is known without the end of the input.
+    pub(crate) fn ends_by_itself(self) -> bool {
+        matches!(self, Kind::Atr | Kind::Block(_) | Kind::Chain(_))
+    }
+
+    /// Whether there is a reader that is fed in pieces.
+    pub(crate) fn is_fed(self) -> bool {
+        self.ends_by_itself() || matches!(self, Kind::Forest)
+    }
+}
+
+/// A value of any kind; a forest and a list by the octets that their encoders give.
+#[derive(Debug, PartialEq, Eq, Drop)]
+pub(crate) enum Value {
+    Atr(Atr),
+    Block(Block),
+    Message(Octets),
+    Command(Command),
+    Response(Response),
+    Forest(Octets),
+    List(Octets),
+}
+
+/// A reason of any kind.
+#[derive(Clone, Copy, Debug, PartialEq, Eq)]
+pub(crate) enum Reason {
+    Atr(AtrReason),
+    Block(BlockReason),
+    Chain(ChainReason),
+    Command(CommandReason),
+    Response(ResponseReason),
+    Forest(TlvReason),
+    List(DolReason),
+}
+
+/// The value and how many octets it takes, or where and why there is none.
+pub(crate) type Answer = Result<(Value, usize), Stop<Reason>>;
+
+/// A stop whose reason is named by its kind.
+pub(crate) fn stop_of<R: Drop, F: FnOnce(R) -> Reason + Drop>(
+    stop: Stop<R>,
+    name: F,
+) -> Stop<Reason>
+    requires { F.IsAlwaysCallable name }
+{
+    match stop {
+        Stop::Short { place } => Stop::Short { place },
+        Stop::At { place, reason } => Stop::At {
+            place,
+            reason: name(reason),
+        },
+    }
+}

@@ -1,0 +1,123 @@
+//! The program, over writers that fail.
+
+use crate::case::{Case, Fault};
+use card_tool::{Status, run};
+use octet_core::{After, Counted, Feeder, Taker};
+use std::alloc::{AllocError, Global};
+
+/// A file of a session of one exchange.
+pub(crate) const FILE: &str =
+    "scard-exchange 1\natr 3B808131204555\ncommand 00A4040000\nt 00000500A4040000A5\n\
+asked 00A4040000\nreply 9000\nc 000002900092\nanswer 9000\n";
+
+/// Words of each subcommand and kind, of those that are refused too, and of faults.
+const LINES: [&str; 36] = [
+    "check atr 3B808131204555",
+    "check atr 3A",
+    "check block 00000500A4040000A5",
+    "check block 00000500A4040000A4",
+    "check chain --ifs 2 00200200A4860060020400660000010001",
+    "check command 00A4040007A000000004101000",
+    "check response 90",
+    "check tlv 6F108407A0000000041010A505BF0C025000",
+    "check tlv 70035A0201",
+    "check dol 9F02065F2A029A03",
+    "show atr 3B8F8001804F0CA000000306030001000000006A",
+    "show block 00000500A4040000A5",
+    "show block 0000",
+    "show chain --ifs 2 00200200A4860060020400660000010001",
+    "show command 00A4040007A000000004101000",
+    "show response AABB9000",
+    "show tlv 6F108407A0000000041010A505BF0C025000",
+    "show dol 9F02065F2A029A03",
+    "build chain 2 0 00A4040000",
+    "build chain 254 1 none",
+    "build tidy 00005A81011200",
+    "build tidy 70029F",
+    "build fill 9F02065F2A029A03 n:9F02:1000 n:5F2A:0978",
+    "build fill 9A03 n:9A:01 n:9A:01",
+    "replay --end terminal",
+    "replay --end card",
+    "migrate",
+    "simulate 3B808131204555 00A4040000:9000",
+    "simulate 3B808131204555 00A4040000:9000 --lose 1,2 --damage 3 --ifsd 2",
+    "simulate 3B00 00A4040000:9000",
+    "check card 00",
+    "check atr 0G",
+    "show card 00",
+    "build chain 0 0 00",
+    "replay",
+    "simulate 3B808131204555 00A4040000",
+];
+
+/// Each text is cut short by a writer that fails after each number of its octets.
+pub(crate) fn fail_each(alloc: Global) -> Result<String, Fault> {
+    let mut writers = 0u64;
+    for line in LINES {
+        let (text, _) = told(alloc, line, 4096, 4096, Failing::Fails)?;
+        for place in 0..text.len() {
+            for (step, failing) in [
+                (4096, Failing::Fails),
+                (1, Failing::Fails),
+                (7, Failing::Interrupted),
+                (7, Failing::TakesNothing),
+            ] {
+                let (kept, status) = told(alloc, line, place, step, failing)?;
+                let is_right = status == Status::Fault
+                    && Some(kept.as_slice()) == text.as_slice().get(..place);
+                let case = Case {
+                    what: "the program over a writer that fails",
+                    octets: line.as_bytes(),
+                    place,
+                    piece: step,
+                };
+                case.expect(alloc, is_right)?;
+                writers = writers.saturating_add(1);
+            }
+        }
+    }
+    let count = LINES.len();
+    Ok(format!(in alloc;
+        "program: {writers} writers failed within the texts of {count} command lines"
+    )?)
+}
+
+/// How a writer fails.
+#[derive(Clone, Copy, Debug, PartialEq, Eq)]
+enum Failing {
+    Fails,
+    Interrupted,
+    TakesNothing,
+}
+
+/// What a writer with so much room holds after a command line, and the program's status.
+fn told(
+    alloc: Global,
+    line: &str,
+    room: usize,
+    step: usize,
+    failing: Failing,
+) -> Result<(Vec<u8>, Status), Fault> {
+    let room = room.min(4096);
+    let step = step.max(1);
+    let taker = match failing {
+        Failing::Fails => Taker::new(room, step, After::Fails),
+        Failing::Interrupted => Taker::new(room, step, After::Interrupted),
+        Failing::TakesNothing => Taker::new(room, step, After::End),
+    };
+    let mut reader = Counted::new(Feeder::new(FILE.as_bytes(), 64, After::End));
+    let mut writer = Counted::new(taker);
+    let status = run(alloc, words(alloc, line)?, &mut reader, &mut writer);
+    let kept = Vec::from_slice(alloc, writer.into_inner().kept())?;
+    Ok((kept, status))
+}
+
+/// The words of a command line, after the program's name.
+pub(crate) fn words(alloc: Global, line: &str) -> Result<Vec<String>, AllocError> {
+    let mut words = Vec::new(alloc);
+    words.push(String::from_str(alloc, "scard")?)?;
+    for word in line.split(' ') {
+        words.push(String::from_str(alloc, word)?)?;
+    }
+    Ok(words)
+}

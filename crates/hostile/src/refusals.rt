@@ -1,0 +1,170 @@
+//! Calls that an end refuses, within sessions.
+
+use crate::case::{Case, Fault};
+use crate::ends::{Ends, Waits, params};
+use exchange_core::Exchange;
+use std::alloc::Global;
+use t1_core::{CardFault, TerminalFault};
+
+/// A call of an end that is refused in some state.
+#[derive(Clone, Copy, Debug, PartialEq, Eq)]
+enum Call {
+    ToTerminal,
+    Quiet,
+    Transmit,
+    TransmitTooLong,
+    AskIfsd(u8),
+    ToCard,
+    Reply,
+    ReplyTooLong,
+    MoreTime,
+    AskIfsc(u8),
+}
+
+/// Why a call is refused.
+#[derive(Clone, Copy, Debug, PartialEq, Eq)]
+enum Refused {
+    Terminal(TerminalFault),
+    Card(CardFault),
+}
+
+const CALLS: [Call; 14] = [
+    Call::ToTerminal,
+    Call::Quiet,
+    Call::Transmit,
+    Call::TransmitTooLong,
+    Call::AskIfsd(0),
+    Call::AskIfsd(32),
+    Call::AskIfsd(255),
+    Call::ToCard,
+    Call::Reply,
+    Call::ReplyTooLong,
+    Call::MoreTime,
+    Call::AskIfsc(0),
+    Call::AskIfsc(32),
+    Call::AskIfsc(255),
+];
+
+/// What is handed to the calls: a block, a short command or reply, and octets of which there are
+/// too many for either.
+#[derive(Clone, Copy, Debug)]
+struct Handed<'a> {
+    block: &'a [u8],
+    short: &'a [u8],
+    long: &'a [u8],
+}
+
+/// Each call that is refused is put between any two lines of each session, which goes on as if it
+/// weren't there.
+pub(crate) fn refuse_each(alloc: Global, sessions: &[Exchange]) -> Result<String, Fault> {
+    let long = vec![in alloc; 0xA5u8; 65_545]?;
+    let handed = Handed {
+        block: &[0x00, 0x80, 0x00, 0x80],
+        short: &[0x90, 0x00],
+        long: long.as_slice(),
+    };
+    let mut refused = 0u64;
+    for session in sessions {
+        let lines = session.lines().get();
+        for place in 0..=lines.len() {
+            for call in CALLS {
+                if is_put(alloc, session, place, call, handed)? {
+                    refused = refused.saturating_add(1);
+                }
+            }
+        }
+    }
+    let count = sessions.len();
+    Ok(format!(in alloc;
+        "refused: {refused} calls within {count} sessions, which went on unchanged"
+    )?)
+}
+
+/// Whether a call is refused before the line at `place`; where it is, all else is as it was.
+fn is_put(
+    alloc: Global,
+    session: &Exchange,
+    place: usize,
+    call: Call,
+    handed: Handed<'_>,
+) -> Result<bool, Fault> {
+    let Some((before, after)) = session.lines().get().split_at_checked(place) else {
+        return Ok(false);
+    };
+    let mut ends = Ends::new(alloc, params(session)?)?;
+    let is_followed = ends.follow(before);
+    let Some(wanted) = wanted(&ends, call) else {
+        return Ok(false);
+    };
+    let is_refused = refusal_of(&mut ends, call, handed) == Some(wanted);
+    let case = Case {
+        what: "a refused call within a session",
+        octets: session.atr(),
+        place,
+        piece: after.len(),
+    };
+    case.expect(alloc, is_followed && is_refused && ends.follow(after))?;
+    Ok(true)
+}
+
+/// Why a call is refused in this state, none where it isn't.
+fn wanted(ends: &Ends, call: Call) -> Option<Refused> {
+    match call {
+        Call::ToTerminal | Call::Quiet => match ends.waits() {
+            Waits::Idle => Some(Refused::Terminal(TerminalFault::Idle)),
+            Waits::Card => None,
+            Waits::Dead => Some(Refused::Terminal(TerminalFault::Dead)),
+        },
+        Call::Transmit => called(ends.waits(), None),
+        Call::TransmitTooLong => called(ends.waits(), Some(TerminalFault::TooLong)),
+        Call::AskIfsd(size) => called(
+            ends.waits(),
+            is_reserved(size).then_some(TerminalFault::Reserved),
+        ),
+        Call::ToCard if ends.is_hosts_turn() => Some(Refused::Card(CardFault::Order)),
+        Call::ToCard => None,
+        _ if !ends.is_hosts_turn() => Some(Refused::Card(CardFault::Order)),
+        Call::ReplyTooLong => Some(Refused::Card(CardFault::TooLong)),
+        Call::AskIfsc(size) if is_reserved(size) => Some(Refused::Card(CardFault::Reserved)),
+        _ => None,
+    }
+}
+
+/// Why a call of an application is refused, where an idle terminal refuses it so.
+fn called(waits: Waits, idle: Option<TerminalFault>) -> Option<Refused> {
+    match waits {
+        Waits::Idle => idle.map(Refused::Terminal),
+        Waits::Card => Some(Refused::Terminal(TerminalFault::Busy)),
+        Waits::Dead => Some(Refused::Terminal(TerminalFault::Dead)),
+    }
+}
+
+/// Whether no end may ask for this size.
+fn is_reserved(size: u8) -> bool {
+    size == 0 || size == 255
+}
+
+/// Why the call is refused, none where it isn't.
+fn refusal_of(ends: &mut Ends, call: Call, handed: Handed<'_>) -> Option<Refused> {
+    let terminal = match call {
+        Call::ToTerminal => ends.terminal.received(handed.block),
+        Call::Quiet => ends.terminal.quiet(),
+        Call::Transmit => ends.terminal.transmit(handed.short),
+        Call::TransmitTooLong => ends.terminal.transmit(handed.long),
+        Call::AskIfsd(size) => ends.terminal.ask_ifs(size),
+        _ => return refused_by_card(ends, call, handed),
+    };
+    terminal.err().map(Refused::Terminal)
+}
+
+fn refused_by_card(ends: &mut Ends, call: Call, handed: Handed<'_>) -> Option<Refused> {
+    let card = match call {
+        Call::ToCard => ends.card.received(handed.block),
+        Call::Reply => ends.card.reply(handed.short),
+        Call::ReplyTooLong => ends.card.reply(handed.long),
+        Call::MoreTime => ends.card.more_time(1),
+        Call::AskIfsc(size) => ends.card.ask_ifs(size),
+        _ => return None,
+    };
+    card.err().map(Refused::Card)
+}

@@ -1,0 +1,286 @@
+//! Readers and writers that fail.
+
+ghost use Rattle.std.specs.Prelude.{◌≡◌, ◌≢◌, ◌≤◌};
+
+use crate::case::{Case, Fault};
+use crate::vectors::octets;
+use apdu_core::{
+    Body, Command, ReceiveFault, Response, SendFault, receive_command, receive_response,
+    send_command, send_response,
+};
+use block_core::Number;
+use chain_core::{ReadRefusal, Receiver, read_chain, write_chain};
+use octet_core::{After, Counted, FailsOnce, Feeder, Octets, Sink, Source, Stop, Taker};
+use std::alloc::Global;
+
+/// What is carried.
+#[derive(Clone, Copy, Debug, PartialEq, Eq)]
+enum Message {
+    /// The octets of a chain, by the calls of chains alone.
+    Plain,
+    Command,
+    Response,
+}
+
+/// The octets of a message, and those of its chain in fields of 2 octets from number 0.
+#[derive(Debug, Drop)]
+struct Carried {
+    message: Message,
+    octets: Vec<u8>,
+    chain: Vec<u8>,
+}
+
+/// What is carried over the streams.
+const ROWS: [(Message, &str, &str); 3] = [
+    (
+        Message::Plain,
+        "00A4040000",
+        "00200200A4860060020400660000010001",
+    ),
+    (
+        Message::Command,
+        "00A4040000",
+        "00200200A4860060020400660000010001",
+    ),
+    (Message::Response, "AABB9000", "002002AABB330040029000D2"),
+];
+
+/// The largest size of a field here.
+const SIZE: u8 = 2;
+
+/// Each message is written and read over streams that fail after each number of octets.
+pub(crate) fn fail_each(alloc: Global) -> Result<String, Fault> {
+    let mut writers = 0u64;
+    let mut readers = 0u64;
+    for (message, text, chain) in ROWS {
+        let carried = Carried {
+            message,
+            octets: octets(alloc, text)?,
+            chain: octets(alloc, chain)?,
+        };
+        for place in 0..carried.chain.len() {
+            writers = writers.saturating_add(writers_fail(alloc, &carried, place)?);
+            readers = readers.saturating_add(readers_fail(alloc, &carried, place)?);
+        }
+    }
+    Ok(format!(in alloc;
+        "streams: {writers} writers and {readers} readers failed at the octet that they said"
+    )?)
+}
+
+/// Writers that fail, are interrupted, or take nothing more, after so many octets: how many.
+fn writers_fail(alloc: Global, carried: &Carried, place: usize) -> Result<u64, Fault> {
+    let mut writers = 0u64;
+    for step in [1, 3, 64] {
+        for after in [Failing::Fails, Failing::Interrupted, Failing::End] {
+            let case = Case {
+                what: "a writer that fails",
+                octets: carried.chain.as_slice(),
+                place,
+                piece: step,
+            };
+            let is_right = is_left_at(alloc, carried, place, step, after)?
+                && is_not_tried_again(alloc, carried, place, step, after)?;
+            case.expect(alloc, is_right)?;
+            writers = writers.saturating_add(2);
+        }
+    }
+    Ok(writers)
+}
+
+/// How a device fails.
+#[derive(Clone, Copy, Debug, PartialEq, Eq)]
+enum Failing {
+    Fails,
+    Interrupted,
+    End,
+}
+
+impl Failing {
+    fn after(self) -> After
+        ensures { result ≢ After.Repeats }
+    {
+        match self {
+            Failing::Fails => After::Fails,
+            Failing::Interrupted => After::Interrupted,
+            Failing::End => After::End,
+        }
+    }
+}
+
+/// Whether a writer that fails for good after `place` octets holds them and no more, and the fault
+/// says so.
+fn is_left_at(
+    alloc: Global,
+    carried: &Carried,
+    place: usize,
+    step: usize,
+    after: Failing,
+) -> Result<bool, Fault>
+    requires { 1 ≤ step }
+{
+    let mut writer = Counted::new(Taker::new(place.min(4096), step, after.after()));
+    let written = written(alloc, &mut writer, carried)?;
+    let taker = writer.into_inner();
+    Ok(written == Some(place) && Some(taker.kept()) == carried.chain.as_slice().get(..place))
+}
+
+/// The same of a writer of which one call alone fails.
+fn is_not_tried_again(
+    alloc: Global,
+    carried: &Carried,
+    place: usize,
+    step: usize,
+    after: Failing,
+) -> Result<bool, Fault>
+    requires { 1 ≤ step }
+{
+    let taker = Taker::new(64, step, After::Fails);
+    let mut writer = Counted::new(FailsOnce::new(taker, place, after.after()));
+    let written = written(alloc, &mut writer, carried)?;
+    let taker = writer.into_inner().into_inner();
+    Ok(written == Some(place) && Some(taker.kept()) == carried.chain.as_slice().get(..place))
+}
+
+/// After how many octets writing failed, none where it didn't.
+fn written<W: Sink>(
+    alloc: Global,
+    writer: &mut W,
+    carried: &Carried,
+) -> Result<Option<usize>, Fault> {
+    let octets = carried.octets.as_slice();
+    let said = match carried.message {
+        Message::Plain if octets.len() <= 131_072 => {
+            return Ok(
+                write_chain(writer, octets, SIZE, Number::Zero)
+                    .err()
+                    .map(|fault| fault.written),
+            );
+        }
+        Message::Command => send_command(alloc, writer, &command()?, SIZE, Number::Zero),
+        _ => send_response(alloc, writer, &response(alloc)?, SIZE, Number::Zero),
+    };
+    match said {
+        Ok(()) => Ok(None),
+        Err(SendFault::Write { written }) => Ok(Some(written)),
+        Err(SendFault::Memory) => Err(Fault::Memory),
+    }
+}
+
+/// The command of the rows, 00A40400 with Le 256.
+fn command() -> Result<Command, Fault> {
+    Command::new([0x00, 0xA4, 0x04, 0x00], Body::ShortLe { le: 256 }).map_err(|_| Fault::Stream)
+}
+
+/// The response of the rows, AABB9000.
+fn response(alloc: Global) -> Result<Response, Fault> {
+    let part = Octets::of(Vec::from_slice(alloc, &[0xAA, 0xBB])?);
+    Response::new(part, 0x90, 0x00).map_err(|_| Fault::Stream)
+}
+
+/// Readers that fail, are interrupted, or end, after so many octets: how many.
+fn readers_fail(alloc: Global, carried: &Carried, place: usize) -> Result<u64, Fault> {
+    let mut readers = 0u64;
+    for step in [1, 3, 64] {
+        for after in [Failing::Fails, Failing::Interrupted, Failing::End] {
+            let case = Case {
+                what: "a reader that fails",
+                octets: carried.chain.as_slice(),
+                place,
+                piece: step,
+            };
+            case.expect(
+                alloc,
+                is_read_until(alloc, carried, place, step, after)?
+                    && is_gone_on_with(alloc, carried, place, step, after)?,
+            )?;
+            readers = readers.saturating_add(2);
+        }
+    }
+    Ok(readers)
+}
+
+/// What reading came to: all was read, it failed after so many octets, or the input ended there.
+#[derive(Clone, Copy, Debug, PartialEq, Eq)]
+enum Came {
+    All,
+    Failed(usize),
+    Ended(usize),
+}
+
+/// Whether a reader that fails for good after `place` octets is said to.
+fn is_read_until(
+    alloc: Global,
+    carried: &Carried,
+    place: usize,
+    step: usize,
+    after: Failing,
+) -> Result<bool, Fault>
+    requires { 1 ≤ step }
+{
+    let Some(front) = carried.chain.as_slice().get(..place) else {
+        return Ok(false);
+    };
+    let mut reader = Counted::new(Feeder::new(front, step, after.after()));
+    let read = read(alloc, &mut reader, carried.message)?;
+    let given = reader.into_inner().given();
+    let wanted = match after {
+        Failing::End => Came::Ended(place),
+        Failing::Fails | Failing::Interrupted => Came::Failed(place),
+    };
+    Ok(read == wanted && given == place as u64)
+}
+
+/// Whether a reader of which one call alone fails is said to, and a receiver of it can go on after
+/// that.
+fn is_gone_on_with(
+    alloc: Global,
+    carried: &Carried,
+    place: usize,
+    step: usize,
+    after: Failing,
+) -> Result<bool, Fault>
+    requires { 1 ≤ step }
+{
+    let feeder = Feeder::new(carried.chain.as_slice(), step, After::Fails);
+    let mut reader = Counted::new(FailsOnce::new(feeder, place, after.after()));
+    let mut receiver = Receiver::new(alloc, SIZE, Number::Zero, 64)?;
+    let first = read_chain(&mut reader, &mut receiver);
+    let is_said = match after {
+        Failing::End => first == Err(ReadRefusal::Stop(Stop::Short { place })),
+        Failing::Fails | Failing::Interrupted => first == Err(ReadRefusal::Read { taken: place }),
+    };
+    let is_whole = read_chain(&mut reader, &mut receiver) == Ok(());
+    Ok(is_said && is_whole && receiver.message() == Some(carried.octets.as_slice()))
+}
+
+/// What reading by the calls of a message came to.
+fn read<R: Source>(alloc: Global, reader: &mut R, message: Message) -> Result<Came, Fault> {
+    match message {
+        Message::Plain => {
+            let mut receiver = Receiver::new(alloc, SIZE, Number::Zero, 64)?;
+            Ok(match read_chain(reader, &mut receiver) {
+                Ok(()) => Came::All,
+                Err(ReadRefusal::Read { taken }) => Came::Failed(taken),
+                Err(ReadRefusal::Stop(Stop::Short { place } | Stop::At { place, .. })) => {
+                    Came::Ended(place)
+                }
+            })
+        }
+        Message::Command => read_of(receive_command(alloc, reader, SIZE, Number::Zero).err()),
+        Message::Response => read_of(receive_response(alloc, reader, SIZE, Number::Zero).err()),
+    }
+}
+
+/// What a call that receives came to, by its fault.
+fn read_of<R: Drop>(fault: Option<ReceiveFault<R>>) -> Result<Came, Fault> {
+    match fault {
+        None => Ok(Came::All),
+        Some(ReceiveFault::Read { taken }) => Ok(Came::Failed(taken)),
+        Some(ReceiveFault::Chain(Stop::Short { place } | Stop::At { place, .. })) => {
+            Ok(Came::Ended(place))
+        }
+        Some(ReceiveFault::Apdu(_)) => Ok(Came::All),
+        Some(ReceiveFault::Memory) => Err(Fault::Memory),
+    }
+}
