@@ -6,6 +6,8 @@
 
 mod answers;
 mod apdus;
+mod blocks;
+mod buffers;
 mod chains;
 mod exchanges;
 mod forests;
@@ -17,10 +19,12 @@ use std::{env, io};
 fn main(rt: HostRuntime) -> io::Result<()> {
     let timed = is_timed(&rt)?;
     answers::decode_each(&rt, timed)?;
+    blocks::decode_each(&rt, timed)?;
     chains::carry_each(&rt, timed)?;
     apdus::decode_each(&rt, timed)?;
     forests::judge_each(&rt, timed)?;
     session::exchange_each(&rt, timed)?;
+    buffers::exchange_each(&rt, timed)?;
     session::record_each(&rt, timed)?;
     exchanges::replay_each(&rt, timed)
 }

@@ -10,10 +10,10 @@ use std::time::Instant;
 use t1_core::{Card, CardTurn, Terminal, TerminalTurn};
 
 /// The octets of the longest command.
-const COMMAND: usize = 65_544;
+pub(crate) const COMMAND: usize = 65_544;
 
 /// The octets of the longest response.
-const RESPONSE: usize = 65_538;
+pub(crate) const RESPONSE: usize = 65_538;
 
 /// Exchanges the longest command and response under the information sizes 254 and 32.
 pub(crate) fn exchange_each(rt: &HostRuntime, timed: bool) -> io::Result<()> {
@@ -100,7 +100,7 @@ fn carried(recorder: &mut Recorder, command: &[u8], reply: &[u8]) -> Option<usiz
 }
 
 /// Both ends, of which each takes information fields of this size.
-fn ends(alloc: Global, size: u8) -> io::Result<(Terminal, Card)> {
+pub(crate) fn ends(alloc: Global, size: u8) -> io::Result<(Terminal, Card)> {
     let Some(params) = T1Params::new(size, 4, 5) else {
         return Err(ErrorKind::InvalidInput.into());
     };

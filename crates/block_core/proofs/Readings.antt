@@ -6,14 +6,13 @@ use Rattle.std.proofs.lemmas.List.{length-append, length-drop, take-append-drop,
 use Rattle.std.proofs.lemmas.List.Sums.{fold-append}
 use Rattle.std.proofs.Math.Seq.{take-length}
 use Rattle.octet_core.specs.Octets.{AreOctets, xor_of}
-use Rattle.octet_core.specs.Grammar.{self_ended, Accepts, Begins, IsShort, Refuses, RefusesAt}
+use Rattle.octet_core.specs.Grammar.{self_ended, Accepts, Begins, IsShort, RefusesAt}
 use Rattle.octet_core.specs.Reader.{IsFed, IsFinished}
 use Rattle.octet_core.specs.declared.stop.Refusal.{Refusal}
 use Rattle.octet_core.specs.declared.stop.Stop.{Stop}
 use Rattle.octet_core.specs.declared.stop.Stop.TheVariants.{At, Short}
 use Rattle.octet_core.proofs.Begun.{spelled-apart, spelled-begins, stuck-append}
 use Rattle.octet_core.proofs.Lists.{never}
-use Rattle.octet_core.proofs.Verdicts.{refuses_at}
 use Rattle.block_core.specs.Block.{Parts, IsBlock, IsReason}
 use Rattle.block_core.specs.Reading.{Reading, HasTaken, IsOpen, IsClosed, fresh, refusal_of}
 use Rattle.block_core.specs.Stage.{IsAt, refusal_at, answer_of}
@@ -93,6 +92,10 @@ under-way-free (Size p) e = refl
 under-way-free (Rest p end) e = refl
 under-way-free (Done block) e = refl
 under-way-free (Refused refusal) e = cc
+
+-- octets that leave a block under way are short at their end
+pub short-under-way : (ifs : ℕ) (stage : Stage) (b : List ℕ) → AreOctets b → IsAt ifs stage b → IsUnderWay stage → IsShort self_ended (IsBlock ifs) b (length b)
+short-under-way ifs stage b octets at way = short-of (IsBlock ifs) (one-accepted ifs ifs) b (at-begins ifs stage b octets at (under-way-free stage way)) (under-way-open ifs stage b at way)
 
 -- what a reader of a block under way says when no more octets come
 pub finished-short : (ifs : ℕ) (held : List ℕ) (stage : Stage) (r : Reading) → record { ifs = ifs; taken = held; refusal = refusal_at stage } ≡ r → AreOctets held → IsAt ifs stage held
@@ -226,39 +229,3 @@ fresh-taken ifs = record { kept = refl; is = refl; begun = begun-lt2 ifs [] (λ 
 
 pub one-taken : (r : Reading) (t u : List ℕ) → HasTaken r t → HasTaken r u → t ≡ u
 one-taken r t u h g = sym h.is ∙ g.is
-
--- ---- the whole input at once
-
-decoded-taken : (ifs : ℕ) (old new : Reading) (b : List ℕ) (n : ℕ) (d : Bool) → old ≡ fresh ifs → IsFed (IsBlock old.ifs) (IsReason old.ifs) HasTaken refusal_of old new b (Ok (n, d)) → HasTaken new (take n b)
-decoded-taken ifs old new b n d e f = f.taken.1 [] (subst (λ (r : Reading). HasTaken r []) (sym e) (fresh-taken ifs))
-
-same-size : (ifs : ℕ) (old new : Reading) → old ≡ fresh ifs → new.ifs ≡ old.ifs → new.ifs ≡ ifs
-same-size ifs old new e size = size ∙ ap (λ (r : Reading). r.ifs) e
-
-pub decoded : (ifs : ℕ) (old new : Reading) (b : List ℕ) (n : ℕ) (d : Bool) (v : Parts) → old ≡ fresh ifs → IsFed (IsBlock old.ifs) (IsReason old.ifs) HasTaken refusal_of old new b (Ok (n, d)) → new.ifs ≡ old.ifs → IsBlock new.ifs v new.taken
-    → (n ≤ length b) × IsBlock ifs v (take n b)
-decoded ifs old new b n d v e f size h =
-    (f.taken.0, subst (λ (i : ℕ). IsBlock i v (take n b)) (same-size ifs old new e size) (subst (IsBlock new.ifs v) (decoded-taken ifs old new b n d e f).is h))
-
-pub not-decoded : (ifs : ℕ) (old new : Reading) (b : List ℕ) (n : ℕ) (d : Bool) → old ≡ fresh ifs → IsFed (IsBlock old.ifs) (IsReason old.ifs) HasTaken refusal_of old new b (Ok (n, d)) → new.ifs ≡ old.ifs
-    → ((v : Parts) → HasTaken new new.taken → IsBlock new.ifs v new.taken → ⊥) → IsShort self_ended (IsBlock ifs) b (length b)
-not-decoded ifs old new b n d e f size none =
-    let h : HasTaken new (take n b) = decoded-taken ifs old new b n d e f in
-    let own : HasTaken new new.taken = subst (HasTaken new) (sym h.is) h in
-    let not_yet : (v : Parts) → IsBlock new.ifs v (take n b) → ⊥ = λ v g. none v own (subst (IsBlock new.ifs v) (sym h.is) g) in
-    let more : (d ≡ false) → take n b ≡ b = λ open_still. ap (λ (k : ℕ). take k b) (f.whole open_still) ∙ take-length b in
-    let all : take n b ≡ b =
-    elim (bool_cases d) [
-      | inl ended ↦ absurd (
-          let spelled = ((f.done [] (subst (λ (r : Reading). HasTaken r []) (sym e) (fresh-taken ifs))).0) ended in
-          not_yet spelled.0 (subst (λ (i : ℕ). IsBlock i spelled.0 (take n b)) (sym size) spelled.1)
-          )
-      | inr still ↦ more still
-    ] in
-    subst (λ (i : ℕ). IsShort self_ended (IsBlock i) b (length b)) (same-size ifs old new e size)
-    (short-of (IsBlock new.ifs) (one-accepted new.ifs new.ifs) b (subst (Begins (IsBlock new.ifs)) all h.begun) (λ v g. not_yet v (subst (IsBlock new.ifs v) (sym all) g)))
-
-pub refused-whole : (ifs : ℕ) (old new : Reading) (b : List ℕ) (stop : Stop BlockReason) → old ≡ fresh ifs → IsFed (IsBlock old.ifs) (IsReason old.ifs) HasTaken refusal_of old new b (Err stop) → Refuses self_ended (IsBlock ifs) (IsReason ifs) b stop
-refused-whole ifs old new b stop e f =
-    refuses_at self_ended (IsBlock ifs) (IsReason ifs) b stop
-    (subst (λ (i : ℕ). RefusesAt self_ended (IsBlock i) (IsReason i) b stop) (ap (λ (r : Reading). r.ifs) e) (f.refused [] (subst (λ (r : Reading). HasTaken r []) (sym e) (fresh-taken ifs))))

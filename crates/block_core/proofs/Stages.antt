@@ -1,11 +1,9 @@
 -- How a block gets on by stages, and where it is refused.
 use Rattle.std.proofs.Common.{◌≡◌, ◌≢◌, ℕ, ◌+◌, ◌-◌, ◌<◌, ◌≤◌, List, ◌++◌, length, take, drop, get_or, sym, ap, subst, ◌∙◌, arith, ◌⊎◌}
-use Rattle.std.proofs.lemmas.List.{length-append, length-take, get_or_append_left}
+use Rattle.std.proofs.lemmas.List.{length-append, get_or_append_left}
 use Rattle.std.proofs.Math.Seq.{take-length}
-use Rattle.octet_core.specs.Grammar.{Begins, IsStuck, self_ended}
 use Rattle.octet_core.specs.Octets.{AreOctets, xor_of}
-use Rattle.octet_core.proofs.Lists.{octets-take}
-use Rattle.block_core.specs.Block.{Parts, IsBlock, IsReason, IsAboutIfs, IsLenFault, FitsLen, pcb_octet}
+use Rattle.block_core.specs.Block.{IsBlock, IsAboutIfs, IsLenFault, FitsLen, pcb_octet}
 use Rattle.block_core.specs.Stage.{IsAt, IsTested, IsHeaded, IsSized, IsRefused, tested_len, refusal_at}
 use Rattle.block_core.specs.Reading.{IsOpen}
 use Rattle.block_core.specs.declared.pcb.Pcb.{Pcb}
@@ -13,54 +11,36 @@ use Rattle.block_core.specs.declared.reason.BlockReason.{BlockReason}
 use Rattle.block_core.specs.declared.reason.BlockReason.TheVariants.{BadPcb, BadIfs, BadLrc}
 use Rattle.block_core.specs.declared.stage.Stage.{Stage}
 use Rattle.block_core.specs.declared.stage.Stage.TheVariants.{Front, Len, Size, Rest, Done, Refused}
-use Rattle.block_core.proofs.Blocks as blocks
+use Rattle.block_core.proofs.Places.{IsRefusedAt, refused-at-pcb, refused-at-len, refused-at-size, refused-at-lrc, begun-with}
 
 all-of : (n : ℕ) (b : List ℕ) → length b ≡ n → take n b ≡ b
 all-of n b e = ap (λ (k : ℕ). take k b) (sym e) ∙ take-length b
 
 -- ---- refusals at the last of the octets
 
--- nothing goes on after the last octet, though something does after those before it
-refused-last : (ifs n : ℕ) (b : List ℕ) (r : BlockReason) → length b ≡ n + 1 → ((v : Parts) (m : ℕ) → (m ≤ length b) × IsBlock ifs v (take m b) → ⊥)
-    → Begins (IsBlock ifs) (take n b) → (Begins (IsBlock ifs) (take (n + 1) b) → ⊥) → IsReason ifs r (take (n + 1) b) → IsRefused ifs b r
-refused-last ifs n b r len none begun stuck reason =
-    let place : n ≡ length b - 1 = omega arith in
-    subst (λ (p : ℕ). (IsStuck self_ended (IsBlock ifs) b p) × IsReason ifs r (take (p + 1) b)) place
-    (record { none = none; inside = omega arith; begun = begun; stuck = stuck }, reason)
+at-last : (ifs place : ℕ) (b : List ℕ) (r : BlockReason) → length b ≡ place + 1 → IsRefusedAt ifs b place r → IsRefused ifs b r
+at-last ifs place b r len refused =
+    let last : place ≡ length b - 1 = omega arith in
+    subst (λ (p : ℕ). IsRefusedAt ifs b p r) last refused
 
 pub refused-pcb : (ifs : ℕ) (b : List ℕ) → AreOctets b → length b ≡ 2 → ((p : Pcb) → pcb_octet p ≡ get_or b 1 0 → ⊥) → IsRefused ifs b BadPcb
-refused-pcb ifs b octets len unknown =
-    let stuck = blocks.stuck-pcb ifs b (omega arith) unknown in
-    refused-last ifs 1 b BadPcb len (blocks.none-early ifs b 1 (omega arith) stuck) (blocks.begun-lt2 ifs (take 1 b) (octets-take 1 b octets) (omega (arith, length-take 1 b))) stuck (blocks.reason-pcb ifs b (omega arith) unknown)
+refused-pcb ifs b octets len unknown = at-last ifs 1 b BadPcb len (refused-at-pcb ifs b octets (omega arith) unknown)
 
 pub refused-len : (ifs : ℕ) (b : List ℕ) (p : Pcb) (r : BlockReason) → ifs ≤ 254 → AreOctets b → length b ≡ 3 → pcb_octet p ≡ get_or b 1 0 → IsLenFault ifs p (get_or b 2 0) r → IsRefused ifs b r
-refused-len ifs b p r small octets len kind fault =
-    let stuck = blocks.stuck-len ifs b p r small (omega arith) kind fault in
-    refused-last ifs 2 b r len (blocks.none-early ifs b 2 (omega arith) stuck) (blocks.begun-two ifs p b octets (omega arith) kind) stuck (blocks.reason-len ifs b p r (omega arith) kind fault)
+refused-len ifs b p r small octets len kind fault = at-last ifs 2 b r len (refused-at-len ifs b p r small octets (omega arith) kind fault)
 
 pub refused-size : (ifs : ℕ) (b : List ℕ) (p : Pcb) → AreOctets b → length b ≡ 4 → IsHeaded ifs p b → IsAboutIfs p → (get_or b 3 0 ≡ 0) ⊎ (get_or b 3 0 ≡ 255) → IsRefused ifs b BadIfs
-refused-size ifs b p octets len head about bad =
-    let stuck = blocks.stuck-size ifs b p (omega arith) head.kind about bad in
-    refused-last ifs 3 b BadIfs len (blocks.none-early ifs b 3 (omega arith) stuck)
-    (blocks.begun-by ifs 3 p b octets (omega arith) (omega arith) (omega arith) head.kind head.fits (λ a lt. absurd (omega arith))) stuck (blocks.reason-size ifs b p (omega arith) head.kind about bad)
+refused-size ifs b p octets len head about bad = at-last ifs 3 b BadIfs len (refused-at-size ifs b p octets (omega arith) head about bad)
 
 pub refused-lrc : (ifs end : ℕ) (b : List ℕ) (p : Pcb) → AreOctets b → length b ≡ end + 1 → end ≡ 3 + get_or b 2 0 → IsHeaded ifs p b → IsSized p (get_or b 3 0) → xor_of b ≢ 0 → IsRefused ifs b BadLrc
 refused-lrc ifs end b p octets len end-is head sized bad =
-    let whole : take (end + 1) b ≡ b = all-of (end + 1) b len in
-    let sum : xor_of (take (end + 1) b) ≢ 0 = λ e. bad (ap xor_of (sym whole) ∙ e) in
-    let stuck = blocks.stuck-lrc ifs (end + 1) b (omega arith) (omega arith) sum in
-    refused-last ifs end b BadLrc len (blocks.none-last ifs (end + 1) b (omega arith) stuck)
-    (blocks.begun-by ifs end p b octets (omega arith) (omega arith) (omega arith) head.kind head.fits (λ about lt. sized about)) stuck
-    (blocks.reason-lrc ifs (end + 1) b p (omega arith) (omega arith) head.kind head.fits sum)
+    at-last ifs end b BadLrc len (refused-at-lrc ifs end b p octets (omega arith) end-is head sized (λ e. bad (ap xor_of (sym (all-of (end + 1) b len)) ∙ e)))
 
 pub whole-is : (ifs end : ℕ) (b : List ℕ) (p : Pcb) → AreOctets b → length b ≡ end + 1 → end ≡ 3 + get_or b 2 0 → IsHeaded ifs p b → IsSized p (get_or b 3 0) → xor_of b ≡ 0
     → IsBlock ifs (record { nad = get_or b 0 0; pcb = p; inf = take (end - 3) (drop 3 b) }) b
 whole-is ifs end b p octets len end-is head sized sum =
     let whole : take (end + 1) b ≡ b = all-of (end + 1) b len in
-    let inf : List ℕ = take (end - 3) (drop 3 b) in
-    let inf-is : inf ≡ take (get_or b 2 0) (drop 3 b) = ap (λ (k : ℕ). take k (drop 3 b)) (let e : end - 3 ≡ get_or b 2 0 = omega arith in e) in
-    subst (IsBlock ifs (record { nad = get_or b 0 0; pcb = p; inf = inf })) whole
-    (blocks.found ifs (end + 1) p b inf octets (omega arith) (omega arith) inf-is head.kind head.fits sized (ap xor_of whole ∙ sum))
+    subst (IsBlock ifs (record { nad = get_or b 0 0; pcb = p; inf = take (end - 3) (drop 3 b) })) whole (begun-with ifs end b p octets (omega arith) end-is head sized (ap xor_of whole ∙ sum))
 
 -- ---- more octets
 

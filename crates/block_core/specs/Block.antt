@@ -1,5 +1,5 @@
 -- Blocks, and the octets that spell them.
-use Rattle.std.specs.Prelude.{◌≡◌, ℕ, ◌+◌, ◌<◌, ◌≤◌, List, [], ◌∷◌, ◌++◌, length, Bool, true, false, slice_index, ◌≢◌, ◌⊎◌}
+use Rattle.std.specs.Prelude.{◌≡◌, ℕ, ◌+◌, ◌<◌, ◌≤◌, List, [], ◌∷◌, ◌++◌, length, drop, Bool, true, false, slice_index, ◌≢◌, ◌⊎◌}
 use Rattle.octet_core.specs.Octets.{AreOctets, xor_of}
 use Rattle.octet_core.specs.Grammar.{IsFirst}
 use Rattle.block_core.specs.declared.pcb.Number.{Number}
@@ -87,6 +87,13 @@ spelling v = front_of v ++ xor_of (front_of v) ∷ []
 pub record IsBlock (ifs : ℕ) (v : Parts) (b : List ℕ) : Type 0 where
   pub proper : IsProper ifs v
   pub is : b ≡ spelling v
+
+-- the octets of the block v are put to the front of a buffer, so many of them, and the rest of it stays
+pub record IsPut (v : Parts) (old new : List ℕ) (count : ℕ) : Type 0 where
+  pub octets : List ℕ
+  pub spells : IsBlock 254 v octets
+  pub counted : count ≡ length octets
+  pub buffer : new ≡ octets ++ drop count old
 
 -- a length that no field of such a block has
 abbrev pub IsBadLen : Pcb → ℕ → Type 0

@@ -97,14 +97,23 @@ impl Block {
     pub(crate) fn made(nad: u8, pcb: Pcb, inf: &[u8]) -> Option<Block>
         ensures { SomeIff result (Suits 254 pcb inf.now) (record { nad = nad; pcb = pcb; inf = inf.now }) }
     {
-        if !pcb.suits(inf) {
-            return None;
+        if pcb.suits(inf) {
+            Some(Block::of_parts(nad, pcb, inf))
+        } else {
+            None
         }
-        Some(Block {
+    }
+
+    /// The block of these parts, of which the field suits the kind.
+    pub(crate) fn of_parts(nad: u8, pcb: Pcb, inf: &[u8]) -> Block
+        requires { Suits 254 pcb inf.now }
+        ensures { result ≡ record { nad = nad; pcb = pcb; inf = inf.now } }
+    {
+        Block {
             nad,
             pcb,
             inf: field(inf),
-        })
+        }
     }
 }
 

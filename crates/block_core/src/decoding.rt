@@ -5,7 +5,7 @@ ghost use Rattle.octet_core.specs.Grammar.{self_ended, Accepts, Refuses};
 ghost use Rattle.block_core.specs.Block.{IsBlock, IsReason};
 
 use crate::block::Block;
-use crate::reader::BlockReader;
+use crate::block_ref::BlockRef;
 use crate::reason::BlockReason;
 use octet_core::Stop;
 
@@ -20,12 +20,8 @@ pub fn decode(octets: &[u8], ifs: u8) -> Result<(Block, usize), Stop<BlockReason
     ensures found { IfOk result (λ x. Accepts self_ended (IsBlock ifs) octets.now x.0 x.1) }
     ensures refused { IfErr result (Refuses self_ended (IsBlock ifs) (IsReason ifs) octets.now) }
 {
-    let mut reader = BlockReader::new(ifs);
-    let (taken, _) = reader.feed(octets)?;
-    match reader.into_value() {
-        Some(block) => Ok((block, taken)),
-        None => Err(Stop::Short {
-            place: octets.len(),
-        }),
+    match BlockRef::decode(octets, ifs) {
+        Ok((block, taken)) => Ok((block.to_block(), taken)),
+        Err(stop) => Err(stop),
     }
 }

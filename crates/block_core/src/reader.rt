@@ -109,17 +109,6 @@ impl BlockReader {
         self.stage = Stage::Front;
     }
 
-    /// The block, where it is whole.
-    pub(crate) fn into_value(self) -> Option<Block>
-        ensures found { IfSome result (λ block. IsBlock self.ifs block self.taken) }
-        ensures none { IfNone result ((v : Parts) → HasTaken self self.taken → IsBlock self.ifs v self.taken → ⊥) }
-    {
-        match self.stage {
-            Stage::Done(block) => Some(block),
-            _ => None,
-        }
-    }
-
     fn is_open(&self) -> bool
         ensures { MatchBool result (IsOpen self.now) (IsClosed self.now) }
     {

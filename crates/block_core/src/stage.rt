@@ -153,7 +153,8 @@ fn whole(pcb: Pcb, held: &[u8], end: usize, sum: u8, ifs: u8) -> Result<Stage, B
 }
 
 impl Pcb {
-    fn is_about_ifs(self) -> bool
+    /// Whether the block says an information size.
+    pub(crate) fn is_about_ifs(self) -> bool
         ensures { IsTrue result ↔ IsAboutIfs self }
     {
         matches!(self, Pcb::Request(S::Ifs) | Pcb::Response(S::Ifs))

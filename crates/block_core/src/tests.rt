@@ -2,7 +2,9 @@
 
 ghost use Rattle.std.specs.Prelude.{◌≤◌};
 
-use crate::{Block, BlockReader, BlockReason, Fault, Number, Pcb, S, decode, encode};
+use crate::{
+    Block, BlockReader, BlockReason, BlockRef, Fault, LONGEST_BLOCK, Number, Pcb, S, decode, encode,
+};
 use octet_core::Stop;
 
 /// What `decode` answers under an information size of 254: the octets taken, or the refusal.
@@ -184,4 +186,39 @@ fn fed_in_two_pieces(rt: HostRuntime) {
         reason: BlockReason::BadIfs,
     };
     assert_eq!(rt; reader.feed(&[0xFF, 0x00]), Err(bad_size));
+}
+
+#[test]
+fn read_where_it_stands(rt: HostRuntime) {
+    let select = [0x21, 0x00, 0x05, 0x00, 0xA4, 0x04, 0x00, 0x00, 0x84, 0xFF];
+    let (block, taken) = BlockRef::decode(&select, 254).expect(&rt, "a block");
+    assert_eq!(rt; taken, 9);
+    assert_eq!(rt; block.nad(), 0x21);
+    assert_eq!(rt; block.pcb(), Pcb::of(0x00).expect(&rt, "a kind"));
+    assert!(rt; block.inf() == &select[3..8]);
+    assert!(rt; Some(block.to_block()) == Block::info(0x21, Number::Zero, false, &select[3..8]));
+    let over = BlockRef::decode(&select, 4).err();
+    assert_eq!(rt; over, at(2, BlockReason::OverIfs).err());
+    for end in 0..9 {
+        assert_eq!(rt;
+            BlockRef::decode(&select[..end], 254).err(),
+            short(end).err()
+        );
+    }
+}
+
+#[test]
+fn written_into_a_buffer(rt: HostRuntime) {
+    let mut out = [0xEE; LONGEST_BLOCK];
+    let size = BlockRef::new(0x00, Pcb::Request(S::Ifs), &[0xFE]).expect(&rt, "a block");
+    assert_eq!(rt; size.encode_into(&mut out), 5);
+    assert!(rt; out[..6] == [0x00, 0xC1, 0x01, 0xFE, 0x3E, 0xEE]);
+    let field = [0xA5; 254];
+    let pcb = Pcb::of(0x60).expect(&rt, "a kind");
+    let longest = BlockRef::new(0x12, pcb, &field).expect(&rt, "a block");
+    assert_eq!(rt; longest.encode_into(&mut out), LONGEST_BLOCK);
+    assert!(rt; encode(&longest.to_block()).as_slice() == out.as_slice());
+    assert!(rt; BlockRef::new(0x00, Pcb::Request(S::Ifs), &[0xFF]).is_none());
+    assert!(rt; BlockRef::new(0x00, Pcb::Request(S::Ifs), &[]).is_none());
+    assert!(rt; BlockRef::new(0x12, pcb, &[0x00; 255]).is_none());
 }

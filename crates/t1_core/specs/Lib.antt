@@ -6,3 +6,5 @@ pub mod Link
 pub mod Promises
 pub mod Views
 pub mod CardViews
+pub mod Sending
+pub mod Put

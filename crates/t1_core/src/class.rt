@@ -4,21 +4,21 @@ ghost use Rattle.std.specs.Prelude.{◌≡◌, ◌≤◌};
 ghost use Rattle.t1_core.specs.Came.{IsClass, class_of};
 ghost use Rattle.t1_core.specs.Views.{came_of, is_response_with};
 
-use block_core::{Block, BlockReason, Pcb, S, decode};
+use block_core::{BlockReason, BlockRef, Pcb, S};
 use octet_core::Stop;
 
-/// What came.
+/// What came. A block stays in the octets that came, so its field is copied once, into an end's buffer.
 #[derive(Debug, Drop)]
-pub(crate) enum Arrived {
+pub(crate) enum Arrived<'a> {
     /// A whole block with node address 0.
-    Whole(Block),
+    Whole(BlockRef<'a>),
     /// A block that its check octet contradicts.
     Damaged,
     /// Anything else.
     Invalid,
 }
 
-impl Arrived {
+impl<'a> Arrived<'a> {
     /// Whether it is the response to a question about this information size.
     pub(crate) fn responds_with(&self, size: u8) -> bool
         ensures { result ≡ is_response_with size (came_of self.now) }
@@ -37,7 +37,7 @@ impl Arrived {
 }
 
 /// What these octets are to an end that takes information fields of so many octets.
-pub(crate) fn classify(octets: &[u8], ifs: u8) -> Arrived
+pub(crate) fn classify(octets: &[u8], ifs: u8) -> Arrived<'_>
     requires least { 1 ≤ ifs }
     requires most { ifs ≤ 254 }
     ensures { came_of result ≡ class_of ifs octets.now }
@@ -47,12 +47,12 @@ pub(crate) fn classify(octets: &[u8], ifs: u8) -> Arrived
 }
 
 /// The same, by the verdict on the octets as a block.
-fn by_verdict(octets: &[u8], ifs: u8) -> Arrived
+fn by_verdict(octets: &[u8], ifs: u8) -> Arrived<'_>
     requires least { 1 ≤ ifs }
     requires most { ifs ≤ 254 }
     ensures { IsClass ifs octets.now (came_of result) }
 {
-    match decode(octets, ifs) {
+    match BlockRef::decode(octets, ifs) {
         Ok((block, taken)) => {
             if taken == octets.len() && block.nad() == 0 {
                 Arrived::Whole(block)

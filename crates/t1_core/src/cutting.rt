@@ -1,21 +1,20 @@
-//! The I-block under way, in the words of the two ends.
+//! The field of the I-block under way, in the words of the two ends.
 
-ghost use Rattle.std.specs.Prelude.{◌≡◌, ◌≤◌, length, take, drop};
-ghost use Rattle.t1_core.specs.Came.{info, same};
-ghost use Rattle.t1_core.specs.Terminal.{is_more};
+ghost use Rattle.std.specs.Prelude.{◌≡◌, ◌≤◌, length};
+ghost use Rattle.t1_core.specs.Came.{same};
+ghost use Rattle.t1_core.specs.Views.{field_at};
 
-use block_core::{Block, Number};
-use chain_core::block_at;
+use crate::turns::Cut;
+use block_core::Number;
 
-/// The I-block with the octets of a message from a place on, as many as a field of `size` octets has
-/// room for; M=1 where more follow.
-pub(crate) fn info_at(message: &[u8], place: usize, size: u8, number: Number) -> Block
-    requires least { 1 ≤ size }
-    requires most { size ≤ 254 }
-    requires place { place ≤ length message.now }
-    ensures { result ≡ info number (is_more (drop size (drop place message.now))) (take size (drop place message.now)) }
+/// The octets of a message from the place of the cut on, as many as a field of its size has room for.
+pub(crate) fn field_in(message: &[u8], cut: Cut) -> &[u8]
+    requires { cut.place ≤ length message.now }
+    ensures octets { result.now ≡ field_at cut message.now }
+    ensures most { length result.now ≤ cut.size }
 {
-    block_at(message, place, size, number)
+    let rest = &message[cut.place..];
+    &rest[..rest.len().min(cut.size as usize)]
 }
 
 /// Whether two sequence numbers are one.

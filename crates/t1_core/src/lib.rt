@@ -1,10 +1,12 @@
 //! Both ends of the T=1 protocol (ISO/IEC 7816-3, clause 11.6), and the law of the link between them.
 //!
-//! `Terminal` and `Card` take one call or one block at a time and answer what they do next: a pure step,
-//! with no line, clock or thread. `specs/Terminal.antt` and `specs/Card.antt` have the table of each end,
-//! an equation for each row; the counts of repeats, what RESYNCH leaves and the errors that R-blocks report
-//! are this project's profile. `specs/Link.antt` joins the two ends by a line that loses and damages blocks,
-//! and `laws` says what holds after whatever happens on it. The constructors reserve all memory.
+//! `Terminal` and `Card` take one call or one block at a time and answer what they do next: a pure
+//! step, with no line, clock or thread. A call that sends answers the block, and the one of its name
+//! with `_into` puts its octets into the caller's buffer. `specs/Terminal.antt` and `specs/Card.antt`
+//! have the table of each end, an equation for each row; the counts of repeats, what RESYNCH leaves and
+//! the errors that R-blocks report are this project's profile. `specs/Link.antt` joins the two ends by
+//! a line that loses and damages blocks, and `laws` says what holds after whatever happens on it. The
+//! constructors reserve all memory.
 #![tactic(auto)]
 
 pub mod card;
@@ -12,6 +14,7 @@ mod class;
 mod cutting;
 pub mod laws;
 mod replying;
+mod sending;
 pub mod terminal;
 #[cfg(test)]
 mod tests;
@@ -19,4 +22,4 @@ pub mod turns;
 
 pub use card::Card;
 pub use terminal::Terminal;
-pub use turns::{CardFault, CardTurn, TerminalFault, TerminalTurn};
+pub use turns::{CardFault, CardPut, CardTurn, TerminalFault, TerminalPut, TerminalTurn};

@@ -1,15 +1,18 @@
 //! The terminal: the end that begins each exchange, and asks for RESYNCH where its repeats fail.
 
-ghost use Rattle.std.specs.Prelude.{◌≡◌, ◌≤◌, ◌+◌, ◌++◌, length, drop, IfOk};
+ghost use Rattle.std.specs.Prelude.{◌≡◌, ◌≤◌, IfOk};
 ghost use Rattle.t1_core.specs.Came.{class_of, quiet};
-ghost use Rattle.t1_core.specs.Views.{came_of, field_at, rest_at, joined_of, IsJoining, IsInner, IsLast, IsSize, IsSlice};
-ghost use Rattle.t1_core.specs.Terminal.{answer, more, takes, transmit, ask_ifs, new_terminal, terminal_turn, in_exchange, in_ack, in_answer, in_more, in_ifs, in_resynch, joins, sends_next, fails, turn_of, state_after};
+ghost use Rattle.t1_core.specs.Views.{IsSlice};
+ghost use Rattle.t1_core.specs.Sending.{terminal_answers};
+ghost use Rattle.t1_core.specs.Terminal.{takes, transmit, ask_ifs, new_terminal, terminal_turn, turn_of, state_after};
 
-use crate::class::{Arrived, classify};
-use crate::cutting::{info_at, is_same};
-use crate::turns::{Cut, TerminalFault, TerminalTurn, TerminalWait};
+mod into;
+mod steps;
+
+use crate::sending::TerminalAct;
+use crate::turns::{TerminalFault, TerminalTurn, TerminalWait};
 use atr_core::T1Params;
-use block_core::{Block, Fault, Number, Pcb, S};
+use block_core::Number;
 use std::alloc::{AllocError, Global};
 use std::marker::Model;
 
@@ -96,19 +99,8 @@ impl Terminal {
         ensures turn { result ≡ turn_of (terminal_turn self.old (transmit command.now)) }
         ensures state { self.new ≡ state_after self.old (terminal_turn self.old (transmit command.now)) }
     {
-        match self.wait {
-            TerminalWait::Idle => {}
-            TerminalWait::Dead => return Err(TerminalFault::Dead),
-            _ => return Err(TerminalFault::Busy),
-        }
-        if command.len() > LONGEST_COMMAND {
-            return Err(TerminalFault::TooLong);
-        }
-        self.command.clear();
-        self.command.extend_from_slice(command).unwrap();
-        self.failures = 0;
-        self.is_answered = false;
-        Ok(self.sends_from(0))
+        let acted = self.transmits(command);
+        self.answered(acted)
     }
 
     /// The application asks the card to send information fields of up to `size` octets.
@@ -118,17 +110,8 @@ impl Terminal {
         ensures turn { result ≡ turn_of (terminal_turn self.old (ask_ifs size)) }
         ensures state { self.new ≡ state_after self.old (terminal_turn self.old (ask_ifs size)) }
     {
-        match self.wait {
-            TerminalWait::Idle => {}
-            TerminalWait::Dead => return Err(TerminalFault::Dead),
-            _ => return Err(TerminalFault::Busy),
-        }
-        if size == 0 || size == 255 {
-            return Err(TerminalFault::Reserved);
-        }
-        self.failures = 0;
-        self.wait = TerminalWait::Ifs(size);
-        Ok(TerminalTurn::Send(Block::request(0, S::Ifs, &[size]).unwrap()))
+        let acted = self.asks_ifs(size);
+        self.answered(acted)
     }
 
     /// The line delivered these octets as one block.
@@ -138,16 +121,8 @@ impl Terminal {
         ensures turn { result ≡ turn_of (terminal_turn self.old (takes (class_of self.old.ifsd octets.now))) }
         ensures state { self.new ≡ state_after self.old (terminal_turn self.old (takes (class_of self.old.ifsd octets.now))) }
     {
-        let arrived = classify(octets, self.ifsd);
-        match self.wait {
-            TerminalWait::Idle => Err(TerminalFault::Idle),
-            TerminalWait::Dead => Err(TerminalFault::Dead),
-            TerminalWait::Ack(cut) => Ok(self.ack_took(cut, &arrived)),
-            TerminalWait::Answer(cut) => Ok(self.answer_took(cut, &arrived)),
-            TerminalWait::More => Ok(self.more_took(&arrived)),
-            TerminalWait::Ifs(size) => Ok(self.ifs_took(size, &arrived)),
-            TerminalWait::Resynch(asked) => Ok(self.resynch_took(asked, &arrived)),
-        }
+        let acted = self.takes(octets);
+        self.answered(acted)
     }
 
     /// Nothing came within the waiting time: `T1Params::bwt` times [`TerminalTurn::waiting`] of the turn
@@ -157,235 +132,24 @@ impl Terminal {
         ensures turn { result ≡ turn_of (terminal_turn self.old (takes quiet)) }
         ensures state { self.new ≡ state_after self.old (terminal_turn self.old (takes quiet)) }
     {
-        match self.wait {
-            TerminalWait::Idle => Err(TerminalFault::Idle),
-            TerminalWait::Dead => Err(TerminalFault::Dead),
-            TerminalWait::Ack(_) | TerminalWait::Answer(_) | TerminalWait::More => {
-                Ok(self.fails(Block::ready(0, self.expected, Fault::Free)))
-            }
-            TerminalWait::Ifs(size) => {
-                Ok(self.fails(Block::request(0, S::Ifs, &[size]).unwrap()))
-            }
-            TerminalWait::Resynch(asked) => Ok(self.resynch_again(asked)),
+        let acted = self.hears_nothing();
+        self.answered(acted)
+    }
+
+    /// What a call answers, with the block that is sent put together.
+    fn answered(
+        &self,
+        acted: Result<TerminalAct, TerminalFault>,
+    ) -> Result<TerminalTurn, TerminalFault>
+        ensures { result ≡ terminal_answers self.now acted }
+    {
+        match acted {
+            Ok(TerminalAct::Send(sent)) => Ok(TerminalTurn::Send(self.lent(&sent).to_block())),
+            Ok(TerminalAct::Answered) => Ok(TerminalTurn::Answered),
+            Ok(TerminalAct::IfsSet) => Ok(TerminalTurn::IfsSet),
+            Ok(TerminalAct::GivenUp) => Ok(TerminalTurn::GivenUp),
+            Ok(TerminalAct::Dead) => Ok(TerminalTurn::Dead),
+            Err(fault) => Err(fault),
         }
-    }
-
-    /// An I-block of the command that isn't its last is under way.
-    fn ack_took(&mut self, cut: Cut, arrived: &Arrived) -> TerminalTurn
-        requires inner { IsInner cut self.old.command }
-        requires unanswered { self.old.answered ≡ None }
-        ensures turn { turn_of (in_ack self.old (field_at cut self.old.command) (rest_at cut self.old.command) (came_of arrived.now)) ≡ Ok result }
-        ensures state { self.new ≡ state_after self.old (in_ack self.old (field_at cut self.old.command) (rest_at cut self.old.command) (came_of arrived.now)) }
-    {
-        match arrived {
-            Arrived::Damaged | Arrived::Invalid => self.exchange_took(arrived),
-            Arrived::Whole(block) => match block.pcb() {
-                Pcb::Ready { number, .. } => {
-                    if is_same(number, self.number) {
-                        let again = info_at(
-                            self.command.as_slice(),
-                            cut.place,
-                            cut.size,
-                            self.number,
-                        );
-                        return self.fails(again);
-                    }
-                    self.failures = 0;
-                    self.number = self.number.other();
-                    self.sends_from(cut.place + cut.size as usize)
-                }
-                Pcb::Info { .. } | Pcb::Request(_) | Pcb::Response(_) => self.exchange_took(
-                    arrived,
-                ),
-            },
-        }
-    }
-
-    /// The last I-block of the command is under way.
-    fn answer_took(&mut self, cut: Cut, arrived: &Arrived) -> TerminalTurn
-        requires last { IsLast cut self.old.command }
-        requires waits { self.old.waits ≡ answer (field_at cut self.old.command) }
-        ensures turn { turn_of (in_answer self.old (field_at cut self.old.command) (came_of arrived.now)) ≡ Ok result }
-        ensures state { self.new ≡ state_after self.old (in_answer self.old (field_at cut self.old.command) (came_of arrived.now)) }
-    {
-        match arrived {
-            Arrived::Damaged | Arrived::Invalid => self.exchange_took(arrived),
-            Arrived::Whole(block) => match block.pcb() {
-                Pcb::Ready { number, .. } => {
-                    let again = if is_same(number, self.number) {
-                        info_at(self.command.as_slice(), cut.place, cut.size, self.number)
-                    } else {
-                        Block::ready(0, self.expected, Fault::Free)
-                    };
-                    self.fails(again)
-                }
-                Pcb::Info { number, more } => {
-                    if !is_same(number, self.expected) {
-                        return self.exchange_took(arrived);
-                    }
-                    self.number = self.number.other();
-                    self.joins(block.inf(), more)
-                }
-                Pcb::Request(_) | Pcb::Response(_) => self.exchange_took(arrived),
-            },
-        }
-    }
-
-    /// The answer goes on.
-    fn more_took(&mut self, arrived: &Arrived) -> TerminalTurn
-        requires waits { self.old.waits ≡ more (joined_of self.old.waits) }
-        ensures turn { turn_of (in_more self.old (joined_of self.old.waits) (came_of arrived.now)) ≡ Ok result }
-        ensures state { self.new ≡ state_after self.old (in_more self.old (joined_of self.old.waits) (came_of arrived.now)) }
-    {
-        match arrived {
-            Arrived::Damaged | Arrived::Invalid => self.exchange_took(arrived),
-            Arrived::Whole(block) => match block.pcb() {
-                Pcb::Ready { .. } => self.fails(Block::ready(0, self.expected, Fault::Free)),
-                Pcb::Info { number, more } => {
-                    let fits = self.joined.len() + block.inf().len() <= LONGEST_ANSWER;
-                    if is_same(number, self.expected) && fits {
-                        self.joins(block.inf(), more)
-                    } else {
-                        self.exchange_took(arrived)
-                    }
-                }
-                Pcb::Request(_) | Pcb::Response(_) => self.exchange_took(arrived),
-            },
-        }
-    }
-
-    /// A size was asked for.
-    fn ifs_took(&mut self, size: u8, arrived: &Arrived) -> TerminalTurn
-        requires { IsSize size }
-        ensures turn { turn_of (in_ifs self.old size (came_of arrived.now)) ≡ Ok result }
-        ensures state { self.new ≡ state_after self.old (in_ifs self.old size (came_of arrived.now)) }
-    {
-        if arrived.responds_with(size) {
-            self.failures = 0;
-            self.ifsd = size;
-            self.wait = TerminalWait::Idle;
-            return TerminalTurn::IfsSet;
-        }
-        self.fails(Block::request(0, S::Ifs, &[size]).unwrap())
-    }
-
-    /// RESYNCH was asked for.
-    fn resynch_took(&mut self, asked: u8, arrived: &Arrived) -> TerminalTurn
-        requires { asked ≤ 3 }
-        ensures turn { turn_of (in_resynch self.old asked (came_of arrived.now)) ≡ Ok result }
-        ensures state { self.new ≡ state_after self.old (in_resynch self.old asked (came_of arrived.now)) }
-    {
-        match arrived {
-            Arrived::Damaged | Arrived::Invalid => self.resynch_again(asked),
-            Arrived::Whole(block) => match block.pcb() {
-                Pcb::Response(S::Resynch) => {
-                    self.number = Number::Zero;
-                    self.expected = Number::Zero;
-                    self.failures = 0;
-                    self.ifsc = self.first_ifsc;
-                    self.ifsd = 32;
-                    self.wait = TerminalWait::Idle;
-                    TerminalTurn::GivenUp
-                }
-                Pcb::Response(S::Ifs | S::Abort | S::Wtx)
-                | Pcb::Info { .. }
-                | Pcb::Ready { .. }
-                | Pcb::Request(_) => self.resynch_again(asked),
-            },
-        }
-    }
-
-    /// RESYNCH is asked for again, or the card is found dead.
-    fn resynch_again(&mut self, asked: u8) -> TerminalTurn
-        requires { asked ≤ 3 }
-        ensures turn { turn_of (in_resynch self.old asked quiet) ≡ Ok result }
-        ensures state { self.new ≡ state_after self.old (in_resynch self.old asked quiet) }
-    {
-        if asked < 3 {
-            self.wait = TerminalWait::Resynch(asked + 1);
-            TerminalTurn::Send(Block::request(0, S::Resynch, &[]).unwrap())
-        } else {
-            self.wait = TerminalWait::Dead;
-            TerminalTurn::Dead
-        }
-    }
-
-    /// The next I-block of the command, from a place on, cut at the present size.
-    fn sends_from(&mut self, place: usize) -> TerminalTurn
-        requires place { place ≤ length self.old.command }
-        requires unanswered { self.old.answered ≡ None }
-        ensures turn { turn_of (sends_next self.old (drop place self.old.command)) ≡ Ok result }
-        ensures state { self.new ≡ state_after self.old (sends_next self.old (drop place self.old.command)) }
-    {
-        let cut = Cut {
-            place,
-            size: self.ifsc,
-        };
-        let block = info_at(self.command.as_slice(), place, cut.size, self.number);
-        self.joined.clear();
-        self.is_answered = false;
-        self.wait = if self.command.len() - place > cut.size as usize {
-            TerminalWait::Ack(cut)
-        } else {
-            TerminalWait::Answer(cut)
-        };
-        TerminalTurn::Send(block)
-    }
-
-    /// An I-block of the answer that fits is joined.
-    fn joins(&mut self, inf: &[u8], more: bool) -> TerminalTurn
-        requires joining { IsJoining self.old.waits }
-        requires fits { length (joined_of self.old.waits) + length inf.now ≤ 65538 }
-        ensures turn { turn_of (joins self.old (joined_of self.old.waits ++ inf.now) more) ≡ Ok result }
-        ensures state { self.new ≡ state_after self.old (joins self.old (joined_of self.old.waits ++ inf.now) more) }
-    {
-        self.joined.extend_from_slice(inf).unwrap();
-        self.failures = 0;
-        self.expected = self.expected.other();
-        if more {
-            self.wait = TerminalWait::More;
-            TerminalTurn::Send(Block::ready(0, self.expected, Fault::Free))
-        } else {
-            self.wait = TerminalWait::Idle;
-            self.is_answered = true;
-            TerminalTurn::Answered
-        }
-    }
-
-    /// A failure: the block is sent, or RESYNCH is asked for.
-    fn fails(&mut self, block: Block) -> TerminalTurn
-        ensures turn { turn_of (fails self.old block) ≡ Ok result }
-        ensures state { self.new ≡ state_after self.old (fails self.old block) }
-    {
-        if self.failures < 3 {
-            self.failures += 1;
-            return TerminalTurn::Send(block);
-        }
-        self.wait = TerminalWait::Resynch(1);
-        TerminalTurn::Send(Block::request(0, S::Resynch, &[]).unwrap())
-    }
-
-    /// In an exchange, what is taken alike whatever the terminal waits for.
-    fn exchange_took(&mut self, arrived: &Arrived) -> TerminalTurn
-        ensures turn { turn_of (in_exchange self.old (came_of arrived.now)) ≡ Ok result }
-        ensures state { self.new ≡ state_after self.old (in_exchange self.old (came_of arrived.now)) }
-    {
-        let fault = match arrived {
-            Arrived::Damaged => Fault::Redundancy,
-            Arrived::Invalid => Fault::Other,
-            Arrived::Whole(block) => match block.pcb() {
-                Pcb::Request(S::Ifs) => {
-                    self.ifsc = block.inf()[0];
-                    let answer = Block::response(0, S::Ifs, block.inf());
-                    return TerminalTurn::Send(answer.unwrap());
-                }
-                Pcb::Request(S::Wtx) => {
-                    let answer = Block::response(0, S::Wtx, block.inf());
-                    return TerminalTurn::Send(answer.unwrap());
-                }
-                _ => Fault::Other,
-            },
-        };
-        self.fails(Block::ready(0, self.expected, fault))
     }
 }

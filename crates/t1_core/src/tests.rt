@@ -1,8 +1,10 @@
 //! Sessions call by call, and calls that no clause pins.
 
-use crate::{Card, CardFault, CardTurn, Terminal, TerminalFault, TerminalTurn};
+use crate::{
+    Card, CardFault, CardPut, CardTurn, Terminal, TerminalFault, TerminalPut, TerminalTurn,
+};
 use atr_core::T1Params;
-use block_core::encode;
+use block_core::{LONGEST_BLOCK, encode};
 use std::alloc::Global;
 use std::test::Fail;
 
@@ -309,5 +311,80 @@ fn a_repeated_block_keeps_its_octets(rt: HostRuntime) -> Result<(), Fail> {
     let next = [0x00, 0x90, 0x00, 0x90];
     let rest = [0x00, 0x40, 0x03, 0x00, 0x00, 0x02, 0x41];
     assert!(rt; sends(t.received(&next), &rest));
+    Ok(())
+}
+
+/// The octets of a block, in a buffer that had others.
+type Buffer = [u8; LONGEST_BLOCK];
+
+/// What the terminal answers to these octets, or where nothing came.
+fn put(t: &mut Terminal, octets: &[u8], out: &mut Buffer) -> Result<TerminalPut, TerminalFault> {
+    match octets {
+        [] => t.quiet_into(out),
+        _ => t.received_into(octets, out),
+    }
+}
+
+/// Whether the first octets of a buffer are these, and the next is as it was.
+fn holds(buffer: &Buffer, octets: &[u8]) -> bool {
+    buffer.starts_with(octets) && buffer.get(octets.len()) == Some(&0xEE)
+}
+
+fn sent(count: usize, waiting: u8) -> Result<TerminalPut, TerminalFault> {
+    Ok(TerminalPut::Send { count, waiting })
+}
+
+#[test]
+fn blocks_put_by_the_terminal(rt: HostRuntime) -> Result<(), Fail> {
+    let mut t = terminal(rt.alloc())?;
+    let mut out = [0xEE; LONGEST_BLOCK];
+    assert_eq!(rt; t.transmit_into(&SELECT, &mut out), sent(9, 1));
+    assert!(rt; holds(&out, &SELECT_BLOCK));
+    let more_time = [0x00, 0xC3, 0x01, 0x03, 0xC1];
+    assert_eq!(rt; put(&mut t, &more_time, &mut out), sent(5, 3));
+    assert_eq!(rt; put(&mut t, &[], &mut out), sent(4, 1));
+    assert_eq!(rt;
+        put(&mut t, &DONE_BLOCK, &mut out),
+        Ok(TerminalPut::Answered)
+    );
+    assert_eq!(rt; put(&mut t, &[], &mut out), Err(TerminalFault::Idle));
+    Ok(())
+}
+
+#[test]
+fn a_size_put_by_the_terminal(rt: HostRuntime) -> Result<(), Fail> {
+    let mut t = terminal(rt.alloc())?;
+    let mut out = [0xEE; LONGEST_BLOCK];
+    assert_eq!(rt; t.ask_ifs_into(254, &mut out), sent(5, 1));
+    assert!(rt; holds(&out, &[0x00, 0xC1, 0x01, 0xFE, 0x3E]));
+    Ok(())
+}
+
+/// A card whose host owes the reply to a command.
+fn asked(alloc: Global, out: &mut Buffer) -> Result<Card, Fail> {
+    let mut c = card(alloc)?;
+    (c.received_into(&SELECT_BLOCK, out) == Ok(CardPut::Asked))
+        .then_some(())
+        .ok_or("the host is not asked")?;
+    Ok(c)
+}
+
+#[test]
+fn blocks_put_by_the_card(rt: HostRuntime) -> Result<(), Fail> {
+    let mut out = [0xEE; LONGEST_BLOCK];
+    let mut c = asked(rt.alloc(), &mut out)?;
+    assert_eq!(rt; out[0], 0xEE);
+    assert_eq!(rt; c.reply_into(&DONE, &mut out), Ok(CardPut::Send(6)));
+    assert!(rt; holds(&out, &DONE_BLOCK));
+    Ok(())
+}
+
+#[test]
+fn questions_put_by_the_card(rt: HostRuntime) -> Result<(), Fail> {
+    let mut out = [0xEE; LONGEST_BLOCK];
+    let mut c = asked(rt.alloc(), &mut out)?;
+    assert_eq!(rt; c.ask_ifs_into(0, &mut out), Err(CardFault::Reserved));
+    assert_eq!(rt; c.more_time_into(3, &mut out), Ok(CardPut::Send(5)));
+    assert!(rt; holds(&out, &[0x00, 0xC3, 0x01, 0x03, 0xC1]));
     Ok(())
 }

@@ -30,21 +30,37 @@ impl TerminalTurn {
         ensures least { 1 ≤ result }
     {
         match self {
-            TerminalTurn::Send(block) => granted(block),
+            TerminalTurn::Send(block) => granted(block.pcb(), block.inf()),
             _ => 1,
         }
     }
 }
 
-/// The multiple that a block grants; 1 where it grants none.
-fn granted(block: &Block) -> u8
-    ensures times { result ≡ granted block.now.pcb block.now.inf }
+/// The multiple that a block of this kind with this field grants; 1 where it grants none.
+pub(crate) fn granted(pcb: Pcb, inf: &[u8]) -> u8
+    ensures times { result ≡ granted pcb inf.now }
     ensures least { 1 ≤ result }
 {
-    match (block.pcb(), block.inf()) {
+    match (pcb, inf) {
         (Pcb::Response(S::Wtx), &[multiple]) if multiple > 0 => multiple,
         _ => 1,
     }
+}
+
+/// What the terminal does next, where the octets of its block are in the caller's buffer.
+#[derive(Clone, Copy, Debug, PartialEq, Eq)]
+pub enum TerminalPut {
+    /// It sends the first `count` octets of the buffer, 4 to 258, and waits for the card. `waiting` is what
+    /// [`TerminalTurn::waiting`] says of that turn.
+    Send { count: usize, waiting: u8 },
+    /// The answer is complete, and `answer` has it.
+    Answered,
+    /// The card took the information size that was asked for.
+    IfsSet,
+    /// Both ends were resynchronized: the exchange or the question about a size is given up.
+    GivenUp,
+    /// The card answers no more, not even RESYNCH.
+    Dead,
 }
 
 /// Why the terminal refused a call. A refused call changes nothing.
@@ -67,6 +83,15 @@ pub enum TerminalFault {
 pub enum CardTurn {
     /// It sends this block and waits for the terminal.
     Send(Block),
+    /// It is the host's turn: it owes the reply to `command`.
+    Asked,
+}
+
+/// What the card does next, where the octets of its block are in the caller's buffer.
+#[derive(Clone, Copy, Debug, PartialEq, Eq)]
+pub enum CardPut {
+    /// It sends the first so many octets of the buffer, 4 to 258, and waits for the terminal.
+    Send(usize),
     /// It is the host's turn: it owes the reply to `command`.
     Asked,
 }

@@ -1,0 +1,83 @@
+//! Blocks read from their octets.
+
+use crate::work::Work;
+use block_core::{Block, BlockRef, Number, decode, encode};
+use std::io::{self, ErrorKind};
+use std::time::Instant;
+
+/// How often a block is decoded under each of the 256 node addresses.
+const ROUNDS: usize = 400;
+
+/// Decodes blocks with information fields of 5 and of 254 octets, with a copy of the field and in place.
+pub(crate) fn decode_each(rt: &HostRuntime, timed: bool) -> io::Result<()> {
+    let field = [0xA5u8; 254];
+    for len in [5usize, 254] {
+        let Some(block) = Block::info(0, Number::Zero, false, &field[..len]) else {
+            return Err(ErrorKind::InvalidData.into());
+        };
+        let mut octets = encode(&block);
+        let started = Instant::now(rt)?;
+        if !is_decoded(octets.as_mut_slice(), len) {
+            return Err(ErrorKind::InvalidData.into());
+        }
+        told("block decoded", octets.len()).tell(rt, started, timed)?;
+        let started = Instant::now(rt)?;
+        if !is_lent(octets.as_mut_slice(), len) {
+            return Err(ErrorKind::InvalidData.into());
+        }
+        told("block decoded in place", octets.len()).tell(rt, started, timed)?;
+    }
+    Ok(())
+}
+
+/// Work over a block.
+fn told(name: &'static str, octets: usize) -> Work {
+    Work {
+        name,
+        octets,
+        parts: 256 * ROUNDS,
+        unit: "times",
+    }
+}
+
+/// Whether the block is decoded each time, with a field of so many octets.
+fn is_decoded(octets: &mut [u8], len: usize) -> bool {
+    for _ in 0..ROUNDS {
+        for nad in 0..=255u8 {
+            readdress(octets, nad);
+            match decode(octets, 254) {
+                Ok((block, _)) if is_such(&block, nad, len) => {}
+                _ => return false,
+            }
+        }
+    }
+    true
+}
+
+/// The same in place.
+fn is_lent(octets: &mut [u8], len: usize) -> bool {
+    for _ in 0..ROUNDS {
+        for nad in 0..=255u8 {
+            readdress(octets, nad);
+            match BlockRef::decode(octets, 254) {
+                Ok((block, _)) if block.nad() == nad && block.inf().len() == len => {}
+                _ => return false,
+            }
+        }
+    }
+    true
+}
+
+/// Whether it is the block. Since this isn't inlined, the whole block has to be made.
+#[inline(never)]
+fn is_such(block: &Block, nad: u8, len: usize) -> bool {
+    block.nad() == nad && block.inf().len() == len
+}
+
+/// Gives the block another node address, and the LRC that goes with it.
+fn readdress(octets: &mut [u8], nad: u8) {
+    if let [first, .., last] = octets {
+        *last ^= *first ^ nad;
+        *first = nad;
+    }
+}

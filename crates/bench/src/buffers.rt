@@ -1,0 +1,79 @@
+//! Exchanges between both ends of T=1 in memory, whose blocks are put into two buffers.
+
+use crate::session::{COMMAND, RESPONSE, ends};
+use crate::work::Work;
+use block_core::LONGEST_BLOCK;
+use std::io::{self, ErrorKind};
+use std::time::Instant;
+use t1_core::{Card, CardPut, Terminal, TerminalPut};
+
+/// Exchanges the longest command and response under the information sizes 254 and 32.
+pub(crate) fn exchange_each(rt: &HostRuntime, timed: bool) -> io::Result<()> {
+    let command = vec![in rt.alloc(); 0xA5u8; COMMAND]?;
+    let reply = vec![in rt.alloc(); 0x5Au8; RESPONSE]?;
+    for (size, name) in [
+        (254, "longest exchange in two buffers, sizes 254"),
+        (32, "longest exchange in two buffers, sizes 32"),
+    ] {
+        let (mut terminal, mut card) = ends(rt.alloc(), size)?;
+        let started = Instant::now(rt)?;
+        let Some(parts) = exchange(
+            &mut terminal,
+            &mut card,
+            command.as_slice(),
+            reply.as_slice(),
+        ) else {
+            return Err(ErrorKind::InvalidData.into());
+        };
+        let work = Work {
+            name,
+            octets: COMMAND + RESPONSE,
+            parts,
+            unit: "blocks",
+        };
+        work.tell(rt, started, timed)?;
+    }
+    Ok(())
+}
+
+/// How many blocks an exchange over a line without faults takes, none where it isn't answered.
+fn exchange(
+    terminal: &mut Terminal,
+    card: &mut Card,
+    command: &[u8],
+    reply: &[u8],
+) -> Option<usize> {
+    let mut sent = [0; LONGEST_BLOCK];
+    let mut back = [0; LONGEST_BLOCK];
+    let mut turn = terminal.transmit_into(command, &mut sent);
+    for pairs in 0..140_000usize {
+        match turn {
+            Ok(TerminalPut::Send { count, .. }) => {
+                let count = served(card, sent.get(..count)?, reply, &mut back)?;
+                turn = terminal.received_into(back.get(..count)?, &mut sent);
+            }
+            Ok(TerminalPut::Answered) if terminal.answer() == Some(reply) => {
+                return Some(2 * pairs);
+            }
+            _ => return None,
+        }
+    }
+    None
+}
+
+/// How many octets the card sends for a block, where its host replies at once.
+fn served(
+    card: &mut Card,
+    octets: &[u8],
+    reply: &[u8],
+    out: &mut [u8; LONGEST_BLOCK],
+) -> Option<usize> {
+    let put = match card.received_into(octets, out) {
+        Ok(CardPut::Asked) => card.reply_into(reply, out),
+        put => put,
+    };
+    match put {
+        Ok(CardPut::Send(count)) => Some(count),
+        _ => None,
+    }
+}
