@@ -21,8 +21,6 @@ pub mod response;
 pub mod response_ref;
 pub mod sending;
 pub mod status;
-#[cfg(test)]
-mod tests;
 
 pub use command::{Body, Command, Shape};
 pub use command_ref::CommandRef;

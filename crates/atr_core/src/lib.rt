@@ -15,8 +15,6 @@ mod partial;
 pub mod rating;
 pub mod reader;
 pub mod reason;
-#[cfg(test)]
-mod tests;
 
 pub use atr::{Atr, Convention, Indicated, Interface};
 pub use decoding::decode;

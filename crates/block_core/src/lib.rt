@@ -15,8 +15,6 @@ pub mod pcb;
 pub mod reader;
 pub mod reason;
 mod stage;
-#[cfg(test)]
-mod tests;
 
 pub use block::{Block, LONGEST_BLOCK, LONGEST_INF, encode};
 pub use block_ref::BlockRef;

@@ -24,8 +24,6 @@ mod reason;
 pub mod response;
 mod simulation;
 pub mod status;
-#[cfg(test)]
-mod tests;
 pub mod text;
 
 pub use card_words::Fault;

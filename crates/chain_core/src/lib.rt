@@ -14,8 +14,6 @@ mod part;
 pub mod reading;
 pub mod reason;
 pub mod receiver;
-#[cfg(test)]
-mod tests;
 pub mod writing;
 
 pub use blocks::{Cut, block_at};

@@ -21,8 +21,6 @@ pub mod reading;
 pub mod recording;
 pub mod replaying;
 mod saying;
-#[cfg(test)]
-mod tests;
 mod way;
 mod words;
 pub mod writing;

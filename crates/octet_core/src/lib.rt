@@ -16,8 +16,6 @@ pub mod octets;
 pub mod redundancy;
 pub mod stop;
 pub mod stream;
-#[cfg(test)]
-mod tests;
 
 pub use counted::Counted;
 pub use decimal::decimal_of;

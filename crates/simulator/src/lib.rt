@@ -8,8 +8,6 @@
 mod fates;
 pub mod fault;
 pub mod simulation;
-#[cfg(test)]
-mod tests;
 
 pub use fault::SimulationFault;
 pub use simulation::simulate;

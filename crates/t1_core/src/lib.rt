@@ -16,8 +16,6 @@ pub mod laws;
 mod replying;
 mod sending;
 pub mod terminal;
-#[cfg(test)]
-mod tests;
 pub mod turns;
 
 pub use card::Card;

@@ -26,8 +26,6 @@ pub mod reason;
 pub mod spelling;
 mod survey;
 pub mod tag;
-#[cfg(test)]
-mod tests;
 pub mod tidying;
 
 pub use check::ForestCheck;

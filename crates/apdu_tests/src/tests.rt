@@ -1,0 +1,358 @@
+//! Commands, responses and status bytes from outside, and each call once with ample memory.
+
+mod faults;
+
+use apdu_core::{
+    Body, Command, CommandReason, CommandRef, ReceiveFault, Response, ResponseReason, ResponseRef,
+    SendFault, Shape, StatusClass, decode_command, decode_response, encode_command,
+    encode_response, receive_command, receive_response, send_command, send_response, status_class,
+};
+use block_core::Number;
+use chain_core::ChainReason;
+use octet_core::{After, Counted, Feeder, Octets, Refused, Source, Stop, Taker, octets_of};
+use std::test::Fail;
+
+const SELECT: [u8; 4] = [0x00, 0xA4, 0x04, 0x00];
+
+const READ: [u8; 4] = [0x00, 0xB0, 0x00, 0x00];
+
+const UPDATE: [u8; 4] = [0x00, 0xD6, 0x00, 0x00];
+
+/// 00 A4 04 00 00, in blocks of two octets.
+const SELECT_CHAIN: [u8; 17] = [
+    0x00, 0x20, 0x02, 0x00, 0xA4, 0x86, 0x00, 0x60, 0x02, 0x04, 0x00, 0x66, 0x00, 0x00, 0x01, 0x00,
+    0x01,
+];
+
+/// 90 00, in one block.
+const DONE_CHAIN: [u8; 6] = [0x00, 0x00, 0x02, 0x90, 0x00, 0x92];
+
+fn octets(rt: &HostRuntime, text: &str) -> Result<Octets, Fail> {
+    Ok(Octets::of(octets_of(rt.alloc(), text)?))
+}
+
+/// Whether the octets are this command, lent and copied, and spell it.
+fn is_command(rt: &HostRuntime, text: &str, header: [u8; 4], body: Body) -> Result<bool, Fail> {
+    let octets = octets_of(rt.alloc(), text)?;
+    let lent = CommandRef::decode(octets.as_slice())?;
+    let command = decode_command(rt.alloc(), octets.as_slice())?;
+    let spelled = encode_command(rt.alloc(), &command)?;
+    Ok(
+        lent.header() == header
+            && command == Command::new(header, body)?
+            && spelled.as_slice() == octets.as_slice(),
+    )
+}
+
+#[test]
+fn commands_of_their_own(rt: HostRuntime) -> Result<(), Fail> {
+    assert!(rt; is_command(&rt, "00A40400", SELECT, Body::Empty)?);
+    assert!(rt; is_command(&rt, "00B0000000", READ, Body::ShortLe { le: 256 })?);
+    assert!(rt; is_command(&rt, "00B00000000000", READ, Body::LongLe { le: 65_536 })?);
+    let part = octets(&rt, "A0000000041010")?;
+    let body = Body::ShortBoth { part, le: 256 };
+    assert!(rt; is_command(&rt, "00A4040007A000000004101000", SELECT, body)?);
+    let part = octets(&rt, "A000000004101000")?;
+    let body = Body::ShortPart { part };
+    assert!(rt; is_command(&rt, "00A4040008A000000004101000", SELECT, body)?);
+    let part = octets(&rt, "0102")?;
+    let body = Body::LongPart { part };
+    assert!(rt; is_command(&rt, "00D600000000020102", UPDATE, body)?);
+    let part = octets(&rt, "0102")?;
+    let body = Body::LongBoth { part, le: 65_536 };
+    assert!(rt; is_command(&rt, "00D6000000000201020000", UPDATE, body)?);
+    Ok(())
+}
+
+#[test]
+fn commands_that_are_lent(rt: HostRuntime) -> Result<(), Fail> {
+    for (text, shape, part, le) in [
+        ("00A40400", Shape::Empty, "", None),
+        ("00B0000000", Shape::ShortLe, "", Some(256)),
+        ("00B00000000000", Shape::LongLe, "", Some(65_536)),
+        ("00B000000001FF", Shape::LongLe, "", Some(511)),
+        (
+            "00A4040007A000000004101000",
+            Shape::ShortBoth,
+            "A0000000041010",
+            Some(256),
+        ),
+        (
+            "00A4040008A000000004101000",
+            Shape::ShortPart,
+            "A000000004101000",
+            None,
+        ),
+        ("00D600000000020102", Shape::LongPart, "0102", None),
+        (
+            "00D6000000000201020000",
+            Shape::LongBoth,
+            "0102",
+            Some(65_536),
+        ),
+    ] {
+        let octets = octets_of(rt.alloc(), text)?;
+        let part = octets_of(rt.alloc(), part)?;
+        let lent = CommandRef::decode(octets.as_slice())?;
+        assert_eq!(rt; lent.shape(), shape, "{text}");
+        assert!(rt; lent.part() == part.as_slice(), "{text}");
+        assert_eq!(rt; lent.le(), le, "{text}");
+    }
+    Ok(())
+}
+
+#[test]
+fn the_part_stands_behind_its_length(rt: HostRuntime) -> Result<(), Fail> {
+    let octets = octets_of(rt.alloc(), "00A4040007A000000004101000")?;
+    let lent = CommandRef::decode(octets.as_slice())?;
+    assert!(rt; octets.get(5..12) == Some(lent.part()));
+    assert_eq!(rt; lent.le(), Some(256));
+    Ok(())
+}
+
+#[test]
+fn octets_that_are_no_command(rt: HostRuntime) -> Result<(), Fail> {
+    for (text, place) in [
+        ("", 0),
+        ("00A404", 3),
+        ("00B000000000", 6),
+        ("00D60000000002010200", 10),
+    ] {
+        let octets = octets_of(rt.alloc(), text)?;
+        let stop = Stop::Short { place };
+        assert_eq!(rt;
+            CommandRef::decode(octets.as_slice()).err(),
+            Some(stop),
+            "{text}"
+        );
+        let refused = decode_command(rt.alloc(), octets.as_slice()).err();
+        assert_eq!(rt; refused, Some(Refused::Stop(stop)), "{text}");
+    }
+    for (text, place) in [
+        ("00B0000000000000", 7),
+        ("00A4040007A00000000410100000", 13),
+        ("00D600000000020102000000", 11),
+        ("00D60000000000AA", 7),
+    ] {
+        let octets = octets_of(rt.alloc(), text)?;
+        let reason = CommandReason::Trailing;
+        let stop = Stop::At { place, reason };
+        assert_eq!(rt;
+            CommandRef::decode(octets.as_slice()).err(),
+            Some(stop),
+            "{text}"
+        );
+        let refused = decode_command(rt.alloc(), octets.as_slice()).err();
+        assert_eq!(rt; refused, Some(Refused::Stop(stop)), "{text}");
+    }
+    Ok(())
+}
+
+#[test]
+fn bodies_that_have_no_spelling(rt: HostRuntime) -> Result<(), Fail> {
+    for le in [0, 257] {
+        assert!(rt; Command::new(READ, Body::ShortLe { le }) == Err(Body::ShortLe { le }));
+    }
+    for le in [0, 65_537] {
+        assert!(rt; Command::new(READ, Body::LongLe { le }) == Err(Body::LongLe { le }));
+    }
+    let part = octets(&rt, "")?;
+    assert!(rt; Command::new(UPDATE, Body::ShortPart { part }).is_err());
+    let part = Octets::of(vec![in rt.alloc(); 0u8; 256]?);
+    assert!(rt; Command::new(UPDATE, Body::ShortPart { part }).is_err());
+    let part = Octets::of(vec![in rt.alloc(); 0u8; 65_536]?);
+    assert!(rt; Command::new(UPDATE, Body::LongPart { part }).is_err());
+    Ok(())
+}
+
+#[test]
+fn responses(rt: HostRuntime) -> Result<(), Fail> {
+    assert!(rt; ResponseRef::decode(&[0x90, 0x00])?.part().is_empty());
+    let octets = octets_of(rt.alloc(), "6F009000")?;
+    let lent = ResponseRef::decode(octets.as_slice())?;
+    assert!(rt; lent.part() == [0x6F, 0x00].as_slice());
+    assert_eq!(rt; (lent.sw1(), lent.sw2()), (0x90, 0x00));
+    let response = decode_response(rt.alloc(), octets.as_slice())?;
+    assert_eq!(rt; (response.sw1(), response.sw2()), (0x90, 0x00));
+    let spelled = encode_response(rt.alloc(), &response)?;
+    assert!(rt; spelled.as_slice() == octets.as_slice());
+    let part = Octets::of(octets_of(rt.alloc(), "6F00")?);
+    assert!(rt; response.part() == part.get());
+    assert!(rt; Response::new(part, 0x90, 0x00)? == response);
+    Ok(())
+}
+
+#[test]
+fn octets_that_are_no_response(rt: HostRuntime) -> Result<(), Fail> {
+    assert_eq!(rt;
+        ResponseRef::decode(&[0x90]).err(),
+        Some(Stop::Short { place: 1 })
+    );
+    let octets = vec![in rt.alloc(); 0u8; 65_539]?;
+    let stop = Stop::At {
+        place: 65_538,
+        reason: ResponseReason::TooLong,
+    };
+    assert_eq!(rt; ResponseRef::decode(octets.as_slice()).err(), Some(stop));
+    let refused = decode_response(rt.alloc(), octets.as_slice()).err();
+    assert_eq!(rt; refused, Some(Refused::Stop(stop)));
+    let part = Octets::of(vec![in rt.alloc(); 0u8; 65_537]?);
+    assert!(rt; Response::new(part, 0x90, 0x00).is_err());
+    Ok(())
+}
+
+#[test]
+fn the_longest_response(rt: HostRuntime) -> Result<(), Fail> {
+    let octets = vec![in rt.alloc(); 0x90u8; 65_538]?;
+    let response = decode_response(rt.alloc(), octets.as_slice())?;
+    assert_eq!(rt; response.part().len(), 65_536);
+    Ok(())
+}
+
+#[test]
+fn classes_of_status_bytes(rt: HostRuntime) {
+    for (sw1, sw2, class) in [
+        (0x90, 0x00, StatusClass::Normal),
+        (0x61, 0x10, StatusClass::Normal),
+        (0x62, 0x83, StatusClass::Warning),
+        (0x64, 0x00, StatusClass::Execution),
+        (0x6A, 0x82, StatusClass::Checking),
+        (0x91, 0x01, StatusClass::Proprietary),
+        (0x60, 0x00, StatusClass::Invalid),
+        (0x70, 0x00, StatusClass::Invalid),
+    ] {
+        assert_eq!(rt; status_class(sw1, sw2), class, "{sw1:02X}{sw2:02X}");
+    }
+}
+
+#[test]
+fn a_command_is_sent(rt: HostRuntime) -> Result<(), Fail> {
+    let command = Command::new(SELECT, Body::ShortLe { le: 256 })?;
+    let mut writer = Counted::new(Taker::new(4096, 7, After::Fails));
+    let sent = send_command(rt.alloc(), &mut writer, &command, 2, Number::Zero);
+    assert_eq!(rt; sent, Ok(()));
+    assert!(rt; writer.into_inner().kept() == SELECT_CHAIN.as_slice());
+    Ok(())
+}
+
+#[test]
+fn a_response_is_sent(rt: HostRuntime) -> Result<(), Fail> {
+    let response = Response::new(octets(&rt, "")?, 0x90, 0x00)?;
+    let mut writer = Counted::new(Taker::new(4096, 7, After::Fails));
+    let sent = send_response(rt.alloc(), &mut writer, &response, 254, Number::Zero);
+    assert_eq!(rt; sent, Ok(()));
+    assert!(rt; writer.into_inner().kept() == DONE_CHAIN.as_slice());
+    Ok(())
+}
+
+#[test]
+fn sent_to_a_writer_that_fails(rt: HostRuntime) -> Result<(), Fail> {
+    let command = Command::new(SELECT, Body::ShortLe { le: 256 })?;
+    let response = Response::new(octets(&rt, "")?, 0x90, 0x00)?;
+    for after in [After::End, After::Fails, After::Interrupted] {
+        for written in 0..SELECT_CHAIN.len() {
+            let mut writer = Counted::new(Taker::new(written, 1, after));
+            let sent = send_command(rt.alloc(), &mut writer, &command, 2, Number::Zero);
+            assert_eq!(rt; sent, Err(SendFault::Write { written }));
+            assert!(rt; writer.into_inner().kept() == &SELECT_CHAIN[..written]);
+        }
+        for written in 0..DONE_CHAIN.len() {
+            let mut writer = Counted::new(Taker::new(written, 4096, after));
+            let sent = send_response(rt.alloc(), &mut writer, &response, 254, Number::Zero);
+            assert_eq!(rt; sent, Err(SendFault::Write { written }));
+            assert!(rt; writer.into_inner().kept() == &DONE_CHAIN[..written]);
+        }
+    }
+    Ok(())
+}
+
+/// Whether one octet is left to read, and it is FF.
+fn is_left(reader: &mut Counted<Feeder>) -> bool {
+    let mut room = [0u8; 8];
+    matches!(reader.read(&mut room), Ok(1)) && room[0] == 0xFF
+}
+
+#[test]
+fn a_command_is_received(rt: HostRuntime) -> Result<(), Fail> {
+    let octets = octets_of(rt.alloc(), "00200200A4860060020400660000010001FF")?;
+    for step in [1, 2, 4096] {
+        let mut reader = Counted::new(Feeder::new(octets.as_slice(), step, After::End));
+        let command = receive_command(rt.alloc(), &mut reader, 2, Number::Zero)?;
+        assert!(rt; command == Command::new(SELECT, Body::ShortLe { le: 256 })?);
+        assert!(rt; is_left(&mut reader));
+    }
+    Ok(())
+}
+
+#[test]
+fn a_response_is_received(rt: HostRuntime) -> Result<(), Fail> {
+    let octets = octets_of(rt.alloc(), "000002900092FF")?;
+    let mut reader = Counted::new(Feeder::new(octets.as_slice(), 4096, After::End));
+    let response = receive_response(rt.alloc(), &mut reader, 254, Number::Zero)?;
+    let part = Octets::of(octets_of(rt.alloc(), "")?);
+    assert!(rt; response == Response::new(part, 0x90, 0x00)?);
+    assert!(rt; is_left(&mut reader));
+    Ok(())
+}
+
+#[test]
+fn received_in_fields_of_any_size(rt: HostRuntime) -> Result<(), Fail> {
+    let octets = octets_of(rt.alloc(), "00200300A4048300600060000002000002FF")?;
+    let mut reader = Counted::new(Feeder::new(octets.as_slice(), 4096, After::End));
+    let command = receive_command(rt.alloc(), &mut reader, 254, Number::Zero)?;
+    assert!(rt; command == Command::new(SELECT, Body::ShortLe { le: 256 })?);
+    assert!(rt; is_left(&mut reader));
+    let octets = octets_of(rt.alloc(), "00200190B10040010041FF")?;
+    let mut reader = Counted::new(Feeder::new(octets.as_slice(), 4096, After::End));
+    let response = receive_response(rt.alloc(), &mut reader, 254, Number::Zero)?;
+    let part = Octets::of(octets_of(rt.alloc(), "")?);
+    assert!(rt; response == Response::new(part, 0x90, 0x00)?);
+    assert!(rt; is_left(&mut reader));
+    Ok(())
+}
+
+#[test]
+fn received_from_a_reader_that_fails_or_ends(rt: HostRuntime) {
+    for taken in 0..SELECT_CHAIN.len() {
+        let front = &SELECT_CHAIN[..taken];
+        for after in [After::Fails, After::Interrupted] {
+            let mut reader = Counted::new(Feeder::new(front, 2, after));
+            let fault = receive_command(rt.alloc(), &mut reader, 2, Number::Zero).err();
+            assert_eq!(rt; fault, Some(ReceiveFault::Read { taken }));
+        }
+        let mut reader = Counted::new(Feeder::new(front, 2, After::End));
+        let fault = receive_command(rt.alloc(), &mut reader, 2, Number::Zero).err();
+        let short = Stop::Short { place: taken };
+        assert_eq!(rt; fault, Some(ReceiveFault::Chain(short)));
+    }
+    for taken in 0..DONE_CHAIN.len() {
+        let front = &DONE_CHAIN[..taken];
+        let mut reader = Counted::new(Feeder::new(front, 1, After::Fails));
+        let fault = receive_response(rt.alloc(), &mut reader, 254, Number::Zero).err();
+        assert_eq!(rt; fault, Some(ReceiveFault::Read { taken }));
+    }
+}
+
+#[test]
+fn chains_that_carry_no_apdu(rt: HostRuntime) -> Result<(), Fail> {
+    let octets = octets_of(rt.alloc(), "00000200A4A6FF")?;
+    let mut reader = Counted::new(Feeder::new(octets.as_slice(), 4096, After::End));
+    let fault = receive_command(rt.alloc(), &mut reader, 254, Number::Zero).err();
+    let short = Stop::Short { place: 2 };
+    assert_eq!(rt; fault, Some(ReceiveFault::Apdu(short)));
+    assert!(rt; is_left(&mut reader));
+    let octets = octets_of(rt.alloc(), "0000019091FF")?;
+    let mut reader = Counted::new(Feeder::new(octets.as_slice(), 4096, After::End));
+    let fault = receive_response(rt.alloc(), &mut reader, 254, Number::Zero).err();
+    let short = Stop::Short { place: 1 };
+    assert_eq!(rt; fault, Some(ReceiveFault::Apdu(short)));
+    assert!(rt; is_left(&mut reader));
+    let mut reader = Counted::new(Feeder::new(&[0x00, 0x40], 4096, After::End));
+    let fault = receive_command(rt.alloc(), &mut reader, 254, Number::Zero).err();
+    let refused = Stop::At {
+        place: 1,
+        reason: ChainReason::BadSequence,
+    };
+    assert_eq!(rt; fault, Some(ReceiveFault::Chain(refused)));
+    Ok(())
+}

@@ -1,0 +1,261 @@
+//! Answers to reset with their verdicts and what they say, by the tables of ISO/IEC 7816-3.
+
+use atr_core::laws::are_equal;
+use atr_core::{
+    Atr, AtrReader, AtrReason, Convention, Indicated, Interface, ParamFault, T1Params, decode,
+    encode, rates, t1_params,
+};
+use arrayvec::ArrayVec;
+use octet_core::Stop;
+use std::test::Fail;
+
+/// T=0 and T=1, fifteen historical bytes and TCK; the octet FF is left.
+const BOTH_PROTOCOLS: &[u8] =
+    b"\x3B\x8F\x80\x01\x80\x4F\x0C\xA0\x00\x00\x03\x06\x03\x00\x01\x00\x00\x00\x00\x6A\xFF";
+
+/// T=1 with IFSC 32, BWI 4 and CWI 5.
+const T1_CARD: &[u8] = b"\x3B\x80\x81\x31\x20\x45\x55";
+
+/// 33 octets, with TA, TB and TC after T0 and each of three TDs.
+const LONGEST: &[u8] =
+    b"\x3B\xFF\x00\x00\x00\xF1\x00\x00\x00\xF1\x00\x00\x00\x71\x00\x00\x00\x00\x00\x00\x00\x00\x00\x00\x00\x00\x00\x00\x00\x00\x00\x00\x8E";
+
+/// Thirty-one TDs of T=0.
+const MOST_TDS: &[u8] =
+    b"\x3B\x80\x80\x80\x80\x80\x80\x80\x80\x80\x80\x80\x80\x80\x80\x80\x80\x80\x80\x80\x80\x80\x80\x80\x80\x80\x80\x80\x80\x80\x80\x80\x00";
+
+/// The last of thirty-one TDs announces another one.
+const TOO_MANY_TDS: &[u8] =
+    b"\x3B\x80\x80\x80\x80\x80\x80\x80\x80\x80\x80\x80\x80\x80\x80\x80\x80\x80\x80\x80\x80\x80\x80\x80\x80\x80\x80\x80\x80\x80\x80\x80\x80\x00";
+
+#[test]
+fn accepted_octets(rt: HostRuntime) -> Result<(), Fail> {
+    for (octets, taken) in [
+        (b"\x3B\x00".as_slice(), 2),
+        (b"\x3F\x00".as_slice(), 2),
+        (BOTH_PROTOCOLS, 20),
+        // T=1 before T=0: TCK stands.
+        (b"\x3B\x80\x81\x00\x01".as_slice(), 5),
+        (T1_CARD, 7),
+        (LONGEST, 33),
+        (MOST_TDS, 33),
+        // Seven TDs.
+        (b"\x3B\x80\x80\x80\x80\x80\x80\x80\x00".as_slice(), 9),
+        // T=15, with a global TA.
+        (b"\x3B\x80\x1F\x07\x98".as_slice(), 5),
+        // T=0 alone: an octet that could be a TCK stays unread.
+        (b"\x3B\x80\x00\x80".as_slice(), 3),
+    ] {
+        let (atr, count) = decode(octets)?;
+        assert_eq!(rt; count, taken);
+        assert!(rt; octets.len() >= taken);
+        assert!(rt; encode(&atr).as_slice() == &octets[..taken]);
+    }
+    Ok(())
+}
+
+#[test]
+fn refused_octets(rt: HostRuntime) {
+    for (octets, stop) in [
+        (b"".as_slice(), Stop::Short { place: 0 }),
+        (b"\x3B".as_slice(), Stop::Short { place: 1 }),
+        (
+            b"\x3A".as_slice(),
+            Stop::At {
+                place: 0,
+                reason: AtrReason::BadTs,
+            },
+        ),
+        (
+            b"\x3B\x80\x81\x31\x20\x45\x54".as_slice(),
+            Stop::At {
+                place: 6,
+                reason: AtrReason::BadTck,
+            },
+        ),
+        (
+            b"\x3B\x80\x81\x31\x20\x45".as_slice(),
+            Stop::Short { place: 6 },
+        ),
+        (
+            b"\x3B\xFF\x11\x22\x33\xF1\x44\x55\x66\xF1\x77\x88\x99\xF1".as_slice(),
+            Stop::At {
+                place: 13,
+                reason: AtrReason::TooLong,
+            },
+        ),
+        (
+            b"\x3B\xFF\x11\x22\x33\xF1\x44\x55\x66\xF1\x77\x88\x99\x71".as_slice(),
+            Stop::Short { place: 14 },
+        ),
+        (
+            TOO_MANY_TDS,
+            Stop::At {
+                place: 32,
+                reason: AtrReason::TooLong,
+            },
+        ),
+    ] {
+        assert_eq!(rt; decode(octets).err(), Some(stop));
+    }
+}
+
+#[test]
+fn fields_of_an_answer(rt: HostRuntime) -> Result<(), Fail> {
+    let (atr, _) = decode(BOTH_PROTOCOLS)?;
+    assert_eq!(rt; atr.convention(), Convention::Direct);
+    assert_eq!(rt; atr.first(), Interface::default());
+    assert_eq!(rt; atr.indicated().len(), 2);
+    assert_eq!(rt; atr.historical().len(), 15);
+    assert_eq!(rt; atr.tck(), Some(0x6A));
+    let (atr, _) = decode(b"\x3F\x80\x01\x81")?;
+    assert_eq!(rt; atr.convention(), Convention::Inverse);
+    let (atr, _) = decode(b"\x3B\x10\x97")?;
+    assert_eq!(rt; atr.first().ta, Some(0x97));
+    assert_eq!(rt; atr.tck(), None);
+    Ok(())
+}
+
+#[test]
+fn parameters_of_t1(rt: HostRuntime) -> Result<(), Fail> {
+    for (octets, params) in [
+        (b"\x3B\x00".as_slice(), Err(ParamFault::NoT1)),
+        (T1_CARD, Ok((32, 4, 5))),
+        (BOTH_PROTOCOLS, Ok((32, 4, 13))),
+        // IFSC FF and 00.
+        (
+            b"\x3B\x80\x81\x11\xFF\xEF".as_slice(),
+            Err(ParamFault::ReservedIfsc),
+        ),
+        (
+            b"\x3B\x80\x81\x11\x00\x10".as_slice(),
+            Err(ParamFault::ReservedIfsc),
+        ),
+        (b"\x3B\x80\x81\x41\x01\x41".as_slice(), Err(ParamFault::Crc)),
+        // The bytes after TD1 aren't specific: TA2 isn't IFSC.
+        (b"\x3B\x80\x91\x00\x01\x10".as_slice(), Ok((32, 4, 13))),
+        // The first TA is after TD3, the first TB after TD2.
+        (
+            b"\x3B\x80\x81\xA1\x45\x11\x80\x74".as_slice(),
+            Ok((128, 4, 5)),
+        ),
+    ] {
+        let (atr, _) = decode(octets)?;
+        let found = t1_params(&atr).map(|p| (p.ifsc(), p.bwi(), p.cwi()));
+        assert_eq!(rt; found, params);
+    }
+    Ok(())
+}
+
+#[test]
+fn ranges_of_parameters(rt: HostRuntime) {
+    assert!(rt; T1Params::new(254, 15, 15).is_some());
+    assert_eq!(rt; T1Params::new(0, 4, 13), None);
+    assert_eq!(rt; T1Params::new(255, 4, 13), None);
+    assert_eq!(rt; T1Params::new(32, 16, 13), None);
+    assert_eq!(rt; T1Params::new(32, 4, 16), None);
+}
+
+#[test]
+fn rates_of_answers(rt: HostRuntime) -> Result<(), Fail> {
+    for (octets, expected) in [
+        (b"\x3B\x00".as_slice(), (Some(372), Some(1))),
+        (b"\x3B\x10\x97".as_slice(), (Some(512), Some(64))),
+        (b"\x3B\x10\x7A".as_slice(), (None, None)),
+        (b"\x3B\x10\xD9".as_slice(), (Some(2048), Some(20))),
+        (b"\x3B\x10\xE0".as_slice(), (None, None)),
+    ] {
+        let (atr, _) = decode(octets)?;
+        assert_eq!(rt; rates(&atr), expected);
+    }
+    Ok(())
+}
+
+#[test]
+fn answers_of_parts(rt: HostRuntime) -> Result<(), Fail> {
+    let mut indicated = ArrayVec::new();
+    indicated.push(Indicated {
+        protocol: 1,
+        bytes: Interface::default(),
+    });
+    let made = Atr::new(
+        Convention::Direct,
+        Interface::default(),
+        indicated,
+        ArrayVec::new(),
+    );
+    let (read, _) = decode(b"\x3B\x80\x01\x81")?;
+    assert!(rt; made.is_some_and(|made| are_equal(&made, &read)));
+
+    let mut indicated = ArrayVec::new();
+    indicated.push(Indicated {
+        protocol: 16,
+        bytes: Interface::default(),
+    });
+    let made = Atr::new(
+        Convention::Direct,
+        Interface::default(),
+        indicated,
+        ArrayVec::new(),
+    );
+    assert!(rt; made.is_none());
+    Ok(())
+}
+
+#[test]
+fn fed_in_pieces(rt: HostRuntime) {
+    let mut reader = AtrReader::new();
+    assert_eq!(rt; reader.finish(), Err(Stop::Short { place: 0 }));
+    assert_eq!(rt; reader.feed(b"\x3B"), Ok((1, false)));
+    assert_eq!(rt; reader.feed(b""), Ok((0, false)));
+    assert_eq!(rt; reader.feed(b"\x80\x81\x31\x20\x45"), Ok((5, false)));
+    assert_eq!(rt; reader.finish(), Err(Stop::Short { place: 6 }));
+    assert!(rt; reader.value().is_none());
+    assert_eq!(rt; reader.feed(b"\x55\x00"), Ok((1, true)));
+    assert_eq!(rt; reader.feed(b"\x00"), Ok((0, true)));
+    assert_eq!(rt; reader.finish(), Ok(()));
+    let octets = reader.value().map(encode).expect(&rt, "an answer");
+    assert!(rt; octets.as_slice() == T1_CARD);
+}
+
+#[test]
+fn a_refusal_is_kept_until_reset(rt: HostRuntime) {
+    let refusal = Stop::At {
+        place: 6,
+        reason: AtrReason::BadTck,
+    };
+    let mut reader = AtrReader::new();
+    assert_eq!(rt; reader.feed(b"\x3B\x80\x81\x31\x20\x45"), Ok((6, false)));
+    assert_eq!(rt; reader.feed(b"\x54"), Err(refusal));
+    assert_eq!(rt; reader.feed(b"\x55"), Err(refusal));
+    assert_eq!(rt; reader.finish(), Err(refusal));
+    assert!(rt; reader.value().is_none());
+    reader.reset();
+    assert_eq!(rt; reader.finish(), Err(Stop::Short { place: 0 }));
+    assert_eq!(rt; reader.feed(b"\x3F\x00\x00"), Ok((2, true)));
+}
+
+#[test]
+fn each_cut_of_an_answer_in_two(rt: HostRuntime) {
+    for place in 0..T1_CARD.len() {
+        let (front, rest) = T1_CARD.split_at(place);
+        let mut reader = AtrReader::new();
+        assert_eq!(rt; reader.feed(front), Ok((front.len(), false)));
+        assert_eq!(rt; reader.feed(rest), Ok((rest.len(), true)));
+    }
+}
+
+#[test]
+fn waiting_times(rt: HostRuntime) {
+    let first = T1Params::new(32, 4, 13).expect(&rt, "parameters");
+    assert_eq!(rt; first.cwt_etu(), 8_203);
+    assert_eq!(rt; first.bwt_cycles(), 5_713_920);
+    assert_eq!(rt; first.bwt(372, 1), 15_371 * 372);
+    let least = T1Params::new(32, 0, 0).expect(&rt, "parameters");
+    assert_eq!(rt; least.cwt_etu(), 12);
+    assert_eq!(rt; least.bwt(372, 1), 971 * 372);
+    assert_eq!(rt; least.bwt(512, 8), 11 * 512 + 357_120 * 8);
+    let greatest = T1Params::new(32, 9, 15).expect(&rt, "parameters");
+    assert_eq!(rt; greatest.cwt_etu(), 32_779);
+    assert_eq!(rt; greatest.bwt(372, 1), 491_531 * 372);
+}

@@ -1,0 +1,372 @@
+//! Chains from the standard's rules, and calls that no clause pins.
+
+mod faults;
+
+use chain_core::{ChainReason, ReadRefusal, Receiver, block_at, cut, read_chain, write_chain};
+use block_core::{Number, encode};
+use octet_core::{After, Counted, Feeder, Source, Stop, Taker, WriteFault};
+use std::test::Fail;
+
+/// 00 A4 04 00 00, in blocks of two octets.
+const CHAIN: [u8; 17] = [
+    0x00, 0x20, 0x02, 0x00, 0xA4, 0x86, 0x00, 0x60, 0x02, 0x04, 0x00, 0x66, 0x00, 0x00, 0x01, 0x00,
+    0x01,
+];
+
+/// The same chain, and an octet after it.
+const CHAIN_AND_MORE: [u8; 18] = [
+    0x00, 0x20, 0x02, 0x00, 0xA4, 0x86, 0x00, 0x60, 0x02, 0x04, 0x00, 0x66, 0x00, 0x00, 0x01, 0x00,
+    0x01, 0xFF,
+];
+
+const SELECT: [u8; 5] = [0x00, 0xA4, 0x04, 0x00, 0x00];
+
+#[test]
+fn cut_by_two_octets(rt: HostRuntime) {
+    let blocks: [&[u8]; 3] = [&CHAIN[..6], &CHAIN[6..12], &CHAIN[12..]];
+    let mut count = 0;
+    for (block, octets) in cut(&SELECT, 2, Number::Zero).zip(blocks) {
+        assert!(rt; encode(&block).as_slice() == octets);
+        if count < 3 {
+            count += 1;
+        }
+    }
+    assert_eq!(rt; count, 3);
+    assert_eq!(rt; cut(&SELECT, 2, Number::Zero).count(), 3);
+}
+
+#[test]
+fn one_block_of_a_short_message(rt: HostRuntime) {
+    let whole = [0x00, 0x40, 0x05, 0x00, 0xA4, 0x04, 0x00, 0x00, 0xE5];
+    let mut blocks = cut(&SELECT, 5, Number::One);
+    let first = blocks.next().map(|block| encode(&block));
+    assert!(rt; first.is_some_and(|octets| octets.as_slice() == whole.as_slice()));
+    assert!(rt; blocks.next().is_none());
+    let mut blocks = cut(&[], 254, Number::One);
+    let first = blocks.next().map(|block| encode(&block));
+    assert!(rt;
+        first.is_some_and(|octets| octets.as_slice() == [0x00, 0x40, 0x00, 0x40].as_slice())
+    );
+    assert!(rt; blocks.next().is_none());
+}
+
+#[test]
+fn block_at_a_place(rt: HostRuntime) {
+    assert!(rt; encode(&block_at(&SELECT, 2, 2, Number::One)).as_slice() == &CHAIN[6..12]);
+    assert!(rt; encode(&block_at(&SELECT, 4, 2, Number::Zero)).as_slice() == &CHAIN[12..]);
+    let empty = [0x00, 0x00, 0x00, 0x00];
+    assert!(rt; encode(&block_at(&SELECT, 5, 2, Number::Zero)).as_slice() == empty.as_slice());
+}
+
+#[test]
+fn written_whole(rt: HostRuntime) {
+    let mut writer = Counted::new(Taker::new(4096, 7, After::Fails));
+    assert_eq!(rt; write_chain(&mut writer, &SELECT, 2, Number::Zero), Ok(()));
+    assert!(rt; writer.into_inner().kept() == CHAIN.as_slice());
+}
+
+#[test]
+fn written_to_a_writer_that_fails(rt: HostRuntime) {
+    for after in [After::End, After::Fails, After::Interrupted] {
+        for step in [1, 4096] {
+            for written in 0..CHAIN.len() {
+                let mut writer = Counted::new(Taker::new(written, step, after));
+                assert_eq!(rt;
+                    write_chain(&mut writer, &SELECT, 2, Number::Zero),
+                    Err(WriteFault { written })
+                );
+                assert!(rt; writer.into_inner().kept() == &CHAIN[..written]);
+            }
+        }
+    }
+}
+
+fn at(place: usize, reason: ChainReason) -> Result<(usize, bool), Stop<ChainReason>> {
+    Err(Stop::At { place, reason })
+}
+
+#[test]
+fn received_in_two_pieces(rt: HostRuntime) -> Result<(), Fail> {
+    let mut receiver = Receiver::new(rt.alloc(), 2, Number::Zero, 5)?;
+    for cut in 0..CHAIN.len() + 1 {
+        let (front, back) = CHAIN.split_at(cut);
+        assert_eq!(rt; receiver.feed(front), Ok((front.len(), cut == CHAIN.len())));
+        if cut < CHAIN.len() {
+            assert!(rt; receiver.message().is_none());
+            assert_eq!(rt; receiver.finish(), Err(Stop::Short { place: cut }));
+        }
+        assert_eq!(rt; receiver.feed(back), Ok((back.len(), true)));
+        assert_eq!(rt; receiver.feed(&[0xFF]), Ok((0, true)));
+        assert_eq!(rt; receiver.finish(), Ok(()));
+        assert_eq!(rt; receiver.blocks(), 3);
+        assert!(rt;
+            receiver
+                .message()
+                .is_some_and(|message| message == SELECT.as_slice())
+        );
+        receiver.restart(Number::Zero);
+    }
+    Ok(())
+}
+
+/// Whether the chain is taken, and the octet after it not, where a piece ends after the octet at each
+/// place whose bit is set in `cuts`.
+fn is_received(receiver: &mut Receiver, cuts: u32) -> bool {
+    let mut from = 0;
+    for place in 0..16usize {
+        if (cuts >> place) & 1 == 1 {
+            match CHAIN.get(from..place + 1) {
+                Some(piece) if receiver.feed(piece) == Ok((piece.len(), false)) => {}
+                _ => return false,
+            }
+            from = place + 1;
+        }
+    }
+    let Some(piece) = CHAIN_AND_MORE.get(from..) else {
+        return false;
+    };
+    let taken = piece.len().saturating_sub(1);
+    receiver.feed(piece) == Ok((taken, true))
+        && receiver.feed(&[0xFF]) == Ok((0, true))
+        && receiver.message() == Some(SELECT.as_slice())
+}
+
+#[test]
+fn received_in_any_pieces(rt: HostRuntime) -> Result<(), Fail> {
+    let mut receiver = Receiver::new(rt.alloc(), 2, Number::Zero, 5)?;
+    for cuts in 0..65_536u32 {
+        receiver.restart(Number::Zero);
+        assert!(rt;
+            is_received(&mut receiver, cuts),
+            "cut behind the bits of {cuts}"
+        );
+    }
+    Ok(())
+}
+
+#[test]
+fn refused_chains(rt: HostRuntime) -> Result<(), Fail> {
+    let mut receiver = Receiver::new(rt.alloc(), 2, Number::Zero, 4)?;
+    let front = &CHAIN[..6];
+    for (block, refusal) in [
+        ([0x00, 0x20, 0x02], at(7, ChainReason::BadSequence)),
+        ([0x00, 0x80, 0x00], at(7, ChainReason::NotInfo)),
+        ([0x00, 0x83, 0x00], at(7, ChainReason::BadPcb)),
+        ([0x01, 0x60, 0x00], at(6, ChainReason::BadNad)),
+        ([0x00, 0x60, 0x03], at(8, ChainReason::OverIfs)),
+        ([0x00, 0x60, 0xFF], at(8, ChainReason::BadLen)),
+    ] {
+        assert_eq!(rt; receiver.feed(front), Ok((6, false)));
+        assert_eq!(rt; receiver.feed(&block), refusal);
+        assert_eq!(rt; receiver.feed(&CHAIN), refusal);
+        assert_eq!(rt; receiver.blocks(), 1);
+        assert!(rt; receiver.message().is_none());
+        receiver.restart(Number::Zero);
+    }
+    let too_long = Stop::At {
+        place: 14,
+        reason: ChainReason::TooLong,
+    };
+    assert_eq!(rt; receiver.feed(&CHAIN), Err(too_long));
+    assert_eq!(rt; receiver.finish(), Err(too_long));
+    assert_eq!(rt; receiver.blocks(), 2);
+    receiver.restart(Number::One);
+    assert_eq!(rt;
+        receiver.feed(&[0x00, 0x40, 0x00, 0x41]),
+        at(3, ChainReason::BadLrc)
+    );
+    Ok(())
+}
+
+#[test]
+fn most_blocks(rt: HostRuntime) -> Result<(), Fail> {
+    let mut receiver = Receiver::new(rt.alloc(), 254, Number::Zero, 0)?;
+    for _ in 0..65_535 {
+        assert_eq!(rt;
+            receiver.feed(&[0x00, 0x20, 0x00, 0x20, 0x00, 0x60, 0x00, 0x60]),
+            Ok((8, false))
+        );
+    }
+    assert_eq!(rt; receiver.feed(&[0x00, 0x20, 0x00, 0x20]), Ok((4, false)));
+    assert_eq!(rt; receiver.feed(&[0x00, 0x40, 0x00, 0x40]), Ok((4, true)));
+    assert_eq!(rt; receiver.blocks(), 131_072);
+    assert!(rt; receiver.message().is_some_and(|message| message.is_empty()));
+    receiver.restart(Number::Zero);
+    for _ in 0..65_535 {
+        assert_eq!(rt;
+            receiver.feed(&[0x00, 0x20, 0x00, 0x20, 0x00, 0x60, 0x00, 0x60]),
+            Ok((8, false))
+        );
+    }
+    assert_eq!(rt; receiver.feed(&[0x00, 0x20, 0x00, 0x20]), Ok((4, false)));
+    assert_eq!(rt;
+        receiver.feed(&[0x00, 0x60]),
+        at(524_285, ChainReason::TooManyBlocks)
+    );
+    Ok(())
+}
+
+#[test]
+fn cut_long_messages(rt: HostRuntime) -> Result<(), Fail> {
+    let message = vec![in rt.alloc(); 0xA5u8; 65_544]?;
+    let mut short = 0;
+    for _ in cut(message.as_slice(), 1, Number::Zero) {
+        if short < 100_000 {
+            short += 1;
+        }
+    }
+    assert_eq!(rt; short, 65_544);
+    let mut long = 0;
+    for _ in cut(message.as_slice(), 254, Number::Zero) {
+        if long < 100_000 {
+            long += 1;
+        }
+    }
+    assert_eq!(rt; long, 259);
+    Ok(())
+}
+
+/// The chain after its first seven octets, and an octet that follows it.
+const REST: [u8; 11] = [
+    0x60, 0x02, 0x04, 0x00, 0x66, 0x00, 0x00, 0x01, 0x00, 0x01, 0xFF,
+];
+
+fn short(place: usize) -> Result<(), ReadRefusal> {
+    Err(ReadRefusal::Stop(Stop::Short { place }))
+}
+
+fn stop(place: usize, reason: ChainReason) -> Result<(), ReadRefusal> {
+    Err(ReadRefusal::Stop(Stop::At { place, reason }))
+}
+
+#[test]
+fn read_on_behind_a_failure(rt: HostRuntime) -> Result<(), Fail> {
+    let mut receiver = Receiver::new(rt.alloc(), 2, Number::Zero, 5)?;
+    let mut reader = Counted::new(Feeder::new(&CHAIN[..7], 4096, After::Fails));
+    assert_eq!(rt;
+        read_chain(&mut reader, &mut receiver),
+        Err(ReadRefusal::Read { taken: 7 })
+    );
+    let mut reader = Counted::new(Feeder::new(&REST, 4096, After::End));
+    assert_eq!(rt; read_chain(&mut reader, &mut receiver), Ok(()));
+    assert!(rt;
+        receiver
+            .message()
+            .is_some_and(|message| message == SELECT.as_slice())
+    );
+    let mut next = [0, 0];
+    assert_eq!(rt; reader.read(&mut next)?, 1);
+    assert_eq!(rt; next[0], 0xFF);
+    assert_eq!(rt; reader.into_inner().given(), 11);
+    Ok(())
+}
+
+#[test]
+fn read_from_a_source_that_fails(rt: HostRuntime) -> Result<(), Fail> {
+    let mut receiver = Receiver::new(rt.alloc(), 2, Number::Zero, 5)?;
+    for after in [After::Fails, After::Interrupted] {
+        for step in [1, 4096] {
+            for taken in 0..CHAIN.len() {
+                receiver.restart(Number::Zero);
+                let mut reader = Counted::new(Feeder::new(&CHAIN[..taken], step, after));
+                assert_eq!(rt;
+                    read_chain(&mut reader, &mut receiver),
+                    Err(ReadRefusal::Read { taken })
+                );
+                let mut reader = Counted::new(Feeder::new(&CHAIN[taken..], step, after));
+                assert_eq!(rt; read_chain(&mut reader, &mut receiver), Ok(()));
+                assert_eq!(rt; receiver.blocks(), 3);
+            }
+        }
+    }
+    Ok(())
+}
+
+#[test]
+fn read_from_a_source_that_ends(rt: HostRuntime) -> Result<(), Fail> {
+    let mut receiver = Receiver::new(rt.alloc(), 2, Number::Zero, 5)?;
+    for step in [1, 4096] {
+        for place in 0..CHAIN.len() {
+            receiver.restart(Number::Zero);
+            let mut reader = Counted::new(Feeder::new(&CHAIN[..place], step, After::End));
+            assert_eq!(rt; read_chain(&mut reader, &mut receiver), short(place));
+            assert_eq!(rt; read_chain(&mut reader, &mut receiver), short(place));
+            let mut reader = Counted::new(Feeder::new(&CHAIN[place..], step, After::End));
+            assert_eq!(rt; read_chain(&mut reader, &mut receiver), Ok(()));
+        }
+    }
+    Ok(())
+}
+
+#[test]
+fn read_up_to_the_refused_block(rt: HostRuntime) -> Result<(), Fail> {
+    let mut receiver = Receiver::new(rt.alloc(), 2, Number::Zero, 4)?;
+    let mut reader = Counted::new(Feeder::new(&CHAIN, 4096, After::End));
+    let refusal = stop(14, ChainReason::TooLong);
+    assert_eq!(rt; read_chain(&mut reader, &mut receiver), refusal);
+    assert_eq!(rt; reader.into_inner().given(), 15);
+    let mut reader = Counted::new(Feeder::new(&CHAIN, 4096, After::End));
+    assert_eq!(rt; read_chain(&mut reader, &mut receiver), refusal);
+    assert_eq!(rt; reader.into_inner().given(), 0);
+    for (octets, refusal, given) in [
+        (
+            [0x01, 0x20, 0x02, 0x00, 0xA4, 0x86],
+            stop(0, ChainReason::BadNad),
+            3,
+        ),
+        (
+            [0x00, 0x60, 0x02, 0x00, 0xA4, 0x86],
+            stop(1, ChainReason::BadSequence),
+            3,
+        ),
+        (
+            [0x00, 0x20, 0x03, 0x00, 0xA4, 0x86],
+            stop(2, ChainReason::OverIfs),
+            3,
+        ),
+        (
+            [0x00, 0x20, 0x02, 0x00, 0xA4, 0x87],
+            stop(5, ChainReason::BadLrc),
+            6,
+        ),
+        (
+            [0x00, 0x20, 0x01, 0x00, 0xA4, 0x86],
+            stop(4, ChainReason::BadLrc),
+            5,
+        ),
+    ] {
+        receiver.restart(Number::Zero);
+        let mut reader = Counted::new(Feeder::new(&octets, 4096, After::End));
+        assert_eq!(rt; read_chain(&mut reader, &mut receiver), refusal);
+        assert_eq!(rt; reader.into_inner().given(), given);
+    }
+    Ok(())
+}
+
+#[test]
+fn read_nothing_where_it_is_done(rt: HostRuntime) -> Result<(), Fail> {
+    let mut receiver = Receiver::new(rt.alloc(), 2, Number::Zero, 5)?;
+    assert_eq!(rt; receiver.feed(&CHAIN), Ok((17, true)));
+    let mut reader = Counted::new(Feeder::new(&CHAIN, 4096, After::Fails));
+    assert_eq!(rt; read_chain(&mut reader, &mut receiver), Ok(()));
+    assert_eq!(rt; reader.into_inner().given(), 0);
+    assert!(rt;
+        receiver
+            .message()
+            .is_some_and(|message| message == SELECT.as_slice())
+    );
+    Ok(())
+}
+
+#[test]
+fn read_from_a_source_without_an_end(rt: HostRuntime) -> Result<(), Fail> {
+    let blocks = [0x00, 0x20, 0x00, 0x20, 0x00, 0x60, 0x00, 0x60];
+    let mut receiver = Receiver::new(rt.alloc(), 254, Number::Zero, 0)?;
+    let mut reader = Counted::new(Feeder::new(&blocks, 4096, After::Repeats));
+    assert_eq!(rt;
+        read_chain(&mut reader, &mut receiver),
+        stop(524_285, ChainReason::TooManyBlocks)
+    );
+    assert_eq!(rt; reader.into_inner().given(), 524_287);
+    Ok(())
+}

@@ -1,0 +1,29 @@
+//! Texts that are read and written, and recorded sessions that both ends replay.
+
+mod chains;
+mod drawn;
+mod faults;
+mod recording;
+mod replay;
+mod sessions;
+mod writing;
+
+use exchange_core::{Exchange, read_exchange};
+use std::alloc::Global;
+use std::test::Fail;
+
+/// The exchange with this header, answer to reset and lines.
+fn exchange(alloc: Global, header: &str, atr: &str, lines: &[&str]) -> Result<Exchange, Fail> {
+    let text = text(alloc, header, atr, lines)?;
+    Ok(read_exchange(alloc, text.as_bytes())?)
+}
+
+/// The text with this header, answer to reset and lines.
+fn text(alloc: Global, header: &str, atr: &str, lines: &[&str]) -> Result<String, Fail> {
+    let mut text = format!(in alloc; "{header}\natr {atr}\n")?;
+    for line in lines.iter().filter(|line| !line.is_empty()) {
+        text.push_str(line)?;
+        text.push_str("\n")?;
+    }
+    Ok(text)
+}

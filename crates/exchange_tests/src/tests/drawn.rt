@@ -1,0 +1,147 @@
+//! Sessions drawn by a generator: every record replays at both ends, and every answer is the reply.
+
+ghost use Rattle.std.specs.Prelude.{◌<◌};
+
+use super::recording::{ATR, WAYS, assert_replays};
+use exchange_core::{Event, Exchange, LastTurn, Line, Recorder};
+use octet_core::Octets;
+use rand_core::utils::NextWord;
+use rand_pcg::Pcg32;
+use std::alloc::Global;
+use std::test::Fail;
+use t1_core::{CardTurn, TerminalTurn};
+
+const SESSIONS: u32 = 1_000;
+
+/// The most exchanges of a session.
+const MOST_EXCHANGES: u32 = 6;
+
+/// The most octets of a command or a reply.
+const LONGEST_MESSAGE: u32 = 300;
+
+/// The most events of a session.
+const MOST_EVENTS: u32 = 100_000;
+
+/// A number below a bound.
+fn below(generator: &mut Pcg32, bound: u32) -> u32
+    requires { 0 < bound }
+    ensures { result < bound }
+{
+    generator.next_word() % bound
+}
+
+/// A size that isn't reserved.
+fn size(generator: &mut Pcg32) -> u8 {
+    1 + below(generator, 254) as u8
+}
+
+/// A command or a reply.
+fn message(alloc: Global, generator: &mut Pcg32) -> Result<Vec<u8>, Fail> {
+    let mut octets = Vec::new(alloc);
+    for _ in 0..below(generator, LONGEST_MESSAGE + 1) {
+        octets.push(below(generator, 256) as u8)?;
+    }
+    Ok(octets)
+}
+
+/// What happens to a block: one in four is disturbed.
+fn fate(generator: &mut Pcg32) -> Event<'static> {
+    if below(generator, 4) == 0 {
+        WAYS[below(generator, 3) as usize]
+    } else {
+        Event::Deliver
+    }
+}
+
+/// The card's host calls.
+fn host_calls(alloc: Global, generator: &mut Pcg32, recorder: &mut Recorder) -> Result<(), Fail> {
+    let reply = message(alloc, generator)?;
+    let event = match below(generator, 8) {
+        0 => Event::MoreTime(size(generator)),
+        1 => Event::AskIfsc(size(generator)),
+        _ => Event::Reply(reply.as_slice()),
+    };
+    Ok(
+        recorder
+            .happens(event)
+            .map_err(|_| "a call of the host was refused")?,
+    )
+}
+
+/// The application calls.
+fn application_calls(
+    alloc: Global,
+    generator: &mut Pcg32,
+    recorder: &mut Recorder,
+) -> Result<(), Fail> {
+    let command = message(alloc, generator)?;
+    let event = match below(generator, 4) {
+        0 => Event::AskIfsd(size(generator)),
+        _ => Event::Transmit(command.as_slice()),
+    };
+    Ok(
+        recorder
+            .happens(event)
+            .map_err(|_| "a call of the application was refused")?,
+    )
+}
+
+/// The record of a session.
+fn record(alloc: Global, generator: &mut Pcg32) -> Result<Exchange, Fail> {
+    let mut recorder = Recorder::new(alloc, &ATR).map_err(|_| "no recorder")?;
+    let mut exchanges = 1 + below(generator, MOST_EXCHANGES);
+    for _ in 0..MOST_EVENTS {
+        if recorder.under_way().is_some() {
+            let event = fate(generator);
+            recorder
+                .happens(event)
+                .map_err(|_| "an event of the line was refused")?;
+        } else if *recorder.last() == LastTurn::Card(CardTurn::Asked) {
+            host_calls(alloc, generator, &mut recorder)?;
+        } else if exchanges == 0 || *recorder.last() == LastTurn::Terminal(TerminalTurn::Dead) {
+            break;
+        } else {
+            application_calls(alloc, generator, &mut recorder)?;
+            exchanges -= 1;
+        }
+    }
+    Ok(recorder.exchange()?)
+}
+
+/// How many answers there are, `None` where one isn't the last reply to the last command.
+fn answers(lines: &[Line]) -> Option<u32> {
+    let mut count = 0u32;
+    let mut command: Option<&Octets> = None;
+    let mut asked = None;
+    let mut reply = None;
+    for line in lines {
+        match line {
+            Line::Command(octets) => command = Some(octets),
+            Line::Asked(octets) => asked = Some(octets),
+            Line::Reply(octets) => reply = Some(octets),
+            Line::Answer(octets) => {
+                if reply != Some(octets) || asked != command {
+                    return None;
+                }
+                count = count.checked_add(1)?;
+            }
+            _ => {}
+        }
+    }
+    Some(count)
+}
+
+#[test]
+fn drawn_sessions(rt: HostRuntime) -> Result<(), Fail> {
+    let mut generator = Pcg32::new(1, 2);
+    let mut all = 0u64;
+    for _ in 0..SESSIONS {
+        let exchange = record(rt.alloc(), &mut generator)?;
+        assert_replays(&rt, rt.alloc(), &exchange);
+        let answers = answers(exchange.lines().get()).ok_or("an answer isn't the reply")?;
+        all = all.saturating_add(answers as u64);
+    }
+    // most exchanges come to an answer
+    assert!(rt; all > 1_000, "{all} answers");
+    Ok(())
+}

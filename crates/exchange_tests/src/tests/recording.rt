@@ -1,0 +1,349 @@
+//! Sessions of both ends over a line that disturbs blocks: what they end with, and their records replayed.
+
+use super::exchange as recorded;
+use super::sessions::ACTED_ON;
+use exchange_core::{
+    Arrival, Event, EventFault, Exchange, LastTurn, Line, Recorder, RecorderFault, Side, replay,
+};
+use block_core::encode;
+use octet_core::octets_of;
+use std::alloc::Global;
+use std::process::Abort;
+use std::test::Fail;
+use t1_core::{CardFault, CardTurn, TerminalFault};
+
+/// The answer to reset of a card that takes information fields of 32 octets.
+pub(super) const ATR: [u8; 7] = [0x3B, 0x80, 0x81, 0x31, 0x20, 0x45, 0x55];
+
+pub(super) const SELECT: [u8; 5] = [0x00, 0xA4, 0x04, 0x00, 0x00];
+
+const READ: [u8; 5] = [0x00, 0xB0, 0x00, 0x00, 0x02];
+
+pub(super) const DONE: [u8; 2] = [0x90, 0x00];
+
+const DATA: [u8; 4] = [0xAA, 0xBB, 0x90, 0x00];
+
+/// A command of one block and an answer of one block.
+const PLAIN: [&str; 2] = ["00000500A4040000A5", "000002900092"];
+
+/// The host asks for time.
+const TIMED: [&str; 4] = [
+    "00000500A4040000A5",
+    "00C30101C3",
+    "00E30101E3",
+    "000002900092",
+];
+
+/// Fields of two octets to the terminal, and an answer in two blocks.
+const CHAINED: [&str; 6] = [
+    "00C10102C2",
+    "00E10102E2",
+    "00000500B0000002B7",
+    "002002AABB33",
+    "00900090",
+    "0040029000D2",
+];
+
+/// The most events of a session.
+const MOST_EVENTS: u32 = 200_000;
+
+/// The answer to reset of a card, and what the application and the card's host call, in their order.
+#[derive(Clone, Copy)]
+pub(super) struct Session<'a> {
+    pub(super) atr: &'a [u8],
+    pub(super) application: &'a [Event<'a>],
+    pub(super) host: &'a [Event<'a>],
+}
+
+/// A block to be disturbed, once: by its number on the line, from 1, or at its first sending.
+#[derive(Clone, Copy)]
+pub(super) struct Disturbance<'a> {
+    which: Which<'a>,
+    event: Event<'a>,
+    is_done: bool,
+}
+
+#[derive(Clone, Copy)]
+pub(super) enum Which<'a> {
+    Nth(u32),
+    First(&'a [u8]),
+}
+
+impl<'a> Disturbance<'a> {
+    pub(super) fn of(which: Which<'a>, event: Event<'a>) -> Disturbance<'a> {
+        Disturbance {
+            which,
+            event,
+            is_done: false,
+        }
+    }
+
+    fn hits(&self, number: u32, octets: &[u8]) -> bool {
+        match self.which {
+            Which::Nth(nth) => number == nth,
+            Which::First(first) => octets == first,
+        }
+    }
+}
+
+/// What happens to a block: the first disturbance that hits it, or it arrives.
+fn fate<'a>(disturbances: &mut [Disturbance<'a>], number: u32, octets: &[u8]) -> Event<'a> {
+    for disturbance in disturbances.iter_mut() {
+        if !disturbance.is_done && disturbance.hits(number, octets) {
+            disturbance.is_done = true;
+            return disturbance.event;
+        }
+    }
+    Event::Deliver
+}
+
+/// The record of a session: it ends where the application or the host has no more calls.
+pub(super) fn record(
+    alloc: Global,
+    session: Session<'_>,
+    disturbances: &mut [Disturbance<'_>],
+) -> Result<Exchange, Fail> {
+    let mut recorder = Recorder::new(alloc, session.atr).map_err(|_| "no recorder")?;
+    let mut application = session.application;
+    let mut host = session.host;
+    let mut number = 0u32;
+    for _ in 0..MOST_EVENTS {
+        let event = if let Some(block) = recorder.under_way() {
+            number = number.saturating_add(1);
+            fate(disturbances, number, encode(block).as_slice())
+        } else if *recorder.last() == LastTurn::Card(CardTurn::Asked) {
+            let [call, rest @ ..] = host else { break };
+            host = rest;
+            *call
+        } else {
+            let [call, rest @ ..] = application else {
+                break
+            };
+            application = rest;
+            *call
+        };
+        recorder.happens(event).map_err(|_| "an event was refused")?;
+    }
+    Ok(recorder.exchange()?)
+}
+
+/// How often an I-block brought the host a command.
+fn asked(lines: &[Line]) -> u32 {
+    let mut count = 0u32;
+    let mut is_info = false;
+    for line in lines {
+        if is_info && matches!(line, Line::Asked(_)) {
+            count = count.saturating_add(1);
+        }
+        is_info = match line {
+            Line::FromTerminal { sent, .. } => sent.get().get(1).is_some_and(|pcb| *pcb < 0x80),
+            _ => false,
+        };
+    }
+    count
+}
+
+/// Asserts that a record replays at both ends.
+pub(super) fn assert_replays(rt: &impl Abort, alloc: Global, exchange: &Exchange) {
+    for side in [Side::Terminal, Side::Card] {
+        let outcome = replay(alloc, exchange, side);
+        assert!(rt;
+            outcome == Ok(()),
+            "{outcome:?} at {side:?} of {exchange:?}"
+        );
+    }
+}
+
+/// Asserts that a record replays at both ends, brought the host one command, and ends with the answer.
+pub(super) fn assert_answered(rt: &impl Abort, alloc: Global, exchange: &Exchange, answer: &[u8]) {
+    assert_replays(rt, alloc, exchange);
+    let lines = exchange.lines().get();
+    assert_eq!(rt; asked(lines), 1, "{exchange:?}");
+    let is_answered = match lines.last() {
+        Some(Line::Answer(octets)) => octets.get() == answer,
+        _ => false,
+    };
+    assert!(rt; is_answered, "{exchange:?}");
+}
+
+/// Each way to disturb a block.
+pub(super) const WAYS: [Event<'static>; 3] = [Event::Lose, Event::Damage, Event::Spoil];
+
+/// Records a session with one of its blocks disturbed, for each block and each way.
+fn disturb_each(
+    rt: &impl Abort,
+    alloc: Global,
+    session: Session<'_>,
+    blocks: &[&str],
+    answer: &[u8],
+) -> Result<(), Fail> {
+    let exchange = record(alloc, session, &mut [])?;
+    assert_answered(rt, alloc, &exchange, answer);
+    for block in blocks {
+        let octets = octets_of(alloc, block)?;
+        for way in &WAYS {
+            let first = Disturbance::of(Which::First(octets.as_slice()), *way);
+            let exchange = record(alloc, session, &mut [first])?;
+            assert_answered(rt, alloc, &exchange, answer);
+        }
+    }
+    Ok(())
+}
+
+/// The same for each pair of its blocks.
+fn disturb_pairs(
+    rt: &impl Abort,
+    alloc: Global,
+    session: Session<'_>,
+    blocks: &[&str],
+    answer: &[u8],
+) -> Result<(), Fail> {
+    for block in blocks {
+        for other in blocks {
+            if block != other {
+                disturb_pair(rt, alloc, session, [*block, *other], answer)?;
+            }
+        }
+    }
+    Ok(())
+}
+
+/// The same for one pair.
+fn disturb_pair(
+    rt: &impl Abort,
+    alloc: Global,
+    session: Session<'_>,
+    blocks: [&str; 2],
+    answer: &[u8],
+) -> Result<(), Fail> {
+    let one = octets_of(alloc, blocks[0])?;
+    let other = octets_of(alloc, blocks[1])?;
+    for way in &WAYS {
+        for other_way in &WAYS {
+            let mut pair = [
+                Disturbance::of(Which::First(one.as_slice()), *way),
+                Disturbance::of(Which::First(other.as_slice()), *other_way),
+            ];
+            let exchange = record(alloc, session, &mut pair)?;
+            assert_answered(rt, alloc, &exchange, answer);
+        }
+    }
+    Ok(())
+}
+
+#[test]
+fn each_block_of_a_chained_session_disturbed(rt: HostRuntime) -> Result<(), Fail> {
+    let session = Session {
+        atr: &ATR,
+        application: &[Event::AskIfsd(2), Event::Transmit(&READ)],
+        host: &[Event::Reply(&DATA)],
+    };
+    disturb_each(&rt, rt.alloc(), session, &CHAINED, &DATA)
+}
+
+#[test]
+fn each_pair_of_blocks_of_short_sessions_disturbed(rt: HostRuntime) -> Result<(), Fail> {
+    let plain = Session {
+        atr: &ATR,
+        application: &[Event::Transmit(&SELECT)],
+        host: &[Event::Reply(&DONE)],
+    };
+    disturb_each(&rt, rt.alloc(), plain, &PLAIN, &DONE)?;
+    disturb_pairs(&rt, rt.alloc(), plain, &PLAIN, &DONE)?;
+    let timed = Session {
+        atr: &ATR,
+        application: &[Event::Transmit(&SELECT)],
+        host: &[Event::MoreTime(1), Event::Reply(&DONE)],
+    };
+    disturb_each(&rt, rt.alloc(), timed, &TIMED, &DONE)?;
+    disturb_pairs(&rt, rt.alloc(), timed, &TIMED, &DONE)
+}
+
+#[test]
+fn sessions_given_up(rt: HostRuntime) -> Result<(), Fail> {
+    let twice = Session {
+        atr: &ATR,
+        application: &[Event::Transmit(&SELECT), Event::Transmit(&SELECT)],
+        host: &[Event::Reply(&DONE)],
+    };
+    let mut losses = [
+        Disturbance::of(Which::Nth(2), Event::Lose),
+        Disturbance::of(Which::Nth(4), Event::Lose),
+        Disturbance::of(Which::Nth(6), Event::Lose),
+        Disturbance::of(Which::Nth(8), Event::Lose),
+    ];
+    let exchange = record(rt.alloc(), twice, &mut losses)?;
+    assert_replays(&rt, rt.alloc(), &exchange);
+    let expected = recorded(
+        rt.alloc(),
+        "scard-exchange 1",
+        "3B808131204555",
+        &[ACTED_ON],
+    )?;
+    assert!(rt;
+        exchange.lines().get() == expected.lines().get(),
+        "{exchange:?}"
+    );
+
+    let once = Session {
+        atr: &ATR,
+        application: &[Event::Transmit(&SELECT)],
+        host: &[Event::Reply(&DONE)],
+    };
+    let mut three = [
+        Disturbance::of(Which::Nth(1), Event::Damage),
+        Disturbance::of(Which::Nth(3), Event::Lose),
+        Disturbance::of(Which::Nth(7), Event::Lose),
+    ];
+    let exchange = record(rt.alloc(), once, &mut three)?;
+    assert_replays(&rt, rt.alloc(), &exchange);
+    assert!(rt;
+        matches!(exchange.lines().get().last(), Some(Line::GivenUp)),
+        "{exchange:?}"
+    );
+    Ok(())
+}
+
+#[test]
+fn events_that_are_refused(rt: HostRuntime) -> Result<(), Fail> {
+    let mut recorder = Recorder::new(rt.alloc(), &ATR).map_err(|_| "no recorder")?;
+    for event in [Event::Deliver, Event::Damage, Event::Spoil, Event::Lose] {
+        assert_eq!(rt; recorder.happens(event), Err(EventFault::NothingUnderWay));
+    }
+    let early = recorder.happens(Event::Reply(&DONE));
+    assert_eq!(rt; early, Err(EventFault::Card(CardFault::Order)));
+    assert_eq!(rt; recorder.happens(Event::Transmit(&SELECT)), Ok(()));
+    let again = recorder.happens(Event::Transmit(&SELECT));
+    assert_eq!(rt; again, Err(EventFault::Terminal(TerminalFault::Busy)));
+    assert!(rt; recorder.terminal().answer().is_none());
+    assert!(rt; recorder.card().command().is_none());
+    // the block under way at the end counts as lost
+    let exchange = recorder.exchange()?;
+    let texts = ["command 00A4040000", "t 00000500A4040000A5 lost"];
+    let expected = recorded(rt.alloc(), "scard-exchange 1", "3B808131204555", &texts)?;
+    assert!(rt;
+        exchange.lines().get() == expected.lines().get(),
+        "{exchange:?}"
+    );
+    assert_replays(&rt, rt.alloc(), &exchange);
+    Ok(())
+}
+
+#[test]
+fn answers_to_reset_that_are_refused(rt: HostRuntime) -> Result<(), Fail> {
+    let rows = [
+        ("3B00", "NoT1"),
+        ("3B808111FFEF", "ReservedIfsc"),
+        ("3B8081410141", "Crc"),
+        ("3B808131204554", "BadAtr"),
+    ];
+    for (atr, name) in &rows {
+        let atr = octets_of(rt.alloc(), atr)?;
+        let is_named = match Recorder::new(rt.alloc(), atr.as_slice()) {
+            Err(RecorderFault::Refused(given)) => given == *name,
+            _ => false,
+        };
+        assert!(rt; is_named, "another outcome than {name}");
+    }
+    Ok(())
+}

@@ -1,0 +1,90 @@
+//! Parts of forests, and the octets that are lent with them.
+
+use tlv_core::{FlatForest, Form, LARGEST_FOREST, TlvReason};
+use octet_core::{Refused, Stop, hex_upper, octets_of};
+use std::alloc::Global;
+use std::process::Abort;
+use std::test::Fail;
+
+/// What is wanted of a part: its depth, its tag, and the place of its value with its octets.
+type Wanted = (usize, &'static str, usize, &'static str);
+
+/// Whether the parts of a forest are these.
+fn check_parts(alloc: Global, rt: &impl Abort, text: &str, wanted: &[Wanted]) -> Result<(), Fail> {
+    let octets = octets_of(alloc, text)?;
+    let flat = FlatForest::read(alloc, octets.as_slice(), LARGEST_FOREST)
+        .ok()
+        .ok_or("a forest")?;
+    assert_eq!(rt; flat.parts().len(), wanted.len(), "{text}");
+    for (part, (depth, tag, place, value)) in flat.parts().iter().zip(wanted) {
+        assert_eq!(rt; part.depth, *depth, "{text}");
+        assert_eq!(rt; hex_upper(alloc, part.tag.octets())?.as_str(), *tag);
+        assert_eq!(rt; hex_upper(alloc, part.value)?.as_str(), *value);
+        let rest = octets.as_slice().get(*place..).ok_or("a place")?;
+        assert!(rt; rest.starts_with(part.value), "{text} at {place}");
+    }
+    Ok(())
+}
+
+#[test]
+fn parts_are_in_preorder(rt: HostRuntime) -> Result<(), Fail> {
+    check_parts(
+        rt.alloc(),
+        &rt,
+        "6F108407A0000000041010A505BF0C025000",
+        &[
+            (1, "6F", 2, "8407A0000000041010A505BF0C025000"),
+            (2, "84", 4, "A0000000041010"),
+            (2, "A5", 13, "BF0C025000"),
+            (3, "BF0C", 16, "5000"),
+            (4, "50", 18, ""),
+        ],
+    )?;
+    check_parts(rt.alloc(), &rt, "", &[])?;
+    check_parts(rt.alloc(), &rt, "0000", &[])?;
+    check_parts(
+        rt.alloc(),
+        &rt,
+        "700200005A0112",
+        &[(1, "70", 2, "0000"), (1, "5A", 6, "12")],
+    )
+}
+
+#[test]
+fn fillers_are_no_parts(rt: HostRuntime) -> Result<(), Fail> {
+    check_parts(rt.alloc(), &rt, "00005A81011200", &[(1, "5A", 5, "12")])?;
+    let octets = octets_of(rt.alloc(), "00005A81011200")?;
+    let flat = FlatForest::read(rt.alloc(), octets.as_slice(), LARGEST_FOREST)
+        .ok()
+        .ok_or("a forest")?;
+    for part in flat.parts() {
+        assert_eq!(rt; part.form, Form::Two);
+    }
+    Ok(())
+}
+
+#[test]
+fn other_octets_have_no_parts(rt: HostRuntime) -> Result<(), Fail> {
+    for (text, stop) in [
+        ("5A02", Stop::Short { place: 2 }),
+        (
+            "70035A0201",
+            Stop::At {
+                place: 3,
+                reason: TlvReason::Overrun,
+            },
+        ),
+        (
+            "5A8401",
+            Stop::At {
+                place: 2,
+                reason: TlvReason::TooLong,
+            },
+        ),
+    ] {
+        let octets = octets_of(rt.alloc(), text)?;
+        let refused = FlatForest::read(rt.alloc(), octets.as_slice(), LARGEST_FOREST).err();
+        assert_eq!(rt; refused, Some(Refused::Stop(stop)), "{text}");
+    }
+    Ok(())
+}

@@ -1,0 +1,156 @@
+//! Forests that come in pieces.
+
+use tlv_core::{
+    Forest, ForestCheck, ForestReader, Form, LARGEST_FOREST, Node, Nodes, Tag, TlvReason, decode,
+    encode, tidy,
+};
+use octet_core::{Octets, Refused, Stop, hex_upper, octets_of};
+use std::test::Fail;
+
+#[test]
+fn pieces_are_joined(rt: HostRuntime) -> Result<(), Fail> {
+    let overrun = Err(Stop::At {
+        place: 5,
+        reason: TlvReason::Overrun,
+    });
+    let mut check = ForestCheck::new(65_536);
+    for piece in [&[0x6F][..], &[], &[0x04], &[0xA5, 0x02]] {
+        assert_eq!(rt; check.feed(piece), Ok(()));
+    }
+    assert_eq!(rt; check.finish(), Err(Stop::Short { place: 4 }));
+    assert_eq!(rt; check.feed(&[0x5A, 0x01]), overrun);
+    assert_eq!(rt; check.feed(&[0x00]), overrun);
+    assert_eq!(rt; check.finish(), overrun);
+    Ok(())
+}
+
+#[test]
+fn trees_are_read_in_pieces(rt: HostRuntime) -> Result<(), Fail> {
+    let text = "006F108407A0000000041010A505BF0C025000005A81011200";
+    let octets = octets_of(rt.alloc(), text)?;
+    for step in 1..octets.len() + 1 {
+        let mut reader = ForestReader::new(rt.alloc(), LARGEST_FOREST)?;
+        for piece in octets.as_slice().chunks(step) {
+            assert_eq!(rt; reader.feed(piece), Ok(()));
+        }
+        let forest = reader.finish().ok().ok_or("a forest")?;
+        assert_eq!(rt; forest.nodes().get().len(), 5);
+        let spelled = encode(rt.alloc(), &forest)?;
+        assert_eq!(rt; hex_upper(rt.alloc(), spelled.as_slice())?.as_str(), text);
+    }
+    Ok(())
+}
+
+#[test]
+fn a_reader_goes_on_after_want_of_memory(rt: HostRuntime) -> Result<(), Fail> {
+    let text = "006F108407A0000000041010A505BF0C025000005A81011200";
+    let octets = octets_of(rt.alloc(), text)?;
+    let mut reader = ForestReader::new(rt.alloc(), LARGEST_FOREST)?;
+    let mut rest = octets.as_slice();
+    let mut fed = reader.feed(rest);
+    for _ in 0..4_u32 {
+        if let Err((taken, Refused::Memory)) = fed {
+            rest = rest.get(taken..).ok_or("octets")?;
+            fed = reader.feed(rest);
+        }
+    }
+    assert_eq!(rt; fed, Ok(()));
+    let forest = reader.finish().ok().ok_or("a forest")?;
+    let spelled = encode(rt.alloc(), &forest)?;
+    assert_eq!(rt; hex_upper(rt.alloc(), spelled.as_slice())?.as_str(), text);
+    Ok(())
+}
+
+#[test]
+fn overruns_are_repeated(rt: HostRuntime) -> Result<(), Fail> {
+    let stop = Stop::At {
+        place: 3,
+        reason: TlvReason::Overrun,
+    };
+    let mut reader = ForestReader::new(rt.alloc(), LARGEST_FOREST)?;
+    for piece in [&[0x70][..], &[0x03, 0x5A], &[]] {
+        assert_eq!(rt; reader.feed(piece), Ok(()));
+    }
+    assert_eq!(rt; reader.feed(&[0x02, 0x01]), Err((0, Refused::Stop(stop))));
+    assert_eq!(rt; reader.feed(&[0x00]), Err((0, Refused::Stop(stop))));
+    assert_eq!(rt; reader.finish().err(), Some(stop));
+    Ok(())
+}
+
+#[test]
+fn octets_before_a_refusal_are_counted(rt: HostRuntime) -> Result<(), Fail> {
+    let stop = Stop::At {
+        place: 3,
+        reason: TlvReason::Overrun,
+    };
+    let mut reader = ForestReader::new(rt.alloc(), LARGEST_FOREST)?;
+    assert_eq!(rt; reader.feed(&[0x70]), Ok(()));
+    assert_eq!(rt;
+        reader.feed(&[0x03, 0x5A, 0x02, 0x01]),
+        Err((2, Refused::Stop(stop)))
+    );
+    let reader = ForestReader::new(rt.alloc(), LARGEST_FOREST)?;
+    assert!(rt; reader.finish().is_ok());
+    let mut reader = ForestReader::new(rt.alloc(), LARGEST_FOREST)?;
+    assert_eq!(rt; reader.feed(&[0x5A, 0x02, 0x00]), Ok(()));
+    assert_eq!(rt; reader.finish().err(), Some(Stop::Short { place: 3 }));
+    Ok(())
+}
+
+#[test]
+fn seventeen_levels_are_too_deep(rt: HostRuntime) -> Result<(), Fail> {
+    let text = "7020701E701C701A70187016701470127010700E700C700A70087006700470027000";
+    let octets = octets_of(rt.alloc(), text)?;
+    let mut reader = ForestReader::new(rt.alloc(), LARGEST_FOREST)?;
+    let stop = Stop::At {
+        place: 32,
+        reason: TlvReason::TooDeep,
+    };
+    for (place, octet) in octets.as_slice().iter().enumerate() {
+        let wanted = if place < 32 {
+            Ok(())
+        } else {
+            Err((0, Refused::Stop(stop)))
+        };
+        assert_eq!(rt; reader.feed(&[*octet]), wanted, "{place}");
+    }
+    assert_eq!(rt; reader.finish().err(), Some(stop));
+    Ok(())
+}
+
+#[test]
+fn a_value_of_65536_octets_comes_back(rt: HostRuntime) -> Result<(), Fail> {
+    let mut value = Vec::new(rt.alloc());
+    for _ in 0..65_536_u32 {
+        value.push(0x12_u8)?;
+    }
+    let mut list = Vec::new(rt.alloc());
+    list.push(Node::Primitive {
+        tag: Tag::new(&[0x5A]).ok_or("a tag")?,
+        form: Form::Five,
+        value: Octets::of(value),
+    })?;
+    let forest = Forest::new(Nodes::of(list)).ok().ok_or("a forest")?;
+    let octets = encode(rt.alloc(), &tidy(rt.alloc(), &forest)?)?;
+    assert_eq!(rt; octets.len(), 65_541);
+    assert!(rt;
+        octets
+            .as_slice()
+            .starts_with(&[0x5A, 0x83, 0x01, 0x00, 0x00, 0x12])
+    );
+    let forest = decode(rt.alloc(), octets.as_slice(), LARGEST_FOREST)
+        .ok()
+        .ok_or("a forest")?;
+    let back = match forest.nodes().get() {
+        [
+            Node::Primitive {
+                tag: _,
+                form,
+                value,
+            },
+        ] => { *form == Form::Four && value.get().len() == 65_536 }
+        _ => false,
+    };
+    assert!(rt; back);
+    Ok(())
+}
