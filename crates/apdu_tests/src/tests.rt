@@ -11,6 +11,7 @@ use block_core::Number;
 use chain_core::ChainReason;
 use octet_core::{After, Counted, Feeder, Octets, Refused, Source, Stop, Taker, octets_of};
 use std::test::Fail;
+use testing::same;
 
 const SELECT: [u8; 4] = [0x00, 0xA4, 0x04, 0x00];
 
@@ -94,9 +95,9 @@ fn commands_that_are_lent(rt: HostRuntime) -> Result<(), Fail> {
         let octets = octets_of(rt.alloc(), text)?;
         let part = octets_of(rt.alloc(), part)?;
         let lent = CommandRef::decode(octets.as_slice())?;
-        assert_eq!(rt; lent.shape(), shape, "{text}");
+        assert!(rt; same(lent.shape(), shape), "{text}");
         assert!(rt; lent.part() == part.as_slice(), "{text}");
-        assert_eq!(rt; lent.le(), le, "{text}");
+        assert!(rt; same(lent.le(), le), "{text}");
     }
     Ok(())
 }
@@ -106,44 +107,44 @@ fn the_part_stands_behind_its_length(rt: HostRuntime) -> Result<(), Fail> {
     let octets = octets_of(rt.alloc(), "00A4040007A000000004101000")?;
     let lent = CommandRef::decode(octets.as_slice())?;
     assert!(rt; octets.get(5..12) == Some(lent.part()));
-    assert_eq!(rt; lent.le(), Some(256));
+    assert!(rt; same(lent.le(), Some(256)));
     Ok(())
 }
 
 #[test]
 fn octets_that_are_no_command(rt: HostRuntime) -> Result<(), Fail> {
-    for (text, place) in [
+    const ROWS: [(&str, usize); 4] = [
         ("", 0),
         ("00A404", 3),
         ("00B000000000", 6),
         ("00D60000000002010200", 10),
-    ] {
+    ];
+    for (text, place) in ROWS {
         let octets = octets_of(rt.alloc(), text)?;
         let stop = Stop::Short { place };
-        assert_eq!(rt;
-            CommandRef::decode(octets.as_slice()).err(),
-            Some(stop),
+        assert!(rt;
+            same(CommandRef::decode(octets.as_slice()).err(), Some(stop)),
             "{text}"
         );
         let refused = decode_command(rt.alloc(), octets.as_slice()).err();
-        assert_eq!(rt; refused, Some(Refused::Stop(stop)), "{text}");
+        assert!(rt; same(refused, Some(Refused::Stop(stop))), "{text}");
     }
-    for (text, place) in [
+    const MORE: [(&str, usize); 4] = [
         ("00B0000000000000", 7),
         ("00A4040007A00000000410100000", 13),
         ("00D600000000020102000000", 11),
         ("00D60000000000AA", 7),
-    ] {
+    ];
+    for (text, place) in MORE {
         let octets = octets_of(rt.alloc(), text)?;
         let reason = CommandReason::Trailing;
         let stop = Stop::At { place, reason };
-        assert_eq!(rt;
-            CommandRef::decode(octets.as_slice()).err(),
-            Some(stop),
+        assert!(rt;
+            same(CommandRef::decode(octets.as_slice()).err(), Some(stop)),
             "{text}"
         );
         let refused = decode_command(rt.alloc(), octets.as_slice()).err();
-        assert_eq!(rt; refused, Some(Refused::Stop(stop)), "{text}");
+        assert!(rt; same(refused, Some(Refused::Stop(stop))), "{text}");
     }
     Ok(())
 }
@@ -171,9 +172,9 @@ fn responses(rt: HostRuntime) -> Result<(), Fail> {
     let octets = octets_of(rt.alloc(), "6F009000")?;
     let lent = ResponseRef::decode(octets.as_slice())?;
     assert!(rt; lent.part() == [0x6F, 0x00].as_slice());
-    assert_eq!(rt; (lent.sw1(), lent.sw2()), (0x90, 0x00));
+    assert!(rt; same((lent.sw1(), lent.sw2()), (0x90, 0x00)));
     let response = decode_response(rt.alloc(), octets.as_slice())?;
-    assert_eq!(rt; (response.sw1(), response.sw2()), (0x90, 0x00));
+    assert!(rt; same((response.sw1(), response.sw2()), (0x90, 0x00)));
     let spelled = encode_response(rt.alloc(), &response)?;
     assert!(rt; spelled.as_slice() == octets.as_slice());
     let part = Octets::of(octets_of(rt.alloc(), "6F00")?);
@@ -184,18 +185,20 @@ fn responses(rt: HostRuntime) -> Result<(), Fail> {
 
 #[test]
 fn octets_that_are_no_response(rt: HostRuntime) -> Result<(), Fail> {
-    assert_eq!(rt;
-        ResponseRef::decode(&[0x90]).err(),
-        Some(Stop::Short { place: 1 })
+    assert!(rt;
+        same(
+            ResponseRef::decode(&[0x90]).err(),
+            Some(Stop::Short { place: 1 })
+        )
     );
     let octets = vec![in rt.alloc(); 0u8; 65_539]?;
     let stop = Stop::At {
         place: 65_538,
         reason: ResponseReason::TooLong,
     };
-    assert_eq!(rt; ResponseRef::decode(octets.as_slice()).err(), Some(stop));
+    assert!(rt; same(ResponseRef::decode(octets.as_slice()).err(), Some(stop)));
     let refused = decode_response(rt.alloc(), octets.as_slice()).err();
-    assert_eq!(rt; refused, Some(Refused::Stop(stop)));
+    assert!(rt; same(refused, Some(Refused::Stop(stop))));
     let part = Octets::of(vec![in rt.alloc(); 0u8; 65_537]?);
     assert!(rt; Response::new(part, 0x90, 0x00).is_err());
     Ok(())
@@ -205,13 +208,13 @@ fn octets_that_are_no_response(rt: HostRuntime) -> Result<(), Fail> {
 fn the_longest_response(rt: HostRuntime) -> Result<(), Fail> {
     let octets = vec![in rt.alloc(); 0x90u8; 65_538]?;
     let response = decode_response(rt.alloc(), octets.as_slice())?;
-    assert_eq!(rt; response.part().len(), 65_536);
+    assert!(rt; same(response.part().len(), 65_536));
     Ok(())
 }
 
 #[test]
 fn classes_of_status_bytes(rt: HostRuntime) {
-    for (sw1, sw2, class) in [
+    const ROWS: [(u8, u8, StatusClass); 8] = [
         (0x90, 0x00, StatusClass::Normal),
         (0x61, 0x10, StatusClass::Normal),
         (0x62, 0x83, StatusClass::Warning),
@@ -220,8 +223,9 @@ fn classes_of_status_bytes(rt: HostRuntime) {
         (0x91, 0x01, StatusClass::Proprietary),
         (0x60, 0x00, StatusClass::Invalid),
         (0x70, 0x00, StatusClass::Invalid),
-    ] {
-        assert_eq!(rt; status_class(sw1, sw2), class, "{sw1:02X}{sw2:02X}");
+    ];
+    for (sw1, sw2, class) in ROWS {
+        assert!(rt; same(status_class(sw1, sw2), class), "{sw1:02X}{sw2:02X}");
     }
 }
 
@@ -230,7 +234,7 @@ fn a_command_is_sent(rt: HostRuntime) -> Result<(), Fail> {
     let command = Command::new(SELECT, Body::ShortLe { le: 256 })?;
     let mut writer = Counted::new(Taker::new(4096, 7, After::Fails));
     let sent = send_command(rt.alloc(), &mut writer, &command, 2, Number::Zero);
-    assert_eq!(rt; sent, Ok(()));
+    assert!(rt; same(sent, Ok(())));
     assert!(rt; writer.into_inner().kept() == SELECT_CHAIN.as_slice());
     Ok(())
 }
@@ -240,7 +244,7 @@ fn a_response_is_sent(rt: HostRuntime) -> Result<(), Fail> {
     let response = Response::new(octets(&rt, "")?, 0x90, 0x00)?;
     let mut writer = Counted::new(Taker::new(4096, 7, After::Fails));
     let sent = send_response(rt.alloc(), &mut writer, &response, 254, Number::Zero);
-    assert_eq!(rt; sent, Ok(()));
+    assert!(rt; same(sent, Ok(())));
     assert!(rt; writer.into_inner().kept() == DONE_CHAIN.as_slice());
     Ok(())
 }
@@ -249,17 +253,18 @@ fn a_response_is_sent(rt: HostRuntime) -> Result<(), Fail> {
 fn sent_to_a_writer_that_fails(rt: HostRuntime) -> Result<(), Fail> {
     let command = Command::new(SELECT, Body::ShortLe { le: 256 })?;
     let response = Response::new(octets(&rt, "")?, 0x90, 0x00)?;
-    for after in [After::End, After::Fails, After::Interrupted] {
+    const ROWS: [After; 3] = [After::End, After::Fails, After::Interrupted];
+    for after in ROWS {
         for written in 0..SELECT_CHAIN.len() {
             let mut writer = Counted::new(Taker::new(written, 1, after));
             let sent = send_command(rt.alloc(), &mut writer, &command, 2, Number::Zero);
-            assert_eq!(rt; sent, Err(SendFault::Write { written }));
+            assert!(rt; same(sent, Err(SendFault::Write { written })));
             assert!(rt; writer.into_inner().kept() == &SELECT_CHAIN[..written]);
         }
         for written in 0..DONE_CHAIN.len() {
             let mut writer = Counted::new(Taker::new(written, 4096, after));
             let sent = send_response(rt.alloc(), &mut writer, &response, 254, Number::Zero);
-            assert_eq!(rt; sent, Err(SendFault::Write { written }));
+            assert!(rt; same(sent, Err(SendFault::Write { written })));
             assert!(rt; writer.into_inner().kept() == &DONE_CHAIN[..written]);
         }
     }
@@ -275,7 +280,8 @@ fn is_left(reader: &mut Counted<Feeder>) -> bool {
 #[test]
 fn a_command_is_received(rt: HostRuntime) -> Result<(), Fail> {
     let octets = octets_of(rt.alloc(), "00200200A4860060020400660000010001FF")?;
-    for step in [1, 2, 4096] {
+    const ROWS: [usize; 3] = [1, 2, 4096];
+    for step in ROWS {
         let mut reader = Counted::new(Feeder::new(octets.as_slice(), step, After::End));
         let command = receive_command(rt.alloc(), &mut reader, 2, Number::Zero)?;
         assert!(rt; command == Command::new(SELECT, Body::ShortLe { le: 256 })?);
@@ -318,18 +324,18 @@ fn received_from_a_reader_that_fails_or_ends(rt: HostRuntime) {
         for after in [After::Fails, After::Interrupted] {
             let mut reader = Counted::new(Feeder::new(front, 2, after));
             let fault = receive_command(rt.alloc(), &mut reader, 2, Number::Zero).err();
-            assert_eq!(rt; fault, Some(ReceiveFault::Read { taken }));
+            assert!(rt; same(fault, Some(ReceiveFault::Read { taken })));
         }
         let mut reader = Counted::new(Feeder::new(front, 2, After::End));
         let fault = receive_command(rt.alloc(), &mut reader, 2, Number::Zero).err();
         let short = Stop::Short { place: taken };
-        assert_eq!(rt; fault, Some(ReceiveFault::Chain(short)));
+        assert!(rt; same(fault, Some(ReceiveFault::Chain(short))));
     }
     for taken in 0..DONE_CHAIN.len() {
         let front = &DONE_CHAIN[..taken];
         let mut reader = Counted::new(Feeder::new(front, 1, After::Fails));
         let fault = receive_response(rt.alloc(), &mut reader, 254, Number::Zero).err();
-        assert_eq!(rt; fault, Some(ReceiveFault::Read { taken }));
+        assert!(rt; same(fault, Some(ReceiveFault::Read { taken })));
     }
 }
 
@@ -339,13 +345,13 @@ fn chains_that_carry_no_apdu(rt: HostRuntime) -> Result<(), Fail> {
     let mut reader = Counted::new(Feeder::new(octets.as_slice(), 4096, After::End));
     let fault = receive_command(rt.alloc(), &mut reader, 254, Number::Zero).err();
     let short = Stop::Short { place: 2 };
-    assert_eq!(rt; fault, Some(ReceiveFault::Apdu(short)));
+    assert!(rt; same(fault, Some(ReceiveFault::Apdu(short))));
     assert!(rt; is_left(&mut reader));
     let octets = octets_of(rt.alloc(), "0000019091FF")?;
     let mut reader = Counted::new(Feeder::new(octets.as_slice(), 4096, After::End));
     let fault = receive_response(rt.alloc(), &mut reader, 254, Number::Zero).err();
     let short = Stop::Short { place: 1 };
-    assert_eq!(rt; fault, Some(ReceiveFault::Apdu(short)));
+    assert!(rt; same(fault, Some(ReceiveFault::Apdu(short))));
     assert!(rt; is_left(&mut reader));
     let mut reader = Counted::new(Feeder::new(&[0x00, 0x40], 4096, After::End));
     let fault = receive_command(rt.alloc(), &mut reader, 254, Number::Zero).err();
@@ -353,6 +359,6 @@ fn chains_that_carry_no_apdu(rt: HostRuntime) -> Result<(), Fail> {
         place: 1,
         reason: ChainReason::BadSequence,
     };
-    assert_eq!(rt; fault, Some(ReceiveFault::Chain(refused)));
+    assert!(rt; same(fault, Some(ReceiveFault::Chain(refused))));
     Ok(())
 }

@@ -1,4 +1,4 @@
-//! The tests of [`atr_core`]: what no clause says. They are apart from it, so that the gate proves it once.
+//! The tests of [`atr_core`], apart from it so that the gate proves it once.
 #![tactic(auto)]
 
 #[cfg(test)]

@@ -8,6 +8,7 @@ use atr_core::{
 use arrayvec::ArrayVec;
 use octet_core::Stop;
 use std::test::Fail;
+use testing::same;
 
 /// T=0 and T=1, fifteen historical bytes and TCK; the octet FF is left.
 const BOTH_PROTOCOLS: &[u8] =
@@ -47,7 +48,7 @@ fn accepted_octets(rt: HostRuntime) -> Result<(), Fail> {
         (b"\x3B\x80\x00\x80".as_slice(), 3),
     ] {
         let (atr, count) = decode(octets)?;
-        assert_eq!(rt; count, taken);
+        assert!(rt; same(count, taken));
         assert!(rt; octets.len() >= taken);
         assert!(rt; encode(&atr).as_slice() == &octets[..taken]);
     }
@@ -96,23 +97,23 @@ fn refused_octets(rt: HostRuntime) {
             },
         ),
     ] {
-        assert_eq!(rt; decode(octets).err(), Some(stop));
+        assert!(rt; same(decode(octets).err(), Some(stop)));
     }
 }
 
 #[test]
 fn fields_of_an_answer(rt: HostRuntime) -> Result<(), Fail> {
     let (atr, _) = decode(BOTH_PROTOCOLS)?;
-    assert_eq!(rt; atr.convention(), Convention::Direct);
-    assert_eq!(rt; atr.first(), Interface::default());
-    assert_eq!(rt; atr.indicated().len(), 2);
-    assert_eq!(rt; atr.historical().len(), 15);
-    assert_eq!(rt; atr.tck(), Some(0x6A));
+    assert!(rt; same(atr.convention(), Convention::Direct));
+    assert!(rt; same(atr.first(), Interface::default()));
+    assert!(rt; same(atr.indicated().len(), 2));
+    assert!(rt; same(atr.historical().len(), 15));
+    assert!(rt; same(atr.tck(), Some(0x6A)));
     let (atr, _) = decode(b"\x3F\x80\x01\x81")?;
-    assert_eq!(rt; atr.convention(), Convention::Inverse);
+    assert!(rt; same(atr.convention(), Convention::Inverse));
     let (atr, _) = decode(b"\x3B\x10\x97")?;
-    assert_eq!(rt; atr.first().ta, Some(0x97));
-    assert_eq!(rt; atr.tck(), None);
+    assert!(rt; same(atr.first().ta, Some(0x97)));
+    assert!(rt; same(atr.tck(), None));
     Ok(())
 }
 
@@ -142,7 +143,7 @@ fn parameters_of_t1(rt: HostRuntime) -> Result<(), Fail> {
     ] {
         let (atr, _) = decode(octets)?;
         let found = t1_params(&atr).map(|p| (p.ifsc(), p.bwi(), p.cwi()));
-        assert_eq!(rt; found, params);
+        assert!(rt; same(found, params));
     }
     Ok(())
 }
@@ -150,10 +151,10 @@ fn parameters_of_t1(rt: HostRuntime) -> Result<(), Fail> {
 #[test]
 fn ranges_of_parameters(rt: HostRuntime) {
     assert!(rt; T1Params::new(254, 15, 15).is_some());
-    assert_eq!(rt; T1Params::new(0, 4, 13), None);
-    assert_eq!(rt; T1Params::new(255, 4, 13), None);
-    assert_eq!(rt; T1Params::new(32, 16, 13), None);
-    assert_eq!(rt; T1Params::new(32, 4, 16), None);
+    assert!(rt; same(T1Params::new(0, 4, 13), None));
+    assert!(rt; same(T1Params::new(255, 4, 13), None));
+    assert!(rt; same(T1Params::new(32, 16, 13), None));
+    assert!(rt; same(T1Params::new(32, 4, 16), None));
 }
 
 #[test]
@@ -166,7 +167,7 @@ fn rates_of_answers(rt: HostRuntime) -> Result<(), Fail> {
         (b"\x3B\x10\xE0".as_slice(), (None, None)),
     ] {
         let (atr, _) = decode(octets)?;
-        assert_eq!(rt; rates(&atr), expected);
+        assert!(rt; same(rates(&atr), expected));
     }
     Ok(())
 }
@@ -205,15 +206,15 @@ fn answers_of_parts(rt: HostRuntime) -> Result<(), Fail> {
 #[test]
 fn fed_in_pieces(rt: HostRuntime) {
     let mut reader = AtrReader::new();
-    assert_eq!(rt; reader.finish(), Err(Stop::Short { place: 0 }));
-    assert_eq!(rt; reader.feed(b"\x3B"), Ok((1, false)));
-    assert_eq!(rt; reader.feed(b""), Ok((0, false)));
-    assert_eq!(rt; reader.feed(b"\x80\x81\x31\x20\x45"), Ok((5, false)));
-    assert_eq!(rt; reader.finish(), Err(Stop::Short { place: 6 }));
+    assert!(rt; same(reader.finish(), Err(Stop::Short { place: 0 })));
+    assert!(rt; same(reader.feed(b"\x3B"), Ok((1, false))));
+    assert!(rt; same(reader.feed(b""), Ok((0, false))));
+    assert!(rt; same(reader.feed(b"\x80\x81\x31\x20\x45"), Ok((5, false))));
+    assert!(rt; same(reader.finish(), Err(Stop::Short { place: 6 })));
     assert!(rt; reader.value().is_none());
-    assert_eq!(rt; reader.feed(b"\x55\x00"), Ok((1, true)));
-    assert_eq!(rt; reader.feed(b"\x00"), Ok((0, true)));
-    assert_eq!(rt; reader.finish(), Ok(()));
+    assert!(rt; same(reader.feed(b"\x55\x00"), Ok((1, true))));
+    assert!(rt; same(reader.feed(b"\x00"), Ok((0, true))));
+    assert!(rt; same(reader.finish(), Ok(())));
     let octets = reader.value().map(encode).expect(&rt, "an answer");
     assert!(rt; octets.as_slice() == T1_CARD);
 }
@@ -225,14 +226,14 @@ fn a_refusal_is_kept_until_reset(rt: HostRuntime) {
         reason: AtrReason::BadTck,
     };
     let mut reader = AtrReader::new();
-    assert_eq!(rt; reader.feed(b"\x3B\x80\x81\x31\x20\x45"), Ok((6, false)));
-    assert_eq!(rt; reader.feed(b"\x54"), Err(refusal));
-    assert_eq!(rt; reader.feed(b"\x55"), Err(refusal));
-    assert_eq!(rt; reader.finish(), Err(refusal));
+    assert!(rt; same(reader.feed(b"\x3B\x80\x81\x31\x20\x45"), Ok((6, false))));
+    assert!(rt; same(reader.feed(b"\x54"), Err(refusal)));
+    assert!(rt; same(reader.feed(b"\x55"), Err(refusal)));
+    assert!(rt; same(reader.finish(), Err(refusal)));
     assert!(rt; reader.value().is_none());
     reader.reset();
-    assert_eq!(rt; reader.finish(), Err(Stop::Short { place: 0 }));
-    assert_eq!(rt; reader.feed(b"\x3F\x00\x00"), Ok((2, true)));
+    assert!(rt; same(reader.finish(), Err(Stop::Short { place: 0 })));
+    assert!(rt; same(reader.feed(b"\x3F\x00\x00"), Ok((2, true))));
 }
 
 #[test]
@@ -240,22 +241,22 @@ fn each_cut_of_an_answer_in_two(rt: HostRuntime) {
     for place in 0..T1_CARD.len() {
         let (front, rest) = T1_CARD.split_at(place);
         let mut reader = AtrReader::new();
-        assert_eq!(rt; reader.feed(front), Ok((front.len(), false)));
-        assert_eq!(rt; reader.feed(rest), Ok((rest.len(), true)));
+        assert!(rt; same(reader.feed(front), Ok((front.len(), false))));
+        assert!(rt; same(reader.feed(rest), Ok((rest.len(), true))));
     }
 }
 
 #[test]
 fn waiting_times(rt: HostRuntime) {
     let first = T1Params::new(32, 4, 13).expect(&rt, "parameters");
-    assert_eq!(rt; first.cwt_etu(), 8_203);
-    assert_eq!(rt; first.bwt_cycles(), 5_713_920);
-    assert_eq!(rt; first.bwt(372, 1), 15_371 * 372);
+    assert!(rt; same(first.cwt_etu(), 8_203));
+    assert!(rt; same(first.bwt_cycles(), 5_713_920));
+    assert!(rt; same(first.bwt(372, 1), 15_371 * 372));
     let least = T1Params::new(32, 0, 0).expect(&rt, "parameters");
-    assert_eq!(rt; least.cwt_etu(), 12);
-    assert_eq!(rt; least.bwt(372, 1), 971 * 372);
-    assert_eq!(rt; least.bwt(512, 8), 11 * 512 + 357_120 * 8);
+    assert!(rt; same(least.cwt_etu(), 12));
+    assert!(rt; same(least.bwt(372, 1), 971 * 372));
+    assert!(rt; same(least.bwt(512, 8), 11 * 512 + 357_120 * 8));
     let greatest = T1Params::new(32, 9, 15).expect(&rt, "parameters");
-    assert_eq!(rt; greatest.cwt_etu(), 32_779);
-    assert_eq!(rt; greatest.bwt(372, 1), 491_531 * 372);
+    assert!(rt; same(greatest.cwt_etu(), 32_779));
+    assert!(rt; same(greatest.bwt(372, 1), 491_531 * 372));
 }

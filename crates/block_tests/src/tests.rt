@@ -6,6 +6,7 @@ use block_core::{
     Block, BlockReader, BlockReason, BlockRef, Fault, LONGEST_BLOCK, Number, Pcb, S, decode, encode,
 };
 use octet_core::Stop;
+use testing::same;
 
 /// What `decode` answers under an information size of 254: the octets taken, or the refusal.
 fn verdict(octets: &[u8]) -> Result<usize, Stop<BlockReason>> {
@@ -30,62 +31,72 @@ fn short(place: usize) -> Result<usize, Stop<BlockReason>> {
 #[test]
 fn information_blocks(rt: HostRuntime) {
     let select = [0x00, 0x00, 0x05, 0x00, 0xA4, 0x04, 0x00, 0x00, 0xA5];
-    assert_eq!(rt; verdict(&select), Ok(9));
+    assert!(rt; same(verdict(&select), Ok(9)));
     let damaged = [0x00, 0x00, 0x05, 0x00, 0xA4, 0x04, 0x00, 0x00, 0xA4];
-    assert_eq!(rt; verdict(&damaged), at(8, BlockReason::BadLrc));
-    assert_eq!(rt; verdict(&[]), short(0));
-    assert_eq!(rt; verdict(&[0x00, 0x00]), short(2));
-    assert_eq!(rt; verdict(&[0x00, 0x00, 0xFF]), at(2, BlockReason::BadLen));
-    assert_eq!(rt;
-        verdict_under(&[0x00, 0x00, 0x21], 32),
-        at(2, BlockReason::OverIfs)
+    assert!(rt; same(verdict(&damaged), at(8, BlockReason::BadLrc)));
+    assert!(rt; same(verdict(&[]), short(0)));
+    assert!(rt; same(verdict(&[0x00, 0x00]), short(2)));
+    assert!(rt; same(verdict(&[0x00, 0x00, 0xFF]), at(2, BlockReason::BadLen)));
+    assert!(rt;
+        same(
+            verdict_under(&[0x00, 0x00, 0x21], 32),
+            at(2, BlockReason::OverIfs)
+        )
     );
-    assert_eq!(rt;
-        verdict_under(&[0x00, 0x00, 0xFF], 32),
-        at(2, BlockReason::BadLen)
+    assert!(rt;
+        same(
+            verdict_under(&[0x00, 0x00, 0xFF], 32),
+            at(2, BlockReason::BadLen)
+        )
     );
     // What follows a block stays where it is.
-    assert_eq!(rt; verdict(&[0x00, 0x40, 0x00, 0x40, 0xFF]), Ok(4));
+    assert!(rt; same(verdict(&[0x00, 0x40, 0x00, 0x40, 0xFF]), Ok(4)));
 }
 
 #[test]
 fn other_blocks(rt: HostRuntime) {
-    assert_eq!(rt; verdict(&[0x00, 0x82, 0x00, 0x82]), Ok(4));
-    assert_eq!(rt; verdict(&[0x00, 0x83, 0x00]), at(1, BlockReason::BadPcb));
-    assert_eq!(rt; verdict(&[0x00, 0x80, 0x01]), at(2, BlockReason::BadLen));
-    assert_eq!(rt;
-        verdict_under(&[0x00, 0x80, 0x20], 32),
-        at(2, BlockReason::BadLen)
+    assert!(rt; same(verdict(&[0x00, 0x82, 0x00, 0x82]), Ok(4)));
+    assert!(rt; same(verdict(&[0x00, 0x83, 0x00]), at(1, BlockReason::BadPcb)));
+    assert!(rt; same(verdict(&[0x00, 0x80, 0x01]), at(2, BlockReason::BadLen)));
+    assert!(rt;
+        same(
+            verdict_under(&[0x00, 0x80, 0x20], 32),
+            at(2, BlockReason::BadLen)
+        )
     );
-    assert_eq!(rt; verdict(&[0x00, 0xC1, 0x01, 0xFE, 0x3E]), Ok(5));
-    assert_eq!(rt;
-        verdict(&[0x00, 0xC1, 0x01, 0xFF]),
-        at(3, BlockReason::BadIfs)
+    assert!(rt; same(verdict(&[0x00, 0xC1, 0x01, 0xFE, 0x3E]), Ok(5)));
+    assert!(rt;
+        same(
+            verdict(&[0x00, 0xC1, 0x01, 0xFF]),
+            at(3, BlockReason::BadIfs)
+        )
     );
-    assert_eq!(rt;
-        verdict(&[0x00, 0xC1, 0x01, 0x00]),
-        at(3, BlockReason::BadIfs)
+    assert!(rt;
+        same(
+            verdict(&[0x00, 0xC1, 0x01, 0x00]),
+            at(3, BlockReason::BadIfs)
+        )
     );
-    assert_eq!(rt; verdict(&[0x00, 0xE3, 0x01, 0x00, 0xE2]), Ok(5));
-    assert_eq!(rt; verdict(&[0x00, 0xE4]), at(1, BlockReason::BadPcb));
+    assert!(rt; same(verdict(&[0x00, 0xE3, 0x01, 0x00, 0xE2]), Ok(5)));
+    assert!(rt; same(verdict(&[0x00, 0xE4]), at(1, BlockReason::BadPcb)));
 }
 
 #[test]
 fn every_kind_of_block(rt: HostRuntime) {
-    let expected = [
+    const ROWS: [u8; 18] = [
         0x00, 0x20, 0x40, 0x60, 0x80, 0x81, 0x82, 0x90, 0x91, 0x92, 0xC0, 0xC1, 0xC2, 0xC3, 0xE0,
         0xE1, 0xE2, 0xE3,
     ];
     let mut known = 0;
     for octet in 0..=255u8 {
         let pcb = Pcb::of(octet);
-        assert_eq!(rt; pcb.is_some(), expected.contains(&octet), "{octet:02X}");
+        assert!(rt; same(pcb.is_some(), ROWS.contains(&octet)), "{octet:02X}");
         assert!(rt; pcb.is_none_or(|pcb| pcb.octet() == octet), "{octet:02X}");
         if pcb.is_some() && known < 255 {
             known += 1;
         }
     }
-    assert_eq!(rt; known, 18);
+    assert!(rt; same(known, 18));
 }
 
 #[test]
@@ -117,20 +128,22 @@ fn fields_that_suit_no_block(rt: HostRuntime) {
 
 #[test]
 fn numbers_alternate(rt: HostRuntime) {
-    assert_eq!(rt; Number::Zero.other(), Number::One);
-    assert_eq!(rt; Number::One.other(), Number::Zero);
+    assert!(rt; same(Number::Zero.other(), Number::One));
+    assert!(rt; same(Number::One.other(), Number::Zero));
 }
 
 #[test]
 fn parts_of_a_block(rt: HostRuntime) {
     let block = Block::info(0x21, Number::Zero, false, &[0x00, 0xA4]).expect(&rt, "a block");
-    assert_eq!(rt; block.nad(), 0x21);
-    assert_eq!(rt;
-        block.pcb(),
-        Pcb::Info {
-            number: Number::Zero,
-            more: false
-        }
+    assert!(rt; same(block.nad(), 0x21));
+    assert!(rt;
+        same(
+            block.pcb(),
+            Pcb::Info {
+                number: Number::Zero,
+                more: false
+            }
+        )
     );
     assert!(rt; block.inf() == [0x00, 0xA4].as_slice());
     assert!(rt; block != Block::ready(0x21, Number::Zero, Fault::Free));
@@ -142,11 +155,11 @@ fn fed_octet_by_octet(rt: HostRuntime) {
     let mut reader = BlockReader::new(254);
     for (place, octet) in select.iter().enumerate() {
         assert!(rt; reader.value().is_none());
-        assert_eq!(rt; reader.finish(), Err(Stop::Short { place }));
-        assert_eq!(rt; reader.feed(&[*octet]), Ok((1, place == 8)));
+        assert!(rt; same(reader.finish(), Err(Stop::Short { place })));
+        assert!(rt; same(reader.feed(&[*octet]), Ok((1, place == 8))));
     }
-    assert_eq!(rt; reader.feed(&[0x00]), Ok((0, true)));
-    assert_eq!(rt; reader.finish(), Ok(()));
+    assert!(rt; same(reader.feed(&[0x00]), Ok((0, true))));
+    assert!(rt; same(reader.finish(), Ok(())));
     let inf = reader.value().map(|block| block.inf());
     assert!(rt; inf.is_some_and(|inf| inf == [0x00, 0xA4, 0x04, 0x00, 0x00].as_slice()));
 }
@@ -158,15 +171,15 @@ fn fed_after_a_refusal(rt: HostRuntime) {
         reason: BlockReason::BadPcb,
     };
     let mut reader = BlockReader::new(254);
-    assert_eq!(rt; reader.feed(&[0x00, 0x83]), Err(bad_pcb));
-    assert_eq!(rt; reader.feed(&[0x00]), Err(bad_pcb));
-    assert_eq!(rt; reader.feed(&[]), Err(bad_pcb));
-    assert_eq!(rt; reader.finish(), Err(bad_pcb));
+    assert!(rt; same(reader.feed(&[0x00, 0x83]), Err(bad_pcb)));
+    assert!(rt; same(reader.feed(&[0x00]), Err(bad_pcb)));
+    assert!(rt; same(reader.feed(&[]), Err(bad_pcb)));
+    assert!(rt; same(reader.finish(), Err(bad_pcb)));
     assert!(rt; reader.value().is_none());
     reader.reset();
-    assert_eq!(rt; reader.feed(&[0x00, 0x82, 0x00, 0x82]), Ok((4, true)));
+    assert!(rt; same(reader.feed(&[0x00, 0x82, 0x00, 0x82]), Ok((4, true))));
     reader.reset();
-    assert_eq!(rt; reader.finish(), Err(Stop::Short { place: 0 }));
+    assert!(rt; same(reader.finish(), Err(Stop::Short { place: 0 })));
 }
 
 #[test]
@@ -175,34 +188,36 @@ fn fed_in_two_pieces(rt: HostRuntime) {
     for cut in 0..size.len() {
         let mut reader = BlockReader::new(32);
         let (front, back) = size.split_at(cut);
-        assert_eq!(rt; reader.feed(front), Ok((front.len(), cut == 5)));
-        assert_eq!(rt; reader.feed(back), Ok((5 - front.len(), true)));
+        assert!(rt; same(reader.feed(front), Ok((front.len(), cut == 5))));
+        assert!(rt; same(reader.feed(back), Ok((5 - front.len(), true))));
     }
     let mut reader = BlockReader::new(32);
-    assert_eq!(rt; reader.feed(&[0x00, 0xC1, 0x01]), Ok((3, false)));
-    assert_eq!(rt; reader.taken(), 3);
+    assert!(rt; same(reader.feed(&[0x00, 0xC1, 0x01]), Ok((3, false))));
+    assert!(rt; same(reader.taken(), 3));
     let bad_size = Stop::At {
         place: 3,
         reason: BlockReason::BadIfs,
     };
-    assert_eq!(rt; reader.feed(&[0xFF, 0x00]), Err(bad_size));
+    assert!(rt; same(reader.feed(&[0xFF, 0x00]), Err(bad_size)));
 }
 
 #[test]
 fn read_where_it_stands(rt: HostRuntime) {
     let select = [0x21, 0x00, 0x05, 0x00, 0xA4, 0x04, 0x00, 0x00, 0x84, 0xFF];
     let (block, taken) = BlockRef::decode(&select, 254).expect(&rt, "a block");
-    assert_eq!(rt; taken, 9);
-    assert_eq!(rt; block.nad(), 0x21);
-    assert_eq!(rt; block.pcb(), Pcb::of(0x00).expect(&rt, "a kind"));
+    assert!(rt; same(taken, 9));
+    assert!(rt; same(block.nad(), 0x21));
+    assert!(rt; same(block.pcb(), Pcb::of(0x00).expect(&rt, "a kind")));
     assert!(rt; block.inf() == &select[3..8]);
     assert!(rt; Some(block.to_block()) == Block::info(0x21, Number::Zero, false, &select[3..8]));
     let over = BlockRef::decode(&select, 4).err();
-    assert_eq!(rt; over, at(2, BlockReason::OverIfs).err());
+    assert!(rt; same(over, at(2, BlockReason::OverIfs).err()));
     for end in 0..9 {
-        assert_eq!(rt;
-            BlockRef::decode(&select[..end], 254).err(),
-            short(end).err()
+        assert!(rt;
+            same(
+                BlockRef::decode(&select[..end], 254).err(),
+                short(end).err()
+            )
         );
     }
 }
@@ -211,12 +226,12 @@ fn read_where_it_stands(rt: HostRuntime) {
 fn written_into_a_buffer(rt: HostRuntime) {
     let mut out = [0xEE; LONGEST_BLOCK];
     let size = BlockRef::new(0x00, Pcb::Request(S::Ifs), &[0xFE]).expect(&rt, "a block");
-    assert_eq!(rt; size.encode_into(&mut out), 5);
+    assert!(rt; same(size.encode_into(&mut out), 5));
     assert!(rt; out[..6] == [0x00, 0xC1, 0x01, 0xFE, 0x3E, 0xEE]);
     let field = [0xA5; 254];
     let pcb = Pcb::of(0x60).expect(&rt, "a kind");
     let longest = BlockRef::new(0x12, pcb, &field).expect(&rt, "a block");
-    assert_eq!(rt; longest.encode_into(&mut out), LONGEST_BLOCK);
+    assert!(rt; same(longest.encode_into(&mut out), LONGEST_BLOCK));
     assert!(rt; encode(&longest.to_block()).as_slice() == out.as_slice());
     assert!(rt; BlockRef::new(0x00, Pcb::Request(S::Ifs), &[0xFF]).is_none());
     assert!(rt; BlockRef::new(0x00, Pcb::Request(S::Ifs), &[]).is_none());

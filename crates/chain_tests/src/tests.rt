@@ -2,10 +2,11 @@
 
 mod faults;
 
-use chain_core::{ChainReason, ReadRefusal, Receiver, block_at, cut, read_chain, write_chain};
 use block_core::{Number, encode};
+use chain_core::{ChainReason, ReadRefusal, Receiver, block_at, cut, read_chain, write_chain};
 use octet_core::{After, Counted, Feeder, Source, Stop, Taker, WriteFault};
 use std::test::Fail;
+use testing::same;
 
 /// 00 A4 04 00 00, in blocks of two octets.
 const CHAIN: [u8; 17] = [
@@ -31,8 +32,8 @@ fn cut_by_two_octets(rt: HostRuntime) {
             count += 1;
         }
     }
-    assert_eq!(rt; count, 3);
-    assert_eq!(rt; cut(&SELECT, 2, Number::Zero).count(), 3);
+    assert!(rt; same(count, 3));
+    assert!(rt; same(cut(&SELECT, 2, Number::Zero).count(), 3));
 }
 
 #[test]
@@ -61,19 +62,22 @@ fn block_at_a_place(rt: HostRuntime) {
 #[test]
 fn written_whole(rt: HostRuntime) {
     let mut writer = Counted::new(Taker::new(4096, 7, After::Fails));
-    assert_eq!(rt; write_chain(&mut writer, &SELECT, 2, Number::Zero), Ok(()));
+    assert!(rt; same(write_chain(&mut writer, &SELECT, 2, Number::Zero), Ok(())));
     assert!(rt; writer.into_inner().kept() == CHAIN.as_slice());
 }
 
 #[test]
 fn written_to_a_writer_that_fails(rt: HostRuntime) {
-    for after in [After::End, After::Fails, After::Interrupted] {
+    const ROWS: [After; 3] = [After::End, After::Fails, After::Interrupted];
+    for after in ROWS {
         for step in [1, 4096] {
             for written in 0..CHAIN.len() {
                 let mut writer = Counted::new(Taker::new(written, step, after));
-                assert_eq!(rt;
-                    write_chain(&mut writer, &SELECT, 2, Number::Zero),
-                    Err(WriteFault { written })
+                assert!(rt;
+                    same(
+                        write_chain(&mut writer, &SELECT, 2, Number::Zero),
+                        Err(WriteFault { written })
+                    )
                 );
                 assert!(rt; writer.into_inner().kept() == &CHAIN[..written]);
             }
@@ -90,15 +94,15 @@ fn received_in_two_pieces(rt: HostRuntime) -> Result<(), Fail> {
     let mut receiver = Receiver::new(rt.alloc(), 2, Number::Zero, 5)?;
     for cut in 0..CHAIN.len() + 1 {
         let (front, back) = CHAIN.split_at(cut);
-        assert_eq!(rt; receiver.feed(front), Ok((front.len(), cut == CHAIN.len())));
+        assert!(rt; same(receiver.feed(front), Ok((front.len(), cut == CHAIN.len()))));
         if cut < CHAIN.len() {
             assert!(rt; receiver.message().is_none());
-            assert_eq!(rt; receiver.finish(), Err(Stop::Short { place: cut }));
+            assert!(rt; same(receiver.finish(), Err(Stop::Short { place: cut })));
         }
-        assert_eq!(rt; receiver.feed(back), Ok((back.len(), true)));
-        assert_eq!(rt; receiver.feed(&[0xFF]), Ok((0, true)));
-        assert_eq!(rt; receiver.finish(), Ok(()));
-        assert_eq!(rt; receiver.blocks(), 3);
+        assert!(rt; same(receiver.feed(back), Ok((back.len(), true))));
+        assert!(rt; same(receiver.feed(&[0xFF]), Ok((0, true))));
+        assert!(rt; same(receiver.finish(), Ok(())));
+        assert!(rt; same(receiver.blocks(), 3));
         assert!(rt;
             receiver
                 .message()
@@ -156,10 +160,10 @@ fn refused_chains(rt: HostRuntime) -> Result<(), Fail> {
         ([0x00, 0x60, 0x03], at(8, ChainReason::OverIfs)),
         ([0x00, 0x60, 0xFF], at(8, ChainReason::BadLen)),
     ] {
-        assert_eq!(rt; receiver.feed(front), Ok((6, false)));
-        assert_eq!(rt; receiver.feed(&block), refusal);
-        assert_eq!(rt; receiver.feed(&CHAIN), refusal);
-        assert_eq!(rt; receiver.blocks(), 1);
+        assert!(rt; same(receiver.feed(front), Ok((6, false))));
+        assert!(rt; same(receiver.feed(&block), refusal));
+        assert!(rt; same(receiver.feed(&CHAIN), refusal));
+        assert!(rt; same(receiver.blocks(), 1));
         assert!(rt; receiver.message().is_none());
         receiver.restart(Number::Zero);
     }
@@ -167,13 +171,15 @@ fn refused_chains(rt: HostRuntime) -> Result<(), Fail> {
         place: 14,
         reason: ChainReason::TooLong,
     };
-    assert_eq!(rt; receiver.feed(&CHAIN), Err(too_long));
-    assert_eq!(rt; receiver.finish(), Err(too_long));
-    assert_eq!(rt; receiver.blocks(), 2);
+    assert!(rt; same(receiver.feed(&CHAIN), Err(too_long)));
+    assert!(rt; same(receiver.finish(), Err(too_long)));
+    assert!(rt; same(receiver.blocks(), 2));
     receiver.restart(Number::One);
-    assert_eq!(rt;
-        receiver.feed(&[0x00, 0x40, 0x00, 0x41]),
-        at(3, ChainReason::BadLrc)
+    assert!(rt;
+        same(
+            receiver.feed(&[0x00, 0x40, 0x00, 0x41]),
+            at(3, ChainReason::BadLrc)
+        )
     );
     Ok(())
 }
@@ -182,26 +188,32 @@ fn refused_chains(rt: HostRuntime) -> Result<(), Fail> {
 fn most_blocks(rt: HostRuntime) -> Result<(), Fail> {
     let mut receiver = Receiver::new(rt.alloc(), 254, Number::Zero, 0)?;
     for _ in 0..65_535 {
-        assert_eq!(rt;
-            receiver.feed(&[0x00, 0x20, 0x00, 0x20, 0x00, 0x60, 0x00, 0x60]),
-            Ok((8, false))
+        assert!(rt;
+            same(
+                receiver.feed(&[0x00, 0x20, 0x00, 0x20, 0x00, 0x60, 0x00, 0x60]),
+                Ok((8, false))
+            )
         );
     }
-    assert_eq!(rt; receiver.feed(&[0x00, 0x20, 0x00, 0x20]), Ok((4, false)));
-    assert_eq!(rt; receiver.feed(&[0x00, 0x40, 0x00, 0x40]), Ok((4, true)));
-    assert_eq!(rt; receiver.blocks(), 131_072);
+    assert!(rt; same(receiver.feed(&[0x00, 0x20, 0x00, 0x20]), Ok((4, false))));
+    assert!(rt; same(receiver.feed(&[0x00, 0x40, 0x00, 0x40]), Ok((4, true))));
+    assert!(rt; same(receiver.blocks(), 131_072));
     assert!(rt; receiver.message().is_some_and(|message| message.is_empty()));
     receiver.restart(Number::Zero);
     for _ in 0..65_535 {
-        assert_eq!(rt;
-            receiver.feed(&[0x00, 0x20, 0x00, 0x20, 0x00, 0x60, 0x00, 0x60]),
-            Ok((8, false))
+        assert!(rt;
+            same(
+                receiver.feed(&[0x00, 0x20, 0x00, 0x20, 0x00, 0x60, 0x00, 0x60]),
+                Ok((8, false))
+            )
         );
     }
-    assert_eq!(rt; receiver.feed(&[0x00, 0x20, 0x00, 0x20]), Ok((4, false)));
-    assert_eq!(rt;
-        receiver.feed(&[0x00, 0x60]),
-        at(524_285, ChainReason::TooManyBlocks)
+    assert!(rt; same(receiver.feed(&[0x00, 0x20, 0x00, 0x20]), Ok((4, false))));
+    assert!(rt;
+        same(
+            receiver.feed(&[0x00, 0x60]),
+            at(524_285, ChainReason::TooManyBlocks)
+        )
     );
     Ok(())
 }
@@ -215,14 +227,14 @@ fn cut_long_messages(rt: HostRuntime) -> Result<(), Fail> {
             short += 1;
         }
     }
-    assert_eq!(rt; short, 65_544);
+    assert!(rt; same(short, 65_544));
     let mut long = 0;
     for _ in cut(message.as_slice(), 254, Number::Zero) {
         if long < 100_000 {
             long += 1;
         }
     }
-    assert_eq!(rt; long, 259);
+    assert!(rt; same(long, 259));
     Ok(())
 }
 
@@ -243,21 +255,23 @@ fn stop(place: usize, reason: ChainReason) -> Result<(), ReadRefusal> {
 fn read_on_behind_a_failure(rt: HostRuntime) -> Result<(), Fail> {
     let mut receiver = Receiver::new(rt.alloc(), 2, Number::Zero, 5)?;
     let mut reader = Counted::new(Feeder::new(&CHAIN[..7], 4096, After::Fails));
-    assert_eq!(rt;
-        read_chain(&mut reader, &mut receiver),
-        Err(ReadRefusal::Read { taken: 7 })
+    assert!(rt;
+        same(
+            read_chain(&mut reader, &mut receiver),
+            Err(ReadRefusal::Read { taken: 7 })
+        )
     );
     let mut reader = Counted::new(Feeder::new(&REST, 4096, After::End));
-    assert_eq!(rt; read_chain(&mut reader, &mut receiver), Ok(()));
+    assert!(rt; same(read_chain(&mut reader, &mut receiver), Ok(())));
     assert!(rt;
         receiver
             .message()
             .is_some_and(|message| message == SELECT.as_slice())
     );
     let mut next = [0, 0];
-    assert_eq!(rt; reader.read(&mut next)?, 1);
-    assert_eq!(rt; next[0], 0xFF);
-    assert_eq!(rt; reader.into_inner().given(), 11);
+    assert!(rt; same(reader.read(&mut next)?, 1));
+    assert!(rt; same(next[0], 0xFF));
+    assert!(rt; same(reader.into_inner().given(), 11));
     Ok(())
 }
 
@@ -269,13 +283,15 @@ fn read_from_a_source_that_fails(rt: HostRuntime) -> Result<(), Fail> {
             for taken in 0..CHAIN.len() {
                 receiver.restart(Number::Zero);
                 let mut reader = Counted::new(Feeder::new(&CHAIN[..taken], step, after));
-                assert_eq!(rt;
-                    read_chain(&mut reader, &mut receiver),
-                    Err(ReadRefusal::Read { taken })
+                assert!(rt;
+                    same(
+                        read_chain(&mut reader, &mut receiver),
+                        Err(ReadRefusal::Read { taken })
+                    )
                 );
                 let mut reader = Counted::new(Feeder::new(&CHAIN[taken..], step, after));
-                assert_eq!(rt; read_chain(&mut reader, &mut receiver), Ok(()));
-                assert_eq!(rt; receiver.blocks(), 3);
+                assert!(rt; same(read_chain(&mut reader, &mut receiver), Ok(())));
+                assert!(rt; same(receiver.blocks(), 3));
             }
         }
     }
@@ -289,10 +305,10 @@ fn read_from_a_source_that_ends(rt: HostRuntime) -> Result<(), Fail> {
         for place in 0..CHAIN.len() {
             receiver.restart(Number::Zero);
             let mut reader = Counted::new(Feeder::new(&CHAIN[..place], step, After::End));
-            assert_eq!(rt; read_chain(&mut reader, &mut receiver), short(place));
-            assert_eq!(rt; read_chain(&mut reader, &mut receiver), short(place));
+            assert!(rt; same(read_chain(&mut reader, &mut receiver), short(place)));
+            assert!(rt; same(read_chain(&mut reader, &mut receiver), short(place)));
             let mut reader = Counted::new(Feeder::new(&CHAIN[place..], step, After::End));
-            assert_eq!(rt; read_chain(&mut reader, &mut receiver), Ok(()));
+            assert!(rt; same(read_chain(&mut reader, &mut receiver), Ok(())));
         }
     }
     Ok(())
@@ -303,11 +319,11 @@ fn read_up_to_the_refused_block(rt: HostRuntime) -> Result<(), Fail> {
     let mut receiver = Receiver::new(rt.alloc(), 2, Number::Zero, 4)?;
     let mut reader = Counted::new(Feeder::new(&CHAIN, 4096, After::End));
     let refusal = stop(14, ChainReason::TooLong);
-    assert_eq!(rt; read_chain(&mut reader, &mut receiver), refusal);
-    assert_eq!(rt; reader.into_inner().given(), 15);
+    assert!(rt; same(read_chain(&mut reader, &mut receiver), refusal));
+    assert!(rt; same(reader.into_inner().given(), 15));
     let mut reader = Counted::new(Feeder::new(&CHAIN, 4096, After::End));
-    assert_eq!(rt; read_chain(&mut reader, &mut receiver), refusal);
-    assert_eq!(rt; reader.into_inner().given(), 0);
+    assert!(rt; same(read_chain(&mut reader, &mut receiver), refusal));
+    assert!(rt; same(reader.into_inner().given(), 0));
     for (octets, refusal, given) in [
         (
             [0x01, 0x20, 0x02, 0x00, 0xA4, 0x86],
@@ -337,8 +353,8 @@ fn read_up_to_the_refused_block(rt: HostRuntime) -> Result<(), Fail> {
     ] {
         receiver.restart(Number::Zero);
         let mut reader = Counted::new(Feeder::new(&octets, 4096, After::End));
-        assert_eq!(rt; read_chain(&mut reader, &mut receiver), refusal);
-        assert_eq!(rt; reader.into_inner().given(), given);
+        assert!(rt; same(read_chain(&mut reader, &mut receiver), refusal));
+        assert!(rt; same(reader.into_inner().given(), given));
     }
     Ok(())
 }
@@ -346,10 +362,10 @@ fn read_up_to_the_refused_block(rt: HostRuntime) -> Result<(), Fail> {
 #[test]
 fn read_nothing_where_it_is_done(rt: HostRuntime) -> Result<(), Fail> {
     let mut receiver = Receiver::new(rt.alloc(), 2, Number::Zero, 5)?;
-    assert_eq!(rt; receiver.feed(&CHAIN), Ok((17, true)));
+    assert!(rt; same(receiver.feed(&CHAIN), Ok((17, true))));
     let mut reader = Counted::new(Feeder::new(&CHAIN, 4096, After::Fails));
-    assert_eq!(rt; read_chain(&mut reader, &mut receiver), Ok(()));
-    assert_eq!(rt; reader.into_inner().given(), 0);
+    assert!(rt; same(read_chain(&mut reader, &mut receiver), Ok(())));
+    assert!(rt; same(reader.into_inner().given(), 0));
     assert!(rt;
         receiver
             .message()
@@ -363,10 +379,12 @@ fn read_from_a_source_without_an_end(rt: HostRuntime) -> Result<(), Fail> {
     let blocks = [0x00, 0x20, 0x00, 0x20, 0x00, 0x60, 0x00, 0x60];
     let mut receiver = Receiver::new(rt.alloc(), 254, Number::Zero, 0)?;
     let mut reader = Counted::new(Feeder::new(&blocks, 4096, After::Repeats));
-    assert_eq!(rt;
-        read_chain(&mut reader, &mut receiver),
-        stop(524_285, ChainReason::TooManyBlocks)
+    assert!(rt;
+        same(
+            read_chain(&mut reader, &mut receiver),
+            stop(524_285, ChainReason::TooManyBlocks)
+        )
     );
-    assert_eq!(rt; reader.into_inner().given(), 524_287);
+    assert!(rt; same(reader.into_inner().given(), 524_287));
     Ok(())
 }

@@ -8,30 +8,31 @@ use octet_core::{
 };
 use std::io::{ErrorKind, Read, Write};
 use std::test::Fail;
+use testing::same;
 
 #[test]
 fn lrc_of_a_block(rt: HostRuntime) {
-    assert_eq!(rt;
-        lrc(&[0x00, 0x00, 0x05, 0x00, 0xA4, 0x04, 0x00, 0x00]),
-        0xA5
-    );
-    assert_eq!(rt; lrc(&[]), 0);
+    assert!(rt; same(lrc(&[0x00, 0x00, 0x05, 0x00, 0xA4, 0x04, 0x00, 0x00]), 0xA5));
+    assert!(rt; same(lrc(&[]), 0));
 }
 
 #[test]
 fn writes_all_octets(rt: HostRuntime) {
     let mut writer = Counted::new(Taker::new(4096, 2, After::Fails));
-    assert_eq!(rt; write_octets(&mut writer, b"00A404"), Ok(()));
+    assert!(rt; same(write_octets(&mut writer, b"00A404"), Ok(())));
     assert!(rt; writer.into_inner().kept() == b"00A404".as_slice());
 }
 
 #[test]
 fn stops_at_a_writer_that_fails(rt: HostRuntime) {
-    for after in [After::End, After::Fails, After::Interrupted] {
+    const ROWS: [After; 3] = [After::End, After::Fails, After::Interrupted];
+    for after in ROWS {
         let mut writer = Counted::new(Taker::new(3, 2, after));
-        assert_eq!(rt;
-            write_octets(&mut writer, b"00A404"),
-            Err(WriteFault { written: 3 })
+        assert!(rt;
+            same(
+                write_octets(&mut writer, b"00A404"),
+                Err(WriteFault { written: 3 })
+            )
         );
         assert!(rt; writer.into_inner().kept() == b"00A".as_slice());
     }
@@ -45,7 +46,7 @@ fn feeder_gives_step_by_step(rt: HostRuntime) {
     assert!(rt; matches!(feeder.read(&mut room), Ok(1)));
     assert!(rt; matches!(feeder.read(&mut room), Ok(2)));
     assert!(rt; room.as_slice() == b"ab\0\0".as_slice());
-    assert_eq!(rt; feeder.into_inner().given(), 5);
+    assert!(rt; same(feeder.into_inner().given(), 5));
 }
 
 #[test]
@@ -81,9 +82,9 @@ fn devices_fail_by_their_kinds(rt: HostRuntime) {
         (After::Interrupted, ErrorKind::Interrupted),
     ] {
         let read = Feeder::new(b"", 1, after).read(&mut room);
-        assert_eq!(rt; read.err().map(|e| e.kind()), Some(kind));
+        assert!(rt; same(read.err().map(|e| e.kind()), Some(kind)));
         let written = Taker::new(0, 1, after).write(b"a");
-        assert_eq!(rt; written.err().map(|e| e.kind()), Some(kind));
+        assert!(rt; same(written.err().map(|e| e.kind()), Some(kind)));
     }
 }
 
@@ -99,7 +100,7 @@ fn a_failed_read_is_answered_and_not_tried_again(rt: HostRuntime) {
         assert!(rt; matches!(reader.read(&mut room), Ok(2)));
         assert!(rt; room.as_slice() == b"cd\0\0".as_slice());
         assert!(rt; matches!(reader.read(&mut room), Ok(0)));
-        assert_eq!(rt; reader.into_inner().into_inner().given(), 4);
+        assert!(rt; same(reader.into_inner().into_inner().given(), 4));
     }
 }
 
@@ -119,15 +120,19 @@ fn a_failed_write_is_answered_and_not_tried_again(rt: HostRuntime) {
 // and answer `Ok(())`.
 #[test]
 fn writes_no_more_after_a_call_that_failed(rt: HostRuntime) {
-    for fault in [After::End, After::Fails, After::Interrupted] {
-        for (written, kept) in [(0, "FF"), (1, "0FF"), (4, "00A4FF"), (5, "00A40FF")] {
+    const ROWS: [After; 3] = [After::End, After::Fails, After::Interrupted];
+    for fault in ROWS {
+        const MORE: [(usize, &str); 4] = [(0, "FF"), (1, "0FF"), (4, "00A4FF"), (5, "00A40FF")];
+        for (written, kept) in MORE {
             let taker = Taker::new(8, 4, After::End);
             let mut writer = Counted::new(FailsOnce::new(taker, written, fault));
-            assert_eq!(rt;
-                write_octets(&mut writer, b"00A404"),
-                Err(WriteFault { written })
+            assert!(rt;
+                same(
+                    write_octets(&mut writer, b"00A404"),
+                    Err(WriteFault { written })
+                )
             );
-            assert_eq!(rt; write_octets(&mut writer, b"FF"), Ok(()));
+            assert!(rt; same(write_octets(&mut writer, b"FF"), Ok(())));
             assert!(rt; writer.into_inner().into_inner().kept() == kept.as_bytes());
         }
     }
@@ -137,8 +142,8 @@ fn writes_no_more_after_a_call_that_failed(rt: HostRuntime) {
 fn hexadecimal_with_ample_memory(rt: HostRuntime) -> Result<(), Fail> {
     assert!(rt; octets_of(rt.alloc(), "00a4")?.as_slice() == [0x00, 0xA4].as_slice());
     assert!(rt; octets_of(rt.alloc(), "")?.is_empty());
-    assert_eq!(rt; hex_upper(rt.alloc(), &[0x00, 0xA4])?.as_str(), "00A4");
-    assert_eq!(rt; hex_upper(rt.alloc(), &[])?.as_str(), "");
+    assert!(rt; same(hex_upper(rt.alloc(), &[0x00, 0xA4])?.as_str(), "00A4"));
+    assert!(rt; same(hex_upper(rt.alloc(), &[])?.as_str(), ""));
     Ok(())
 }
 
@@ -151,7 +156,10 @@ fn texts_that_are_no_octets(rt: HostRuntime) {
         ("00 0", HexFault::Digit { place: 2 }),
         ("é", HexFault::Digit { place: 0 }),
     ] {
-        assert_eq!(rt; octets_of(rt.alloc(), text).err(), Some(fault), "{text}");
+        assert!(rt;
+            same(octets_of(rt.alloc(), text).err(), Some(fault)),
+            "{text}"
+        );
     }
 }
 
@@ -161,10 +169,10 @@ fn lists_are_lent_and_given_back(rt: HostRuntime) -> Result<(), Fail> {
     assert!(rt; octets.get() == [0xA4].as_slice());
     assert!(rt; octets == Octets::of(octets_of(rt.alloc(), "a4")?));
     assert!(rt; octets != Octets::of(octets_of(rt.alloc(), "a5")?));
-    assert_eq!(rt; octets.into_inner().len(), 1);
+    assert!(rt; same(octets.into_inner().len(), 1));
     let text = Text::of(hex_upper(rt.alloc(), &[0xA4])?);
-    assert_eq!(rt; text.get(), "A4");
+    assert!(rt; same(text.get(), "A4"));
     assert!(rt; text == Text::of(hex_upper(rt.alloc(), &[0xA4])?));
-    assert_eq!(rt; text.into_inner().as_str(), "A4");
+    assert!(rt; same(text.into_inner().as_str(), "A4"));
     Ok(())
 }

@@ -1,12 +1,13 @@
 //! Sessions and the texts of their exchanges.
 
-use simulator::{SimulationFault, simulate};
 use card_words::{BlockNumbers, Pair, Pairs, Session};
 use exchange_core::{Exchange, Side, replay, write_exchange};
 use octet_core::{Octets, octets_of};
+use simulator::{SimulationFault, simulate};
 use std::alloc::Global;
 use std::process::Abort;
 use std::test::Fail;
+use testing::same;
 
 /// The answer to reset of a card that takes information fields of 32 octets.
 const ATR: &str = "3B808131204555";
@@ -72,7 +73,7 @@ fn session(
 /// Asserts that an exchange replays at both ends.
 fn assert_replays(rt: &impl Abort, alloc: Global, exchange: &Exchange) {
     for side in [Side::Terminal, Side::Card] {
-        assert_eq!(rt; replay(alloc, exchange, side), Ok(()));
+        assert!(rt; same(replay(alloc, exchange, side), Ok(())));
     }
 }
 
@@ -322,7 +323,7 @@ fn assert_line_count(
     session.pairs = Pairs::of(list);
     let exchange = simulate(alloc, &session, 100_000).map_err(|_| "no exchange")?;
     assert_replays(rt, alloc, &exchange);
-    assert_eq!(rt; exchange.lines().get().len(), count);
+    assert!(rt; same(exchange.lines().get().len(), count));
     Ok(())
 }
 
@@ -337,7 +338,7 @@ fn ends_before_an_event_that_is_refused(rt: HostRuntime) -> Result<(), Fail> {
 
 #[test]
 fn answers_to_reset_that_are_refused(rt: HostRuntime) -> Result<(), Fail> {
-    let rows = [
+    const ROWS: [(&str, &str); 6] = [
         ("3B00", "NoT1"),
         ("3B808111FFEF", "ReservedIfsc"),
         ("3B8081410141", "Crc"),
@@ -345,7 +346,7 @@ fn answers_to_reset_that_are_refused(rt: HostRuntime) -> Result<(), Fail> {
         ("3B80813120455500", "BadAtr"),
         ("", "BadAtr"),
     ];
-    for (atr, name) in &rows {
+    for (atr, name) in &ROWS {
         let session = session(rt.alloc(), atr, None, &ONE, ALL_ARRIVE)?;
         let is_named = match simulate(rt.alloc(), &session, MOST) {
             Err(SimulationFault::Refused(given)) => given == *name,

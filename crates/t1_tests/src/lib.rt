@@ -1,4 +1,4 @@
-//! The tests of [`t1_core`]: what no clause says. They are apart from it, so that the gate proves it once.
+//! The tests of [`t1_core`], apart from it so that the gate proves it once.
 #![tactic(auto)]
 
 #[cfg(test)]

@@ -7,6 +7,7 @@ use atr_core::T1Params;
 use block_core::{LONGEST_BLOCK, encode};
 use std::alloc::Global;
 use std::test::Fail;
+use testing::same;
 
 const SELECT: [u8; 5] = [0x00, 0xA4, 0x04, 0x00, 0x00];
 
@@ -82,7 +83,7 @@ fn damaged_and_lost_at_the_terminal(rt: HostRuntime) -> Result<(), Fail> {
     assert!(rt; t.answer().is_none());
     assert!(rt; sends(t.received(&ASK_AGAIN_DAMAGED), &SELECT_BLOCK));
     assert!(rt; sends(t.quiet(), &ASK_AGAIN));
-    assert_eq!(rt; t.received(&DONE_BLOCK), Ok(TerminalTurn::Answered));
+    assert!(rt; same(t.received(&DONE_BLOCK), Ok(TerminalTurn::Answered)));
     assert!(rt; is_answer(&t, &DONE));
     Ok(())
 }
@@ -92,7 +93,7 @@ fn damaged_and_lost_at_the_card(rt: HostRuntime) -> Result<(), Fail> {
     let mut c = card(rt.alloc())?;
     let damaged = [0x00, 0x00, 0x05, 0x00, 0xA4, 0x04, 0x00, 0x00, 0xA4];
     assert!(rt; gives(c.received(&damaged), &ASK_AGAIN_DAMAGED));
-    assert_eq!(rt; c.received(&SELECT_BLOCK), Ok(CardTurn::Asked));
+    assert!(rt; same(c.received(&SELECT_BLOCK), Ok(CardTurn::Asked)));
     assert!(rt; is_command(&c, &SELECT));
     assert!(rt; gives(c.reply(&DONE), &DONE_BLOCK));
     assert!(rt; c.command().is_none());
@@ -109,10 +110,10 @@ fn every_block_lost(rt: HostRuntime) -> Result<(), Fail> {
     for _ in 0..3u8 {
         assert!(rt; sends(t.quiet(), &RESYNCH));
     }
-    assert_eq!(rt; t.quiet(), Ok(TerminalTurn::Dead));
-    assert_eq!(rt; t.transmit(&SELECT), Err(TerminalFault::Dead));
-    assert_eq!(rt; t.ask_ifs(0), Err(TerminalFault::Dead));
-    assert_eq!(rt; t.quiet(), Err(TerminalFault::Dead));
+    assert!(rt; same(t.quiet(), Ok(TerminalTurn::Dead)));
+    assert!(rt; same(t.transmit(&SELECT), Err(TerminalFault::Dead)));
+    assert!(rt; same(t.ask_ifs(0), Err(TerminalFault::Dead)));
+    assert!(rt; same(t.quiet(), Err(TerminalFault::Dead)));
     Ok(())
 }
 
@@ -125,10 +126,10 @@ fn resynchronized(rt: HostRuntime) -> Result<(), Fail> {
     assert!(rt; sends(t.quiet(), &RESYNCH));
     let mut c = card(rt.alloc())?;
     assert!(rt; gives(c.received(&RESYNCH), &RESYNCHED));
-    assert_eq!(rt; t.received(&RESYNCHED), Ok(TerminalTurn::GivenUp));
+    assert!(rt; same(t.received(&RESYNCHED), Ok(TerminalTurn::GivenUp)));
     assert!(rt; t.answer().is_none());
     assert!(rt; sends(t.transmit(&SELECT), &SELECT_BLOCK));
-    assert_eq!(rt; c.received(&SELECT_BLOCK), Ok(CardTurn::Asked));
+    assert!(rt; same(c.received(&SELECT_BLOCK), Ok(CardTurn::Asked)));
     Ok(())
 }
 
@@ -136,7 +137,7 @@ fn resynchronized(rt: HostRuntime) -> Result<(), Fail> {
 fn acted_on_and_given_up(rt: HostRuntime) -> Result<(), Fail> {
     let mut t = in_answer(rt.alloc())?;
     let mut c = card(rt.alloc())?;
-    assert_eq!(rt; c.received(&SELECT_BLOCK), Ok(CardTurn::Asked));
+    assert!(rt; same(c.received(&SELECT_BLOCK), Ok(CardTurn::Asked)));
     assert!(rt; gives(c.reply(&DONE), &DONE_BLOCK));
     for _ in 0..3u8 {
         assert!(rt; sends(t.quiet(), &ASK_AGAIN));
@@ -144,9 +145,9 @@ fn acted_on_and_given_up(rt: HostRuntime) -> Result<(), Fail> {
     }
     assert!(rt; sends(t.quiet(), &RESYNCH));
     assert!(rt; gives(c.received(&RESYNCH), &RESYNCHED));
-    assert_eq!(rt; t.received(&RESYNCHED), Ok(TerminalTurn::GivenUp));
+    assert!(rt; same(t.received(&RESYNCHED), Ok(TerminalTurn::GivenUp)));
     assert!(rt; sends(t.transmit(&SELECT), &SELECT_BLOCK));
-    assert_eq!(rt; c.received(&SELECT_BLOCK), Ok(CardTurn::Asked));
+    assert!(rt; same(c.received(&SELECT_BLOCK), Ok(CardTurn::Asked)));
     assert!(rt; is_command(&c, &SELECT));
     Ok(())
 }
@@ -156,15 +157,15 @@ fn more_time(rt: HostRuntime) -> Result<(), Fail> {
     for multiple in [0x00u8, 0x01, 0xFF] {
         let mut t = in_answer(rt.alloc())?;
         let mut c = card(rt.alloc())?;
-        assert_eq!(rt; c.received(&SELECT_BLOCK), Ok(CardTurn::Asked));
+        assert!(rt; same(c.received(&SELECT_BLOCK), Ok(CardTurn::Asked)));
         let request = [0x00, 0xC3, 0x01, multiple, 0xC2 ^ multiple];
         let response = [0x00, 0xE3, 0x01, multiple, 0xE2 ^ multiple];
         assert!(rt; gives(c.more_time(multiple), &request));
         assert!(rt; is_command(&c, &SELECT));
         assert!(rt; sends(t.received(&request), &response));
-        assert_eq!(rt; c.received(&response), Ok(CardTurn::Asked));
+        assert!(rt; same(c.received(&response), Ok(CardTurn::Asked)));
         assert!(rt; gives(c.reply(&DONE), &DONE_BLOCK));
-        assert_eq!(rt; t.received(&DONE_BLOCK), Ok(TerminalTurn::Answered));
+        assert!(rt; same(t.received(&DONE_BLOCK), Ok(TerminalTurn::Answered)));
     }
     Ok(())
 }
@@ -174,9 +175,9 @@ fn how_long_is_waited(rt: HostRuntime) -> Result<(), Fail> {
     for (multiple, times) in [(0x00u8, 1), (0x01, 1), (0xFF, 255)] {
         let mut t = in_answer(rt.alloc())?;
         let request = [0x00, 0xC3, 0x01, multiple, 0xC2 ^ multiple];
-        assert_eq!(rt; t.received(&request).map(|turn| turn.waiting()), Ok(times));
-        assert_eq!(rt; t.quiet().map(|turn| turn.waiting()), Ok(1));
-        assert_eq!(rt; t.received(&DONE_BLOCK).map(|turn| turn.waiting()), Ok(1));
+        assert!(rt; same(t.received(&request).map(|turn| turn.waiting()), Ok(times)));
+        assert!(rt; same(t.quiet().map(|turn| turn.waiting()), Ok(1)));
+        assert!(rt; same(t.received(&DONE_BLOCK).map(|turn| turn.waiting()), Ok(1)));
     }
     Ok(())
 }
@@ -189,17 +190,17 @@ fn a_size_and_a_chained_answer(rt: HostRuntime) -> Result<(), Fail> {
     let taken = [0x00, 0xE1, 0x01, 0x02, 0xE2];
     assert!(rt; sends(t.ask_ifs(2), &question));
     assert!(rt; gives(c.received(&question), &taken));
-    assert_eq!(rt; t.received(&taken), Ok(TerminalTurn::IfsSet));
+    assert!(rt; same(t.received(&taken), Ok(TerminalTurn::IfsSet)));
     let command = [0x00, 0x00, 0x05, 0x00, 0xB0, 0x00, 0x00, 0x02, 0xB7];
     assert!(rt; sends(t.transmit(&READ), &command));
-    assert_eq!(rt; c.received(&command), Ok(CardTurn::Asked));
+    assert!(rt; same(c.received(&command), Ok(CardTurn::Asked)));
     let first = [0x00, 0x20, 0x02, 0xAA, 0xBB, 0x33];
     let next = [0x00, 0x90, 0x00, 0x90];
     let last = [0x00, 0x40, 0x02, 0x90, 0x00, 0xD2];
     assert!(rt; gives(c.reply(&DATA), &first));
     assert!(rt; sends(t.received(&first), &next));
     assert!(rt; gives(c.received(&next), &last));
-    assert_eq!(rt; t.received(&last), Ok(TerminalTurn::Answered));
+    assert!(rt; same(t.received(&last), Ok(TerminalTurn::Answered)));
     assert!(rt; is_answer(&t, &DATA));
     Ok(())
 }
@@ -207,20 +208,20 @@ fn a_size_and_a_chained_answer(rt: HostRuntime) -> Result<(), Fail> {
 #[test]
 fn calls_that_are_refused(rt: HostRuntime) -> Result<(), Fail> {
     let mut t = terminal(rt.alloc())?;
-    assert_eq!(rt; t.received(&DONE_BLOCK), Err(TerminalFault::Idle));
-    assert_eq!(rt; t.quiet(), Err(TerminalFault::Idle));
-    assert_eq!(rt; t.ask_ifs(0), Err(TerminalFault::Reserved));
-    assert_eq!(rt; t.ask_ifs(255), Err(TerminalFault::Reserved));
+    assert!(rt; same(t.received(&DONE_BLOCK), Err(TerminalFault::Idle)));
+    assert!(rt; same(t.quiet(), Err(TerminalFault::Idle)));
+    assert!(rt; same(t.ask_ifs(0), Err(TerminalFault::Reserved)));
+    assert!(rt; same(t.ask_ifs(255), Err(TerminalFault::Reserved)));
     assert!(rt; sends(t.transmit(&SELECT), &SELECT_BLOCK));
-    assert_eq!(rt; t.transmit(&SELECT), Err(TerminalFault::Busy));
-    assert_eq!(rt; t.ask_ifs(0), Err(TerminalFault::Busy));
+    assert!(rt; same(t.transmit(&SELECT), Err(TerminalFault::Busy)));
+    assert!(rt; same(t.ask_ifs(0), Err(TerminalFault::Busy)));
     let mut c = card(rt.alloc())?;
-    assert_eq!(rt; c.reply(&DONE), Err(CardFault::Order));
-    assert_eq!(rt; c.more_time(1), Err(CardFault::Order));
-    assert_eq!(rt; c.received(&SELECT_BLOCK), Ok(CardTurn::Asked));
-    assert_eq!(rt; c.received(&SELECT_BLOCK), Err(CardFault::Order));
-    assert_eq!(rt; c.ask_ifs(0), Err(CardFault::Reserved));
-    assert_eq!(rt; c.ask_ifs(255), Err(CardFault::Reserved));
+    assert!(rt; same(c.reply(&DONE), Err(CardFault::Order)));
+    assert!(rt; same(c.more_time(1), Err(CardFault::Order)));
+    assert!(rt; same(c.received(&SELECT_BLOCK), Ok(CardTurn::Asked)));
+    assert!(rt; same(c.received(&SELECT_BLOCK), Err(CardFault::Order)));
+    assert!(rt; same(c.ask_ifs(0), Err(CardFault::Reserved)));
+    assert!(rt; same(c.ask_ifs(255), Err(CardFault::Reserved)));
     Ok(())
 }
 
@@ -228,16 +229,16 @@ fn calls_that_are_refused(rt: HostRuntime) -> Result<(), Fail> {
 fn the_card_asks_for_254(rt: HostRuntime) -> Result<(), Fail> {
     let mut t = in_answer(rt.alloc())?;
     let mut c = card(rt.alloc())?;
-    assert_eq!(rt; c.received(&SELECT_BLOCK), Ok(CardTurn::Asked));
+    assert!(rt; same(c.received(&SELECT_BLOCK), Ok(CardTurn::Asked)));
     let question = [0x00, 0xC1, 0x01, 0xFE, 0x3E];
     let taken = [0x00, 0xE1, 0x01, 0xFE, 0x1E];
     assert!(rt; gives(c.ask_ifs(254), &question));
-    assert_eq!(rt; c.reply(&DONE), Err(CardFault::Order));
+    assert!(rt; same(c.reply(&DONE), Err(CardFault::Order)));
     assert!(rt; is_command(&c, &SELECT));
     assert!(rt; sends(t.received(&question), &taken));
-    assert_eq!(rt; c.received(&taken), Ok(CardTurn::Asked));
+    assert!(rt; same(c.received(&taken), Ok(CardTurn::Asked)));
     assert!(rt; gives(c.reply(&DONE), &DONE_BLOCK));
-    assert_eq!(rt; t.received(&DONE_BLOCK), Ok(TerminalTurn::Answered));
+    assert!(rt; same(t.received(&DONE_BLOCK), Ok(TerminalTurn::Answered)));
     let long = [0x5A; 254];
     let turn = t.transmit(&long);
     assert!(rt; matches!(turn, Ok(TerminalTurn::Send(block)) if block.inf() == long.as_slice()));
@@ -275,14 +276,14 @@ fn what_is_no_answer(rt: HostRuntime) -> Result<(), Fail> {
 #[test]
 fn an_answer_outlives_a_question_given_up(rt: HostRuntime) -> Result<(), Fail> {
     let mut t = in_answer(rt.alloc())?;
-    assert_eq!(rt; t.received(&DONE_BLOCK), Ok(TerminalTurn::Answered));
+    assert!(rt; same(t.received(&DONE_BLOCK), Ok(TerminalTurn::Answered)));
     let question = [0x00, 0xC1, 0x01, 0x20, 0xE0];
     assert!(rt; sends(t.ask_ifs(32), &question));
     for _ in 0..3u8 {
         assert!(rt; sends(t.quiet(), &question));
     }
     assert!(rt; sends(t.quiet(), &RESYNCH));
-    assert_eq!(rt; t.received(&RESYNCHED), Ok(TerminalTurn::GivenUp));
+    assert!(rt; same(t.received(&RESYNCHED), Ok(TerminalTurn::GivenUp)));
     assert!(rt; is_answer(&t, &DONE));
     Ok(())
 }
@@ -292,10 +293,10 @@ fn messages_that_are_too_long(rt: HostRuntime) -> Result<(), Fail> {
     let command = vec![in rt.alloc(); 0xA5u8; 65_545]?;
     let reply = vec![in rt.alloc(); 0x5Au8; 65_539]?;
     let mut t = terminal(rt.alloc())?;
-    assert_eq!(rt; t.transmit(&command), Err(TerminalFault::TooLong));
+    assert!(rt; same(t.transmit(&command), Err(TerminalFault::TooLong)));
     let mut c = card(rt.alloc())?;
-    assert_eq!(rt; c.received(&SELECT_BLOCK), Ok(CardTurn::Asked));
-    assert_eq!(rt; c.reply(&reply), Err(CardFault::TooLong));
+    assert!(rt; same(c.received(&SELECT_BLOCK), Ok(CardTurn::Asked)));
+    assert!(rt; same(c.reply(&reply), Err(CardFault::TooLong)));
     Ok(())
 }
 
@@ -338,16 +339,13 @@ fn sent(count: usize, waiting: u8) -> Result<TerminalPut, TerminalFault> {
 fn blocks_put_by_the_terminal(rt: HostRuntime) -> Result<(), Fail> {
     let mut t = terminal(rt.alloc())?;
     let mut out = [0xEE; LONGEST_BLOCK];
-    assert_eq!(rt; t.transmit_into(&SELECT, &mut out), sent(9, 1));
+    assert!(rt; same(t.transmit_into(&SELECT, &mut out), sent(9, 1)));
     assert!(rt; holds(&out, &SELECT_BLOCK));
     let more_time = [0x00, 0xC3, 0x01, 0x03, 0xC1];
-    assert_eq!(rt; put(&mut t, &more_time, &mut out), sent(5, 3));
-    assert_eq!(rt; put(&mut t, &[], &mut out), sent(4, 1));
-    assert_eq!(rt;
-        put(&mut t, &DONE_BLOCK, &mut out),
-        Ok(TerminalPut::Answered)
-    );
-    assert_eq!(rt; put(&mut t, &[], &mut out), Err(TerminalFault::Idle));
+    assert!(rt; same(put(&mut t, &more_time, &mut out), sent(5, 3)));
+    assert!(rt; same(put(&mut t, &[], &mut out), sent(4, 1)));
+    assert!(rt; same(put(&mut t, &DONE_BLOCK, &mut out), Ok(TerminalPut::Answered)));
+    assert!(rt; same(put(&mut t, &[], &mut out), Err(TerminalFault::Idle)));
     Ok(())
 }
 
@@ -355,7 +353,7 @@ fn blocks_put_by_the_terminal(rt: HostRuntime) -> Result<(), Fail> {
 fn a_size_put_by_the_terminal(rt: HostRuntime) -> Result<(), Fail> {
     let mut t = terminal(rt.alloc())?;
     let mut out = [0xEE; LONGEST_BLOCK];
-    assert_eq!(rt; t.ask_ifs_into(254, &mut out), sent(5, 1));
+    assert!(rt; same(t.ask_ifs_into(254, &mut out), sent(5, 1)));
     assert!(rt; holds(&out, &[0x00, 0xC1, 0x01, 0xFE, 0x3E]));
     Ok(())
 }
@@ -373,8 +371,8 @@ fn asked(alloc: Global, out: &mut Buffer) -> Result<Card, Fail> {
 fn blocks_put_by_the_card(rt: HostRuntime) -> Result<(), Fail> {
     let mut out = [0xEE; LONGEST_BLOCK];
     let mut c = asked(rt.alloc(), &mut out)?;
-    assert_eq!(rt; out[0], 0xEE);
-    assert_eq!(rt; c.reply_into(&DONE, &mut out), Ok(CardPut::Send(6)));
+    assert!(rt; same(out[0], 0xEE));
+    assert!(rt; same(c.reply_into(&DONE, &mut out), Ok(CardPut::Send(6))));
     assert!(rt; holds(&out, &DONE_BLOCK));
     Ok(())
 }
@@ -383,8 +381,8 @@ fn blocks_put_by_the_card(rt: HostRuntime) -> Result<(), Fail> {
 fn questions_put_by_the_card(rt: HostRuntime) -> Result<(), Fail> {
     let mut out = [0xEE; LONGEST_BLOCK];
     let mut c = asked(rt.alloc(), &mut out)?;
-    assert_eq!(rt; c.ask_ifs_into(0, &mut out), Err(CardFault::Reserved));
-    assert_eq!(rt; c.more_time_into(3, &mut out), Ok(CardPut::Send(5)));
+    assert!(rt; same(c.ask_ifs_into(0, &mut out), Err(CardFault::Reserved)));
+    assert!(rt; same(c.more_time_into(3, &mut out), Ok(CardPut::Send(5))));
     assert!(rt; holds(&out, &[0x00, 0xC3, 0x01, 0x03, 0xC1]));
     Ok(())
 }

@@ -1,11 +1,12 @@
 //! What no clause says: octets from the standards' rules, and each call once with ample memory.
 
+use octet_core::{Format, Octets, Refused, Stop, hex_upper, octets_of};
+use std::test::Fail;
+use testing::same;
 use tlv_core::{
     Dol, DolReason, FillFault, FlatForest, Forest, ForestCheck, ForestReader, Form, Improper,
     Known, LARGEST_FOREST, Node, Nodes, Tag, TlvReason, decode, encode, fill, first, tidy,
 };
-use octet_core::{Format, Octets, Refused, Stop, hex_upper, octets_of};
-use std::test::Fail;
 
 mod improper;
 mod parts;
@@ -53,7 +54,7 @@ fn checked(rt: &HostRuntime, text: &str, max: usize) -> Result<Result<(), Stop<T
 
 #[test]
 fn forests_are_accepted(rt: HostRuntime) -> Result<(), Fail> {
-    for text in [
+    const ROWS: [&str; 7] = [
         "",
         "6F108407A0000000041010A505BF0C025000",
         "00005A81011200",
@@ -61,15 +62,16 @@ fn forests_are_accepted(rt: HostRuntime) -> Result<(), Fail> {
         "5A8300000112",
         "5A840000000112",
         "70055A83000000",
-    ] {
-        assert_eq!(rt; checked(&rt, text, LARGEST_FOREST)?, Ok(()), "{text}");
+    ];
+    for text in ROWS {
+        assert!(rt; same(checked(&rt, text, LARGEST_FOREST)?, Ok(())), "{text}");
     }
     Ok(())
 }
 
 #[test]
 fn octets_are_refused_at_their_place(rt: HostRuntime) -> Result<(), Fail> {
-    for (text, place, reason) in [
+    const ROWS: [(&str, usize, TlvReason); 14] = [
         ("70035A0201", 3, TlvReason::Overrun),
         ("70035A82", 3, TlvReason::Overrun),
         ("70029F", 2, TlvReason::Overrun),
@@ -88,30 +90,39 @@ fn octets_are_refused_at_their_place(rt: HostRuntime) -> Result<(), Fail> {
             32,
             TlvReason::TooDeep,
         ),
-    ] {
-        assert_eq!(rt;
-            checked(&rt, text, LARGEST_FOREST)?,
-            Err(Stop::At { place, reason }),
+    ];
+    for (text, place, reason) in ROWS {
+        assert!(rt;
+            same(
+                checked(&rt, text, LARGEST_FOREST)?,
+                Err(Stop::At { place, reason })
+            ),
             "{text}"
         );
     }
     for (text, place) in [("5A02", 2), ("5A830FFFFB", 5)] {
-        assert_eq!(rt;
-            checked(&rt, text, LARGEST_FOREST)?,
-            Err(Stop::Short { place }),
+        assert!(rt;
+            same(
+                checked(&rt, text, LARGEST_FOREST)?,
+                Err(Stop::Short { place })
+            ),
             "{text}"
         );
     }
-    assert_eq!(rt;
-        checked(&rt, "5A82FFFC", 65_536)?,
-        Err(Stop::Short { place: 4 })
+    assert!(rt;
+        same(
+            checked(&rt, "5A82FFFC", 65_536)?,
+            Err(Stop::Short { place: 4 })
+        )
     );
-    assert_eq!(rt;
-        checked(&rt, "5A82FFFD", 65_536)?,
-        Err(Stop::At {
-            place: 3,
-            reason: TlvReason::TooLong
-        })
+    assert!(rt;
+        same(
+            checked(&rt, "5A82FFFD", 65_536)?,
+            Err(Stop::At {
+                place: 3,
+                reason: TlvReason::TooLong
+            })
+        )
     );
     Ok(())
 }
@@ -119,7 +130,7 @@ fn octets_are_refused_at_their_place(rt: HostRuntime) -> Result<(), Fail> {
 #[test]
 fn fillers_stand_inside_the_deepest_object(rt: HostRuntime) -> Result<(), Fail> {
     let text = "7020701E701C701A70187016701470127010700E700C700A70087006700470020000";
-    assert_eq!(rt; checked(&rt, text, LARGEST_FOREST)?, Ok(()));
+    assert!(rt; same(checked(&rt, text, LARGEST_FOREST)?, Ok(())));
     Ok(())
 }
 
@@ -135,16 +146,17 @@ fn tags_are_whole(rt: HostRuntime) -> Result<(), Fail> {
     ] {
         assert!(rt; Tag::new(octets).is_none(), "{octets:?}");
     }
-    for (text, constructed) in [
+    const ROWS: [(&str, bool); 5] = [
         ("5A", false),
         ("6F", true),
         ("9F02", false),
         ("BF0C", true),
         ("DF8101", false),
-    ] {
+    ];
+    for (text, constructed) in ROWS {
         let tag = tag(&rt, text)?;
-        assert_eq!(rt; tag.is_constructed(), constructed, "{text}");
-        assert_eq!(rt; hex_upper(rt.alloc(), tag.octets())?.as_str(), text);
+        assert!(rt; same(tag.is_constructed(), constructed), "{text}");
+        assert!(rt; same(hex_upper(rt.alloc(), tag.octets())?.as_str(), text));
     }
     assert!(rt; tag(&rt, "5A")? == tag(&rt, "5A")?);
     assert!(rt; tag(&rt, "5A")? != tag(&rt, "9F5A")?);
@@ -179,17 +191,21 @@ fn forests_are_written_and_tidied(rt: HostRuntime) -> Result<(), Fail> {
         nodes: one(&rt, primitive(&rt, "5A", Form::Three, "")?)?,
     })?;
     let forest = Forest::new(Nodes::of(list)).ok().ok_or("a forest")?;
-    assert_eq!(rt; forest.nodes().get().len(), 4);
+    assert!(rt; same(forest.nodes().get().len(), 4));
     let octets = encode(rt.alloc(), &forest)?;
-    assert_eq!(rt;
-        hex_upper(rt.alloc(), octets.as_slice())?.as_str(),
-        "00005A8101127081045A820000"
+    assert!(rt;
+        same(
+            hex_upper(rt.alloc(), octets.as_slice())?.as_str(),
+            "00005A8101127081045A820000"
+        )
     );
     let tidied = tidy(rt.alloc(), &forest)?;
     let octets = encode(rt.alloc(), &tidied)?;
-    assert_eq!(rt;
-        hex_upper(rt.alloc(), octets.as_slice())?.as_str(),
-        "5A011270025A00"
+    assert!(rt;
+        same(
+            hex_upper(rt.alloc(), octets.as_slice())?.as_str(),
+            "5A011270025A00"
+        )
     );
     Ok(())
 }
@@ -198,8 +214,8 @@ fn forests_are_written_and_tidied(rt: HostRuntime) -> Result<(), Fail> {
 fn improper_lists_come_back(rt: HostRuntime) -> Result<(), Fail> {
     let nodes = one(&rt, primitive(&rt, "6F", Form::One, "")?)?;
     let (nodes, improper) = Forest::new(nodes).err().ok_or("a refusal")?;
-    assert_eq!(rt; improper, Improper::Tag);
-    assert_eq!(rt; nodes.into_inner().len(), 1);
+    assert!(rt; same(improper, Improper::Tag));
+    assert!(rt; same(nodes.into_inner().len(), 1));
     let mut value = Vec::new(rt.alloc());
     for _ in 0..128_u32 {
         value.push(0_u8)?;
@@ -210,7 +226,7 @@ fn improper_lists_come_back(rt: HostRuntime) -> Result<(), Fail> {
         value: Octets::of(value),
     };
     let (_, improper) = Forest::new(one(&rt, node)?).err().ok_or("a refusal")?;
-    assert_eq!(rt; improper, Improper::Form);
+    assert!(rt; same(improper, Improper::Form));
     let mut nested = primitive(&rt, "5A", Form::One, "")?;
     for _ in 0..17_u32 {
         nested = Node::Constructed {
@@ -220,7 +236,7 @@ fn improper_lists_come_back(rt: HostRuntime) -> Result<(), Fail> {
         };
     }
     let (_, improper) = Forest::new(one(&rt, nested)?).err().ok_or("a refusal")?;
-    assert_eq!(rt; improper, Improper::Depth);
+    assert!(rt; same(improper, Improper::Depth));
     Ok(())
 }
 
@@ -230,7 +246,7 @@ fn lists_are_read_and_written(rt: HostRuntime) -> Result<(), Fail> {
     let dol = Dol::decode(rt.alloc(), octets.as_slice())
         .ok()
         .ok_or("a list")?;
-    assert_eq!(rt; dol.entries().len(), 3);
+    assert!(rt; same(dol.entries().len(), 3));
     assert!(rt; dol.encode(rt.alloc())?.as_slice() == octets.as_slice());
     for (text, stop) in [
         (
@@ -258,7 +274,7 @@ fn lists_are_read_and_written(rt: HostRuntime) -> Result<(), Fail> {
     ] {
         let octets = octets_of(rt.alloc(), text)?;
         let refused = Dol::decode(rt.alloc(), octets.as_slice()).err();
-        assert_eq!(rt; refused, Some(Refused::Stop(stop)), "{text}");
+        assert!(rt; same(refused, Some(Refused::Stop(stop))), "{text}");
     }
     let mut entries = Vec::new(rt.alloc());
     entries.push((tag(&rt, "9A")?, 3_u8))?;
@@ -269,7 +285,7 @@ fn lists_are_read_and_written(rt: HostRuntime) -> Result<(), Fail> {
 
 #[test]
 fn lists_are_filled(rt: HostRuntime) -> Result<(), Fail> {
-    for (dol, format, text, value, filled) in [
+    const ROWS: [(&str, Format, &str, &str, &str); 7] = [
         (
             "9F02065F2A029A03",
             Format::Numeric,
@@ -283,7 +299,8 @@ fn lists_are_filled(rt: HostRuntime) -> Result<(), Fail> {
         ("5002", Format::Other, "50", "41", "4100"),
         ("6F02", Format::Other, "6F", "0101", "0000"),
         ("", Format::Other, "6F", "0101", ""),
-    ] {
+    ];
+    for (dol, format, text, value, filled) in ROWS {
         let octets = octets_of(rt.alloc(), dol)?;
         let dol = Dol::decode(rt.alloc(), octets.as_slice())
             .ok()
@@ -294,7 +311,7 @@ fn lists_are_filled(rt: HostRuntime) -> Result<(), Fail> {
             value: Octets::of(octets_of(rt.alloc(), value)?),
         }];
         let octets = fill(rt.alloc(), &dol, &known).ok().ok_or("filled")?;
-        assert_eq!(rt; hex_upper(rt.alloc(), octets.as_slice())?.as_str(), filled);
+        assert!(rt; same(hex_upper(rt.alloc(), octets.as_slice())?.as_str(), filled));
     }
     let dol = Dol::of(Vec::new(rt.alloc()));
     let twice = [
@@ -309,9 +326,11 @@ fn lists_are_filled(rt: HostRuntime) -> Result<(), Fail> {
             value: Octets::of(Vec::new(rt.alloc())),
         },
     ];
-    assert_eq!(rt;
-        fill(rt.alloc(), &dol, &twice).err(),
-        Some(FillFault::Duplicate)
+    assert!(rt;
+        same(
+            fill(rt.alloc(), &dol, &twice).err(),
+            Some(FillFault::Duplicate)
+        )
     );
     Ok(())
 }
@@ -328,31 +347,36 @@ fn forest(rt: &HostRuntime, text: &str) -> Result<Forest, Fail> {
 
 #[test]
 fn forests_are_read(rt: HostRuntime) -> Result<(), Fail> {
-    for text in [
+    const ROWS: [&str; 4] = [
         "",
         "6F108407A0000000041010A505BF0C025000",
         "00005A81011200",
         "5A840000000112",
-    ] {
+    ];
+    for text in ROWS {
         let octets = encode(rt.alloc(), &forest(&rt, text)?)?;
-        assert_eq!(rt; hex_upper(rt.alloc(), octets.as_slice())?.as_str(), text);
+        assert!(rt; same(hex_upper(rt.alloc(), octets.as_slice())?.as_str(), text));
     }
     for (text, place) in [("70029F", 2), ("70035A0201", 3)] {
         let octets = octets_of(rt.alloc(), text)?;
-        assert_eq!(rt;
-            decode(rt.alloc(), octets.as_slice(), LARGEST_FOREST).err(),
-            Some(Refused::Stop(Stop::At {
-                place,
-                reason: TlvReason::Overrun
-            })),
+        assert!(rt;
+            same(
+                decode(rt.alloc(), octets.as_slice(), LARGEST_FOREST).err(),
+                Some(Refused::Stop(Stop::At {
+                    place,
+                    reason: TlvReason::Overrun
+                }))
+            ),
             "{text}"
         );
     }
     let tidied = tidy(rt.alloc(), &forest(&rt, "7081045A820000")?)?;
     let octets = encode(rt.alloc(), &tidied)?;
-    assert_eq!(rt;
-        hex_upper(rt.alloc(), octets.as_slice())?.as_str(),
-        "70025A00"
+    assert!(rt;
+        same(
+            hex_upper(rt.alloc(), octets.as_slice())?.as_str(),
+            "70025A00"
+        )
     );
     Ok(())
 }

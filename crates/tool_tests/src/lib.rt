@@ -1,4 +1,4 @@
-//! The tests of [`card_tool`]: what no clause says. They are apart from it, so that the gate proves it once.
+//! The tests of [`card_tool`], apart from it so that the gate proves it once.
 #![tactic(auto)]
 
 #[cfg(test)]

@@ -8,6 +8,7 @@ use apdu_core::{
 use block_core::Number;
 use octet_core::{After, Counted, FailsOnce, Feeder, Source, Taker};
 use std::test::Fail;
+use testing::same;
 
 // A call, or a writer below it, that tried the failed call again in silence would send the whole chain and
 // answer `Ok(())`.
@@ -15,19 +16,20 @@ use std::test::Fail;
 fn nothing_is_sent_after_a_failed_write(rt: HostRuntime) -> Result<(), Fail> {
     let command = Command::new(SELECT, Body::ShortLe { le: 256 })?;
     let response = Response::new(octets(&rt, "")?, 0x90, 0x00)?;
-    for fault in [After::End, After::Fails, After::Interrupted] {
+    const ROWS: [After; 3] = [After::End, After::Fails, After::Interrupted];
+    for fault in ROWS {
         for written in 0..SELECT_CHAIN.len() {
             let taker = Taker::new(4096, 4096, After::End);
             let mut writer = Counted::new(FailsOnce::new(taker, written, fault));
             let sent = send_command(rt.alloc(), &mut writer, &command, 2, Number::Zero);
-            assert_eq!(rt; sent, Err(SendFault::Write { written }));
+            assert!(rt; same(sent, Err(SendFault::Write { written })));
             assert!(rt; writer.into_inner().into_inner().kept() == &SELECT_CHAIN[..written]);
         }
         for written in 0..DONE_CHAIN.len() {
             let taker = Taker::new(4096, 4096, After::End);
             let mut writer = Counted::new(FailsOnce::new(taker, written, fault));
             let sent = send_response(rt.alloc(), &mut writer, &response, 254, Number::Zero);
-            assert_eq!(rt; sent, Err(SendFault::Write { written }));
+            assert!(rt; same(sent, Err(SendFault::Write { written })));
             assert!(rt; writer.into_inner().into_inner().kept() == &DONE_CHAIN[..written]);
         }
     }
@@ -44,17 +46,17 @@ fn a_failed_read_ends_receiving(rt: HostRuntime) -> Result<(), Fail> {
             let feeder = Feeder::new(&SELECT_CHAIN, 4096, After::End);
             let mut reader = Counted::new(FailsOnce::new(feeder, taken, fault));
             let received = receive_command(rt.alloc(), &mut reader, 2, Number::Zero);
-            assert_eq!(rt; received.err(), Some(ReceiveFault::Read { taken }));
+            assert!(rt; same(received.err(), Some(ReceiveFault::Read { taken })));
             assert!(rt; reader.read(&mut room)? > 0);
-            assert_eq!(rt; room.first(), SELECT_CHAIN.get(taken));
+            assert!(rt; same(room.first(), SELECT_CHAIN.get(taken)));
         }
         for taken in 0..DONE_CHAIN.len() {
             let feeder = Feeder::new(&DONE_CHAIN, 4096, After::End);
             let mut reader = Counted::new(FailsOnce::new(feeder, taken, fault));
             let received = receive_response(rt.alloc(), &mut reader, 254, Number::Zero);
-            assert_eq!(rt; received.err(), Some(ReceiveFault::Read { taken }));
+            assert!(rt; same(received.err(), Some(ReceiveFault::Read { taken })));
             assert!(rt; reader.read(&mut room)? > 0);
-            assert_eq!(rt; room.first(), DONE_CHAIN.get(taken));
+            assert!(rt; same(room.first(), DONE_CHAIN.get(taken)));
         }
     }
     Ok(())

@@ -2,15 +2,16 @@
 
 use super::exchange as recorded;
 use super::sessions::ACTED_ON;
+use block_core::encode;
 use exchange_core::{
     Arrival, Event, EventFault, Exchange, LastTurn, Line, Recorder, RecorderFault, Side, replay,
 };
-use block_core::encode;
 use octet_core::octets_of;
 use std::alloc::Global;
 use std::process::Abort;
 use std::test::Fail;
 use t1_core::{CardFault, CardTurn, TerminalFault};
+use testing::same;
 
 /// The answer to reset of a card that takes information fields of 32 octets.
 pub(super) const ATR: [u8; 7] = [0x3B, 0x80, 0x81, 0x31, 0x20, 0x45, 0x55];
@@ -158,7 +159,7 @@ pub(super) fn assert_replays(rt: &impl Abort, alloc: Global, exchange: &Exchange
 pub(super) fn assert_answered(rt: &impl Abort, alloc: Global, exchange: &Exchange, answer: &[u8]) {
     assert_replays(rt, alloc, exchange);
     let lines = exchange.lines().get();
-    assert_eq!(rt; asked(lines), 1, "{exchange:?}");
+    assert!(rt; same(asked(lines), 1), "{exchange:?}");
     let is_answered = match lines.last() {
         Some(Line::Answer(octets)) => octets.get() == answer,
         _ => false,
@@ -307,14 +308,15 @@ fn sessions_given_up(rt: HostRuntime) -> Result<(), Fail> {
 #[test]
 fn events_that_are_refused(rt: HostRuntime) -> Result<(), Fail> {
     let mut recorder = Recorder::new(rt.alloc(), &ATR).map_err(|_| "no recorder")?;
-    for event in [Event::Deliver, Event::Damage, Event::Spoil, Event::Lose] {
-        assert_eq!(rt; recorder.happens(event), Err(EventFault::NothingUnderWay));
+    const ROWS: [Event; 4] = [Event::Deliver, Event::Damage, Event::Spoil, Event::Lose];
+    for event in ROWS {
+        assert!(rt; same(recorder.happens(event), Err(EventFault::NothingUnderWay)));
     }
     let early = recorder.happens(Event::Reply(&DONE));
-    assert_eq!(rt; early, Err(EventFault::Card(CardFault::Order)));
-    assert_eq!(rt; recorder.happens(Event::Transmit(&SELECT)), Ok(()));
+    assert!(rt; same(early, Err(EventFault::Card(CardFault::Order))));
+    assert!(rt; same(recorder.happens(Event::Transmit(&SELECT)), Ok(())));
     let again = recorder.happens(Event::Transmit(&SELECT));
-    assert_eq!(rt; again, Err(EventFault::Terminal(TerminalFault::Busy)));
+    assert!(rt; same(again, Err(EventFault::Terminal(TerminalFault::Busy))));
     assert!(rt; recorder.terminal().answer().is_none());
     assert!(rt; recorder.card().command().is_none());
     // the block under way at the end counts as lost
@@ -331,13 +333,13 @@ fn events_that_are_refused(rt: HostRuntime) -> Result<(), Fail> {
 
 #[test]
 fn answers_to_reset_that_are_refused(rt: HostRuntime) -> Result<(), Fail> {
-    let rows = [
+    const ROWS: [(&str, &str); 4] = [
         ("3B00", "NoT1"),
         ("3B808111FFEF", "ReservedIfsc"),
         ("3B8081410141", "Crc"),
         ("3B808131204554", "BadAtr"),
     ];
-    for (atr, name) in &rows {
+    for (atr, name) in &ROWS {
         let atr = octets_of(rt.alloc(), atr)?;
         let is_named = match Recorder::new(rt.alloc(), atr.as_slice()) {
             Err(RecorderFault::Refused(given)) => given == *name,

@@ -1,12 +1,13 @@
 //! Numbers as decimal text.
 
 use octet_core::decimal_of;
+use testing::same;
 
 #[test]
 fn numbers_of_up_to_15_digits(rt: HostRuntime) {
-    assert_eq!(rt; decimal_of(b"0"), Some(0));
-    assert_eq!(rt; decimal_of(b"1500"), Some(1500));
-    assert_eq!(rt; decimal_of(b"999999999999999"), Some(999_999_999_999_999));
+    assert!(rt; same(decimal_of(b"0"), Some(0)));
+    assert!(rt; same(decimal_of(b"1500"), Some(1500)));
+    assert!(rt; same(decimal_of(b"999999999999999"), Some(999_999_999_999_999)));
     for text in [
         b"".as_slice(),
         b"05",
@@ -17,6 +18,6 @@ fn numbers_of_up_to_15_digits(rt: HostRuntime) {
         b"1_0",
         b"1000000000000000",
     ] {
-        assert_eq!(rt; decimal_of(text), None);
+        assert!(rt; same(decimal_of(text), None));
     }
 }

@@ -1,9 +1,10 @@
 //! Lists of nodes that are no forest: the most octets, and which fault comes first.
 
 use super::{one, tag};
-use tlv_core::{Forest, Form, Improper, LARGEST_FOREST, Node, Nodes};
 use octet_core::Octets;
 use std::test::Fail;
+use testing::same;
+use tlv_core::{Forest, Form, Improper, LARGEST_FOREST, Node, Nodes};
 
 /// So many fillers.
 fn fillers(rt: &HostRuntime, count: usize) -> Result<Nodes, Fail> {
@@ -25,8 +26,8 @@ fn a_forest_has_room_for_the_most_fillers(rt: HostRuntime) -> Result<(), Fail> {
 fn one_filler_more_is_refused_for_the_size(rt: HostRuntime) -> Result<(), Fail> {
     let nodes = fillers(&rt, LARGEST_FOREST + 1)?;
     let (nodes, improper) = Forest::new(nodes).err().ok_or("a refusal")?;
-    assert_eq!(rt; improper, Improper::Size);
-    assert_eq!(rt; nodes.into_inner().len(), LARGEST_FOREST + 1);
+    assert!(rt; same(improper, Improper::Size));
+    assert!(rt; same(nodes.into_inner().len(), LARGEST_FOREST + 1));
     Ok(())
 }
 
@@ -46,6 +47,6 @@ fn depth_comes_before_a_wrong_form_inside(rt: HostRuntime) -> Result<(), Fail> {
         };
     }
     let (_, improper) = Forest::new(one(&rt, nested)?).err().ok_or("a refusal")?;
-    assert_eq!(rt; improper, Improper::Depth);
+    assert!(rt; same(improper, Improper::Depth));
     Ok(())
 }

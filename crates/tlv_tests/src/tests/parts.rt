@@ -1,10 +1,11 @@
 //! Parts of forests, and the octets that are lent with them.
 
-use tlv_core::{FlatForest, Form, LARGEST_FOREST, TlvReason};
 use octet_core::{Refused, Stop, hex_upper, octets_of};
 use std::alloc::Global;
 use std::process::Abort;
 use std::test::Fail;
+use testing::same;
+use tlv_core::{FlatForest, Form, LARGEST_FOREST, TlvReason};
 
 /// What is wanted of a part: its depth, its tag, and the place of its value with its octets.
 type Wanted = (usize, &'static str, usize, &'static str);
@@ -15,11 +16,11 @@ fn check_parts(alloc: Global, rt: &impl Abort, text: &str, wanted: &[Wanted]) ->
     let flat = FlatForest::read(alloc, octets.as_slice(), LARGEST_FOREST)
         .ok()
         .ok_or("a forest")?;
-    assert_eq!(rt; flat.parts().len(), wanted.len(), "{text}");
+    assert!(rt; same(flat.parts().len(), wanted.len()), "{text}");
     for (part, (depth, tag, place, value)) in flat.parts().iter().zip(wanted) {
-        assert_eq!(rt; part.depth, *depth, "{text}");
-        assert_eq!(rt; hex_upper(alloc, part.tag.octets())?.as_str(), *tag);
-        assert_eq!(rt; hex_upper(alloc, part.value)?.as_str(), *value);
+        assert!(rt; same(part.depth, *depth), "{text}");
+        assert!(rt; same(hex_upper(alloc, part.tag.octets())?.as_str(), *tag));
+        assert!(rt; same(hex_upper(alloc, part.value)?.as_str(), *value));
         let rest = octets.as_slice().get(*place..).ok_or("a place")?;
         assert!(rt; rest.starts_with(part.value), "{text} at {place}");
     }
@@ -58,7 +59,7 @@ fn fillers_are_no_parts(rt: HostRuntime) -> Result<(), Fail> {
         .ok()
         .ok_or("a forest")?;
     for part in flat.parts() {
-        assert_eq!(rt; part.form, Form::Two);
+        assert!(rt; same(part.form, Form::Two));
     }
     Ok(())
 }
@@ -84,7 +85,7 @@ fn other_octets_have_no_parts(rt: HostRuntime) -> Result<(), Fail> {
     ] {
         let octets = octets_of(rt.alloc(), text)?;
         let refused = FlatForest::read(rt.alloc(), octets.as_slice(), LARGEST_FOREST).err();
-        assert_eq!(rt; refused, Some(Refused::Stop(stop)), "{text}");
+        assert!(rt; same(refused, Some(Refused::Stop(stop))), "{text}");
     }
     Ok(())
 }

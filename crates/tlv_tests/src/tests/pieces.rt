@@ -1,11 +1,12 @@
 //! Forests that come in pieces.
 
+use octet_core::{Octets, Refused, Stop, hex_upper, octets_of};
+use std::test::Fail;
+use testing::same;
 use tlv_core::{
     Forest, ForestCheck, ForestReader, Form, LARGEST_FOREST, Node, Nodes, Tag, TlvReason, decode,
     encode, tidy,
 };
-use octet_core::{Octets, Refused, Stop, hex_upper, octets_of};
-use std::test::Fail;
 
 #[test]
 fn pieces_are_joined(rt: HostRuntime) -> Result<(), Fail> {
@@ -15,12 +16,12 @@ fn pieces_are_joined(rt: HostRuntime) -> Result<(), Fail> {
     });
     let mut check = ForestCheck::new(65_536);
     for piece in [&[0x6F][..], &[], &[0x04], &[0xA5, 0x02]] {
-        assert_eq!(rt; check.feed(piece), Ok(()));
+        assert!(rt; same(check.feed(piece), Ok(())));
     }
-    assert_eq!(rt; check.finish(), Err(Stop::Short { place: 4 }));
-    assert_eq!(rt; check.feed(&[0x5A, 0x01]), overrun);
-    assert_eq!(rt; check.feed(&[0x00]), overrun);
-    assert_eq!(rt; check.finish(), overrun);
+    assert!(rt; same(check.finish(), Err(Stop::Short { place: 4 })));
+    assert!(rt; same(check.feed(&[0x5A, 0x01]), overrun));
+    assert!(rt; same(check.feed(&[0x00]), overrun));
+    assert!(rt; same(check.finish(), overrun));
     Ok(())
 }
 
@@ -31,12 +32,12 @@ fn trees_are_read_in_pieces(rt: HostRuntime) -> Result<(), Fail> {
     for step in 1..octets.len() + 1 {
         let mut reader = ForestReader::new(rt.alloc(), LARGEST_FOREST)?;
         for piece in octets.as_slice().chunks(step) {
-            assert_eq!(rt; reader.feed(piece), Ok(()));
+            assert!(rt; same(reader.feed(piece), Ok(())));
         }
         let forest = reader.finish().ok().ok_or("a forest")?;
-        assert_eq!(rt; forest.nodes().get().len(), 5);
+        assert!(rt; same(forest.nodes().get().len(), 5));
         let spelled = encode(rt.alloc(), &forest)?;
-        assert_eq!(rt; hex_upper(rt.alloc(), spelled.as_slice())?.as_str(), text);
+        assert!(rt; same(hex_upper(rt.alloc(), spelled.as_slice())?.as_str(), text));
     }
     Ok(())
 }
@@ -54,10 +55,10 @@ fn a_reader_goes_on_after_want_of_memory(rt: HostRuntime) -> Result<(), Fail> {
             fed = reader.feed(rest);
         }
     }
-    assert_eq!(rt; fed, Ok(()));
+    assert!(rt; same(fed, Ok(())));
     let forest = reader.finish().ok().ok_or("a forest")?;
     let spelled = encode(rt.alloc(), &forest)?;
-    assert_eq!(rt; hex_upper(rt.alloc(), spelled.as_slice())?.as_str(), text);
+    assert!(rt; same(hex_upper(rt.alloc(), spelled.as_slice())?.as_str(), text));
     Ok(())
 }
 
@@ -69,11 +70,11 @@ fn overruns_are_repeated(rt: HostRuntime) -> Result<(), Fail> {
     };
     let mut reader = ForestReader::new(rt.alloc(), LARGEST_FOREST)?;
     for piece in [&[0x70][..], &[0x03, 0x5A], &[]] {
-        assert_eq!(rt; reader.feed(piece), Ok(()));
+        assert!(rt; same(reader.feed(piece), Ok(())));
     }
-    assert_eq!(rt; reader.feed(&[0x02, 0x01]), Err((0, Refused::Stop(stop))));
-    assert_eq!(rt; reader.feed(&[0x00]), Err((0, Refused::Stop(stop))));
-    assert_eq!(rt; reader.finish().err(), Some(stop));
+    assert!(rt; same(reader.feed(&[0x02, 0x01]), Err((0, Refused::Stop(stop)))));
+    assert!(rt; same(reader.feed(&[0x00]), Err((0, Refused::Stop(stop)))));
+    assert!(rt; same(reader.finish().err(), Some(stop)));
     Ok(())
 }
 
@@ -84,16 +85,18 @@ fn octets_before_a_refusal_are_counted(rt: HostRuntime) -> Result<(), Fail> {
         reason: TlvReason::Overrun,
     };
     let mut reader = ForestReader::new(rt.alloc(), LARGEST_FOREST)?;
-    assert_eq!(rt; reader.feed(&[0x70]), Ok(()));
-    assert_eq!(rt;
-        reader.feed(&[0x03, 0x5A, 0x02, 0x01]),
-        Err((2, Refused::Stop(stop)))
+    assert!(rt; same(reader.feed(&[0x70]), Ok(())));
+    assert!(rt;
+        same(
+            reader.feed(&[0x03, 0x5A, 0x02, 0x01]),
+            Err((2, Refused::Stop(stop)))
+        )
     );
     let reader = ForestReader::new(rt.alloc(), LARGEST_FOREST)?;
     assert!(rt; reader.finish().is_ok());
     let mut reader = ForestReader::new(rt.alloc(), LARGEST_FOREST)?;
-    assert_eq!(rt; reader.feed(&[0x5A, 0x02, 0x00]), Ok(()));
-    assert_eq!(rt; reader.finish().err(), Some(Stop::Short { place: 3 }));
+    assert!(rt; same(reader.feed(&[0x5A, 0x02, 0x00]), Ok(())));
+    assert!(rt; same(reader.finish().err(), Some(Stop::Short { place: 3 })));
     Ok(())
 }
 
@@ -112,9 +115,9 @@ fn seventeen_levels_are_too_deep(rt: HostRuntime) -> Result<(), Fail> {
         } else {
             Err((0, Refused::Stop(stop)))
         };
-        assert_eq!(rt; reader.feed(&[*octet]), wanted, "{place}");
+        assert!(rt; same(reader.feed(&[*octet]), wanted), "{place}");
     }
-    assert_eq!(rt; reader.finish().err(), Some(stop));
+    assert!(rt; same(reader.finish().err(), Some(stop)));
     Ok(())
 }
 
@@ -132,7 +135,7 @@ fn a_value_of_65536_octets_comes_back(rt: HostRuntime) -> Result<(), Fail> {
     })?;
     let forest = Forest::new(Nodes::of(list)).ok().ok_or("a forest")?;
     let octets = encode(rt.alloc(), &tidy(rt.alloc(), &forest)?)?;
-    assert_eq!(rt; octets.len(), 65_541);
+    assert!(rt; same(octets.len(), 65_541));
     assert!(rt;
         octets
             .as_slice()

@@ -6,7 +6,7 @@ use std::test::Fail;
 
 #[test]
 fn checks_commands(rt: HostRuntime) -> Result<(), Fail> {
-    let rows = [
+    const ROWS: [(&str, &str, Status); 13] = [
         ("check command 00A40400", "ok 4 octets\n", Status::Accepted),
         (
             "check command 00B0000000",
@@ -65,13 +65,13 @@ fn checks_commands(rt: HostRuntime) -> Result<(), Fail> {
             Status::Refused,
         ),
     ];
-    says_each(&rt, rt.alloc(), &rows)?;
+    says_each(&rt, rt.alloc(), &ROWS)?;
     Ok(())
 }
 
 #[test]
 fn shows_commands(rt: HostRuntime) -> Result<(), Fail> {
-    let rows = [
+    const ROWS: [(&str, &str, Status); 8] = [
         (
             "show command 00A40400",
             "case 1\nheader 00A40400\npart none\nle none\n",
@@ -109,13 +109,13 @@ fn shows_commands(rt: HostRuntime) -> Result<(), Fail> {
         ),
         ("show command 00B000000000", "short at 6\n", Status::Refused),
     ];
-    says_each(&rt, rt.alloc(), &rows)?;
+    says_each(&rt, rt.alloc(), &ROWS)?;
     Ok(())
 }
 
 #[test]
 fn checks_and_shows_responses(rt: HostRuntime) -> Result<(), Fail> {
-    let rows = [
+    const ROWS: [(&str, &str, Status); 14] = [
         ("check response 9000", "ok 2 octets\n", Status::Accepted),
         ("check response 90", "short at 1\n", Status::Refused),
         ("check response none", "short at 0\n", Status::Refused),
@@ -171,6 +171,6 @@ fn checks_and_shows_responses(rt: HostRuntime) -> Result<(), Fail> {
         ),
         ("show response 90", "short at 1\n", Status::Refused),
     ];
-    says_each(&rt, rt.alloc(), &rows)?;
+    says_each(&rt, rt.alloc(), &ROWS)?;
     Ok(())
 }

@@ -65,7 +65,7 @@ fn the_first_number_is_zero_or_one(rt: HostRuntime) -> Result<(), Fail> {
 
 #[test]
 fn checks_chains(rt: HostRuntime) -> Result<(), Fail> {
-    let rows = [
+    const ROWS: [(&str, &str, Status); 14] = [
         (
             "check chain --ifs 2 00200200A486006002040066000001000100",
             "ok 17 octets\n",
@@ -129,13 +129,13 @@ fn checks_chains(rt: HostRuntime) -> Result<(), Fail> {
         ),
         ("check chain 0G", "fault: hex\n", Status::Fault),
     ];
-    says_each(&rt, rt.alloc(), &rows)?;
+    says_each(&rt, rt.alloc(), &ROWS)?;
     Ok(())
 }
 
 #[test]
 fn shows_chains(rt: HostRuntime) -> Result<(), Fail> {
-    let rows = [
+    const ROWS: [(&str, &str, Status); 3] = [
         (
             "show chain --ifs 2 00200200A486006002040066000001000100",
             "blocks 3\nmessage 00A4040000\n",
@@ -152,6 +152,6 @@ fn shows_chains(rt: HostRuntime) -> Result<(), Fail> {
             Status::Refused,
         ),
     ];
-    says_each(&rt, rt.alloc(), &rows)?;
+    says_each(&rt, rt.alloc(), &ROWS)?;
     Ok(())
 }

@@ -2,14 +2,15 @@
 
 ghost use Rattle.std.specs.Prelude.{◌≡◌, ◌<◌, ◌≤◌, IfOk, length};
 
-use card_tool::file::LARGEST_FILE;
 use crate::tests::words_of;
+use card_tool::file::LARGEST_FILE;
 use card_tool::{Status, run};
 use octet_core::{After, Counted, Feeder, Taker};
 use std::alloc::{AllocError, Global};
 use std::io::{self, ErrorKind, Read, Write};
 use std::process::Abort;
 use std::test::Fail;
+use testing::same;
 
 /// What the program says of a file that a reader gives by steps of so many octets.
 #[derive(Clone, Copy)]
@@ -84,12 +85,12 @@ fn both_say(
     requires step { 1 ≤ step }
     requires repeats { after ≡ After.Repeats → 0 < length file.now }
 {
-    let lines: [&[&str]; 3] = [
+    const ROWS: [&[&str]; 3] = [
         &["migrate"],
         &["replay", "--end", "card"],
         &["replay", "--end=terminal"],
     ];
-    for line in lines {
+    for line in ROWS {
         let saying = Saying {
             line,
             file,
@@ -134,7 +135,8 @@ fn the_largest_file(rt: HostRuntime) -> Result<(), Fail> {
 fn a_file_too_large(rt: HostRuntime) -> Result<(), Fail> {
     let octets = zeros(rt.alloc(), LARGEST_FILE + 1)?;
     let large = "fault: TooLarge\n";
-    for after in [After::End, After::Fails, After::Repeats] {
+    const ROWS: [After; 3] = [After::End, After::Fails, After::Repeats];
+    for after in ROWS {
         both_say(
             &rt,
             rt.alloc(),
@@ -188,8 +190,8 @@ fn a_failed_read_is_not_tried_again(rt: HostRuntime) -> Result<(), Fail> {
     let mut reader = Counted::new(FailsAtFirst { calls: 0 });
     let mut writer = Counted::new(Taker::new(4096, 7, After::End));
     let status = run(rt.alloc(), words, &mut reader, &mut writer);
-    assert_eq!(rt; status, Status::Fault);
-    assert_eq!(rt; reader.into_inner().calls, 1);
+    assert!(rt; same(status, Status::Fault));
+    assert!(rt; same(reader.into_inner().calls, 1));
     assert!(rt; writer.into_inner().kept() == b"fault: read\n".as_slice());
     Ok(())
 }
@@ -224,9 +226,9 @@ fn a_failed_write_is_not_tried_again(rt: HostRuntime) -> Result<(), Fail> {
     let mut writer = Counted::new(FailsAtSecond { calls: 0, taken: 0 });
     let status = run(rt.alloc(), words, &mut reader, &mut writer);
     let writer = writer.into_inner();
-    assert_eq!(rt; status, Status::Fault);
-    assert_eq!(rt; writer.calls, 2);
-    assert_eq!(rt; writer.taken, 7);
-    assert_eq!(rt; reader.into_inner().calls, 0);
+    assert!(rt; same(status, Status::Fault));
+    assert!(rt; same(writer.calls, 2));
+    assert!(rt; same(writer.taken, 7));
+    assert!(rt; same(reader.into_inner().calls, 0));
     Ok(())
 }

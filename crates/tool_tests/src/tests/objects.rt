@@ -6,7 +6,7 @@ use std::test::Fail;
 
 #[test]
 fn checks_forests(rt: HostRuntime) -> Result<(), Fail> {
-    let rows = [
+    const ROWS: [(&str, &str, Status); 21] = [
         (
             "check tlv 6F108407A0000000041010A505BF0C025000",
             "ok 18 octets\n",
@@ -97,13 +97,13 @@ fn checks_forests(rt: HostRuntime) -> Result<(), Fail> {
         ),
         ("check tlv 5A02", "short at 2\n", Status::Refused),
     ];
-    says_each(&rt, rt.alloc(), &rows)?;
+    says_each(&rt, rt.alloc(), &ROWS)?;
     Ok(())
 }
 
 #[test]
 fn sixteen_levels_and_no_more(rt: HostRuntime) -> Result<(), Fail> {
-    let rows = [
+    const ROWS: [(&str, &str, Status); 3] = [
         (
             "check tlv 701E701C701A70187016701470127010700E700C700A70087006700470027000",
             "ok 32 octets\n",
@@ -120,13 +120,13 @@ fn sixteen_levels_and_no_more(rt: HostRuntime) -> Result<(), Fail> {
             Status::Accepted,
         ),
     ];
-    says_each(&rt, rt.alloc(), &rows)?;
+    says_each(&rt, rt.alloc(), &ROWS)?;
     Ok(())
 }
 
 #[test]
 fn shows_forests(rt: HostRuntime) -> Result<(), Fail> {
-    let rows = [
+    const ROWS: [(&str, &str, Status); 6] = [
         (
             "show tlv 6F108407A0000000041010A505BF0C025000",
             "objects 5\n6F 10 constructed\n  84 07 A0000000041010\n  A5 05 constructed\n    BF0C 02 constructed\n      50 00 none\n",
@@ -150,13 +150,13 @@ fn shows_forests(rt: HostRuntime) -> Result<(), Fail> {
         ),
         ("show tlv 5A02", "short at 2\n", Status::Refused),
     ];
-    says_each(&rt, rt.alloc(), &rows)?;
+    says_each(&rt, rt.alloc(), &ROWS)?;
     Ok(())
 }
 
 #[test]
 fn tidies_forests(rt: HostRuntime) -> Result<(), Fail> {
-    let rows = [
+    const ROWS: [(&str, &str, Status); 10] = [
         ("build tidy 00005A81011200", "5A0112\n", Status::Accepted),
         ("build tidy 7081045A820000", "70025A00\n", Status::Accepted),
         ("build tidy 5A8300000112", "5A0112\n", Status::Accepted),
@@ -172,13 +172,13 @@ fn tidies_forests(rt: HostRuntime) -> Result<(), Fail> {
         ("build tidy", "fault: words\n", Status::Fault),
         ("build tidy 00 00", "fault: words\n", Status::Fault),
     ];
-    says_each(&rt, rt.alloc(), &rows)?;
+    says_each(&rt, rt.alloc(), &ROWS)?;
     Ok(())
 }
 
 #[test]
 fn checks_lists(rt: HostRuntime) -> Result<(), Fail> {
-    let rows = [
+    const ROWS: [(&str, &str, Status); 9] = [
         (
             "check dol 9F02065F2A029A03",
             "ok 8 octets\n",
@@ -205,13 +205,13 @@ fn checks_lists(rt: HostRuntime) -> Result<(), Fail> {
         ("show dol none", "entries 0\n", Status::Accepted),
         ("show dol 00", "refused at 0: TagZero\n", Status::Refused),
     ];
-    says_each(&rt, rt.alloc(), &rows)?;
+    says_each(&rt, rt.alloc(), &ROWS)?;
     Ok(())
 }
 
 #[test]
 fn fills_lists(rt: HostRuntime) -> Result<(), Fail> {
-    let rows = [
+    const ROWS: [(&str, &str, Status); 11] = [
         (
             "build fill 9F02065F2A029A03 n:9F02:1000 n:5F2A:0978",
             "0000000010000978000000\n",
@@ -240,13 +240,13 @@ fn fills_lists(rt: HostRuntime) -> Result<(), Fail> {
             Status::Refused,
         ),
     ];
-    says_each(&rt, rt.alloc(), &rows)?;
+    says_each(&rt, rt.alloc(), &ROWS)?;
     Ok(())
 }
 
 #[test]
 fn refuses_words_that_are_no_known_value(rt: HostRuntime) -> Result<(), Fail> {
-    let rows = [
+    const ROWS: [(&str, &str, Status); 18] = [
         ("build fill", "fault: words\n", Status::Fault),
         ("build fill 0G x", "fault: hex\n", Status::Fault),
         ("build fill 9F02 x:5A:02", "short at 2\n", Status::Refused),
@@ -274,6 +274,6 @@ fn refuses_words_that_are_no_known_value(rt: HostRuntime) -> Result<(), Fail> {
         ("build fill 5A02 n:5A:", "0000\n", Status::Accepted),
         ("build fill 5A01 N:5A:01", "fault: words\n", Status::Fault),
     ];
-    says_each(&rt, rt.alloc(), &rows)?;
+    says_each(&rt, rt.alloc(), &ROWS)?;
     Ok(())
 }

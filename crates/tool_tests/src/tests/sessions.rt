@@ -1,7 +1,7 @@
 //! Recorded sessions, replayed at both ends and migrated: expected texts from the format's own pages.
 
-use card_tool::Status;
 use crate::tests::files::said_of;
+use card_tool::Status;
 use std::alloc::{AllocError, Global};
 use std::process::Abort;
 use std::test::Fail;
@@ -118,7 +118,8 @@ fn says(
     status: Status,
 ) -> Result<(), AllocError> {
     let file = joined(alloc, parts)?;
-    for step in [1, 7, 5_000] {
+    const ROWS: [usize; 3] = [1, 7, 5_000];
+    for step in ROWS {
         let (writer, ended) = said_of(alloc, line, file.as_bytes(), step)?;
         assert!(rt; writer.kept() == text.as_bytes(), "{text} of {file}");
         assert!(rt; ended == status);
@@ -213,7 +214,7 @@ fn an_end_gives_something_else(rt: HostRuntime) -> Result<(), Fail> {
 
 #[test]
 fn texts_that_are_none(rt: HostRuntime) -> Result<(), Fail> {
-    for (file, text) in [
+    const ROWS: [(&str, &str); 15] = [
         ("", "fault: Header\n"),
         ("\n", "fault: Header\n"),
         ("scard-exchange 1", "fault: Header\n"),
@@ -247,7 +248,8 @@ fn texts_that_are_none(rt: HostRuntime) -> Result<(), Fail> {
             "scard-exchange 2\natr 3B00\nnote\n",
             "fault: line 3: Word\n",
         ),
-    ] {
+    ];
+    for (file, text) in ROWS {
         faulted(&rt, rt.alloc(), file, text)?;
     }
     Ok(())

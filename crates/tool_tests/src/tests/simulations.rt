@@ -35,7 +35,7 @@ fn records(
 
 #[test]
 fn sessions_of_one_exchange(rt: HostRuntime) -> Result<(), Fail> {
-    let rows = [
+    const ROWS: [(&str, &str, usize); 7] = [
         (
             "",
             "command 00A4040000\nt 00000500A4040000A5\nasked 00A4040000\nreply 9000\n\
@@ -89,7 +89,7 @@ fn sessions_of_one_exchange(rt: HostRuntime) -> Result<(), Fail> {
             20,
         ),
     ];
-    for (options, lines, count) in &rows {
+    for (options, lines, count) in &ROWS {
         records(&rt, rt.alloc(), options, lines, *count)?;
     }
     Ok(())

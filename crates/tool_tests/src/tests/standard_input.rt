@@ -2,9 +2,9 @@
 
 ghost use Rattle.std.specs.Prelude.{◌≡◌, ◌<◌, length};
 
+use crate::tests::files::{Saying, said_of, says, zeros};
 use card_tool::Status;
 use card_tool::file::LARGEST_FILE;
-use crate::tests::files::{Saying, said_of, says, zeros};
 use octet_core::After;
 use std::alloc::{AllocError, Global};
 use std::process::Abort;
@@ -33,7 +33,8 @@ fn says_of(
     text: &str,
     status: Status,
 ) -> Result<(), AllocError> {
-    for step in [1, 3, 4096] {
+    const ROWS: [usize; 3] = [1, 3, 4096];
+    for step in ROWS {
         let (writer, ended) = said_of(alloc, line, file, step)?;
         assert!(rt; writer.kept() == text.as_bytes(), "{text}");
         assert!(rt; ended == status);
@@ -44,7 +45,7 @@ fn says_of(
 #[test]
 fn hexadecimal_in_groups(rt: HostRuntime) -> Result<(), Fail> {
     let five = "ok 5 octets\n";
-    for text in [
+    const ROWS: [&str; 7] = [
         "3B 80 80\n01 01",
         "3B80800101",
         "3b80800101\n",
@@ -52,7 +53,8 @@ fn hexadecimal_in_groups(rt: HostRuntime) -> Result<(), Fail> {
         "0x3b8080\t0101\r\n",
         "\r\n\t3B  80\t\t80\r\n\r\n01 01 ",
         "0X3b 8080\n\n\n0101FF",
-    ] {
+    ];
+    for text in ROWS {
         says_of(
             &rt,
             rt.alloc(),
@@ -62,7 +64,8 @@ fn hexadecimal_in_groups(rt: HostRuntime) -> Result<(), Fail> {
             Status::Accepted,
         )?;
     }
-    for text in ["", " ", "\n", "\r\n", " \t\r\n \n"] {
+    const MORE: [&str; 5] = ["", " ", "\n", "\r\n", " \t\r\n \n"];
+    for text in MORE {
         let none = "short at 0\n";
         says_of(
             &rt,
@@ -86,7 +89,7 @@ fn hexadecimal_in_groups(rt: HostRuntime) -> Result<(), Fail> {
 
 #[test]
 fn texts_of_no_octets(rt: HostRuntime) -> Result<(), Fail> {
-    for text in [
+    const ROWS: [&str; 23] = [
         "3",
         "3B8",
         "3B 8",
@@ -110,7 +113,8 @@ fn texts_of_no_octets(rt: HostRuntime) -> Result<(), Fail> {
         "3B80800101 .",
         "\u{e9}",
         "3B\u{a0}80",
-    ] {
+    ];
+    for text in ROWS {
         for line in HEX {
             says_of(
                 &rt,
@@ -194,7 +198,7 @@ fn the_octets_themselves(rt: HostRuntime) -> Result<(), Fail> {
 
 #[test]
 fn words_that_leave_it_unread(rt: HostRuntime) -> Result<(), Fail> {
-    let lines: [&[&str]; 19] = [
+    const ROWS: [&[&str]; 19] = [
         &["check", "atr"],
         &["check", "atr", "--stdin"],
         &["check", "atr", "--stdin", "Hex"],
@@ -215,7 +219,7 @@ fn words_that_leave_it_unread(rt: HostRuntime) -> Result<(), Fail> {
         &["replay", "--end", "card", "--stdin", "octets"],
         &["migrate", "--stdin", "hex"],
     ];
-    for line in lines {
+    for line in ROWS {
         let saying = Saying {
             line,
             file: b"3B00",
