@@ -10,5 +10,6 @@ pub mod Parts
 pub mod Fill
 pub mod Held
 pub mod Ends
+pub mod Calls
 pub mod Readers
 pub mod Layout

@@ -11,7 +11,7 @@ ghost use Rattle.scard_c.specs.Block.{block_reason, block_seen, IsDecoded, IsUnf
 use crate::number::{fault_of, is_reserved, number_of, subject_of};
 use crate::output::put;
 use crate::verdict::{Numbered, Verdict};
-use block_core::{Block, BlockReason, Pcb, decode, encode};
+use block_core::{Block, BlockReason, BlockRef, Pcb, encode};
 
 /// A block as it was decoded. Its information field is `inf_len` octets from place `inf_place` on of the
 /// octets.
@@ -38,9 +38,9 @@ pub extern "C" fn scard_block_decode(octets: &[u8], ifs: u8, out: &mut CBlock) -
     if is_reserved(ifs) {
         return Verdict::argument();
     }
-    match decode(octets, ifs) {
+    match BlockRef::decode(octets, ifs) {
         Ok((block, taken)) => {
-            *out = seen(&block);
+            *out = seen(block.nad(), block.pcb(), block.inf());
             Verdict::ok(taken)
         }
         Err(stop) => Verdict::stopped(stop),
@@ -147,14 +147,16 @@ pub(crate) fn put_block(block: Option<Block>, out: &mut [u8]) -> Verdict
     }
 }
 
-pub(crate) fn seen(block: &Block) -> CBlock
-    ensures { result ≡ block_seen block.now }
+/// A block of these parts.
+pub(crate) fn seen(nad: u8, pcb: Pcb, inf: &[u8]) -> CBlock
+    requires { Suits 254 pcb inf.now }
+    ensures { result ≡ block_seen (record { nad = nad; pcb = pcb; inf = inf.now }) }
 {
     CBlock {
-        nad: block.nad(),
-        pcb: block.pcb().octet(),
+        nad,
+        pcb: pcb.octet(),
         inf_place: 3,
-        inf_len: block.inf().len() as u8,
+        inf_len: inf.len() as u8,
     }
 }
 

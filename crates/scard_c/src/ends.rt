@@ -7,8 +7,10 @@ ghost use Rattle.t1_core.specs.Terminal.{new_terminal, transmit, ask_ifs, takes}
 ghost use Rattle.t1_core.specs.Card.{new_card, replies, more_time, ask_ifs as card_ask_ifs, takes as card_takes};
 ghost use Rattle.scard_c.specs.declared.engine.Engine.TheVariants.{Terminal as TerminalEnd, Card as CardEnd};
 ghost use Rattle.scard_c.specs.Verdict.{wrong_argument, no_memory, ok_at};
+ghost use Rattle.scard_c.specs.Calls.{Takes};
 ghost use Rattle.scard_c.specs.Ends.{no_room, TerminalTakes, CardTakes, message_of, PutsMessage};
 
+use crate::call::{Call, CardCall, TerminalCall};
 use crate::engine::Engine;
 use crate::handle::Handle;
 use crate::output::put;
@@ -110,15 +112,12 @@ pub extern "C" fn scard_terminal_transmit(
         TerminalTakes (λ _. transmit command.now)
         handle.old.engine handle.new.engine out.old out.new result }
 {
-    if out.len() < LONGEST_BLOCK {
-        return CTurn::no_room();
-    }
-    let Some(mut engine) = handle.take(alloc) else {
-        return CTurn::of(NO_END);
-    };
-    let turn = engine.transmit(command, out);
-    handle.put(engine);
-    turn
+    turn(
+        alloc,
+        handle,
+        Call::Terminal(TerminalCall::Transmit(command)),
+        out,
+    )
 }
 
 /// The line delivered these octets to the terminal as one block.
@@ -136,15 +135,12 @@ pub extern "C" fn scard_terminal_received(
         TerminalTakes (λ t. takes (class_of t.ifsd octets.now))
         handle.old.engine handle.new.engine out.old out.new result }
 {
-    if out.len() < LONGEST_BLOCK {
-        return CTurn::no_room();
-    }
-    let Some(mut engine) = handle.take(alloc) else {
-        return CTurn::of(NO_END);
-    };
-    let turn = engine.terminal_received(octets, out);
-    handle.put(engine);
-    turn
+    turn(
+        alloc,
+        handle,
+        Call::Terminal(TerminalCall::Received(octets)),
+        out,
+    )
 }
 
 /// Nothing came to the terminal within the waiting time.
@@ -157,15 +153,7 @@ pub extern "C" fn scard_terminal_quiet(alloc: Global, handle: &mut Handle, out: 
         TerminalTakes (λ _. takes quiet)
         handle.old.engine handle.new.engine out.old out.new result }
 {
-    if out.len() < LONGEST_BLOCK {
-        return CTurn::no_room();
-    }
-    let Some(mut engine) = handle.take(alloc) else {
-        return CTurn::of(NO_END);
-    };
-    let turn = engine.quiet(out);
-    handle.put(engine);
-    turn
+    turn(alloc, handle, Call::Terminal(TerminalCall::Quiet), out)
 }
 
 /// The terminal asks the card to send information fields of up to `size` octets, 1 to 254.
@@ -183,15 +171,12 @@ pub extern "C" fn scard_terminal_ask_ifs(
         TerminalTakes (λ _. ask_ifs size)
         handle.old.engine handle.new.engine out.old out.new result }
 {
-    if out.len() < LONGEST_BLOCK {
-        return CTurn::no_room();
-    }
-    let Some(mut engine) = handle.take(alloc) else {
-        return CTurn::of(NO_END);
-    };
-    let turn = engine.terminal_ask_ifs(size, out);
-    handle.put(engine);
-    turn
+    turn(
+        alloc,
+        handle,
+        Call::Terminal(TerminalCall::AskIfs(size)),
+        out,
+    )
 }
 
 /// The line delivered these octets to the card as one block.
@@ -209,15 +194,7 @@ pub extern "C" fn scard_card_received(
         CardTakes (λ c. card_takes (class_of c.ifsc octets.now))
         handle.old.engine handle.new.engine out.old out.new result }
 {
-    if out.len() < LONGEST_BLOCK {
-        return CTurn::no_room();
-    }
-    let Some(mut engine) = handle.take(alloc) else {
-        return CTurn::of(NO_END);
-    };
-    let turn = engine.card_received(octets, out);
-    handle.put(engine);
-    turn
+    turn(alloc, handle, Call::Card(CardCall::Received(octets)), out)
 }
 
 /// The card's host hands over its reply of at most 65,538 octets.
@@ -235,15 +212,7 @@ pub extern "C" fn scard_card_reply(
         CardTakes (λ _. replies octets.now)
         handle.old.engine handle.new.engine out.old out.new result }
 {
-    if out.len() < LONGEST_BLOCK {
-        return CTurn::no_room();
-    }
-    let Some(mut engine) = handle.take(alloc) else {
-        return CTurn::of(NO_END);
-    };
-    let turn = engine.reply(octets, out);
-    handle.put(engine);
-    turn
+    turn(alloc, handle, Call::Card(CardCall::Reply(octets)), out)
 }
 
 /// The card's host asks for more waiting time, by any multiple of it.
@@ -261,15 +230,7 @@ pub extern "C" fn scard_card_more_time(
         CardTakes (λ _. more_time multiple)
         handle.old.engine handle.new.engine out.old out.new result }
 {
-    if out.len() < LONGEST_BLOCK {
-        return CTurn::no_room();
-    }
-    let Some(mut engine) = handle.take(alloc) else {
-        return CTurn::of(NO_END);
-    };
-    let turn = engine.more_time(multiple, out);
-    handle.put(engine);
-    turn
+    turn(alloc, handle, Call::Card(CardCall::MoreTime(multiple)), out)
 }
 
 /// The card asks the terminal to send information fields of up to `size` octets, 1 to 254.
@@ -287,13 +248,24 @@ pub extern "C" fn scard_card_ask_ifs(
         CardTakes (λ _. card_ask_ifs size)
         handle.old.engine handle.new.engine out.old out.new result }
 {
+    turn(alloc, handle, Call::Card(CardCall::AskIfs(size)), out)
+}
+
+/// The turn of the end in a handle that a call gives.
+fn turn(alloc: Global, handle: &mut Handle, call: Call<'_>, out: &mut [u8]) -> CTurn
+    ensures room { length out.old < 258 → result ≡ no_room }
+    ensures stays { length out.old < 258 →
+        (handle.new.engine ≡ handle.old.engine) × (out.new ≡ out.old) }
+    ensures turn { 258 ≤ length out.old →
+        Takes call.entry handle.old.engine handle.new.engine out.old out.new result }
+{
     if out.len() < LONGEST_BLOCK {
         return CTurn::no_room();
     }
     let Some(mut engine) = handle.take(alloc) else {
         return CTurn::of(NO_END);
     };
-    let turn = engine.card_ask_ifs(size, out);
+    let turn = engine.called(call, out);
     handle.put(engine);
     turn
 }

@@ -4,6 +4,7 @@
 pub mod apdu;
 pub mod atr;
 pub mod block;
+mod call;
 pub mod chain;
 pub mod ends;
 pub mod engine;

@@ -207,7 +207,7 @@ fn block_value(engine: &Engine, out: &mut CBlock, octets: &mut [u8]) -> Verdict
     };
     let verdict = put(encode(block).as_slice(), octets);
     if verdict.status == OK {
-        *out = block::seen(block);
+        *out = block::seen(block.nad(), block.pcb(), block.inf());
     }
     verdict
 }

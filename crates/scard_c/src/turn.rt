@@ -1,10 +1,11 @@
 //! What an end of a session does next, as C sees it.
 
-ghost use Rattle.std.specs.Prelude.{◌≡◌, ◌≤◌, length};
-ghost use Rattle.scard_c.specs.Ends.{turned, IsTurned, Sends, IsTerminalTurn, IsCardTurn, no_room};
+ghost use Rattle.std.specs.Prelude.{◌≡◌};
+ghost use Rattle.scard_c.specs.Ends.{turned, no_room};
+ghost use Rattle.scard_c.specs.Calls.{told_terminal, told_card};
 
-use block_core::{Block, LONGEST_BLOCK, encode};
-use t1_core::{CardFault, CardTurn, TerminalFault, TerminalTurn};
+use block_core::LONGEST_BLOCK;
+use t1_core::{CardFault, CardPut, TerminalFault, TerminalPut};
 
 /// Send a block.
 const SEND: u8 = 0;
@@ -77,28 +78,16 @@ impl CTurn {
         }
     }
 
-    /// A block is to be sent.
-    fn sends(block: &Block, out: &mut [u8]) -> CTurn
-        requires { 258 ≤ length out.old }
-        ensures { Sends block.now out.old out.new result }
-    {
-        let octets = encode(block);
-        let count = octets.len();
-        out[..count].copy_from_slice(octets.as_slice());
-        CTurn { kind: SEND, count }
-    }
-
     /// What a call of a terminal answered.
-    pub(crate) fn of_terminal(given: Result<TerminalTurn, TerminalFault>, out: &mut [u8]) -> CTurn
-        requires { 258 ≤ length out.old }
-        ensures { IsTerminalTurn given out.old out.new result }
+    pub(crate) fn of_terminal(answer: Result<TerminalPut, TerminalFault>) -> CTurn
+        ensures { result ≡ told_terminal answer }
     {
-        match given {
-            Ok(TerminalTurn::Send(block)) => CTurn::sends(&block, out),
-            Ok(TerminalTurn::Answered) => CTurn::of(DONE),
-            Ok(TerminalTurn::IfsSet) => CTurn::of(IFS_SET),
-            Ok(TerminalTurn::GivenUp) => CTurn::of(GIVEN_UP),
-            Ok(TerminalTurn::Dead) => CTurn::of(DEAD),
+        match answer {
+            Ok(TerminalPut::Send { count, .. }) => CTurn { kind: SEND, count },
+            Ok(TerminalPut::Answered) => CTurn::of(DONE),
+            Ok(TerminalPut::IfsSet) => CTurn::of(IFS_SET),
+            Ok(TerminalPut::GivenUp) => CTurn::of(GIVEN_UP),
+            Ok(TerminalPut::Dead) => CTurn::of(DEAD),
             Err(TerminalFault::Dead) => CTurn::of(REFUSED_DEAD),
             Err(TerminalFault::Busy) => CTurn::of(REFUSED_BUSY),
             Err(TerminalFault::TooLong) => CTurn::of(REFUSED_TOO_LONG),
@@ -108,13 +97,12 @@ impl CTurn {
     }
 
     /// What a call of a card answered.
-    pub(crate) fn of_card(given: Result<CardTurn, CardFault>, out: &mut [u8]) -> CTurn
-        requires { 258 ≤ length out.old }
-        ensures { IsCardTurn given out.old out.new result }
+    pub(crate) fn of_card(answer: Result<CardPut, CardFault>) -> CTurn
+        ensures { result ≡ told_card answer }
     {
-        match given {
-            Ok(CardTurn::Send(block)) => CTurn::sends(&block, out),
-            Ok(CardTurn::Asked) => CTurn::of(DONE),
+        match answer {
+            Ok(CardPut::Send(count)) => CTurn { kind: SEND, count },
+            Ok(CardPut::Asked) => CTurn::of(DONE),
             Err(CardFault::Order) => CTurn::of(REFUSED_ORDER),
             Err(CardFault::TooLong) => CTurn::of(REFUSED_TOO_LONG),
             Err(CardFault::Reserved) => CTurn::of(REFUSED_RESERVED),

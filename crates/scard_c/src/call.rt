@@ -1,0 +1,78 @@
+//! The calls of both ends of a session, as C makes them.
+
+ghost use Rattle.std.specs.Prelude.{◌≡◌, ◌≤◌, length};
+ghost use Rattle.t1_core.specs.Terminal.{terminal_turn, turn_of, state_after};
+ghost use Rattle.t1_core.specs.Card.{card_turn, turn_of as card_turn_of, state_after as card_after};
+ghost use Rattle.t1_core.specs.Put.{IsTerminalPut, IsCardPut};
+ghost use Rattle.scard_c.specs.Calls.{terminal_input, card_input};
+
+use t1_core::{Card, CardFault, CardPut, Terminal, TerminalFault, TerminalPut};
+
+/// A call of a terminal.
+#[derive(Clone, Copy)]
+pub(crate) enum TerminalCall<'a> {
+    /// A command.
+    Transmit(&'a [u8]),
+    /// The octets of a block that came.
+    Received(&'a [u8]),
+    /// No block came.
+    Quiet,
+    /// A size to ask for.
+    AskIfs(u8),
+}
+
+/// A call of a card.
+#[derive(Clone, Copy)]
+pub(crate) enum CardCall<'a> {
+    /// The octets of a block that came.
+    Received(&'a [u8]),
+    /// The reply of its host.
+    Reply(&'a [u8]),
+    /// A multiple of the waiting time to ask for.
+    MoreTime(u8),
+    /// A size to ask for.
+    AskIfs(u8),
+}
+
+/// A call of either end.
+#[derive(Clone, Copy)]
+pub(crate) enum Call<'a> {
+    Terminal(TerminalCall<'a>),
+    Card(CardCall<'a>),
+}
+
+impl<'a> TerminalCall<'a> {
+    /// Makes the call, with the octets of the block that is sent in the buffer.
+    pub(crate) fn make(
+        self,
+        end: &mut Terminal,
+        out: &mut [u8],
+    ) -> Result<TerminalPut, TerminalFault>
+        requires { 258 ≤ length out.old }
+        ensures turn { IsTerminalPut (turn_of (terminal_turn end.old (terminal_input self.entry end.old))) out.old out.new result }
+        ensures state { end.new ≡ state_after end.old (terminal_turn end.old (terminal_input self.entry end.old)) }
+    {
+        match self {
+            TerminalCall::Transmit(command) => end.transmit_into(command, out),
+            TerminalCall::Received(octets) => end.received_into(octets, out),
+            TerminalCall::Quiet => end.quiet_into(out),
+            TerminalCall::AskIfs(size) => end.ask_ifs_into(size, out),
+        }
+    }
+}
+
+impl<'a> CardCall<'a> {
+    /// Makes the call, with the octets of the block that is sent in the buffer.
+    pub(crate) fn make(self, end: &mut Card, out: &mut [u8]) -> Result<CardPut, CardFault>
+        requires { 258 ≤ length out.old }
+        ensures turn { IsCardPut (card_turn_of (card_turn end.old (card_input self.entry end.old))) out.old out.new result }
+        ensures state { end.new ≡ card_after end.old (card_turn end.old (card_input self.entry end.old)) }
+    {
+        match self {
+            CardCall::Received(octets) => end.received_into(octets, out),
+            CardCall::Reply(octets) => end.reply_into(octets, out),
+            CardCall::MoreTime(multiple) => end.more_time_into(multiple, out),
+            CardCall::AskIfs(size) => end.ask_ifs_into(size, out),
+        }
+    }
+}
