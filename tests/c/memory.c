@@ -1,0 +1,335 @@
+/* Each call that takes memory, with each of its allocations refused in turn: it says so, leaves all as it was, keeps no
+ * block, and the next call works. The program is linked so that the library's malloc, realloc and free are those here.
+ */
+#include "check.h"
+
+enum { ROOM = 64 };
+
+#ifdef __cplusplus
+extern "C" {
+#endif
+void *__real_malloc(size_t size);
+void *__real_realloc(void *block, size_t size);
+void __real_free(void *block);
+void *__wrap_malloc(size_t size);
+void *__wrap_realloc(void *block, size_t size);
+void __wrap_free(void *block);
+#ifdef __cplusplus
+}
+#endif
+
+static long to_go;   /* the allocation that is refused, 1 for the next; 0: none is */
+static int refused;  /* whether one was */
+static long held;    /* blocks that are taken */
+
+static int is_refused(void)
+{
+    if (to_go == 0 || --to_go > 0) {
+        return 0;
+    }
+    refused = 1;
+    return 1;
+}
+
+void *__wrap_malloc(size_t size)
+{
+    void *block = is_refused() ? NULL : __real_malloc(size);
+    held += block != NULL;
+    return block;
+}
+
+void *__wrap_realloc(void *block, size_t size)
+{
+    void *grown = is_refused() ? NULL : __real_realloc(block, size);
+    held += block == NULL && grown != NULL;
+    return grown;
+}
+
+void __wrap_free(void *block)
+{
+    held -= block != NULL;
+    __real_free(block);
+}
+
+/* ---- calls that write to a buffer ---- */
+
+static const uint8_t amount[] = {0x9F, 0x02};
+static const uint8_t dol[] = {0x9F, 0x02, 0x03, 0x5A, 0x02};
+static const uint8_t forest[] = {0x00, 0x6F, 0x81, 0x06, 0xA5, 0x04, 0x00, 0x84, 0x01, 0xAA};
+
+static struct scard_verdict hex_encode(uint8_t *out, size_t room)
+{
+    char text[ROOM];
+    struct scard_verdict v;
+    memset(text, 0x55, sizeof text);
+    v = scard_hex_encode(amount, sizeof amount, text, room);
+    memcpy(out, text, room);
+    return v;
+}
+
+static struct scard_verdict hex_decode(uint8_t *out, size_t room)
+{
+    return scard_hex_decode("9f02Aa", 6, out, room);
+}
+
+/* A command of this shape, with the data field `amount` where the shape has one. */
+static struct scard_verdict command(uint8_t shape, uint32_t le, size_t count, uint8_t *out, size_t room)
+{
+    struct scard_command made;
+    memset(&made, 0, sizeof made);
+    made.ins = 0xA4;
+    made.shape = shape;
+    made.le = le;
+    return scard_command_encode(&made, amount, count, out, room);
+}
+
+static struct scard_verdict no_field(uint8_t *out, size_t room)
+{
+    return command(SCARD_CASE_1, 0, 0, out, room);
+}
+
+static struct scard_verdict short_field(uint8_t *out, size_t room)
+{
+    return command(SCARD_CASE_4_SHORT, 256, 2, out, room);
+}
+
+static struct scard_verdict long_field(uint8_t *out, size_t room)
+{
+    return command(SCARD_CASE_3_LONG, 0, 2, out, room);
+}
+
+static struct scard_verdict response(uint8_t *out, size_t room)
+{
+    return scard_response_encode(amount, sizeof amount, 0x90, 0x00, out, room);
+}
+
+static struct scard_verdict tidy(uint8_t *out, size_t room)
+{
+    return scard_tlv_tidy(forest, sizeof forest, SCARD_TLV_LARGEST, out, room);
+}
+
+/* The places of the parts, where the call wrote them. */
+static struct scard_verdict parts(uint8_t *out, size_t room)
+{
+    struct scard_part found[3];
+    struct scard_verdict v;
+    size_t part;
+    memset(found, 0x55, sizeof found);
+    v = scard_tlv_parts(forest, sizeof forest, SCARD_TLV_LARGEST, found, 3);
+    for (part = 0; part < 3 && part < room; part++) {
+        out[part] = (uint8_t)found[part].place;
+    }
+    return v;
+}
+
+static struct scard_verdict dol_check(uint8_t *out, size_t room)
+{
+    (void)out;
+    (void)room;
+    return scard_dol_check(dol, sizeof dol);
+}
+
+static struct scard_verdict fill(uint8_t *out, size_t room)
+{
+    static const uint8_t value[] = {0x12, 0x34};
+    struct scard_known known[1];
+    memset(known, 0, sizeof known);
+    memcpy(known[0].tag.octets, amount, 2);
+    known[0].tag.count = 2;
+    known[0].format = SCARD_NUMERIC;
+    known[0].value = value;
+    known[0].count = sizeof value;
+    return scard_dol_fill(dol, sizeof dol, known, 1, out, room);
+}
+
+struct task {
+    struct scard_verdict (*make)(uint8_t *out, size_t room);
+    const char *wanted; /* what the buffer begins with once it is done */
+    size_t place;
+};
+
+static const struct task tasks[] = {
+    {hex_encode, "39463032", 4},
+    {hex_decode, "9F02AA", 3},
+    {no_field, "00A40000", 4},
+    {short_field, "00A40000029F0200", 8},
+    {long_field, "00A400000000029F02", 9},
+    {response, "9F029000", 4},
+    {tidy, "6F05A5038401AA", 7},
+    {parts, "040609", 3},
+    {dol_check, "", 5},
+    {fill, "0012340000", 5},
+};
+
+static int is_untouched(const uint8_t *octets, size_t count)
+{
+    size_t place;
+    for (place = 0; place < count; place++) {
+        if (octets[place] != 0x55) {
+            return 0;
+        }
+    }
+    return 1;
+}
+
+/* Makes the call with its allocation `turn` refused, 0 for none. */
+static struct scard_verdict with_refusal(const struct task *task, long turn, uint8_t *out)
+{
+    struct scard_verdict v;
+    memset(out, 0x55, ROOM);
+    refused = 0;
+    to_go = turn;
+    v = task->make(out, ROOM);
+    to_go = 0;
+    return v;
+}
+
+static int is_done(const struct task *task, struct scard_verdict v, const uint8_t *out)
+{
+    size_t count = strlen(task->wanted) / 2;
+    return v.status == SCARD_OK && v.place == task->place && is_hex(out, count, task->wanted)
+           && is_untouched(out + count, ROOM - count);
+}
+
+static int is_memory(struct scard_verdict v)
+{
+    return v.status == SCARD_MEMORY && v.reason == 0 && v.place == 0;
+}
+
+static void try_task(const struct task *task)
+{
+    uint8_t out[ROOM];
+    struct scard_verdict v;
+    long turn = 1, before = held;
+    while (v = with_refusal(task, turn, out), refused) {
+        CHECK(is_memory(v) && is_untouched(out, ROOM) && held == before);
+        v = with_refusal(task, 0, out);
+        CHECK(is_done(task, v, out) && held == before);
+        turn++;
+    }
+    CHECK(is_done(task, v, out) && held == before);
+    CHECK(turn > 1);
+}
+
+/* ---- calls that open a handle ---- */
+
+static struct scard_verdict open_terminal(struct scard_handle *handle)
+{
+    return scard_terminal_open(handle, 32, 4, 5);
+}
+
+static struct scard_verdict open_card(struct scard_handle *handle)
+{
+    return scard_card_open(handle, 32, 4, 5);
+}
+
+static struct scard_verdict open_block(struct scard_handle *handle)
+{
+    return scard_block_reader_open(handle, 254);
+}
+
+static struct scard_verdict open_receiver(struct scard_handle *handle)
+{
+    return scard_receiver_open(handle, 254, 0, 1000);
+}
+
+static struct scard_verdict open_check(struct scard_handle *handle)
+{
+    return scard_tlv_check_open(handle, SCARD_TLV_LARGEST);
+}
+
+typedef struct scard_verdict opening(struct scard_handle *handle);
+
+static opening *const openings[] = {
+    open_terminal, open_card, scard_atr_reader_open, open_block, open_receiver, open_check,
+};
+
+enum { OPENINGS = sizeof openings / sizeof openings[0] };
+
+/* Whether a terminal that has sent a command still waits for its answer. */
+static int is_waiting(struct scard_handle *handle)
+{
+    uint8_t block[SCARD_BLOCK_ROOM];
+    return handle->is_full && scard_terminal_quiet(handle, block, sizeof block).kind == SCARD_SEND
+           && scard_terminal_transmit(handle, NULL, 0, block, sizeof block).kind == SCARD_REFUSED_BUSY;
+}
+
+static void begin(struct scard_handle *handle)
+{
+    uint8_t block[SCARD_BLOCK_ROOM];
+    CHECK(open_terminal(handle).status == SCARD_OK);
+    CHECK(scard_terminal_transmit(handle, amount, sizeof amount, block, sizeof block).kind == SCARD_SEND);
+}
+
+/* Opens what a full handle and an empty one then hold, with each allocation refused in turn. */
+static void try_opening(opening *open, int is_full)
+{
+    struct scard_handle handle = SCARD_HANDLE_EMPTY;
+    struct scard_verdict v;
+    long turn = 0, at_first = held;
+    do {
+        long before;
+        if (is_full) {
+            begin(&handle);
+        }
+        before = held;
+        refused = 0;
+        to_go = ++turn;
+        v = open(&handle);
+        to_go = 0;
+        if (refused) {
+            CHECK(is_memory(v) && held == before);
+            CHECK(is_full ? is_waiting(&handle) : handle.at == NULL && !handle.is_full);
+            CHECK(open(&handle).status == SCARD_OK && handle.is_full);
+        }
+        scard_close(&handle);
+    } while (refused);
+    CHECK(v.status == SCARD_OK && v.place == 0);
+    CHECK(turn > 1 && held == at_first);
+}
+
+/* ---- calls that take none ---- */
+
+/* A session and readers, where each allocation after the openings would be refused. */
+static void take_none(void)
+{
+    struct scard_handle terminal = SCARD_HANDLE_EMPTY, card = SCARD_HANDLE_EMPTY;
+    uint8_t sent[SCARD_BLOCK_ROOM], back[SCARD_BLOCK_ROOM], answer[4];
+    struct scard_turn turn;
+    CHECK(open_terminal(&terminal).status == SCARD_OK && open_card(&card).status == SCARD_OK);
+    refused = 0;
+    to_go = 1;
+    turn = scard_terminal_transmit(&terminal, amount, sizeof amount, sent, sizeof sent);
+    turn = scard_card_received(&card, sent, turn.count, back, sizeof back);
+    CHECK(turn.kind == SCARD_DONE && scard_message(&card, answer, sizeof answer).place == 2);
+    turn = scard_card_reply(&card, amount, sizeof amount, back, sizeof back);
+    turn = scard_terminal_received(&terminal, back, turn.count, sent, sizeof sent);
+    CHECK(turn.kind == SCARD_DONE && scard_message(&terminal, answer, sizeof answer).place == 2);
+    to_go = 0;
+    CHECK(open_receiver(&card).status == SCARD_OK && open_check(&terminal).status == SCARD_OK);
+    to_go = 1;
+    CHECK(scard_reader_feed(&card, back, turn.count).status <= SCARD_MORE);
+    CHECK(scard_reader_feed(&terminal, forest, sizeof forest).status == SCARD_MORE);
+    CHECK(scard_reader_finish(&terminal).status == SCARD_OK);
+    CHECK(scard_tlv_check(forest, sizeof forest, SCARD_TLV_LARGEST).status == SCARD_OK);
+    CHECK(!refused);
+    to_go = 0;
+    scard_close(&terminal);
+    scard_close(&card);
+    CHECK(held == 0);
+}
+
+int main(void)
+{
+    size_t task;
+    int open;
+    for (task = 0; task < sizeof tasks / sizeof tasks[0]; task++) {
+        try_task(&tasks[task]);
+    }
+    for (open = 0; open < OPENINGS; open++) {
+        try_opening(openings[open], 0);
+        try_opening(openings[open], 1);
+    }
+    take_none();
+    return verdict_of_checks("memory");
+}
