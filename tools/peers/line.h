@@ -1,0 +1,33 @@
+/* A line in memory with our card at its far end, whose blocks are lost, damaged or made invalid by their number. */
+#ifndef LINE_H
+#define LINE_H
+
+#include "adapter.h"
+
+enum fault { NONE, LOST, DAMAGED, INVALID };
+
+struct event {
+    unsigned block; /* the block's number on the line, from 0, both ways counted */
+    enum fault fault;
+};
+
+struct link {
+    const struct event *events;
+    size_t event_count;
+    unsigned blocks; /* how many there were */
+};
+
+/* What the card's host does: writes the reply to a command, and says how many octets it has and whether it wants more
+ * time first. */
+struct host {
+    size_t (*reply)(void *self, const uint8_t *command, size_t count, uint8_t *out, int *wants_time);
+    void *self;
+};
+
+/* A new card with this information size and this host. */
+void new_card(uint8_t ifsc, struct host host);
+
+/* libccid's terminal; a block that doesn't come is told to it as a card that is mute, or as an error of parity. */
+extern struct terminal libccid_mute, libccid_parity;
+
+#endif
