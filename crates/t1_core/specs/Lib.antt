@@ -8,3 +8,4 @@ pub mod Views
 pub mod CardViews
 pub mod Sending
 pub mod Put
+pub mod Awaited

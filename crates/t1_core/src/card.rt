@@ -8,8 +8,10 @@ ghost use Rattle.t1_core.specs.Sending.{card_answers};
 ghost use Rattle.t1_core.specs.Card.{takes, replies, more_time, ask_ifs, new_card, card_turn, turn_of, state_after};
 
 mod into;
+mod readers;
 mod steps;
 
+use crate::overwriting::overwrite;
 use crate::sending::CardAct;
 use crate::turns::{CardFault, CardTurn, CardWait, Cut};
 use atr_core::T1Params;
@@ -25,7 +27,7 @@ const LONGEST_REPLY: usize = 65_538;
 
 /// A card and its host's side of it. Contracts see its state, `CardState` in `specs/Card.antt`, and each
 /// call does what `card_turn` says there; a refused call changes nothing (ISO/IEC 7816-3, clause 11.6).
-#[derive(Debug, Drop)]
+#[derive(Drop)]
 pub struct Card {
     number: Number,
     expected: Number,
@@ -80,6 +82,22 @@ impl Card {
         })
     }
 
+    /// Begins a new session, from any state: the card is a new one with these parameters. It takes no
+    /// memory, and the octets that it held are overwritten.
+    pub fn reset(&mut self, params: T1Params)
+        ensures { self.new ≡ new_card params.ifsc }
+    {
+        overwrite(&mut self.command, LONGEST_COMMAND);
+        overwrite(&mut self.reply, LONGEST_REPLY);
+        self.number = Number::Zero;
+        self.expected = Number::Zero;
+        self.saved = None;
+        self.ifsc = params.ifsc();
+        self.ifsd = 32;
+        self.first_ifsc = params.ifsc();
+        self.wait = CardWait::Command;
+    }
+
     /// The command, while the host owes its reply: in its turn, and while the card asks the terminal for
     /// a size or for time; else `None`.
     pub fn command(&self) -> Option<&[u8]>
@@ -91,10 +109,11 @@ impl Card {
         }
     }
 
-    /// The line delivered these octets as one block.
+    /// The line delivered these octets as one block: a whole one, or what came of one that broke off, where
+    /// no further octet came within CWT.
     ///
     /// They are classed by `class_of` under the size that the card takes. Refused `Order` in the host's
-    /// turn.
+    /// turn: what came is then dropped.
     pub fn received(&mut self, octets: &[u8]) -> Result<CardTurn, CardFault>
         ensures turn { result ≡ turn_of (card_turn self.old (takes (class_of self.old.ifsc octets.now))) }
         ensures state { self.new ≡ state_after self.old (card_turn self.old (takes (class_of self.old.ifsc octets.now))) }

@@ -13,6 +13,7 @@ pub mod card;
 mod class;
 mod cutting;
 pub mod laws;
+mod overwriting;
 mod replying;
 mod sending;
 pub mod terminal;
@@ -20,4 +21,7 @@ pub mod turns;
 
 pub use card::Card;
 pub use terminal::Terminal;
-pub use turns::{CardFault, CardPut, CardTurn, TerminalFault, TerminalPut, TerminalTurn};
+pub use turns::{
+    CardAwaits, CardFault, CardPut, CardTurn, TerminalAwaits, TerminalFault, TerminalPut,
+    TerminalTurn,
+};

@@ -7,8 +7,10 @@ ghost use Rattle.t1_core.specs.Sending.{terminal_answers};
 ghost use Rattle.t1_core.specs.Terminal.{takes, transmit, ask_ifs, new_terminal, terminal_turn, turn_of, state_after};
 
 mod into;
+mod readers;
 mod steps;
 
+use crate::overwriting::overwrite;
 use crate::sending::TerminalAct;
 use crate::turns::{TerminalFault, TerminalTurn, TerminalWait};
 use atr_core::T1Params;
@@ -24,7 +26,7 @@ const LONGEST_ANSWER: usize = 65_538;
 
 /// The terminal of one card. Contracts see its state, `TerminalState` in `specs/Terminal.antt`, and each
 /// call does what `terminal_turn` says there; a refused call changes nothing (ISO/IEC 7816-3, clause 11.6).
-#[derive(Debug, Drop)]
+#[derive(Drop)]
 pub struct Terminal {
     number: Number,
     expected: Number,
@@ -80,6 +82,23 @@ impl Terminal {
         })
     }
 
+    /// Begins a new session, from any state and from `Dead` too: the terminal is a new one for a card with
+    /// these parameters. It takes no memory, and the octets that it held are overwritten.
+    pub fn reset(&mut self, params: T1Params)
+        ensures { self.new ≡ new_terminal params.ifsc }
+    {
+        overwrite(&mut self.command, LONGEST_COMMAND);
+        overwrite(&mut self.joined, LONGEST_ANSWER);
+        self.number = Number::Zero;
+        self.expected = Number::Zero;
+        self.failures = 0;
+        self.ifsc = params.ifsc();
+        self.ifsd = 32;
+        self.first_ifsc = params.ifsc();
+        self.wait = TerminalWait::Idle;
+        self.is_answered = false;
+    }
+
     /// The answer, from the turn `Answered` on until the next command is taken; else `None`.
     pub fn answer(&self) -> Option<&[u8]>
         ensures { IsSlice result self.now.answered }
@@ -114,9 +133,11 @@ impl Terminal {
         self.answered(acted)
     }
 
-    /// The line delivered these octets as one block.
+    /// The line delivered these octets as one block: a whole one, or what came of one that broke off, where
+    /// no further octet came within CWT.
     ///
-    /// They are classed by `class_of` under the size that the terminal takes. Refused `Dead` or `Idle`.
+    /// They are classed by `class_of` under the size that the terminal takes. Refused `Dead` or `Idle`: what
+    /// came is then dropped.
     pub fn received(&mut self, octets: &[u8]) -> Result<TerminalTurn, TerminalFault>
         ensures turn { result ≡ turn_of (terminal_turn self.old (takes (class_of self.old.ifsd octets.now))) }
         ensures state { self.new ≡ state_after self.old (terminal_turn self.old (takes (class_of self.old.ifsd octets.now))) }
@@ -126,8 +147,7 @@ impl Terminal {
     }
 
     /// Nothing came within the waiting time: `T1Params::bwt` times [`TerminalTurn::waiting`] of the turn
-    /// before. A block of which only the first octets came within CWT goes to `received`. Refused `Dead` or
-    /// `Idle`.
+    /// before. A block of which only the first octets came goes to `received`. Refused `Dead` or `Idle`.
     pub fn quiet(&mut self) -> Result<TerminalTurn, TerminalFault>
         ensures turn { result ≡ turn_of (terminal_turn self.old (takes quiet)) }
         ensures state { self.new ≡ state_after self.old (terminal_turn self.old (takes quiet)) }

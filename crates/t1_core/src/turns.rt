@@ -107,6 +107,40 @@ pub enum CardFault {
     Reserved,
 }
 
+/// What the terminal waits for, without the octets that it holds.
+#[derive(Clone, Copy, Debug, PartialEq, Eq)]
+pub enum TerminalAwaits {
+    /// A call: nothing is under way.
+    Call,
+    /// The R-block that acknowledges an I-block of the command which isn't its last.
+    Acknowledgement,
+    /// The first I-block of the answer.
+    Answer,
+    /// A further I-block of the answer.
+    MoreAnswer,
+    /// The response to a question about this information size.
+    Size(u8),
+    /// The response to RESYNCH, which was asked for so many times, 1 to 3.
+    Resynch(u8),
+    /// Nothing any more: the card was found dead.
+    Nothing,
+}
+
+/// What the card waits for, without the octets that it holds.
+#[derive(Clone, Copy, Debug, PartialEq, Eq)]
+pub enum CardAwaits {
+    /// An I-block of a command.
+    Command,
+    /// A call of its host, which owes the reply to the command.
+    Host,
+    /// The R-block that acknowledges an I-block of the reply which isn't its last.
+    Acknowledgement,
+    /// The response to its host's question about this information size.
+    Size(u8),
+    /// The response to its host's request for this multiple of the waiting time.
+    Time(u8),
+}
+
 /// Where the I-block under way begins in its message, and the information size under which it was cut.
 #[derive(Clone, Copy, Debug, PartialEq, Eq)]
 pub(crate) struct Cut {

@@ -1,12 +1,14 @@
 //! Sessions call by call, and calls that no clause pins.
 
-use t1_core::{
-    Card, CardFault, CardPut, CardTurn, Terminal, TerminalFault, TerminalPut, TerminalTurn,
-};
+mod states;
+
 use atr_core::T1Params;
 use block_core::{LONGEST_BLOCK, encode};
 use std::alloc::Global;
 use std::test::Fail;
+use t1_core::{
+    Card, CardFault, CardPut, CardTurn, Terminal, TerminalFault, TerminalPut, TerminalTurn,
+};
 use testing::same;
 
 const SELECT: [u8; 5] = [0x00, 0xA4, 0x04, 0x00, 0x00];

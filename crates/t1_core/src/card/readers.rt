@@ -1,0 +1,70 @@
+//! What a driver, and whoever looks at a session that hangs, reads of the card: never an octet of a message
+//! but the command that its host owes the reply to.
+
+ghost use Rattle.std.specs.Prelude.{◌≡◌};
+ghost use Rattle.t1_core.specs.Awaited.{awaited_by_card, card_awaits_block};
+
+use crate::card::Card;
+use crate::turns::{CardAwaits, CardWait, Request};
+use std::fmt;
+
+impl Card {
+    /// The most octets of an information field that the card takes now, 1 to 254: whoever frames the
+    /// terminal's blocks with a `BlockReader` makes it of this size.
+    ///
+    /// It changes where the response to its host's question comes, and is the first one again after
+    /// RESYNCH.
+    pub fn ifsc(&self) -> u8
+        ensures { result ≡ self.now.ifsc }
+    {
+        self.ifsc
+    }
+
+    /// The most octets of an information field that the terminal takes now, 1 to 254.
+    pub fn ifsd(&self) -> u8
+        ensures { result ≡ self.now.ifsd }
+    {
+        self.ifsd
+    }
+
+    /// What the card waits for.
+    pub fn awaits(&self) -> CardAwaits
+        ensures { result ≡ awaited_by_card self.now.waits }
+    {
+        match self.wait {
+            CardWait::Command | CardWait::Joining => CardAwaits::Command,
+            CardWait::Host => CardAwaits::Host,
+            CardWait::Reply(_) => CardAwaits::Acknowledgement,
+            CardWait::Asking(Request::Size(size)) => CardAwaits::Size(size),
+            CardWait::Asking(Request::Time(multiple)) => CardAwaits::Time(multiple),
+        }
+    }
+
+    /// Whether a block is awaited. In the host's turn none is: one that comes then is refused `Order` by
+    /// `received`, and is dropped.
+    pub fn awaits_block(&self) -> bool
+        ensures { result ≡ card_awaits_block self.now.waits }
+    {
+        match self.wait {
+            CardWait::Host => false,
+            CardWait::Command | CardWait::Joining | CardWait::Reply(_) | CardWait::Asking(_) =>
+                true,
+        }
+    }
+}
+
+/// States, sizes and how many octets are held. A command may carry a PIN, so no octet is shown.
+impl fmt::Debug for Card {
+    fn fmt<W: fmt::Write>(&self, f: &mut fmt::Formatter<W>) -> fmt::Result {
+        f.debug_struct("Card")
+            .field("awaits", &self.awaits())
+            .field("number", &self.number)
+            .field("expected", &self.expected)
+            .field("ifsc", &self.ifsc)
+            .field("ifsd", &self.ifsd)
+            .field("command_octets", &self.command.len())
+            .field("reply_octets", &self.reply.len())
+            .field("is_saved", &self.saved.is_some())
+            .finish()
+    }
+}

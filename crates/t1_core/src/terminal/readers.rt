@@ -1,0 +1,89 @@
+//! What a driver, and whoever looks at a session that hangs, reads of the terminal: never an octet of a
+//! message.
+
+ghost use Rattle.std.specs.Prelude.{◌≡◌};
+ghost use Rattle.t1_core.specs.Awaited.{awaited_by_terminal, terminal_awaits_block, is_dead};
+
+use crate::terminal::Terminal;
+use crate::turns::{TerminalAwaits, TerminalWait};
+use std::fmt;
+
+impl Terminal {
+    /// The most octets of an information field that the card takes now, 1 to 254.
+    pub fn ifsc(&self) -> u8
+        ensures { result ≡ self.now.ifsc }
+    {
+        self.ifsc
+    }
+
+    /// The most octets of an information field that the terminal takes now, 1 to 254: whoever frames the
+    /// card's blocks with a `BlockReader` makes it of this size.
+    ///
+    /// It changes at the turn `IfsSet`, and is 32 again after `GivenUp`.
+    pub fn ifsd(&self) -> u8
+        ensures { result ≡ self.now.ifsd }
+    {
+        self.ifsd
+    }
+
+    /// What the terminal waits for.
+    pub fn awaits(&self) -> TerminalAwaits
+        ensures { result ≡ awaited_by_terminal self.now.waits }
+    {
+        match self.wait {
+            TerminalWait::Idle => TerminalAwaits::Call,
+            TerminalWait::Ack(_) => TerminalAwaits::Acknowledgement,
+            TerminalWait::Answer(_) => TerminalAwaits::Answer,
+            TerminalWait::More => TerminalAwaits::MoreAnswer,
+            TerminalWait::Ifs(size) => TerminalAwaits::Size(size),
+            TerminalWait::Resynch(asked) => TerminalAwaits::Resynch(asked),
+            TerminalWait::Dead => TerminalAwaits::Nothing,
+        }
+    }
+
+    /// Whether a block is awaited: the next call is `received`, or `quiet` where none comes in time.
+    pub fn awaits_block(&self) -> bool
+        ensures { result ≡ terminal_awaits_block self.now.waits }
+    {
+        match self.wait {
+            TerminalWait::Idle | TerminalWait::Dead => false,
+            TerminalWait::Ack(_)
+            | TerminalWait::Answer(_)
+            | TerminalWait::More
+            | TerminalWait::Ifs(_)
+            | TerminalWait::Resynch(_) => true,
+        }
+    }
+
+    /// Failures in a row: blocks that were sent again, or asked for again, since the last step forward.
+    /// After 3 the next failure leads to RESYNCH.
+    pub fn failures(&self) -> u8
+        ensures { result ≡ self.now.failures }
+    {
+        self.failures
+    }
+
+    /// Whether the card was found dead: only `reset` is of use then.
+    pub fn is_dead(&self) -> bool
+        ensures { result ≡ is_dead self.now.waits }
+    {
+        matches!(self.wait, TerminalWait::Dead)
+    }
+}
+
+/// States, sizes and how many octets are held. A command may carry a PIN, so no octet is shown.
+impl fmt::Debug for Terminal {
+    fn fmt<W: fmt::Write>(&self, f: &mut fmt::Formatter<W>) -> fmt::Result {
+        f.debug_struct("Terminal")
+            .field("awaits", &self.awaits())
+            .field("failures", &self.failures)
+            .field("number", &self.number)
+            .field("expected", &self.expected)
+            .field("ifsc", &self.ifsc)
+            .field("ifsd", &self.ifsd)
+            .field("command_octets", &self.command.len())
+            .field("answer_octets", &self.joined.len())
+            .field("is_answered", &self.is_answered)
+            .finish()
+    }
+}
