@@ -4,7 +4,7 @@ use denote.Ref.{Bor}
 use Rattle.std.specs.Option.{is_some}
 use Rattle.block_core.specs.Block.{Parts, spelling}
 use Rattle.t1_core.specs.Came.{Came, got, damaged, invalid, quiet, class_of, IsClass}
-use Rattle.t1_core.specs.Terminal.{TerminalState, TerminalInput, transmit, ask_ifs, takes, terminal_turn, idle}
+use Rattle.t1_core.specs.Terminal.{TerminalState, TerminalInput, transmit, ask_ifs, takes, terminal_turn, idle, longest}
 use Rattle.t1_core.specs.Card.{CardState, CardInput, replies, more_time, ask_ifs as ask_ifsc, takes as card_takes, card_turn, host}
 use Rattle.t1_core.specs.Link.{Link, UnderWay, nothing, to_card, to_terminal, tables, happens, terminal_makes, card_makes, arrives, delivered, lost, Event, loses, transmits, asks_ifsd, host_replies, host_asks_time, host_asks_ifsc, unanswered, with_reply}
 use Rattle.t1_core.specs.Promises.{HandsOctets, IsTaken, AlwaysTaken}
@@ -12,7 +12,7 @@ use Rattle.t1_core.specs.declared.turns.TerminalTurn.{TerminalTurn}
 use Rattle.t1_core.specs.declared.turns.TerminalTurn.TheVariants.{Send}
 use Rattle.t1_core.specs.declared.turns.CardTurn.{CardTurn}
 use Rattle.t1_core.specs.declared.turns.CardTurn.TheVariants.{Send as Sends}
-use Rattle.t1_core.proofs.Kept.{good_always}
+use Rattle.t1_core.proofs.Kept.{any_good}
 use Rattle.exchange_core.specs.Exchange.{are_proper}
 use Rattle.exchange_core.specs.Text.{line_text}
 use Rattle.exchange_core.specs.Replay.{Replays, terminal_end, card_end, terminal_role, card_role, terminal_line, card_line, calls, terminal_gives, card_gives}
@@ -39,10 +39,10 @@ use Rattle.exchange_core.proofs.Recorded.{Acts, keeps, has-recorded, has-stepped
 
 -- the application is answered, or the host called, only where nothing is under way
 idle-now : (r : Recording) (t : TerminalState) (c : CardState) → IsRecording r t c → t.waits ≡ idle → under_way_of r.last ≡ nothing
-idle-now r t c h e = sym h.under_way ∙ idle-rests (link_of r) (good_always r.ifsc (events_of r.lines)) (ap (λ (s : TerminalState). s.waits) h.terminal ∙ e)
+idle-now r t c h e = sym h.under_way ∙ idle-rests (link_of r) (any_good longest longest r.ifsc (events_of r.lines)) (ap (λ (s : TerminalState). s.waits) h.terminal ∙ e)
 
 host-now : (r : Recording) (t : TerminalState) (c : CardState) → IsRecording r t c → c.waits ≡ host → under_way_of r.last ≡ nothing
-host-now r t c h e = sym h.under_way ∙ host-rests (link_of r) (good_always r.ifsc (events_of r.lines)) (ap (λ (s : CardState). s.waits) h.card ∙ e)
+host-now r t c h e = sym h.under_way ∙ host-rests (link_of r) (any_good longest longest r.ifsc (events_of r.lines)) (ap (λ (s : CardState). s.waits) h.card ∙ e)
 
 -- the line of the last turn, by the states of both ends
 told-is : (r : Recording) (t : TerminalState) (c : CardState) → IsRecording r t c → untold r ≡ telling t c r.last
@@ -241,12 +241,12 @@ way-of r t c last h e = h.under_way ∙ ap under_way_of e
 card-class : (r : Recording) (t : TerminalState) (c : CardState) (b : Parts) → AlwaysTaken tables → IsRecording r t c → r.last ≡ Terminal (Send b) → IsClass c.ifsc (spelling b) (got b.pcb b.inf)
 card-class r t c b taken h e =
     subst (λ (s : CardState). IsClass s.ifsc (spelling b) (got b.pcb b.inf)) h.card
-    (subst (λ (w : UnderWay). IsTaken (link_of r) w) (way-of r t c (Terminal (Send b)) h e) (taken r.ifsc (events_of r.lines) h.octets))
+    (subst (λ (w : UnderWay). IsTaken (link_of r) w) (way-of r t c (Terminal (Send b)) h e) (taken longest longest r.ifsc (events_of r.lines) h.octets))
 
 terminal-class : (r : Recording) (t : TerminalState) (c : CardState) (b : Parts) → AlwaysTaken tables → IsRecording r t c → r.last ≡ Card (Sends b) → IsClass t.ifsd (spelling b) (got b.pcb b.inf)
 terminal-class r t c b taken h e =
     subst (λ (s : TerminalState). IsClass s.ifsd (spelling b) (got b.pcb b.inf)) h.terminal
-    (subst (λ (w : UnderWay). IsTaken (link_of r) w) (way-of r t c (Card (Sends b)) h e) (taken r.ifsc (events_of r.lines) h.octets))
+    (subst (λ (w : UnderWay). IsTaken (link_of r) w) (way-of r t c (Card (Sends b)) h e) (taken longest longest r.ifsc (events_of r.lines) h.octets))
 
 pub to-card-acts : (r : Recording) (t : TerminalState) (c : CardState) (b : Parts) (change : Change) (turn : CardTurn) (next : CardState)
     → AlwaysTaken tables → IsRecording r t c → r.last ≡ Terminal (Send b)

@@ -1,6 +1,6 @@
 -- Where the terminal takes a call, or the card's host has its turn, no block is under way.
 use Rattle.std.proofs.Common.{◌≡◌, ℕ, List, [], ◌∷◌, refl, Ok}
-use Rattle.t1_core.specs.Terminal.{TerminalState, TerminalStep, Mark, Waits, idle, ack, answer, more, ifs, resynch, dead, waiting, if_idle}
+use Rattle.t1_core.specs.Terminal.{Limits, TerminalState, TerminalStep, Mark, Waits, idle, ack, answer, more, ifs, resynch, dead, waiting, if_idle}
 use Rattle.t1_core.specs.Card.{CardState, CardStep, Waits as CardWaits, host, command, reply, asking, if_host, waiting as card_waiting}
 use Rattle.t1_core.specs.Link.{Link, nothing}
 use Rattle.t1_core.specs.declared.turns.TerminalTurn.{TerminalTurn}
@@ -15,7 +15,7 @@ listens : (ear : Ear) → ear_waits ear ≡ idle → ⊥
 listens (first field) e = cc
 listens (further joined) e = cc
 
-pub idle-rests : (l : Link) → Good l → l.terminal.waits ≡ idle → l.under_way ≡ nothing
+pub idle-rests : {P : Type 0} {kt kc : Limits} (l : Link) → Good P kt kc l → l.terminal.waits ≡ idle → l.under_way ≡ nothing
 idle-rests _ (at_rest _ _) e = refl
 idle-rests _ (size_asked _ _) e = cc
 idle-rests _ (size_taken _ _) e = cc
@@ -52,7 +52,7 @@ sending : (field rest : List ℕ) → card_waiting field rest ≡ host → ⊥
 sending field [] e = cc
 sending field (x ∷ rest) e = cc
 
-pub host-rests : (l : Link) → Good l → l.card.waits ≡ host → l.under_way ≡ nothing
+pub host-rests : {P : Type 0} {kt kc : Limits} (l : Link) → Good P kt kc l → l.card.waits ≡ host → l.under_way ≡ nothing
 host-rests _ (at_rest _ _) e = refl
 host-rests _ (size_asked _ _) e = cc
 host-rests _ (size_taken _ _) e = cc

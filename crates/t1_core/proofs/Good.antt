@@ -8,26 +8,32 @@ use Rattle.block_core.specs.declared.pcb.Pcb.{Pcb}
 use Rattle.block_core.specs.declared.pcb.Pcb.TheVariants.{Info, Ready, Request, Response}
 use Rattle.block_core.specs.Block.{other}
 use Rattle.t1_core.specs.Came.{info, ready, request, response}
-use Rattle.t1_core.specs.Terminal.{TerminalState, Waits, idle, ack, answer, more, ifs, resynch, dead, is_more, waiting, longest_command, longest_answer}
-use Rattle.t1_core.specs.Card.{CardState, Waits as CardWaits, command, host, reply, asking, size, time, number_after, saving, waiting as card_waiting, new_card}
+use Rattle.t1_core.specs.Terminal.{TerminalState, Waits, idle, ack, answer, more, ifs, resynch, dead, is_more, waiting, Limits}
+use Rattle.t1_core.specs.Card.{CardState, Waits as CardWaits, command, host, reply, asking, size, time, number_after, saving, waiting as card_waiting, card_with}
 use Rattle.t1_core.specs.Link.{Link, UnderWay, nothing, to_card, to_terminal, Exchange, answered, unanswered, given_up}
 use Rattle.t1_core.specs.Promises.{Matches}
 
-abbrev pub term : Number → Number → ℕ → ℕ → ℕ → ℕ → List ℕ → Waits → Option (List ℕ) → TerminalState
-term s r n i j i0 m w a = record { number = s; expected = r; failures = n; ifsc = i; ifsd = j; first_ifsc = i0; command = m; waits = w; answered = a }
+abbrev pub term : Limits → Number → Number → ℕ → ℕ → ℕ → ℕ → List ℕ → Waits → Option (List ℕ) → TerminalState
+term k s r n i j i0 m w a = record { number = s; expected = r; failures = n; ifsc = i; ifsd = j; first_ifsc = i0; command = m; waits = w; answered = a; limits = k }
 
-abbrev pub crd : Number → Number → Option (List ℕ) → ℕ → ℕ → ℕ → List ℕ → CardWaits → CardState
-crd c r saved i j i0 m w = record { number = c; expected = r; saved = saved; ifsc = i; ifsd = j; first_ifsc = i0; command = m; waits = w }
+abbrev pub crd : Limits → Number → Number → Option (List ℕ) → ℕ → ℕ → ℕ → List ℕ → CardWaits → CardState
+crd k c r saved i j i0 m w = record { number = c; expected = r; saved = saved; ifsc = i; ifsd = j; first_ifsc = i0; command = m; waits = w; limits = k }
 
 abbrev pub link : TerminalState → CardState → UnderWay → List Exchange → List Exchange → ℕ → ℕ → Link
 link t c w es hs d f = record { terminal = t; card = c; under_way = w; exchanges = es; services = hs; disturbed = d; failed = f }
 
--- n failures in a row, f in all, and d blocks lost or damaged; in Spare a failure more may come without a further one
-abbrev pub Counts : ℕ → ℕ → ℕ → Type 0
-Counts n f d = (n ≤ f) × (f ≤ 2 * d)
+-- Where each message fits its receiver, which is P: n failures in a row, f in all, and d blocks lost or damaged; in Spare a failure more may come without a further one; so do k questions for RESYNCH.
+abbrev pub Few : Type 0 → ℕ → ℕ → Type 0
+Few P f d = P → f ≤ 2 * d
 
-abbrev pub Spare : ℕ → ℕ → ℕ → Type 0
-Spare n f d = (n ≤ f) × (f + 1 ≤ 2 * d)
+abbrev pub Counts : Type 0 → ℕ → ℕ → ℕ → Type 0
+Counts P n f d = P → (n ≤ f) × (f ≤ 2 * d)
+
+abbrev pub Spare : Type 0 → ℕ → ℕ → ℕ → Type 0
+Spare P n f d = P → (n ≤ f) × (f + 1 ≤ 2 * d)
+
+abbrev pub Asked : Type 0 → ℕ → ℕ → ℕ → ℕ → Type 0
+Asked P k x f d = P → (1 ≤ k) × (k + x ≤ d) × (f ≤ 2 * d)
 
 -- each exchange ended
 abbrev pub Ended : List Exchange → Type 0
@@ -82,91 +88,91 @@ abbrev pub ear_number : Number → Ear → Number
 ear_number s (first field) = other s
 ear_number s (further joined) = s
 
--- The states that are reached. s and c are the ends' numbers, i and j the sizes, i0 the first of them.
-pub data Good : Link → Type 0 where
+-- The states that are reached by ends with these limits. s and c are the ends' numbers, i and j the sizes, i0 the first of them. Where P holds, each message fits its receiver.
+pub data Good (P : Type 0) (kt kc : Limits) : Link → Type 0 where
   -- nothing is under way
   at_rest : {s c : Number} {saved : Option (List ℕ)} {n i j i0 : ℕ} {a : Option (List ℕ)} {tm cm : List ℕ} {es hs : List Exchange} {d f : ℕ}
-      → f ≤ 2 * d → Fine es hs
-      → Good (link (term s (number_after saved c) n i j i0 tm idle a) (crd c s saved i j i0 cm (command [])) nothing es hs d f)
+      → Few P f d → Fine es hs
+      → Good P kt kc (link (term kt s (number_after saved c) n i j i0 tm idle a) (crd kc c s saved i j i0 cm (command [])) nothing es hs d f)
   -- a size of the terminal was asked for, was set, or an R-block came in its place
   size_asked : {s c : Number} {saved : Option (List ℕ)} {n i j j' i0 v : ℕ} {a : Option (List ℕ)} {tm cm : List ℕ} {es hs : List Exchange} {d f : ℕ}
-      → Counts n f d → Fine es hs
-      → Good (link (term s (number_after saved c) n i j i0 tm (ifs v) a) (crd c s saved i j' i0 cm (command [])) (to_card (request Ifs (v ∷ []))) es hs d f)
+      → Counts P n f d → Fine es hs
+      → Good P kt kc (link (term kt s (number_after saved c) n i j i0 tm (ifs v) a) (crd kc c s saved i j' i0 cm (command [])) (to_card (request Ifs (v ∷ []))) es hs d f)
   size_taken : {s c : Number} {saved : Option (List ℕ)} {n i j i0 v : ℕ} {a : Option (List ℕ)} {tm cm : List ℕ} {es hs : List Exchange} {d f : ℕ}
-      → Counts n f d → Fine es hs
-      → Good (link (term s (number_after saved c) n i j i0 tm (ifs v) a) (crd c s saved i v i0 cm (command [])) (to_terminal (response Ifs (v ∷ []))) es hs d f)
+      → Counts P n f d → Fine es hs
+      → Good P kt kc (link (term kt s (number_after saved c) n i j i0 tm (ifs v) a) (crd kc c s saved i v i0 cm (command [])) (to_terminal (response Ifs (v ∷ []))) es hs d f)
   size_doubted : {s c : Number} {saved : Option (List ℕ)} {n i j j' i0 v : ℕ} {a : Option (List ℕ)} {tm cm : List ℕ} {es hs : List Exchange} {d f : ℕ} {fault : Fault}
-      → Spare n f d → Fine es hs
-      → Good (link (term s (number_after saved c) n i j i0 tm (ifs v) a) (crd c s saved i j' i0 cm (command [])) (to_terminal (ready s fault)) es hs d f)
+      → Spare P n f d → Fine es hs
+      → Good P kt kc (link (term kt s (number_after saved c) n i j i0 tm (ifs v) a) (crd kc c s saved i j' i0 cm (command [])) (to_terminal (ready s fault)) es hs d f)
   -- RESYNCH was asked for, was answered, or another block came in its place
   asks_resynch : (w : CardWaits) {s r c e : Number} {saved : Option (List ℕ)} {n i j i' j' i0 k : ℕ} {a : Option (List ℕ)} {tm cm : List ℕ} {es hs : List Exchange} {d f : ℕ}
-      → (1 ≤ k) × (k + 1 ≤ d) × (f ≤ 2 * d) → NoHost w → Held es hs
-      → Good (link (term s r n i j i0 tm (resynch k) a) (crd c e saved i' j' i0 cm w) (to_card (request Resynch [])) es hs d f)
+      → Asked P k 1 f d → NoHost w → Held es hs
+      → Good P kt kc (link (term kt s r n i j i0 tm (resynch k) a) (crd kc c e saved i' j' i0 cm w) (to_card (request Resynch [])) es hs d f)
   resynched : {s r : Number} {n i j i0 k : ℕ} {a : Option (List ℕ)} {tm : List ℕ} {es hs : List Exchange} {d f : ℕ}
-      → (1 ≤ k) × (k + 1 ≤ d) × (f ≤ 2 * d) → Held es hs
-      → Good (link (term s r n i j i0 tm (resynch k) a) (new_card i0) (to_terminal (response Resynch [])) es hs d f)
+      → Asked P k 1 f d → Held es hs
+      → Good P kt kc (link (term kt s r n i j i0 tm (resynch k) a) (card_with kc i0) (to_terminal (response Resynch [])) es hs d f)
   resynch_doubted : (w : CardWaits) (pcb : Pcb) {s r c e : Number} {saved : Option (List ℕ)} {n i j i' j' i0 k : ℕ} {a : Option (List ℕ)} {tm cm : List ℕ} {inf : List ℕ} {es hs : List Exchange} {d f : ℕ}
-      → (1 ≤ k) × (k + 2 ≤ d) × (f ≤ 2 * d) → NoHost w → IsPlain pcb → Held es hs
-      → Good (link (term s r n i j i0 tm (resynch k) a) (crd c e saved i' j' i0 cm w) (to_terminal (record { nad = 0; pcb = pcb; inf = inf })) es hs d f)
+      → Asked P k 2 f d → NoHost w → IsPlain pcb → Held es hs
+      → Good P kt kc (link (term kt s r n i j i0 tm (resynch k) a) (crd kc c e saved i' j' i0 cm w) (to_terminal (record { nad = 0; pcb = pcb; inf = inf })) es hs d f)
   -- the terminal is dead
   over : (w : CardWaits) {s r c e : Number} {saved : Option (List ℕ)} {n i j i' j' i0 i1 : ℕ} {a : Option (List ℕ)} {tm cm : List ℕ} {es hs : List Exchange} {d f : ℕ}
-      → (5 ≤ d) × (f ≤ 2 * d) → NoHost w → Fine es hs
-      → Good (link (term s r n i j i0 tm dead a) (crd c e saved i' j' i1 cm w) nothing es hs d f)
+      → (P → (5 ≤ d) × (f ≤ 2 * d)) → NoHost w → Fine es hs
+      → Good P kt kc (link (term kt s r n i j i0 tm dead a) (crd kc c e saved i' j' i1 cm w) nothing es hs d f)
   -- a block of the command is under way, or an R-block to the card or to the terminal, while the card did not take it
   sends : (joined field rest : List ℕ) {s c : Number} {saved : Option (List ℕ)} {n i j i0 : ℕ} {a : Option (List ℕ)} {cm : List ℕ} {m : List ℕ} {es hs : List Exchange} {d f : ℕ}
-      → Counts n f d → joined ++ field ++ rest ≡ m → length m ≤ longest_command → length field ≤ i → Fine es hs
-      → Good (link (term s (number_after saved c) n i j i0 m (waiting field rest) a) (crd c s saved i j i0 cm (command joined)) (to_card (info s (is_more rest) field)) (unanswered m ∷ es) hs d f)
+      → Counts P n f d → joined ++ field ++ rest ≡ m → (P → length m ≤ kc.command) → length field ≤ i → Fine es hs
+      → Good P kt kc (link (term kt s (number_after saved c) n i j i0 m (waiting field rest) a) (crd kc c s saved i j i0 cm (command joined)) (to_card (info s (is_more rest) field)) (unanswered m ∷ es) hs d f)
   sends_asked : (joined field rest : List ℕ) {s c : Number} {saved : Option (List ℕ)} {n i j i0 : ℕ} {a : Option (List ℕ)} {cm : List ℕ} {m : List ℕ} {es hs : List Exchange} {d f : ℕ} {fault : Fault}
-      → Spare n f d → joined ++ field ++ rest ≡ m → length m ≤ longest_command → length field ≤ i → Fine es hs
-      → Good (link (term s (number_after saved c) n i j i0 m (waiting field rest) a) (crd c s saved i j i0 cm (command joined)) (to_card (ready (number_after saved c) fault)) (unanswered m ∷ es) hs d f)
+      → Spare P n f d → joined ++ field ++ rest ≡ m → (P → length m ≤ kc.command) → length field ≤ i → Fine es hs
+      → Good P kt kc (link (term kt s (number_after saved c) n i j i0 m (waiting field rest) a) (crd kc c s saved i j i0 cm (command joined)) (to_card (ready (number_after saved c) fault)) (unanswered m ∷ es) hs d f)
   sends_doubted : (joined field rest : List ℕ) {s c : Number} {saved : Option (List ℕ)} {n i j i0 : ℕ} {a : Option (List ℕ)} {cm : List ℕ} {m : List ℕ} {es hs : List Exchange} {d f : ℕ} {fault : Fault}
-      → Spare n f d → joined ++ field ++ rest ≡ m → length m ≤ longest_command → length field ≤ i → Fine es hs
-      → Good (link (term s (number_after saved c) n i j i0 m (waiting field rest) a) (crd c s saved i j i0 cm (command joined)) (to_terminal (ready s fault)) (unanswered m ∷ es) hs d f)
+      → Spare P n f d → joined ++ field ++ rest ≡ m → (P → length m ≤ kc.command) → length field ≤ i → Fine es hs
+      → Good P kt kc (link (term kt s (number_after saved c) n i j i0 m (waiting field rest) a) (crd kc c s saved i j i0 cm (command joined)) (to_terminal (ready s fault)) (unanswered m ∷ es) hs d f)
   -- the card took a block with M=1, and an R-block is under way
   taken_asked : {s c : Number} {n i j i0 x : ℕ} {a : Option (List ℕ)} {cm : List ℕ} {m joined field rest : List ℕ} {es hs : List Exchange} {d f : ℕ} {fault : Fault}
-      → Counts n f d → joined ++ x ∷ rest ≡ m → length m ≤ longest_command → Fine es hs
-      → Good (link (term s c n i j i0 m (ack field (x ∷ rest)) a) (crd c (other s) None i j i0 cm (command joined)) (to_card (ready c fault)) (unanswered m ∷ es) hs d f)
+      → Counts P n f d → joined ++ x ∷ rest ≡ m → (P → length m ≤ kc.command) → Fine es hs
+      → Good P kt kc (link (term kt s c n i j i0 m (ack field (x ∷ rest)) a) (crd kc c (other s) None i j i0 cm (command joined)) (to_card (ready c fault)) (unanswered m ∷ es) hs d f)
   taken_told : {s c : Number} {n i j i0 x : ℕ} {a : Option (List ℕ)} {cm : List ℕ} {m joined field rest : List ℕ} {es hs : List Exchange} {d f : ℕ} {fault : Fault}
-      → Counts n f d → joined ++ x ∷ rest ≡ m → length m ≤ longest_command → Fine es hs
-      → Good (link (term s c n i j i0 m (ack field (x ∷ rest)) a) (crd c (other s) None i j i0 cm (command joined)) (to_terminal (ready (other s) fault)) (unanswered m ∷ es) hs d f)
+      → Counts P n f d → joined ++ x ∷ rest ≡ m → (P → length m ≤ kc.command) → Fine es hs
+      → Good P kt kc (link (term kt s c n i j i0 m (ack field (x ∷ rest)) a) (crd kc c (other s) None i j i0 cm (command joined)) (to_terminal (ready (other s) fault)) (unanswered m ∷ es) hs d f)
   -- the host has its turn
   served : {s c : Number} {n i j i0 : ℕ} {a : Option (List ℕ)} {m field : List ℕ} {es hs : List Exchange} {d f : ℕ}
-      → Counts n f d → Fine es hs
-      → Good (link (term s c n i j i0 m (answer field) a) (crd c (other s) None i j i0 m host) nothing (unanswered m ∷ es) (unanswered m ∷ hs) d f)
+      → Counts P n f d → Fine es hs
+      → Good P kt kc (link (term kt s c n i j i0 m (answer field) a) (crd kc c (other s) None i j i0 m host) nothing (unanswered m ∷ es) (unanswered m ∷ hs) d f)
   -- a size of the card was asked for
   size_wanted : {s c : Number} {n i i' j i0 v : ℕ} {a : Option (List ℕ)} {m field : List ℕ} {es hs : List Exchange} {d f : ℕ}
-      → Counts n f d → Fine es hs
-      → Good (link (term s c n i j i0 m (answer field) a) (crd c (other s) None i' j i0 m (asking (size v))) (to_terminal (request Ifs (v ∷ []))) (unanswered m ∷ es) (unanswered m ∷ hs) d f)
+      → Counts P n f d → Fine es hs
+      → Good P kt kc (link (term kt s c n i j i0 m (answer field) a) (crd kc c (other s) None i' j i0 m (asking (size v))) (to_terminal (request Ifs (v ∷ []))) (unanswered m ∷ es) (unanswered m ∷ hs) d f)
   size_given : {s c : Number} {n i' j i0 v : ℕ} {a : Option (List ℕ)} {m field : List ℕ} {es hs : List Exchange} {d f : ℕ}
-      → Counts n f d → Fine es hs
-      → Good (link (term s c n v j i0 m (answer field) a) (crd c (other s) None i' j i0 m (asking (size v))) (to_card (response Ifs (v ∷ []))) (unanswered m ∷ es) (unanswered m ∷ hs) d f)
+      → Counts P n f d → Fine es hs
+      → Good P kt kc (link (term kt s c n v j i0 m (answer field) a) (crd kc c (other s) None i' j i0 m (asking (size v))) (to_card (response Ifs (v ∷ []))) (unanswered m ∷ es) (unanswered m ∷ hs) d f)
   size_missed : {s c : Number} {n i i' j i0 v : ℕ} {a : Option (List ℕ)} {m field : List ℕ} {es hs : List Exchange} {d f : ℕ} {fault : Fault}
-      → Counts n f d → Fine es hs
-      → Good (link (term s c n i j i0 m (answer field) a) (crd c (other s) None i' j i0 m (asking (size v))) (to_card (ready c fault)) (unanswered m ∷ es) (unanswered m ∷ hs) d f)
+      → Counts P n f d → Fine es hs
+      → Good P kt kc (link (term kt s c n i j i0 m (answer field) a) (crd kc c (other s) None i' j i0 m (asking (size v))) (to_card (ready c fault)) (unanswered m ∷ es) (unanswered m ∷ hs) d f)
   -- more time was asked for
   time_wanted : {s c : Number} {n i j i0 v : ℕ} {a : Option (List ℕ)} {m field : List ℕ} {es hs : List Exchange} {d f : ℕ}
-      → Counts n f d → Fine es hs
-      → Good (link (term s c n i j i0 m (answer field) a) (crd c (other s) None i j i0 m (asking (time v))) (to_terminal (request Wtx (v ∷ []))) (unanswered m ∷ es) (unanswered m ∷ hs) d f)
+      → Counts P n f d → Fine es hs
+      → Good P kt kc (link (term kt s c n i j i0 m (answer field) a) (crd kc c (other s) None i j i0 m (asking (time v))) (to_terminal (request Wtx (v ∷ []))) (unanswered m ∷ es) (unanswered m ∷ hs) d f)
   time_given : {s c : Number} {n i j i0 v : ℕ} {a : Option (List ℕ)} {m field : List ℕ} {es hs : List Exchange} {d f : ℕ}
-      → Counts n f d → Fine es hs
-      → Good (link (term s c n i j i0 m (answer field) a) (crd c (other s) None i j i0 m (asking (time v))) (to_card (response Wtx (v ∷ []))) (unanswered m ∷ es) (unanswered m ∷ hs) d f)
+      → Counts P n f d → Fine es hs
+      → Good P kt kc (link (term kt s c n i j i0 m (answer field) a) (crd kc c (other s) None i j i0 m (asking (time v))) (to_card (response Wtx (v ∷ []))) (unanswered m ∷ es) (unanswered m ∷ hs) d f)
   time_missed : {s c : Number} {n i j i0 v : ℕ} {a : Option (List ℕ)} {m field : List ℕ} {es hs : List Exchange} {d f : ℕ} {fault : Fault}
-      → Counts n f d → Fine es hs
-      → Good (link (term s c n i j i0 m (answer field) a) (crd c (other s) None i j i0 m (asking (time v))) (to_card (ready c fault)) (unanswered m ∷ es) (unanswered m ∷ hs) d f)
+      → Counts P n f d → Fine es hs
+      → Good P kt kc (link (term kt s c n i j i0 m (answer field) a) (crd kc c (other s) None i j i0 m (asking (time v))) (to_card (ready c fault)) (unanswered m ∷ es) (unanswered m ∷ hs) d f)
   -- a block of the reply is under way, or an R-block to the card or to the terminal, while the terminal did not take it
   replying : (ear : Ear) (field rest : List ℕ) {s c : Number} {n i j i0 : ℕ} {a : Option (List ℕ)} {m y : List ℕ} {es hs : List Exchange} {d f : ℕ}
-      → Counts n f d → ear_joined ear ++ field ++ rest ≡ y → length y ≤ longest_answer → length field ≤ j → Fine es hs
-      → Good (link (term s c n i j i0 m (ear_waits ear) a) (crd c (ear_number s ear) (saving None field rest) i j i0 m (card_waiting field rest)) (to_terminal (info c (is_more rest) field)) (unanswered m ∷ es) (answered m y ∷ hs) d f)
+      → Counts P n f d → ear_joined ear ++ field ++ rest ≡ y → (P → length y ≤ kt.answer) → length field ≤ j → Fine es hs
+      → Good P kt kc (link (term kt s c n i j i0 m (ear_waits ear) a) (crd kc c (ear_number s ear) (saving None field rest) i j i0 m (card_waiting field rest)) (to_terminal (info c (is_more rest) field)) (unanswered m ∷ es) (answered m y ∷ hs) d f)
   replies_asked : (ear : Ear) (field rest : List ℕ) {s c : Number} {n i j i0 : ℕ} {a : Option (List ℕ)} {m y : List ℕ} {es hs : List Exchange} {d f : ℕ} {fault : Fault}
-      → Counts n f d → ear_joined ear ++ field ++ rest ≡ y → length y ≤ longest_answer → length field ≤ j → Fine es hs
-      → Good (link (term s c n i j i0 m (ear_waits ear) a) (crd c (ear_number s ear) (saving None field rest) i j i0 m (card_waiting field rest)) (to_card (ready c fault)) (unanswered m ∷ es) (answered m y ∷ hs) d f)
+      → Counts P n f d → ear_joined ear ++ field ++ rest ≡ y → (P → length y ≤ kt.answer) → length field ≤ j → Fine es hs
+      → Good P kt kc (link (term kt s c n i j i0 m (ear_waits ear) a) (crd kc c (ear_number s ear) (saving None field rest) i j i0 m (card_waiting field rest)) (to_card (ready c fault)) (unanswered m ∷ es) (answered m y ∷ hs) d f)
   replies_doubted : (ear : Ear) (field rest : List ℕ) {s c : Number} {n i j i0 : ℕ} {a : Option (List ℕ)} {m y : List ℕ} {es hs : List Exchange} {d f : ℕ} {fault : Fault}
-      → Spare n f d → ear_joined ear ++ field ++ rest ≡ y → length y ≤ longest_answer → length field ≤ j → Fine es hs
-      → Good (link (term s c n i j i0 m (ear_waits ear) a) (crd c (ear_number s ear) (saving None field rest) i j i0 m (card_waiting field rest)) (to_terminal (ready (ear_number s ear) fault)) (unanswered m ∷ es) (answered m y ∷ hs) d f)
+      → Spare P n f d → ear_joined ear ++ field ++ rest ≡ y → (P → length y ≤ kt.answer) → length field ≤ j → Fine es hs
+      → Good P kt kc (link (term kt s c n i j i0 m (ear_waits ear) a) (crd kc c (ear_number s ear) (saving None field rest) i j i0 m (card_waiting field rest)) (to_terminal (ready (ear_number s ear) fault)) (unanswered m ∷ es) (answered m y ∷ hs) d f)
   -- the terminal took a block with M=1, and an R-block is under way
   joined_told : {s c : Number} {n i j i0 x : ℕ} {a : Option (List ℕ)} {m y joined field rest : List ℕ} {es hs : List Exchange} {d f : ℕ} {fault : Fault}
-      → Counts n f d → joined ++ x ∷ rest ≡ y → length y ≤ longest_answer → Fine es hs
-      → Good (link (term s (other c) n i j i0 m (more joined) a) (crd c s None i j i0 m (reply field (x ∷ rest))) (to_card (ready (other c) fault)) (unanswered m ∷ es) (answered m y ∷ hs) d f)
+      → Counts P n f d → joined ++ x ∷ rest ≡ y → (P → length y ≤ kt.answer) → Fine es hs
+      → Good P kt kc (link (term kt s (other c) n i j i0 m (more joined) a) (crd kc c s None i j i0 m (reply field (x ∷ rest))) (to_card (ready (other c) fault)) (unanswered m ∷ es) (answered m y ∷ hs) d f)
   joined_doubted : {s c : Number} {n i j i0 x : ℕ} {a : Option (List ℕ)} {m y joined field rest : List ℕ} {es hs : List Exchange} {d f : ℕ} {fault : Fault}
-      → Spare n f d → joined ++ x ∷ rest ≡ y → length y ≤ longest_answer → Fine es hs
-      → Good (link (term s (other c) n i j i0 m (more joined) a) (crd c s None i j i0 m (reply field (x ∷ rest))) (to_terminal (ready s fault)) (unanswered m ∷ es) (answered m y ∷ hs) d f)
+      → Spare P n f d → joined ++ x ∷ rest ≡ y → (P → length y ≤ kt.answer) → Fine es hs
+      → Good P kt kc (link (term kt s (other c) n i j i0 m (more joined) a) (crd kc c s None i j i0 m (reply field (x ∷ rest))) (to_terminal (ready s fault)) (unanswered m ∷ es) (answered m y ∷ hs) d f)

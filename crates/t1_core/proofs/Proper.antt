@@ -18,9 +18,9 @@ use Rattle.t1_core.specs.declared.turns.CardTurn.{CardTurn}
 use Rattle.t1_core.specs.declared.turns.CardTurn.TheVariants.{Send as Sends, Asked}
 use Rattle.block_core.specs.Block.{other}
 use Rattle.t1_core.specs.Came.{Came, got, damaged, invalid, quiet, same, carried, info, ready, request, response}
-use Rattle.t1_core.specs.Terminal.{TerminalState, TerminalStep, fails, joins, sends_next, in_exchange, terminal_came, terminal_turn, transmit, ask_ifs, if_idle, is_reserved, is_more, Waits, idle, ack, answer, more, ifs, resynch, dead, waiting, longest_answer, longest_command}
+use Rattle.t1_core.specs.Terminal.{TerminalState, TerminalStep, fails, joins, sends_next, in_exchange, terminal_came, terminal_turn, transmit, ask_ifs, if_idle, is_reserved, is_more, Waits, idle, ack, answer, more, ifs, resynch, dead, waiting}
 use Rattle.t1_core.specs.Card.{CardState, CardStep, Waits as CardWaits, command, host, reply, asking, CardRequest, size, time, request_block, saving, waiting as card_waiting, joins as card_joins, sends_next as card_sends_next, sends_saved, in_either, card_came, card_turn, if_host, replies, more_time, ask_ifs as card_ask_ifs}
-use Rattle.t1_core.specs.Link.{tables, Link, UnderWay, nothing, to_card, to_terminal, sent_by_terminal, sent_by_card, unanswered, with_reply, delivered, arrives, lost, Exchange, terminal_makes, card_makes, happens, run, new_link, Event, delivers, damages, spoils, loses, transmits, asks_ifsd, host_replies, host_asks_time, host_asks_ifsc}
+use Rattle.t1_core.specs.Link.{tables, Link, UnderWay, nothing, to_card, to_terminal, sent_by_terminal, sent_by_card, unanswered, with_reply, delivered, arrives, lost, Exchange, terminal_makes, card_makes, happens, run, link_with, Event, delivers, damages, spoils, loses, transmits, asks_ifsd, host_replies, host_asks_time, host_asks_ifsc}
 use Rattle.t1_core.specs.Promises.{HandsOctets, AllHandOctets, IsTaken, AlwaysTaken, Fits, FitsSize}
 use Rattle.t1_core.proofs.Classes.{whole-class}
 use Rattle.t1_core.proofs.Promised.{always_fits}
@@ -145,14 +145,14 @@ going t (ack field rest) damaged tw h k = exchanging t damaged tw k
 going t (ack field rest) invalid tw h k = exchanging t invalid tw k
 going t (ack field rest) quiet tw h k = exchanging t quiet tw k
 going t (answer field) (got (Ready number fault) inf) tw h k = either SoundStep (same number t.number) _ _ (failing t _ tw (info-sound t.number false field h)) (failing t _ tw (ready-sound t.expected Free))
-going t (answer field) (got (Info number goes_on) inf) tw h k = either SoundStep (same number t.expected && nat_le (length inf) longest_answer) _ _ (joining (record t { number = other t.number }) inf goes_on) (exchanging t (got (Info number goes_on) inf) tw k)
+going t (answer field) (got (Info number goes_on) inf) tw h k = either SoundStep (same number t.expected && nat_le (length inf) t.limits.answer) _ _ (joining (record t { number = other t.number }) inf goes_on) (exchanging t (got (Info number goes_on) inf) tw k)
 going t (answer field) (got (Request kind) inf) tw h k = exchanging t (got (Request kind) inf) tw k
 going t (answer field) (got (Response kind) inf) tw h k = exchanging t (got (Response kind) inf) tw k
 going t (answer field) damaged tw h k = exchanging t damaged tw k
 going t (answer field) invalid tw h k = exchanging t invalid tw k
 going t (answer field) quiet tw h k = exchanging t quiet tw k
 going t (more joined) (got (Ready number fault) inf) tw h k = failing t _ tw (ready-sound t.expected Free)
-going t (more joined) (got (Info number goes_on) inf) tw h k = either SoundStep (same number t.expected && nat_le (length joined + length inf) longest_answer) _ _ (joining t (joined ++ inf) goes_on) (exchanging t (got (Info number goes_on) inf) tw k)
+going t (more joined) (got (Info number goes_on) inf) tw h k = either SoundStep (same number t.expected && nat_le (length joined + length inf) t.limits.answer) _ _ (joining t (joined ++ inf) goes_on) (exchanging t (got (Info number goes_on) inf) tw k)
 going t (more joined) (got (Request kind) inf) tw h k = exchanging t (got (Request kind) inf) tw k
 going t (more joined) (got (Response kind) inf) tw h k = exchanging t (got (Response kind) inf) tw k
 going t (more joined) damaged tw h k = exchanging t damaged tw k
@@ -179,7 +179,7 @@ asking_size : (t : TerminalState) (n : ℕ) → n < 256 → SoundStep (terminal_
 asking_size t n h = if_idle-sound t.waits _ (with_test SoundStep (is_reserved n) _ _ tt (λ e. (size-sound n (size_ok n h e).0 (size_ok n h e).1, size_ok n h e)))
 
 transmitting : (t : TerminalState) (m : List ℕ) → AreOctets m → SoundStep (terminal_turn t (transmit m))
-transmitting t m h = if_idle-sound t.waits _ (either SoundStep (nat_le (length m) longest_command) _ _ (cutting (record t { failures = 0; command = m; answered = None }) m h) tt)
+transmitting t m h = if_idle-sound t.waits _ (either SoundStep (nat_le (length m) t.limits.command) _ _ (cutting (record t { failures = 0; command = m; answered = None }) m h) tt)
 
 -- ---- the card
 
@@ -253,7 +253,7 @@ card_going c host came cw h s k = tt
 card_going c (command joined) (got (Request Resynch) inf) cw h s k = (resynch_answer, tt, tt)
 card_going c (reply field rest) (got (Request Resynch) inf) cw h s k = (resynch_answer, tt, tt)
 card_going c (asking q) (got (Request Resynch) inf) cw h s k = (resynch_answer, tt, tt)
-card_going c (command joined) (got (Info number goes_on) inf) cw h s k = either SoundCardStep (same number c.expected && nat_le (length joined + length inf) longest_command) _ _ (card_joining c (joined ++ inf) goes_on) (either_way c (got (Info number goes_on) inf) cw s k)
+card_going c (command joined) (got (Info number goes_on) inf) cw h s k = either SoundCardStep (same number c.expected && nat_le (length joined + length inf) c.limits.command) _ _ (card_joining c (joined ++ inf) goes_on) (either_way c (got (Info number goes_on) inf) cw s k)
 card_going c (command joined) (got (Ready number fault) inf) cw h s k = saved-sound c c.saved (same number c.number) s cw s
 card_going c (reply field rest) (got (Ready number fault) inf) cw h s k = either SoundCardStep (same number c.number) _ _ (info-sound c.number true field h.0, cw, s) (card_cutting (record c { number = other c.number }) rest h.1 s)
 card_going c (reply field rest) (got (Info number goes_on) inf) cw h s k = either_way c (got (Info number goes_on) inf) cw s k
@@ -303,7 +303,7 @@ if_host-sound (reply field rest) step h = tt
 if_host-sound (asking q) step h = tt
 
 replying_ : (c : CardState) (octets : List ℕ) → AreOctets octets → SoundSaved c.saved → SoundCardStep (card_turn c (replies octets))
-replying_ c octets h s = if_host-sound c.waits _ (either SoundCardStep (nat_le (length octets) longest_answer) _ _ (card_cutting c octets h s) tt)
+replying_ c octets h s = if_host-sound c.waits _ (either SoundCardStep (nat_le (length octets) c.limits.answer) _ _ (card_cutting c octets h s) tt)
 
 asking_time : (c : CardState) (n : ℕ) → n < 256 → SoundSaved c.saved → SoundCardStep (card_turn c (more_time n))
 asking_time c n h s = if_host-sound c.waits _ ((time-sound n h, h, s))
@@ -392,7 +392,7 @@ taking l (to_card b) h k = whole-class l.card.ifsc b k.nad (proper l.card.ifsc b
 taking l (to_terminal b) h k = whole-class l.terminal.ifsd b k.nad (proper l.terminal.ifsd b h k)
 
 pub always_taken : AlwaysTaken tables
-always_taken ifsc es h =
-    let l = run tables es (new_link ifsc) in
-    let g = always_sound es (new_link ifsc) h (record { terminal = tt; card = tt; saved = tt; way = tt }) in
-    taking l l.under_way (always_fits ifsc es) g.way
+always_taken kt kc ifsc es h =
+    let l = run tables es (link_with kt kc ifsc) in
+    let g = always_sound es (link_with kt kc ifsc) h (record { terminal = tt; card = tt; saved = tt; way = tt }) in
+    taking l l.under_way (always_fits kt kc ifsc es) g.way

@@ -8,7 +8,7 @@ use Rattle.t1_core.specs.declared.turns.TerminalTurn.{TerminalTurn}
 use Rattle.t1_core.specs.declared.turns.TerminalTurn.TheVariants.{Send, Answered, IfsSet, GivenUp, Dead}
 use Rattle.block_core.specs.Block.{other}
 use Rattle.t1_core.specs.Came.{Came, got, damaged, invalid, quiet, same, carried}
-use Rattle.t1_core.specs.Terminal.{TerminalState, turn_of, TerminalStep, fails, joins, in_exchange, terminal_came, terminal_turn, TerminalInput, transmit, ask_ifs, takes, if_idle, is_reserved, Waits, idle, ack, answer, more, ifs, resynch, dead, longest_answer, longest_command}
+use Rattle.t1_core.specs.Terminal.{TerminalState, turn_of, TerminalStep, fails, joins, in_exchange, terminal_came, terminal_turn, TerminalInput, transmit, ask_ifs, takes, if_idle, is_reserved, Waits, idle, ack, answer, more, ifs, resynch, dead}
 use Rattle.t1_core.specs.declared.turns.TerminalFault.{TerminalFault}
 
 abbrev is_given_up : TerminalTurn → Bool
@@ -64,14 +64,14 @@ going t (ack field rest) damaged e = exchanging t damaged
 going t (ack field rest) invalid e = exchanging t invalid
 going t (ack field rest) quiet e = exchanging t quiet
 going t (answer field) (got (Ready number fault) inf) e = either (same number t.number) _ _ (failing t _) (failing t _)
-going t (answer field) (got (Info number goes_on) inf) e = either (same number t.expected && nat_le (length inf) longest_answer) _ _ (joining (record t { number = other t.number }) inf goes_on) (exchanging t (got (Info number goes_on) inf))
+going t (answer field) (got (Info number goes_on) inf) e = either (same number t.expected && nat_le (length inf) t.limits.answer) _ _ (joining (record t { number = other t.number }) inf goes_on) (exchanging t (got (Info number goes_on) inf))
 going t (answer field) (got (Request kind) inf) e = exchanging t (got (Request kind) inf)
 going t (answer field) (got (Response kind) inf) e = exchanging t (got (Response kind) inf)
 going t (answer field) damaged e = exchanging t damaged
 going t (answer field) invalid e = exchanging t invalid
 going t (answer field) quiet e = exchanging t quiet
 going t (more joined) (got (Ready number fault) inf) e = failing t _
-going t (more joined) (got (Info number goes_on) inf) e = either (same number t.expected && nat_le (length joined + length inf) longest_answer) _ _ (joining t (joined ++ inf) goes_on) (exchanging t (got (Info number goes_on) inf))
+going t (more joined) (got (Info number goes_on) inf) e = either (same number t.expected && nat_le (length joined + length inf) t.limits.answer) _ _ (joining t (joined ++ inf) goes_on) (exchanging t (got (Info number goes_on) inf))
 going t (more joined) (got (Request kind) inf) e = exchanging t (got (Request kind) inf)
 going t (more joined) (got (Response kind) inf) e = exchanging t (got (Response kind) inf)
 going t (more joined) damaged e = exchanging t damaged
@@ -102,7 +102,7 @@ calling (ifs n) step h = refl
 calling (resynch asked) step h = refl
 
 turning : (t : TerminalState) (input : TerminalInput) → is_resynch t.waits ≡ false → GoesOn (terminal_turn t input)
-turning t (transmit m) e = calling t.waits _ (either (nat_le (length m) longest_command) _ _ refl refl)
+turning t (transmit m) e = calling t.waits _ (either (nat_le (length m) t.limits.command) _ _ refl refl)
 turning t (ask_ifs n) e = calling t.waits _ (either (is_reserved n) _ _ refl refl)
 turning t (takes came) e = going t t.waits came e
 

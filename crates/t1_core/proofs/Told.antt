@@ -10,7 +10,7 @@ use Rattle.t1_core.specs.declared.turns.CardTurn.{CardTurn}
 use Rattle.t1_core.specs.declared.turns.CardTurn.TheVariants.{Asked}
 use Rattle.block_core.specs.Block.{other}
 use Rattle.t1_core.specs.Came.{Came, got, damaged, invalid, quiet, same, carried}
-use Rattle.t1_core.specs.Terminal.{TerminalState, TerminalStep, fails, joins, in_exchange, terminal_came, terminal_turn, TerminalInput, transmit, ask_ifs, takes, if_idle, is_reserved, Waits, idle, ack, answer, more, ifs, resynch, dead, longest_answer, longest_command}
+use Rattle.t1_core.specs.Terminal.{TerminalState, TerminalStep, fails, joins, in_exchange, terminal_came, terminal_turn, TerminalInput, transmit, ask_ifs, takes, if_idle, is_reserved, Waits, idle, ack, answer, more, ifs, resynch, dead}
 use Rattle.t1_core.specs.Card.{CardState, CardStep, Waits as CardWaits, command, host, reply, asking, size, time, joins as card_joins, sends_saved, card_came, CardInput, replies, more_time, ask_ifs as card_ask_ifs, takes as card_takes, card_turn, if_host}
 use Rattle.t1_core.specs.Promises.{Tells}
 use Rattle.t1_core.specs.Link.{tables}
@@ -67,14 +67,14 @@ going t (ack field rest) damaged = exchanging t damaged
 going t (ack field rest) invalid = exchanging t invalid
 going t (ack field rest) quiet = exchanging t quiet
 going t (answer field) (got (Ready number fault) inf) = either Tell (same number t.number) _ _ (failing t _) (failing t _)
-going t (answer field) (got (Info number goes_on) inf) = either Tell (same number t.expected && nat_le (length inf) longest_answer) _ _ (joining (record t { number = other t.number }) inf goes_on) (exchanging t (got (Info number goes_on) inf))
+going t (answer field) (got (Info number goes_on) inf) = either Tell (same number t.expected && nat_le (length inf) t.limits.answer) _ _ (joining (record t { number = other t.number }) inf goes_on) (exchanging t (got (Info number goes_on) inf))
 going t (answer field) (got (Request kind) inf) = exchanging t (got (Request kind) inf)
 going t (answer field) (got (Response kind) inf) = exchanging t (got (Response kind) inf)
 going t (answer field) damaged = exchanging t damaged
 going t (answer field) invalid = exchanging t invalid
 going t (answer field) quiet = exchanging t quiet
 going t (more joined) (got (Ready number fault) inf) = failing t _
-going t (more joined) (got (Info number goes_on) inf) = either Tell (same number t.expected && nat_le (length joined + length inf) longest_answer) _ _ (joining t (joined ++ inf) goes_on) (exchanging t (got (Info number goes_on) inf))
+going t (more joined) (got (Info number goes_on) inf) = either Tell (same number t.expected && nat_le (length joined + length inf) t.limits.answer) _ _ (joining t (joined ++ inf) goes_on) (exchanging t (got (Info number goes_on) inf))
 going t (more joined) (got (Request kind) inf) = exchanging t (got (Request kind) inf)
 going t (more joined) (got (Response kind) inf) = exchanging t (got (Response kind) inf)
 going t (more joined) damaged = exchanging t damaged
@@ -101,7 +101,7 @@ calling (ifs n) step h = tt
 calling (resynch asked) step h = tt
 
 turning : (t : TerminalState) (input : TerminalInput) → Tell (terminal_turn t input)
-turning t (transmit m) = calling t.waits _ (either Tell (nat_le (length m) longest_command) _ _ tt tt)
+turning t (transmit m) = calling t.waits _ (either Tell (nat_le (length m) t.limits.command) _ _ tt tt)
 turning t (ask_ifs n) = calling t.waits _ (either Tell (is_reserved n) _ _ tt tt)
 turning t (takes came) = going t t.waits came
 
@@ -132,7 +132,7 @@ saved_again c (Some field) false = tt
 
 card_going : (c : CardState) (w : CardWaits) (came : Came) → CardTell (card_came c w came)
 card_going c host came = tt
-card_going c (command joined) (got (Info number goes_on) inf) = either CardTell (same number c.expected && nat_le (length joined + length inf) longest_command) _ _ (card_joining c (joined ++ inf) goes_on) tt
+card_going c (command joined) (got (Info number goes_on) inf) = either CardTell (same number c.expected && nat_le (length joined + length inf) c.limits.command) _ _ (card_joining c (joined ++ inf) goes_on) tt
 card_going c (command joined) (got (Ready number fault) inf) = saved_again c c.saved (same number c.number)
 card_going c (command joined) (got (Request Resynch) inf) = tt
 card_going c (command joined) (got (Request Ifs) inf) = tt
@@ -192,7 +192,7 @@ in_turn (reply field rest) step h = tt
 in_turn (asking q) step h = tt
 
 card_turning : (c : CardState) (input : CardInput) → CardTell (card_turn c input)
-card_turning c (replies octets) = in_turn c.waits _ (either CardTell (nat_le (length octets) longest_answer) _ _ tt tt)
+card_turning c (replies octets) = in_turn c.waits _ (either CardTell (nat_le (length octets) c.limits.answer) _ _ tt tt)
 card_turning c (more_time n) = in_turn c.waits _ tt
 card_turning c (card_ask_ifs n) = in_turn c.waits _ (either CardTell (is_reserved n) _ _ tt tt)
 card_turning c (card_takes came) = card_going c c.waits came

@@ -12,7 +12,7 @@ use Rattle.t1_core.specs.declared.turns.CardFault.{CardFault}
 use Rattle.t1_core.specs.declared.turns.CardFault.TheVariants.{Order, TooLong, Reserved}
 use Rattle.block_core.specs.Block.{other}
 use Rattle.t1_core.specs.Came.{Came, got, damaged, same, carried, info, ready, request, response}
-use Rattle.t1_core.specs.Terminal.{longest_command, longest_answer, is_reserved, is_more}
+use Rattle.t1_core.specs.Terminal.{Limits, longest, is_reserved, is_more}
 
 -- What the card has asked the terminal for on its host's behalf.
 pub data CardRequest : Type 0 where
@@ -44,9 +44,15 @@ pub record CardState : Type 0 where
   -- the whole command that its host was given last, until the next one begins
   pub command : List ℕ
   pub waits : Waits
+  -- the most octets of a command, and of a reply
+  pub limits : Limits
+
+-- at the start, with room for messages of so many octets
+abbrev pub card_with : Limits → ℕ → CardState
+card_with limits ifsc = record { number = Zero; expected = Zero; saved = None; ifsc = ifsc; ifsd = 32; first_ifsc = ifsc; command = []; waits = command []; limits = limits }
 
 abbrev pub new_card : ℕ → CardState
-new_card ifsc = record { number = Zero; expected = Zero; saved = None; ifsc = ifsc; ifsd = 32; first_ifsc = ifsc; command = []; waits = command [] }
+new_card ifsc = card_with longest ifsc
 
 abbrev pub CardStep : Type 0
 CardStep = Result (CardTurn × CardState) CardFault
@@ -91,7 +97,7 @@ in_either c came = Ok (Send (ready c.expected Other), c)
 -- It waits for a command.
 abbrev pub in_command : CardState → List ℕ → Came → CardStep
 in_command c joined (got (Info number goes_on) inf) =
-    if same number c.expected && nat_le (length joined + length inf) longest_command
+    if same number c.expected && nat_le (length joined + length inf) c.limits.command
     then joins c (joined ++ inf) goes_on
     else in_either c (got (Info number goes_on) inf)
 in_command c joined (got (Ready number fault) inf) = sends_saved c c.saved (same number c.number)
@@ -123,7 +129,7 @@ in_asking c asked came = Ok (Send (request_block asked), c)
 
 -- RESYNCH: as at the start, with no command.
 abbrev pub resynched : CardState → CardStep
-resynched c = Ok (Send (response Resynch []), new_card c.first_ifsc)
+resynched c = Ok (Send (response Resynch []), card_with c.limits c.first_ifsc)
 
 -- A block came.
 abbrev pub card_came : CardState → Waits → Came → CardStep
@@ -148,7 +154,7 @@ if_host waits step = Err Order
 abbrev pub card_turn : CardState → CardInput → CardStep
 card_turn c (replies octets) =
     if_host c.waits
-    (if nat_le (length octets) longest_answer
+    (if nat_le (length octets) c.limits.answer
     then sends_next c octets
     else Err TooLong)
 card_turn c (more_time n) = if_host c.waits (Ok (Send (request_block (time n)), record c { waits = asking (time n) }))

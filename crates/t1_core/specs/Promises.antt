@@ -7,9 +7,9 @@ use Rattle.block_core.specs.declared.pcb.Pcb.TheVariants.{Info}
 use Rattle.t1_core.specs.Came.{got, IsClass}
 use Rattle.t1_core.specs.declared.turns.TerminalTurn.TheVariants.{GivenUp, Answered}
 use Rattle.t1_core.specs.declared.turns.CardTurn.TheVariants.{Asked}
-use Rattle.t1_core.specs.Terminal.{TerminalState, Mark, turn_of, TerminalInput, Waits, idle, dead}
+use Rattle.t1_core.specs.Terminal.{TerminalState, Mark, turn_of, TerminalInput, Waits, idle, dead, Limits}
 use Rattle.t1_core.specs.Card.{CardState, CardInput, host}
-use Rattle.t1_core.specs.Link.{Tables, Link, UnderWay, nothing, to_card, to_terminal, Exchange, answered, unanswered, given_up, command_of, Event, transmits, asks_ifsd, host_replies, host_asks_time, host_asks_ifsc, run, new_link}
+use Rattle.t1_core.specs.Link.{Tables, Link, UnderWay, nothing, to_card, to_terminal, Exchange, answered, unanswered, given_up, command_of, Event, transmits, asks_ifsd, host_replies, host_asks_time, host_asks_ifsc, run, link_with}
 
 -- The card's host was given each command that was answered, once and in order, and gave that answer; a command without an answer was given to the host once or not at all. Newest first.
 abbrev pub Matches : List Exchange → List Exchange → Type 0
@@ -63,21 +63,21 @@ pub record Serves (es hs : List Exchange) : Type 0 where
   pub commands : (newer : List (List ℕ)) × (newer ++ map command_of hs ≡ map command_of es)
   pub answers : (newer : List Exchange) × (newer ++ answered_only es ≡ hs)
 
--- Whatever is lost or damaged, each answer is the reply to its command, and no command is acted on twice.
+-- Whatever the limits of both ends, and whatever is lost or damaged, each answer is the reply to its command, and no command is acted on twice.
 abbrev pub AlwaysMatches : Tables → Type 0
-AlwaysMatches by = (ifsc : ℕ) (events : List Event) → Matches (run by events (new_link ifsc)).exchanges (run by events (new_link ifsc)).services
+AlwaysMatches by = (at_terminal at_card : Limits) (ifsc : ℕ) (events : List Event) → Matches (run by events (link_with at_terminal at_card ifsc)).exchanges (run by events (link_with at_terminal at_card ifsc)).services
 
 -- Where no exchange was given up, the host was given the commands in their order, and each answer is its reply.
 abbrev pub ServesInOrder : Tables → Type 0
-ServesInOrder by = (ifsc : ℕ) (events : List Event) → NoneGivenUp (run by events (new_link ifsc)).exchanges → Serves (run by events (new_link ifsc)).exchanges (run by events (new_link ifsc)).services
+ServesInOrder by = (at_terminal at_card : Limits) (ifsc : ℕ) (events : List Event) → NoneGivenUp (run by events (link_with at_terminal at_card ifsc)).exchanges → Serves (run by events (link_with at_terminal at_card ifsc)).exchanges (run by events (link_with at_terminal at_card ifsc)).services
 
 -- Whenever the terminal is idle, both ends are in step.
 abbrev pub InStepWhenIdle : Tables → Type 0
-InStepWhenIdle by = (ifsc : ℕ) (events : List Event) → IsIdle (run by events (new_link ifsc)).terminal.waits → InStep (run by events (new_link ifsc))
+InStepWhenIdle by = (at_terminal at_card : Limits) (ifsc : ℕ) (events : List Event) → IsIdle (run by events (link_with at_terminal at_card ifsc)).terminal.waits → InStep (run by events (link_with at_terminal at_card ifsc))
 
 -- At every moment the I-block under way fits the size that its receiver holds.
 abbrev pub AlwaysFits : Tables → Type 0
-AlwaysFits by = (ifsc : ℕ) (events : List Event) → Fits (run by events (new_link ifsc)) (run by events (new_link ifsc)).under_way
+AlwaysFits by = (at_terminal at_card : Limits) (ifsc : ℕ) (events : List Event) → Fits (run by events (link_with at_terminal at_card ifsc)) (run by events (link_with at_terminal at_card ifsc)).under_way
 
 -- The turn Answered leaves an answer, and Asked leaves the host its turn: so the histories miss no turn. This holds of every state.
 pub record Tells (by : Tables) : Type 0 where
@@ -90,8 +90,23 @@ pub record IsPatient (by : Tables) (l : Link) : Type 0 where
   pub dead : IsDead l.terminal.waits → 5 ≤ l.disturbed
   pub failures : l.failed ≤ 2 * l.disturbed
 
+-- A message that its sender takes fits the limit of its receiver.
+abbrev pub FitsReceiver : Limits → Limits → Event → Type 0
+FitsReceiver at_terminal at_card (transmits m) = length m ≤ at_terminal.command → length m ≤ at_card.command
+FitsReceiver at_terminal at_card (host_replies octets) = length octets ≤ at_card.answer → length octets ≤ at_terminal.answer
+FitsReceiver at_terminal at_card event = Unit {0}
+
+abbrev pub AllFit : Limits → Limits → List Event → Type 0
+AllFit at_terminal at_card [] = Unit {0}
+AllFit at_terminal at_card (e ∷ es) = FitsReceiver at_terminal at_card e × AllFit at_terminal at_card es
+
+-- Where each message fits its receiver. Else the receiver takes its last blocks for an error, until the exchange is given up.
 abbrev pub AlwaysPatient : Tables → Type 0
-AlwaysPatient by = (ifsc : ℕ) (events : List Event) → IsPatient by (run by events (new_link ifsc))
+AlwaysPatient by = (at_terminal at_card : Limits) (ifsc : ℕ) (events : List Event) → AllFit at_terminal at_card events → IsPatient by (run by events (link_with at_terminal at_card ifsc))
+
+-- Between ends with the same limits each message does.
+abbrev pub PatientWhereAlike : Tables → Type 0
+PatientWhereAlike by = (limits : Limits) (ifsc : ℕ) (events : List Event) → IsPatient by (run by events (link_with limits limits ifsc))
 
 -- The calls of an event hand over octets.
 abbrev pub HandsOctets : Event → Type 0
@@ -113,4 +128,4 @@ IsTaken l (to_card block) = IsClass l.card.ifsc (spelling block) (got block.pcb 
 IsTaken l (to_terminal block) = IsClass l.terminal.ifsd (spelling block) (got block.pcb block.inf)
 
 abbrev pub AlwaysTaken : Tables → Type 0
-AlwaysTaken by = (ifsc : ℕ) (events : List Event) → AllHandOctets events → IsTaken (run by events (new_link ifsc)) (run by events (new_link ifsc)).under_way
+AlwaysTaken by = (at_terminal at_card : Limits) (ifsc : ℕ) (events : List Event) → AllHandOctets events → IsTaken (run by events (link_with at_terminal at_card ifsc)) (run by events (link_with at_terminal at_card ifsc)).under_way

@@ -1,5 +1,5 @@
 -- The terminal of the T=1 protocol (ISO/IEC 7816-3, clause 11.6). The counts of repeats, and what RESYNCH leaves, are this project's profile.
-use Rattle.std.specs.Prelude.{ℕ, ◌+◌, List, [], ◌∷◌, ◌++◌, length, take, drop, Bool, true, false, ◌&&◌, ◌||◌, ◌==◌, nat_lt, nat_le, if◌then◌else◌, Option, Some, None, Result, Ok, Err}
+use Rattle.std.specs.Prelude.{ℕ, ◌+◌, List, [], ◌∷◌, ◌++◌, length, take, drop, Bool, true, false, ◌&&◌, ◌||◌, ◌==◌, nat_lt, nat_le, min, if◌then◌else◌, Option, Some, None, Result, Ok, Err}
 use Rattle.block_core.specs.Block.{Parts}
 use Rattle.block_core.specs.declared.pcb.Number.{Number}
 use Rattle.block_core.specs.declared.pcb.Number.TheVariants.{Zero}
@@ -30,6 +30,25 @@ pub data Waits : Type 0 where
   -- the card answers no more
   dead : Waits
 
+-- The most octets of a message that an end has room for.
+pub record Limits : Type 0 where
+  pub command : ℕ
+  pub answer : ℕ
+
+-- the longest command and answer (ISO/IEC 7816-4, clause 5.1)
+abbrev pub longest_command : ℕ
+longest_command = 65544
+
+abbrev pub longest_answer : ℕ
+longest_answer = 65538
+
+abbrev pub longest : Limits
+longest = record { command = longest_command; answer = longest_answer }
+
+-- So many octets, and no more than the longest have.
+abbrev pub at_most : ℕ → ℕ → Limits
+at_most m n = record { command = min m longest_command; answer = min n longest_answer }
+
 -- What the terminal holds.
 pub record TerminalState : Type 0 where
   -- the number of its I-block under way or next, and the one that it expects from the card
@@ -46,9 +65,15 @@ pub record TerminalState : Type 0 where
   pub waits : Waits
   -- the last answer
   pub answered : Option (List ℕ)
+  -- the most octets of a command, and of an answer
+  pub limits : Limits
+
+-- at the start, with room for messages of so many octets
+abbrev pub terminal_with : Limits → ℕ → TerminalState
+terminal_with limits ifsc = record { number = Zero; expected = Zero; failures = 0; ifsc = ifsc; ifsd = 32; first_ifsc = ifsc; command = []; waits = idle; answered = None; limits = limits }
 
 abbrev pub new_terminal : ℕ → TerminalState
-new_terminal ifsc = record { number = Zero; expected = Zero; failures = 0; ifsc = ifsc; ifsd = 32; first_ifsc = ifsc; command = []; waits = idle; answered = None }
+new_terminal ifsc = terminal_with longest ifsc
 
 -- Whether a step is a failure: the rows that repeat a block, or ask for RESYNCH in place of a fourth repeat, are marked.
 pub data Mark : Type 0 where
@@ -58,12 +83,6 @@ pub data Mark : Type 0 where
 -- What a call does: a turn, the state after it and its mark, or a refusal, which changes nothing.
 abbrev pub TerminalStep : Type 0
 TerminalStep = Result (TerminalTurn × TerminalState × Mark) TerminalFault
-
-abbrev pub longest_command : ℕ
-longest_command = 65544
-
-abbrev pub longest_answer : ℕ
-longest_answer = 65538
 
 -- whether a block follows, and what the terminal then waits in
 abbrev pub is_more : List ℕ → Bool
@@ -116,7 +135,7 @@ in_answer t field (got (Ready number fault) inf) =
     then fails t (info t.number false field)
     else fails t (ready t.expected Free)
 in_answer t field (got (Info number goes_on) inf) =
-    if same number t.expected && nat_le (length inf) longest_answer
+    if same number t.expected && nat_le (length inf) t.limits.answer
     then joins (record t { number = other t.number }) inf goes_on
     else in_exchange t (got (Info number goes_on) inf)
 in_answer t field came = in_exchange t came
@@ -125,7 +144,7 @@ in_answer t field came = in_exchange t came
 abbrev pub in_more : TerminalState → List ℕ → Came → TerminalStep
 in_more t joined (got (Ready number fault) inf) = fails t (ready t.expected Free)
 in_more t joined (got (Info number goes_on) inf) =
-    if same number t.expected && nat_le (length joined + length inf) longest_answer
+    if same number t.expected && nat_le (length joined + length inf) t.limits.answer
     then joins t (joined ++ inf) goes_on
     else in_exchange t (got (Info number goes_on) inf)
 in_more t joined came = in_exchange t came
@@ -176,7 +195,7 @@ is_reserved size = (size == 0) || (size == 255)
 abbrev pub terminal_turn : TerminalState → TerminalInput → TerminalStep
 terminal_turn t (transmit command) =
     if_idle t.waits
-    (if nat_le (length command) longest_command
+    (if nat_le (length command) t.limits.command
     then sends_next (record t { failures = 0; command = command; answered = None }) command
     else Err TooLong)
 terminal_turn t (ask_ifs size) =

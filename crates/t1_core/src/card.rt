@@ -5,7 +5,8 @@ ghost use Rattle.t1_core.specs.Came.{class_of};
 ghost use Rattle.t1_core.specs.Views.{IsSlice};
 ghost use Rattle.t1_core.specs.CardViews.{owed};
 ghost use Rattle.t1_core.specs.Sending.{card_answers};
-ghost use Rattle.t1_core.specs.Card.{takes, replies, more_time, ask_ifs, new_card, card_turn, turn_of, state_after};
+ghost use Rattle.t1_core.specs.Terminal.{at_most};
+ghost use Rattle.t1_core.specs.Card.{takes, replies, more_time, ask_ifs, new_card, card_with, card_turn, turn_of, state_after};
 
 mod into;
 mod readers;
@@ -13,17 +14,12 @@ mod steps;
 
 use crate::overwriting::overwrite;
 use crate::sending::CardAct;
+use crate::terminal::{LONGEST_ANSWER, LONGEST_COMMAND};
 use crate::turns::{CardFault, CardTurn, CardWait, Cut};
 use atr_core::T1Params;
 use block_core::Number;
 use std::alloc::{AllocError, Global};
 use std::marker::Model;
-
-/// The octets of the longest command.
-const LONGEST_COMMAND: usize = 65_544;
-
-/// The octets of the longest reply.
-const LONGEST_REPLY: usize = 65_538;
 
 /// A card and its host's side of it. Contracts see its state, `CardState` in `specs/Card.antt`, and each
 /// call does what `card_turn` says there; a refused call changes nothing (ISO/IEC 7816-3, clause 11.6).
@@ -38,6 +34,8 @@ pub struct Card {
     wait: CardWait,
     command: Vec<u8>,
     reply: Vec<u8>,
+    most_command: usize,
+    most_reply: usize,
 }
 
 impl Model for Card {
@@ -57,9 +55,10 @@ impl Model for Card {
       first_ifsc = c.first_ifsc;
       command = command_in c.wait c.command.items;
       waits = card_waits_of c.wait c.command.items c.reply.items;
+      limits = record { command = c.most_command; answer = c.most_reply };
     } };
 
-    ghost invariant = { λ c. IsCardWait c.wait c.saved c.reply.items × IsSaved c.saved c.reply.items × (65544 ≤ vec_capacity c.command) × (65538 ≤ vec_capacity c.reply) × IsSize c.ifsc × IsSize c.ifsd × IsSize c.first_ifsc };
+    ghost invariant = { λ c. IsCardWait c.wait c.saved c.reply.items × IsSaved c.saved c.reply.items × (c.most_command ≤ vec_capacity c.command) × (c.most_reply ≤ vec_capacity c.reply) × IsSize c.ifsc × IsSize c.ifsd × IsSize c.first_ifsc };
 }
 
 impl Card {
@@ -69,6 +68,25 @@ impl Card {
     pub fn new(alloc: Global, params: T1Params) -> Result<Card, AllocError>
         ensures { IfOk result (λ card. card ≡ new_card params.ifsc) }
     {
+        Card::with_limits(alloc, params, LONGEST_COMMAND, LONGEST_ANSWER)
+    }
+
+    /// A new card with buffers for commands of at most `command` octets and replies of at most `answer`
+    /// octets; `Err` for lack of memory. No later call takes any.
+    ///
+    /// More than [`LONGEST_COMMAND`] or [`LONGEST_ANSWER`] is taken for these. A longer reply is refused
+    /// `TooLong`; a block of a longer command is answered as an error until the terminal gives it up, and
+    /// its host isn't asked.
+    pub fn with_limits(
+        alloc: Global,
+        params: T1Params,
+        command: usize,
+        answer: usize,
+    ) -> Result<Card, AllocError>
+        ensures { IfOk result (λ card. card ≡ card_with (at_most command answer) params.ifsc) }
+    {
+        let most_command = command.min(LONGEST_COMMAND);
+        let most_reply = answer.min(LONGEST_ANSWER);
         Ok(Card {
             number: Number::Zero,
             expected: Number::Zero,
@@ -77,18 +95,20 @@ impl Card {
             ifsd: 32,
             first_ifsc: params.ifsc(),
             wait: CardWait::Command,
-            command: Vec::with_capacity(alloc, LONGEST_COMMAND)?,
-            reply: Vec::with_capacity(alloc, LONGEST_REPLY)?,
+            command: Vec::with_capacity(alloc, most_command)?,
+            reply: Vec::with_capacity(alloc, most_reply)?,
+            most_command,
+            most_reply,
         })
     }
 
-    /// Begins a new session, from any state: the card is a new one with these parameters. It takes no
-    /// memory, and the octets that it held are overwritten.
+    /// Begins a new session, from any state: the card is a new one with these parameters and the same
+    /// limits. It takes no memory, and the octets that it held are overwritten.
     pub fn reset(&mut self, params: T1Params)
-        ensures { self.new ≡ new_card params.ifsc }
+        ensures { self.new ≡ card_with self.old.limits params.ifsc }
     {
-        overwrite(&mut self.command, LONGEST_COMMAND);
-        overwrite(&mut self.reply, LONGEST_REPLY);
+        overwrite(&mut self.command, self.most_command);
+        overwrite(&mut self.reply, self.most_reply);
         self.number = Number::Zero;
         self.expected = Number::Zero;
         self.saved = None;
@@ -124,7 +144,8 @@ impl Card {
 
     /// The host hands over its reply: its first I-block is sent.
     ///
-    /// Refused `Order` outside the host's turn, then `TooLong` for more than 65,538 octets.
+    /// Refused `Order` outside the host's turn, then `TooLong` for more octets than the card has room for,
+    /// 65,538 if it was made by `new`.
     pub fn reply(&mut self, octets: &[u8]) -> Result<CardTurn, CardFault>
         ensures turn { result ≡ turn_of (card_turn self.old (replies octets.now)) }
         ensures state { self.new ≡ state_after self.old (card_turn self.old (replies octets.now)) }

@@ -1,13 +1,13 @@
 //! What holds of the two ends and the line between them after every list of events, as contracts.
 //!
-//! `specs/Promises.antt` has the statements. Nothing is promised of progress, of what the check octet fails
+//! `specs/Promises.antt` has the statements, for ends with any limits. Nothing is promised of progress, of what the check octet fails
 //! to find, or of a command that was given up: its host was given it once or not at all.
 
 ghost use Rattle.std.specs.Prelude.{◌≡◌, ◌≤◌, ◌↔◌, ℕ, List};
 ghost use Rattle.octet_core.specs.Octets.{AreOctets};
 ghost use Rattle.t1_core.specs.Came.{Came, IsClass, class_of};
 ghost use Rattle.t1_core.specs.Link.{tables};
-ghost use Rattle.t1_core.specs.Promises.{AlwaysMatches, ServesInOrder, InStepWhenIdle, AlwaysFits, AlwaysPatient, AlwaysTaken, Tells};
+ghost use Rattle.t1_core.specs.Promises.{AlwaysMatches, ServesInOrder, InStepWhenIdle, AlwaysFits, AlwaysPatient, PatientWhereAlike, AlwaysTaken, Tells};
 
 /// Whatever is lost or damaged, each answered exchange is one that the card's host served with that
 /// reply, in order, and no command is given to the host twice.
@@ -32,10 +32,12 @@ pub fn fits()
     ensures { AlwaysFits tables }
 {}
 
-/// The terminal gives up only after two blocks lost or damaged since the exchange or question began, is
-/// dead only after five, and its failures since then are at most twice those blocks.
+/// Where each message fits the limit of its receiver, as between ends with the same limits, the terminal
+/// gives up only after two blocks lost or damaged since the exchange or question began, is dead only after
+/// five, and its failures since then are at most twice those blocks.
 pub fn patient()
-    ensures { AlwaysPatient tables }
+    ensures where_all_fit { AlwaysPatient tables }
+    ensures where_alike { PatientWhereAlike tables }
 {}
 
 /// The turn `Answered` leaves an answer, and `Asked` leaves the host its turn.

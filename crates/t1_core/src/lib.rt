@@ -20,7 +20,7 @@ pub mod terminal;
 pub mod turns;
 
 pub use card::Card;
-pub use terminal::Terminal;
+pub use terminal::{LONGEST_ANSWER, LONGEST_COMMAND, Terminal};
 pub use turns::{
     CardAwaits, CardFault, CardPut, CardTurn, TerminalAwaits, TerminalFault, TerminalPut,
     TerminalTurn,

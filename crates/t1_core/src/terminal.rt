@@ -4,7 +4,7 @@ ghost use Rattle.std.specs.Prelude.{◌≡◌, ◌≤◌, IfOk};
 ghost use Rattle.t1_core.specs.Came.{class_of, quiet};
 ghost use Rattle.t1_core.specs.Views.{IsSlice};
 ghost use Rattle.t1_core.specs.Sending.{terminal_answers};
-ghost use Rattle.t1_core.specs.Terminal.{takes, transmit, ask_ifs, new_terminal, terminal_turn, turn_of, state_after};
+ghost use Rattle.t1_core.specs.Terminal.{takes, transmit, ask_ifs, at_most, new_terminal, terminal_with, terminal_turn, turn_of, state_after};
 
 mod into;
 mod readers;
@@ -18,11 +18,11 @@ use block_core::Number;
 use std::alloc::{AllocError, Global};
 use std::marker::Model;
 
-/// The octets of the longest command.
-const LONGEST_COMMAND: usize = 65_544;
+/// The octets of the longest command (ISO/IEC 7816-4, clause 5.1).
+pub const LONGEST_COMMAND: usize = 65_544;
 
 /// The octets of the longest answer.
-const LONGEST_ANSWER: usize = 65_538;
+pub const LONGEST_ANSWER: usize = 65_538;
 
 /// The terminal of one card. Contracts see its state, `TerminalState` in `specs/Terminal.antt`, and each
 /// call does what `terminal_turn` says there; a refused call changes nothing (ISO/IEC 7816-3, clause 11.6).
@@ -38,6 +38,8 @@ pub struct Terminal {
     command: Vec<u8>,
     joined: Vec<u8>,
     is_answered: bool,
+    most_command: usize,
+    most_answer: usize,
 }
 
 impl Model for Terminal {
@@ -57,9 +59,10 @@ impl Model for Terminal {
       command = t.command.items;
       waits = waits_of t.wait t.command.items t.joined.items;
       answered = answered_of t.is_answered t.joined.items;
+      limits = record { command = t.most_command; answer = t.most_answer };
     } };
 
-    ghost invariant = { λ t. IsWait t.wait t.command.items t.joined.items t.is_answered × (65544 ≤ vec_capacity t.command) × (65538 ≤ vec_capacity t.joined) × IsSize t.ifsc × IsSize t.ifsd × IsSize t.first_ifsc };
+    ghost invariant = { λ t. IsWait t.wait t.command.items t.joined.items t.is_answered × (t.most_command ≤ vec_capacity t.command) × (t.most_answer ≤ vec_capacity t.joined) × IsSize t.ifsc × IsSize t.ifsd × IsSize t.first_ifsc };
 }
 
 impl Terminal {
@@ -68,6 +71,24 @@ impl Terminal {
     pub fn new(alloc: Global, params: T1Params) -> Result<Terminal, AllocError>
         ensures { IfOk result (λ terminal. terminal ≡ new_terminal params.ifsc) }
     {
+        Terminal::with_limits(alloc, params, LONGEST_COMMAND, LONGEST_ANSWER)
+    }
+
+    /// A new terminal with buffers for commands of at most `command` octets and answers of at most `answer`
+    /// octets; `Err` out of memory. No later call takes any.
+    ///
+    /// More than [`LONGEST_COMMAND`] or [`LONGEST_ANSWER`] is taken for these. A longer command is refused
+    /// `TooLong`; a block of a longer answer is answered as an error until the exchange is given up.
+    pub fn with_limits(
+        alloc: Global,
+        params: T1Params,
+        command: usize,
+        answer: usize,
+    ) -> Result<Terminal, AllocError>
+        ensures { IfOk result (λ terminal. terminal ≡ terminal_with (at_most command answer) params.ifsc) }
+    {
+        let most_command = command.min(LONGEST_COMMAND);
+        let most_answer = answer.min(LONGEST_ANSWER);
         Ok(Terminal {
             number: Number::Zero,
             expected: Number::Zero,
@@ -76,19 +97,22 @@ impl Terminal {
             ifsd: 32,
             first_ifsc: params.ifsc(),
             wait: TerminalWait::Idle,
-            command: Vec::with_capacity(alloc, LONGEST_COMMAND)?,
-            joined: Vec::with_capacity(alloc, LONGEST_ANSWER)?,
+            command: Vec::with_capacity(alloc, most_command)?,
+            joined: Vec::with_capacity(alloc, most_answer)?,
             is_answered: false,
+            most_command,
+            most_answer,
         })
     }
 
     /// Begins a new session, from any state and from `Dead` too: the terminal is a new one for a card with
-    /// these parameters. It takes no memory, and the octets that it held are overwritten.
+    /// these parameters, with the same limits. It takes no memory, and the octets that it held are
+    /// overwritten.
     pub fn reset(&mut self, params: T1Params)
-        ensures { self.new ≡ new_terminal params.ifsc }
+        ensures { self.new ≡ terminal_with self.old.limits params.ifsc }
     {
-        overwrite(&mut self.command, LONGEST_COMMAND);
-        overwrite(&mut self.joined, LONGEST_ANSWER);
+        overwrite(&mut self.command, self.most_command);
+        overwrite(&mut self.joined, self.most_answer);
         self.number = Number::Zero;
         self.expected = Number::Zero;
         self.failures = 0;
@@ -113,7 +137,8 @@ impl Terminal {
     /// The application hands over a command: its first I-block is sent, and an earlier answer is
     /// forgotten.
     ///
-    /// Refused `Dead`, `Busy`, then `TooLong` for more than 65,544 octets.
+    /// Refused `Dead`, `Busy`, then `TooLong` for more octets than the terminal has room for, 65,544 if it was
+    /// made by `new`.
     pub fn transmit(&mut self, command: &[u8]) -> Result<TerminalTurn, TerminalFault>
         ensures turn { result ≡ turn_of (terminal_turn self.old (transmit command.now)) }
         ensures state { self.new ≡ state_after self.old (terminal_turn self.old (transmit command.now)) }

@@ -70,7 +70,7 @@ pub enum TerminalFault {
     Dead,
     /// An exchange, or a question about a size, is under way.
     Busy,
-    /// The command has more than 65,544 octets.
+    /// The command has more octets than the terminal has room for.
     TooLong,
     /// The sizes 0 and 255 are reserved.
     Reserved,
@@ -101,7 +101,7 @@ pub enum CardPut {
 pub enum CardFault {
     /// The call belongs to the host's turn, or a block came in it.
     Order,
-    /// The reply has more than 65,538 octets.
+    /// The reply has more octets than the card has room for.
     TooLong,
     /// The sizes 0 and 255 are reserved.
     Reserved,

@@ -1,5 +1,6 @@
 //! Sessions call by call, and calls that no clause pins.
 
+mod limits;
 mod states;
 
 use atr_core::T1Params;

@@ -53,7 +53,7 @@ impl Card {
     }
 }
 
-/// States, sizes and how many octets are held. A command may carry a PIN, so no octet is shown.
+/// States, sizes, limits and how many octets are held. A command may carry a PIN, so no octet is shown.
 impl fmt::Debug for Card {
     fn fmt<W: fmt::Write>(&self, f: &mut fmt::Formatter<W>) -> fmt::Result {
         f.debug_struct("Card")
@@ -65,6 +65,8 @@ impl fmt::Debug for Card {
             .field("command_octets", &self.command.len())
             .field("reply_octets", &self.reply.len())
             .field("is_saved", &self.saved.is_some())
+            .field("most_command", &self.most_command)
+            .field("most_reply", &self.most_reply)
             .finish()
     }
 }

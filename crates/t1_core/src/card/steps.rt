@@ -9,7 +9,7 @@ ghost use Rattle.t1_core.specs.CardViews.{field_of, rest_of, taken_of, request_o
 ghost use Rattle.t1_core.specs.Sending.{field_saved, card_sends, card_does, card_answers};
 ghost use Rattle.t1_core.specs.Card.{command, reply, asking, takes, replies, more_time, ask_ifs, card_turn, card_came, in_either, in_reply, joins, sends_next, sends_saved, resynched, request_block, turn_of, state_after};
 
-use crate::card::{Card, LONGEST_COMMAND, LONGEST_REPLY};
+use crate::card::Card;
 use crate::class::{Arrived, classify};
 use crate::cutting::{field_in, is_same};
 use crate::replying::{acknowledged, next_block};
@@ -41,7 +41,7 @@ impl Card {
             CardWait::Host => {}
             _ => return Err(CardFault::Order),
         }
-        if octets.len() > LONGEST_REPLY {
+        if octets.len() > self.most_reply {
             return Err(CardFault::TooLong);
         }
         self.reply.clear();
@@ -93,7 +93,7 @@ impl Card {
             Arrived::Damaged | Arrived::Invalid => self.either_took(arrived),
             Arrived::Whole(block) => match block.pcb() {
                 Pcb::Info { number, more } => {
-                    let fits = self.taken_len() + block.inf().len() <= LONGEST_COMMAND;
+                    let fits = self.taken_len() + block.inf().len() <= self.most_command;
                     if is_same(number, self.expected) && fits {
                         self.joins(block.inf(), more)
                     } else {
@@ -197,7 +197,7 @@ impl Card {
     /// An I-block of the command that fits is joined, and acknowledges the saved block.
     fn joins(&mut self, inf: &[u8], more: bool) -> CardAct
         requires taking { IsTaking self.old.waits }
-        requires fits { length (taken_of self.old.waits) + length inf.now ≤ 65544 }
+        requires fits { length (taken_of self.old.waits) + length inf.now ≤ self.old.limits.command }
         ensures turn { turn_of (joins self.old (taken_of self.old.waits ++ inf.now) more) ≡ Ok (card_does self.new result) }
         ensures state { self.new ≡ state_after self.old (joins self.old (taken_of self.old.waits ++ inf.now) more) }
     {

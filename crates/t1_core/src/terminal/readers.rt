@@ -71,7 +71,7 @@ impl Terminal {
     }
 }
 
-/// States, sizes and how many octets are held. A command may carry a PIN, so no octet is shown.
+/// States, sizes, limits and how many octets are held. A command may carry a PIN, so no octet is shown.
 impl fmt::Debug for Terminal {
     fn fmt<W: fmt::Write>(&self, f: &mut fmt::Formatter<W>) -> fmt::Result {
         f.debug_struct("Terminal")
@@ -84,6 +84,8 @@ impl fmt::Debug for Terminal {
             .field("command_octets", &self.command.len())
             .field("answer_octets", &self.joined.len())
             .field("is_answered", &self.is_answered)
+            .field("most_command", &self.most_command)
+            .field("most_answer", &self.most_answer)
             .finish()
     }
 }

@@ -9,7 +9,7 @@ ghost use Rattle.t1_core.specs.Terminal.{ack, answer, more, takes, transmit, ask
 use crate::class::{Arrived, classify};
 use crate::cutting::{field_in, is_same};
 use crate::sending::{Sent, Short, TerminalAct};
-use crate::terminal::{LONGEST_ANSWER, LONGEST_COMMAND, Terminal};
+use crate::terminal::Terminal;
 use crate::turns::{Cut, TerminalFault, TerminalWait};
 use block_core::{BlockRef, Fault, Number, Pcb, S};
 
@@ -24,7 +24,7 @@ impl Terminal {
             TerminalWait::Dead => return Err(TerminalFault::Dead),
             _ => return Err(TerminalFault::Busy),
         }
-        if command.len() > LONGEST_COMMAND {
+        if command.len() > self.most_command {
             return Err(TerminalFault::TooLong);
         }
         self.command.clear();
@@ -131,7 +131,8 @@ impl Terminal {
                     }
                 }
                 Pcb::Info { number, more } => {
-                    if !is_same(number, self.expected) {
+                    let fits = block.inf().len() <= self.most_answer;
+                    if !(is_same(number, self.expected) && fits) {
                         return self.exchange_took(arrived);
                     }
                     self.number = self.number.other();
@@ -153,7 +154,7 @@ impl Terminal {
             Arrived::Whole(block) => match block.pcb() {
                 Pcb::Ready { .. } => self.fails_with(Fault::Free),
                 Pcb::Info { number, more } => {
-                    let fits = self.joined.len() + block.inf().len() <= LONGEST_ANSWER;
+                    let fits = self.joined.len() + block.inf().len() <= self.most_answer;
                     if is_same(number, self.expected) && fits {
                         self.joins(block.inf(), more)
                     } else {
@@ -246,7 +247,7 @@ impl Terminal {
     /// An I-block of the answer that fits is joined.
     fn joins(&mut self, inf: &[u8], more: bool) -> TerminalAct
         requires joining { IsJoining self.old.waits }
-        requires fits { length (joined_of self.old.waits) + length inf.now ≤ 65538 }
+        requires fits { length (joined_of self.old.waits) + length inf.now ≤ self.old.limits.answer }
         ensures turn { turn_of (joins self.old (joined_of self.old.waits ++ inf.now) more) ≡ Ok (terminal_does self.new result) }
         ensures state { self.new ≡ state_after self.old (joins self.old (joined_of self.old.waits ++ inf.now) more) }
     {

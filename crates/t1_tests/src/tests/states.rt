@@ -123,13 +123,15 @@ fn no_octet_is_shown(rt: HostRuntime) -> Result<(), Fail> {
     assert_eq!(rt;
         format!(in rt.alloc(); "{t:?}")?.as_str(),
         "Terminal { awaits: Acknowledgement, failures: 0, number: Zero, expected: Zero, ifsc: 4, \
-         ifsd: 32, command_octets: 5, answer_octets: 0, is_answered: false }"
+         ifsd: 32, command_octets: 5, answer_octets: 0, is_answered: false, \
+         most_command: 65544, most_answer: 65538 }"
     );
     let c = card_that(rt.alloc(), CardAwaits::Acknowledgement)?;
     assert_eq!(rt;
         format!(in rt.alloc(); "{c:?}")?.as_str(),
         "Card { awaits: Acknowledgement, number: Zero, expected: One, ifsc: 32, ifsd: 32, \
-         command_octets: 5, reply_octets: 33, is_saved: false }"
+         command_octets: 5, reply_octets: 33, is_saved: false, most_command: 65544, \
+         most_reply: 65538 }"
     );
     Ok(())
 }
