@@ -347,7 +347,12 @@ fn blocks_put_by_the_terminal(rt: HostRuntime) -> Result<(), Fail> {
     let more_time = [0x00, 0xC3, 0x01, 0x03, 0xC1];
     assert!(rt; same(put(&mut t, &more_time, &mut out), sent(5, 3)));
     assert!(rt; same(put(&mut t, &[], &mut out), sent(4, 1)));
-    assert!(rt; same(put(&mut t, &DONE_BLOCK, &mut out), Ok(TerminalPut::Answered)));
+    assert!(rt;
+        same(
+            put(&mut t, &DONE_BLOCK, &mut out),
+            Ok(TerminalPut::Answered)
+        )
+    );
     assert!(rt; same(put(&mut t, &[], &mut out), Err(TerminalFault::Idle)));
     Ok(())
 }

@@ -4,6 +4,7 @@ use super::{DONE, DONE_BLOCK, SELECT, SELECT_BLOCK, gives, params, sends};
 use std::alloc::Global;
 use std::test::Fail;
 use t1_core::{Card, CardAwaits, CardTurn, Terminal, TerminalAwaits, TerminalTurn};
+use testing::same;
 
 /// An I-block with number 0 that another follows, and the octets `90 00`.
 const DONE_FIRST: [u8; 6] = [0x00, 0x20, 0x02, 0x90, 0x00, 0xB2];
@@ -47,15 +48,17 @@ fn what_the_terminal_awaits(rt: HostRuntime) -> Result<(), Fail> {
         (TerminalAwaits::Nothing, false, 3),
     ] {
         let mut t = terminal_that(rt.alloc(), awaits)?;
-        assert_eq!(rt; t.awaits(), awaits);
-        assert_eq!(rt; t.awaits_block(), awaits_block);
-        assert_eq!(rt; t.is_dead(), awaits == TerminalAwaits::Nothing);
-        assert_eq!(rt; t.failures(), failures);
+        assert!(rt; same(t.awaits(), awaits));
+        assert!(rt; same(t.awaits_block(), awaits_block));
+        assert!(rt; same(t.is_dead(), awaits == TerminalAwaits::Nothing));
+        assert!(rt; same(t.failures(), failures));
         t.reset(params(2)?);
         let new = Terminal::new(rt.alloc(), params(2)?)?;
-        assert_eq!(rt;
-            format!(in rt.alloc(); "{t:?}")?,
-            format!(in rt.alloc(); "{new:?}")?
+        assert!(rt;
+            same(
+                format!(in rt.alloc(); "{t:?}")?,
+                format!(in rt.alloc(); "{new:?}")?
+            )
         );
         assert!(rt; sends(t.transmit(&DONE), &DONE_BLOCK));
     }
@@ -88,15 +91,17 @@ fn what_the_card_awaits(rt: HostRuntime) -> Result<(), Fail> {
         CardAwaits::Time(3),
     ] {
         let mut c = card_that(rt.alloc(), awaits)?;
-        assert_eq!(rt; c.awaits(), awaits);
-        assert_eq!(rt; c.awaits_block(), awaits != CardAwaits::Host);
+        assert!(rt; same(c.awaits(), awaits));
+        assert!(rt; same(c.awaits_block(), awaits != CardAwaits::Host));
         c.reset(params(5)?);
         let new = Card::new(rt.alloc(), params(5)?)?;
-        assert_eq!(rt;
-            format!(in rt.alloc(); "{c:?}")?,
-            format!(in rt.alloc(); "{new:?}")?
+        assert!(rt;
+            same(
+                format!(in rt.alloc(); "{c:?}")?,
+                format!(in rt.alloc(); "{new:?}")?
+            )
         );
-        assert_eq!(rt; c.received(&SELECT_BLOCK), Ok(CardTurn::Asked));
+        assert!(rt; same(c.received(&SELECT_BLOCK), Ok(CardTurn::Asked)));
         assert!(rt; gives(c.reply(&DONE), &DONE_BLOCK));
     }
     Ok(())
@@ -105,33 +110,37 @@ fn what_the_card_awaits(rt: HostRuntime) -> Result<(), Fail> {
 #[test]
 fn sizes_in_force(rt: HostRuntime) -> Result<(), Fail> {
     let mut t = terminal_that(rt.alloc(), TerminalAwaits::Size(2))?;
-    assert_eq!(rt; (t.ifsc(), t.ifsd()), (4, 32));
+    assert!(rt; same((t.ifsc(), t.ifsd()), (4, 32)));
     let taken = [0x00, 0xE1, 0x01, 0x02, 0xE2];
-    assert_eq!(rt; t.received(&taken), Ok(TerminalTurn::IfsSet));
-    assert_eq!(rt; (t.ifsc(), t.ifsd()), (4, 2));
+    assert!(rt; same(t.received(&taken), Ok(TerminalTurn::IfsSet)));
+    assert!(rt; same((t.ifsc(), t.ifsd()), (4, 2)));
     let mut c = card_that(rt.alloc(), CardAwaits::Size(254))?;
-    assert_eq!(rt; (c.ifsc(), c.ifsd()), (32, 32));
+    assert!(rt; same((c.ifsc(), c.ifsd()), (32, 32)));
     let taken = [0x00, 0xE1, 0x01, 0xFE, 0x1E];
-    assert_eq!(rt; c.received(&taken), Ok(CardTurn::Asked));
-    assert_eq!(rt; (c.ifsc(), c.ifsd()), (254, 32));
+    assert!(rt; same(c.received(&taken), Ok(CardTurn::Asked)));
+    assert!(rt; same((c.ifsc(), c.ifsd()), (254, 32)));
     Ok(())
 }
 
 #[test]
 fn no_octet_is_shown(rt: HostRuntime) -> Result<(), Fail> {
     let t = terminal_that(rt.alloc(), TerminalAwaits::Acknowledgement)?;
-    assert_eq!(rt;
-        format!(in rt.alloc(); "{t:?}")?.as_str(),
-        "Terminal { awaits: Acknowledgement, failures: 0, number: Zero, expected: Zero, ifsc: 4, \
+    assert!(rt;
+        same(
+            format!(in rt.alloc(); "{t:?}")?.as_str(),
+            "Terminal { awaits: Acknowledgement, failures: 0, number: Zero, expected: Zero, ifsc: 4, \
          ifsd: 32, command_octets: 5, answer_octets: 0, is_answered: false, \
          most_command: 65544, most_answer: 65538 }"
+        )
     );
     let c = card_that(rt.alloc(), CardAwaits::Acknowledgement)?;
-    assert_eq!(rt;
-        format!(in rt.alloc(); "{c:?}")?.as_str(),
-        "Card { awaits: Acknowledgement, number: Zero, expected: One, ifsc: 32, ifsd: 32, \
+    assert!(rt;
+        same(
+            format!(in rt.alloc(); "{c:?}")?.as_str(),
+            "Card { awaits: Acknowledgement, number: Zero, expected: One, ifsc: 32, ifsd: 32, \
          command_octets: 5, reply_octets: 33, is_saved: false, most_command: 65544, \
          most_reply: 65538 }"
+        )
     );
     Ok(())
 }
