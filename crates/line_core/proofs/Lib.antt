@@ -1,0 +1,3 @@
+pub mod Ready
+pub mod Running
+pub mod Answered

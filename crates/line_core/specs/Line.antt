@@ -1,0 +1,31 @@
+-- What was on a line between two ends.
+use Rattle.std.specs.Prelude.{◌≤◌, ℕ, List, ◌++◌, length, take, Result, Ok, Err}
+use Rattle.line_core.specs.declared.line.Heard.{Heard}
+use Rattle.line_core.specs.declared.line.Heard.TheVariants.{Octets, Nothing}
+
+-- What came after a block: these octets as one block, nothing within the waiting time, or the line failed.
+pub data Arrival : Type 0 where
+  block : (octets : List ℕ) → Arrival
+  nothing : Arrival
+  failure : Arrival
+
+-- A block that was sent, how many block waiting times its answer had, and what came.
+pub record Talk : Type 0 where
+  pub sent : List ℕ
+  pub waiting : ℕ
+  pub arrival : Arrival
+
+-- what a call of the line says, where this is the buffer that it filled
+abbrev pub arrival_of : {E : Type 0} → Result Heard E → List ℕ → Arrival
+arrival_of (Ok (Octets count)) room = block (take count room)
+arrival_of (Ok Nothing) room = nothing
+arrival_of (Err fault) room = failure
+
+-- what came is in the buffer
+abbrev pub FitsRoom : Heard → List ℕ → Type 0
+FitsRoom (Octets count) room = count ≤ length room
+FitsRoom Nothing room = Unit {0}
+
+-- Whatever was on the line before, these talks came after it, and nothing else did.
+abbrev pub Adds : (List Talk → Type 0) → (List Talk → Type 0) → List Talk → Type 0
+Adds old new talks = (before : List Talk) → old before → new (before ++ talks)

@@ -1,0 +1,153 @@
+//! One exchange in one call.
+
+ghost use Rattle.std.specs.Prelude.{◌≡◌, ◌≤◌, ℕ, List, [], ◌∷◌, length, take, Some, Ok, IfOk, OnOk, IsSome};
+ghost use Rattle.std.specs.Borrow.{sem};
+ghost use Rattle.std.specs.Io.BufRead.{Rests};
+ghost use Rattle.t1_core.specs.contracts.terminal.Terminal.{the_row};
+ghost use Rattle.t1_core.specs.Came.{quiet};
+ghost use Rattle.t1_core.specs.Terminal.{takes, transmit, ask_ifs, terminal_turn, turn_of, state_after};
+ghost use Rattle.t1_core.specs.Put.{IsTerminalPut, FitsTerminalPut};
+ghost use Rattle.line_core.specs.Line.{Arrival, Talk, Adds};
+ghost use Rattle.line_core.specs.Exchange.{Next, Runs, HasRun, IsAnswer, IsReady, ending_of, next_of, next_after, left_after};
+
+use crate::fault::ExchangeFault;
+use crate::line::{Heard, Line};
+use block_core::LONGEST_BLOCK;
+use t1_core::{Terminal, TerminalPut};
+
+/// The most octets that are taken as one block: one more than the longest block has, so that the front of
+/// a longer one isn't taken for a block.
+pub const LONGEST_ARRIVAL: usize = 259;
+
+/// Sends a command over the line and gives the answer, which the terminal lends (ISO/IEC 7816-3, clause
+/// 11.6). It has at most 65,538 octets.
+///
+/// Each block that the terminal's table says is sent, and nothing else; what comes after it is told to the
+/// terminal, until the table says how the exchange ends. At most `most_blocks` blocks are sent: a card may
+/// ask for more time again and again. One that takes no such requests, and loses nothing, needs a block for
+/// each information field of the command and of the answer.
+///
+/// `Refused` comes before anything is sent: `Dead`, `Busy`, then `TooLong` for more than 65,544 octets.
+/// After `Line` and `UsedUp` the exchange is still under way: [`resume`] goes on with it.
+pub fn exchange<'a, L: Line>(
+    terminal: &'a mut Terminal,
+    line: &mut L,
+    command: &[u8],
+    most_blocks: usize,
+) -> Result<&'a [u8], ExchangeFault>
+    ensures* run { sem 𝓛 (Rests the_row terminal.entry (λ left. HasRun (L.said line.old) (L.said line.new) most_blocks terminal.old (transmit command.now) (ending_of result) left × IsAnswer left result)) }
+{
+    send_command(terminal, line, command, most_blocks)?;
+    Ok(answer_of(terminal))
+}
+
+/// The answer that the terminal holds.
+fn answer_of(terminal: &Terminal) -> &[u8]
+    requires { IsSome terminal.now.answered }
+    ensures { terminal.now.answered ≡ Some result.now }
+{
+    terminal.answer().unwrap_or(&[])
+}
+
+/// Asks the card over the line to send information fields of up to `size` octets; at `Ok` it does.
+///
+/// Blocks, the budget and faults are those of [`exchange`]; refused `Dead`, `Busy`, then `Reserved` for the
+/// sizes 0 and 255.
+pub fn ask_ifs<L: Line>(
+    terminal: &mut Terminal,
+    line: &mut L,
+    size: u8,
+    most_blocks: usize,
+) -> Result<(), ExchangeFault>
+    ensures { HasRun (L.said line.old) (L.said line.new) most_blocks terminal.old (ask_ifs size) (ending_of result) terminal.new }
+{
+    let mut out = [0; LONGEST_BLOCK];
+    let first = terminal.ask_ifs_into(size, &mut out)?;
+    run(terminal, line, first, &mut out, most_blocks)
+}
+
+/// Goes on with an exchange, or a question about a size, that a line's failure or the budget cut short: the
+/// terminal is told that nothing came, and asks for the block that it waits for again. At `Ok` an exchange
+/// has its answer, which [`Terminal::answer`] lends.
+///
+/// So it counts as one more failure of the line; where that is the fourth in a row, both ends are
+/// resynchronized, and `GivenUp` comes. Faults are those of [`exchange`]; refused `Dead`, and `Idle` where
+/// nothing is under way.
+pub fn resume<L: Line>(
+    terminal: &mut Terminal,
+    line: &mut L,
+    most_blocks: usize,
+) -> Result<(), ExchangeFault>
+    ensures { HasRun (L.said line.old) (L.said line.new) most_blocks terminal.old (takes quiet) (ending_of result) terminal.new }
+{
+    let mut out = [0; LONGEST_BLOCK];
+    let first = terminal.quiet_into(&mut out)?;
+    run(terminal, line, first, &mut out, most_blocks)
+}
+
+/// Sends a command; at `Ok` the terminal has the answer.
+fn send_command<L: Line>(
+    terminal: &mut Terminal,
+    line: &mut L,
+    command: &[u8],
+    most_blocks: usize,
+) -> Result<(), ExchangeFault>
+    ensures run { HasRun (L.said line.old) (L.said line.new) most_blocks terminal.old (transmit command.now) (ending_of result) terminal.new }
+    ensures answered { OnOk result (IsSome terminal.new.answered) }
+{
+    let mut out = [0; LONGEST_BLOCK];
+    let first = terminal.transmit_into(command, &mut out)?;
+    run(terminal, line, first, &mut out, most_blocks)
+}
+
+/// Goes on from the first turn of an exchange until it ends.
+fn run<L: Line>(
+    terminal: &mut Terminal,
+    line: &mut L,
+    first: TerminalPut,
+    out: &mut [u8],
+    most_blocks: usize,
+) -> Result<(), ExchangeFault>
+    requires room { 258 ≤ length out.old }
+    requires fits { FitsTerminalPut first }
+    ensures { (next : Next) → IsReady next out.old (Ok first) → (talks : List Talk) × Adds (L.said line.old) (L.said line.new) talks × Runs most_blocks next terminal.old talks (ending_of result) terminal.new }
+{
+    let mut room = [0; LONGEST_ARRIVAL];
+    let mut put = first;
+    let mut left = most_blocks;
+    loop {
+        put = match put {
+            TerminalPut::Send { count, waiting } if left > 0 => {
+                left -= 1;
+                talked(terminal, line, count, waiting, out, &mut room)?
+            }
+            TerminalPut::Send { .. } => return Err(ExchangeFault::UsedUp),
+            TerminalPut::Answered | TerminalPut::IfsSet => return Ok(()),
+            TerminalPut::GivenUp => return Err(ExchangeFault::GivenUp),
+            TerminalPut::Dead => return Err(ExchangeFault::Dead),
+        };
+    }
+}
+
+/// Sends the block at the front of the buffer, and tells the terminal what came: its next turn, with its
+/// block at the front of the buffer.
+fn talked<L: Line>(
+    terminal: &mut Terminal,
+    line: &mut L,
+    count: usize,
+    waiting: u8,
+    out: &mut [u8],
+    room: &mut [u8],
+) -> Result<TerminalPut, ExchangeFault>
+    requires room { 258 ≤ length out.old }
+    requires count { count ≤ length out.old }
+    requires heard { 259 ≤ length room.old }
+    ensures fits { IfOk result FitsTerminalPut }
+    ensures talk { (arrival : Arrival) × Adds (L.said line.old) (L.said line.new) (record { sent = take count out.old; waiting = waiting; arrival = arrival } ∷ []) × IsReady (next_after terminal.old arrival) out.new result × (terminal.new ≡ left_after terminal.old arrival) }
+{
+    match line.talk(&out[..count], waiting, room) {
+        Ok(Heard::Octets(count)) => Ok(terminal.received_into(&room[..count], out)?),
+        Ok(Heard::Nothing) => Ok(terminal.quiet_into(out)?),
+        Err(fault) => Err(ExchangeFault::Line(fault)),
+    }
+}

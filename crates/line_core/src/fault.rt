@@ -1,0 +1,32 @@
+//! Why an exchange has no answer.
+
+ghost use Rattle.std.specs.Prelude.{◌≡◌};
+ghost use Rattle.line_core.specs.declared.fault.ExchangeFault.TheVariants.{Refused};
+
+use std::io;
+use t1_core::TerminalFault;
+
+/// Why an exchange has no answer.
+#[derive(Debug, Drop)]
+pub enum ExchangeFault {
+    /// Both ends were resynchronized, and the exchange or the question about a size is given up. The
+    /// terminal takes the next call.
+    GivenUp,
+    /// The card answers no more, not even RESYNCH, and the terminal refuses each call.
+    Dead,
+    /// The line failed. The terminal still waits for the answer to its last block.
+    Line(io::Error),
+    /// As many blocks were sent as the caller allows. The terminal waits for the answer to one more, which
+    /// wasn't sent.
+    UsedUp,
+    /// The terminal refused the call: nothing was sent, and nothing changes.
+    Refused(TerminalFault),
+}
+
+impl From<TerminalFault> for ExchangeFault {
+    ghost from_gives = { λ fault made. made ≡ Refused fault };
+
+    fn from(fault: TerminalFault) -> ExchangeFault {
+        ExchangeFault::Refused(fault)
+    }
+}

@@ -1,0 +1,15 @@
+//! One exchange of T=1 in one call (ISO/IEC 7816-3, clause 11.6), for who writes a driver of a reader.
+//!
+//! A [`Line`] carries the blocks of a terminal: one call sends a block and takes what comes. [`exchange`]
+//! hands over a command and gives the answer, [`ask_ifs`] asks about a size, and [`resume`] goes on with
+//! either where the line failed or too many blocks were sent. `specs/Exchange.antt` says what these do:
+//! what was on the line is a run of the terminal's table over what came.
+#![tactic(auto)]
+
+pub mod exchanging;
+pub mod fault;
+pub mod line;
+
+pub use exchanging::{LONGEST_ARRIVAL, ask_ifs, exchange, resume};
+pub use fault::ExchangeFault;
+pub use line::{Heard, Line};

@@ -1,0 +1,269 @@
+//! Exchanges over a card behind a line in memory, and over lines that fail, are silent or talk too much.
+
+ghost use Rattle.std.specs.Prelude.{◌≤◌, length};
+ghost use Rattle.line_core.specs.Line.{FitsRoom};
+
+use atr_core::T1Params;
+use line_core::{ExchangeFault, Heard, Line, ask_ifs, exchange, resume};
+use std::alloc::Global;
+use std::io::{self, ErrorKind};
+use std::test::Fail;
+use t1_core::{Card, CardPut, Terminal, TerminalFault};
+
+const SELECT: [u8; 5] = [0x00, 0xA4, 0x04, 0x00, 0x00];
+
+const DONE: [u8; 2] = [0x90, 0x00];
+
+const DONE_BLOCK: [u8; 6] = [0x00, 0x00, 0x02, 0x90, 0x00, 0x92];
+
+/// The card asks for five times the waiting time.
+const MORE_TIME: [u8; 5] = [0x00, 0xC3, 0x01, 0x05, 0xC7];
+
+const RESYNCHED: [u8; 4] = [0x00, 0xE0, 0x00, 0xE0];
+
+/// The card takes the size 64.
+const SIZE_TAKEN: [u8; 5] = [0x00, 0xE1, 0x01, 0x40, 0xA0];
+
+fn params() -> Result<T1Params, Fail> {
+    Ok(T1Params::new(32, 4, 5).ok_or("no parameters")?)
+}
+
+fn terminal(alloc: Global) -> Result<Terminal, Fail> {
+    Ok(Terminal::new(alloc, params()?)?)
+}
+
+/// What a line does after a block.
+#[derive(Clone, Copy)]
+enum Step<'a> {
+    Gives(&'a [u8]),
+    IsSilent,
+    Fails,
+}
+
+/// A line that does what is written down, and then one thing for ever.
+#[derive(Drop)]
+struct Script<'a> {
+    steps: &'a [Step<'a>],
+    then: Step<'a>,
+    talks: u64,
+    waited: u8,
+}
+
+fn scripted<'a>(steps: &'a [Step<'a>], then: Step<'a>) -> Script<'a> {
+    Script {
+        steps,
+        then,
+        talks: 0,
+        waited: 0,
+    }
+}
+
+/// As many of the octets as there is room for.
+fn filled(octets: &[u8], room: &mut [u8]) -> Heard
+    ensures { FitsRoom result room.new }
+{
+    let count = octets.len().min(room.len());
+    room[..count].copy_from_slice(&octets[..count]);
+    Heard::Octets(count)
+}
+
+impl Line for Script<'_> {
+    ghost said = { λ _ _. Unit {0} };
+
+    fn talk(&mut self, _block: &[u8], waiting: u8, room: &mut [u8]) -> io::Result<Heard> {
+        self.talks = self.talks.saturating_add(1);
+        self.waited = waiting;
+        let step = match self.steps {
+            [first, rest @ ..] => {
+                self.steps = rest;
+                *first
+            }
+            [] => self.then,
+        };
+        match step {
+            Step::Gives(octets) => Ok(filled(octets, room)),
+            Step::IsSilent => Ok(Heard::Nothing),
+            Step::Fails => Err(ErrorKind::Other.into()),
+        }
+    }
+}
+
+/// A card at the other end of a line in memory, whose host gives every command the same reply.
+#[derive(Drop)]
+struct Wire<'a> {
+    card: Card,
+    command: &'a [u8],
+    reply: &'a [u8],
+}
+
+/// Whether this is the command that the card's host owes the reply to.
+fn is_command(card: &Card, octets: &[u8]) -> bool {
+    card.command().is_some_and(|command| command == octets)
+}
+
+impl Line for Wire<'_> {
+    ghost said = { λ _ _. Unit {0} };
+
+    fn talk(&mut self, block: &[u8], _waiting: u8, room: &mut [u8]) -> io::Result<Heard> {
+        let mut out = [0; 258];
+        let mut put = self.card.received_into(block, &mut out);
+        if put == Ok(CardPut::Asked) {
+            if !is_command(&self.card, self.command) {
+                return Err(ErrorKind::InvalidData.into());
+            }
+            put = self.card.reply_into(self.reply, &mut out);
+        }
+        match put {
+            Ok(CardPut::Send(count)) => Ok(filled(&out[..count], room)),
+            _ => Err(ErrorKind::Other.into()),
+        }
+    }
+}
+
+fn is_answer(given: Result<&[u8], ExchangeFault>, octets: &[u8]) -> bool {
+    match given {
+        Ok(answer) => answer == octets,
+        Err(_) => false,
+    }
+}
+
+/// The size that both ends agree on, and the longest command and answer.
+#[test]
+fn the_longest_exchange_over_a_card(rt: HostRuntime) -> Result<(), Fail> {
+    let mut t = terminal(rt.alloc())?;
+    let card = Card::new(rt.alloc(), params()?)?;
+    let command = vec![in rt.alloc(); 0xA5u8; 65_544]?;
+    let reply = vec![in rt.alloc(); 0x5Au8; 65_538]?;
+    let mut wire = Wire {
+        card,
+        command: command.as_slice(),
+        reply: reply.as_slice(),
+    };
+    assert!(rt; ask_ifs(&mut t, &mut wire, 254, 1).is_ok());
+    assert!(rt;
+        is_answer(
+            exchange(&mut t, &mut wire, command.as_slice(), 5_000),
+            reply.as_slice()
+        )
+    );
+    assert!(rt; t.answer() == Some(reply.as_slice()));
+    Ok(())
+}
+
+/// Whatever comes in place of the answer, and then the answer.
+#[test]
+fn what_comes_before_the_answer(rt: HostRuntime) -> Result<(), Fail> {
+    let long = [0u8; 300];
+    let cases = [
+        Step::Gives(&long),
+        Step::Gives(&[]),
+        Step::Gives(&DONE_BLOCK[..3]),
+        Step::Gives(&MORE_TIME),
+        Step::IsSilent,
+    ];
+    for case in cases {
+        let mut t = terminal(rt.alloc())?;
+        let steps = [case];
+        let mut line = scripted(&steps, Step::Gives(&DONE_BLOCK));
+        assert!(rt; is_answer(exchange(&mut t, &mut line, &SELECT, 2), &DONE));
+        assert!(rt; line.talks == 2);
+    }
+    Ok(())
+}
+
+#[test]
+fn a_line_that_fails(rt: HostRuntime) -> Result<(), Fail> {
+    let mut t = terminal(rt.alloc())?;
+    let mut line = scripted(&[], Step::Fails);
+    assert!(rt;
+        matches!(
+            exchange(&mut t, &mut line, &SELECT, 9),
+            Err(ExchangeFault::Line(_))
+        )
+    );
+    assert!(rt; line.talks == 1);
+    let again = exchange(&mut t, &mut line, &SELECT, 9);
+    assert!(rt; matches!(again, Err(ExchangeFault::Refused(TerminalFault::Busy))));
+    assert!(rt; line.talks == 1);
+    let mut repaired = scripted(&[], Step::Gives(&DONE_BLOCK));
+    assert!(rt; resume(&mut t, &mut repaired, 1).is_ok());
+    assert!(rt; t.answer() == Some(&DONE));
+    Ok(())
+}
+
+#[test]
+fn a_line_that_is_silent(rt: HostRuntime) -> Result<(), Fail> {
+    let mut t = terminal(rt.alloc())?;
+    let mut line = scripted(&[], Step::IsSilent);
+    assert!(rt;
+        matches!(
+            exchange(&mut t, &mut line, &SELECT, 9),
+            Err(ExchangeFault::Dead)
+        )
+    );
+    assert!(rt; line.talks == 7);
+    let again = exchange(&mut t, &mut line, &SELECT, 9);
+    assert!(rt; matches!(again, Err(ExchangeFault::Refused(TerminalFault::Dead))));
+    Ok(())
+}
+
+#[test]
+fn a_card_that_asks_for_time_for_ever(rt: HostRuntime) -> Result<(), Fail> {
+    let mut t = terminal(rt.alloc())?;
+    let mut line = scripted(&[], Step::Gives(&MORE_TIME));
+    assert!(rt;
+        matches!(
+            exchange(&mut t, &mut line, &SELECT, 0),
+            Err(ExchangeFault::UsedUp)
+        )
+    );
+    assert!(rt; line.talks == 0);
+    assert!(rt; matches!(resume(&mut t, &mut line, 20), Err(ExchangeFault::UsedUp)));
+    assert!(rt; line.talks == 20 && line.waited == 5);
+    let mut answering = scripted(&[], Step::Gives(&DONE_BLOCK));
+    assert!(rt; resume(&mut t, &mut answering, 1).is_ok());
+    assert!(rt; t.answer() == Some(&DONE));
+    Ok(())
+}
+
+#[test]
+fn given_up_and_taken_up_again(rt: HostRuntime) -> Result<(), Fail> {
+    let mut t = terminal(rt.alloc())?;
+    let mut line = scripted(&[], Step::Gives(&RESYNCHED));
+    assert!(rt;
+        matches!(
+            exchange(&mut t, &mut line, &SELECT, 9),
+            Err(ExchangeFault::GivenUp)
+        )
+    );
+    assert!(rt; line.talks == 5);
+    let mut answering = scripted(&[], Step::Gives(&DONE_BLOCK));
+    assert!(rt; is_answer(exchange(&mut t, &mut answering, &SELECT, 1), &DONE));
+    Ok(())
+}
+
+#[test]
+fn refused_before_anything_is_sent(rt: HostRuntime) -> Result<(), Fail> {
+    let mut t = terminal(rt.alloc())?;
+    let mut line = scripted(&[], Step::Gives(&SIZE_TAKEN));
+    let long = vec![in rt.alloc(); 0u8; 65_545]?;
+    let too_long = exchange(&mut t, &mut line, long.as_slice(), 9);
+    assert!(rt;
+        matches!(
+            too_long,
+            Err(ExchangeFault::Refused(TerminalFault::TooLong))
+        )
+    );
+    let reserved = ask_ifs(&mut t, &mut line, 255, 9);
+    assert!(rt;
+        matches!(
+            reserved,
+            Err(ExchangeFault::Refused(TerminalFault::Reserved))
+        )
+    );
+    let idle = resume(&mut t, &mut line, 9);
+    assert!(rt; matches!(idle, Err(ExchangeFault::Refused(TerminalFault::Idle))));
+    assert!(rt; line.talks == 0);
+    assert!(rt; ask_ifs(&mut t, &mut line, 64, 1).is_ok());
+    Ok(())
+}
