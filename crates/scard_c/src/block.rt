@@ -11,7 +11,7 @@ ghost use Rattle.scard_c.specs.Block.{block_reason, block_seen, IsDecoded, IsUnf
 use crate::number::{fault_of, is_reserved, number_of, subject_of};
 use crate::output::put;
 use crate::verdict::{Numbered, Verdict};
-use block_core::{Block, BlockReason, BlockRef, Pcb, encode};
+use block_core::{BlockReason, BlockRef, LONGEST_BLOCK, Pcb};
 
 /// A block as it was decoded. Its information field is `inf_len` octets from place `inf_place` on of the
 /// octets.
@@ -60,7 +60,7 @@ pub extern "C" fn scard_block_i(nad: u8, ns: u8, more: bool, inf: &[u8], out: &m
     let Some(number) = number_of(ns) else {
         return Verdict::argument();
     };
-    put_block(Block::info(nad, number, more, inf), out)
+    put_block(BlockRef::new(nad, Pcb::Info { number, more }, inf), out)
 }
 
 /// Writes an R-block. `ARGUMENT` with place 0 where `nr` is neither 0 nor 1, or `fault` is above 2.
@@ -75,7 +75,7 @@ pub extern "C" fn scard_block_r(nad: u8, nr: u8, fault: u8, out: &mut [u8]) -> V
     let (Some(number), Some(fault)) = (number_of(nr), fault_of(fault)) else {
         return Verdict::argument();
     };
-    put_block(Some(Block::ready(nad, number, fault)), out)
+    put_block(BlockRef::new(nad, Pcb::Ready { number, fault }, &[]), out)
 }
 
 /// Writes an S-block that asks. `ARGUMENT` with place 0 where `about` is above 3, or the field isn't what
@@ -92,7 +92,7 @@ pub extern "C" fn scard_block_s_request(nad: u8, about: u8, inf: &[u8], out: &mu
     let Some(about) = subject_of(about) else {
         return Verdict::argument();
     };
-    put_block(Block::request(nad, about, inf), out)
+    put_block(BlockRef::new(nad, Pcb::Request(about), inf), out)
 }
 
 /// Writes an S-block that answers. `ARGUMENT` with place 0 where `about` is above 3, or the field isn't
@@ -109,7 +109,7 @@ pub extern "C" fn scard_block_s_response(nad: u8, about: u8, inf: &[u8], out: &m
     let Some(about) = subject_of(about) else {
         return Verdict::argument();
     };
-    put_block(Block::response(nad, about, inf), out)
+    put_block(BlockRef::new(nad, Pcb::Response(about), inf), out)
 }
 
 /// Writes the block with this control octet and field. `ARGUMENT` with place 0 where there is none.
@@ -122,29 +122,34 @@ pub extern "C" fn scard_block_encode(nad: u8, pcb: u8, inf: &[u8], out: &mut [u8
 }
 
 /// The block with this control octet and field, if there is one.
-fn block_of(nad: u8, pcb: u8, inf: &[u8]) -> Option<Block>
+fn block_of(nad: u8, pcb: u8, inf: &[u8]) -> Option<BlockRef<'_>>
     ensures found { IfSome result (λ block. IsOf nad pcb inf.now block) }
     ensures none { IfNone result (IsUnfit pcb inf.now) }
 {
-    match Pcb::of(pcb)? {
-        Pcb::Info { number, more } => Block::info(nad, number, more, inf),
-        Pcb::Ready { number, fault } if inf.is_empty() => Some(Block::ready(nad, number, fault)),
-        Pcb::Ready { .. } => None,
-        Pcb::Request(about) => Block::request(nad, about, inf),
-        Pcb::Response(about) => Block::response(nad, about, inf),
-    }
+    BlockRef::new(nad, Pcb::of(pcb)?, inf)
 }
 
-/// Puts a block into a buffer, where there is one.
-pub(crate) fn put_block(block: Option<Block>, out: &mut [u8]) -> Verdict
-    ensures written { IfSome block (λ block. Puts (IsBlock 254 block) out.old out.new result) }
-    ensures none { IfNone block (result ≡ wrong_argument 0) }
+/// Puts a block into a buffer, where there is one: straight into one with room for every block.
+pub(crate) fn put_block(block: Option<BlockRef<'_>>, out: &mut [u8]) -> Verdict
+    ensures written { IfSome block.entry (λ block. Puts (IsBlock 254 block) out.old out.new result) }
+    ensures none { IfNone block.entry (result ≡ wrong_argument 0) }
     ensures stays { result.status ≢ 0 → out.new ≡ out.old }
 {
     match block {
-        Some(block) => put(encode(&block).as_slice(), out),
+        Some(block) if out.len() >= LONGEST_BLOCK => Verdict::ok(block.encode_into(out)),
+        Some(block) => put_shorter(&block, out),
         None => Verdict::argument(),
     }
+}
+
+/// Puts a block into a buffer that has no room for every block.
+fn put_shorter(block: &BlockRef<'_>, out: &mut [u8]) -> Verdict
+    ensures written { Puts (IsBlock 254 block.now) out.old out.new result }
+    ensures stays { result.status ≢ 0 → out.new ≡ out.old }
+{
+    let mut octets = [0; LONGEST_BLOCK];
+    let count = block.encode_into(&mut octets);
+    put(&octets[..count], out)
 }
 
 /// A block of these parts.

@@ -11,7 +11,7 @@ ghost use Rattle.scard_c.specs.Chain.{chain_reason};
 use crate::block::put_block;
 use crate::number::{is_reserved, number_of};
 use crate::verdict::{Numbered, Verdict};
-use block_core::{Number, encode};
+use block_core::{BlockRef, Number, encode};
 use chain_core::{ChainReason, block_at, cut};
 
 /// The octets of the longest message of a chain.
@@ -42,7 +42,8 @@ pub extern "C" fn scard_chain_block(
     let Some(number) = number_of(ns) else {
         return Verdict::argument();
     };
-    put_block(Some(block_at(message, start, ifs, number)), out)
+    let block = block_at(message, start, ifs, number);
+    put_block(BlockRef::new(block.nad(), block.pcb(), block.inf()), out)
 }
 
 /// Writes all blocks of the chain into which a message of at most 131,072 octets is cut: fields of `ifs`
