@@ -1,11 +1,11 @@
 //! Answers to reset with their verdicts and what they say, by the tables of ISO/IEC 7816-3.
 
+use arrayvec::ArrayVec;
 use atr_core::laws::are_equal;
 use atr_core::{
     Atr, AtrReader, AtrReason, Convention, Indicated, Interface, ParamFault, T1Params, decode,
     encode, rates, t1_params,
 };
-use arrayvec::ArrayVec;
 use octet_core::Stop;
 use std::test::Fail;
 use testing::same;

@@ -5,6 +5,7 @@ use Rattle.t1_core.specs.declared.turns.Request.{Request}
 use Rattle.t1_core.specs.declared.turns.Request.TheVariants.{Size, Time}
 use Rattle.t1_core.specs.declared.turns.CardWait.{CardWait}
 use Rattle.t1_core.specs.declared.turns.CardWait.TheVariants.{Command, Joining, Host, Reply, Asking}
+use Rattle.t1_core.specs.declared.places.CardPlaces.{CardPlaces}
 use Rattle.t1_core.specs.Card.{CardState, CardRequest, size, time, Waits, command, host, reply, asking}
 use Rattle.t1_core.specs.Views.{field_at, rest_at, IsSize, IsInner, IsLast}
 
@@ -74,3 +75,21 @@ rest_of waits = []
 abbrev pub has_begun : CardWait → Bool
 has_begun Joining = true
 has_begun wait = false
+
+-- ---- the card, by its places and its two buffers, whoever owns those
+
+abbrev pub card_seen : CardPlaces → List ℕ → List ℕ → CardState
+card_seen p buffer message = record {
+  number = p.number;
+  expected = p.expected;
+  saved = saved_of p.saved message;
+  ifsc = p.ifsc;
+  ifsd = p.ifsd;
+  first_ifsc = p.first_ifsc;
+  command = command_in p.wait buffer;
+  waits = card_waits_of p.wait buffer message;
+  limits = record { command = p.most_command; answer = p.most_reply };
+}
+
+abbrev pub AreCardPlaces : CardPlaces → List ℕ → List ℕ → Type 0
+AreCardPlaces p buffer message = IsCardWait p.wait p.saved message × IsSaved p.saved message × IsSize p.ifsc × IsSize p.ifsd × IsSize p.first_ifsc

@@ -9,7 +9,8 @@ use denote.Ref.{Bor}
 use Rattle.block_core.specs.declared.pcb.S.TheVariants.{Ifs as Size}
 use Rattle.block_core.specs.declared.pcb.Pcb.TheVariants.{Response}
 use Rattle.t1_core.specs.Came.{Came, got, damaged, invalid, carried}
-use Rattle.t1_core.specs.Terminal.{Waits, idle, ack, answer, more, ifs, resynch, dead}
+use Rattle.t1_core.specs.declared.places.TerminalPlaces.{TerminalPlaces}
+use Rattle.t1_core.specs.Terminal.{TerminalState, Waits, idle, ack, answer, more, ifs, resynch, dead}
 
 abbrev pub came_of : Arrived → Came
 came_of (Whole block) = got block.pcb block.inf
@@ -80,3 +81,22 @@ IsSlice (Some slice) (Some octets) = slice.now ≡ octets
 abbrev pub is_response_with : ℕ → Came → Bool
 is_response_with size (got (Response Size) inf) = carried inf == size
 is_response_with size came = false
+
+-- ---- the terminal, by its places and its two buffers, whoever owns those
+
+abbrev pub terminal_seen : TerminalPlaces → List ℕ → List ℕ → TerminalState
+terminal_seen p command joined = record {
+  number = p.number;
+  expected = p.expected;
+  failures = p.failures;
+  ifsc = p.ifsc;
+  ifsd = p.ifsd;
+  first_ifsc = p.first_ifsc;
+  command = command;
+  waits = waits_of p.wait command joined;
+  answered = answered_of p.is_answered joined;
+  limits = record { command = p.most_command; answer = p.most_answer };
+}
+
+abbrev pub AreTerminalPlaces : TerminalPlaces → List ℕ → List ℕ → Type 0
+AreTerminalPlaces p command joined = IsWait p.wait command joined p.is_answered × IsSize p.ifsc × IsSize p.ifsd × IsSize p.first_ifsc

@@ -13,11 +13,11 @@ mod readers;
 mod steps;
 
 use crate::overwriting::overwrite;
+use crate::places::CardPlaces;
 use crate::sending::CardAct;
 use crate::terminal::{LONGEST_ANSWER, LONGEST_COMMAND};
-use crate::turns::{CardFault, CardTurn, CardWait, Cut};
+use crate::turns::{CardFault, CardTurn, CardWait};
 use atr_core::T1Params;
-use block_core::Number;
 use std::alloc::{AllocError, Global};
 use std::marker::Model;
 
@@ -25,40 +25,21 @@ use std::marker::Model;
 /// call does what `card_turn` says there; a refused call changes nothing (ISO/IEC 7816-3, clause 11.6).
 #[derive(Drop)]
 pub struct Card {
-    number: Number,
-    expected: Number,
-    saved: Option<Cut>,
-    ifsc: u8,
-    ifsd: u8,
-    first_ifsc: u8,
-    wait: CardWait,
+    places: CardPlaces,
     command: Vec<u8>,
     reply: Vec<u8>,
-    most_command: usize,
-    most_reply: usize,
 }
 
 impl Model for Card {
     ghost use Rattle.t1_core.specs.Card.{CardState};
     ghost use Rattle.std.specs.Prelude.{◌≤◌, vec_capacity};
-    ghost use Rattle.t1_core.specs.Views.{IsSize};
-    ghost use Rattle.t1_core.specs.CardViews.{card_waits_of, command_in, saved_of, IsCardWait, IsSaved};
+    ghost use Rattle.t1_core.specs.CardViews.{card_seen, AreCardPlaces};
 
     ghost Value = { CardState };
 
-    ghost view = { λ c. record {
-      number = c.number;
-      expected = c.expected;
-      saved = saved_of c.saved c.reply.items;
-      ifsc = c.ifsc;
-      ifsd = c.ifsd;
-      first_ifsc = c.first_ifsc;
-      command = command_in c.wait c.command.items;
-      waits = card_waits_of c.wait c.command.items c.reply.items;
-      limits = record { command = c.most_command; answer = c.most_reply };
-    } };
+    ghost view = { λ c. card_seen c.places c.command.items c.reply.items };
 
-    ghost invariant = { λ c. IsCardWait c.wait c.saved c.reply.items × IsSaved c.saved c.reply.items × (c.most_command ≤ vec_capacity c.command) × (c.most_reply ≤ vec_capacity c.reply) × IsSize c.ifsc × IsSize c.ifsd × IsSize c.first_ifsc };
+    ghost invariant = { λ c. AreCardPlaces c.places c.command.items c.reply.items × (c.places.most_command ≤ vec_capacity c.command) × (c.places.most_reply ≤ vec_capacity c.reply) };
 }
 
 impl Card {
@@ -88,17 +69,9 @@ impl Card {
         let most_command = command.min(LONGEST_COMMAND);
         let most_reply = answer.min(LONGEST_ANSWER);
         Ok(Card {
-            number: Number::Zero,
-            expected: Number::Zero,
-            saved: None,
-            ifsc: params.ifsc(),
-            ifsd: 32,
-            first_ifsc: params.ifsc(),
-            wait: CardWait::Command,
+            places: CardPlaces::new(params, most_command, most_reply),
             command: Vec::with_capacity(alloc, most_command)?,
             reply: Vec::with_capacity(alloc, most_reply)?,
-            most_command,
-            most_reply,
         })
     }
 
@@ -107,15 +80,10 @@ impl Card {
     pub fn reset(&mut self, params: T1Params)
         ensures { self.new ≡ card_with self.old.limits params.ifsc }
     {
-        overwrite(&mut self.command, self.most_command);
-        overwrite(&mut self.reply, self.most_reply);
-        self.number = Number::Zero;
-        self.expected = Number::Zero;
-        self.saved = None;
-        self.ifsc = params.ifsc();
-        self.ifsd = 32;
-        self.first_ifsc = params.ifsc();
-        self.wait = CardWait::Command;
+        let (most_command, most_reply) = (self.places.most_command, self.places.most_reply);
+        overwrite(&mut self.command, most_command);
+        overwrite(&mut self.reply, most_reply);
+        self.places = CardPlaces::new(params, most_command, most_reply);
     }
 
     /// The command, while the host owes its reply: in its turn, and while the card asks the terminal for
@@ -123,7 +91,7 @@ impl Card {
     pub fn command(&self) -> Option<&[u8]>
         ensures { IsSlice result (owed self.now self.now.waits) }
     {
-        match self.wait {
+        match self.places.wait {
             CardWait::Host | CardWait::Asking(_) => Some(self.command.as_slice()),
             CardWait::Command | CardWait::Joining | CardWait::Reply(_) => None,
         }

@@ -14,6 +14,7 @@ mod class;
 mod cutting;
 pub mod laws;
 mod overwriting;
+mod places;
 mod replying;
 mod sending;
 pub mod terminal;

@@ -11,10 +11,10 @@ mod readers;
 mod steps;
 
 use crate::overwriting::overwrite;
+use crate::places::TerminalPlaces;
 use crate::sending::TerminalAct;
-use crate::turns::{TerminalFault, TerminalTurn, TerminalWait};
+use crate::turns::{TerminalFault, TerminalTurn};
 use atr_core::T1Params;
-use block_core::Number;
 use std::alloc::{AllocError, Global};
 use std::marker::Model;
 
@@ -28,41 +28,21 @@ pub const LONGEST_ANSWER: usize = 65_538;
 /// call does what `terminal_turn` says there; a refused call changes nothing (ISO/IEC 7816-3, clause 11.6).
 #[derive(Drop)]
 pub struct Terminal {
-    number: Number,
-    expected: Number,
-    failures: u8,
-    ifsc: u8,
-    ifsd: u8,
-    first_ifsc: u8,
-    wait: TerminalWait,
+    places: TerminalPlaces,
     command: Vec<u8>,
     joined: Vec<u8>,
-    is_answered: bool,
-    most_command: usize,
-    most_answer: usize,
 }
 
 impl Model for Terminal {
     ghost use Rattle.t1_core.specs.Terminal.{TerminalState};
     ghost use Rattle.std.specs.Prelude.{◌≤◌, vec_capacity};
-    ghost use Rattle.t1_core.specs.Views.{waits_of, answered_of, IsWait, IsSize};
+    ghost use Rattle.t1_core.specs.Views.{terminal_seen, AreTerminalPlaces};
 
     ghost Value = { TerminalState };
 
-    ghost view = { λ t. record {
-      number = t.number;
-      expected = t.expected;
-      failures = t.failures;
-      ifsc = t.ifsc;
-      ifsd = t.ifsd;
-      first_ifsc = t.first_ifsc;
-      command = t.command.items;
-      waits = waits_of t.wait t.command.items t.joined.items;
-      answered = answered_of t.is_answered t.joined.items;
-      limits = record { command = t.most_command; answer = t.most_answer };
-    } };
+    ghost view = { λ t. terminal_seen t.places t.command.items t.joined.items };
 
-    ghost invariant = { λ t. IsWait t.wait t.command.items t.joined.items t.is_answered × (t.most_command ≤ vec_capacity t.command) × (t.most_answer ≤ vec_capacity t.joined) × IsSize t.ifsc × IsSize t.ifsd × IsSize t.first_ifsc };
+    ghost invariant = { λ t. AreTerminalPlaces t.places t.command.items t.joined.items × (t.places.most_command ≤ vec_capacity t.command) × (t.places.most_answer ≤ vec_capacity t.joined) };
 }
 
 impl Terminal {
@@ -90,18 +70,9 @@ impl Terminal {
         let most_command = command.min(LONGEST_COMMAND);
         let most_answer = answer.min(LONGEST_ANSWER);
         Ok(Terminal {
-            number: Number::Zero,
-            expected: Number::Zero,
-            failures: 0,
-            ifsc: params.ifsc(),
-            ifsd: 32,
-            first_ifsc: params.ifsc(),
-            wait: TerminalWait::Idle,
+            places: TerminalPlaces::new(params, most_command, most_answer),
             command: Vec::with_capacity(alloc, most_command)?,
             joined: Vec::with_capacity(alloc, most_answer)?,
-            is_answered: false,
-            most_command,
-            most_answer,
         })
     }
 
@@ -111,23 +82,17 @@ impl Terminal {
     pub fn reset(&mut self, params: T1Params)
         ensures { self.new ≡ terminal_with self.old.limits params.ifsc }
     {
-        overwrite(&mut self.command, self.most_command);
-        overwrite(&mut self.joined, self.most_answer);
-        self.number = Number::Zero;
-        self.expected = Number::Zero;
-        self.failures = 0;
-        self.ifsc = params.ifsc();
-        self.ifsd = 32;
-        self.first_ifsc = params.ifsc();
-        self.wait = TerminalWait::Idle;
-        self.is_answered = false;
+        let (most_command, most_answer) = (self.places.most_command, self.places.most_answer);
+        overwrite(&mut self.command, most_command);
+        overwrite(&mut self.joined, most_answer);
+        self.places = TerminalPlaces::new(params, most_command, most_answer);
     }
 
     /// The answer, from the turn `Answered` on until the next command is taken; else `None`.
     pub fn answer(&self) -> Option<&[u8]>
         ensures { IsSlice result self.now.answered }
     {
-        if self.is_answered {
+        if self.places.is_answered {
             Some(self.joined.as_slice())
         } else {
             None

@@ -17,21 +17,21 @@ impl Card {
     pub fn ifsc(&self) -> u8
         ensures { result ≡ self.now.ifsc }
     {
-        self.ifsc
+        self.places.ifsc
     }
 
     /// The most octets of an information field that the terminal takes now, 1 to 254.
     pub fn ifsd(&self) -> u8
         ensures { result ≡ self.now.ifsd }
     {
-        self.ifsd
+        self.places.ifsd
     }
 
     /// What the card waits for.
     pub fn awaits(&self) -> CardAwaits
         ensures { result ≡ awaited_by_card self.now.waits }
     {
-        match self.wait {
+        match self.places.wait {
             CardWait::Command | CardWait::Joining => CardAwaits::Command,
             CardWait::Host => CardAwaits::Host,
             CardWait::Reply(_) => CardAwaits::Acknowledgement,
@@ -45,7 +45,7 @@ impl Card {
     pub fn awaits_block(&self) -> bool
         ensures { result ≡ card_awaits_block self.now.waits }
     {
-        match self.wait {
+        match self.places.wait {
             CardWait::Host => false,
             CardWait::Command | CardWait::Joining | CardWait::Reply(_) | CardWait::Asking(_) =>
                 true,
@@ -58,15 +58,15 @@ impl fmt::Debug for Card {
     fn fmt<W: fmt::Write>(&self, f: &mut fmt::Formatter<W>) -> fmt::Result {
         f.debug_struct("Card")
             .field("awaits", &self.awaits())
-            .field("number", &self.number)
-            .field("expected", &self.expected)
-            .field("ifsc", &self.ifsc)
-            .field("ifsd", &self.ifsd)
+            .field("number", &self.places.number)
+            .field("expected", &self.places.expected)
+            .field("ifsc", &self.places.ifsc)
+            .field("ifsd", &self.places.ifsd)
             .field("command_octets", &self.command.len())
             .field("reply_octets", &self.reply.len())
-            .field("is_saved", &self.saved.is_some())
-            .field("most_command", &self.most_command)
-            .field("most_reply", &self.most_reply)
+            .field("is_saved", &self.places.saved.is_some())
+            .field("most_command", &self.places.most_command)
+            .field("most_reply", &self.places.most_reply)
             .finish()
     }
 }

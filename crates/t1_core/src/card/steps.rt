@@ -23,8 +23,8 @@ impl Card {
         ensures turn { card_answers self.new result ≡ turn_of (card_turn self.old (takes (class_of self.old.ifsc octets.now))) }
         ensures state { self.new ≡ state_after self.old (card_turn self.old (takes (class_of self.old.ifsc octets.now))) }
     {
-        let arrived = classify(octets, self.ifsc);
-        match self.wait {
+        let arrived = classify(octets, self.places.ifsc);
+        match self.places.wait {
             CardWait::Host => Err(CardFault::Order),
             CardWait::Command | CardWait::Joining => Ok(self.command_took(&arrived)),
             CardWait::Reply(_) => Ok(self.reply_took(&arrived)),
@@ -37,18 +37,18 @@ impl Card {
         ensures turn { card_answers self.new result ≡ turn_of (card_turn self.old (replies octets.now)) }
         ensures state { self.new ≡ state_after self.old (card_turn self.old (replies octets.now)) }
     {
-        match self.wait {
+        match self.places.wait {
             CardWait::Host => {}
             _ => return Err(CardFault::Order),
         }
-        if octets.len() > self.most_reply {
+        if octets.len() > self.places.most_reply {
             return Err(CardFault::TooLong);
         }
         self.reply.clear();
         self.reply.extend_from_slice(octets).unwrap();
-        let next = next_block(self.reply.as_slice(), 0, self.ifsd);
-        self.wait = next.wait;
-        self.saved = next.saved;
+        let next = next_block(self.reply.as_slice(), 0, self.places.ifsd);
+        self.places.wait = next.wait;
+        self.places.saved = next.saved;
         Ok(CardAct::Send(next.sent))
     }
 
@@ -57,12 +57,12 @@ impl Card {
         ensures turn { card_answers self.new result ≡ turn_of (card_turn self.old (more_time multiple)) }
         ensures state { self.new ≡ state_after self.old (card_turn self.old (more_time multiple)) }
     {
-        match self.wait {
+        match self.places.wait {
             CardWait::Host => {}
             _ => return Err(CardFault::Order),
         }
         let request = Request::Time(multiple);
-        self.wait = CardWait::Asking(request);
+        self.places.wait = CardWait::Asking(request);
         Ok(CardAct::Send(Sent::Other(request.block())))
     }
 
@@ -71,7 +71,7 @@ impl Card {
         ensures turn { card_answers self.new result ≡ turn_of (card_turn self.old (ask_ifs size)) }
         ensures state { self.new ≡ state_after self.old (card_turn self.old (ask_ifs size)) }
     {
-        match self.wait {
+        match self.places.wait {
             CardWait::Host => {}
             _ => return Err(CardFault::Order),
         }
@@ -79,7 +79,7 @@ impl Card {
             return Err(CardFault::Reserved);
         }
         let request = Request::Size(size);
-        self.wait = CardWait::Asking(request);
+        self.places.wait = CardWait::Asking(request);
         Ok(CardAct::Send(Sent::Other(request.block())))
     }
 
@@ -93,14 +93,14 @@ impl Card {
             Arrived::Damaged | Arrived::Invalid => self.either_took(arrived),
             Arrived::Whole(block) => match block.pcb() {
                 Pcb::Info { number, more } => {
-                    let fits = self.taken_len() + block.inf().len() <= self.most_command;
-                    if is_same(number, self.expected) && fits {
+                    let fits = self.taken_len() + block.inf().len() <= self.places.most_command;
+                    if is_same(number, self.places.expected) && fits {
                         self.joins(block.inf(), more)
                     } else {
                         self.either_took(arrived)
                     }
                 }
-                Pcb::Ready { number, .. } => self.sends_saved(is_same(number, self.number)),
+                Pcb::Ready { number, .. } => self.sends_saved(is_same(number, self.places.number)),
                 Pcb::Request(S::Resynch) => self.resynched(),
                 Pcb::Request(S::Ifs | S::Abort | S::Wtx) | Pcb::Response(_) => {
                     self.either_took(arrived)
@@ -133,20 +133,20 @@ impl Card {
         ensures turn { turn_of (in_reply self.old (field_of self.old.waits) (rest_of self.old.waits) (got (Ready number Free) [])) ≡ Ok (card_does self.new result) }
         ensures state { self.new ≡ state_after self.old (in_reply self.old (field_of self.old.waits) (rest_of self.old.waits) (got (Ready number Free) [])) }
     {
-        let CardWait::Reply(cut) = self.wait else {
+        let CardWait::Reply(cut) = self.places.wait else {
             unreachable!()
         };
-        if is_same(number, self.number) {
+        if is_same(number, self.places.number) {
             return CardAct::Send(Sent::Inner);
         }
-        self.number = self.number.other();
+        self.places.number = self.places.number.other();
         let next = next_block(
             self.reply.as_slice(),
             cut.place + cut.size as usize,
-            self.ifsd,
+            self.places.ifsd,
         );
-        self.wait = next.wait;
-        self.saved = next.saved;
+        self.places.wait = next.wait;
+        self.places.saved = next.saved;
         CardAct::Send(next.sent)
     }
 
@@ -162,12 +162,12 @@ impl Card {
             Arrived::Whole(block) => match (request, block.pcb()) {
                 (_, Pcb::Request(S::Resynch)) => self.resynched(),
                 (Request::Size(size), Pcb::Response(S::Ifs)) if block.inf()[0] == size => {
-                    self.ifsc = size;
-                    self.wait = CardWait::Host;
+                    self.places.ifsc = size;
+                    self.places.wait = CardWait::Host;
                     CardAct::Asked
                 }
                 (Request::Time(multiple), Pcb::Response(S::Wtx)) if block.inf()[0] == multiple => {
-                    self.wait = CardWait::Host;
+                    self.places.wait = CardWait::Host;
                     CardAct::Asked
                 }
                 _ => CardAct::Send(Sent::Other(request.block())),
@@ -185,13 +185,13 @@ impl Card {
             Arrived::Invalid => Fault::Other,
             Arrived::Whole(block) => match block.pcb() {
                 Pcb::Request(S::Ifs) => {
-                    self.ifsd = block.inf()[0];
+                    self.places.ifsd = block.inf()[0];
                     return CardAct::Send(Sent::Other(Short::response(S::Ifs, block.inf())));
                 }
                 _ => Fault::Other,
             },
         };
-        CardAct::Send(Sent::Other(Short::ready(self.expected, fault)))
+        CardAct::Send(Sent::Other(Short::ready(self.places.expected, fault)))
     }
 
     /// An I-block of the command that fits is joined, and acknowledges the saved block.
@@ -201,16 +201,16 @@ impl Card {
         ensures turn { turn_of (joins self.old (taken_of self.old.waits ++ inf.now) more) ≡ Ok (card_does self.new result) }
         ensures state { self.new ≡ state_after self.old (joins self.old (taken_of self.old.waits ++ inf.now) more) }
     {
-        let goes_on = self.wait.has_begun();
+        let goes_on = self.places.wait.has_begun();
         put_behind(&mut self.command, goes_on, inf);
-        self.number = acknowledged(self.saved, self.number);
-        self.saved = None;
-        self.expected = self.expected.other();
+        self.places.number = acknowledged(self.places.saved, self.places.number);
+        self.places.saved = None;
+        self.places.expected = self.places.expected.other();
         if more {
-            self.wait = CardWait::Joining;
-            CardAct::Send(Sent::Other(Short::ready(self.expected, Fault::Free)))
+            self.places.wait = CardWait::Joining;
+            CardAct::Send(Sent::Other(Short::ready(self.places.expected, Fault::Free)))
         } else {
-            self.wait = CardWait::Host;
+            self.places.wait = CardWait::Host;
             CardAct::Asked
         }
     }
@@ -219,7 +219,7 @@ impl Card {
     fn taken_len(&self) -> usize
         ensures { result ≡ length (taken_of self.now.waits) }
     {
-        match self.wait {
+        match self.places.wait {
             CardWait::Joining => self.command.len(),
             CardWait::Command | CardWait::Host | CardWait::Reply(_) | CardWait::Asking(_) => 0,
         }
@@ -230,9 +230,9 @@ impl Card {
         ensures turn { turn_of (sends_saved self.old self.old.saved is_own) ≡ Ok (card_does self.new result) }
         ensures state { self.new ≡ state_after self.old (sends_saved self.old self.old.saved is_own) }
     {
-        match self.saved {
+        match self.places.saved {
             Some(_) if is_own => CardAct::Send(Sent::Last),
-            _ => CardAct::Send(Sent::Other(Short::ready(self.expected, Fault::Free))),
+            _ => CardAct::Send(Sent::Other(Short::ready(self.places.expected, Fault::Free))),
         }
     }
 
@@ -241,13 +241,13 @@ impl Card {
         ensures turn { turn_of (resynched self.old) ≡ Ok (card_does self.new result) }
         ensures state { self.new ≡ state_after self.old (resynched self.old) }
     {
-        self.number = Number::Zero;
-        self.expected = Number::Zero;
-        self.saved = None;
-        self.ifsc = self.first_ifsc;
-        self.ifsd = 32;
+        self.places.number = Number::Zero;
+        self.places.expected = Number::Zero;
+        self.places.saved = None;
+        self.places.ifsc = self.places.first_ifsc;
+        self.places.ifsd = 32;
         self.command.clear();
-        self.wait = CardWait::Command;
+        self.places.wait = CardWait::Command;
         CardAct::Send(Sent::Other(Short::response(S::Resynch, &[])))
     }
 
@@ -268,7 +268,7 @@ impl Card {
         ensures { result ≡ info self.now.number more inf.now }
     {
         let pcb = Pcb::Info {
-            number: self.number,
+            number: self.places.number,
             more,
         };
         BlockRef::new(0, pcb, inf).unwrap()
@@ -279,7 +279,7 @@ impl Card {
         ensures octets { result.now ≡ field_of self.now.waits }
         ensures most { length result.now ≤ 254 }
     {
-        match self.wait {
+        match self.places.wait {
             CardWait::Reply(cut) => field_in(self.reply.as_slice(), cut),
             _ => &[],
         }
@@ -290,7 +290,7 @@ impl Card {
         ensures octets { result.now ≡ field_saved self.now.saved }
         ensures most { length result.now ≤ 254 }
     {
-        match self.saved {
+        match self.places.saved {
             Some(cut) => field_in(self.reply.as_slice(), cut),
             None => &[],
         }

@@ -13,7 +13,7 @@ impl Terminal {
     pub fn ifsc(&self) -> u8
         ensures { result ≡ self.now.ifsc }
     {
-        self.ifsc
+        self.places.ifsc
     }
 
     /// The most octets of an information field that the terminal takes now, 1 to 254: whoever frames the
@@ -23,14 +23,14 @@ impl Terminal {
     pub fn ifsd(&self) -> u8
         ensures { result ≡ self.now.ifsd }
     {
-        self.ifsd
+        self.places.ifsd
     }
 
     /// What the terminal waits for.
     pub fn awaits(&self) -> TerminalAwaits
         ensures { result ≡ awaited_by_terminal self.now.waits }
     {
-        match self.wait {
+        match self.places.wait {
             TerminalWait::Idle => TerminalAwaits::Call,
             TerminalWait::Ack(_) => TerminalAwaits::Acknowledgement,
             TerminalWait::Answer(_) => TerminalAwaits::Answer,
@@ -45,7 +45,7 @@ impl Terminal {
     pub fn awaits_block(&self) -> bool
         ensures { result ≡ terminal_awaits_block self.now.waits }
     {
-        match self.wait {
+        match self.places.wait {
             TerminalWait::Idle | TerminalWait::Dead => false,
             TerminalWait::Ack(_)
             | TerminalWait::Answer(_)
@@ -60,14 +60,14 @@ impl Terminal {
     pub fn failures(&self) -> u8
         ensures { result ≡ self.now.failures }
     {
-        self.failures
+        self.places.failures
     }
 
     /// Whether the card was found dead: only `reset` is of use then.
     pub fn is_dead(&self) -> bool
         ensures { result ≡ is_dead self.now.waits }
     {
-        matches!(self.wait, TerminalWait::Dead)
+        matches!(self.places.wait, TerminalWait::Dead)
     }
 }
 
@@ -76,16 +76,16 @@ impl fmt::Debug for Terminal {
     fn fmt<W: fmt::Write>(&self, f: &mut fmt::Formatter<W>) -> fmt::Result {
         f.debug_struct("Terminal")
             .field("awaits", &self.awaits())
-            .field("failures", &self.failures)
-            .field("number", &self.number)
-            .field("expected", &self.expected)
-            .field("ifsc", &self.ifsc)
-            .field("ifsd", &self.ifsd)
+            .field("failures", &self.places.failures)
+            .field("number", &self.places.number)
+            .field("expected", &self.places.expected)
+            .field("ifsc", &self.places.ifsc)
+            .field("ifsd", &self.places.ifsd)
             .field("command_octets", &self.command.len())
             .field("answer_octets", &self.joined.len())
-            .field("is_answered", &self.is_answered)
-            .field("most_command", &self.most_command)
-            .field("most_answer", &self.most_answer)
+            .field("is_answered", &self.places.is_answered)
+            .field("most_command", &self.places.most_command)
+            .field("most_answer", &self.places.most_answer)
             .finish()
     }
 }

@@ -19,18 +19,18 @@ impl Terminal {
         ensures turn { terminal_answers self.new result ≡ turn_of (terminal_turn self.old (transmit command.now)) }
         ensures state { self.new ≡ state_after self.old (terminal_turn self.old (transmit command.now)) }
     {
-        match self.wait {
+        match self.places.wait {
             TerminalWait::Idle => {}
             TerminalWait::Dead => return Err(TerminalFault::Dead),
             _ => return Err(TerminalFault::Busy),
         }
-        if command.len() > self.most_command {
+        if command.len() > self.places.most_command {
             return Err(TerminalFault::TooLong);
         }
         self.command.clear();
         self.command.extend_from_slice(command).unwrap();
-        self.failures = 0;
-        self.is_answered = false;
+        self.places.failures = 0;
+        self.places.is_answered = false;
         Ok(self.sends_from(0))
     }
 
@@ -39,7 +39,7 @@ impl Terminal {
         ensures turn { terminal_answers self.new result ≡ turn_of (terminal_turn self.old (ask_ifs size)) }
         ensures state { self.new ≡ state_after self.old (terminal_turn self.old (ask_ifs size)) }
     {
-        match self.wait {
+        match self.places.wait {
             TerminalWait::Idle => {}
             TerminalWait::Dead => return Err(TerminalFault::Dead),
             _ => return Err(TerminalFault::Busy),
@@ -47,8 +47,8 @@ impl Terminal {
         if size == 0 || size == 255 {
             return Err(TerminalFault::Reserved);
         }
-        self.failures = 0;
-        self.wait = TerminalWait::Ifs(size);
+        self.places.failures = 0;
+        self.places.wait = TerminalWait::Ifs(size);
         Ok(TerminalAct::Send(Sent::Other(Short::request(S::Ifs, &[size]))))
     }
 
@@ -57,8 +57,8 @@ impl Terminal {
         ensures turn { terminal_answers self.new result ≡ turn_of (terminal_turn self.old (takes (class_of self.old.ifsd octets.now))) }
         ensures state { self.new ≡ state_after self.old (terminal_turn self.old (takes (class_of self.old.ifsd octets.now))) }
     {
-        let arrived = classify(octets, self.ifsd);
-        match self.wait {
+        let arrived = classify(octets, self.places.ifsd);
+        match self.places.wait {
             TerminalWait::Idle => Err(TerminalFault::Idle),
             TerminalWait::Dead => Err(TerminalFault::Dead),
             TerminalWait::Ack(cut) => Ok(self.ack_took(cut, &arrived)),
@@ -74,7 +74,7 @@ impl Terminal {
         ensures turn { terminal_answers self.new result ≡ turn_of (terminal_turn self.old (takes quiet)) }
         ensures state { self.new ≡ state_after self.old (terminal_turn self.old (takes quiet)) }
     {
-        match self.wait {
+        match self.places.wait {
             TerminalWait::Idle => Err(TerminalFault::Idle),
             TerminalWait::Dead => Err(TerminalFault::Dead),
             TerminalWait::Ack(_) | TerminalWait::Answer(_) | TerminalWait::More => {
@@ -99,11 +99,11 @@ impl Terminal {
             Arrived::Damaged | Arrived::Invalid => self.exchange_took(arrived),
             Arrived::Whole(block) => match block.pcb() {
                 Pcb::Ready { number, .. } => {
-                    if is_same(number, self.number) {
+                    if is_same(number, self.places.number) {
                         return self.fails(Sent::Inner);
                     }
-                    self.failures = 0;
-                    self.number = self.number.other();
+                    self.places.failures = 0;
+                    self.places.number = self.places.number.other();
                     self.sends_from(cut.place + cut.size as usize)
                 }
                 Pcb::Info { .. } | Pcb::Request(_) | Pcb::Response(_) => self.exchange_took(
@@ -124,18 +124,18 @@ impl Terminal {
             Arrived::Damaged | Arrived::Invalid => self.exchange_took(arrived),
             Arrived::Whole(block) => match block.pcb() {
                 Pcb::Ready { number, .. } => {
-                    if is_same(number, self.number) {
+                    if is_same(number, self.places.number) {
                         self.fails(Sent::Last)
                     } else {
                         self.fails_with(Fault::Free)
                     }
                 }
                 Pcb::Info { number, more } => {
-                    let fits = block.inf().len() <= self.most_answer;
-                    if !(is_same(number, self.expected) && fits) {
+                    let fits = block.inf().len() <= self.places.most_answer;
+                    if !(is_same(number, self.places.expected) && fits) {
                         return self.exchange_took(arrived);
                     }
-                    self.number = self.number.other();
+                    self.places.number = self.places.number.other();
                     self.joins(block.inf(), more)
                 }
                 Pcb::Request(_) | Pcb::Response(_) => self.exchange_took(arrived),
@@ -154,8 +154,8 @@ impl Terminal {
             Arrived::Whole(block) => match block.pcb() {
                 Pcb::Ready { .. } => self.fails_with(Fault::Free),
                 Pcb::Info { number, more } => {
-                    let fits = self.joined.len() + block.inf().len() <= self.most_answer;
-                    if is_same(number, self.expected) && fits {
+                    let fits = self.joined.len() + block.inf().len() <= self.places.most_answer;
+                    if is_same(number, self.places.expected) && fits {
                         self.joins(block.inf(), more)
                     } else {
                         self.exchange_took(arrived)
@@ -173,9 +173,9 @@ impl Terminal {
         ensures state { self.new ≡ state_after self.old (in_ifs self.old size (came_of arrived.now)) }
     {
         if arrived.responds_with(size) {
-            self.failures = 0;
-            self.ifsd = size;
-            self.wait = TerminalWait::Idle;
+            self.places.failures = 0;
+            self.places.ifsd = size;
+            self.places.wait = TerminalWait::Idle;
             return TerminalAct::IfsSet;
         }
         self.fails(Sent::Other(Short::request(S::Ifs, &[size])))
@@ -191,12 +191,12 @@ impl Terminal {
             Arrived::Damaged | Arrived::Invalid => self.resynch_again(asked),
             Arrived::Whole(block) => match block.pcb() {
                 Pcb::Response(S::Resynch) => {
-                    self.number = Number::Zero;
-                    self.expected = Number::Zero;
-                    self.failures = 0;
-                    self.ifsc = self.first_ifsc;
-                    self.ifsd = 32;
-                    self.wait = TerminalWait::Idle;
+                    self.places.number = Number::Zero;
+                    self.places.expected = Number::Zero;
+                    self.places.failures = 0;
+                    self.places.ifsc = self.places.first_ifsc;
+                    self.places.ifsd = 32;
+                    self.places.wait = TerminalWait::Idle;
                     TerminalAct::GivenUp
                 }
                 Pcb::Response(S::Ifs | S::Abort | S::Wtx)
@@ -214,10 +214,10 @@ impl Terminal {
         ensures state { self.new ≡ state_after self.old (in_resynch self.old asked quiet) }
     {
         if asked < 3 {
-            self.wait = TerminalWait::Resynch(asked + 1);
+            self.places.wait = TerminalWait::Resynch(asked + 1);
             TerminalAct::Send(Sent::Other(Short::request(S::Resynch, &[])))
         } else {
-            self.wait = TerminalWait::Dead;
+            self.places.wait = TerminalWait::Dead;
             TerminalAct::Dead
         }
     }
@@ -231,15 +231,15 @@ impl Terminal {
     {
         let cut = Cut {
             place,
-            size: self.ifsc,
+            size: self.places.ifsc,
         };
         self.joined.clear();
-        self.is_answered = false;
+        self.places.is_answered = false;
         if self.command.len() - place > cut.size as usize {
-            self.wait = TerminalWait::Ack(cut);
+            self.places.wait = TerminalWait::Ack(cut);
             TerminalAct::Send(Sent::Inner)
         } else {
-            self.wait = TerminalWait::Answer(cut);
+            self.places.wait = TerminalWait::Answer(cut);
             TerminalAct::Send(Sent::Last)
         }
     }
@@ -252,14 +252,14 @@ impl Terminal {
         ensures state { self.new ≡ state_after self.old (joins self.old (joined_of self.old.waits ++ inf.now) more) }
     {
         self.joined.extend_from_slice(inf).unwrap();
-        self.failures = 0;
-        self.expected = self.expected.other();
+        self.places.failures = 0;
+        self.places.expected = self.places.expected.other();
         if more {
-            self.wait = TerminalWait::More;
-            TerminalAct::Send(Sent::Other(Short::ready(self.expected, Fault::Free)))
+            self.places.wait = TerminalWait::More;
+            TerminalAct::Send(Sent::Other(Short::ready(self.places.expected, Fault::Free)))
         } else {
-            self.wait = TerminalWait::Idle;
-            self.is_answered = true;
+            self.places.wait = TerminalWait::Idle;
+            self.places.is_answered = true;
             TerminalAct::Answered
         }
     }
@@ -269,11 +269,11 @@ impl Terminal {
         ensures turn { turn_of (fails self.old (terminal_sends self.old sent)) ≡ Ok (terminal_does self.new result) }
         ensures state { self.new ≡ state_after self.old (fails self.old (terminal_sends self.old sent)) }
     {
-        if self.failures < 3 {
-            self.failures += 1;
+        if self.places.failures < 3 {
+            self.places.failures += 1;
             return TerminalAct::Send(sent);
         }
-        self.wait = TerminalWait::Resynch(1);
+        self.places.wait = TerminalWait::Resynch(1);
         TerminalAct::Send(Sent::Other(Short::request(S::Resynch, &[])))
     }
 
@@ -282,7 +282,7 @@ impl Terminal {
         ensures turn { turn_of (fails self.old (ready self.old.expected fault)) ≡ Ok (terminal_does self.new result) }
         ensures state { self.new ≡ state_after self.old (fails self.old (ready self.old.expected fault)) }
     {
-        self.fails(Sent::Other(Short::ready(self.expected, fault)))
+        self.fails(Sent::Other(Short::ready(self.places.expected, fault)))
     }
 
     /// In an exchange, what is taken alike whatever the terminal waits for.
@@ -295,7 +295,7 @@ impl Terminal {
             Arrived::Invalid => Fault::Other,
             Arrived::Whole(block) => match block.pcb() {
                 Pcb::Request(S::Ifs) => {
-                    self.ifsc = block.inf()[0];
+                    self.places.ifsc = block.inf()[0];
                     return TerminalAct::Send(Sent::Other(Short::response(S::Ifs, block.inf())));
                 }
                 Pcb::Request(S::Wtx) => {
@@ -323,7 +323,7 @@ impl Terminal {
         ensures { result ≡ info self.now.number more (field_sent self.now.waits) }
     {
         let pcb = Pcb::Info {
-            number: self.number,
+            number: self.places.number,
             more,
         };
         BlockRef::new(0, pcb, self.field()).unwrap()
@@ -334,7 +334,7 @@ impl Terminal {
         ensures octets { result.now ≡ field_sent self.now.waits }
         ensures most { length result.now ≤ 254 }
     {
-        match self.wait {
+        match self.places.wait {
             TerminalWait::Ack(cut) | TerminalWait::Answer(cut) => field_in(
                 self.command.as_slice(),
                 cut,
