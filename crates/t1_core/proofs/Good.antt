@@ -22,7 +22,7 @@ crd k c r saved i j i0 m w = record { number = c; expected = r; saved = saved; i
 abbrev pub link : TerminalState → CardState → UnderWay → List Exchange → List Exchange → ℕ → ℕ → Link
 link t c w es hs d f = record { terminal = t; card = c; under_way = w; exchanges = es; services = hs; disturbed = d; failed = f }
 
--- Where each message fits its receiver, which is P: n failures in a row, f in all, and d blocks lost or damaged; in Spare a failure more may come without a further one; so do k questions for RESYNCH.
+-- What is counted, where P holds: n failures in a row, f in all, d blocks lost or damaged, and k questions for RESYNCH. In Spare a failure more may come without a further such block.
 abbrev pub Few : Type 0 → ℕ → ℕ → Type 0
 Few P f d = P → f ≤ 2 * d
 

@@ -9,9 +9,9 @@ use Rattle.t1_core.specs.declared.turns.TerminalTurn.TheVariants.{Send}
 use Rattle.t1_core.specs.declared.turns.TerminalFault.TheVariants.{Idle, Busy, Reserved}
 use Rattle.t1_core.specs.declared.turns.CardFault.TheVariants.{Order, Reserved as CardReserved}
 use Rattle.t1_core.specs.Came.{got, damaged, invalid, quiet, class_of, ready, request, response}
-use Rattle.t1_core.specs.Terminal.{TerminalState, new_terminal, terminal_turn, transmit, ask_ifs, takes, state_after, turn_of}
+use Rattle.t1_core.specs.Terminal.{TerminalState, longest, new_terminal, terminal_turn, transmit, ask_ifs, takes, state_after, turn_of}
 use Rattle.t1_core.specs.Card.{new_card, card_turn, replies, ask_ifs as card_ask_ifs, takes as card_takes, host}
-use Rattle.t1_core.specs.Link.{tables, Link, new_link, run, to_card, to_terminal, delivers, damages, loses, transmits, host_replies, host_asks_ifsc, answered, unanswered, given_up}
+use Rattle.t1_core.specs.Link.{tables, Link, new_link, link_with, run, to_card, to_terminal, delivers, damages, loses, transmits, host_replies, host_asks_ifsc, answered, unanswered, given_up}
 
 -- 00 A4 04 00 00
 abbrev select : List ℕ
@@ -118,3 +118,16 @@ again_exchanges = refl
 
 again_services : (run tables (transmits select ∷ delivers ∷ host_replies (0x90 ∷ 0x00 ∷ []) ∷ loses ∷ delivers ∷ loses ∷ delivers ∷ loses ∷ delivers ∷ loses ∷ delivers ∷ delivers ∷ transmits select ∷ delivers ∷ []) (new_link 32)).services ≡ unanswered select ∷ answered select (0x90 ∷ 0x00 ∷ []) ∷ []
 again_services = refl
+
+-- A command of 5 octets for a card with room for 4, on a line without a fault: it is given up, and the card's host was not asked. So patience has its premise.
+abbrev too_long_for_the_card : Link
+too_long_for_the_card = run tables (transmits select ∷ delivers ∷ delivers ∷ delivers ∷ delivers ∷ delivers ∷ delivers ∷ delivers ∷ delivers ∷ delivers ∷ delivers ∷ []) (link_with longest (record { command = 4; answer = 4 }) 32)
+
+gave_up_too_long : too_long_for_the_card.exchanges ≡ given_up select ∷ []
+gave_up_too_long = refl
+
+not_served : too_long_for_the_card.services ≡ []
+not_served = refl
+
+undisturbed : too_long_for_the_card.disturbed ≡ 0
+undisturbed = refl

@@ -1,7 +1,8 @@
 //! What holds of the two ends and the line between them after every list of events, as contracts.
 //!
-//! `specs/Promises.antt` has the statements, for ends with any limits. Nothing is promised of progress, of what the check octet fails
-//! to find, or of a command that was given up: its host was given it once or not at all.
+//! `specs/Promises.antt` has the statements, for ends with any limits. Nothing is promised of progress, of
+//! what the check octet fails to find, or of a command that was given up: its host was given it once or not
+//! at all.
 
 ghost use Rattle.std.specs.Prelude.{◌≡◌, ◌≤◌, ◌↔◌, ℕ, List};
 ghost use Rattle.octet_core.specs.Octets.{AreOctets};
