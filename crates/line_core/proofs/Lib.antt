@@ -1,3 +1,5 @@
 pub mod Ready
 pub mod Running
 pub mod Answered
+pub mod Replying
+pub mod Rounds

@@ -1,0 +1,103 @@
+-- A card that serves what comes over a line, by its table, what came and what its host replies.
+use Rattle.std.specs.Prelude.{◌≡◌, ◌≤◌, ℕ, ◌-◌, List, [], ◌∷◌, ◌++◌, take, Bool, true, false, Result, Ok, Err}
+use Rattle.block_core.specs.Block.{Parts, spelling}
+use Rattle.t1_core.specs.Came.{class_of}
+use Rattle.t1_core.specs.Card.{CardState, replies, takes, card_turn, turn_of, state_after}
+use Rattle.t1_core.specs.declared.turns.CardTurn.{CardTurn}
+use Rattle.t1_core.specs.declared.turns.CardTurn.TheVariants.{Send, Asked}
+use Rattle.t1_core.specs.declared.turns.CardFault.{CardFault}
+use Rattle.line_core.specs.declared.serving.ServeFault.{ServeFault}
+use Rattle.line_core.specs.declared.serving.ServeFault.TheVariants.{Line, UsedUp, Refused}
+use Rattle.line_core.specs.Line.{Arrival, block, nothing, failure}
+
+-- What happens at the card: what came, or the line's word that nothing comes any more; a command that the host was given, with its reply; a block that was sent, or that the line failed to send.
+pub data Event : Type 0 where
+  came : (arrival : Arrival) → Event
+  asked : (command reply : List ℕ) → Event
+  sent : (octets : List ℕ) → Event
+  unsent : (octets : List ℕ) → Event
+
+-- the events on the line, and those at the host
+abbrev pub on_line : List Event → List Event
+on_line [] = []
+on_line (asked command reply ∷ events) = on_line events
+on_line (came arrival ∷ events) = came arrival ∷ on_line events
+on_line (sent octets ∷ events) = sent octets ∷ on_line events
+on_line (unsent octets ∷ events) = unsent octets ∷ on_line events
+
+abbrev pub at_host : List Event → List Event
+at_host [] = []
+at_host (asked command reply ∷ events) = asked command reply ∷ at_host events
+at_host (came arrival ∷ events) = at_host events
+at_host (sent octets ∷ events) = at_host events
+at_host (unsent octets ∷ events) = at_host events
+
+-- what a call to send a block adds
+abbrev pub sending : {A E : Type 0} → List ℕ → Result A E → Event
+sending octets (Ok done) = sent octets
+sending octets (Err fault) = unsent octets
+
+-- Whatever happened before, these events came after it, and nothing else did.
+abbrev pub Happens : (List Event → Type 0) → (List Event → Type 0) → List Event → Type 0
+Happens old new events = (before : List Event) → old before → new (before ++ events)
+
+-- How serving ends: nothing comes any more, the line failed, as many blocks came as the caller allows, or the card refused what came or the reply.
+pub data Ending : Type 0 where
+  over : Ending
+  line_failed : Ending
+  used_up : Ending
+  refused : (fault : CardFault) → Ending
+
+abbrev pub ending_of : {A : Type 0} → Result A ServeFault → Ending
+ending_of (Ok done) = over
+ending_of (Err (Line inner)) = line_failed
+ending_of (Err UsedUp) = used_up
+ending_of (Err (Refused inner)) = refused inner
+
+-- What the card does next: it waits for a block, it sends one, it asks its host, or serving ends.
+pub data Doing : Type 0 where
+  hears : Doing
+  says : (block : Parts) → Doing
+  asks : Doing
+  ends : (ending : Ending) → Doing
+
+abbrev pub doing_of : Result CardTurn CardFault → Doing
+doing_of (Ok (Send parts)) = says parts
+doing_of (Ok Asked) = asks
+doing_of (Err inner) = ends (refused inner)
+
+abbrev pub doing_after : CardState → Arrival → Doing
+doing_after c (block octets) = doing_of (turn_of (card_turn c (takes (class_of c.ifsc octets))))
+doing_after c nothing = ends over
+doing_after c failure = ends line_failed
+
+abbrev pub left_after : CardState → Arrival → CardState
+left_after c (block octets) = state_after c (card_turn c (takes (class_of c.ifsc octets)))
+left_after c nothing = c
+left_after c failure = c
+
+-- The card is in state c and about to do this, and at most so many blocks may come: then these events happen, so serving ends, and the card is left in this state.
+abbrev pub Serves : ℕ → Doing → CardState → List Event → Ending → CardState → Type 0
+Serves most hears c (came arrival ∷ events) ending left = (1 ≤ most) × Serves (most - 1) (doing_after c arrival) (left_after c arrival) events ending left
+Serves most hears c [] ending left = (most ≡ 0) × (ending ≡ used_up) × (left ≡ c)
+Serves most asks c (asked command reply ∷ events) ending left = (command ≡ c.command) × Serves most (doing_of (turn_of (card_turn c (replies reply)))) (state_after c (card_turn c (replies reply))) events ending left
+Serves most (says parts) c (sent octets ∷ events) ending left = (octets ≡ spelling parts) × Serves most hears c events ending left
+Serves most (says parts) c (unsent octets ∷ []) ending left = (octets ≡ spelling parts) × (ending ≡ line_failed) × (left ≡ c)
+Serves most (ends how) c [] ending left = (ending ≡ how) × (left ≡ c)
+Serves most doing c events ending left = ⊥
+
+-- The front of the buffer has the block of this turn, or the call was refused so.
+abbrev pub IsReply : Result CardTurn CardFault → List ℕ → Result ℕ CardFault → Type 0
+IsReply turn out (Ok count) = (parts : Parts) × (turn ≡ Ok (Send parts)) × (take count out ≡ spelling parts)
+IsReply turn out (Err inner) = turn ≡ Err inner
+
+-- These events answer a block: what follows them from the new state follows it from the old one.
+abbrev pub IsAnswer : Doing → CardState → List Event → List ℕ → Result ℕ ServeFault → CardState → Type 0
+IsAnswer doing c events out (Ok count) c' = (parts : Parts) × (take count out ≡ spelling parts) × ((most : ℕ) (more : List Event) (ending : Ending) (left : CardState) → Serves most (says parts) c' more ending left → Serves most doing c (events ++ more) ending left)
+IsAnswer doing c events out (Err inner) c' = (most : ℕ) → Serves most doing c events (ending_of {A = ℕ} (Err inner)) c'
+
+-- The same of a block that came, or of one that didn't.
+abbrev pub IsRound : CardState → List Event → Result Bool ServeFault → CardState → Type 0
+IsRound c events (Ok true) c' = (most : ℕ) (more : List Event) (ending : Ending) (left : CardState) → 1 ≤ most → Serves (most - 1) hears c' more ending left → Serves most hears c (events ++ more) ending left
+IsRound c events (Ok false) c' = (most : ℕ) → 1 ≤ most → Serves most hears c events over c'
+IsRound c events (Err inner) c' = (most : ℕ) → 1 ≤ most → Serves most hears c events (ending_of {A = Bool} (Err inner)) c'

@@ -1,0 +1,162 @@
+//! A card that serves what comes over a line.
+
+ghost use Rattle.std.specs.Prelude.{◌≡◌, ◌≤◌, ◌++◌, ℕ, List, [], ◌∷◌, length, IfOk};
+ghost use Rattle.t1_core.specs.Came.{class_of};
+ghost use Rattle.t1_core.specs.Card.{takes, replies, host as owes, card_turn, turn_of, state_after};
+ghost use Rattle.line_core.specs.declared.serving.ServeFault.TheVariants.{Refused};
+ghost use Rattle.line_core.specs.Line.{FitsRoom, arrival_of};
+ghost use Rattle.line_core.specs.Service.{Event, came, asked, sending, on_line, at_host, Happens, hears, Serves, IsRound, IsAnswer, IsReply, ending_of, doing_of};
+
+use crate::exchanging::LONGEST_ARRIVAL;
+use crate::line::Heard;
+use block_core::LONGEST_BLOCK;
+use std::io;
+use t1_core::laws::told;
+use t1_core::{Card, CardFault, CardPut};
+
+/// The line of a card: what a card, or a simulator of one, has.
+///
+/// Contracts see what was on it. A line of which nothing is known, such as a device, has for `said` what
+/// always holds, `λ _ _. Unit {0}`.
+pub trait CardLine {
+    /// These may be the events that were on the line so far.
+    ghost said: { Self → List Event → Type 0 };
+
+    /// Waits for the next block as long as it takes, and takes it into the buffer. `Nothing` says that no
+    /// more comes, as where the card's power is off.
+    fn hear(&mut self, room: &mut [u8]) -> io::Result<Heard>
+        requires { 259 ≤ length room.old }
+        ensures fits { IfOk result (λ heard. FitsRoom heard room.new) }
+        ensures said { Happens (said self.old) (said self.new) (came (arrival_of result room.new) ∷ []) };
+
+    /// Sends the octets of a block, 4 to 258.
+    fn say(&mut self, block: &[u8]) -> io::Result<()>
+        ensures { Happens (said self.old) (said self.new) (sending block.now result ∷ []) };
+}
+
+/// What a card does with the commands that it is given.
+///
+/// Contracts see them, each with its reply; where nothing is said of them `served` is what always holds,
+/// `λ _ _. Unit {0}`.
+pub trait Host {
+    /// These may be the commands and replies so far.
+    ghost served: { Self → List Event → Type 0 };
+
+    /// The reply to the last command.
+    ghost reply: { Self → List ℕ };
+
+    /// Acts on a command.
+    fn act(&mut self, command: &[u8])
+        ensures { Happens (served self.old) (served self.new) (asked command.now (reply self.new) ∷ []) };
+
+    /// The reply to the last command, with its status bytes: at most 65,538 octets.
+    fn reply(&self) -> &[u8]
+        ensures { result.now ≡ reply self.now };
+}
+
+/// Why a card serves no more.
+#[derive(Debug, Drop)]
+pub enum ServeFault {
+    /// The line failed.
+    Line(io::Error),
+    /// As many blocks came as the caller allows, and each was answered.
+    UsedUp,
+    /// The card refused what came, `Order` where its host still owes a reply, or the reply, `TooLong`.
+    Refused(CardFault),
+}
+
+impl From<CardFault> for ServeFault {
+    ghost from_gives = { λ fault made. made ≡ Refused fault };
+
+    fn from(fault: CardFault) -> ServeFault {
+        ServeFault::Refused(fault)
+    }
+}
+
+/// Serves what comes over the line to a card, by its host, until the line says that no more comes (ISO/IEC
+/// 7816-3, clause 11.6).
+///
+/// What comes is told to the card. The block that its table says is sent, and nothing else; where the table
+/// says that a command is complete, the host acts on it once and its reply is handed over. At most
+/// `most_blocks` blocks are waited for. After `UsedUp` each is answered, and a further call goes on.
+///
+/// `Line` comes where the line fails: as it waits, or as it sends, and then the block that wasn't sent is
+/// sent again where the terminal asks for it. `Refused(TooLong)` comes for a reply of more than 65,538
+/// octets; then the card waits for another reply, by `Card::reply`, and until that what comes is refused
+/// `Order`.
+pub fn serve<L: CardLine, H: Host>(
+    card: &mut Card,
+    line: &mut L,
+    host: &mut H,
+    most_blocks: usize,
+) -> Result<(), ServeFault>
+    ensures { (events : List Event) × Happens (L.said line.old) (L.said line.new) (on_line events) × Happens (H.served host.old) (H.served host.new) (at_host events) × Serves most_blocks hears card.old events (ending_of result) card.new }
+{
+    let mut room = [0; LONGEST_ARRIVAL];
+    let mut out = [0; LONGEST_BLOCK];
+    let mut left = most_blocks;
+    while left > 0 {
+        left -= 1;
+        if !serve_block(card, line, host, &mut room, &mut out)? {
+            return Ok(());
+        }
+    }
+    Err(ServeFault::UsedUp)
+}
+
+/// Serves the next block: whether one came.
+fn serve_block<L: CardLine, H: Host>(
+    card: &mut Card,
+    line: &mut L,
+    host: &mut H,
+    room: &mut [u8],
+    out: &mut [u8],
+) -> Result<bool, ServeFault>
+    requires room { 259 ≤ length room.old }
+    requires out { 258 ≤ length out.old }
+    ensures { (events : List Event) × Happens (L.said line.old) (L.said line.new) (on_line events) × Happens (H.served host.old) (H.served host.new) (at_host events) × IsRound card.old events result card.new }
+{
+    match line.hear(room) {
+        Ok(Heard::Octets(count)) => {
+            let count = answer_block(card, host, &room[..count], out)?;
+            match line.say(&out[..count]) {
+                Ok(()) => Ok(true),
+                Err(fault) => Err(ServeFault::Line(fault)),
+            }
+        }
+        Ok(Heard::Nothing) => Ok(false),
+        Err(fault) => Err(ServeFault::Line(fault)),
+    }
+}
+
+/// The block that answers these octets is put to the front of the buffer: how many octets it has.
+fn answer_block<H: Host>(
+    card: &mut Card,
+    host: &mut H,
+    octets: &[u8],
+    out: &mut [u8],
+) -> Result<usize, ServeFault>
+    requires { 258 ≤ length out.old }
+    ensures fits { IfOk result (λ count. count ≤ 258) }
+    ensures answer { (events : List Event) × (on_line events ≡ []) × Happens (H.served host.old) (H.served host.new) (at_host events) × IsAnswer (doing_of (turn_of (card_turn card.old (takes (class_of card.old.ifsc octets.now))))) (state_after card.old (card_turn card.old (takes (class_of card.old.ifsc octets.now)))) events out.new result card.new }
+{
+    told();
+    match card.received_into(octets, out)? {
+        CardPut::Send(count) => Ok(count),
+        CardPut::Asked => Ok(reply_to(card, host, out)?),
+    }
+}
+
+/// The host acts on the command, and the first block of its reply is put to the front of the buffer.
+fn reply_to<H: Host>(card: &mut Card, host: &mut H, out: &mut [u8]) -> Result<usize, CardFault>
+    requires out { 258 ≤ length out.old }
+    requires waits { card.old.waits ≡ owes }
+    ensures fits { IfOk result (λ count. count ≤ 258) }
+    ensures reply { (reply : List ℕ) × Happens (H.served host.old) (H.served host.new) (asked card.old.command reply ∷ []) × IsReply (turn_of (card_turn card.old (replies reply))) out.new result × (card.new ≡ state_after card.old (card_turn card.old (replies reply))) }
+{
+    host.act(card.command().unwrap_or(&[]));
+    match card.reply_into(host.reply(), out)? {
+        CardPut::Send(count) => Ok(count),
+        CardPut::Asked => unreachable!(),
+    }
+}
