@@ -4,7 +4,7 @@ use Rattle.block_core.specs.Block.{Parts, other}
 use Rattle.block_core.specs.declared.pcb.S.TheVariants.{Resynch, Ifs, Abort, Wtx}
 use Rattle.block_core.specs.declared.pcb.Pcb.TheVariants.{Info, Ready, Request, Response}
 use Rattle.t1_core.specs.Came.{Came, got, damaged, invalid, quiet, class_of, same}
-use Rattle.t1_core.specs.Terminal.{TerminalState, TerminalStep, transmit, Waits, idle, ack, answer, more, ifs, resynch, dead, fails, joins, waiting, in_exchange, in_ack, in_answer, in_more, in_resynch, terminal_came, if_idle, turn_of, state_after, longest_command, longest_answer}
+use Rattle.t1_core.specs.Terminal.{TerminalState, TerminalStep, transmit, Waits, idle, ack, answer, more, ifs, resynch, dead, fails, joins, waiting, in_exchange, in_ack, in_answer, in_more, in_resynch, terminal_came, if_idle, turn_of, state_after}
 use Rattle.line_core.specs.declared.fault.ExchangeFault.{ExchangeFault}
 use Rattle.line_core.specs.Line.{Arrival, block, nothing, failure, Talk}
 use Rattle.line_core.specs.Exchange.{Ending, done, given_up, dead as is_dead, line_failed, used_up, refused, Next, sends, ends, next_of, next_after, left_after, Runs, HasRun, ending_of}
@@ -74,7 +74,7 @@ ack-fine t field rest quiet h = exchange-fine t quiet h
 
 answer-fine : (t : TerminalState) (field : List ℕ) (came : Came) → IsCommand t.waits → IsFineStep (in_answer t field came)
 answer-fine t field (got (Ready number inner) inf) h = either (same number t.number) _ _ (repeats t _ h) (repeats t _ h)
-answer-fine t field (got (Info number goes_on) inf) h = either (same number t.expected && nat_le (length inf) longest_answer) _ _ (joins-fine (record t { number = other t.number }) inf goes_on) (exchange-fine t (got (Info number goes_on) inf) h)
+answer-fine t field (got (Info number goes_on) inf) h = either (same number t.expected && nat_le (length inf) t.limits.answer) _ _ (joins-fine (record t { number = other t.number }) inf goes_on) (exchange-fine t (got (Info number goes_on) inf) h)
 answer-fine t field (got (Request s) inf) h = exchange-fine t (got (Request s) inf) h
 answer-fine t field (got (Response s) inf) h = exchange-fine t (got (Response s) inf) h
 answer-fine t field damaged h = exchange-fine t damaged h
@@ -83,7 +83,7 @@ answer-fine t field quiet h = exchange-fine t quiet h
 
 more-fine : (t : TerminalState) (joined : List ℕ) (came : Came) → IsCommand t.waits → IsFineStep (in_more t joined came)
 more-fine t joined (got (Ready number inner) inf) h = repeats t _ h
-more-fine t joined (got (Info number goes_on) inf) h = either (same number t.expected && nat_le (length joined + length inf) longest_answer) _ _ (joins-fine t _ goes_on) (exchange-fine t (got (Info number goes_on) inf) h)
+more-fine t joined (got (Info number goes_on) inf) h = either (same number t.expected && nat_le (length joined + length inf) t.limits.answer) _ _ (joins-fine t _ goes_on) (exchange-fine t (got (Info number goes_on) inf) h)
 more-fine t joined (got (Request s) inf) h = exchange-fine t (got (Request s) inf) h
 more-fine t joined (got (Response s) inf) h = exchange-fine t (got (Response s) inf) h
 more-fine t joined damaged h = exchange-fine t damaged h
@@ -138,4 +138,4 @@ done-fine (Err inner) t h = tt
 -- A command that is done has an answer.
 pub answered : (before after : List Talk → Type 0) (most : ℕ) (t left : TerminalState) (command : List ℕ) (r : Result (Unit {0}) ExchangeFault) → HasRun before after most t (transmit command) (ending_of r) left → OnOk r (IsSome left.answered)
 answered before after most t left command r (talks, adds, run) =
-    done-fine r left (ends-fine talks _ _ _ left _ (after-step t _ (begins-fine t t.waits _ (either (nat_le (length command) longest_command) _ _ (waits-fine _ _) tt))) run)
+    done-fine r left (ends-fine talks _ _ _ left _ (after-step t _ (begins-fine t t.waits _ (either (nat_le (length command) t.limits.command) _ _ (waits-fine _ _) tt))) run)

@@ -4,7 +4,6 @@ use Rattle.std.proofs.lemmas.Grind.{common_steps}
 use Rattle.block_core.specs.Block.{Parts, IsPut, spelling}
 use Rattle.t1_core.specs.Put.{IsCardPut}
 use Rattle.t1_core.specs.Card.{CardState, CardStep, Waits, command, host, reply, asking, card_turn, replies, turn_of, state_after, if_host, sends_next}
-use Rattle.t1_core.specs.Terminal.{longest_answer}
 use Rattle.t1_core.specs.declared.turns.CardTurn.{CardTurn}
 use Rattle.t1_core.specs.declared.turns.CardTurn.TheVariants.{Send, Asked}
 use Rattle.t1_core.specs.declared.turns.CardPut.{CardPut}
@@ -38,7 +37,7 @@ in-turn c (asking request) b octets e = cc
 
 -- A reply is sent or refused, and never asked about.
 pub never-asks : (c : CardState) (octets : List ℕ) → turn_of (card_turn c (replies octets)) ≡ Ok Asked → ⊥
-never-asks c octets e = in-turn c c.waits (nat_le (length octets) longest_answer) octets e
+never-asks c octets e = in-turn c c.waits (nat_le (length octets) c.limits.answer) octets e
 
 -- The turn Asked is about a command that the host owes the reply to.
 pub waits-for-host : (c : CardState) (step : CardStep) → ((next : CardState) → step ≡ Ok (Asked, next) → next.waits ≡ host) → turn_of step ≡ Ok Asked → (state_after c step).waits ≡ host
