@@ -8,3 +8,15 @@
 pub fn same<T: PartialEq + Drop>(found: T, wanted: T) -> bool {
     found == wanted
 }
+
+#[cfg(test)]
+mod tests {
+    use super::same;
+
+    #[test]
+    fn values_are_told_apart(rt: HostRuntime) {
+        assert!(rt; same(Some(1u8), Some(1)));
+        assert!(rt; !same(Some(1u8), Some(2)));
+        assert!(rt; !same(Some(1u8), None));
+    }
+}
