@@ -8,3 +8,4 @@ pub mod Refusals
 pub mod Spelled
 pub mod Received
 pub mod Arriving
+pub mod Puts

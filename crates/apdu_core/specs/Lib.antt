@@ -5,3 +5,4 @@ pub mod Status
 pub mod Sending
 pub mod Receiving
 pub mod Arrival
+pub mod Put

@@ -69,8 +69,8 @@ impl Model for Command {
 }
 
 impl Command {
-    ghost use Rattle.std.specs.Prelude.{◌≡◌, OnOk, OnErr, IfOk, IfErr};
-    ghost use Rattle.apdu_core.specs.Command.{FitsFields, HasSpelling, IsProper};
+    ghost use Rattle.std.specs.Prelude.{◌≡◌, ◌≤◌, OnOk, OnErr, IfOk, IfErr};
+    ghost use Rattle.apdu_core.specs.Command.{FitsFields, HasSpelling, IsProper, spelling};
 
     /// The command of this header, CLA, INS, P1 and P2, and this body, exactly where it has a spelling. The
     /// body comes back where its part or its `le` has none of the lengths or numbers of its shape.
@@ -102,6 +102,14 @@ impl Command {
         self.header
     }
 
+    /// How many octets spell the command, 4 to 65,544.
+    pub fn encoded_len(&self) -> usize
+        ensures len { result ≡ length (spelling self.now) }
+        ensures most { result ≤ 65544 }
+    {
+        4 + self.body.encoded_len()
+    }
+
     /// What follows the header.
     pub fn body(&self) -> &Body
         ensures body { result.now ≡ self.now.body }
@@ -112,9 +120,9 @@ impl Command {
 }
 
 impl Body {
-    ghost use Rattle.std.specs.Prelude.{◌≡◌};
+    ghost use Rattle.std.specs.Prelude.{◌≡◌, ◌≤◌};
     ghost use Rattle.octet_core.specs.Octets.{AreOctets};
-    ghost use Rattle.apdu_core.specs.Command.{FitsFields, part_of};
+    ghost use Rattle.apdu_core.specs.Command.{FitsFields, part_of, body_octets};
 
     /// Whether the length fields can tell the numbers of the body.
     fn fits(&self) -> bool
@@ -129,6 +137,23 @@ impl Body {
             Body::LongLe { le } => is_count(*le, 65_536),
             Body::LongPart { part } => is_part(part.get(), 65_535),
             Body::LongBoth { part, le } => is_part(part.get(), 65_535) && is_count(*le, 65_536),
+        }
+    }
+
+    /// How many octets spell the body.
+    fn encoded_len(&self) -> usize
+        requires { FitsFields self.now }
+        ensures len { result ≡ length (body_octets self.now) }
+        ensures most { result ≤ 65540 }
+    {
+        match self {
+            Body::Empty => 0,
+            Body::ShortLe { .. } => 1,
+            Body::ShortPart { part } => 1 + part.get().len(),
+            Body::ShortBoth { part, .. } => 2 + part.get().len(),
+            Body::LongLe { .. } => 3,
+            Body::LongPart { part } => 3 + part.get().len(),
+            Body::LongBoth { part, .. } => 5 + part.get().len(),
         }
     }
 

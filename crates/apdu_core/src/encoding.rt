@@ -1,27 +1,33 @@
 //! The octets of APDUs.
 
-ghost use Rattle.std.specs.Prelude.{◌≡◌, ◌++◌, ◌∷◌, [], IfOk, OnOk, length};
-ghost use Rattle.octet_core.specs.Octets.{AreOctets};
-ghost use Rattle.apdu_core.specs.Command.{IsCommand, FitsFields, IsCount, body_octets, long_of, short_of};
+ghost use Rattle.std.specs.Prelude.{◌≡◌, ◌≤◌, ◌+◌, ◌++◌, ◌∷◌, IfOk, length, take};
+ghost use Rattle.apdu_core.specs.Command.{IsCommand, FitsFields, IsCount, spelling, body_octets, long_of, short_of};
+ghost use Rattle.apdu_core.specs.Put.{IsPutAt};
 ghost use Rattle.apdu_core.specs.Response.{IsResponse};
 
 use crate::command::{Body, Command};
 use crate::response::Response;
 use std::alloc::{AllocError, Global};
 
-/// The most octets that a command has beside its data field: the header, an extended Lc and an extended
-/// Le.
-const MOST_AROUND_PART: usize = 9;
-
 /// The octets that spell a command (ISO/IEC 7816-3, clause 12): the header and its body.
 pub fn encode_command(alloc: Global, command: &Command) -> Result<Vec<u8>, AllocError>
     ensures { IfOk result (λ octets. IsCommand command.now octets.items) }
 {
-    let body = command.body();
-    let mut octets = Vec::with_capacity(alloc, MOST_AROUND_PART + body.part().len())?;
-    octets.extend_from_slice(&command.header())?;
-    push_body(&mut octets, body)?;
+    let mut octets = vec![in alloc; 0; command.encoded_len()]?;
+    let _count = encode_command_into(command, octets.as_mut_slice());
     Ok(octets)
+}
+
+/// Puts the octets that spell a command (ISO/IEC 7816-3, clause 12) to the front of the buffer, and says
+/// how many they are, as [`Command::encoded_len`] does; the rest of the buffer stays.
+pub fn encode_command_into(command: &Command, out: &mut [u8]) -> usize
+    requires room { length (spelling command.now) ≤ length out.old }
+    ensures command { IsCommand command.now (take result out.new) }
+    ensures put { IsPutAt 0 (spelling command.now) out.old out.new result }
+{
+    let body = command.body();
+    let end = put(out, 0, &command.header());
+    put_body(out, end, body)
 }
 
 /// The octets that spell a response (ISO/IEC 7816-3, clause 12): its data field, SW1 and SW2.
@@ -35,62 +41,77 @@ pub fn encode_response(alloc: Global, response: &Response) -> Result<Vec<u8>, Al
     Ok(octets)
 }
 
-/// Appends what follows the header of a command.
-fn push_body(octets: &mut Vec<u8>, body: &Body) -> Result<(), AllocError>
-    requires { FitsFields body.now }
-    ensures body { OnOk result (octets.new.items ≡ octets.old.items ++ body_octets body.now) }
-    ensures octets { OnOk result (AreOctets octets.new.items) }
+/// Puts what follows the header of a command, from this place on: the place where it ends.
+fn put_body(out: &mut [u8], start: usize, body: &Body) -> usize
+    requires fits { FitsFields body.now }
+    requires room { start + length (body_octets body.now) ≤ length out.old }
+    ensures { IsPutAt start (body_octets body.now) out.old out.new result }
 {
     match body {
-        Body::Empty => {}
-        Body::ShortLe { le } => push_short(octets, *le as usize)?,
-        Body::ShortPart { part } => push_short_part(octets, part.get())?,
+        Body::Empty => start,
+        Body::ShortLe { le } => put(out, start, &short(*le as usize)),
+        Body::ShortPart { part } => put_short_part(out, start, part.get()),
         Body::ShortBoth { part, le } => {
-            push_short_part(octets, part.get())?;
-            push_short(octets, *le as usize)?;
+            let end = put_short_part(out, start, part.get());
+            put(out, end, &short(*le as usize))
         }
-        Body::LongLe { le } => {
-            octets.push(0)?;
-            push_long(octets, *le as usize)?;
-        }
-        Body::LongPart { part } => push_long_part(octets, part.get())?,
+        Body::LongLe { le } => put_long(out, start, *le as usize),
+        Body::LongPart { part } => put_long_part(out, start, part.get()),
         Body::LongBoth { part, le } => {
-            push_long_part(octets, part.get())?;
-            push_long(octets, *le as usize)?;
+            let end = put_long_part(out, start, part.get());
+            put(out, end, &long(*le as usize))
         }
     }
-    Ok(())
 }
 
-/// Appends a short Lc and a data field.
-fn push_short_part(octets: &mut Vec<u8>, part: &[u8]) -> Result<(), AllocError>
-    requires { IsCount (length part.now) 255 }
-    ensures { OnOk result (octets.new.items ≡ octets.old.items ++ (length part.now ∷ part.now)) }
+/// Puts a short Lc and a data field.
+fn put_short_part(out: &mut [u8], start: usize, part: &[u8]) -> usize
+    requires count { IsCount (length part.now) 255 }
+    requires room { start + (1 + length part.now) ≤ length out.old }
+    ensures { IsPutAt start (length part.now ∷ part.now) out.old out.new result }
 {
-    push_short(octets, part.len())?;
-    octets.extend_from_slice(part)
+    let end = put(out, start, &short(part.len()));
+    put(out, end, part)
 }
 
-/// Appends an extended Lc and a data field.
-fn push_long_part(octets: &mut Vec<u8>, part: &[u8]) -> Result<(), AllocError>
-    ensures { OnOk result (octets.new.items ≡ octets.old.items ++ (0 ∷ long_of (length part.now) ++ part.now)) }
+/// Puts an extended Lc and a data field.
+fn put_long_part(out: &mut [u8], start: usize, part: &[u8]) -> usize
+    requires { start + (3 + length part.now) ≤ length out.old }
+    ensures { IsPutAt start (0 ∷ long_of (length part.now) ++ part.now) out.old out.new result }
 {
-    octets.push(0)?;
-    push_long(octets, part.len())?;
-    octets.extend_from_slice(part)
+    let end = put_long(out, start, part.len());
+    put(out, end, part)
 }
 
-/// Appends a number in one octet.
-fn push_short(octets: &mut Vec<u8>, number: usize) -> Result<(), AllocError>
-    ensures { OnOk result (octets.new.items ≡ octets.old.items ++ short_of number) }
+/// Puts the first extended length field of a body: an octet 00, and the number in two octets.
+fn put_long(out: &mut [u8], start: usize, number: usize) -> usize
+    requires { start + 3 ≤ length out.old }
+    ensures { IsPutAt start (0 ∷ long_of number) out.old out.new result }
 {
-    octets.push((number % 256) as u8)?;
-    Ok(())
+    let [high, low] = long(number);
+    put(out, start, &[0, high, low])
 }
 
-/// Appends a number in two octets, the high one first.
-fn push_long(octets: &mut Vec<u8>, number: usize) -> Result<(), AllocError>
-    ensures { OnOk result (octets.new.items ≡ octets.old.items ++ long_of number) }
+/// Puts octets from this place on: the place where they end.
+fn put(out: &mut [u8], start: usize, octets: &[u8]) -> usize
+    requires { start + length octets.now ≤ length out.old }
+    ensures { IsPutAt start octets.now out.old out.new result }
 {
-    octets.extend_from_slice(&[(number / 256 % 256) as u8, (number % 256) as u8])
+    let end = start + octets.len();
+    out[start..end].copy_from_slice(octets);
+    end
+}
+
+/// A number in one octet.
+fn short(number: usize) -> [u8; 1]
+    ensures { result ≡ short_of number }
+{
+    [(number % 256) as u8]
+}
+
+/// A number in two octets, the high one first.
+fn long(number: usize) -> [u8; 2]
+    ensures { result ≡ long_of number }
+{
+    [(number / 256 % 256) as u8, (number % 256) as u8]
 }

@@ -25,7 +25,7 @@ pub mod status;
 pub use command::{Body, Command, Shape};
 pub use command_ref::CommandRef;
 pub use decoding::{decode_command, decode_response};
-pub use encoding::{encode_command, encode_response};
+pub use encoding::{encode_command, encode_command_into, encode_response};
 pub use reason::{CommandReason, ResponseReason};
 pub use receiving::{ReceiveFault, receive_command, receive_response};
 pub use response::Response;

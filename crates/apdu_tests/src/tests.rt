@@ -5,7 +5,8 @@ mod faults;
 use apdu_core::{
     Body, Command, CommandReason, CommandRef, ReceiveFault, Response, ResponseReason, ResponseRef,
     SendFault, Shape, StatusClass, decode_command, decode_response, encode_command,
-    encode_response, receive_command, receive_response, send_command, send_response, status_class,
+    encode_command_into, encode_response, receive_command, receive_response, send_command,
+    send_response, status_class,
 };
 use block_core::Number;
 use chain_core::ChainReason;
@@ -62,6 +63,16 @@ fn commands_of_their_own(rt: HostRuntime) -> Result<(), Fail> {
     let part = octets(&rt, "0102")?;
     let body = Body::LongBoth { part, le: 65_536 };
     assert!(rt; is_command(&rt, "00D6000000000201020000", UPDATE, body)?);
+    Ok(())
+}
+
+#[test]
+fn a_command_put_into_a_buffer(rt: HostRuntime) -> Result<(), Fail> {
+    let command = Command::new(SELECT, Body::ShortLe { le: 256 })?;
+    let mut buffer = [0xEE; 7];
+    assert!(rt; command.encoded_len() == 5);
+    assert!(rt; encode_command_into(&command, &mut buffer) == 5);
+    assert!(rt; buffer == [0x00, 0xA4, 0x04, 0x00, 0x00, 0xEE, 0xEE]);
     Ok(())
 }
 
