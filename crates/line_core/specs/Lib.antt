@@ -1,3 +1,4 @@
 pub mod Line
 pub mod Exchange
 pub mod Service
+pub mod Commanding

@@ -86,7 +86,7 @@ pub fn resume<L: Line>(
 }
 
 /// Sends a command; at `Ok` the terminal has the answer.
-fn send_command<L: Line>(
+pub(crate) fn send_command<L: Line>(
     terminal: &mut Terminal,
     line: &mut L,
     command: &[u8],

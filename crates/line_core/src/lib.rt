@@ -2,16 +2,19 @@
 //!
 //! A [`Line`] carries the blocks of a terminal: one call sends a block and takes what comes. [`exchange`]
 //! hands over a command and gives the answer, [`ask_ifs`] asks about a size, and [`resume`] goes on with
-//! either where the line failed or too many blocks were sent. `specs/Exchange.antt` says what these do:
+//! either where the line failed or too many blocks were sent; [`exchange_command`] does the same for a
+//! command and its response as values. `specs/Exchange.antt` says what these do:
 //! what was on the line is a run of the terminal's table over what came. At the other end [`serve`] has a
 //! card answer what comes over a [`CardLine`], with the replies of its [`Host`]: `specs/Service.antt`.
 #![tactic(auto)]
 
+pub mod commanding;
 pub mod exchanging;
 pub mod fault;
 pub mod line;
 pub mod serving;
 
+pub use commanding::{exchange_command, response_of};
 pub use exchanging::{LONGEST_ARRIVAL, ask_ifs, exchange, resume};
 pub use fault::ExchangeFault;
 pub use line::{Heard, Line};

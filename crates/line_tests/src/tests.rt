@@ -4,10 +4,13 @@
 ghost use Rattle.std.specs.Prelude.{◌≤◌, length};
 ghost use Rattle.line_core.specs.Line.{FitsRoom};
 
+use apdu_core::{Body, Command, ResponseReason, ResponseRef};
 use atr_core::T1Params;
 use line_core::{
-    CardLine, ExchangeFault, Heard, Host, Line, ServeFault, ask_ifs, exchange, resume, serve,
+    CardLine, ExchangeFault, Heard, Host, Line, ServeFault, ask_ifs, exchange, exchange_command,
+    response_of, resume, serve,
 };
+use octet_core::Stop;
 use std::alloc::Global;
 use std::io::{self, ErrorKind};
 use std::test::Fail;
@@ -20,6 +23,8 @@ const DONE: [u8; 2] = [0x90, 0x00];
 const SELECT_BLOCK: [u8; 9] = [0x00, 0x00, 0x05, 0x00, 0xA4, 0x04, 0x00, 0x00, 0xA5];
 
 const DONE_BLOCK: [u8; 6] = [0x00, 0x00, 0x02, 0x90, 0x00, 0x92];
+
+const ONE_OCTET: [u8; 5] = [0x00, 0x00, 0x01, 0x90, 0x91];
 
 /// The card asks for five times the waiting time.
 const MORE_TIME: [u8; 5] = [0x00, 0xC3, 0x01, 0x05, 0xC7];
@@ -135,6 +140,43 @@ fn is_answer(given: Result<&[u8], ExchangeFault>, octets: &[u8]) -> bool {
         Ok(answer) => answer == octets,
         Err(_) => false,
     }
+}
+
+fn is_done(response: Option<Result<ResponseRef<'_>, Stop<ResponseReason>>>) -> bool {
+    match response {
+        Some(Ok(response)) => {
+            response.part().is_empty() && response.sw1() == 0x90 && response.sw2() == 0x00
+        }
+        _ => false,
+    }
+}
+
+#[test]
+fn a_command_and_its_response(rt: HostRuntime) -> Result<(), Fail> {
+    let mut t = terminal(rt.alloc())?;
+    let card = Card::new(rt.alloc(), params()?)?;
+    let mut wire = Wire {
+        card,
+        command: &SELECT,
+        reply: &DONE,
+    };
+    let command = Command::new([0x00, 0xA4, 0x04, 0x00], Body::ShortLe { le: 256 })?;
+    let mut buffer = [0; 5];
+    assert!(rt; command.encoded_len() == 5);
+    assert!(rt; response_of(&t).is_none());
+    assert!(rt; exchange_command(&mut t, &mut wire, &command, &mut buffer, 1).is_ok());
+    assert!(rt; is_done(response_of(&t)));
+    Ok(())
+}
+
+/// One octet is no response.
+#[test]
+fn an_answer_that_is_no_response(rt: HostRuntime) -> Result<(), Fail> {
+    let mut t = terminal(rt.alloc())?;
+    let mut line = scripted(&[], Step::Gives(&ONE_OCTET));
+    assert!(rt; is_answer(exchange(&mut t, &mut line, &SELECT, 1), &[0x90]));
+    assert!(rt; matches!(response_of(&t), Some(Err(Stop::Short { place: 1 }))));
+    Ok(())
 }
 
 /// The size that both ends agree on, and the longest command and answer.
