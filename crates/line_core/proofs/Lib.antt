@@ -3,3 +3,4 @@ pub mod Running
 pub mod Answered
 pub mod Replying
 pub mod Rounds
+pub mod Carrying

@@ -2,3 +2,4 @@ pub mod Line
 pub mod Exchange
 pub mod Service
 pub mod Commanding
+pub mod Streams

@@ -13,9 +13,11 @@ pub mod exchanging;
 pub mod fault;
 pub mod line;
 pub mod serving;
+pub mod streaming;
 
 pub use commanding::{exchange_command, response_of};
 pub use exchanging::{LONGEST_ARRIVAL, ask_ifs, exchange, resume};
 pub use fault::ExchangeFault;
 pub use line::{Heard, Line};
 pub use serving::{CardLine, Host, ServeFault, serve};
+pub use streaming::StreamLine;

@@ -7,10 +7,10 @@ ghost use Rattle.line_core.specs.Line.{FitsRoom};
 use apdu_core::{Body, Command, ResponseReason, ResponseRef};
 use atr_core::T1Params;
 use line_core::{
-    CardLine, ExchangeFault, Heard, Host, Line, ServeFault, ask_ifs, exchange, exchange_command,
-    response_of, resume, serve,
+    CardLine, ExchangeFault, Heard, Host, LONGEST_ARRIVAL, Line, ServeFault, StreamLine, ask_ifs,
+    exchange, exchange_command, response_of, resume, serve,
 };
-use octet_core::Stop;
+use octet_core::{After, Counted, Feeder, Stop, Taker};
 use std::alloc::Global;
 use std::io::{self, ErrorKind};
 use std::test::Fail;
@@ -23,6 +23,9 @@ const DONE: [u8; 2] = [0x90, 0x00];
 const SELECT_BLOCK: [u8; 9] = [0x00, 0x00, 0x05, 0x00, 0xA4, 0x04, 0x00, 0x00, 0xA5];
 
 const DONE_BLOCK: [u8; 6] = [0x00, 0x00, 0x02, 0x90, 0x00, 0x92];
+
+/// The same block, and the front of another.
+const DONE_AND_MORE: [u8; 8] = [0x00, 0x00, 0x02, 0x90, 0x00, 0x92, 0x00, 0x40];
 
 const ONE_OCTET: [u8; 5] = [0x00, 0x00, 0x01, 0x90, 0x91];
 
@@ -166,6 +169,46 @@ fn a_command_and_its_response(rt: HostRuntime) -> Result<(), Fail> {
     assert!(rt; response_of(&t).is_none());
     assert!(rt; exchange_command(&mut t, &mut wire, &command, &mut buffer, 1).is_ok());
     assert!(rt; is_done(response_of(&t)));
+    Ok(())
+}
+
+/// The block is written, and what comes is read up to its end.
+#[test]
+fn an_exchange_over_a_reader_and_a_writer(rt: HostRuntime) -> Result<(), Fail> {
+    let mut t = terminal(rt.alloc())?;
+    let source = Counted::new(Feeder::new(&DONE_AND_MORE, 2, After::End));
+    let sink = Counted::new(Taker::new(64, 4, After::End));
+    let mut line = StreamLine::new(source, sink);
+    assert!(rt; is_answer(exchange(&mut t, &mut line, &SELECT, 1), &DONE));
+    let (source, sink) = line.into_parts();
+    assert!(rt; source.into_inner().given() == 6);
+    assert!(rt; sink.into_inner().kept() == SELECT_BLOCK.as_slice());
+    Ok(())
+}
+
+/// A block that breaks off is handed over so far, and then the reader's end is the line's failure.
+#[test]
+fn a_reader_that_ends_in_a_block(rt: HostRuntime) -> Result<(), Fail> {
+    let source = Counted::new(Feeder::new(&DONE_BLOCK[..4], 9, After::End));
+    let sink = Counted::new(Taker::new(64, 64, After::End));
+    let mut line = StreamLine::new(source, sink);
+    let mut room = [0; LONGEST_ARRIVAL];
+    assert!(rt; matches!(line.talk(&SELECT_BLOCK, 1, &mut room), Ok(Heard::Octets(4))));
+    assert!(rt; room[..4] == DONE_BLOCK[..4]);
+    assert!(rt; line.talk(&SELECT_BLOCK, 1, &mut room).is_err());
+    Ok(())
+}
+
+#[test]
+fn a_writer_that_fails(rt: HostRuntime) -> Result<(), Fail> {
+    let source = Counted::new(Feeder::new(&DONE_BLOCK, 9, After::End));
+    let sink = Counted::new(Taker::new(8, 64, After::Fails));
+    let mut line = StreamLine::new(source, sink);
+    let mut room = [0; LONGEST_ARRIVAL];
+    assert!(rt; line.talk(&SELECT_BLOCK, 1, &mut room).is_err());
+    let (source, sink) = line.into_parts();
+    assert!(rt; source.into_inner().given() == 0);
+    assert!(rt; sink.into_inner().kept().len() == 8);
     Ok(())
 }
 

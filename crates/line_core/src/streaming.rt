@@ -1,0 +1,110 @@
+//! A line whose octets go to a writer and come from a reader.
+
+ghost use Rattle.std.specs.Prelude.{◌≡◌, ◌≤◌, ◌<◌, ◌+◌, ℕ, List, length, take, slice_index, IfOk};
+ghost use Rattle.std.specs.Io.KnownBytes.{Consumes};
+ghost use Rattle.line_core.specs.Line.{FitsRoom, arrival_of};
+ghost use Rattle.line_core.specs.Streams.{Wire, HasCarried, IsFramed, MovesOn, came_of, source_of, sink_of};
+
+use crate::line::{Heard, Line};
+use octet_core::{Sink, Source, write_octets};
+use std::io::{self, ErrorKind};
+
+/// A line over a reader and a writer, as those of a serial port.
+///
+/// A block is written whole. What comes after it is read up to its end, which its third octet tells: the
+/// reader is asked for NAD, PCB and LEN, and then for LEN + 1 octets, so what follows the block stays unread.
+/// How long a block is waited for is the reader's affair: where a call fails with `TimedOut` or `WouldBlock`
+/// before the first octet, nothing came. A block of which only the first octets came before the reader ended
+/// or failed is handed over so far. `Err` comes where the writer failed, as `WriteZero`, and where the reader
+/// failed otherwise, or ended, as `UnexpectedEof`, before the first octet. No failed call is tried again.
+#[derive(Debug, Drop)]
+pub struct StreamLine<R, W> {
+    source: R,
+    sink: W,
+}
+
+impl<R, W> StreamLine<R, W> {
+    /// The line over these two.
+    pub fn new(source: R, sink: W) -> Self
+        ensures source { source_of result ≡ source }
+        ensures sink { sink_of result ≡ sink }
+    {
+        StreamLine { source, sink }
+    }
+
+    /// The reader and the writer back.
+    pub fn into_parts(self) -> (R, W)
+        ensures { result ≡ (source_of self, sink_of self) }
+    {
+        (self.source, self.sink)
+    }
+}
+
+impl<R: Source, W: Sink> Line for StreamLine<R, W> {
+    ghost said = { λ line talks. (first : Wire) × HasCarried first talks (record { left = R.remaining (source_of line); written = W.contents (sink_of line) }) };
+
+    fn talk(&mut self, block: &[u8], _waiting: u8, room: &mut [u8]) -> io::Result<Heard> {
+        match write_octets(&mut self.sink, block) {
+            Ok(()) => read_block(&mut self.source, room),
+            Err(_) => Err(ErrorKind::WriteZero.into()),
+        }
+    }
+}
+
+/// Reads a block to the front of the buffer.
+fn read_block<R: Source>(source: &mut R, room: &mut [u8]) -> io::Result<Heard>
+    requires { 259 ≤ length room.old }
+    ensures fits { IfOk result (λ heard. FitsRoom heard room.new) }
+    ensures came { Consumes (R.remaining source.old) (R.remaining source.new) (came_of (arrival_of result room.new)) }
+    ensures framed { IsFramed (came_of (arrival_of result room.new)) }
+{
+    let mut count = 0;
+    while count < end_of(&room[..count]) {
+        match read_more(source, room, count) {
+            Ok(0) => return broken_off(count, ErrorKind::UnexpectedEof.into()),
+            Ok(more) => count += more,
+            Err(fault) => return broken_off(count, fault),
+        }
+    }
+    Ok(Heard::Octets(count))
+}
+
+/// Reads octets of the block by one call, after those at the front of the buffer.
+fn read_more<R: Source>(source: &mut R, room: &mut [u8], count: usize) -> io::Result<usize>
+    requires room { 259 ≤ length room.old }
+    requires count { count ≤ 259 }
+    requires framed { IsFramed (take count room.old) }
+    ensures long { length room.new ≡ length room.old }
+    ensures most { IfOk result (λ more. count + more ≤ 259) }
+    ensures moved { MovesOn (R.remaining source.old) (R.remaining source.new) room.old room.new count result }
+    ensures framed { IfOk result (λ more. IsFramed (take (count + more) room.new)) }
+{
+    let end = end_of(&room[..count]);
+    source.read(&mut room[count..end])
+}
+
+/// What is heard of a block of which no more octets come.
+fn broken_off(count: usize, fault: io::Error) -> io::Result<Heard>
+    ensures fits { (room : List ℕ) → count ≤ length room → IfOk result (λ heard. FitsRoom heard room) }
+    ensures came { (room : List ℕ) → came_of (arrival_of result room) ≡ take count room }
+{
+    if count > 0 {
+        return Ok(Heard::Octets(count));
+    }
+    match fault.kind() {
+        ErrorKind::TimedOut | ErrorKind::WouldBlock => Ok(Heard::Nothing),
+        _ => Err(fault),
+    }
+}
+
+/// Where the block ends that begins with these octets, as far as they tell: 3 for less than 3 of them.
+fn end_of(octets: &[u8]) -> usize
+    ensures head { length octets.now < 3 → result ≡ 3 }
+    ensures rest { 3 ≤ length octets.now → result ≡ slice_index octets.now 2 + 4 }
+    ensures most { result ≤ 259 }
+{
+    match octets {
+        [_, _, len, ..] => *len as usize + 4,
+        _ => 3,
+    }
+}
