@@ -1,5 +1,7 @@
 //! Exchanges between both ends of T=1 in memory, whose blocks are put into two buffers.
 
+ghost use Rattle.std.specs.Prelude.{◌≤◌, length, IfSome};
+
 use crate::session::{COMMAND, RESPONSE, ends};
 use crate::work::Work;
 use block_core::LONGEST_BLOCK;
@@ -62,12 +64,10 @@ fn exchange(
 }
 
 /// How many octets the card sends for a block, where its host replies at once.
-fn served(
-    card: &mut Card,
-    octets: &[u8],
-    reply: &[u8],
-    out: &mut [u8; LONGEST_BLOCK],
-) -> Option<usize> {
+pub(crate) fn served(card: &mut Card, octets: &[u8], reply: &[u8], out: &mut [u8]) -> Option<usize>
+    requires { 258 ≤ length out.old }
+    ensures { IfSome result (λ count. count ≤ 258) }
+{
     let put = match card.received_into(octets, out) {
         Ok(CardPut::Asked) => card.reply_into(reply, out),
         put => put,

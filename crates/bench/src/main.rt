@@ -11,6 +11,7 @@ mod buffers;
 mod chains;
 mod exchanges;
 mod forests;
+mod lines;
 mod session;
 mod work;
 
@@ -25,6 +26,8 @@ fn main(rt: HostRuntime) -> io::Result<()> {
     forests::judge_each(&rt, timed)?;
     session::exchange_each(&rt, timed)?;
     buffers::exchange_each(&rt, timed)?;
+    lines::exchange_each(&rt, timed)?;
+    lines::serve_each(&rt, timed)?;
     session::record_each(&rt, timed)?;
     exchanges::replay_each(&rt, timed)
 }
