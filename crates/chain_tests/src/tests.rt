@@ -1,10 +1,12 @@
 //! Chains from the standard's rules, and calls that no clause pins.
 
 mod faults;
+mod plain;
 
 use block_core::{Number, encode};
-use chain_core::{ChainReason, ReadRefusal, Receiver, block_at, cut, read_chain, write_chain};
+use chain_core::{ChainReason, ReadRefusal, Receiver, block_at, cut};
 use octet_core::{After, Counted, Feeder, Source, Stop, Taker, WriteFault};
+use plain::{feed, has, read, write};
 use std::test::Fail;
 use testing::same;
 
@@ -62,7 +64,7 @@ fn block_at_a_place(rt: HostRuntime) {
 #[test]
 fn written_whole(rt: HostRuntime) {
     let mut writer = Counted::new(Taker::new(4096, 7, After::Fails));
-    assert!(rt; same(write_chain(&mut writer, &SELECT, 2, Number::Zero), Ok(())));
+    assert!(rt; same(write(&mut writer), Ok(())));
     assert!(rt; writer.into_inner().kept() == CHAIN.as_slice());
 }
 
@@ -73,12 +75,7 @@ fn written_to_a_writer_that_fails(rt: HostRuntime) {
         for step in [1, 4096] {
             for written in 0..CHAIN.len() {
                 let mut writer = Counted::new(Taker::new(written, step, after));
-                assert!(rt;
-                    same(
-                        write_chain(&mut writer, &SELECT, 2, Number::Zero),
-                        Err(WriteFault { written })
-                    )
-                );
+                assert!(rt; same(write(&mut writer), Err(WriteFault { written })));
                 assert!(rt; writer.into_inner().kept() == &CHAIN[..written]);
             }
         }
@@ -94,20 +91,21 @@ fn received_in_two_pieces(rt: HostRuntime) -> Result<(), Fail> {
     let mut receiver = Receiver::new(rt.alloc(), 2, Number::Zero, 5)?;
     for cut in 0..CHAIN.len() + 1 {
         let (front, back) = CHAIN.split_at(cut);
-        assert!(rt; same(receiver.feed(front), Ok((front.len(), cut == CHAIN.len()))));
+        assert!(rt;
+            same(
+                feed(&mut receiver, front),
+                Ok((front.len(), cut == CHAIN.len()))
+            )
+        );
         if cut < CHAIN.len() {
             assert!(rt; receiver.message().is_none());
             assert!(rt; same(receiver.finish(), Err(Stop::Short { place: cut })));
         }
-        assert!(rt; same(receiver.feed(back), Ok((back.len(), true))));
-        assert!(rt; same(receiver.feed(&[0xFF]), Ok((0, true))));
+        assert!(rt; same(feed(&mut receiver, back), Ok((back.len(), true))));
+        assert!(rt; same(feed(&mut receiver, &[0xFF]), Ok((0, true))));
         assert!(rt; same(receiver.finish(), Ok(())));
         assert!(rt; same(receiver.blocks(), 3));
-        assert!(rt;
-            receiver
-                .message()
-                .is_some_and(|message| message == SELECT.as_slice())
-        );
+        assert!(rt; has(&receiver, &SELECT));
         receiver.restart(Number::Zero);
     }
     Ok(())
@@ -120,7 +118,7 @@ fn is_received(receiver: &mut Receiver, cuts: u32) -> bool {
     for place in 0..16usize {
         if (cuts >> place) & 1 == 1 {
             match CHAIN.get(from..place + 1) {
-                Some(piece) if receiver.feed(piece) == Ok((piece.len(), false)) => {}
+                Some(piece) if feed(receiver, piece) == Ok((piece.len(), false)) => {}
                 _ => return false,
             }
             from = place + 1;
@@ -130,9 +128,9 @@ fn is_received(receiver: &mut Receiver, cuts: u32) -> bool {
         return false;
     };
     let taken = piece.len().saturating_sub(1);
-    receiver.feed(piece) == Ok((taken, true))
-        && receiver.feed(&[0xFF]) == Ok((0, true))
-        && receiver.message() == Some(SELECT.as_slice())
+    feed(receiver, piece) == Ok((taken, true))
+        && feed(receiver, &[0xFF]) == Ok((0, true))
+        && has(receiver, &SELECT)
 }
 
 #[test]
@@ -160,9 +158,9 @@ fn refused_chains(rt: HostRuntime) -> Result<(), Fail> {
         ([0x00, 0x60, 0x03], at(8, ChainReason::OverIfs)),
         ([0x00, 0x60, 0xFF], at(8, ChainReason::BadLen)),
     ] {
-        assert!(rt; same(receiver.feed(front), Ok((6, false))));
-        assert!(rt; same(receiver.feed(&block), refusal));
-        assert!(rt; same(receiver.feed(&CHAIN), refusal));
+        assert!(rt; same(feed(&mut receiver, front), Ok((6, false))));
+        assert!(rt; same(feed(&mut receiver, &block), refusal));
+        assert!(rt; same(feed(&mut receiver, &CHAIN), refusal));
         assert!(rt; same(receiver.blocks(), 1));
         assert!(rt; receiver.message().is_none());
         receiver.restart(Number::Zero);
@@ -171,13 +169,13 @@ fn refused_chains(rt: HostRuntime) -> Result<(), Fail> {
         place: 14,
         reason: ChainReason::TooLong,
     };
-    assert!(rt; same(receiver.feed(&CHAIN), Err(too_long)));
+    assert!(rt; same(feed(&mut receiver, &CHAIN), Err(too_long)));
     assert!(rt; same(receiver.finish(), Err(too_long)));
     assert!(rt; same(receiver.blocks(), 2));
     receiver.restart(Number::One);
     assert!(rt;
         same(
-            receiver.feed(&[0x00, 0x40, 0x00, 0x41]),
+            feed(&mut receiver, &[0x00, 0x40, 0x00, 0x41]),
             at(3, ChainReason::BadLrc)
         )
     );
@@ -190,28 +188,49 @@ fn most_blocks(rt: HostRuntime) -> Result<(), Fail> {
     for _ in 0..65_535 {
         assert!(rt;
             same(
-                receiver.feed(&[0x00, 0x20, 0x00, 0x20, 0x00, 0x60, 0x00, 0x60]),
+                feed(
+                    &mut receiver,
+                    &[0x00, 0x20, 0x00, 0x20, 0x00, 0x60, 0x00, 0x60]
+                ),
                 Ok((8, false))
             )
         );
     }
-    assert!(rt; same(receiver.feed(&[0x00, 0x20, 0x00, 0x20]), Ok((4, false))));
-    assert!(rt; same(receiver.feed(&[0x00, 0x40, 0x00, 0x40]), Ok((4, true))));
+    assert!(rt;
+        same(
+            feed(&mut receiver, &[0x00, 0x20, 0x00, 0x20]),
+            Ok((4, false))
+        )
+    );
+    assert!(rt;
+        same(
+            feed(&mut receiver, &[0x00, 0x40, 0x00, 0x40]),
+            Ok((4, true))
+        )
+    );
     assert!(rt; same(receiver.blocks(), 131_072));
-    assert!(rt; receiver.message().is_some_and(|message| message.is_empty()));
+    assert!(rt; has(&receiver, &[]));
     receiver.restart(Number::Zero);
     for _ in 0..65_535 {
         assert!(rt;
             same(
-                receiver.feed(&[0x00, 0x20, 0x00, 0x20, 0x00, 0x60, 0x00, 0x60]),
+                feed(
+                    &mut receiver,
+                    &[0x00, 0x20, 0x00, 0x20, 0x00, 0x60, 0x00, 0x60]
+                ),
                 Ok((8, false))
             )
         );
     }
-    assert!(rt; same(receiver.feed(&[0x00, 0x20, 0x00, 0x20]), Ok((4, false))));
     assert!(rt;
         same(
-            receiver.feed(&[0x00, 0x60]),
+            feed(&mut receiver, &[0x00, 0x20, 0x00, 0x20]),
+            Ok((4, false))
+        )
+    );
+    assert!(rt;
+        same(
+            feed(&mut receiver, &[0x00, 0x60]),
             at(524_285, ChainReason::TooManyBlocks)
         )
     );
@@ -257,17 +276,13 @@ fn read_on_behind_a_failure(rt: HostRuntime) -> Result<(), Fail> {
     let mut reader = Counted::new(Feeder::new(&CHAIN[..7], 4096, After::Fails));
     assert!(rt;
         same(
-            read_chain(&mut reader, &mut receiver),
+            read(&mut reader, &mut receiver),
             Err(ReadRefusal::Read { taken: 7 })
         )
     );
     let mut reader = Counted::new(Feeder::new(&REST, 4096, After::End));
-    assert!(rt; same(read_chain(&mut reader, &mut receiver), Ok(())));
-    assert!(rt;
-        receiver
-            .message()
-            .is_some_and(|message| message == SELECT.as_slice())
-    );
+    assert!(rt; same(read(&mut reader, &mut receiver), Ok(())));
+    assert!(rt; has(&receiver, &SELECT));
     let mut next = [0, 0];
     assert!(rt; same(reader.read(&mut next)?, 1));
     assert!(rt; same(next[0], 0xFF));
@@ -285,12 +300,12 @@ fn read_from_a_source_that_fails(rt: HostRuntime) -> Result<(), Fail> {
                 let mut reader = Counted::new(Feeder::new(&CHAIN[..taken], step, after));
                 assert!(rt;
                     same(
-                        read_chain(&mut reader, &mut receiver),
+                        read(&mut reader, &mut receiver),
                         Err(ReadRefusal::Read { taken })
                     )
                 );
                 let mut reader = Counted::new(Feeder::new(&CHAIN[taken..], step, after));
-                assert!(rt; same(read_chain(&mut reader, &mut receiver), Ok(())));
+                assert!(rt; same(read(&mut reader, &mut receiver), Ok(())));
                 assert!(rt; same(receiver.blocks(), 3));
             }
         }
@@ -305,10 +320,10 @@ fn read_from_a_source_that_ends(rt: HostRuntime) -> Result<(), Fail> {
         for place in 0..CHAIN.len() {
             receiver.restart(Number::Zero);
             let mut reader = Counted::new(Feeder::new(&CHAIN[..place], step, After::End));
-            assert!(rt; same(read_chain(&mut reader, &mut receiver), short(place)));
-            assert!(rt; same(read_chain(&mut reader, &mut receiver), short(place)));
+            assert!(rt; same(read(&mut reader, &mut receiver), short(place)));
+            assert!(rt; same(read(&mut reader, &mut receiver), short(place)));
             let mut reader = Counted::new(Feeder::new(&CHAIN[place..], step, After::End));
-            assert!(rt; same(read_chain(&mut reader, &mut receiver), Ok(())));
+            assert!(rt; same(read(&mut reader, &mut receiver), Ok(())));
         }
     }
     Ok(())
@@ -319,10 +334,10 @@ fn read_up_to_the_refused_block(rt: HostRuntime) -> Result<(), Fail> {
     let mut receiver = Receiver::new(rt.alloc(), 2, Number::Zero, 4)?;
     let mut reader = Counted::new(Feeder::new(&CHAIN, 4096, After::End));
     let refusal = stop(14, ChainReason::TooLong);
-    assert!(rt; same(read_chain(&mut reader, &mut receiver), refusal));
+    assert!(rt; same(read(&mut reader, &mut receiver), refusal));
     assert!(rt; same(reader.into_inner().given(), 15));
     let mut reader = Counted::new(Feeder::new(&CHAIN, 4096, After::End));
-    assert!(rt; same(read_chain(&mut reader, &mut receiver), refusal));
+    assert!(rt; same(read(&mut reader, &mut receiver), refusal));
     assert!(rt; same(reader.into_inner().given(), 0));
     for (octets, refusal, given) in [
         (
@@ -353,7 +368,7 @@ fn read_up_to_the_refused_block(rt: HostRuntime) -> Result<(), Fail> {
     ] {
         receiver.restart(Number::Zero);
         let mut reader = Counted::new(Feeder::new(&octets, 4096, After::End));
-        assert!(rt; same(read_chain(&mut reader, &mut receiver), refusal));
+        assert!(rt; same(read(&mut reader, &mut receiver), refusal));
         assert!(rt; same(reader.into_inner().given(), given));
     }
     Ok(())
@@ -362,15 +377,11 @@ fn read_up_to_the_refused_block(rt: HostRuntime) -> Result<(), Fail> {
 #[test]
 fn read_nothing_where_it_is_done(rt: HostRuntime) -> Result<(), Fail> {
     let mut receiver = Receiver::new(rt.alloc(), 2, Number::Zero, 5)?;
-    assert!(rt; same(receiver.feed(&CHAIN), Ok((17, true))));
+    assert!(rt; same(feed(&mut receiver, &CHAIN), Ok((17, true))));
     let mut reader = Counted::new(Feeder::new(&CHAIN, 4096, After::Fails));
-    assert!(rt; same(read_chain(&mut reader, &mut receiver), Ok(())));
+    assert!(rt; same(read(&mut reader, &mut receiver), Ok(())));
     assert!(rt; same(reader.into_inner().given(), 0));
-    assert!(rt;
-        receiver
-            .message()
-            .is_some_and(|message| message == SELECT.as_slice())
-    );
+    assert!(rt; has(&receiver, &SELECT));
     Ok(())
 }
 
@@ -381,7 +392,7 @@ fn read_from_a_source_without_an_end(rt: HostRuntime) -> Result<(), Fail> {
     let mut reader = Counted::new(Feeder::new(&blocks, 4096, After::Repeats));
     assert!(rt;
         same(
-            read_chain(&mut reader, &mut receiver),
+            read(&mut reader, &mut receiver),
             stop(524_285, ChainReason::TooManyBlocks)
         )
     );

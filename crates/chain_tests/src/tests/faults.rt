@@ -1,9 +1,10 @@
 //! Readers and writers of which one call fails: what the calls that stand on them answer then, and at the
 //! next call.
 
+use super::plain::{has, read, write};
 use super::{CHAIN, SELECT};
 use block_core::Number;
-use chain_core::{ReadRefusal, Receiver, read_chain, write_chain};
+use chain_core::{ReadRefusal, Receiver};
 use octet_core::{After, Counted, FailsOnce, Feeder, Taker, WriteFault};
 use std::test::Fail;
 use testing::same;
@@ -19,9 +20,9 @@ fn one_failed_read_is_answered(rt: HostRuntime) -> Result<(), Fail> {
             let feeder = Feeder::new(&CHAIN, 4096, After::End);
             let mut reader = Counted::new(FailsOnce::new(feeder, taken, fault));
             let failed = Err(ReadRefusal::Read { taken });
-            assert!(rt; same(read_chain(&mut reader, &mut receiver), failed));
-            assert!(rt; same(read_chain(&mut reader, &mut receiver), Ok(())));
-            assert!(rt; same(receiver.message(), Some(SELECT.as_slice())));
+            assert!(rt; same(read(&mut reader, &mut receiver), failed));
+            assert!(rt; same(read(&mut reader, &mut receiver), Ok(())));
+            assert!(rt; has(&receiver, &SELECT));
         }
     }
     Ok(())
@@ -36,7 +37,7 @@ fn nothing_is_written_after_a_failed_write(rt: HostRuntime) {
             let taker = Taker::new(4096, 4, After::End);
             let mut writer = Counted::new(FailsOnce::new(taker, written, fault));
             let failed = Err(WriteFault { written });
-            assert!(rt; same(write_chain(&mut writer, &SELECT, 2, Number::Zero), failed));
+            assert!(rt; same(write(&mut writer), failed));
             let taker = writer.into_inner().into_inner();
             assert!(rt; taker.kept() == &CHAIN[..written]);
         }

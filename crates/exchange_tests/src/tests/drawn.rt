@@ -2,7 +2,7 @@
 
 ghost use Rattle.std.specs.Prelude.{◌<◌};
 
-use super::recording::{ATR, WAYS, assert_replays};
+use super::recording::{ATR, assert_replays, happens, new_recorder};
 use exchange_core::{Event, Exchange, LastTurn, Line, Recorder};
 use octet_core::Octets;
 use rand_core::utils::NextWord;
@@ -46,10 +46,11 @@ fn message(alloc: Global, generator: &mut Pcg32) -> Result<Vec<u8>, Fail> {
 
 /// What happens to a block: one in four is disturbed.
 fn fate(generator: &mut Pcg32) -> Event<'static> {
-    if below(generator, 4) == 0 {
-        WAYS[below(generator, 3) as usize]
-    } else {
-        Event::Deliver
+    match below(generator, 12) {
+        0 => Event::Lose,
+        1 => Event::Damage,
+        2 => Event::Spoil,
+        _ => Event::Deliver,
     }
 }
 
@@ -61,11 +62,7 @@ fn host_calls(alloc: Global, generator: &mut Pcg32, recorder: &mut Recorder) -> 
         1 => Event::AskIfsc(size(generator)),
         _ => Event::Reply(reply.as_slice()),
     };
-    Ok(
-        recorder
-            .happens(event)
-            .map_err(|_| "a call of the host was refused")?,
-    )
+    happens(recorder, event)
 }
 
 /// The application calls.
@@ -79,23 +76,17 @@ fn application_calls(
         0 => Event::AskIfsd(size(generator)),
         _ => Event::Transmit(command.as_slice()),
     };
-    Ok(
-        recorder
-            .happens(event)
-            .map_err(|_| "a call of the application was refused")?,
-    )
+    happens(recorder, event)
 }
 
 /// The record of a session.
 fn record(alloc: Global, generator: &mut Pcg32) -> Result<Exchange, Fail> {
-    let mut recorder = Recorder::new(alloc, &ATR).map_err(|_| "no recorder")?;
+    let mut recorder = new_recorder(alloc, &ATR)?;
     let mut exchanges = 1 + below(generator, MOST_EXCHANGES);
     for _ in 0..MOST_EVENTS {
         if recorder.under_way().is_some() {
             let event = fate(generator);
-            recorder
-                .happens(event)
-                .map_err(|_| "an event of the line was refused")?;
+            happens(&mut recorder, event)?;
         } else if *recorder.last() == LastTurn::Card(CardTurn::Asked) {
             host_calls(alloc, generator, &mut recorder)?;
         } else if exchanges == 0 || *recorder.last() == LastTurn::Terminal(TerminalTurn::Dead) {

@@ -24,6 +24,10 @@ pub(super) const DONE: [u8; 2] = [0x90, 0x00];
 
 const DATA: [u8; 4] = [0xAA, 0xBB, 0x90, 0x00];
 
+/// What is recorded of a command that no end took.
+const UNFINISHED: &str = "command 00A4040000
+t 00000500A4040000A5 lost";
+
 /// A command of one block and an answer of one block.
 const PLAIN: [&str; 2] = ["00000500A4040000A5", "000002900092"];
 
@@ -98,13 +102,34 @@ fn fate<'a>(disturbances: &mut [Disturbance<'a>], number: u32, octets: &[u8]) ->
     Event::Deliver
 }
 
+/// A recorder for a card with this answer to reset.
+pub(super) fn new_recorder(alloc: Global, atr: &[u8]) -> Result<Recorder, Fail> {
+    match Recorder::new(alloc, atr) {
+        Ok(recorder) => Ok(recorder),
+        Err(_) => Err("no recorder")?,
+    }
+}
+
+/// An event that must not be refused happens.
+pub(super) fn happens(recorder: &mut Recorder, event: Event<'_>) -> Result<(), Fail> {
+    match recorder.happens(event) {
+        Ok(()) => Ok(()),
+        Err(_) => Err("an event was refused")?,
+    }
+}
+
+/// The record of what happened.
+fn record_of(recorder: Recorder) -> Result<Exchange, Fail> {
+    Ok(recorder.exchange()?)
+}
+
 /// The record of a session: it ends where the application or the host has no more calls.
 pub(super) fn record(
     alloc: Global,
     session: Session<'_>,
     disturbances: &mut [Disturbance<'_>],
 ) -> Result<Exchange, Fail> {
-    let mut recorder = Recorder::new(alloc, session.atr).map_err(|_| "no recorder")?;
+    let mut recorder = new_recorder(alloc, session.atr)?;
     let mut application = session.application;
     let mut host = session.host;
     let mut number = 0u32;
@@ -123,9 +148,9 @@ pub(super) fn record(
             application = rest;
             *call
         };
-        recorder.happens(event).map_err(|_| "an event was refused")?;
+        happens(&mut recorder, event)?;
     }
-    Ok(recorder.exchange()?)
+    record_of(recorder)
 }
 
 /// How often an I-block brought the host a command.
@@ -260,20 +285,33 @@ fn each_pair_of_blocks_of_short_sessions_disturbed(rt: HostRuntime) -> Result<()
     disturb_pairs(&rt, rt.alloc(), timed, &TIMED, &DONE)
 }
 
+/// The record of a session in which the blocks of these numbers are disturbed, each so.
+fn record_with(
+    alloc: Global,
+    session: Session<'_>,
+    rows: &[(u32, Event<'static>)],
+) -> Result<Exchange, Fail> {
+    let mut disturbances = Vec::new(alloc);
+    for (number, event) in rows {
+        disturbances.push(Disturbance::of(Which::Nth(*number), *event))?;
+    }
+    record(alloc, session, disturbances.as_mut_slice())
+}
+
 #[test]
-fn sessions_given_up(rt: HostRuntime) -> Result<(), Fail> {
+fn a_session_given_up_after_the_card_acted(rt: HostRuntime) -> Result<(), Fail> {
+    const LOSSES: [(u32, Event); 4] = [
+        (2, Event::Lose),
+        (4, Event::Lose),
+        (6, Event::Lose),
+        (8, Event::Lose),
+    ];
     let twice = Session {
         atr: &ATR,
         application: &[Event::Transmit(&SELECT), Event::Transmit(&SELECT)],
         host: &[Event::Reply(&DONE)],
     };
-    let mut losses = [
-        Disturbance::of(Which::Nth(2), Event::Lose),
-        Disturbance::of(Which::Nth(4), Event::Lose),
-        Disturbance::of(Which::Nth(6), Event::Lose),
-        Disturbance::of(Which::Nth(8), Event::Lose),
-    ];
-    let exchange = record(rt.alloc(), twice, &mut losses)?;
+    let exchange = record_with(rt.alloc(), twice, &LOSSES)?;
     assert_replays(&rt, rt.alloc(), &exchange);
     let expected = recorded(
         rt.alloc(),
@@ -282,52 +320,67 @@ fn sessions_given_up(rt: HostRuntime) -> Result<(), Fail> {
         &[ACTED_ON],
     )?;
     assert!(rt;
-        exchange.lines().get() == expected.lines().get(),
-        "{exchange:?}"
-    );
-
-    let once = Session {
-        atr: &ATR,
-        application: &[Event::Transmit(&SELECT)],
-        host: &[Event::Reply(&DONE)],
-    };
-    let mut three = [
-        Disturbance::of(Which::Nth(1), Event::Damage),
-        Disturbance::of(Which::Nth(3), Event::Lose),
-        Disturbance::of(Which::Nth(7), Event::Lose),
-    ];
-    let exchange = record(rt.alloc(), once, &mut three)?;
-    assert_replays(&rt, rt.alloc(), &exchange);
-    assert!(rt;
-        matches!(exchange.lines().get().last(), Some(Line::GivenUp)),
+        same(exchange.lines().get(), expected.lines().get()),
         "{exchange:?}"
     );
     Ok(())
 }
 
 #[test]
+fn a_session_given_up_after_three_disturbances(rt: HostRuntime) -> Result<(), Fail> {
+    const THREE: [(u32, Event); 3] = [(1, Event::Damage), (3, Event::Lose), (7, Event::Lose)];
+    let once = Session {
+        atr: &ATR,
+        application: &[Event::Transmit(&SELECT)],
+        host: &[Event::Reply(&DONE)],
+    };
+    let exchange = record_with(rt.alloc(), once, &THREE)?;
+    assert_replays(&rt, rt.alloc(), &exchange);
+    let is_given_up = matches!(exchange.lines().get().last(), Some(Line::GivenUp));
+    assert!(rt; is_given_up, "{exchange:?}");
+    Ok(())
+}
+
+/// What a recorder says to an event.
+fn said(recorder: &mut Recorder, event: Event<'_>) -> Result<(), EventFault> {
+    recorder.happens(event)
+}
+
+#[test]
 fn events_that_are_refused(rt: HostRuntime) -> Result<(), Fail> {
-    let mut recorder = Recorder::new(rt.alloc(), &ATR).map_err(|_| "no recorder")?;
     const ROWS: [Event; 4] = [Event::Deliver, Event::Damage, Event::Spoil, Event::Lose];
+    let mut recorder = new_recorder(rt.alloc(), &ATR)?;
     for event in ROWS {
-        assert!(rt; same(recorder.happens(event), Err(EventFault::NothingUnderWay)));
+        let refused = said(&mut recorder, event);
+        assert!(rt; same(refused, Err(EventFault::NothingUnderWay)));
     }
-    let early = recorder.happens(Event::Reply(&DONE));
+    let early = said(&mut recorder, Event::Reply(&DONE));
     assert!(rt; same(early, Err(EventFault::Card(CardFault::Order))));
-    assert!(rt; same(recorder.happens(Event::Transmit(&SELECT)), Ok(())));
-    let again = recorder.happens(Event::Transmit(&SELECT));
+    assert!(rt; same(said(&mut recorder, Event::Transmit(&SELECT)), Ok(())));
+    let again = said(&mut recorder, Event::Transmit(&SELECT));
     assert!(rt; same(again, Err(EventFault::Terminal(TerminalFault::Busy))));
     assert!(rt; recorder.terminal().answer().is_none());
     assert!(rt; recorder.card().command().is_none());
-    // the block under way at the end counts as lost
-    let exchange = recorder.exchange()?;
-    let texts = ["command 00A4040000", "t 00000500A4040000A5 lost"];
-    let expected = recorded(rt.alloc(), "scard-exchange 1", "3B808131204555", &texts)?;
+    Ok(())
+}
+
+// The block under way at the end counts as lost.
+#[test]
+fn a_record_that_ends_within_an_exchange(rt: HostRuntime) -> Result<(), Fail> {
+    let mut recorder = new_recorder(rt.alloc(), &ATR)?;
+    happens(&mut recorder, Event::Transmit(&SELECT))?;
+    let cut_short = record_of(recorder)?;
+    let expected = recorded(
+        rt.alloc(),
+        "scard-exchange 1",
+        "3B808131204555",
+        &[UNFINISHED],
+    )?;
     assert!(rt;
-        exchange.lines().get() == expected.lines().get(),
-        "{exchange:?}"
+        same(cut_short.lines().get(), expected.lines().get()),
+        "{cut_short:?}"
     );
-    assert_replays(&rt, rt.alloc(), &exchange);
+    assert_replays(&rt, rt.alloc(), &cut_short);
     Ok(())
 }
 

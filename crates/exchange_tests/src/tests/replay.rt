@@ -57,7 +57,7 @@ fn assert_replays(
 
 #[test]
 fn sessions_agree_at_both_ends(rt: HostRuntime) -> Result<(), Fail> {
-    let sessions = [
+    const SESSIONS: [[&str; 2]; 6] = [
         [DAMAGED_AND_LOST, ""],
         [FOUR_LOST, ALL_LOST],
         [FOUR_LOST, BEGUN_ANEW],
@@ -65,7 +65,7 @@ fn sessions_agree_at_both_ends(rt: HostRuntime) -> Result<(), Fail> {
         [SIZE_AND_CHAIN, ""],
         [ACTED_ON, ""],
     ];
-    for session in &sessions {
+    for session in &SESSIONS {
         for side in [Side::Terminal, Side::Card] {
             assert_replays(&rt, rt.alloc(), session, side, None)?;
         }
@@ -75,7 +75,7 @@ fn sessions_agree_at_both_ends(rt: HostRuntime) -> Result<(), Fail> {
 
 #[test]
 fn the_terminal_differs(rt: HostRuntime) -> Result<(), Fail> {
-    let rows: [(&[&str], (usize, &str)); 21] = [
+    const ROWS: [(&[&str], (usize, &str)); 21] = [
         (
             &[FOUR_LOST, ALL_LOST, "command 00A4040000"],
             (19, "refused Dead"),
@@ -122,7 +122,7 @@ fn the_terminal_differs(rt: HostRuntime) -> Result<(), Fail> {
             (18, "dead"),
         ),
     ];
-    for (texts, difference) in &rows {
+    for (texts, difference) in &ROWS {
         assert_replays(&rt, rt.alloc(), texts, Side::Terminal, Some(*difference))?;
     }
     Ok(())
@@ -130,7 +130,7 @@ fn the_terminal_differs(rt: HostRuntime) -> Result<(), Fail> {
 
 #[test]
 fn the_card_differs(rt: HostRuntime) -> Result<(), Fail> {
-    let rows: [(&[&str], (usize, &str)); 13] = [
+    const ROWS: [(&[&str], (usize, &str)); 13] = [
         (&["reply 9000"], (3, "refused Order")),
         (&["time 01"], (3, "refused Order")),
         (&["ifsc 20"], (3, "refused Order")),
@@ -160,7 +160,7 @@ fn the_card_differs(rt: HostRuntime) -> Result<(), Fail> {
             (6, "c 000002900092"),
         ),
     ];
-    for (texts, difference) in &rows {
+    for (texts, difference) in &ROWS {
         assert_replays(&rt, rt.alloc(), texts, Side::Card, Some(*difference))?;
     }
     Ok(())
@@ -168,7 +168,7 @@ fn the_card_differs(rt: HostRuntime) -> Result<(), Fail> {
 
 #[test]
 fn what_passes_an_end(rt: HostRuntime) -> Result<(), Fail> {
-    let rows: [(&[&str], Side); 9] = [
+    const ROWS: [(&[&str], Side); 9] = [
         (&[], Side::Terminal),
         (&["c 00800080 lost"], Side::Terminal),
         (&[COMMAND, "c 00800080 lost", SENT], Side::Terminal),
@@ -212,7 +212,7 @@ fn what_passes_an_end(rt: HostRuntime) -> Result<(), Fail> {
             Side::Card,
         ),
     ];
-    for (texts, side) in &rows {
+    for (texts, side) in &ROWS {
         assert_replays(&rt, rt.alloc(), texts, *side, None)?;
     }
     Ok(())
