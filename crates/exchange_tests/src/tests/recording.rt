@@ -299,7 +299,7 @@ fn record_with(
 }
 
 #[test]
-fn a_session_given_up_after_the_card_acted(rt: HostRuntime) -> Result<(), Fail> {
+fn given_up_after_the_card_acted(rt: HostRuntime) -> Result<(), Fail> {
     const LOSSES: [(u32, Event); 4] = [
         (2, Event::Lose),
         (4, Event::Lose),
@@ -327,7 +327,7 @@ fn a_session_given_up_after_the_card_acted(rt: HostRuntime) -> Result<(), Fail> 
 }
 
 #[test]
-fn a_session_given_up_after_three_disturbances(rt: HostRuntime) -> Result<(), Fail> {
+fn given_up_after_three_disturbances(rt: HostRuntime) -> Result<(), Fail> {
     const THREE: [(u32, Event); 3] = [(1, Event::Damage), (3, Event::Lose), (7, Event::Lose)];
     let once = Session {
         atr: &ATR,
