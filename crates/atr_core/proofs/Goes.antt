@@ -180,10 +180,6 @@ pub protocols-mid : (xs : List Indicated) (n : Indicated) (ys : List Indicated) 
 protocols-mid [] n ys p q r = (q, r)
 protocols-mid (x ∷ xs) n ys p q r = (p.0, protocols-mid xs n ys p.1 q r)
 
-or-false : (a : Bool) → (a || false) ≡ a
-or-false false = refl
-or-false true = refl
-
 or-swap : (a b c : Bool) → (a || (b || c)) ≡ (b || (a || c))
 or-swap false b c = refl
 or-swap true false c = refl

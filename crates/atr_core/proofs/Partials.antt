@@ -85,20 +85,11 @@ byte-holds h g m x holds lt p =
 
 -- ---- the bytes of T0 or a TD have all come
 
-flags : (a b c : Bool) → ((a || b) || c) ≡ false → (a ≡ false) × (b ≡ false) × (c ≡ false)
-flags false false false e = (refl, refl, refl)
-flags false false true e = absurd (cc)
-flags false true c e = absurd (cc)
-flags true b c e = absurd (cc)
-
 all : (f : Interface) (a b c : Bool) → ((a || b) || c) ≡ false → filled f (record { ta = a; tb = b; tc = c; td = false }) ≡ f
 all f false false false e = refl
 all f false false true e = absurd (cc)
 all f false true c e = absurd (cc)
 all f true b c e = absurd (cc)
-
-pub none-awaited : (left : Announced) → awaits_byte left ≡ false → (left.ta ≡ false) × (left.tb ≡ false) × (left.tc ≡ false)
-none-awaited left e = flags left.ta left.tb left.tc e
 
 pub filled-all : (f : Interface) (l : Announced) → awaits_byte l ≡ false → filled f l ≡ f
 filled-all f l e = all f l.ta l.tb l.tc e

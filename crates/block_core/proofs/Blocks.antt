@@ -1,5 +1,5 @@
 -- What begins a block, and where nothing does.
-use Rattle.std.proofs.Common.{◌≡◌, ◌≢◌, ℕ, suc, ◌+◌, ◌-◌, ◌<◌, ◌≤◌, List, [], ◌∷◌, ◌++◌, length, take, drop, get_or, refl, sym, ap, subst, ◌∙◌, append_assoc, arith, inl, inr, ◌⊎◌, Option, Some, None, true, false, bit_xor, cond, eqb, IsTrue}
+use Rattle.std.proofs.Common.{◌≡◌, ◌≢◌, ℕ, suc, ◌+◌, ◌-◌, ◌<◌, ◌≤◌, List, [], ◌∷◌, ◌++◌, length, take, drop, get_or, refl, sym, ap, subst, ◌∙◌, append_assoc, arith, inl, inr, ◌⊎◌, Option, Some, None, true, false, bit_xor, cond, eqb}
 use Rattle.std.proofs.lemmas.List.{take_more, append-nil, length-append, length-take, get_or-take, get_or_append_left, get_or_past, length-replicate, get_or-replicate}
 use Rattle.std.proofs.Math.ListN.{replicate}
 use Rattle.std.proofs.Math.Seq.{get_or-append_right, take-length, take-append_seam}
@@ -17,7 +17,7 @@ use Rattle.block_core.specs.declared.pcb.Pcb.TheVariants.{Info, Ready, Request, 
 use Rattle.block_core.specs.declared.reason.BlockReason.{BlockReason}
 use Rattle.block_core.specs.declared.reason.BlockReason.TheVariants.{BadPcb, BadLen, OverIfs, BadIfs, BadLrc}
 use Rattle.octet_core.proofs.Begun.{begins-front, spelled-begins, none-stuck}
-use Rattle.octet_core.proofs.Lists.{nil_of, never, octets-take}
+use Rattle.octet_core.proofs.Lists.{nil_of, octets-take}
 
 -- ---- spellings
 
@@ -41,9 +41,6 @@ pub accepted-inf : (ifs : ℕ) (b : List ℕ) (v : Parts) (n : ℕ) → Accepts 
 accepted-inf ifs b v n a =
     let lt : 2 < n = omega (arith, accepted-len ifs b v n a) in
     sym (get_or-take n b 2 0 lt) ∙ ap (λ (x : List ℕ). get_or x 2 0) a.1.is
-
-pub none-short : (ifs : ℕ) (b : List ℕ) → length b < get_or b 2 0 + 4 → (v : Parts) (n : ℕ) → Accepts self_ended (IsBlock ifs) b v n → ⊥
-none-short ifs b lt v n a = omega (arith, accepted-len ifs b v n a, accepted-inf ifs b v n a, a.0)
 
 pub none-early : (ifs : ℕ) (b : List ℕ) (p : ℕ) → p < 4 → (Begins (IsBlock ifs) (take (p + 1) b) → ⊥) → (v : Parts) (n : ℕ) → Accepts self_ended (IsBlock ifs) b v n → ⊥
 none-early ifs b p lt stuck = none-stuck (IsBlock ifs) b p stuck (λ v n a. omega (arith, accepted-len ifs b v n a))
@@ -355,21 +352,8 @@ reason-lrc ifs n b p n-is le e fits bad =
 
 -- ---- what is accepted
 
-suits-most : (ifs : ℕ) (p : Pcb) (inf : List ℕ) → ifs ≤ 254 → Suits ifs p inf → Suits 254 p inf
-suits-most ifs (Info number more) inf le h = omega arith
-suits-most ifs (Ready number f) inf le h = h
-suits-most ifs (Request s) inf le h = h
-suits-most ifs (Response s) inf le h = h
-
 pub xor-zero : (a b : ℕ) → bit_xor a b ≡ 0 → b ≡ a
 xor-zero a b h = sym (xor_zero_l b) ∙ ap (λ (x : ℕ). bit_xor x b) (sym (xor_self a)) ∙ xor_assoc a a b ∙ ap (bit_xor a) h ∙ xor_zero_r a
-
-pub size-free : (p : Pcb) (x : ℕ) → x < 256 → (IsAboutIfs p × ((x ≡ 0) ⊎ (x ≡ 255)) → IsTrue false) → IsAboutIfs p → (1 ≤ x) × (x ≤ 254)
-size-free p x lt free about =
-    elim (cases_lt x 1) [
-      | inl h ↦ never (free (about, inl (omega arith)))
-      | inr h ↦ elim (cases_lt x 255) [ inl g ↦ (h, omega arith) | inr g ↦ never (free (about, inr (omega arith))) ]
-    ]
 
 -- the block of three octets, a field and its check sum
 pub found : (ifs n : ℕ) (p : Pcb) (b inf : List ℕ) → AreOctets b → n ≡ get_or b 2 0 + 4 → n ≤ length b → inf ≡ take (get_or b 2 0) (drop 3 b) → pcb_octet p ≡ get_or b 1 0 → FitsLen ifs p (get_or b 2 0)
@@ -395,9 +379,6 @@ found ifs n p (a ∷ c ∷ l ∷ rest) inf h n-is le inf-is e fits size sum =
     let first : get_or inf 0 0 ≡ get_or rest 0 0 = ap (λ (t : List ℕ). get_or t 0 0) inf-is ∙ get_or-take l rest 0 0 (omega arith) in
     rw first (size about)) in
     record { proper = record { nad = h 0; octets = octets; suits = suits }; is = is }
-
-pub proper-most : (ifs : ℕ) (v : Parts) → ifs ≤ 254 → IsProper ifs v → IsProper 254 v
-proper-most ifs v le h = record { nad = h.nad; octets = h.octets; suits = suits-most ifs v.pcb v.inf le h.suits }
 
 -- ---- one value
 

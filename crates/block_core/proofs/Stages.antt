@@ -4,7 +4,7 @@ use Rattle.std.proofs.lemmas.List.{length-append, get_or_append_left}
 use Rattle.std.proofs.Math.Seq.{take-length}
 use Rattle.octet_core.specs.Octets.{AreOctets, xor_of}
 use Rattle.block_core.specs.Block.{IsBlock, IsAboutIfs, IsLenFault, FitsLen, pcb_octet}
-use Rattle.block_core.specs.Stage.{IsAt, IsTested, IsHeaded, IsSized, IsRefused, tested_len, refusal_at}
+use Rattle.block_core.specs.Stage.{IsAt, IsHeaded, IsSized, IsRefused, tested_len, refusal_at}
 use Rattle.block_core.specs.Reading.{IsOpen}
 use Rattle.block_core.specs.declared.pcb.Pcb.{Pcb}
 use Rattle.block_core.specs.declared.reason.BlockReason.{BlockReason}
@@ -69,19 +69,6 @@ at-more ifs (Rest p end) b more at some lt = (
 at-more ifs (Done block) b more at some lt = absurd (omega arith)
 at-more ifs (Refused refusal) b more at some lt = absurd (omega arith)
 
--- as many as are wanted for it
-pub tested-more : (ifs : ℕ) (stage : Stage) (b more : List ℕ) → IsAt ifs stage b → 0 < length more → length b + length more ≡ tested_len stage → IsTested ifs stage (b ++ more)
-tested-more ifs Front b more at some e = omega (arith, length-append b more)
-tested-more ifs (Len p) b more at some e = (omega (arith, length-append b more), at.1 ∙ sym (get_or_append_left b more 0 1 (omega arith)))
-tested-more ifs (Size p) b more at some e = (omega (arith, length-append b more), headed-more ifs p b more (omega arith) at.1, at.2)
-tested-more ifs (Rest p end) b more at some e = (
-  omega (arith, length-append b more),
-  at.2 ∙ ap (λ (k : ℕ). 3 + k) (sym (get_or_append_left b more 0 2 (omega arith))),
-  headed-more ifs p b more at.0 at.3,
-  sized-more p b more at.4 at.5,
-)
-tested-more ifs (Done block) b more at some e = absurd (omega arith)
-tested-more ifs (Refused refusal) b more at some e = absurd (omega arith)
 
 -- a reader that is open waits for an octet
 pub open-wants : (ifs : ℕ) (stage : Stage) (b : List ℕ) → IsAt ifs stage b → IsOpen (record { ifs = ifs; taken = b; refusal = refusal_at stage }) → length b < tested_len stage

@@ -12,7 +12,7 @@ use Rattle.block_core.specs.declared.pcb.Number.{Number}
 use Rattle.block_core.specs.declared.pcb.Pcb.TheVariants.{Info}
 use Rattle.block_core.specs.declared.reason.BlockReason.{BlockReason}
 use Rattle.block_core.specs.Block as block
-use Rattle.block_core.specs.Block.{Parts, IsBlock, pcb_octet, other, IsInfo}
+use Rattle.block_core.specs.Block.{IsBlock, other, IsInfo}
 use Rattle.block_core.specs.Reading as reading
 use Rattle.block_core.specs.Reading.{Reading}
 use Rattle.block_core.proofs.Blocks.{pcb-back, spelling-len, begun-lt2, begun-two, begun-all}
@@ -85,9 +85,6 @@ block-behind number last ifs max room blocks joined (parts.Len more) next c x oc
 block-behind number last ifs max room blocks joined (parts.Rest more len) next c x octets at h = absurd h
 
 -- ---- octets that are refused
-
-late-than : {A : Type 0} (c : List ℕ) (n m : ℕ) → length c ≡ n → n ≢ m → length c ≡ m → A
-late-than c n m e ne f = absurd (ne (sym e ∙ f))
 
 pub first-nad : (ifs : ℕ) (number : Number) (max : ℕ) (before : List (List ℕ)) (c : List ℕ) → length c ≡ 1 → slice_index c 0 ≢ 0 → IsFirst all_reasons (MeetsInBlock ifs number max before c) BadNad
 unfolding IsFirst

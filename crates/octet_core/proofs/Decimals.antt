@@ -1,17 +1,16 @@
 -- Decimal text of up to 15 digits: what it writes, and that `decimal` writes it.
-use Rattle.std.proofs.Common.{◌≡◌, ◌≢◌, ℕ, zero, suc, ◌+◌, ◌<◌, ◌≤◌, ◌^◌, ◌&&◌, Result, cond, drop, ◌==◌, not, nat_le, List, [], ◌∷◌, length, Bool, true, false, Option, Some, None, IfSome, IfNone, decimal, refl, sym, ap, ◌∙◌, subst, arith, rules, if◌then◌else◌, get_or, Ok, Err, ◌⊎◌, inl, inr}
+use Rattle.std.proofs.Common.{◌≡◌, ℕ, zero, suc, ◌+◌, ◌<◌, ◌≤◌, ◌^◌, ◌&&◌, Result, cond, drop, ◌==◌, not, nat_le, List, [], ◌∷◌, length, Bool, true, false, Some, None, decimal, refl, sym, ap, ◌∙◌, subst, arith, rules, if◌then◌else◌, get_or, Ok, Err, inl, inr}
 use Rattle.std.specs.List.{list_all}
 use Rattle.std.specs.Char.{is_ascii_digit, digit_value}
 use Rattle.std.specs.Int.{IsInRange}
 use Rattle.std.specs.Str.{IsAscii, IsUtf8}
-use Rattle.std.specs.Str.Parse.{AllDigits, digits_value, ParsesUnsigned, IsNumeral, without_leading_plus}
+use Rattle.std.specs.Str.Parse.{AllDigits, digits_value, ParsesUnsigned, without_leading_plus}
 use Rattle.std.proofs.lemmas.Str.Parse.{IsNumeralModel, digits_value_short, digit_from_value}
 use Rattle.std.proofs.lemmas.Str.{digit_value_digit, IsUtf8-from_ascii}
 use Rattle.std.proofs.lemmas.Fmt.{decimal-digits_value, decimal_is_IsNumeral, decimal_nonempty, length-decimal-le, first_decimal, decimal_digit}
 use Rattle.std.proofs.lemmas.Bool.{cases_lt}
 use Rattle.std.specs.Result.{result_ok}
 use Rattle.octet_core.specs.Decimal.{is_decimal, decimal_number}
-use Rattle.octet_core.proofs.Lists.{never}
 
 own : IsNumeralModel (AllDigits 10) (digits_value 10)
 own = record { to = λ ds h. h; from = λ ds h. h; same = λ ds h. refl }
@@ -129,10 +128,6 @@ pub number-decimal : (n : ℕ) → n < 1000000000000000 → decimal_number (deci
 number-decimal n lt =
     let h : n < 2 ^ 64 = omega (arith, lt) in
     number-by (is_decimal (decimal n)) (digits_value 10 (decimal n)) (decimal-is n lt) ∙ ap Some (decimal_is_IsNumeral n h).1
-
-none-if : (b : Bool) (n m : ℕ) → b ≡ false → (if b then Some n else None) ≡ Some m → ⊥
-none-if true n m h e = cc
-none-if false n m h e = cc
 
 -- other texts are the text of no number below 10 ^ 15
 pub none-decimal : (text : List ℕ) → is_decimal text ≡ false → (n : ℕ) → n < 1000000000000000 → text ≡ decimal n → ⊥

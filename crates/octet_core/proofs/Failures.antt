@@ -1,15 +1,6 @@
 -- What a failed call leaves of the count, and writes in a row.
-use Rattle.std.proofs.Common.{◌≡◌, ℕ, ◌++◌, arith, inl, inr, Option, None, Some, List, ap, ◌∙◌, append_assoc}
+use Rattle.std.proofs.Common.{ℕ, ◌++◌, arith, Option, None, Some, List, ap, ◌∙◌, append_assoc}
 use Rattle.std.specs.Io.KnownBytes.{Appends}
-use Rattle.std.proofs.lemmas.Bool.{cases_lt}
-use Rattle.octet_core.specs.Failures.{most_failures, next_count, HasFailed}
-
-pub next_fails : (n m : ℕ) → m ≡ next_count n → HasFailed n m
-next_fails n m e =
-    elim (cases_lt n most_failures) [
-      | inl lt ↦ inl (omega arith)
-      | inr le ↦ inr le
-    ]
 
 -- two writes in a row
 pub Appends-then : (a b c : Option (List ℕ)) (x y : List ℕ) → Appends a b x → Appends b c y → Appends a c (x ++ y)

@@ -1,5 +1,5 @@
 -- The places at which open objects end, and their rooms.
-use Rattle.std.proofs.Common.{◌≡◌, ℕ, ◌+◌, ◌-◌, ◌<◌, ◌≤◌, List, [], ◌∷◌, ◌++◌, length, take, get_or, refl, sym, ap, subst, ◌∙◌, inl, inr, arith, suc, zero, cond, Bool, true, nat_lt}
+use Rattle.std.proofs.Common.{◌≡◌, ℕ, ◌+◌, ◌-◌, ◌<◌, ◌≤◌, List, [], ◌∷◌, ◌++◌, length, take, get_or, refl, sym, ap, subst, ◌∙◌, inl, inr, arith, suc, cond, Bool, true, nat_lt}
 use Rattle.std.specs.Prelude.{slice_get, Some}
 use Rattle.std.specs.List.{prefix_len}
 use borrow.Author.Tests.{lt-ltb, le-ltb, ltb-true}
@@ -14,7 +14,7 @@ use Rattle.tlv_core.specs.declared.header.Next.TheVariants as next
 use Rattle.tlv_core.specs.declared.header.ObjectHeader.{ObjectHeader}
 use Rattle.tlv_core.specs.Header.{header_octets, header_in, object_in, IsWell, IsWellNext, IsNext}
 use Rattle.tlv_core.specs.Reasons.{Kept, room_of}
-use Rattle.tlv_core.specs.Steps.{spent, entered, after_octet, after_next}
+use Rattle.tlv_core.specs.Steps.{spent, after_octet, after_next}
 use Rattle.tlv_core.proofs.Advances.{not_filler, object_not_filler}
 use Rattle.tlv_core.specs.Open.{AreEnds, rooms_to, open_after}
 use Rattle.tlv_core.proofs.Steps.{spent-more, spent-last}
@@ -52,10 +52,6 @@ room-last left count e (f ∷ []) h = let same : f ≡ e = cc in ap (λ (n : ℕ
 room-last left count e (f ∷ g ∷ ends) h =
     let more : length (f ∷ g ∷ ends) - 1 ≡ suc (length (g ∷ ends) - 1) = omega arith in
     room-last (f - count) count e (g ∷ ends) (ap (λ (n : ℕ). slice_get (f ∷ g ∷ ends) n) (sym more) ∙ h)
-
-pub room-none : (left count : ℕ) (ends : List ℕ) → length ends ≡ 0 → room_of left (rooms_to count ends) ≡ left
-room-none left count [] h = refl
-room-none left count (e ∷ ends) h = absurd (omega arith)
 
 -- ---- within the limit
 
@@ -107,20 +103,6 @@ ends-now max count m ends now h e = subst (AreEnds max (count + m)) (sym e) (end
 
 pub fewer-now : (now ends : List ℕ) (count : ℕ) → now ≡ open_after count ends → length now ≤ length ends
 fewer-now now ends count e = omega (arith, ap length e, length-take (prefix_len (λ end. nat_lt count end) ends) ends)
-
-pub entered-zero : (k : Kept) (n bit : ℕ) → n ≡ 0 → entered k n bit ≡ k
-entered-zero k zero bit e = refl
-entered-zero k (suc n) bit e = absurd (omega arith)
-
-pub entered-value : (max count left : ℕ) (rooms h : List ℕ) (n bit : ℕ) → left ≡ 0 → (n ≡ 0 → ⊥) → bit ≡ 0 → entered (kept max count rooms h left) n bit ≡ kept max count rooms h n
-entered-value max count left rooms h zero bit z some e = absurd (some refl)
-entered-value max count left rooms h (suc n) zero z some e = refl
-entered-value max count left rooms h (suc n) (suc bit) z some e = absurd (omega arith)
-
-pub entered-open : (max count left : ℕ) (ends h : List ℕ) (n bit : ℕ) → (n ≡ 0 → ⊥) → bit ≡ 1 → entered (kept max count (rooms_to count ends) h left) n bit ≡ kept max count (rooms_to count (ends ++ (count + n) ∷ [])) h left
-entered-open max count left ends h zero bit some e = absurd (some refl)
-entered-open max count left ends h (suc n) zero some e = absurd (omega arith)
-entered-open max count left ends h (suc n) (suc bit) some e = same_rooms max count left h (rooms_to count ends ++ suc n ∷ []) (rooms_to count (ends ++ (count + suc n) ∷ [])) (sym (rooms-push count (suc n) ends))
 
 -- ---- an octet is allowed only where there is room for an object
 
