@@ -2,10 +2,11 @@
 //!
 //! A [`Line`] carries the blocks of a terminal: one call sends a block and takes what comes. [`exchange`]
 //! hands over a command and gives the answer, [`ask_ifs`] asks about a size, and [`resume`] goes on with
-//! either where the line failed or too many blocks were sent; [`exchange_command`] does the same for a
-//! command and its response as values. `specs/Exchange.antt` says what these do:
-//! what was on the line is a run of the terminal's table over what came. At the other end [`serve`] has a
-//! card answer what comes over a [`CardLine`], with the replies of its [`Host`]: `specs/Service.antt`.
+//! either where the line failed or too many blocks were sent. `specs/Exchange.antt` says what these do: what
+//! was on the line is a run of the terminal's table over what came. [`exchange_command`] makes such a run of
+//! a command as a value, and [`response_of`] reads the answer. [`StreamLine`] is a line over a reader and a
+//! writer of octets. At the other end [`serve`] has a card answer what comes over a [`CardLine`], with the
+//! replies of its [`Host`]: `specs/Service.antt`.
 #![tactic(auto)]
 
 pub mod commanding;
