@@ -85,13 +85,6 @@ next-sequel version text lines number least rest line next first h parts shorter
   count = omega (arith, h.count, shorter);
 }
 
-after-nil : (r : Result (List Line) ExchangeFault) → r ≡ after [] r
-after-nil (Ok more) = refl
-after-nil (Err fault) = refl
-
-pub first-sequel : (version : Version) (text : List ℕ) → IsSequel version text [] 3 0 text
-first-sequel version text = record { said = after-nil (lines_said version 3 0 (slice_split is_line_feed text)); proper = λ more h. h; count = omega arith }
-
 same-fault : {A : Type 0} (f g : ExchangeFault) (r : Result A ExchangeFault) → r ≡ Err f → r ≡ Err g → f ≡ g
 same-fault f g r d e = let s : r ≡ r = refl in cc
 
@@ -129,11 +122,6 @@ headed header (next ∷ parts) version h e = rw e refl
 pub second-fault : (version : Version) (text line next : List ℕ) (fault : ExchangeFault) → slice_split is_line_feed text ≡ line ∷ slice_split is_line_feed next
     → UnlessMemory (Err fault) (at 2 (atr_said line)) → UnlessMemory {X = ExchangeParts} (Err fault) (parts_said version (slice_split is_line_feed text))
 second-fault version text line next fault parts h = rw parts (second version line (slice_split is_line_feed next) fault (some-words is_line_feed next) h)
-
--- a fault of a later line
-pub later-fault : (version : Version) (text line next atr : List ℕ) (fault : ExchangeFault) → slice_split is_line_feed text ≡ line ∷ slice_split is_line_feed next
-    → UnlessMemory (Ok atr) (at 2 (atr_said line)) → UnlessMemory (Err fault) (lines_said version 3 0 (slice_split is_line_feed next)) → UnlessMemory {X = ExchangeParts} (Err fault) (parts_said version (slice_split is_line_feed text))
-later-fault version text line next atr fault parts h k = rw parts (later version line atr (slice_split is_line_feed next) fault (some-words is_line_feed next) (unless-ok atr (at 2 (atr_said line)) h) k)
 
 -- no fault
 pub all-said : (version : Version) (text line next atr : List ℕ) (lines : List Line) → slice_split is_line_feed text ≡ line ∷ slice_split is_line_feed next
