@@ -2,7 +2,7 @@
 use Rattle.std.proofs.Common.{◌≡◌, ℕ, ◌<◌, ◌≤◌, List, [], ◌∷◌, length, drop, nat_lt, true, false, refl, sym, ap, ◌∙◌, arith, inl, inr, rules}
 use Rattle.std.proofs.lemmas.Bool.{cases_lt}
 use Rattle.std.proofs.lemmas.List.{drop_all, length-drop}
-use Rattle.t1_core.specs.Terminal.{is_more}
+use Rattle.t1_core.specs.Terminal.{is_more, ack, waiting}
 use Rattle.std.proofs.Common.{None}
 use Rattle.t1_core.specs.Card.{reply, saving, waiting as card_waiting}
 
@@ -37,3 +37,8 @@ reply-goes-on field (x ∷ rest) lt = refl
 pub none-saved : (field rest : List ℕ) → 0 < length rest → None ≡ saving None field rest
 none-saved field [] lt = absurd (omega arith)
 none-saved field (x ∷ rest) lt = refl
+
+-- what the terminal waits in, where more follows
+pub command-goes-on : (field rest : List ℕ) → 0 < length rest → ack field rest ≡ waiting field rest
+command-goes-on field [] lt = absurd (omega arith)
+command-goes-on field (x ∷ rest) lt = refl

@@ -1,5 +1,5 @@
 -- The card's buffers and places, seen as its state.
-use Rattle.std.specs.Prelude.{◌≡◌, List, [], ℕ, Bool, true, false, Option, Some, None}
+use Rattle.std.specs.Prelude.{◌≡◌, ◌≤◌, List, [], ℕ, take, Option, Some, None}
 use Rattle.t1_core.specs.declared.turns.Cut.{Cut}
 use Rattle.t1_core.specs.declared.turns.Request.{Request}
 use Rattle.t1_core.specs.declared.turns.Request.TheVariants.{Size, Time}
@@ -46,18 +46,18 @@ owed c host = Some c.command
 owed c (asking asked) = Some c.command
 owed c waits = None
 
-abbrev pub IsSaved : Option Cut → List ℕ → Type 0
-IsSaved None message = Unit {0}
-IsSaved (Some cut) message = IsLast cut message
+abbrev pub IsSaved : Option Cut → ℕ → Type 0
+IsSaved None octets = Unit {0}
+IsSaved (Some cut) octets = IsLast cut octets
 
--- nothing is saved from the host's turn on until the last block of the reply
-abbrev pub IsCardWait : CardWait → Option Cut → List ℕ → Type 0
-IsCardWait Command saved message = Unit {0}
-IsCardWait Joining saved message = Unit {0}
-IsCardWait Host saved message = saved ≡ None
-IsCardWait (Reply cut) saved message = IsInner cut message × (saved ≡ None)
-IsCardWait (Asking (Size n)) saved message = IsSize n × (saved ≡ None)
-IsCardWait (Asking (Time n)) saved message = saved ≡ None
+-- nothing is saved from the host's turn on until the last block of the reply, which has so many octets
+abbrev pub IsCardWait : CardWait → Option Cut → ℕ → Type 0
+IsCardWait Command saved octets = Unit {0}
+IsCardWait Joining saved octets = Unit {0}
+IsCardWait Host saved octets = saved ≡ None
+IsCardWait (Reply cut) saved octets = IsInner cut octets × (saved ≡ None)
+IsCardWait (Asking (Size n)) saved octets = IsSize n × (saved ≡ None)
+IsCardWait (Asking (Time n)) saved octets = saved ≡ None
 
 abbrev pub IsRequest : Request → Type 0
 IsRequest (Size n) = IsSize n
@@ -71,10 +71,6 @@ field_of waits = []
 abbrev pub rest_of : Waits → List ℕ
 rest_of (reply field rest) = rest
 rest_of waits = []
-
-abbrev pub has_begun : CardWait → Bool
-has_begun Joining = true
-has_begun wait = false
 
 -- ---- the card, by its places and its two buffers, whoever owns those
 
@@ -91,5 +87,19 @@ card_seen p buffer message = record {
   limits = record { command = p.most_command; answer = p.most_reply };
 }
 
-abbrev pub AreCardPlaces : CardPlaces → List ℕ → List ℕ → Type 0
-AreCardPlaces p buffer message = IsCardWait p.wait p.saved message × IsSaved p.saved message × IsSize p.ifsc × IsSize p.ifsd × IsSize p.first_ifsc
+-- the same, where its messages are the first octets of two buffers
+abbrev pub card_held : CardPlaces → List ℕ → List ℕ → CardState
+card_held p buffer message = card_seen p (take p.command_len buffer) (take p.reply_len message)
+
+-- the places are those of a card whose buffers have room for so many octets
+pub record AreCardPlaces (p : CardPlaces) (room reply_room : ℕ) : Type 0 where
+  pub wait : IsCardWait p.wait p.saved p.reply_len
+  pub saved : IsSaved p.saved p.reply_len
+  pub ifsc : IsSize p.ifsc
+  pub ifsd : IsSize p.ifsd
+  pub first_ifsc : IsSize p.first_ifsc
+  -- what the buffers hold, and the most that they are to hold
+  pub command_held : p.command_len ≤ room
+  pub reply_held : p.reply_len ≤ reply_room
+  pub most_command : p.most_command ≤ room
+  pub most_reply : p.most_reply ≤ reply_room

@@ -1,5 +1,5 @@
 -- The engines' buffers and places, seen as states.
-use Rattle.std.specs.Prelude.{◌≡◌, ℕ, ◌+◌, ◌<◌, ◌≤◌, ◌==◌, List, [], length, take, drop, Bool, true, false, Option, Some, None}
+use Rattle.std.specs.Prelude.{◌≡◌, ℕ, ◌+◌, ◌<◌, ◌≤◌, ◌==◌, List, [], take, drop, Bool, true, false, Option, Some, None}
 use Rattle.t1_core.specs.declared.turns.Cut.{Cut}
 use Rattle.t1_core.specs.declared.turns.TerminalWait.{TerminalWait}
 use Rattle.t1_core.specs.declared.turns.TerminalWait.TheVariants.{Idle, Ack, Answer, More, Ifs, Resynch, Dead}
@@ -53,18 +53,18 @@ IsJoining (answer field) = Unit {0}
 IsJoining (more joined) = Unit {0}
 IsJoining waits = ⊥
 
--- the cut is that of a block of this message, and more follows it, or nothing does
-abbrev pub IsInner : Cut → List ℕ → Type 0
-IsInner cut message = IsSize cut.size × (cut.place + cut.size < length message)
+-- the cut is that of a block of a message of so many octets, and more follows it, or nothing does
+abbrev pub IsInner : Cut → ℕ → Type 0
+IsInner cut octets = IsSize cut.size × (cut.place + cut.size < octets)
 
-abbrev pub IsLast : Cut → List ℕ → Type 0
-IsLast cut message = IsSize cut.size × (cut.place ≤ length message) × (length message ≤ cut.place + cut.size)
+abbrev pub IsLast : Cut → ℕ → Type 0
+IsLast cut octets = IsSize cut.size × (cut.place ≤ octets) × (octets ≤ cut.place + cut.size)
 
--- an exchange has no answer yet, and nothing is joined before the answer's first block
-abbrev pub IsWait : TerminalWait → List ℕ → List ℕ → Bool → Type 0
+-- an exchange has no answer yet, and nothing is joined before the answer's first block: by how many octets the two messages have
+abbrev pub IsWait : TerminalWait → ℕ → ℕ → Bool → Type 0
 IsWait Idle command joined is_answered = Unit {0}
-IsWait (Ack cut) command joined is_answered = IsInner cut command × (joined ≡ []) × (is_answered ≡ false)
-IsWait (Answer cut) command joined is_answered = IsLast cut command × (joined ≡ []) × (is_answered ≡ false)
+IsWait (Ack cut) command joined is_answered = IsInner cut command × (joined ≡ 0) × (is_answered ≡ false)
+IsWait (Answer cut) command joined is_answered = IsLast cut command × (joined ≡ 0) × (is_answered ≡ false)
 IsWait More command joined is_answered = is_answered ≡ false
 IsWait (Ifs size) command joined is_answered = IsSize size
 IsWait (Resynch asked) command joined is_answered = asked ≤ 3
@@ -98,5 +98,18 @@ terminal_seen p command joined = record {
   limits = record { command = p.most_command; answer = p.most_answer };
 }
 
-abbrev pub AreTerminalPlaces : TerminalPlaces → List ℕ → List ℕ → Type 0
-AreTerminalPlaces p command joined = IsWait p.wait command joined p.is_answered × IsSize p.ifsc × IsSize p.ifsd × IsSize p.first_ifsc
+-- the same, where its messages are the first octets of two buffers
+abbrev pub terminal_held : TerminalPlaces → List ℕ → List ℕ → TerminalState
+terminal_held p command joined = terminal_seen p (take p.command_len command) (take p.joined_len joined)
+
+-- the places are those of a terminal whose buffers have room for so many octets
+pub record AreTerminalPlaces (p : TerminalPlaces) (room answer_room : ℕ) : Type 0 where
+  pub wait : IsWait p.wait p.command_len p.joined_len p.is_answered
+  pub ifsc : IsSize p.ifsc
+  pub ifsd : IsSize p.ifsd
+  pub first_ifsc : IsSize p.first_ifsc
+  -- what the buffers hold, and the most that they are to hold
+  pub command_held : p.command_len ≤ room
+  pub answer_held : p.joined_len ≤ answer_room
+  pub most_command : p.most_command ≤ room
+  pub most_answer : p.most_answer ≤ answer_room

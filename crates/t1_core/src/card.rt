@@ -4,7 +4,6 @@ ghost use Rattle.std.specs.Prelude.{◌≡◌, IfOk};
 ghost use Rattle.t1_core.specs.Came.{class_of};
 ghost use Rattle.t1_core.specs.Views.{IsSlice};
 ghost use Rattle.t1_core.specs.CardViews.{owed};
-ghost use Rattle.t1_core.specs.Sending.{card_answers};
 ghost use Rattle.t1_core.specs.Terminal.{at_most};
 ghost use Rattle.t1_core.specs.Card.{takes, replies, more_time, ask_ifs, new_card, card_with, card_turn, turn_of, state_after};
 
@@ -12,11 +11,10 @@ mod into;
 mod readers;
 mod steps;
 
-use crate::overwriting::overwrite;
+use crate::buffers::{buffer, overwrite};
 use crate::places::CardPlaces;
-use crate::sending::CardAct;
 use crate::terminal::{LONGEST_ANSWER, LONGEST_COMMAND};
-use crate::turns::{CardFault, CardTurn, CardWait};
+use crate::turns::{CardFault, CardTurn};
 use atr_core::T1Params;
 use std::alloc::{AllocError, Global};
 use std::marker::Model;
@@ -32,14 +30,14 @@ pub struct Card {
 
 impl Model for Card {
     ghost use Rattle.t1_core.specs.Card.{CardState};
-    ghost use Rattle.std.specs.Prelude.{◌≤◌, vec_capacity};
-    ghost use Rattle.t1_core.specs.CardViews.{card_seen, AreCardPlaces};
+    ghost use Rattle.std.specs.Prelude.{vec_len};
+    ghost use Rattle.t1_core.specs.CardViews.{card_held, AreCardPlaces};
 
     ghost Value = { CardState };
 
-    ghost view = { λ c. card_seen c.places c.command.items c.reply.items };
+    ghost view = { λ c. card_held c.places c.command.items c.reply.items };
 
-    ghost invariant = { λ c. AreCardPlaces c.places c.command.items c.reply.items × (c.places.most_command ≤ vec_capacity c.command) × (c.places.most_reply ≤ vec_capacity c.reply) };
+    ghost invariant = { λ c. AreCardPlaces c.places (vec_len c.command) (vec_len c.reply) };
 }
 
 impl Card {
@@ -70,8 +68,8 @@ impl Card {
         let most_reply = answer.min(LONGEST_ANSWER);
         Ok(Card {
             places: CardPlaces::new(params, most_command, most_reply),
-            command: Vec::with_capacity(alloc, most_command)?,
-            reply: Vec::with_capacity(alloc, most_reply)?,
+            command: buffer(alloc, most_command)?,
+            reply: buffer(alloc, most_reply)?,
         })
     }
 
@@ -81,8 +79,8 @@ impl Card {
         ensures { self.new ≡ card_with self.old.limits params.ifsc }
     {
         let (most_command, most_reply) = (self.places.most_command, self.places.most_reply);
-        overwrite(&mut self.command, most_command);
-        overwrite(&mut self.reply, most_reply);
+        overwrite(self.command.as_mut_slice());
+        overwrite(self.reply.as_mut_slice());
         self.places = CardPlaces::new(params, most_command, most_reply);
     }
 
@@ -91,10 +89,7 @@ impl Card {
     pub fn command(&self) -> Option<&[u8]>
         ensures { IsSlice result (owed self.now self.now.waits) }
     {
-        match self.places.wait {
-            CardWait::Host | CardWait::Asking(_) => Some(self.command.as_slice()),
-            CardWait::Command | CardWait::Joining | CardWait::Reply(_) => None,
-        }
+        self.places.command(self.command.as_slice())
     }
 
     /// The line delivered these octets as one block: a whole one, or what came of one that broke off, where
@@ -106,8 +101,11 @@ impl Card {
         ensures turn { result ≡ turn_of (card_turn self.old (takes (class_of self.old.ifsc octets.now))) }
         ensures state { self.new ≡ state_after self.old (card_turn self.old (takes (class_of self.old.ifsc octets.now))) }
     {
-        let acted = self.takes(octets);
-        self.answered(acted)
+        let acted = self
+            .places
+            .takes(self.command.as_mut_slice(), self.reply.as_slice(), octets);
+        self.places
+            .answered(self.command.as_slice(), self.reply.as_slice(), acted)
     }
 
     /// The host hands over its reply: its first I-block is sent.
@@ -118,8 +116,11 @@ impl Card {
         ensures turn { result ≡ turn_of (card_turn self.old (replies octets.now)) }
         ensures state { self.new ≡ state_after self.old (card_turn self.old (replies octets.now)) }
     {
-        let acted = self.replies(octets);
-        self.answered(acted)
+        let acted = self
+            .places
+            .replies(self.command.as_slice(), self.reply.as_mut_slice(), octets);
+        self.places
+            .answered(self.command.as_slice(), self.reply.as_slice(), acted)
     }
 
     /// The host asks for more waiting time, by any multiple of it. Refused `Order` outside its turn.
@@ -127,8 +128,11 @@ impl Card {
         ensures turn { result ≡ turn_of (card_turn self.old (more_time multiple)) }
         ensures state { self.new ≡ state_after self.old (card_turn self.old (more_time multiple)) }
     {
-        let acted = self.asks_time(multiple);
-        self.answered(acted)
+        let acted = self
+            .places
+            .asks_time(self.command.as_slice(), self.reply.as_slice(), multiple);
+        self.places
+            .answered(self.command.as_slice(), self.reply.as_slice(), acted)
     }
 
     /// The host asks the terminal to send information fields of up to `size` octets.
@@ -138,18 +142,10 @@ impl Card {
         ensures turn { result ≡ turn_of (card_turn self.old (ask_ifs size)) }
         ensures state { self.new ≡ state_after self.old (card_turn self.old (ask_ifs size)) }
     {
-        let acted = self.asks_ifs(size);
-        self.answered(acted)
-    }
-
-    /// What a call answers, with the block that is sent put together.
-    fn answered(&self, acted: Result<CardAct, CardFault>) -> Result<CardTurn, CardFault>
-        ensures { result ≡ card_answers self.now acted }
-    {
-        match acted {
-            Ok(CardAct::Send(sent)) => Ok(CardTurn::Send(self.lent(&sent).to_block())),
-            Ok(CardAct::Asked) => Ok(CardTurn::Asked),
-            Err(fault) => Err(fault),
-        }
+        let acted = self
+            .places
+            .asks_ifs(self.command.as_slice(), self.reply.as_slice(), size);
+        self.places
+            .answered(self.command.as_slice(), self.reply.as_slice(), acted)
     }
 }

@@ -6,14 +6,16 @@
 //! have the table of each end, an equation for each row; the counts of repeats, what RESYNCH leaves and
 //! the errors that R-blocks report are this project's profile. `specs/Link.antt` joins the two ends by
 //! a line that loses and damages blocks, and `laws` says what holds after whatever happens on it. The
-//! constructors reserve all memory.
+//! constructors of `Terminal` and `Card` reserve all memory. `TerminalPlaces` and `CardPlaces` are the same
+//! ends where the caller keeps a few dozen octets of state and lends the buffers to each call.
 #![tactic(auto)]
 
+mod buffers;
 pub mod card;
 mod class;
 mod cutting;
+mod fitting;
 pub mod laws;
-mod overwriting;
 mod places;
 mod replying;
 mod sending;
@@ -21,8 +23,9 @@ pub mod terminal;
 pub mod turns;
 
 pub use card::Card;
+pub use places::{CardPlaces, TerminalPlaces};
 pub use terminal::{LONGEST_ANSWER, LONGEST_COMMAND, Terminal};
 pub use turns::{
-    CardAwaits, CardFault, CardPut, CardTurn, TerminalAwaits, TerminalFault, TerminalPut,
-    TerminalTurn,
+    CardAwaits, CardFault, CardPut, CardTurn, CardWait, Cut, Request, TerminalAwaits,
+    TerminalFault, TerminalPut, TerminalTurn, TerminalWait,
 };

@@ -1,18 +1,27 @@
 //! What an end holds beside its two buffers: a few dozen octets, and none of a message.
+//!
+//! An end is its places and two buffers. `Terminal` and `Card` own all three. A program that has no
+//! allocator keeps the places itself, and lends the buffers to each call: that is the whole end, too.
 
-ghost use Rattle.std.specs.Prelude.{◌≡◌, []};
-ghost use Rattle.t1_core.specs.Terminal.{terminal_with};
-ghost use Rattle.t1_core.specs.Views.{terminal_seen, AreTerminalPlaces};
+ghost use Rattle.std.specs.Prelude.{◌≡◌, List, ℕ, length, replicate};
+ghost use Rattle.t1_core.specs.Terminal.{terminal_with, at_most};
+ghost use Rattle.t1_core.specs.Views.{terminal_held, AreTerminalPlaces};
 ghost use Rattle.t1_core.specs.Card.{card_with};
-ghost use Rattle.t1_core.specs.CardViews.{card_seen, AreCardPlaces};
+ghost use Rattle.t1_core.specs.CardViews.{card_held, AreCardPlaces};
 
+use crate::buffers::overwrite;
+use crate::terminal::{LONGEST_ANSWER, LONGEST_COMMAND};
 use crate::turns::{CardWait, Cut, TerminalWait};
 use atr_core::T1Params;
 use block_core::Number;
 
-/// The terminal's numbers, sizes and limits, and what it waits in.
+/// The terminal's numbers, sizes and limits, and what it waits in: a whole terminal, where its caller keeps
+/// the two buffers and lends them to each call.
+///
+/// [`TerminalPlaces::begin`] makes them, and each call keeps them fit. Where something else may have
+/// written to them or to the buffers' sizes, [`TerminalPlaces::fits`] says whether they still are.
 #[derive(Clone, Copy, Debug)]
-pub(crate) struct TerminalPlaces {
+pub struct TerminalPlaces {
     pub number: Number,
     pub expected: Number,
     pub failures: u8,
@@ -23,13 +32,36 @@ pub(crate) struct TerminalPlaces {
     pub is_answered: bool,
     pub most_command: usize,
     pub most_answer: usize,
+    /// So many octets at the front of the command's buffer are the command.
+    pub command_len: usize,
+    /// So many octets at the front of the answer's buffer came of the answer.
+    pub joined_len: usize,
 }
 
 impl TerminalPlaces {
+    /// A new terminal over these buffers, for messages of at most as many octets as they have
+    /// room for, and no more than the longest. Their octets are overwritten with 0.
+    ///
+    /// It begins a session, or a further one over the buffers of an earlier one.
+    pub fn begin(params: T1Params, held: &mut [u8], joined: &mut [u8]) -> TerminalPlaces
+        ensures state { terminal_held result held.new joined.new ≡ terminal_with (at_most (length held.old) (length joined.old)) params.ifsc }
+        ensures fit { AreTerminalPlaces result (length held.new) (length joined.new) }
+        ensures command { held.new ≡ replicate (length held.old) 0 }
+        ensures answer { joined.new ≡ replicate (length joined.old) 0 }
+    {
+        overwrite(held);
+        overwrite(joined);
+        TerminalPlaces::new(
+            params,
+            held.len().min(LONGEST_COMMAND),
+            joined.len().min(LONGEST_ANSWER),
+        )
+    }
+
     /// At the start, with empty buffers.
     pub(crate) fn new(params: T1Params, most_command: usize, most_answer: usize) -> TerminalPlaces
-        ensures seen { terminal_seen result [] [] ≡ terminal_with (record { command = most_command; answer = most_answer }) params.ifsc }
-        ensures fit { AreTerminalPlaces result [] [] }
+        ensures seen { (command joined : List ℕ) → terminal_held result command joined ≡ terminal_with (record { command = most_command; answer = most_answer }) params.ifsc }
+        ensures fit { AreTerminalPlaces result most_command most_answer }
     {
         TerminalPlaces {
             number: Number::Zero,
@@ -42,13 +74,16 @@ impl TerminalPlaces {
             is_answered: false,
             most_command,
             most_answer,
+            command_len: 0,
+            joined_len: 0,
         }
     }
 }
 
-/// The card's numbers, sizes and limits, and what it waits in and holds saved.
+/// The card's numbers, sizes and limits, and what it waits in and holds saved: a whole card, where its
+/// caller keeps the two buffers and lends them to each call, as [`TerminalPlaces`] of a terminal.
 #[derive(Clone, Copy, Debug)]
-pub(crate) struct CardPlaces {
+pub struct CardPlaces {
     pub number: Number,
     pub expected: Number,
     pub saved: Option<Cut>,
@@ -58,13 +93,36 @@ pub(crate) struct CardPlaces {
     pub wait: CardWait,
     pub most_command: usize,
     pub most_reply: usize,
+    /// So many octets at the front of the command's buffer came of the command.
+    pub command_len: usize,
+    /// So many octets at the front of the reply's buffer are the reply.
+    pub reply_len: usize,
 }
 
 impl CardPlaces {
+    /// A new card over these buffers, for messages of at most as many octets as they have
+    /// room for, and no more than the longest. Their octets are overwritten with 0.
+    ///
+    /// It begins a session, or a further one over the buffers of an earlier one.
+    pub fn begin(params: T1Params, held: &mut [u8], answer: &mut [u8]) -> CardPlaces
+        ensures state { card_held result held.new answer.new ≡ card_with (at_most (length held.old) (length answer.old)) params.ifsc }
+        ensures fit { AreCardPlaces result (length held.new) (length answer.new) }
+        ensures command { held.new ≡ replicate (length held.old) 0 }
+        ensures reply { answer.new ≡ replicate (length answer.old) 0 }
+    {
+        overwrite(held);
+        overwrite(answer);
+        CardPlaces::new(
+            params,
+            held.len().min(LONGEST_COMMAND),
+            answer.len().min(LONGEST_ANSWER),
+        )
+    }
+
     /// At the start, with empty buffers.
     pub(crate) fn new(params: T1Params, most_command: usize, most_reply: usize) -> CardPlaces
-        ensures seen { card_seen result [] [] ≡ card_with (record { command = most_command; answer = most_reply }) params.ifsc }
-        ensures fit { AreCardPlaces result [] [] }
+        ensures seen { (command reply : List ℕ) → card_held result command reply ≡ card_with (record { command = most_command; answer = most_reply }) params.ifsc }
+        ensures fit { AreCardPlaces result most_command most_reply }
     {
         CardPlaces {
             number: Number::Zero,
@@ -76,6 +134,8 @@ impl CardPlaces {
             wait: CardWait::Command,
             most_command,
             most_reply,
+            command_len: 0,
+            reply_len: 0,
         }
     }
 }

@@ -39,8 +39,8 @@ pub(crate) fn next_block(reply: &[u8], place: usize, size: u8) -> Next
     ensures waits { (buffer : List ℕ) → card_waits_of result.wait buffer reply.now ≡ waiting (take size (drop place reply.now)) (drop size (drop place reply.now)) }
     ensures command { (buffer : List ℕ) → command_in result.wait buffer ≡ buffer }
     ensures saved { saved_of result.saved reply.now ≡ saving None (take size (drop place reply.now)) (drop size (drop place reply.now)) }
-    ensures wait_fits { IsCardWait result.wait result.saved reply.now }
-    ensures saved_fits { IsSaved result.saved reply.now }
+    ensures wait_fits { IsCardWait result.wait result.saved (length reply.now) }
+    ensures saved_fits { IsSaved result.saved (length reply.now) }
 {
     let cut = Cut { place, size };
     if reply.len() - place > size as usize {

@@ -3,16 +3,14 @@
 ghost use Rattle.std.specs.Prelude.{◌≡◌, ◌≤◌, IfOk};
 ghost use Rattle.t1_core.specs.Came.{class_of, quiet};
 ghost use Rattle.t1_core.specs.Views.{IsSlice};
-ghost use Rattle.t1_core.specs.Sending.{terminal_answers};
 ghost use Rattle.t1_core.specs.Terminal.{takes, transmit, ask_ifs, at_most, new_terminal, terminal_with, terminal_turn, turn_of, state_after};
 
 mod into;
 mod readers;
 mod steps;
 
-use crate::overwriting::overwrite;
+use crate::buffers::{buffer, overwrite};
 use crate::places::TerminalPlaces;
-use crate::sending::TerminalAct;
 use crate::turns::{TerminalFault, TerminalTurn};
 use atr_core::T1Params;
 use std::alloc::{AllocError, Global};
@@ -35,14 +33,14 @@ pub struct Terminal {
 
 impl Model for Terminal {
     ghost use Rattle.t1_core.specs.Terminal.{TerminalState};
-    ghost use Rattle.std.specs.Prelude.{◌≤◌, vec_capacity};
-    ghost use Rattle.t1_core.specs.Views.{terminal_seen, AreTerminalPlaces};
+    ghost use Rattle.std.specs.Prelude.{vec_len};
+    ghost use Rattle.t1_core.specs.Views.{terminal_held, AreTerminalPlaces};
 
     ghost Value = { TerminalState };
 
-    ghost view = { λ t. terminal_seen t.places t.command.items t.joined.items };
+    ghost view = { λ t. terminal_held t.places t.command.items t.joined.items };
 
-    ghost invariant = { λ t. AreTerminalPlaces t.places t.command.items t.joined.items × (t.places.most_command ≤ vec_capacity t.command) × (t.places.most_answer ≤ vec_capacity t.joined) };
+    ghost invariant = { λ t. AreTerminalPlaces t.places (vec_len t.command) (vec_len t.joined) };
 }
 
 impl Terminal {
@@ -71,8 +69,8 @@ impl Terminal {
         let most_answer = answer.min(LONGEST_ANSWER);
         Ok(Terminal {
             places: TerminalPlaces::new(params, most_command, most_answer),
-            command: Vec::with_capacity(alloc, most_command)?,
-            joined: Vec::with_capacity(alloc, most_answer)?,
+            command: buffer(alloc, most_command)?,
+            joined: buffer(alloc, most_answer)?,
         })
     }
 
@@ -83,8 +81,8 @@ impl Terminal {
         ensures { self.new ≡ terminal_with self.old.limits params.ifsc }
     {
         let (most_command, most_answer) = (self.places.most_command, self.places.most_answer);
-        overwrite(&mut self.command, most_command);
-        overwrite(&mut self.joined, most_answer);
+        overwrite(self.command.as_mut_slice());
+        overwrite(self.joined.as_mut_slice());
         self.places = TerminalPlaces::new(params, most_command, most_answer);
     }
 
@@ -92,11 +90,7 @@ impl Terminal {
     pub fn answer(&self) -> Option<&[u8]>
         ensures { IsSlice result self.now.answered }
     {
-        if self.places.is_answered {
-            Some(self.joined.as_slice())
-        } else {
-            None
-        }
+        self.places.answer(self.joined.as_slice())
     }
 
     /// The application hands over a command: its first I-block is sent, and an earlier answer is
@@ -108,8 +102,13 @@ impl Terminal {
         ensures turn { result ≡ turn_of (terminal_turn self.old (transmit command.now)) }
         ensures state { self.new ≡ state_after self.old (terminal_turn self.old (transmit command.now)) }
     {
-        let acted = self.transmits(command);
-        self.answered(acted)
+        let acted = self.places.transmits(
+            self.command.as_mut_slice(),
+            self.joined.as_slice(),
+            command,
+        );
+        self.places
+            .answered(self.command.as_slice(), self.joined.as_slice(), acted)
     }
 
     /// The application asks the card to send information fields of up to `size` octets.
@@ -119,8 +118,11 @@ impl Terminal {
         ensures turn { result ≡ turn_of (terminal_turn self.old (ask_ifs size)) }
         ensures state { self.new ≡ state_after self.old (terminal_turn self.old (ask_ifs size)) }
     {
-        let acted = self.asks_ifs(size);
-        self.answered(acted)
+        let acted = self
+            .places
+            .asks_ifs(self.command.as_slice(), self.joined.as_slice(), size);
+        self.places
+            .answered(self.command.as_slice(), self.joined.as_slice(), acted)
     }
 
     /// The line delivered these octets as one block: a whole one, or what came of one that broke off, where
@@ -132,8 +134,9 @@ impl Terminal {
         ensures turn { result ≡ turn_of (terminal_turn self.old (takes (class_of self.old.ifsd octets.now))) }
         ensures state { self.new ≡ state_after self.old (terminal_turn self.old (takes (class_of self.old.ifsd octets.now))) }
     {
-        let acted = self.takes(octets);
-        self.answered(acted)
+        let acted = self.places.takes(self.command.as_slice(), self.joined.as_mut_slice(), octets);
+        self.places
+            .answered(self.command.as_slice(), self.joined.as_slice(), acted)
     }
 
     /// Nothing came within the waiting time: `T1Params::bwt` times [`TerminalTurn::waiting`] of the turn
@@ -142,24 +145,10 @@ impl Terminal {
         ensures turn { result ≡ turn_of (terminal_turn self.old (takes quiet)) }
         ensures state { self.new ≡ state_after self.old (terminal_turn self.old (takes quiet)) }
     {
-        let acted = self.hears_nothing();
-        self.answered(acted)
-    }
-
-    /// What a call answers, with the block that is sent put together.
-    fn answered(
-        &self,
-        acted: Result<TerminalAct, TerminalFault>,
-    ) -> Result<TerminalTurn, TerminalFault>
-        ensures { result ≡ terminal_answers self.now acted }
-    {
-        match acted {
-            Ok(TerminalAct::Send(sent)) => Ok(TerminalTurn::Send(self.lent(&sent).to_block())),
-            Ok(TerminalAct::Answered) => Ok(TerminalTurn::Answered),
-            Ok(TerminalAct::IfsSet) => Ok(TerminalTurn::IfsSet),
-            Ok(TerminalAct::GivenUp) => Ok(TerminalTurn::GivenUp),
-            Ok(TerminalAct::Dead) => Ok(TerminalTurn::Dead),
-            Err(fault) => Err(fault),
-        }
+        let acted = self
+            .places
+            .hears_nothing(self.command.as_slice(), self.joined.as_slice());
+        self.places
+            .answered(self.command.as_slice(), self.joined.as_slice(), acted)
     }
 }

@@ -143,14 +143,14 @@ pub enum CardAwaits {
 
 /// Where the I-block under way begins in its message, and the information size under which it was cut.
 #[derive(Clone, Copy, Debug, PartialEq, Eq)]
-pub(crate) struct Cut {
+pub struct Cut {
     pub place: usize,
     pub size: u8,
 }
 
 /// What the terminal waits in.
 #[derive(Clone, Copy, Debug, PartialEq, Eq)]
-pub(crate) enum TerminalWait {
+pub enum TerminalWait {
     /// For a call.
     Idle,
     /// An I-block of the command that isn't its last is under way.
@@ -169,7 +169,7 @@ pub(crate) enum TerminalWait {
 
 /// What the card asked the terminal for on its host's behalf.
 #[derive(Clone, Copy, Debug, PartialEq, Eq)]
-pub(crate) enum Request {
+pub enum Request {
     /// The information size that the card is to take.
     Size(u8),
     /// A multiple of the waiting time.
@@ -178,7 +178,7 @@ pub(crate) enum Request {
 
 /// What the card waits in.
 #[derive(Clone, Copy, Debug, PartialEq, Eq)]
-pub(crate) enum CardWait {
+pub enum CardWait {
     /// For the first block of a command.
     Command,
     /// For a further block of the command that came so far.

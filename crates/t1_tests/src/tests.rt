@@ -1,5 +1,6 @@
 //! Sessions call by call, and calls that no clause pins.
 
+mod lent;
 mod limits;
 mod states;
 

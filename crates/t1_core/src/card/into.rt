@@ -4,11 +4,13 @@ ghost use Rattle.std.specs.Prelude.{◌≡◌, ◌≤◌, length, IfOk};
 ghost use Rattle.t1_core.specs.Came.{class_of};
 ghost use Rattle.t1_core.specs.Put.{IsCardPut, FitsCardPut};
 ghost use Rattle.t1_core.specs.Sending.{card_answers};
+ghost use Rattle.t1_core.specs.CardViews.{card_held, AreCardPlaces};
 ghost use Rattle.t1_core.specs.Card.{takes, replies, more_time, ask_ifs, card_turn, turn_of, state_after};
 
 use crate::card::Card;
+use crate::places::CardPlaces;
 use crate::sending::CardAct;
-use crate::turns::{CardFault, CardPut};
+use crate::turns::{CardFault, CardPut, CardTurn};
 
 /// Each call does what the one without `_into` does, in the same order of refusals; the octets of the
 /// block are put together once, at the front of `out`, which has room for the longest block, 258 octets.
@@ -21,8 +23,12 @@ impl Card {
         ensures fits { IfOk result FitsCardPut }
         ensures state { self.new ≡ state_after self.old (card_turn self.old (takes (class_of self.old.ifsc octets.now))) }
     {
-        let acted = self.takes(octets);
-        self.put(acted, out)
+        self.places.received_into(
+            self.command.as_mut_slice(),
+            self.reply.as_slice(),
+            octets,
+            out,
+        )
     }
 
     /// The first I-block of a reply, as `reply`.
@@ -32,8 +38,12 @@ impl Card {
         ensures fits { IfOk result FitsCardPut }
         ensures state { self.new ≡ state_after self.old (card_turn self.old (replies octets.now)) }
     {
-        let acted = self.replies(octets);
-        self.put(acted, out)
+        self.places.reply_into(
+            self.command.as_slice(),
+            self.reply.as_mut_slice(),
+            octets,
+            out,
+        )
     }
 
     /// The question for more waiting time, as `more_time`.
@@ -43,8 +53,12 @@ impl Card {
         ensures fits { IfOk result FitsCardPut }
         ensures state { self.new ≡ state_after self.old (card_turn self.old (more_time multiple)) }
     {
-        let acted = self.asks_time(multiple);
-        self.put(acted, out)
+        self.places.more_time_into(
+            self.command.as_slice(),
+            self.reply.as_slice(),
+            multiple,
+            out,
+        )
     }
 
     /// The question about a size, as `ask_ifs`.
@@ -54,19 +68,127 @@ impl Card {
         ensures fits { IfOk result FitsCardPut }
         ensures state { self.new ≡ state_after self.old (card_turn self.old (ask_ifs size)) }
     {
-        let acted = self.asks_ifs(size);
-        self.put(acted, out)
+        self.places
+            .ask_ifs_into(self.command.as_slice(), self.reply.as_slice(), size, out)
+    }
+}
+
+/// The same of a card whose buffers are lent to each call: `held` is the command's, and `answer` the
+/// reply's. They are those of the call before, in size and octets.
+impl CardPlaces {
+    /// What is sent for these octets of the line, as `received`.
+    pub fn received_into(
+        &mut self,
+        held: &mut [u8],
+        answer: &[u8],
+        octets: &[u8],
+        out: &mut [u8],
+    ) -> Result<CardPut, CardFault>
+        requires room { 258 ≤ length out.old }
+        requires fit { AreCardPlaces self.old (length held.old) (length answer.now) }
+        ensures turn { IsCardPut (turn_of (card_turn (card_held self.old held.old answer.now) (takes (class_of (card_held self.old held.old answer.now).ifsc octets.now)))) out.old out.new result }
+        ensures fits { IfOk result FitsCardPut }
+        ensures fit { AreCardPlaces self.new (length held.new) (length answer.now) }
+        ensures state { card_held self.new held.new answer.now ≡ state_after (card_held self.old held.old answer.now) (card_turn (card_held self.old held.old answer.now) (takes (class_of (card_held self.old held.old answer.now).ifsc octets.now))) }
+    {
+        let acted = self.takes(held, answer, octets);
+        self.put(held, answer, acted, out)
+    }
+
+    /// The first I-block of a reply, as `reply`.
+    pub fn reply_into(
+        &mut self,
+        held: &[u8],
+        answer: &mut [u8],
+        octets: &[u8],
+        out: &mut [u8],
+    ) -> Result<CardPut, CardFault>
+        requires room { 258 ≤ length out.old }
+        requires fit { AreCardPlaces self.old (length held.now) (length answer.old) }
+        ensures turn { IsCardPut (turn_of (card_turn (card_held self.old held.now answer.old) (replies octets.now))) out.old out.new result }
+        ensures fits { IfOk result FitsCardPut }
+        ensures fit { AreCardPlaces self.new (length held.now) (length answer.new) }
+        ensures state { card_held self.new held.now answer.new ≡ state_after (card_held self.old held.now answer.old) (card_turn (card_held self.old held.now answer.old) (replies octets.now)) }
+    {
+        let acted = self.replies(held, answer, octets);
+        self.put(held, answer, acted, out)
+    }
+
+    /// The question for more waiting time, as `more_time`.
+    pub fn more_time_into(
+        &mut self,
+        held: &[u8],
+        answer: &[u8],
+        multiple: u8,
+        out: &mut [u8],
+    ) -> Result<CardPut, CardFault>
+        requires room { 258 ≤ length out.old }
+        requires fit { AreCardPlaces self.old (length held.now) (length answer.now) }
+        ensures turn { IsCardPut (turn_of (card_turn (card_held self.old held.now answer.now) (more_time multiple))) out.old out.new result }
+        ensures fits { IfOk result FitsCardPut }
+        ensures fit { AreCardPlaces self.new (length held.now) (length answer.now) }
+        ensures state { card_held self.new held.now answer.now ≡ state_after (card_held self.old held.now answer.now) (card_turn (card_held self.old held.now answer.now) (more_time multiple)) }
+    {
+        let acted = self.asks_time(held, answer, multiple);
+        self.put(held, answer, acted, out)
+    }
+
+    /// The question about a size, as `ask_ifs`.
+    pub fn ask_ifs_into(
+        &mut self,
+        held: &[u8],
+        answer: &[u8],
+        size: u8,
+        out: &mut [u8],
+    ) -> Result<CardPut, CardFault>
+        requires room { 258 ≤ length out.old }
+        requires fit { AreCardPlaces self.old (length held.now) (length answer.now) }
+        ensures turn { IsCardPut (turn_of (card_turn (card_held self.old held.now answer.now) (ask_ifs size))) out.old out.new result }
+        ensures fits { IfOk result FitsCardPut }
+        ensures fit { AreCardPlaces self.new (length held.now) (length answer.now) }
+        ensures state { card_held self.new held.now answer.now ≡ state_after (card_held self.old held.now answer.now) (card_turn (card_held self.old held.now answer.now) (ask_ifs size)) }
+    {
+        let acted = self.asks_ifs(held, answer, size);
+        self.put(held, answer, acted, out)
     }
 
     /// What a call answers, with the octets of the block that is sent in the buffer.
-    fn put(&self, acted: Result<CardAct, CardFault>, out: &mut [u8]) -> Result<CardPut, CardFault>
+    fn put(
+        &self,
+        held: &[u8],
+        answer: &[u8],
+        acted: Result<CardAct, CardFault>,
+        out: &mut [u8],
+    ) -> Result<CardPut, CardFault>
         requires room { 258 ≤ length out.old }
-        ensures put { IsCardPut (card_answers self.now acted) out.old out.new result }
+        requires fit { AreCardPlaces self.now (length held.now) (length answer.now) }
+        ensures put { IsCardPut (card_answers (card_held self.now held.now answer.now) acted) out.old out.new result }
         ensures fits { IfOk result FitsCardPut }
     {
         match acted {
-            Ok(CardAct::Send(sent)) => Ok(CardPut::Send(self.lent(&sent).encode_into(out))),
+            Ok(CardAct::Send(sent)) => Ok(CardPut::Send(
+                self.lent(held, answer, &sent).encode_into(out),
+            )),
             Ok(CardAct::Asked) => Ok(CardPut::Asked),
+            Err(fault) => Err(fault),
+        }
+    }
+
+    /// What a call answers, with the block that is sent put together.
+    pub(super) fn answered(
+        &self,
+        held: &[u8],
+        answer: &[u8],
+        acted: Result<CardAct, CardFault>,
+    ) -> Result<CardTurn, CardFault>
+        requires fit { AreCardPlaces self.now (length held.now) (length answer.now) }
+        ensures { result ≡ card_answers (card_held self.now held.now answer.now) acted }
+    {
+        match acted {
+            Ok(CardAct::Send(sent)) => {
+                Ok(CardTurn::Send(self.lent(held, answer, &sent).to_block()))
+            }
+            Ok(CardAct::Asked) => Ok(CardTurn::Asked),
             Err(fault) => Err(fault),
         }
     }

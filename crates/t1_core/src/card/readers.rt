@@ -1,10 +1,13 @@
 //! What a driver, and whoever looks at a session that hangs, reads of the card: never an octet of a message
 //! but the command that its host owes the reply to.
 
-ghost use Rattle.std.specs.Prelude.{◌≡◌};
+ghost use Rattle.std.specs.Prelude.{◌≡◌, ◌≤◌, List, ℕ, length};
+ghost use Rattle.t1_core.specs.Views.{IsSlice};
+ghost use Rattle.t1_core.specs.CardViews.{card_held, owed};
 ghost use Rattle.t1_core.specs.Awaited.{awaited_by_card, card_awaits_block};
 
 use crate::card::Card;
+use crate::places::CardPlaces;
 use crate::turns::{CardAwaits, CardWait, Request};
 use std::fmt;
 
@@ -31,7 +34,24 @@ impl Card {
     pub fn awaits(&self) -> CardAwaits
         ensures { result ≡ awaited_by_card self.now.waits }
     {
-        match self.places.wait {
+        self.places.awaits()
+    }
+
+    /// Whether a block is awaited. In the host's turn none is: one that comes then is refused `Order` by
+    /// `received`, and is dropped.
+    pub fn awaits_block(&self) -> bool
+        ensures { result ≡ card_awaits_block self.now.waits }
+    {
+        self.places.awaits_block()
+    }
+}
+
+impl CardPlaces {
+    /// What the card waits for.
+    pub fn awaits(&self) -> CardAwaits
+        ensures { (command reply : List ℕ) → result ≡ awaited_by_card (card_held self.now command reply).waits }
+    {
+        match self.wait {
             CardWait::Command | CardWait::Joining => CardAwaits::Command,
             CardWait::Host => CardAwaits::Host,
             CardWait::Reply(_) => CardAwaits::Acknowledgement,
@@ -40,15 +60,25 @@ impl Card {
         }
     }
 
-    /// Whether a block is awaited. In the host's turn none is: one that comes then is refused `Order` by
-    /// `received`, and is dropped.
+    /// Whether a block is awaited, as [`Card::awaits_block`].
     pub fn awaits_block(&self) -> bool
-        ensures { result ≡ card_awaits_block self.now.waits }
+        ensures { (command reply : List ℕ) → result ≡ card_awaits_block (card_held self.now command reply).waits }
     {
-        match self.places.wait {
+        match self.wait {
             CardWait::Host => false,
             CardWait::Command | CardWait::Joining | CardWait::Reply(_) | CardWait::Asking(_) =>
                 true,
+        }
+    }
+
+    /// The command, as [`Card::command`], in the command's buffer.
+    pub fn command<'a>(&self, held: &'a [u8]) -> Option<&'a [u8]>
+        requires { self.now.command_len ≤ length held.now }
+        ensures { (reply : List ℕ) → IsSlice result (owed (card_held self.now held.now reply) (card_held self.now held.now reply).waits) }
+    {
+        match self.wait {
+            CardWait::Host | CardWait::Asking(_) => Some(&held[..self.command_len]),
+            CardWait::Command | CardWait::Joining | CardWait::Reply(_) => None,
         }
     }
 }
@@ -62,8 +92,8 @@ impl fmt::Debug for Card {
             .field("expected", &self.places.expected)
             .field("ifsc", &self.places.ifsc)
             .field("ifsd", &self.places.ifsd)
-            .field("command_octets", &self.command.len())
-            .field("reply_octets", &self.reply.len())
+            .field("command_octets", &self.places.command_len)
+            .field("reply_octets", &self.places.reply_len)
             .field("is_saved", &self.places.saved.is_some())
             .field("most_command", &self.places.most_command)
             .field("most_reply", &self.places.most_reply)

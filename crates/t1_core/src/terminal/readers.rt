@@ -1,9 +1,11 @@
 //! What a driver, and whoever looks at a session that hangs, reads of the terminal: never an octet of a
 //! message.
 
-ghost use Rattle.std.specs.Prelude.{◌≡◌};
+ghost use Rattle.std.specs.Prelude.{◌≡◌, ◌≤◌, List, ℕ, length};
+ghost use Rattle.t1_core.specs.Views.{terminal_held, IsSlice};
 ghost use Rattle.t1_core.specs.Awaited.{awaited_by_terminal, terminal_awaits_block, is_dead};
 
+use crate::places::TerminalPlaces;
 use crate::terminal::Terminal;
 use crate::turns::{TerminalAwaits, TerminalWait};
 use std::fmt;
@@ -30,29 +32,14 @@ impl Terminal {
     pub fn awaits(&self) -> TerminalAwaits
         ensures { result ≡ awaited_by_terminal self.now.waits }
     {
-        match self.places.wait {
-            TerminalWait::Idle => TerminalAwaits::Call,
-            TerminalWait::Ack(_) => TerminalAwaits::Acknowledgement,
-            TerminalWait::Answer(_) => TerminalAwaits::Answer,
-            TerminalWait::More => TerminalAwaits::MoreAnswer,
-            TerminalWait::Ifs(size) => TerminalAwaits::Size(size),
-            TerminalWait::Resynch(asked) => TerminalAwaits::Resynch(asked),
-            TerminalWait::Dead => TerminalAwaits::Nothing,
-        }
+        self.places.awaits()
     }
 
     /// Whether a block is awaited: the next call is `received`, or `quiet` where none comes in time.
     pub fn awaits_block(&self) -> bool
         ensures { result ≡ terminal_awaits_block self.now.waits }
     {
-        match self.places.wait {
-            TerminalWait::Idle | TerminalWait::Dead => false,
-            TerminalWait::Ack(_)
-            | TerminalWait::Answer(_)
-            | TerminalWait::More
-            | TerminalWait::Ifs(_)
-            | TerminalWait::Resynch(_) => true,
-        }
+        self.places.awaits_block()
     }
 
     /// Failures in a row: blocks that were sent again, or asked for again, since the last step forward.
@@ -67,7 +54,57 @@ impl Terminal {
     pub fn is_dead(&self) -> bool
         ensures { result ≡ is_dead self.now.waits }
     {
-        matches!(self.places.wait, TerminalWait::Dead)
+        self.places.is_dead()
+    }
+}
+
+impl TerminalPlaces {
+    /// What the terminal waits for.
+    pub fn awaits(&self) -> TerminalAwaits
+        ensures { (command joined : List ℕ) → result ≡ awaited_by_terminal (terminal_held self.now command joined).waits }
+    {
+        match self.wait {
+            TerminalWait::Idle => TerminalAwaits::Call,
+            TerminalWait::Ack(_) => TerminalAwaits::Acknowledgement,
+            TerminalWait::Answer(_) => TerminalAwaits::Answer,
+            TerminalWait::More => TerminalAwaits::MoreAnswer,
+            TerminalWait::Ifs(size) => TerminalAwaits::Size(size),
+            TerminalWait::Resynch(asked) => TerminalAwaits::Resynch(asked),
+            TerminalWait::Dead => TerminalAwaits::Nothing,
+        }
+    }
+
+    /// Whether a block is awaited, as [`Terminal::awaits_block`].
+    pub fn awaits_block(&self) -> bool
+        ensures { (command joined : List ℕ) → result ≡ terminal_awaits_block (terminal_held self.now command joined).waits }
+    {
+        match self.wait {
+            TerminalWait::Idle | TerminalWait::Dead => false,
+            TerminalWait::Ack(_)
+            | TerminalWait::Answer(_)
+            | TerminalWait::More
+            | TerminalWait::Ifs(_)
+            | TerminalWait::Resynch(_) => true,
+        }
+    }
+
+    /// Whether the card was found dead.
+    pub fn is_dead(&self) -> bool
+        ensures { (command joined : List ℕ) → result ≡ is_dead (terminal_held self.now command joined).waits }
+    {
+        matches!(self.wait, TerminalWait::Dead)
+    }
+
+    /// The answer, as [`Terminal::answer`], in the answer's buffer.
+    pub fn answer<'a>(&self, joined: &'a [u8]) -> Option<&'a [u8]>
+        requires { self.now.joined_len ≤ length joined.now }
+        ensures { (command : List ℕ) → IsSlice result (terminal_held self.now command joined.now).answered }
+    {
+        if self.is_answered {
+            Some(&joined[..self.joined_len])
+        } else {
+            None
+        }
     }
 }
 
@@ -81,8 +118,8 @@ impl fmt::Debug for Terminal {
             .field("expected", &self.places.expected)
             .field("ifsc", &self.places.ifsc)
             .field("ifsd", &self.places.ifsd)
-            .field("command_octets", &self.command.len())
-            .field("answer_octets", &self.joined.len())
+            .field("command_octets", &self.places.command_len)
+            .field("answer_octets", &self.places.joined_len)
             .field("is_answered", &self.places.is_answered)
             .field("most_command", &self.places.most_command)
             .field("most_answer", &self.places.most_answer)

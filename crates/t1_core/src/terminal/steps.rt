@@ -1,45 +1,59 @@
 //! What the terminal does at each call, and the block that it then sends by what it keeps.
 
-ghost use Rattle.std.specs.Prelude.{◌≡◌, ◌≤◌, ◌+◌, ◌++◌, length, drop};
+ghost use Rattle.std.specs.Prelude.{◌≡◌, ◌≤◌, ◌+◌, ◌++◌, length, drop, false};
 ghost use Rattle.t1_core.specs.Came.{class_of, quiet, info, ready};
-ghost use Rattle.t1_core.specs.Views.{came_of, field_at, rest_at, joined_of, IsJoining, IsInner, IsLast, IsSize};
+ghost use Rattle.t1_core.specs.Views.{terminal_held, AreTerminalPlaces, came_of, field_at, rest_at, joined_of, IsJoining, IsInner, IsLast, IsSize};
 ghost use Rattle.t1_core.specs.Sending.{field_sent, terminal_sends, terminal_does, terminal_answers};
 ghost use Rattle.t1_core.specs.Terminal.{ack, answer, more, takes, transmit, ask_ifs, terminal_turn, in_exchange, in_ack, in_answer, in_more, in_ifs, in_resynch, joins, sends_next, fails, turn_of, state_after};
 
+use crate::buffers::append;
 use crate::class::{Arrived, classify};
 use crate::cutting::{field_in, is_same};
+use crate::places::TerminalPlaces;
 use crate::sending::{Sent, Short, TerminalAct};
-use crate::terminal::Terminal;
 use crate::turns::{Cut, TerminalFault, TerminalWait};
 use block_core::{BlockRef, Fault, Number, Pcb, S};
 
-impl Terminal {
+impl TerminalPlaces {
     /// A command is handed over.
-    pub(super) fn transmits(&mut self, command: &[u8]) -> Result<TerminalAct, TerminalFault>
-        ensures turn { terminal_answers self.new result ≡ turn_of (terminal_turn self.old (transmit command.now)) }
-        ensures state { self.new ≡ state_after self.old (terminal_turn self.old (transmit command.now)) }
+    pub(super) fn transmits(
+        &mut self,
+        held: &mut [u8],
+        joined: &[u8],
+        command: &[u8],
+    ) -> Result<TerminalAct, TerminalFault>
+        requires fit { AreTerminalPlaces self.old (length held.old) (length joined.now) }
+        ensures fit { AreTerminalPlaces self.new (length held.new) (length joined.now) }
+        ensures turn { terminal_answers (terminal_held self.new held.new joined.now) result ≡ turn_of (terminal_turn (terminal_held self.old held.old joined.now) (transmit command.now)) }
+        ensures state { terminal_held self.new held.new joined.now ≡ state_after (terminal_held self.old held.old joined.now) (terminal_turn (terminal_held self.old held.old joined.now) (transmit command.now)) }
     {
-        match self.places.wait {
+        match self.wait {
             TerminalWait::Idle => {}
             TerminalWait::Dead => return Err(TerminalFault::Dead),
             _ => return Err(TerminalFault::Busy),
         }
-        if command.len() > self.places.most_command {
+        if command.len() > self.most_command {
             return Err(TerminalFault::TooLong);
         }
-        self.command.clear();
-        self.command.extend_from_slice(command).unwrap();
-        self.places.failures = 0;
-        self.places.is_answered = false;
-        Ok(self.sends_from(0))
+        self.command_len = append(held, 0, command);
+        self.failures = 0;
+        self.is_answered = false;
+        Ok(self.sends_from(held, joined, 0))
     }
 
     /// A size is to be asked for.
-    pub(super) fn asks_ifs(&mut self, size: u8) -> Result<TerminalAct, TerminalFault>
-        ensures turn { terminal_answers self.new result ≡ turn_of (terminal_turn self.old (ask_ifs size)) }
-        ensures state { self.new ≡ state_after self.old (terminal_turn self.old (ask_ifs size)) }
+    pub(super) fn asks_ifs(
+        &mut self,
+        held: &[u8],
+        joined: &[u8],
+        size: u8,
+    ) -> Result<TerminalAct, TerminalFault>
+        requires fit { AreTerminalPlaces self.old (length held.now) (length joined.now) }
+        ensures fit { AreTerminalPlaces self.new (length held.now) (length joined.now) }
+        ensures turn { terminal_answers (terminal_held self.new held.now joined.now) result ≡ turn_of (terminal_turn (terminal_held self.old held.now joined.now) (ask_ifs size)) }
+        ensures state { terminal_held self.new held.now joined.now ≡ state_after (terminal_held self.old held.now joined.now) (terminal_turn (terminal_held self.old held.now joined.now) (ask_ifs size)) }
     {
-        match self.places.wait {
+        match self.wait {
             TerminalWait::Idle => {}
             TerminalWait::Dead => return Err(TerminalFault::Dead),
             _ => return Err(TerminalFault::Busy),
@@ -47,255 +61,307 @@ impl Terminal {
         if size == 0 || size == 255 {
             return Err(TerminalFault::Reserved);
         }
-        self.places.failures = 0;
-        self.places.wait = TerminalWait::Ifs(size);
+        self.failures = 0;
+        self.wait = TerminalWait::Ifs(size);
         Ok(TerminalAct::Send(Sent::Other(Short::request(S::Ifs, &[size]))))
     }
 
     /// These octets came as one block.
-    pub(super) fn takes(&mut self, octets: &[u8]) -> Result<TerminalAct, TerminalFault>
-        ensures turn { terminal_answers self.new result ≡ turn_of (terminal_turn self.old (takes (class_of self.old.ifsd octets.now))) }
-        ensures state { self.new ≡ state_after self.old (terminal_turn self.old (takes (class_of self.old.ifsd octets.now))) }
+    pub(super) fn takes(
+        &mut self,
+        held: &[u8],
+        joined: &mut [u8],
+        octets: &[u8],
+    ) -> Result<TerminalAct, TerminalFault>
+        requires fit { AreTerminalPlaces self.old (length held.now) (length joined.old) }
+        ensures fit { AreTerminalPlaces self.new (length held.now) (length joined.new) }
+        ensures turn { terminal_answers (terminal_held self.new held.now joined.new) result ≡ turn_of (terminal_turn (terminal_held self.old held.now joined.old) (takes (class_of (terminal_held self.old held.now joined.old).ifsd octets.now))) }
+        ensures state { terminal_held self.new held.now joined.new ≡ state_after (terminal_held self.old held.now joined.old) (terminal_turn (terminal_held self.old held.now joined.old) (takes (class_of (terminal_held self.old held.now joined.old).ifsd octets.now))) }
     {
-        let arrived = classify(octets, self.places.ifsd);
-        match self.places.wait {
+        let arrived = classify(octets, self.ifsd);
+        match self.wait {
             TerminalWait::Idle => Err(TerminalFault::Idle),
             TerminalWait::Dead => Err(TerminalFault::Dead),
-            TerminalWait::Ack(cut) => Ok(self.ack_took(cut, &arrived)),
-            TerminalWait::Answer(cut) => Ok(self.answer_took(cut, &arrived)),
-            TerminalWait::More => Ok(self.more_took(&arrived)),
-            TerminalWait::Ifs(size) => Ok(self.ifs_took(size, &arrived)),
-            TerminalWait::Resynch(asked) => Ok(self.resynch_took(asked, &arrived)),
+            TerminalWait::Ack(cut) => Ok(self.ack_took(held, joined, cut, &arrived)),
+            TerminalWait::Answer(cut) => Ok(self.answer_took(held, joined, cut, &arrived)),
+            TerminalWait::More => Ok(self.more_took(held, joined, &arrived)),
+            TerminalWait::Ifs(size) => Ok(self.ifs_took(held, joined, size, &arrived)),
+            TerminalWait::Resynch(asked) => Ok(self.resynch_took(held, joined, asked, &arrived)),
         }
     }
 
     /// Nothing came within the waiting time.
-    pub(super) fn hears_nothing(&mut self) -> Result<TerminalAct, TerminalFault>
-        ensures turn { terminal_answers self.new result ≡ turn_of (terminal_turn self.old (takes quiet)) }
-        ensures state { self.new ≡ state_after self.old (terminal_turn self.old (takes quiet)) }
+    pub(super) fn hears_nothing(
+        &mut self,
+        held: &[u8],
+        joined: &[u8],
+    ) -> Result<TerminalAct, TerminalFault>
+        requires fit { AreTerminalPlaces self.old (length held.now) (length joined.now) }
+        ensures fit { AreTerminalPlaces self.new (length held.now) (length joined.now) }
+        ensures turn { terminal_answers (terminal_held self.new held.now joined.now) result ≡ turn_of (terminal_turn (terminal_held self.old held.now joined.now) (takes quiet)) }
+        ensures state { terminal_held self.new held.now joined.now ≡ state_after (terminal_held self.old held.now joined.now) (terminal_turn (terminal_held self.old held.now joined.now) (takes quiet)) }
     {
-        match self.places.wait {
+        match self.wait {
             TerminalWait::Idle => Err(TerminalFault::Idle),
             TerminalWait::Dead => Err(TerminalFault::Dead),
             TerminalWait::Ack(_) | TerminalWait::Answer(_) | TerminalWait::More => {
-                Ok(self.fails_with(Fault::Free))
+                Ok(self.fails_with(held, joined, Fault::Free))
             }
             TerminalWait::Ifs(size) => {
-                Ok(self.fails(Sent::Other(Short::request(S::Ifs, &[size]))))
+                Ok(self.fails(held, joined, Sent::Other(Short::request(S::Ifs, &[size]))))
             }
-            TerminalWait::Resynch(asked) => Ok(self.resynch_again(asked)),
+            TerminalWait::Resynch(asked) => Ok(self.resynch_again(held, joined, asked)),
         }
     }
 
     /// An I-block of the command that isn't its last is under way.
-    fn ack_took(&mut self, cut: Cut, arrived: &Arrived) -> TerminalAct
-        requires inner { IsInner cut self.old.command }
-        requires waits { self.old.waits ≡ ack (field_at cut self.old.command) (rest_at cut self.old.command) }
-        requires unanswered { self.old.answered ≡ None }
-        ensures turn { turn_of (in_ack self.old (field_at cut self.old.command) (rest_at cut self.old.command) (came_of arrived.now)) ≡ Ok (terminal_does self.new result) }
-        ensures state { self.new ≡ state_after self.old (in_ack self.old (field_at cut self.old.command) (rest_at cut self.old.command) (came_of arrived.now)) }
+    fn ack_took(&mut self, held: &[u8], joined: &[u8], cut: Cut, arrived: &Arrived) -> TerminalAct
+        requires fit { AreTerminalPlaces self.old (length held.now) (length joined.now) }
+        requires inner { IsInner cut self.old.command_len }
+        requires waits { (terminal_held self.old held.now joined.now).waits ≡ ack (field_at cut (terminal_held self.old held.now joined.now).command) (rest_at cut (terminal_held self.old held.now joined.now).command) }
+        requires unanswered { self.old.is_answered ≡ false }
+        ensures fit { AreTerminalPlaces self.new (length held.now) (length joined.now) }
+        ensures turn { turn_of (in_ack (terminal_held self.old held.now joined.now) (field_at cut (terminal_held self.old held.now joined.now).command) (rest_at cut (terminal_held self.old held.now joined.now).command) (came_of arrived.now)) ≡ Ok (terminal_does (terminal_held self.new held.now joined.now) result) }
+        ensures state { terminal_held self.new held.now joined.now ≡ state_after (terminal_held self.old held.now joined.now) (in_ack (terminal_held self.old held.now joined.now) (field_at cut (terminal_held self.old held.now joined.now).command) (rest_at cut (terminal_held self.old held.now joined.now).command) (came_of arrived.now)) }
     {
         match arrived {
-            Arrived::Damaged | Arrived::Invalid => self.exchange_took(arrived),
+            Arrived::Damaged | Arrived::Invalid => self.exchange_took(held, joined, arrived),
             Arrived::Whole(block) => match block.pcb() {
                 Pcb::Ready { number, .. } => {
-                    if is_same(number, self.places.number) {
-                        return self.fails(Sent::Inner);
+                    if is_same(number, self.number) {
+                        return self.fails(held, joined, Sent::Inner);
                     }
-                    self.places.failures = 0;
-                    self.places.number = self.places.number.other();
-                    self.sends_from(cut.place + cut.size as usize)
+                    self.failures = 0;
+                    self.number = self.number.other();
+                    self.sends_from(held, joined, cut.place + cut.size as usize)
                 }
-                Pcb::Info { .. } | Pcb::Request(_) | Pcb::Response(_) => self.exchange_took(
-                    arrived,
-                ),
+                Pcb::Info { .. } | Pcb::Request(_) | Pcb::Response(_) => {
+                    self.exchange_took(held, joined, arrived)
+                }
             },
         }
     }
 
     /// The last I-block of the command is under way.
-    fn answer_took(&mut self, cut: Cut, arrived: &Arrived) -> TerminalAct
-        requires last { IsLast cut self.old.command }
-        requires waits { self.old.waits ≡ answer (field_at cut self.old.command) }
-        ensures turn { turn_of (in_answer self.old (field_at cut self.old.command) (came_of arrived.now)) ≡ Ok (terminal_does self.new result) }
-        ensures state { self.new ≡ state_after self.old (in_answer self.old (field_at cut self.old.command) (came_of arrived.now)) }
+    fn answer_took(
+        &mut self,
+        held: &[u8],
+        joined: &mut [u8],
+        cut: Cut,
+        arrived: &Arrived,
+    ) -> TerminalAct
+        requires fit { AreTerminalPlaces self.old (length held.now) (length joined.old) }
+        requires last { IsLast cut self.old.command_len }
+        requires waits { (terminal_held self.old held.now joined.old).waits ≡ answer (field_at cut (terminal_held self.old held.now joined.old).command) }
+        ensures fit { AreTerminalPlaces self.new (length held.now) (length joined.new) }
+        ensures turn { turn_of (in_answer (terminal_held self.old held.now joined.old) (field_at cut (terminal_held self.old held.now joined.old).command) (came_of arrived.now)) ≡ Ok (terminal_does (terminal_held self.new held.now joined.new) result) }
+        ensures state { terminal_held self.new held.now joined.new ≡ state_after (terminal_held self.old held.now joined.old) (in_answer (terminal_held self.old held.now joined.old) (field_at cut (terminal_held self.old held.now joined.old).command) (came_of arrived.now)) }
     {
         match arrived {
-            Arrived::Damaged | Arrived::Invalid => self.exchange_took(arrived),
+            Arrived::Damaged | Arrived::Invalid => self.exchange_took(held, joined, arrived),
             Arrived::Whole(block) => match block.pcb() {
                 Pcb::Ready { number, .. } => {
-                    if is_same(number, self.places.number) {
-                        self.fails(Sent::Last)
+                    if is_same(number, self.number) {
+                        self.fails(held, joined, Sent::Last)
                     } else {
-                        self.fails_with(Fault::Free)
+                        self.fails_with(held, joined, Fault::Free)
                     }
                 }
                 Pcb::Info { number, more } => {
-                    let fits = block.inf().len() <= self.places.most_answer;
-                    if !(is_same(number, self.places.expected) && fits) {
-                        return self.exchange_took(arrived);
+                    let fits = block.inf().len() <= self.most_answer;
+                    if !(is_same(number, self.expected) && fits) {
+                        return self.exchange_took(held, joined, arrived);
                     }
-                    self.places.number = self.places.number.other();
-                    self.joins(block.inf(), more)
+                    self.number = self.number.other();
+                    self.joins(held, joined, block.inf(), more)
                 }
-                Pcb::Request(_) | Pcb::Response(_) => self.exchange_took(arrived),
+                Pcb::Request(_) | Pcb::Response(_) => self.exchange_took(held, joined, arrived),
             },
         }
     }
 
     /// The answer goes on.
-    fn more_took(&mut self, arrived: &Arrived) -> TerminalAct
-        requires waits { self.old.waits ≡ more (joined_of self.old.waits) }
-        ensures turn { turn_of (in_more self.old (joined_of self.old.waits) (came_of arrived.now)) ≡ Ok (terminal_does self.new result) }
-        ensures state { self.new ≡ state_after self.old (in_more self.old (joined_of self.old.waits) (came_of arrived.now)) }
+    fn more_took(&mut self, held: &[u8], joined: &mut [u8], arrived: &Arrived) -> TerminalAct
+        requires fit { AreTerminalPlaces self.old (length held.now) (length joined.old) }
+        requires waits { (terminal_held self.old held.now joined.old).waits ≡ more (joined_of (terminal_held self.old held.now joined.old).waits) }
+        ensures fit { AreTerminalPlaces self.new (length held.now) (length joined.new) }
+        ensures turn { turn_of (in_more (terminal_held self.old held.now joined.old) (joined_of (terminal_held self.old held.now joined.old).waits) (came_of arrived.now)) ≡ Ok (terminal_does (terminal_held self.new held.now joined.new) result) }
+        ensures state { terminal_held self.new held.now joined.new ≡ state_after (terminal_held self.old held.now joined.old) (in_more (terminal_held self.old held.now joined.old) (joined_of (terminal_held self.old held.now joined.old).waits) (came_of arrived.now)) }
     {
         match arrived {
-            Arrived::Damaged | Arrived::Invalid => self.exchange_took(arrived),
+            Arrived::Damaged | Arrived::Invalid => self.exchange_took(held, joined, arrived),
             Arrived::Whole(block) => match block.pcb() {
-                Pcb::Ready { .. } => self.fails_with(Fault::Free),
+                Pcb::Ready { .. } => self.fails_with(held, joined, Fault::Free),
                 Pcb::Info { number, more } => {
-                    let fits = self.joined.len() + block.inf().len() <= self.places.most_answer;
-                    if is_same(number, self.places.expected) && fits {
-                        self.joins(block.inf(), more)
+                    let fits = self.joined_len + block.inf().len() <= self.most_answer;
+                    if is_same(number, self.expected) && fits {
+                        self.joins(held, joined, block.inf(), more)
                     } else {
-                        self.exchange_took(arrived)
+                        self.exchange_took(held, joined, arrived)
                     }
                 }
-                Pcb::Request(_) | Pcb::Response(_) => self.exchange_took(arrived),
+                Pcb::Request(_) | Pcb::Response(_) => self.exchange_took(held, joined, arrived),
             },
         }
     }
 
     /// A size was asked for.
-    fn ifs_took(&mut self, size: u8, arrived: &Arrived) -> TerminalAct
-        requires { IsSize size }
-        ensures turn { turn_of (in_ifs self.old size (came_of arrived.now)) ≡ Ok (terminal_does self.new result) }
-        ensures state { self.new ≡ state_after self.old (in_ifs self.old size (came_of arrived.now)) }
+    fn ifs_took(&mut self, held: &[u8], joined: &[u8], size: u8, arrived: &Arrived) -> TerminalAct
+        requires fit { AreTerminalPlaces self.old (length held.now) (length joined.now) }
+        requires size { IsSize size }
+        ensures fit { AreTerminalPlaces self.new (length held.now) (length joined.now) }
+        ensures turn { turn_of (in_ifs (terminal_held self.old held.now joined.now) size (came_of arrived.now)) ≡ Ok (terminal_does (terminal_held self.new held.now joined.now) result) }
+        ensures state { terminal_held self.new held.now joined.now ≡ state_after (terminal_held self.old held.now joined.now) (in_ifs (terminal_held self.old held.now joined.now) size (came_of arrived.now)) }
     {
         if arrived.responds_with(size) {
-            self.places.failures = 0;
-            self.places.ifsd = size;
-            self.places.wait = TerminalWait::Idle;
+            self.failures = 0;
+            self.ifsd = size;
+            self.wait = TerminalWait::Idle;
             return TerminalAct::IfsSet;
         }
-        self.fails(Sent::Other(Short::request(S::Ifs, &[size])))
+        self.fails(held, joined, Sent::Other(Short::request(S::Ifs, &[size])))
     }
 
     /// RESYNCH was asked for.
-    fn resynch_took(&mut self, asked: u8, arrived: &Arrived) -> TerminalAct
-        requires { asked ≤ 3 }
-        ensures turn { turn_of (in_resynch self.old asked (came_of arrived.now)) ≡ Ok (terminal_does self.new result) }
-        ensures state { self.new ≡ state_after self.old (in_resynch self.old asked (came_of arrived.now)) }
+    fn resynch_took(
+        &mut self,
+        held: &[u8],
+        joined: &[u8],
+        asked: u8,
+        arrived: &Arrived,
+    ) -> TerminalAct
+        requires fit { AreTerminalPlaces self.old (length held.now) (length joined.now) }
+        requires asked { asked ≤ 3 }
+        ensures fit { AreTerminalPlaces self.new (length held.now) (length joined.now) }
+        ensures turn { turn_of (in_resynch (terminal_held self.old held.now joined.now) asked (came_of arrived.now)) ≡ Ok (terminal_does (terminal_held self.new held.now joined.now) result) }
+        ensures state { terminal_held self.new held.now joined.now ≡ state_after (terminal_held self.old held.now joined.now) (in_resynch (terminal_held self.old held.now joined.now) asked (came_of arrived.now)) }
     {
         match arrived {
-            Arrived::Damaged | Arrived::Invalid => self.resynch_again(asked),
+            Arrived::Damaged | Arrived::Invalid => self.resynch_again(held, joined, asked),
             Arrived::Whole(block) => match block.pcb() {
                 Pcb::Response(S::Resynch) => {
-                    self.places.number = Number::Zero;
-                    self.places.expected = Number::Zero;
-                    self.places.failures = 0;
-                    self.places.ifsc = self.places.first_ifsc;
-                    self.places.ifsd = 32;
-                    self.places.wait = TerminalWait::Idle;
+                    self.number = Number::Zero;
+                    self.expected = Number::Zero;
+                    self.failures = 0;
+                    self.ifsc = self.first_ifsc;
+                    self.ifsd = 32;
+                    self.wait = TerminalWait::Idle;
                     TerminalAct::GivenUp
                 }
                 Pcb::Response(S::Ifs | S::Abort | S::Wtx)
                 | Pcb::Info { .. }
                 | Pcb::Ready { .. }
-                | Pcb::Request(_) => self.resynch_again(asked),
+                | Pcb::Request(_) => self.resynch_again(held, joined, asked),
             },
         }
     }
 
     /// RESYNCH is asked for again, or the card is found dead.
-    fn resynch_again(&mut self, asked: u8) -> TerminalAct
-        requires { asked ≤ 3 }
-        ensures turn { turn_of (in_resynch self.old asked quiet) ≡ Ok (terminal_does self.new result) }
-        ensures state { self.new ≡ state_after self.old (in_resynch self.old asked quiet) }
+    fn resynch_again(&mut self, held: &[u8], joined: &[u8], asked: u8) -> TerminalAct
+        requires fit { AreTerminalPlaces self.old (length held.now) (length joined.now) }
+        requires asked { asked ≤ 3 }
+        ensures fit { AreTerminalPlaces self.new (length held.now) (length joined.now) }
+        ensures turn { turn_of (in_resynch (terminal_held self.old held.now joined.now) asked quiet) ≡ Ok (terminal_does (terminal_held self.new held.now joined.now) result) }
+        ensures state { terminal_held self.new held.now joined.now ≡ state_after (terminal_held self.old held.now joined.now) (in_resynch (terminal_held self.old held.now joined.now) asked quiet) }
     {
         if asked < 3 {
-            self.places.wait = TerminalWait::Resynch(asked + 1);
+            self.wait = TerminalWait::Resynch(asked + 1);
             TerminalAct::Send(Sent::Other(Short::request(S::Resynch, &[])))
         } else {
-            self.places.wait = TerminalWait::Dead;
+            self.wait = TerminalWait::Dead;
             TerminalAct::Dead
         }
     }
 
     /// The next I-block of the command, from a place on, cut at the present size.
-    fn sends_from(&mut self, place: usize) -> TerminalAct
-        requires place { place ≤ length self.old.command }
-        requires unanswered { self.old.answered ≡ None }
-        ensures turn { turn_of (sends_next self.old (drop place self.old.command)) ≡ Ok (terminal_does self.new result) }
-        ensures state { self.new ≡ state_after self.old (sends_next self.old (drop place self.old.command)) }
+    fn sends_from(&mut self, held: &[u8], joined: &[u8], place: usize) -> TerminalAct
+        requires fit { AreTerminalPlaces self.old (length held.now) (length joined.now) }
+        requires place { place ≤ self.old.command_len }
+        requires unanswered { self.old.is_answered ≡ false }
+        ensures fit { AreTerminalPlaces self.new (length held.now) (length joined.now) }
+        ensures turn { turn_of (sends_next (terminal_held self.old held.now joined.now) (drop place (terminal_held self.old held.now joined.now).command)) ≡ Ok (terminal_does (terminal_held self.new held.now joined.now) result) }
+        ensures state { terminal_held self.new held.now joined.now ≡ state_after (terminal_held self.old held.now joined.now) (sends_next (terminal_held self.old held.now joined.now) (drop place (terminal_held self.old held.now joined.now).command)) }
     {
         let cut = Cut {
             place,
-            size: self.places.ifsc,
+            size: self.ifsc,
         };
-        self.joined.clear();
-        self.places.is_answered = false;
-        if self.command.len() - place > cut.size as usize {
-            self.places.wait = TerminalWait::Ack(cut);
+        self.joined_len = 0;
+        self.is_answered = false;
+        let command = &held[..self.command_len];
+        if command.len() - place > cut.size as usize {
+            self.wait = TerminalWait::Ack(cut);
             TerminalAct::Send(Sent::Inner)
         } else {
-            self.places.wait = TerminalWait::Answer(cut);
+            self.wait = TerminalWait::Answer(cut);
             TerminalAct::Send(Sent::Last)
         }
     }
 
     /// An I-block of the answer that fits is joined.
-    fn joins(&mut self, inf: &[u8], more: bool) -> TerminalAct
-        requires joining { IsJoining self.old.waits }
-        requires fits { length (joined_of self.old.waits) + length inf.now ≤ self.old.limits.answer }
-        ensures turn { turn_of (joins self.old (joined_of self.old.waits ++ inf.now) more) ≡ Ok (terminal_does self.new result) }
-        ensures state { self.new ≡ state_after self.old (joins self.old (joined_of self.old.waits ++ inf.now) more) }
+    fn joins(&mut self, held: &[u8], joined: &mut [u8], inf: &[u8], more: bool) -> TerminalAct
+        requires fit { AreTerminalPlaces self.old (length held.now) (length joined.old) }
+        requires joining { IsJoining (terminal_held self.old held.now joined.old).waits }
+        requires fits { length (joined_of (terminal_held self.old held.now joined.old).waits) + length inf.now ≤ self.old.most_answer }
+        ensures fit { AreTerminalPlaces self.new (length held.now) (length joined.new) }
+        ensures turn { turn_of (joins (terminal_held self.old held.now joined.old) (joined_of (terminal_held self.old held.now joined.old).waits ++ inf.now) more) ≡ Ok (terminal_does (terminal_held self.new held.now joined.new) result) }
+        ensures state { terminal_held self.new held.now joined.new ≡ state_after (terminal_held self.old held.now joined.old) (joins (terminal_held self.old held.now joined.old) (joined_of (terminal_held self.old held.now joined.old).waits ++ inf.now) more) }
     {
-        self.joined.extend_from_slice(inf).unwrap();
-        self.places.failures = 0;
-        self.places.expected = self.places.expected.other();
+        self.joined_len = append(joined, self.joined_len, inf);
+        self.failures = 0;
+        self.expected = self.expected.other();
         if more {
-            self.places.wait = TerminalWait::More;
-            TerminalAct::Send(Sent::Other(Short::ready(self.places.expected, Fault::Free)))
+            self.wait = TerminalWait::More;
+            TerminalAct::Send(Sent::Other(Short::ready(self.expected, Fault::Free)))
         } else {
-            self.places.wait = TerminalWait::Idle;
-            self.places.is_answered = true;
+            self.wait = TerminalWait::Idle;
+            self.is_answered = true;
             TerminalAct::Answered
         }
     }
 
     /// A failure: the block is sent, or RESYNCH is asked for.
-    fn fails(&mut self, sent: Sent) -> TerminalAct
-        ensures turn { turn_of (fails self.old (terminal_sends self.old sent)) ≡ Ok (terminal_does self.new result) }
-        ensures state { self.new ≡ state_after self.old (fails self.old (terminal_sends self.old sent)) }
+    fn fails(&mut self, held: &[u8], joined: &[u8], sent: Sent) -> TerminalAct
+        requires fit { AreTerminalPlaces self.old (length held.now) (length joined.now) }
+        ensures fit { AreTerminalPlaces self.new (length held.now) (length joined.now) }
+        ensures turn { turn_of (fails (terminal_held self.old held.now joined.now) (terminal_sends (terminal_held self.old held.now joined.now) sent)) ≡ Ok (terminal_does (terminal_held self.new held.now joined.now) result) }
+        ensures state { terminal_held self.new held.now joined.now ≡ state_after (terminal_held self.old held.now joined.now) (fails (terminal_held self.old held.now joined.now) (terminal_sends (terminal_held self.old held.now joined.now) sent)) }
     {
-        if self.places.failures < 3 {
-            self.places.failures += 1;
+        if self.failures < 3 {
+            self.failures += 1;
             return TerminalAct::Send(sent);
         }
-        self.places.wait = TerminalWait::Resynch(1);
+        self.wait = TerminalWait::Resynch(1);
         TerminalAct::Send(Sent::Other(Short::request(S::Resynch, &[])))
     }
 
     /// A failure, of which an R-block tells the card.
-    fn fails_with(&mut self, fault: Fault) -> TerminalAct
-        ensures turn { turn_of (fails self.old (ready self.old.expected fault)) ≡ Ok (terminal_does self.new result) }
-        ensures state { self.new ≡ state_after self.old (fails self.old (ready self.old.expected fault)) }
+    fn fails_with(&mut self, held: &[u8], joined: &[u8], fault: Fault) -> TerminalAct
+        requires fit { AreTerminalPlaces self.old (length held.now) (length joined.now) }
+        ensures fit { AreTerminalPlaces self.new (length held.now) (length joined.now) }
+        ensures turn { turn_of (fails (terminal_held self.old held.now joined.now) (ready (terminal_held self.old held.now joined.now).expected fault)) ≡ Ok (terminal_does (terminal_held self.new held.now joined.now) result) }
+        ensures state { terminal_held self.new held.now joined.now ≡ state_after (terminal_held self.old held.now joined.now) (fails (terminal_held self.old held.now joined.now) (ready (terminal_held self.old held.now joined.now).expected fault)) }
     {
-        self.fails(Sent::Other(Short::ready(self.places.expected, fault)))
+        self.fails(
+            held,
+            joined,
+            Sent::Other(Short::ready(self.expected, fault)),
+        )
     }
 
     /// In an exchange, what is taken alike whatever the terminal waits for.
-    fn exchange_took(&mut self, arrived: &Arrived) -> TerminalAct
-        ensures turn { turn_of (in_exchange self.old (came_of arrived.now)) ≡ Ok (terminal_does self.new result) }
-        ensures state { self.new ≡ state_after self.old (in_exchange self.old (came_of arrived.now)) }
+    fn exchange_took(&mut self, held: &[u8], joined: &[u8], arrived: &Arrived) -> TerminalAct
+        requires fit { AreTerminalPlaces self.old (length held.now) (length joined.now) }
+        ensures fit { AreTerminalPlaces self.new (length held.now) (length joined.now) }
+        ensures turn { turn_of (in_exchange (terminal_held self.old held.now joined.now) (came_of arrived.now)) ≡ Ok (terminal_does (terminal_held self.new held.now joined.now) result) }
+        ensures state { terminal_held self.new held.now joined.now ≡ state_after (terminal_held self.old held.now joined.now) (in_exchange (terminal_held self.old held.now joined.now) (came_of arrived.now)) }
     {
         let fault = match arrived {
             Arrived::Damaged => Fault::Redundancy,
             Arrived::Invalid => Fault::Other,
             Arrived::Whole(block) => match block.pcb() {
                 Pcb::Request(S::Ifs) => {
-                    self.places.ifsc = block.inf()[0];
+                    self.ifsc = block.inf()[0];
                     return TerminalAct::Send(Sent::Other(Short::response(S::Ifs, block.inf())));
                 }
                 Pcb::Request(S::Wtx) => {
@@ -304,39 +370,42 @@ impl Terminal {
                 _ => Fault::Other,
             },
         };
-        self.fails_with(fault)
+        self.fails_with(held, joined, fault)
     }
 
     /// The block that is sent, its field lent.
-    pub(super) fn lent<'a>(&'a self, sent: &'a Sent) -> BlockRef<'a>
-        ensures { result ≡ terminal_sends self.now sent.now }
+    pub(super) fn lent<'a>(&self, held: &'a [u8], joined: &[u8], sent: &'a Sent) -> BlockRef<'a>
+        requires fit { AreTerminalPlaces self.now (length held.now) (length joined.now) }
+        ensures { result ≡ terminal_sends (terminal_held self.now held.now joined.now) sent.now }
     {
         match sent {
-            Sent::Inner => self.info(true),
-            Sent::Last => self.info(false),
+            Sent::Inner => self.info(held, joined, true),
+            Sent::Last => self.info(held, joined, false),
             Sent::Other(short) => short.lent(),
         }
     }
 
     /// The I-block under way.
-    fn info(&self, more: bool) -> BlockRef<'_>
-        ensures { result ≡ info self.now.number more (field_sent self.now.waits) }
+    fn info<'a>(&self, held: &'a [u8], joined: &[u8], more: bool) -> BlockRef<'a>
+        requires fit { AreTerminalPlaces self.now (length held.now) (length joined.now) }
+        ensures { result ≡ info (terminal_held self.now held.now joined.now).number more (field_sent (terminal_held self.now held.now joined.now).waits) }
     {
         let pcb = Pcb::Info {
-            number: self.places.number,
+            number: self.number,
             more,
         };
-        BlockRef::new(0, pcb, self.field()).unwrap()
+        BlockRef::new(0, pcb, self.field(held, joined)).unwrap()
     }
 
     /// The field of the I-block under way.
-    fn field(&self) -> &[u8]
-        ensures octets { result.now ≡ field_sent self.now.waits }
+    fn field<'a>(&self, held: &'a [u8], joined: &[u8]) -> &'a [u8]
+        requires fit { AreTerminalPlaces self.now (length held.now) (length joined.now) }
+        ensures octets { result.now ≡ field_sent (terminal_held self.now held.now joined.now).waits }
         ensures most { length result.now ≤ 254 }
     {
-        match self.places.wait {
+        match self.wait {
             TerminalWait::Ack(cut) | TerminalWait::Answer(cut) => field_in(
-                self.command.as_slice(),
+                &held[..self.command_len],
                 cut,
             ),
             _ => &[],

@@ -1,0 +1,4 @@
+use Rattle.t1_core.proofs.terminal.Terminal.answer.Goals as goal
+
+pub returns : goal.returns
+returns c = rw (← c.self.view_is, ← c.as_slice.ensures.value) (c.answer.ensures c.self.inside.command.items)

@@ -1,0 +1,114 @@
+//! Whether places are those of an end with buffers of these sizes: for places that were kept where anything
+//! may have written to them.
+
+ghost use Rattle.std.specs.Prelude.{◌≡◌, ◌≤◌, true};
+ghost use Rattle.t1_core.specs.Views.{AreTerminalPlaces, IsSize, IsInner, IsLast, IsWait};
+ghost use Rattle.t1_core.specs.CardViews.{AreCardPlaces, IsSaved, IsCardWait};
+
+use crate::places::{CardPlaces, TerminalPlaces};
+use crate::turns::{CardWait, Cut, Request, TerminalWait};
+
+/// Whether a block's field may have this size.
+fn is_size(size: u8) -> bool
+    ensures yes { result ≡ true → IsSize size }
+    ensures no { IsSize size → result ≡ true }
+{
+    1 <= size && size <= 254
+}
+
+impl Cut {
+    /// Whether more of a message of so many octets follows the block.
+    fn is_inner(self, octets: usize) -> bool
+        ensures yes { result ≡ true → IsInner self octets }
+        ensures no { IsInner self octets → result ≡ true }
+    {
+        is_size(self.size) && self.place <= octets && octets - self.place > self.size as usize
+    }
+
+    /// Whether the block is the last of a message of so many octets.
+    fn is_last(self, octets: usize) -> bool
+        ensures yes { result ≡ true → IsLast self octets }
+        ensures no { IsLast self octets → result ≡ true }
+    {
+        is_size(self.size) && self.place <= octets && octets - self.place <= self.size as usize
+    }
+}
+
+impl TerminalWait {
+    /// Whether a terminal that holds so many octets may wait in this.
+    fn fits(self, command: usize, joined: usize, is_answered: bool) -> bool
+        ensures yes { result ≡ true → IsWait self command joined is_answered }
+        ensures no { IsWait self command joined is_answered → result ≡ true }
+    {
+        match self {
+            TerminalWait::Idle | TerminalWait::Dead => true,
+            TerminalWait::Ack(cut) => cut.is_inner(command) && joined == 0 && !is_answered,
+            TerminalWait::Answer(cut) => cut.is_last(command) && joined == 0 && !is_answered,
+            TerminalWait::More => !is_answered,
+            TerminalWait::Ifs(size) => is_size(size),
+            TerminalWait::Resynch(asked) => asked <= 3,
+        }
+    }
+}
+
+impl TerminalPlaces {
+    /// Whether these are the places of a terminal whose buffers have room for so many octets.
+    pub fn fits(&self, command: usize, answer: usize) -> bool
+        ensures yes { result ≡ true → AreTerminalPlaces self.now command answer }
+        ensures no { AreTerminalPlaces self.now command answer → result ≡ true }
+    {
+        self.wait
+            .fits(self.command_len, self.joined_len, self.is_answered)
+            && is_size(self.ifsc)
+            && is_size(self.ifsd)
+            && is_size(self.first_ifsc)
+            && self.command_len <= command
+            && self.joined_len <= answer
+            && self.most_command <= command
+            && self.most_answer <= answer
+    }
+}
+
+impl CardWait {
+    /// Whether a card whose reply has so many octets may wait in this.
+    fn fits(self, saved: Option<Cut>, octets: usize) -> bool
+        ensures yes { result ≡ true → IsCardWait self saved octets }
+        ensures no { IsCardWait self saved octets → result ≡ true }
+    {
+        match self {
+            CardWait::Command | CardWait::Joining => true,
+            CardWait::Host | CardWait::Asking(Request::Time(_)) => saved.is_none(),
+            CardWait::Reply(cut) => cut.is_inner(octets) && saved.is_none(),
+            CardWait::Asking(Request::Size(size)) => is_size(size) && saved.is_none(),
+        }
+    }
+}
+
+/// Whether a card whose reply has so many octets may hold this block saved.
+fn may_be_saved(saved: Option<Cut>, octets: usize) -> bool
+    ensures yes { result ≡ true → IsSaved saved octets }
+    ensures no { IsSaved saved octets → result ≡ true }
+{
+    match saved {
+        Some(cut) => cut.is_last(octets),
+        None => true,
+    }
+}
+
+impl CardPlaces {
+    /// Whether these are the places of a card whose buffers have room for so many octets.
+    pub fn fits(&self, command: usize, reply: usize) -> bool
+        ensures yes { result ≡ true → AreCardPlaces self.now command reply }
+        ensures no { AreCardPlaces self.now command reply → result ≡ true }
+    {
+        self.wait.fits(self.saved, self.reply_len)
+            && may_be_saved(self.saved, self.reply_len)
+            && is_size(self.ifsc)
+            && is_size(self.ifsd)
+            && is_size(self.first_ifsc)
+            && self.command_len <= command
+            && self.reply_len <= reply
+            && self.most_command <= command
+            && self.most_reply <= reply
+    }
+}
