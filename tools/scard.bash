@@ -8,11 +8,11 @@ _scard() {
     --ifs | --ifsd | --lose | --damage | --spoil) ;;
     *)
         case ${COMP_WORDS[1]} in
-        check | show) words='--stdin --ifs --number --help' ;;
-        build) words='--help' ;;
-        replay) words='--end --help' ;;
-        migrate) words='--help' ;;
-        simulate) words='--ifsd --lose --damage --spoil --help' ;;
+        check | show) words='--stdin --ifs --number --explain --help' ;;
+        build) words='--explain --help' ;;
+        replay) words='--end --explain --help' ;;
+        migrate) words='--explain --help' ;;
+        simulate) words='--ifsd --lose --damage --spoil --explain --help' ;;
         esac
         case $COMP_CWORD:${COMP_WORDS[1]} in
         1:*) words='check show build replay migrate simulate help --help' ;;

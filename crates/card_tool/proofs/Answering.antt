@@ -45,7 +45,7 @@ asks-none words fault (called_for_help among help e) ask = cc e
 asks-none words fault (not_taken other e) ask = let bad = subst HasOther ask.0 other in bad.1
 
 module _ (words : List (List ℕ)) (held left : Option (List ℕ)) (before after : ℕ) where
-  right : (request : Request) (text : List ℕ) (ended : Status) → IsRead words (Ok request) → IsRightTo request held left before after text ended → IsRight words held left before after text ended
+  pub right : (request : Request) (text : List ℕ) (ended : Status) → IsRead words (Ok request) → IsRightTo request held left before after text ended → IsRight words held left before after text ended
   right request text ended read (inl to) = inl (record {
     file = to.file;
     is_file = λ ask. to.is_file (asks words request read ask);

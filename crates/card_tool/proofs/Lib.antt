@@ -9,3 +9,4 @@ pub mod Forests
 pub mod Duplicates
 pub mod Inputs
 pub mod Answering
+pub mod Explaining

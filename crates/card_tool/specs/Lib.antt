@@ -11,3 +11,4 @@ pub mod ForestTexts
 pub mod ListTexts
 pub mod BlockTexts
 pub mod Answers
+pub mod Explained

@@ -14,6 +14,7 @@ pub mod block;
 pub mod chain;
 pub mod command;
 mod exchange;
+mod explained;
 pub mod file;
 pub mod forest;
 pub mod host;

@@ -1,21 +1,24 @@
 //! The program: from its words to the text that it writes.
 
 ghost use Rattle.std.specs.Prelude.{◌≡◌, ◌≤◌, IfOk};
-ghost use Rattle.card_tool.specs.Answers.{Answers, AnswersTo, Checks, IsRight, IsWritten, Shows, Writes};
+ghost use Rattle.card_tool.specs.Answers.{Answers, AnswersTo, Checks, Gives, IsWritten, Shows, Writes};
+ghost use Rattle.card_tool.specs.Explained.{IsRightWith};
 ghost use Rattle.card_tool.specs.Files.{IsBegun};
 ghost use Rattle.card_words.specs.Texts.{fault_text};
 ghost use Rattle.card_words.specs.Words.{texts, AskForFile, IsSized, NeedsFile};
 ghost use Rattle.card_tool.specs.declared.status.Status.TheVariants as ended;
 
 use crate::answer::Answer;
+use crate::explained::explained;
 use crate::file::{octets_given, read_whole};
 use crate::status::Status;
 use crate::{atr, block, chain, command, exchange, forest, list, response, simulation};
-use card_words::{Expected, Fault, Kind, Request};
+use card_words::{Expected, Fault, Kind, Request, asks_to_explain};
 use octet_core::{Sink, Source, write_octets};
 use std::alloc::{AllocError, Global};
 
-/// Does what the words ask for, of which the first is the program's name, and writes one text.
+/// Does what the words ask for, of which the first is the program's name, and writes one text: with an
+/// explanation after it where they have `--explain`, which is left out where memory for it is refused.
 ///
 /// Where a growth of memory is refused the text is `fault: memory`; where the writer fails a part of
 /// the text is written; in both cases the status is `Fault`. The reader is read only where the words ask
@@ -27,11 +30,11 @@ pub fn run<R: Source, W: Sink>(
     reader: &mut R,
     writer: &mut W,
 ) -> Status
-    ensures written { Writes (IsRight (texts words.items) (R.remaining reader.old) (R.remaining reader.new) (R.failures reader.old) (R.failures reader.new)) (W.contents writer.old) (W.contents writer.new) (W.failures writer.old) (W.failures writer.new) result }
+    ensures written { Writes (IsRightWith (texts words.items) (R.remaining reader.old) (R.remaining reader.new) (R.failures reader.old) (R.failures reader.new)) (W.contents writer.old) (W.contents writer.new) (W.failures writer.old) (W.failures writer.new) result }
     ensures unread { (AskForFile (texts words.items) → ⊥) → reader.new ≡ reader.old }
     ensures few { IsBegun (R.remaining reader.old) (R.remaining reader.new) 4194305 }
 {
-    match answer(alloc, words.as_slice(), reader) {
+    match answer_as_asked(alloc, words.as_slice(), reader) {
         Ok(answer) => write(answer.text.get(), answer.status, writer),
         Err(fault) => report(fault, writer),
     }
@@ -53,6 +56,23 @@ fn write<W: Sink>(text: &[u8], status: Status, writer: &mut W) -> Status
     }
 }
 
+/// The text and the status of what the words ask for, with an explanation where they ask for one.
+fn answer_as_asked<R: Source>(
+    alloc: Global,
+    words: &[String],
+    reader: &mut R,
+) -> Result<Answer, Fault>
+    ensures told { Gives (IsRightWith (texts words.now) (R.remaining reader.old) (R.remaining reader.new) (R.failures reader.old) (R.failures reader.new)) result }
+    ensures unread { (AskForFile (texts words.now) → ⊥) → reader.new ≡ reader.old }
+    ensures few { IsBegun (R.remaining reader.old) (R.remaining reader.new) 4194305 }
+{
+    if asks_to_explain(words) {
+        explained(alloc, words, reader)
+    } else {
+        answer(alloc, words, reader)
+    }
+}
+
 /// The text and the status of what the words ask for.
 fn answer<R: Source>(alloc: Global, words: &[String], reader: &mut R) -> Result<Answer, Fault>
     ensures told { Answers (texts words.now) (R.remaining reader.old) (R.remaining reader.new) (R.failures reader.old) (R.failures reader.new) result }
@@ -64,7 +84,11 @@ fn answer<R: Source>(alloc: Global, words: &[String], reader: &mut R) -> Result<
 }
 
 /// The text and the status of a request.
-fn answer_to<R: Source>(alloc: Global, request: Request, reader: &mut R) -> Result<Answer, Fault>
+pub(crate) fn answer_to<R: Source>(
+    alloc: Global,
+    request: Request,
+    reader: &mut R,
+) -> Result<Answer, Fault>
     requires { IsSized request }
     ensures told { AnswersTo request (R.remaining reader.old) (R.remaining reader.new) (R.failures reader.old) (R.failures reader.new) result }
     ensures unread { (NeedsFile request → ⊥) → reader.new ≡ reader.old }
@@ -106,7 +130,7 @@ fn answer_to<R: Source>(alloc: Global, request: Request, reader: &mut R) -> Resu
 }
 
 /// How many octets the value takes.
-fn check(alloc: Global, expected: Expected, octets: &[u8]) -> Result<Answer, AllocError>
+pub(crate) fn check(alloc: Global, expected: Expected, octets: &[u8]) -> Result<Answer, AllocError>
     requires least { 1 ≤ expected.ifs }
     requires most { expected.ifs ≤ 254 }
     ensures { IfOk result (λ answer. Checks expected.kind expected octets.now answer.text answer.status) }
@@ -123,7 +147,7 @@ fn check(alloc: Global, expected: Expected, octets: &[u8]) -> Result<Answer, All
 }
 
 /// The value itself.
-fn show(alloc: Global, expected: Expected, octets: &[u8]) -> Result<Answer, AllocError>
+pub(crate) fn show(alloc: Global, expected: Expected, octets: &[u8]) -> Result<Answer, AllocError>
     requires least { 1 ≤ expected.ifs }
     requires most { expected.ifs ≤ 254 }
     ensures { IfOk result (λ answer. Shows expected.kind expected octets.now answer.text answer.status) }

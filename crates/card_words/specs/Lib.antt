@@ -6,3 +6,4 @@ pub mod Given
 pub mod Known
 pub mod Session
 pub mod Words
+pub mod Explain

@@ -27,9 +27,16 @@ use Rattle.card_words.specs.declared.session.Session.{Session}
 use Rattle.card_words.specs.declared.request.Request.TheVariants.{BuildChain, BuildTidy, BuildFill, Check, Show, Replay, Migrate, Simulate, Help}
 use Rattle.block_core.specs.declared.pcb.Number.{Number}
 use Rattle.block_core.specs.declared.pcb.Number.TheVariants.{Zero, One}
-use Rattle.clap.specs.declared.builder.action.ArgAction.TheVariants.{Append}
+use Rattle.clap.specs.declared.builder.action.ArgAction.TheVariants.{Append, SetTrue}
 
 -- ---- the form of the words
+
+-- the option that asks for an explanation, which every subcommand has
+abbrev pub explain_rule : Rule
+explain_rule = record (new_rule (codes "explain")) { long = Some (codes "explain"); action = Some SetTrue }
+
+abbrev pub begun_app : List ℕ → App
+begun_app name = with_rule (new_app name) explain_rule
 
 abbrev pub kind_rule : Rule
 kind_rule = record (new_rule (codes "kind")) { required = true }
@@ -53,7 +60,7 @@ number_rule = record (new_rule (codes "number")) { long = Some (codes "number");
 
 -- a subcommand that takes what octets are taken for: a kind, an information size and a first number
 abbrev pub expected_app : List ℕ → App
-expected_app name = with_rule (with_rule (with_rule (new_app name) kind_rule) ifs_rule) number_rule
+expected_app name = with_rule (with_rule (with_rule (begun_app name) kind_rule) ifs_rule) number_rule
 
 -- the same with the octets
 abbrev pub input_app : List ℕ → App
@@ -67,18 +74,18 @@ words_rule = record (new_rule (codes "words")) { action = Some Append }
 
 -- the subcommand that builds what a word says, of the words after it
 abbrev pub build_app : App
-build_app = with_rule (with_rule (with_rule (new_app (codes "build")) what_rule) words_rule) stdin_rule
+build_app = with_rule (with_rule (with_rule (begun_app (codes "build")) what_rule) words_rule) stdin_rule
 
 abbrev pub end_rule : Rule
 end_rule = record (new_rule (codes "end")) { long = Some (codes "end"); required = true }
 
 -- the subcommand that replays recorded exchanges at an end
 abbrev pub replay_app : App
-replay_app = with_rule (new_app (codes "replay")) end_rule
+replay_app = with_rule (begun_app (codes "replay")) end_rule
 
 -- the subcommand that takes recorded exchanges into the newest version, which takes no words
 abbrev pub migrate_app : App
-migrate_app = new_app (codes "migrate")
+migrate_app = begun_app (codes "migrate")
 
 abbrev pub atr_rule : Rule
 atr_rule = record (new_rule (codes "atr")) { required = true }
@@ -91,7 +98,7 @@ ifsd_rule = record (new_rule (codes "ifsd")) { long = Some (codes "ifsd"); parse
 
 -- the subcommand that records a session of both ends, first with its words and the size that is asked for
 abbrev pub session_app : App
-session_app = with_rule (with_rule (with_rule (new_app (codes "simulate")) atr_rule) pairs_rule) ifsd_rule
+session_app = with_rule (with_rule (with_rule (begun_app (codes "simulate")) atr_rule) pairs_rule) ifsd_rule
 
 abbrev pub simulate_app : App
 simulate_app = with_rule (with_rule (with_rule session_app (option_rule (codes "lose"))) (option_rule (codes "damage"))) (option_rule (codes "spoil"))

@@ -3,7 +3,7 @@
 ghost use Rattle.std.specs.Prelude.{◌≡◌, IfOk, false};
 ghost use Rattle.clap.specs.Words.{app_of, rule_of};
 ghost use Rattle.clap.specs.declared.builder.command.Command.TheViews.{out-Command};
-ghost use Rattle.card_words.specs.Words.{atr_rule, build_app, end_rule, expected_app, hex_rule, ifs_rule, ifsd_rule, input_app, kind_rule, migrate_app, number_rule, octets_app, option_rule, pairs_rule, replay_app, scard, session_app, simulate_app, stdin_rule, what_rule, words_rule};
+ghost use Rattle.card_words.specs.Words.{atr_rule, begun_app, build_app, end_rule, expected_app, explain_rule, hex_rule, ifs_rule, ifsd_rule, input_app, kind_rule, migrate_app, number_rule, octets_app, option_rule, pairs_rule, replay_app, scard, session_app, simulate_app, stdin_rule, what_rule, words_rule};
 
 use clap::{Arg, ArgAction, Command, value_parser};
 use std::alloc::{AllocError, Global};
@@ -13,10 +13,11 @@ pub(crate) fn program<'a>(alloc: Global) -> Result<Command<'a>, AllocError>
     ensures { IfOk result (λ command. app_of command ≡ scard) }
 {
     let replay = replay_command(alloc)?;
+    let migrate = migrate_command(alloc)?;
     let simulate = simulate_command(alloc)?;
     octets_command(alloc)?
         .subcommand(replay)?
-        .subcommand(migrate_command(alloc))?
+        .subcommand(migrate)?
         .subcommand(simulate)
 }
 
@@ -65,11 +66,34 @@ fn expected_command<'a>(
     ensures app { IfOk result (λ command. app_of command ≡ expected_app name.now) }
     ensures local { IfOk result (λ command. (out-Command command).has_globals ≡ false) }
 {
-    Command::new(alloc, name)
-        .about(about)
+    begun_command(alloc, name, about)?
         .arg(kind_arg(alloc))?
         .arg(ifs_arg(alloc))?
         .arg(number_arg(alloc))
+}
+
+/// A subcommand with what all of them have: the option that asks for an explanation.
+fn begun_command<'a>(
+    alloc: Global,
+    name: &'a str,
+    about: &'a str,
+) -> Result<Command<'a>, AllocError>
+    ensures app { IfOk result (λ command. app_of command ≡ begun_app name.now) }
+    ensures local { IfOk result (λ command. (out-Command command).has_globals ≡ false) }
+{
+    Command::new(alloc, name)
+        .about(about)
+        .arg(explain_arg(alloc))
+}
+
+fn explain_arg<'a>(alloc: Global) -> Arg<'a>
+    ensures rule { rule_of result ≡ explain_rule }
+    ensures local { result.global ≡ false }
+{
+    Arg::new(alloc, "explain")
+        .long("explain")
+        .action(ArgAction::SetTrue)
+        .help("Say after the line of a fault or a refusal what is wrong, and where")
 }
 
 /// The subcommand that builds what a word says.
@@ -77,11 +101,13 @@ fn build_command<'a>(alloc: Global) -> Result<Command<'a>, AllocError>
     ensures app { IfOk result (λ command. app_of command ≡ build_app) }
     ensures local { IfOk result (λ command. (out-Command command).has_globals ≡ false) }
 {
-    Command::new(alloc, "build")
-        .about(
-            "Build octets: chain IFS NUMBER HEX, tidy HEX, tidy --stdin FORM, \
-             or fill DOL F:TAG:VALUE..",
-        )
+    let begun = begun_command(
+        alloc,
+        "build",
+        "Build octets: chain IFS NUMBER HEX, tidy HEX, tidy --stdin FORM, \
+         or fill DOL F:TAG:VALUE..",
+    )?;
+    begun
         .arg(what_arg(alloc))?
         .arg(words_arg(alloc))?
         .arg(stdin_arg(alloc))
@@ -92,17 +118,22 @@ fn replay_command<'a>(alloc: Global) -> Result<Command<'a>, AllocError>
     ensures app { IfOk result (λ command. app_of command ≡ replay_app) }
     ensures local { IfOk result (λ command. (out-Command command).has_globals ≡ false) }
 {
-    Command::new(alloc, "replay")
-        .about("Replay the recorded exchanges on standard input at one end")
-        .arg(end_arg(alloc))
+    let begun = begun_command(
+        alloc,
+        "replay",
+        "Replay the recorded exchanges on standard input at one end",
+    )?;
+    begun.arg(end_arg(alloc))
 }
 
 /// The subcommand that takes recorded exchanges into the newest version.
-fn migrate_command<'a>(alloc: Global) -> Command<'a>
-    ensures app { app_of result ≡ migrate_app }
-    ensures local { (out-Command result).has_globals ≡ false }
+fn migrate_command<'a>(alloc: Global) -> Result<Command<'a>, AllocError>
+    ensures app { IfOk result (λ command. app_of command ≡ migrate_app) }
+    ensures local { IfOk result (λ command. (out-Command command).has_globals ≡ false) }
 {
-    Command::new(alloc, "migrate").about(
+    begun_command(
+        alloc,
+        "migrate",
         "Write the recorded exchanges on standard input in the newest version",
     )
 }
@@ -131,8 +162,12 @@ fn session_command<'a>(alloc: Global) -> Result<Command<'a>, AllocError>
     ensures app { IfOk result (λ command. app_of command ≡ session_app) }
     ensures local { IfOk result (λ command. (out-Command command).has_globals ≡ false) }
 {
-    Command::new(alloc, "simulate")
-        .about("Record a session of a terminal and a card, each of whose blocks may be disturbed")
+    let begun = begun_command(
+        alloc,
+        "simulate",
+        "Record a session of a terminal and a card, each of whose blocks may be disturbed",
+    )?;
+    begun
         .arg(atr_arg(alloc))?
         .arg(pairs_arg(alloc))?
         .arg(ifsd_arg(alloc))

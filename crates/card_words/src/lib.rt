@@ -5,6 +5,7 @@
 //! `specs/Words.antt`; which words are refused before, by `clap`'s own definitions.
 #![tactic(auto)]
 
+pub mod explain;
 pub mod fault;
 mod forms;
 pub mod given;
@@ -15,6 +16,7 @@ pub mod session;
 mod value;
 pub mod words;
 
+pub use explain::{asks_to_explain, parser_message};
 pub use fault::Fault;
 pub use given::{Form, Given};
 pub use request::{End, Expected, Input, Kind, Knowns, Request};

@@ -292,7 +292,7 @@ fn help_or_fault(alloc: Global, error: &Error) -> Result<Request, Fault>
     }
 }
 
-fn matches_of<'a>(alloc: Global, words: &'a [String]) -> Result<ArgMatches<'a>, Error>
+pub(crate) fn matches_of<'a>(alloc: Global, words: &'a [String]) -> Result<ArgMatches<'a>, Error>
     ensures taken { IfOk result (λ m. fault_of scard (texts words.now) ≡ []) }
     ensures entered { IfOk result (λ m. subcommand_rows_of m ≡ subcommand_of scard (texts words.now)) }
     ensures kind { IfErr result (HasKind (fault_of scard (texts words.now))) }

@@ -4,6 +4,7 @@ ghost use Rattle.std.specs.Prelude.{◌≤◌, ◌≢◌};
 
 mod apdus;
 mod chains;
+mod explanations;
 mod files;
 mod largest;
 mod objects;

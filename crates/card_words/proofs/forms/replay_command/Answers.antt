@@ -1,10 +1,8 @@
-use Rattle.std.proofs.Common.{ap, ap₂, codes, ◌≡◌, ◌∙◌}
+use Rattle.std.proofs.Common.{ap₂, ◌∙◌}
 use Rattle.std.proofs.lemmas.Result.{IfOk-weaker}
-use Rattle.clap.specs.Words.{app_of, new_app, with_rule}
-use Rattle.clap.specs.Simple.{app_of_fields}
+use Rattle.clap.specs.Words.{with_rule}
 use Rattle.card_words.proofs.forms.replay_command.Goals as goal
 
 pub returns-clause-app : goal.returns-clause-app
 returns-clause-app c =
-    let about-is : app_of c.about.result ≡ new_app (codes "replay") = ap app_of_fields c.about.ensures ∙ c.new.ensures.app in
-    IfOk-weaker c.arg.result _ _ (λ command added. added.shape c.end_arg.ensures.local ∙ ap₂ with_rule about-is c.end_arg.ensures.rule) c.arg.ensures
+    IfOk-weaker c.arg.result _ _ (λ command added. added.shape c.end_arg.ensures.local ∙ ap₂ with_rule c.in_ok-begun.ensures.app c.end_arg.ensures.rule) c.arg.ensures

@@ -1,0 +1,81 @@
+//! The notes on octets: a refused octet with a mark under it, how many are wanting, how many are left.
+
+ghost use Rattle.std.specs.Prelude.{◌≡◌, ◌++◌, IfOk, drop, length, string_bytes, take};
+ghost use Rattle.explainer.specs.Notes.{left_note, mark_text, refused_note, short_note, IsStopNote};
+
+use crate::reason::Explained;
+use octet_core::{Stop, hex_upper};
+use std::alloc::{AllocError, Global};
+
+/// How many octets are shown before the one that is marked, at most.
+const BEFORE: usize = 16;
+
+/// How many octets are shown, at most.
+const SHOWN: usize = 24;
+
+/// The note of a refusal. `least` is how many octets must still come at least, where that is known.
+pub(crate) fn stop_note<R: Explained>(
+    alloc: Global,
+    octets: &[u8],
+    stop: Stop<R>,
+    least: Option<usize>,
+) -> Result<String, AllocError>
+    ensures { IfOk result (λ text. IsStopNote octets.now stop (string_bytes text)) }
+{
+    match stop {
+        Stop::Short { .. } => short(alloc, octets.len(), least),
+        Stop::At { place, reason } => refused(alloc, octets, place, reason.sentence()),
+    }
+}
+
+/// The octet at a place and what was expected there, the octets around it, and a mark under it.
+fn refused(alloc: Global, octets: &[u8], place: usize, sentence: &str) -> Result<String, AllocError>
+    ensures { IfOk result (λ text. string_bytes text ≡ refused_note octets.now place sentence.now) }
+{
+    let octet = hex_upper(alloc, part(octets, place, 1))?;
+    let first = place.saturating_sub(BEFORE);
+    let shown = hex_upper(alloc, part(octets, first, SHOWN))?;
+    let mark = mark(alloc, place)?;
+    format!(in alloc;
+        "octet {place} is {octet}: {sentence}\noctets from place {first}:\n{shown}\n{mark}"
+    )
+}
+
+/// A mark under the octet at a place.
+fn mark(alloc: Global, place: usize) -> Result<String, AllocError>
+    ensures { IfOk result (λ text. string_bytes text ≡ mark_text place) }
+{
+    let before = place - place.saturating_sub(BEFORE);
+    let blanks = "  ".repeat(alloc, before)?;
+    format!(in alloc; "{blanks}^^\n")
+}
+
+/// So many octets from a place on, or as many as there are.
+fn part(octets: &[u8], from: usize, count: usize) -> &[u8]
+    ensures { result.now ≡ take count (drop from octets.now) }
+{
+    let rest = &octets[from.min(octets.len())..];
+    &rest[..count.min(rest.len())]
+}
+
+/// How many octets are there, and at least how many must come.
+fn short(alloc: Global, count: usize, least: Option<usize>) -> Result<String, AllocError>
+    ensures { IfOk result (λ text. string_bytes text ≡ short_note count least) }
+{
+    match least {
+        None => format!(in alloc; "octets there: {count}; more must come\n"),
+        Some(least) => {
+            format!(in alloc; "octets there: {count}; still to come, at least: {least}\n")
+        }
+    }
+}
+
+/// How many octets are left after a value.
+pub(crate) fn left(alloc: Global, count: usize) -> Result<String, AllocError>
+    ensures { IfOk result (λ text. string_bytes text ≡ left_note count) }
+{
+    if count == 0 {
+        return Ok(String::new(alloc));
+    }
+    format!(in alloc; "octets left after it: {count}\n")
+}

@@ -1,0 +1,44 @@
+//! The note on one word.
+
+ghost use Rattle.std.specs.Prelude.{◌≡◌, IfOk, string_bytes};
+ghost use Rattle.explainer.specs.Notes.{digit_note, odd_note, word_note};
+
+use std::alloc::{AllocError, Global};
+
+/// A word by its number, and what is wrong with it.
+pub(crate) fn said(alloc: Global, number: usize, what: &str) -> Result<String, AllocError>
+    ensures { IfOk result (λ text. string_bytes text ≡ word_note number what.now) }
+{
+    format!(in alloc; "word {number}: {what}\n")
+}
+
+/// What is wrong with a word that stands for octets, empty where nothing is: the first character that is no
+/// hexadecimal digit, at its place in the word, or an odd number of digits.
+pub(crate) fn hex_note(alloc: Global, number: usize, word: &str) -> Result<String, AllocError> {
+    if word == "none" {
+        return Ok(String::new(alloc));
+    }
+    let mut place: usize = 0;
+    for character in word.chars() {
+        if !character.is_ascii_hexdigit() {
+            return digit(alloc, number, character, place);
+        }
+        place = place.saturating_add(1);
+    }
+    if word.len() % 2 == 1 {
+        return odd(alloc, number, word.len());
+    }
+    Ok(String::new(alloc))
+}
+
+fn digit(alloc: Global, number: usize, character: char, place: usize) -> Result<String, AllocError>
+    ensures { IfOk result (λ text. string_bytes text ≡ digit_note number character place) }
+{
+    format!(in alloc; "word {number}: digit {character} at place {place}\n")
+}
+
+fn odd(alloc: Global, number: usize, count: usize) -> Result<String, AllocError>
+    ensures { IfOk result (λ text. string_bytes text ≡ odd_note number count) }
+{
+    format!(in alloc; "word {number}: an odd number of digits, {count}\n")
+}

@@ -1,0 +1,197 @@
+//! Notes on words that are no request.
+
+use crate::place::{option_place, option_value, place_of, word_at};
+use crate::word::{hex_note, said};
+use card_words::parser_message;
+use std::alloc::{AllocError, Global};
+
+/// What a person wants to know of words, of which the first is the program's name: what the parser of command lines
+/// says where it refuses them, with the form that it takes, and else the first word that is wrong, by its number, and
+/// what it should be. The subcommand is word 1.
+pub fn words_note(alloc: Global, words: &[String]) -> Result<String, AllocError> {
+    match parser_message(alloc, words)? {
+        Some(message) => Ok(message),
+        None => word_note(alloc, words),
+    }
+}
+
+/// The first word that is wrong, of words that the parser takes.
+fn word_note(alloc: Global, words: &[String]) -> Result<String, AllocError> {
+    let subcommand = word_at(words, 1);
+    if subcommand == "check" || subcommand == "show" {
+        return input_note(alloc, words);
+    }
+    if subcommand == "build" {
+        return build_note(alloc, words);
+    }
+    if subcommand == "replay" {
+        return option_note(alloc, words, "--end", "an end is terminal or card");
+    }
+    if subcommand == "simulate" {
+        return session_note(alloc, words);
+    }
+    String::from_str(alloc, "")
+}
+
+/// A kind, and octets.
+fn input_note(alloc: Global, words: &[String]) -> Result<String, AllocError> {
+    let kind = place_of(words, 0);
+    if !is_kind(word_at(words, kind)) {
+        let what = "a kind is atr, block, chain, command, response, tlv or dol";
+        return said(alloc, kind, what);
+    }
+    given_note(alloc, words, place_of(words, 1))
+}
+
+fn is_kind(word: &str) -> bool {
+    matches!(
+        word,
+        "atr" | "block" | "chain" | "command" | "response" | "tlv" | "dol"
+    )
+}
+
+/// Octets as a word, by its number, or on standard input.
+fn given_note(alloc: Global, words: &[String], hex: usize) -> Result<String, AllocError> {
+    let form = option_place(words, "--stdin");
+    if form < words.len() && hex < words.len() {
+        return said(alloc, hex, "HEX can't be given beside --stdin");
+    }
+    if form < words.len() {
+        return form_note(alloc, words, form);
+    }
+    if hex < words.len() {
+        return hex_note(alloc, hex, word_at(words, hex));
+    }
+    String::from_str(alloc, "there is no word HEX, and no --stdin FORM\n")
+}
+
+/// A form of standard input, and the text that is read there.
+fn form_note(alloc: Global, words: &[String], form: usize) -> Result<String, AllocError> {
+    let word = option_value(words, "--stdin");
+    if word == "hex" {
+        let text =
+            "standard input: octets are two hexadecimal digits each, in groups that blanks part\n";
+        return String::from_str(alloc, text);
+    }
+    said(alloc, form, "a form is hex or octets")
+}
+
+/// What is built, and of which words.
+fn build_note(alloc: Global, words: &[String]) -> Result<String, AllocError> {
+    let what = place_of(words, 0);
+    match word_at(words, what) {
+        "tidy" if place_of(words, 2) < words.len() => {
+            said(alloc, place_of(words, 2), "build tidy takes one word HEX")
+        }
+        "tidy" => given_note(alloc, words, place_of(words, 1)),
+        "chain" | "fill" if option_place(words, "--stdin") < words.len() => {
+            let form = option_place(words, "--stdin");
+            said(alloc, form, "only build tidy takes --stdin")
+        }
+        "chain" => chain_note(alloc, words),
+        "fill" => list_word_note(alloc, words),
+        _ => said(alloc, what, "what is built is chain, tidy or fill"),
+    }
+}
+
+/// IFS NUMBER HEX.
+fn chain_note(alloc: Global, words: &[String]) -> Result<String, AllocError> {
+    let hex = place_of(words, 3);
+    if hex >= words.len() || place_of(words, 4) < words.len() {
+        let text = "build chain takes three words: IFS NUMBER HEX\n";
+        return String::from_str(alloc, text);
+    }
+    if !is_number_in(word_at(words, place_of(words, 1)), 1, 254) {
+        return said(alloc, place_of(words, 1), "IFS is a number from 1 to 254");
+    }
+    if !is_number_in(word_at(words, place_of(words, 2)), 0, 1) {
+        return said(alloc, place_of(words, 2), "NUMBER is 0 or 1");
+    }
+    if word_at(words, hex).len() > 262_144 {
+        return said(alloc, hex, "a message has at most 131072 octets");
+    }
+    hex_note(alloc, hex, word_at(words, hex))
+}
+
+fn is_number_in(word: &str, least: u8, most: u8) -> bool {
+    match word.parse::<u8>() {
+        Ok(number) => least <= number && number <= most,
+        Err(_) => false,
+    }
+}
+
+/// A data object list as a word.
+fn list_word_note(alloc: Global, words: &[String]) -> Result<String, AllocError> {
+    let list = place_of(words, 1);
+    if list < words.len() {
+        return hex_note(alloc, list, word_at(words, list));
+    }
+    String::from_str(
+        alloc,
+        "build fill takes a word DOL, and then each F:TAG:VALUE\n",
+    )
+}
+
+/// A session: its options, its answer to reset and its pairs.
+fn session_note(alloc: Global, words: &[String]) -> Result<String, AllocError> {
+    for name in ["--lose", "--damage", "--spoil"] {
+        if !is_list(option_value(words, name)) {
+            return option_note(
+                alloc,
+                words,
+                name,
+                "a list is numbers from 1, parted by commas",
+            );
+        }
+    }
+    let atr = place_of(words, 0);
+    let note = hex_note(alloc, atr, word_at(words, atr))?;
+    if !note.is_empty() {
+        return Ok(note);
+    }
+    pairs_note(alloc, words)
+}
+
+/// Whether a word is numbers that are parted by commas, or empty, as where the option isn't given.
+fn is_list(word: &str) -> bool {
+    word.is_empty() || word.split(',').all(is_block_number)
+}
+
+fn is_block_number(word: &str) -> bool {
+    match octet_core::decimal_of(word.as_bytes()) {
+        Some(number) => number > 0,
+        None => false,
+    }
+}
+
+/// The first pair that is none.
+fn pairs_note(alloc: Global, words: &[String]) -> Result<String, AllocError> {
+    for nth in 1..words.len() {
+        let place = place_of(words, nth);
+        if place >= words.len() {
+            break;
+        }
+        let Some((command, reply)) = word_at(words, place).split_once(':') else {
+            return said(alloc, place, "a pair is COMMAND:REPLY");
+        };
+        let note = hex_note(alloc, place, command)?;
+        if !note.is_empty() {
+            return Ok(note);
+        }
+        let note = hex_note(alloc, place, reply)?;
+        if !note.is_empty() {
+            return Ok(note);
+        }
+    }
+    String::from_str(alloc, "")
+}
+
+/// The word after an option, by its number.
+fn option_note(
+    alloc: Global,
+    words: &[String],
+    name: &str,
+    what: &str,
+) -> Result<String, AllocError> {
+    said(alloc, option_place(words, name), what)
+}
