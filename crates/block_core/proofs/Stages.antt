@@ -69,7 +69,6 @@ at-more ifs (Rest p end) b more at some lt = (
 at-more ifs (Done block) b more at some lt = absurd (omega arith)
 at-more ifs (Refused refusal) b more at some lt = absurd (omega arith)
 
-
 -- a reader that is open waits for an octet
 pub open-wants : (ifs : ℕ) (stage : Stage) (b : List ℕ) → IsAt ifs stage b → IsOpen (record { ifs = ifs; taken = b; refusal = refusal_at stage }) → length b < tested_len stage
 open-wants ifs Front b at waits = at
