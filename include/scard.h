@@ -417,11 +417,11 @@ enum scard_turn_kind {
     /* The call was refused, and changed nothing. */
     SCARD_REFUSED_DEAD = 16,     /* the card was found dead */
     SCARD_REFUSED_BUSY = 17,     /* an exchange, or a question about a size, is under way */
-    SCARD_REFUSED_TOO_LONG = 18, /* a command above 65,544 octets, or a reply above 65,538 */
+    SCARD_REFUSED_TOO_LONG = 18, /* a command above 65,544 octets, a reply above 65,538, or a lent buffer's room */
     SCARD_REFUSED_RESERVED = 19, /* the sizes 0 and 255 are reserved */
     SCARD_REFUSED_IDLE = 20,     /* the terminal awaits no block */
     SCARD_REFUSED_ORDER = 21,    /* it isn't the turn of the card's host, or a block came in it */
-    SCARD_NO_END = 32,           /* the handle holds no such end */
+    SCARD_NO_END = 32,           /* the handle holds no such end, or a lent state is none */
     SCARD_NO_ROOM = 33           /* the buffer has less than SCARD_BLOCK_ROOM octets */
 };
 
@@ -464,6 +464,105 @@ struct scard_turn scard_card_ask_ifs(struct scard_handle *handle, uint8_t size, 
  * there is none).
  */
 struct scard_verdict scard_message(struct scard_handle *handle, uint8_t *out, size_t room);
+
+/* ---- both ends without an allocator ---- */
+
+/* The state of an end that the caller keeps. Its fields are the library's own: `begin` writes them, and each call that
+ * changes the end. An end is its state and two buffers, one for commands and one for answers, so each call is given
+ * all three: the same buffers as the call before, of the same sizes, with the octets that it left in them. A buffer
+ * of 65,544 octets takes any command, and one of 65,538 any answer; smaller ones take shorter messages, and a longer
+ * one is refused as too long.
+ *
+ * Whatever octets a state has, a call is safe: where they are no state of an end over buffers of these sizes it answers
+ * SCARD_NO_END, or ARGUMENT, and changes nothing. These calls take no memory.
+ */
+struct scard_lent_terminal {
+    uint8_t number;
+    uint8_t expected;
+    uint8_t failures;
+    uint8_t ifsc;
+    uint8_t ifsd;
+    uint8_t first_ifsc;
+    uint8_t wait;
+    uint8_t size;
+    uint8_t is_answered;
+    size_t place;
+    size_t most_command;
+    size_t most_answer;
+    size_t command_len;
+    size_t answer_len;
+};
+
+struct scard_lent_card {
+    uint8_t number;
+    uint8_t expected;
+    uint8_t has_saved;
+    uint8_t saved_size;
+    uint8_t ifsc;
+    uint8_t ifsd;
+    uint8_t first_ifsc;
+    uint8_t wait;
+    uint8_t size;
+    size_t saved_place;
+    size_t place;
+    size_t most_command;
+    size_t most_reply;
+    size_t command_len;
+    size_t reply_len;
+};
+
+/* Begin an end for these parameters of T=1, whatever the state was: a new session too, over the same buffers. Both
+ * buffers are set to 0. OK with place 0, ARGUMENT (`ifsc` is 0 or 255, or an index is above 15): then nothing changes.
+ */
+struct scard_verdict scard_lent_terminal_begin(struct scard_lent_terminal *state,
+                                               uint8_t *command, size_t command_room,
+                                               uint8_t *answer, size_t answer_room,
+                                               uint8_t ifsc, uint8_t bwi, uint8_t cwi);
+struct scard_verdict scard_lent_card_begin(struct scard_lent_card *state,
+                                           uint8_t *command, size_t command_room,
+                                           uint8_t *reply, size_t reply_room,
+                                           uint8_t ifsc, uint8_t bwi, uint8_t cwi);
+
+/* The calls of an end, as those above. The octets that are handed over and `out` lie apart from both buffers. */
+struct scard_turn scard_lent_terminal_transmit(struct scard_lent_terminal *state,
+                                               uint8_t *command, size_t command_room,
+                                               uint8_t *answer, size_t answer_room,
+                                               const uint8_t *octets, size_t count, uint8_t *out, size_t room);
+struct scard_turn scard_lent_terminal_received(struct scard_lent_terminal *state,
+                                               uint8_t *command, size_t command_room,
+                                               uint8_t *answer, size_t answer_room,
+                                               const uint8_t *octets, size_t count, uint8_t *out, size_t room);
+struct scard_turn scard_lent_terminal_quiet(struct scard_lent_terminal *state,
+                                            uint8_t *command, size_t command_room,
+                                            uint8_t *answer, size_t answer_room, uint8_t *out, size_t room);
+struct scard_turn scard_lent_terminal_ask_ifs(struct scard_lent_terminal *state,
+                                              uint8_t *command, size_t command_room,
+                                              uint8_t *answer, size_t answer_room,
+                                              uint8_t size, uint8_t *out, size_t room);
+
+struct scard_turn scard_lent_card_received(struct scard_lent_card *state,
+                                           uint8_t *command, size_t command_room, uint8_t *reply, size_t reply_room,
+                                           const uint8_t *octets, size_t count, uint8_t *out, size_t room);
+struct scard_turn scard_lent_card_reply(struct scard_lent_card *state,
+                                        uint8_t *command, size_t command_room, uint8_t *reply, size_t reply_room,
+                                        const uint8_t *octets, size_t count, uint8_t *out, size_t room);
+struct scard_turn scard_lent_card_more_time(struct scard_lent_card *state,
+                                            uint8_t *command, size_t command_room, uint8_t *reply, size_t reply_room,
+                                            uint8_t multiple, uint8_t *out, size_t room);
+struct scard_turn scard_lent_card_ask_ifs(struct scard_lent_card *state,
+                                          uint8_t *command, size_t command_room, uint8_t *reply, size_t reply_room,
+                                          uint8_t size, uint8_t *out, size_t room);
+
+/* How many octets at the front of its buffer are the terminal's answer, from the turn SCARD_DONE on until the next
+ * command is taken, or the card's command, while its host owes the reply: the place of the verdict. They are written
+ * nowhere else. OK, ARGUMENT (with place 0: there is none).
+ */
+struct scard_verdict scard_lent_terminal_answer(const struct scard_lent_terminal *state,
+                                                const uint8_t *command, size_t command_room,
+                                                const uint8_t *answer, size_t answer_room);
+struct scard_verdict scard_lent_card_command(const struct scard_lent_card *state,
+                                             const uint8_t *command, size_t command_room,
+                                             const uint8_t *reply, size_t reply_room);
 
 /* ---- octets that come in pieces ---- */
 
@@ -518,7 +617,9 @@ enum scard_struct {
     SCARD_STRUCT_TAG = 11,
     SCARD_STRUCT_PART = 12,
     SCARD_STRUCT_KNOWN = 13,
-    SCARD_STRUCT_HANDLE = 14
+    SCARD_STRUCT_HANDLE = 14,
+    SCARD_STRUCT_LENT_TERMINAL = 15,
+    SCARD_STRUCT_LENT_CARD = 16
 };
 
 /* How many octets a struct has in the library, to be compared with its sizeof; 0 for any other number. */

@@ -48,6 +48,24 @@ static void nothing(void)
     scard_close(&handle);
 }
 
+static void nothing_lent(void)
+{
+    struct scard_lent_terminal terminal;
+    struct scard_lent_card card;
+    CHECK(scard_lent_terminal_begin(&terminal, NULL, 0, NULL, 0, 32, 4, 5).status == SCARD_OK);
+    CHECK(scard_lent_terminal_transmit(&terminal, NULL, 0, NULL, 0, NULL, 0, NULL, 0).kind == SCARD_NO_ROOM);
+    CHECK(scard_lent_terminal_received(&terminal, NULL, 0, NULL, 0, NULL, 0, NULL, 0).kind == SCARD_NO_ROOM);
+    CHECK(scard_lent_terminal_quiet(&terminal, NULL, 0, NULL, 0, NULL, 0).kind == SCARD_NO_ROOM);
+    CHECK(scard_lent_terminal_ask_ifs(&terminal, NULL, 0, NULL, 0, 1, NULL, 0).kind == SCARD_NO_ROOM);
+    CHECK(scard_lent_terminal_answer(&terminal, NULL, 0, NULL, 0).status == SCARD_ARGUMENT);
+    CHECK(scard_lent_card_begin(&card, NULL, 0, NULL, 0, 32, 4, 5).status == SCARD_OK);
+    CHECK(scard_lent_card_received(&card, NULL, 0, NULL, 0, NULL, 0, NULL, 0).kind == SCARD_NO_ROOM);
+    CHECK(scard_lent_card_reply(&card, NULL, 0, NULL, 0, NULL, 0, NULL, 0).kind == SCARD_NO_ROOM);
+    CHECK(scard_lent_card_more_time(&card, NULL, 0, NULL, 0, 1, NULL, 0).kind == SCARD_NO_ROOM);
+    CHECK(scard_lent_card_ask_ifs(&card, NULL, 0, NULL, 0, 1, NULL, 0).kind == SCARD_NO_ROOM);
+    CHECK(scard_lent_card_command(&card, NULL, 0, NULL, 0).status == SCARD_ARGUMENT);
+}
+
 static int same(struct scard_verdict v, struct scard_verdict w)
 {
     return v.status == w.status && v.reason == w.reason && (v.status == SCARD_OK || v.place == w.place);
@@ -134,6 +152,7 @@ int main(void)
         "6F108407A0000000041010A505BF0C0250009F02065F2A", "00D6000000000201020000", "3030413461345B"};
     size_t sample, count;
     nothing();
+    nothing_lent();
     for (sample = 0; sample < sizeof samples / sizeof samples[0]; sample++) {
         struct octets octets = of_hex(samples[sample]);
         for (count = 0; count <= octets.count; count++) {

@@ -20,7 +20,10 @@ static void sizes(void)
     SIZE(SCARD_STRUCT_PART, scard_part);
     SIZE(SCARD_STRUCT_KNOWN, scard_known);
     SIZE(SCARD_STRUCT_HANDLE, scard_handle);
-    CHECK(scard_struct_size(0) == 0 && scard_struct_size(15) == 0 && scard_struct_size(255) == 0);
+    SIZE(SCARD_STRUCT_LENT_TERMINAL, scard_lent_terminal);
+    SIZE(SCARD_STRUCT_LENT_CARD, scard_lent_card);
+    CHECK(sizeof(struct scard_lent_terminal) < 128 && sizeof(struct scard_lent_card) < 128);
+    CHECK(scard_struct_size(0) == 0 && scard_struct_size(17) == 0 && scard_struct_size(255) == 0);
 }
 
 static void places(void)
@@ -64,6 +67,12 @@ static void places(void)
     PLACE(scard_known, value, 8);
     PLACE(scard_known, count, 16);
     PLACE(scard_handle, is_full, 8);
+    PLACE(scard_lent_terminal, is_answered, 8);
+    PLACE(scard_lent_terminal, place, 16);
+    PLACE(scard_lent_terminal, answer_len, 48);
+    PLACE(scard_lent_card, size, 8);
+    PLACE(scard_lent_card, saved_place, 16);
+    PLACE(scard_lent_card, reply_len, 56);
 }
 
 int main(void)

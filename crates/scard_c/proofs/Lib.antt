@@ -1,4 +1,5 @@
 pub mod Firsts
+pub mod Lending
 pub mod Loosed
 pub mod Puts
 pub mod Refusals

@@ -12,4 +12,6 @@ pub mod Held
 pub mod Ends
 pub mod Calls
 pub mod Readers
+pub mod Kept
 pub mod Layout
+pub mod Lent

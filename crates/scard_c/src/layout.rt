@@ -8,6 +8,7 @@ use crate::atr::{CAtr, CIndicated, CInterface, CRates, CT1};
 use crate::block::CBlock;
 use crate::filling::CKnown;
 use crate::handle::Handle;
+use crate::kept::{CCard, CTerminal};
 use crate::parts::{CPart, CTag};
 use crate::turn::CTurn;
 use crate::verdict::Verdict;
@@ -33,6 +34,8 @@ pub extern "C" fn scard_struct_size(number: u8) -> usize
         12 => size_of::<CPart>(),
         13 => size_of::<CKnown<'_>>(),
         14 => size_of::<Handle>(),
+        15 => size_of::<CTerminal>(),
+        16 => size_of::<CCard>(),
         _ => 0,
     }
 }

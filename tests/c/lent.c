@@ -1,0 +1,199 @@
+/* A session of both ends without an allocator, small buffers, and states that something else wrote to. */
+#include "check.h"
+
+static struct scard_lent_terminal terminal;
+static struct scard_lent_card card;
+static uint8_t commands[2][16], answers[2][16]; /* those of the terminal, and those of the card */
+static uint8_t block[SCARD_BLOCK_ROOM];
+
+static void begins(size_t room)
+{
+    CHECK(scard_lent_terminal_begin(&terminal, commands[0], room, answers[0], room, 32, 4, 5).status == SCARD_OK);
+    CHECK(scard_lent_card_begin(&card, commands[1], room, answers[1], room, 32, 4, 5).status == SCARD_OK);
+}
+
+static struct scard_turn transmit(const char *text, size_t room)
+{
+    struct octets octets = of_hex(text);
+    struct scard_turn turn = scard_lent_terminal_transmit(&terminal, commands[0], room, answers[0], room, octets.at,
+                                                          octets.count, block, sizeof block);
+    free(octets.at);
+    return turn;
+}
+
+static struct scard_turn to_terminal(const char *text, size_t room)
+{
+    struct octets octets = of_hex(text);
+    struct scard_turn turn = scard_lent_terminal_received(&terminal, commands[0], room, answers[0], room, octets.at,
+                                                          octets.count, block, sizeof block);
+    free(octets.at);
+    return turn;
+}
+
+static struct scard_turn quiet(size_t room)
+{
+    return scard_lent_terminal_quiet(&terminal, commands[0], room, answers[0], room, block, sizeof block);
+}
+
+static struct scard_turn to_card(const char *text, size_t room)
+{
+    struct octets octets = of_hex(text);
+    struct scard_turn turn = scard_lent_card_received(&card, commands[1], room, answers[1], room, octets.at,
+                                                      octets.count, block, sizeof block);
+    free(octets.at);
+    return turn;
+}
+
+static struct scard_turn reply(const char *text, size_t room)
+{
+    struct octets octets = of_hex(text);
+    struct scard_turn turn = scard_lent_card_reply(&card, commands[1], room, answers[1], room, octets.at,
+                                                   octets.count, block, sizeof block);
+    free(octets.at);
+    return turn;
+}
+
+static int sends(struct scard_turn turn, const char *text)
+{
+    return turn.kind == SCARD_SEND && is_hex(block, turn.count, text);
+}
+
+static int answered(const char *text, size_t room)
+{
+    struct scard_verdict v = scard_lent_terminal_answer(&terminal, commands[0], room, answers[0], room);
+    return v.status == SCARD_OK && is_hex(answers[0], v.place, text);
+}
+
+static int asked(const char *text, size_t room)
+{
+    struct scard_verdict v = scard_lent_card_command(&card, commands[1], room, answers[1], room);
+    return v.status == SCARD_OK && is_hex(commands[1], v.place, text);
+}
+
+/* A block is damaged, one is lost, and the card asks for time. */
+static void disturbed(void)
+{
+    begins(16);
+    CHECK(sends(transmit("00A4040000", 16), "00000500A4040000A5"));
+    CHECK(sends(to_card("00000500A4040000A4", 16), "00810081"));
+    CHECK(sends(to_terminal("00810081", 16), "00000500A4040000A5"));
+    CHECK(to_card("00000500A4040000A5", 16).kind == SCARD_DONE && asked("00A4040000", 16));
+    CHECK(sends(scard_lent_card_more_time(&card, commands[1], 16, answers[1], 16, 1, block, sizeof block),
+                "00C30101C3"));
+    CHECK(sends(to_terminal("00C30101C3", 16), "00E30101E3"));
+    CHECK(to_card("00E30101E3", 16).kind == SCARD_DONE && asked("00A4040000", 16));
+    CHECK(sends(reply("9000", 16), "000002900092") && !asked("00A4040000", 16));
+    CHECK(sends(quiet(16), "00800080"));
+    CHECK(sends(to_card("00800080", 16), "000002900092"));
+    CHECK(!answered("9000", 16));
+    CHECK(to_terminal("000002900092", 16).kind == SCARD_DONE && answered("9000", 16));
+}
+
+/* An answer in two blocks under a new size. */
+static void chained(void)
+{
+    begins(16);
+    CHECK(sends(scard_lent_terminal_ask_ifs(&terminal, commands[0], 16, answers[0], 16, 2, block, sizeof block),
+                "00C10102C2"));
+    CHECK(sends(to_card("00C10102C2", 16), "00E10102E2"));
+    CHECK(to_terminal("00E10102E2", 16).kind == SCARD_IFS_SET);
+    CHECK(sends(transmit("00B0000002", 16), "00000500B0000002B7"));
+    CHECK(to_card("00000500B0000002B7", 16).kind == SCARD_DONE);
+    CHECK(sends(reply("AABB9000", 16), "002002AABB33"));
+    CHECK(sends(to_terminal("002002AABB33", 16), "00900090"));
+    CHECK(sends(to_card("00900090", 16), "0040029000D2"));
+    CHECK(to_terminal("0040029000D2", 16).kind == SCARD_DONE && answered("AABB9000", 16));
+}
+
+/* Messages that the buffers have just room for, and such that they haven't; a card that answers no more. */
+static void small(void)
+{
+    int turn;
+    begins(5);
+    CHECK(transmit("00A404000000", 5).kind == SCARD_REFUSED_TOO_LONG);
+    CHECK(sends(transmit("00A4040000", 5), "00000500A4040000A5"));
+    CHECK(transmit("00A4040000", 5).kind == SCARD_REFUSED_BUSY);
+    CHECK(to_card("00000500A4040000A5", 5).kind == SCARD_DONE);
+    CHECK(to_card("00800080", 5).kind == SCARD_REFUSED_ORDER);
+    CHECK(reply("000102030405", 5).kind == SCARD_REFUSED_TOO_LONG);
+    CHECK(sends(reply("AABBCC9000", 5), "000005AABBCC900048"));
+    CHECK(to_terminal("000005AABBCC900048", 5).kind == SCARD_DONE && answered("AABBCC9000", 5));
+    CHECK(transmit("", 5).kind == SCARD_SEND);
+    for (turn = 0; turn < 6; turn++) {
+        CHECK(quiet(5).kind == SCARD_SEND);
+    }
+    CHECK(quiet(5).kind == SCARD_DEAD && transmit("", 5).kind == SCARD_REFUSED_DEAD);
+    begins(5);
+    CHECK(transmit("", 5).kind == SCARD_SEND);
+    CHECK(answers[0][0] == 0 && commands[1][0] == 0);
+}
+
+/* The wrong words, and buffers of other sizes. */
+static void refused(void)
+{
+    begins(16);
+    CHECK(scard_lent_terminal_begin(&terminal, NULL, 0, NULL, 0, 0, 4, 5).status == SCARD_ARGUMENT);
+    CHECK(scard_lent_card_begin(&card, NULL, 0, NULL, 0, 32, 16, 5).status == SCARD_ARGUMENT);
+    CHECK(sends(transmit("00A4040000", 16), "00000500A4040000A5"));
+    CHECK(to_card("00000500A4040000A5", 16).kind == SCARD_DONE);
+    CHECK(quiet(15).kind == SCARD_NO_END && reply("9000", 15).kind == SCARD_NO_END);
+    CHECK(!asked("00A4040000", 15));
+    CHECK(scard_lent_card_ask_ifs(&card, commands[1], 16, answers[1], 16, 255, block, sizeof block).kind
+          == SCARD_REFUSED_RESERVED);
+    CHECK(scard_lent_card_ask_ifs(&card, commands[1], 16, answers[1], 16, 4, block, 257).kind == SCARD_NO_ROOM);
+    CHECK(sends(scard_lent_card_ask_ifs(&card, commands[1], 16, answers[1], 16, 4, block, sizeof block),
+                "00C10104C4"));
+    CHECK(scard_lent_terminal_begin(&terminal, NULL, 0, NULL, 0, 32, 4, 5).status == SCARD_OK);
+    CHECK(scard_lent_terminal_transmit(&terminal, NULL, 0, NULL, 0, NULL, 0, block, sizeof block).kind == SCARD_SEND);
+}
+
+/* Each octet of a state set to each value: the call is safe, and where it is refused nothing changes. */
+static void spoilt(void)
+{
+    struct scard_lent_terminal before = terminal, changed;
+    struct scard_lent_card card_before = card, card_changed;
+    size_t place;
+    int value, left = 0;
+    for (place = 0; place < sizeof before + sizeof card_before; place++) {
+        for (value = 0; value < 256; value++) {
+            terminal = before;
+            card = card_before;
+            if (place < sizeof before) {
+                ((uint8_t *)&terminal)[place] = (uint8_t)value;
+            } else {
+                ((uint8_t *)&card)[place - sizeof before] = (uint8_t)value;
+            }
+            memcpy(&changed, &terminal, sizeof terminal);
+            memcpy(&card_changed, &card, sizeof card);
+            if (quiet(16).kind == SCARD_NO_END) {
+                left += memcmp(&changed, &terminal, sizeof terminal) == 0;
+                CHECK(transmit("00", 16).kind == SCARD_NO_END && to_terminal("00800080", 16).kind == SCARD_NO_END);
+                CHECK(!answered("", 16));
+            }
+            if (to_card("00000500A4040000A5", 16).kind == SCARD_NO_END) {
+                left += memcmp(&card_changed, &card, sizeof card) == 0;
+                CHECK(reply("9000", 16).kind == SCARD_NO_END && !asked("", 16));
+            }
+        }
+    }
+    CHECK(left > 10000);
+    terminal = before;
+    card = card_before;
+}
+
+int main(void)
+{
+    disturbed();
+    chained();
+    small();
+    refused();
+    begins(16);
+    spoilt();
+    CHECK(transmit("00A4040000", 16).kind == SCARD_SEND);
+    spoilt();
+    CHECK(to_card("00000500A4040000A5", 16).kind == SCARD_DONE);
+    spoilt();
+    CHECK(reply("9000", 16).kind == SCARD_SEND && to_terminal("000002900092", 16).kind == SCARD_DONE);
+    spoilt();
+    return verdict_of_checks("lent");
+}
