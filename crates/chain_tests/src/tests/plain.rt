@@ -6,21 +6,24 @@ use chain_core::{ChainReason, ReadRefusal, Receiver, read_chain, write_chain};
 use octet_core::{Sink, Source, Stop, WriteFault};
 
 /// What a receiver answers to these octets.
-pub fn feed(receiver: &mut Receiver, octets: &[u8]) -> Result<(usize, bool), Stop<ChainReason>> {
+pub(super) fn feed(
+    receiver: &mut Receiver,
+    octets: &[u8],
+) -> Result<(usize, bool), Stop<ChainReason>> {
     receiver.feed(octets)
 }
 
 /// Whether a receiver has this message.
-pub fn has(receiver: &Receiver, message: &[u8]) -> bool {
+pub(super) fn has(receiver: &Receiver, message: &[u8]) -> bool {
     receiver.message() == Some(message)
 }
 
 /// What reading a chain gives.
-pub fn read<R: Source>(reader: &mut R, receiver: &mut Receiver) -> Result<(), ReadRefusal> {
+pub(super) fn read<R: Source>(reader: &mut R, receiver: &mut Receiver) -> Result<(), ReadRefusal> {
     read_chain(reader, receiver)
 }
 
 /// What writing the short command in blocks of two octets gives.
-pub fn write<W: Sink>(writer: &mut W) -> Result<(), WriteFault> {
+pub(super) fn write<W: Sink>(writer: &mut W) -> Result<(), WriteFault> {
     write_chain(writer, &SELECT, 2, Number::Zero)
 }

@@ -364,11 +364,13 @@ fn events_that_are_refused(rt: HostRuntime) -> Result<(), Fail> {
     Ok(())
 }
 
-// The block under way at the end counts as lost.
+// The block under way at the end counts as lost, and events that were refused leave nothing in the record.
 #[test]
 fn a_record_that_ends_within_an_exchange(rt: HostRuntime) -> Result<(), Fail> {
     let mut recorder = new_recorder(rt.alloc(), &ATR)?;
+    assert!(rt; said(&mut recorder, Event::Lose).is_err());
     happens(&mut recorder, Event::Transmit(&SELECT))?;
+    assert!(rt; said(&mut recorder, Event::Transmit(&SELECT)).is_err());
     let cut_short = record_of(recorder)?;
     let expected = recorded(
         rt.alloc(),
