@@ -12,45 +12,46 @@ static void begins(size_t room)
     CHECK(scard_lent_card_begin(&card, commands[1], room, answers[1], room, 32, 4, 5).status == SCARD_OK);
 }
 
-static struct scard_turn transmit(const char *text, size_t room)
+/* The calls of an end that take octets. */
+typedef struct scard_turn terminal_call(struct scard_lent_terminal *, uint8_t *, size_t, uint8_t *, size_t,
+                                        const uint8_t *, size_t, uint8_t *, size_t);
+typedef struct scard_turn card_call(struct scard_lent_card *, uint8_t *, size_t, uint8_t *, size_t,
+                                    const uint8_t *, size_t, uint8_t *, size_t);
+
+/* One of these calls with the octets of a text, the block in `block`. */
+static struct scard_turn given(terminal_call *of_terminal, card_call *of_card, const char *text, size_t room)
 {
     struct octets octets = of_hex(text);
-    struct scard_turn turn = scard_lent_terminal_transmit(&terminal, commands[0], room, answers[0], room, octets.at,
-                                                          octets.count, block, sizeof block);
+    struct scard_turn turn = of_terminal != NULL
+        ? of_terminal(&terminal, commands[0], room, answers[0], room, octets.at, octets.count, block, sizeof block)
+        : of_card(&card, commands[1], room, answers[1], room, octets.at, octets.count, block, sizeof block);
     free(octets.at);
     return turn;
 }
 
+static struct scard_turn transmit(const char *text, size_t room)
+{
+    return given(scard_lent_terminal_transmit, NULL, text, room);
+}
+
 static struct scard_turn to_terminal(const char *text, size_t room)
 {
-    struct octets octets = of_hex(text);
-    struct scard_turn turn = scard_lent_terminal_received(&terminal, commands[0], room, answers[0], room, octets.at,
-                                                          octets.count, block, sizeof block);
-    free(octets.at);
-    return turn;
+    return given(scard_lent_terminal_received, NULL, text, room);
+}
+
+static struct scard_turn to_card(const char *text, size_t room)
+{
+    return given(NULL, scard_lent_card_received, text, room);
+}
+
+static struct scard_turn reply(const char *text, size_t room)
+{
+    return given(NULL, scard_lent_card_reply, text, room);
 }
 
 static struct scard_turn quiet(size_t room)
 {
     return scard_lent_terminal_quiet(&terminal, commands[0], room, answers[0], room, block, sizeof block);
-}
-
-static struct scard_turn to_card(const char *text, size_t room)
-{
-    struct octets octets = of_hex(text);
-    struct scard_turn turn = scard_lent_card_received(&card, commands[1], room, answers[1], room, octets.at,
-                                                      octets.count, block, sizeof block);
-    free(octets.at);
-    return turn;
-}
-
-static struct scard_turn reply(const char *text, size_t room)
-{
-    struct octets octets = of_hex(text);
-    struct scard_turn turn = scard_lent_card_reply(&card, commands[1], room, answers[1], room, octets.at,
-                                                   octets.count, block, sizeof block);
-    free(octets.at);
-    return turn;
 }
 
 static int sends(struct scard_turn turn, const char *text)
