@@ -17,6 +17,7 @@ pub mod Octet
 pub mod Taking
 pub mod Advances
 pub mod Ends
+pub mod Shorts
 pub mod Refusals
 pub mod Fed
 pub mod Listed

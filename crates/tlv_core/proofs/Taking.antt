@@ -99,10 +99,12 @@ shallow_at d (Valued tag form value left) ok h deep = absurd h
 
 -- ---- an octet of a header
 
--- the innermost list, after one octet more
+-- the innermost list, after octets more
+ends_with : (d : ℕ) (add last next v : List ℕ) → EndsIn d last v → last ++ add ≡ next → EndsIn d next (v ++ add)
+ends_with d add last next v ends e = record { done = ends.done; proper = ends.proper; is = ap (λ (l : List ℕ). l ++ add) ends.is ∙ append_assoc (spelling ends.done) last add ∙ ap (λ (l : List ℕ). spelling ends.done ++ l) e }
+
 pub ends_more : (d x : ℕ) (last next v : List ℕ) → EndsIn d last v → last ++ x ∷ [] ≡ next → EndsIn d next (v ++ x ∷ [])
-ends_more d x last next v ends e =
-    record { done = ends.done; proper = ends.proper; is = ap (λ (l : List ℕ). l ++ x ∷ []) ends.is ∙ append_assoc (spelling ends.done) last (x ∷ []) ∙ ap (λ (l : List ℕ). spelling ends.done ++ l) e }
+ends_more d x last next v ends e = ends_with d (x ∷ []) last next v ends e
 
 -- the innermost list, where the octets complete an item
 ends_item : (d : ℕ) (last add v : List ℕ) (item : Tree) → EndsIn d last v → IsProper d item → last ++ add ≡ spelling item → EndsIn d [] (v ++ add)
@@ -150,15 +152,14 @@ taken_under b k m add s u len le some ok ends =
     )
 
 -- an object is open in the innermost list
-pub taken_open : (b : List ℕ) (k : Kept) (x : ℕ) (s : Held b k) (tag : List ℕ) (form : Form) (n : ℕ) → 0 < n → n < room_of (k.max - length b) k.rooms → IsObject (1 + length k.rooms) 1 tag form n → under_octets s.under ++ x ∷ [] ≡ header_of tag form n
-    → HasTaken (b ++ x ∷ []) (record { max = k.max; count = k.count + 1; rooms = spent 1 k.rooms ++ n ∷ []; header = []; value_left = 0 })
-taken_open b k x s tag form n some le object e =
+pub opens_object : (b : List ℕ) (k : Kept) (m : ℕ) (add : List ℕ) (s : Held b k) (tag : List ℕ) (form : Form) (n : ℕ) → length add ≡ m → 0 < n → m + n ≤ room_of (k.max - length b) k.rooms → IsObject (1 + length k.rooms) 1 tag form n → under_octets s.under ++ add ≡ header_of tag form n
+    → HasTaken (b ++ add) (record { max = k.max; count = k.count + m; rooms = spent m k.rooms ++ n ∷ []; header = []; value_left = 0 })
+opens_object b k m add s tag form n len some le object e =
     let left = k.max - length b in
-    let add = x ∷ [] in
-    let fits : FitsIn left k.rooms (1 + n) = fits_more left k.rooms (under_need s.under) (1 + n) s.fits (omega arith) in
+    let fits : FitsIn left k.rooms (m + n) = fits_more left k.rooms (under_need s.under) (m + n) s.fits le in
     let plus : n ≡ 0 + n = omega arith in
     let inner : (v : List ℕ) → EndsIn (1 + length k.rooms) (under_octets s.under) v → Opens (1 + length k.rooms) (n ∷ []) [] (v ++ add) = λ v ends.
-    let more = ends_more (1 + length k.rooms) x (under_octets s.under) (header_of tag form n) v ends e in (
+    let more = ends_with (1 + length k.rooms) add (under_octets s.under) (header_of tag form n) v ends e in (
       [],
       record {
         done = more.done;
@@ -171,13 +172,17 @@ taken_open b k x s tag form n some le object e =
       },
       record { done = End; proper = tt; is = refl },
     ) in
-    let opens : Opens 1 (spent 1 k.rooms ++ n ∷ []) [] (b ++ add) = opens_by k.rooms 1 1 left n (under_octets s.under) b add (n ∷ []) [] refl some fits inner s.opens in
-    let total : length (b ++ add) ≡ k.count + 1 = omega (arith, length-append b add, held_count b k s) in
-    let within : 1 ≤ left = omega (arith, le, fits_room k.rooms left (1 + n) fits) in
-    let after : FitsIn (left - 1) (spent 1 k.rooms ++ n ∷ []) 0 = fits_down (left - 1) n (spent 1 k.rooms) (spent-fits 1 left n k.rooms fits) in
-    let left_is : left - 1 ≡ k.max - length (b ++ add) = omega (arith, length-append b add) in
-    counted k.max (k.count + 1) (b ++ add) (spent 1 k.rooms ++ n ∷ []) Nothing total
+    let opens : Opens 1 (spent m k.rooms ++ n ∷ []) [] (b ++ add) = opens_by k.rooms 1 m left n (under_octets s.under) b add (n ∷ []) [] len some fits inner s.opens in
+    let total : length (b ++ add) ≡ k.count + m = omega (arith, length-append b add, held_count b k s) in
+    let within : m ≤ left = omega (arith, le, fits_room k.rooms left (m + n) fits) in
+    let after : FitsIn (left - m) (spent m k.rooms ++ n ∷ []) 0 = fits_down (left - m) n (spent m k.rooms) (spent-fits m left n k.rooms fits) in
+    let left_is : left - m ≡ k.max - length (b ++ add) = omega (arith, length-append b add) in
+    counted k.max (k.count + m) (b ++ add) (spent m k.rooms ++ n ∷ []) Nothing total
     (
-    taken_of k.max (b ++ add) (spent 1 k.rooms ++ n ∷ []) Nothing (omega (arith, length-append b add, s.size)) opens
-    (omega (arith, opens_depth (spent 1 k.rooms ++ n ∷ []) 1 [] (b ++ add) (omega arith) opens)) (subst (λ (j : ℕ). FitsIn j (spent 1 k.rooms ++ n ∷ []) 0) left_is after)
+    taken_of k.max (b ++ add) (spent m k.rooms ++ n ∷ []) Nothing (omega (arith, length-append b add, s.size)) opens
+    (omega (arith, opens_depth (spent m k.rooms ++ n ∷ []) 1 [] (b ++ add) (omega arith) opens)) (subst (λ (j : ℕ). FitsIn j (spent m k.rooms ++ n ∷ []) 0) left_is after)
     )
+
+pub taken_open : (b : List ℕ) (k : Kept) (x : ℕ) (s : Held b k) (tag : List ℕ) (form : Form) (n : ℕ) → 0 < n → n < room_of (k.max - length b) k.rooms → IsObject (1 + length k.rooms) 1 tag form n → under_octets s.under ++ x ∷ [] ≡ header_of tag form n
+    → HasTaken (b ++ x ∷ []) (record { max = k.max; count = k.count + 1; rooms = spent 1 k.rooms ++ n ∷ []; header = []; value_left = 0 })
+taken_open b k x s tag form n some le object e = opens_object b k 1 (x ∷ []) s tag form n refl some (omega arith) object e

@@ -13,6 +13,7 @@ pub mod Tidy
 pub mod Parts
 pub mod Dol
 pub mod Steps
+pub mod Short
 pub mod Header
 pub mod Open
 pub mod Progress

@@ -23,6 +23,7 @@ pub mod path;
 mod progress;
 pub mod reader;
 pub mod reason;
+mod short;
 pub mod spelling;
 mod survey;
 pub mod tag;

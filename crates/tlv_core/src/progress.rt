@@ -1,7 +1,7 @@
 //! How far the octets of a forest have come, and what they leave open.
 
 ghost use Rattle.std.specs.List.{prefix_len};
-ghost use Rattle.std.specs.Prelude.{nat_lt, nat_eq, if◌then◌else◌, ◌≡◌, ◌≢◌, ℕ, ◌+◌, ◌<◌, ◌≤◌, List, ◌++◌, length, take, slice_index, IfOk, IfErr, IsTrue, ◌↔◌, ◌-◌};
+ghost use Rattle.std.specs.Prelude.{nat_lt, nat_eq, if◌then◌else◌, ◌≡◌, ◌≢◌, ℕ, ◌+◌, ◌<◌, ◌≤◌, List, ◌++◌, length, take, slice_index, IfOk, IfErr, IfSome, IfNone, IsTrue, ◌↔◌, ◌-◌};
 ghost use Rattle.arrayvec.specs.ArrayVec.{array_vec_len};
 ghost use Rattle.tlv_core.specs.declared.header.Header.TheVariants.{Nothing};
 ghost use Rattle.tlv_core.specs.Header.{IsWell};
@@ -11,6 +11,7 @@ ghost use Rattle.tlv_core.specs.Open.{AreEnds, IsWell-prop, open_after};
 
 use crate::header::{Header, Next, ObjectHeader};
 use crate::reason::{Refusal, TlvReason};
+use crate::short::{ShortHeader, short_header};
 use arrayvec::ArrayVec;
 
 /// The greatest depth at which an object stands; the outermost objects stand at depth 1.
@@ -44,6 +45,7 @@ impl Progress {
     ghost use Rattle.tlv_core.specs.Open.{rooms_to};
     ghost use Rattle.tlv_core.specs.Header.{IsWellNext, next_need};
     ghost use Rattle.tlv_core.specs.Steps.{entered, after_next, after_run, IsStep, IsWrongAfter};
+    ghost use Rattle.tlv_core.specs.Short.{after_short, whole_of};
     ghost use Rattle.tlv_core.specs.Tag.{constructed_bit};
     ghost use Rattle.tlv_core.specs.Progress.{kept_of};
 
@@ -99,8 +101,8 @@ impl Progress {
         }
     }
 
-    /// Takes octets: a run of the value under way, or one octet of a header. How many were taken, at
-    /// least one; or why the first one is refused, which changes nothing.
+    /// Takes octets: a run of the value under way, an object that is here with a short header, or one octet
+    /// of a header. How many were taken, at least one; or why the first one is refused, which changes nothing.
     pub(crate) fn advance(&mut self, octets: &[u8]) -> Result<usize, TlvReason>
         requires { 0 < length octets.now }
         ensures max { self.new.max ≡ self.old.max }
@@ -113,8 +115,49 @@ impl Progress {
             self.skip(run);
             return Ok(run);
         }
+        if let Some(taken) = self.take_short(octets) {
+            return Ok(taken);
+        }
         self.take(octets[0])?;
         Ok(1)
+    }
+
+    /// Takes a primitive object, or the header of a constructed one, where its tag has one octet or two, its
+    /// length field at most three, and all of that is here and fits. How many octets were taken; where there
+    /// is nothing of the kind, nothing changes.
+    fn take_short(&mut self, octets: &[u8]) -> Option<usize>
+        requires { self.old.value_left ≡ 0 }
+        ensures max { self.new.max ≡ self.old.max }
+        ensures some { IfSome result (λ n. (0 < n) × (n ≤ length octets.now)) }
+        ensures taken { IfSome result (λ n. (b : List ℕ) → HasTaken b (kept_of self.old) → HasTaken (b ++ take n octets.now) (kept_of self.new)) }
+        ensures none { IfNone result (self.new ≡ self.old) }
+    {
+        if !self.header.is_nothing() || self.ends.len() >= DEEPEST {
+            return None;
+        }
+        let object = short_header(octets)?;
+        let taken = object.taken();
+        if taken > octets.len() || object.whole() > self.room() {
+            return None;
+        }
+        self.pass(object);
+        Some(taken)
+    }
+
+    /// Passes over an object with a short header, or enters it where it is constructed and not empty.
+    fn pass(&mut self, object: ShortHeader)
+        requires idle { self.old.value_left ≡ 0 }
+        requires nothing { self.old.header ≡ Nothing }
+        requires shallow { array_vec_len self.old.ends < 16 }
+        requires fits { whole_of object ≤ room_of (self.old.max - self.old.count) (rooms_to self.old.count self.old.ends.items) }
+        requires some { 0 < object.header }
+        ensures { kept_of self.new ≡ after_short (kept_of self.old) object }
+    {
+        self.count += object.taken();
+        close(&mut self.ends, self.count);
+        if let Some(len) = object.opens() {
+            self.ends.push(self.count + len);
+        }
     }
 
     /// Takes a run of the value under way.

@@ -1,6 +1,6 @@
 //! Tags of data objects.
 
-ghost use Rattle.std.specs.Prelude.{◌≡◌, ◌↔◌, IsTrue, MatchOption};
+ghost use Rattle.std.specs.Prelude.{◌≡◌, ◌<◌, ◌/◌, ◌%◌, ◌↔◌, IsTrue, MatchOption};
 ghost use Rattle.tlv_core.specs.Tag.{IsTag, IsLong, constructed_bit};
 
 use std::marker::Model;
@@ -12,13 +12,27 @@ pub(crate) fn is_long(first: u8) -> bool
     first % 0x20 == 0x1F
 }
 
+/// Whether an octet ends a tag that has two: bit 8 is 0, and not all of its low seven bits are.
+pub(crate) fn is_last(second: u8) -> bool
+    ensures { IsTrue result ↔ ((0 < second) × (second < 128)) }
+{
+    second != 0 && second < 0x80
+}
+
+/// Whether a tag with this first octet is that of a constructed object: bit 6.
+pub(crate) fn is_constructed(first: u8) -> bool
+    ensures { IsTrue result ↔ (first / 32 % 2 ≡ 1) }
+{
+    first / 0x20 % 2 == 1
+}
+
 /// Whether these octets are one whole tag.
 fn is_tag(octets: &[u8]) -> bool
     ensures { IsTrue result ↔ IsTag octets.now }
 {
     match octets {
         [first] => *first != 0 && !is_long(*first),
-        [first, second] => is_long(*first) && *second != 0 && *second < 0x80,
+        [first, second] => is_long(*first) && is_last(*second),
         [first, second, third] => is_long(*first) && *second > 0x80 && *third < 0x80,
         _ => false,
     }
@@ -87,7 +101,7 @@ impl Tag {
     pub fn is_constructed(&self) -> bool
         ensures { IsTrue result ↔ (constructed_bit self.now ≡ 1) }
     {
-        self.octets[0] / 0x20 % 2 == 1
+        is_constructed(self.octets[0])
     }
 }
 

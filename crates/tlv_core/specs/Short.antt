@@ -1,0 +1,48 @@
+-- Objects with a short header: a tag of one octet or two, and a length field of at most three.
+use Rattle.std.specs.Prelude.{◌≡◌, ℕ, ◌+◌, ◌<◌, ◌≤◌, List, [], ◌∷◌, ◌++◌, length, take, Bool, true, false, cond}
+use Rattle.std.proofs.Common.{zero, suc}
+use Rattle.tlv_core.specs.declared.form.Form.{Form}
+use Rattle.tlv_core.specs.declared.short.ShortHeader.{ShortHeader}
+use Rattle.tlv_core.specs.declared.short.ShortLength.{ShortLength}
+use Rattle.tlv_core.specs.Form.{capacity}
+use Rattle.tlv_core.specs.Tag.{IsTag, constructed_bit, header_of, length_field}
+use Rattle.tlv_core.specs.Reasons.{Kept}
+use Rattle.tlv_core.specs.Steps.{spent}
+
+-- how many octets are taken at once: all of a primitive object, the header of a constructed one
+abbrev pub taken_of : ShortHeader → ℕ
+taken_of o = cond o.is_constructed o.header (o.header + o.len)
+
+-- and how many the object has
+abbrev pub whole_of : ShortHeader → ℕ
+whole_of o = o.header + o.len
+
+-- the octets begin with this length field
+pub record IsShortLength (octets : List ℕ) (l : ShortLength) : Type 0 where
+  pub form : Form
+  pub some : 0 < l.octets
+  pub few : l.octets ≤ 3
+  pub within : l.octets ≤ length octets
+  pub fits : l.len < capacity form
+  pub is : take l.octets octets ≡ length_field form l.len
+
+-- the octets begin with this header
+pub record IsShort (octets : List ℕ) (o : ShortHeader) : Type 0 where
+  pub tag : List ℕ
+  pub form : Form
+  pub is_tag : IsTag tag
+  pub some : 0 < o.header
+  pub within : o.header ≤ length octets
+  pub fits : o.len < capacity form
+  pub is : take o.header octets ≡ header_of tag form o.len
+  pub bit : constructed_bit tag ≡ cond o.is_constructed 1 0
+
+-- the room in the object, where it is open then
+abbrev pub opened : Bool → ℕ → List ℕ
+opened false len = []
+opened true zero = []
+opened true (suc n) = suc n ∷ []
+
+-- what is kept after such an object, or its header
+abbrev pub after_short : Kept → ShortHeader → Kept
+after_short k o = record { max = k.max; count = k.count + taken_of o; rooms = spent (taken_of o) k.rooms ++ opened o.is_constructed o.len; header = []; value_left = 0 }
