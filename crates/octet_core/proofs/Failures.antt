@@ -1,5 +1,5 @@
 -- What a failed call leaves of the count, and writes in a row.
-use Rattle.std.proofs.Common.{ℕ, ◌++◌, arith, Option, None, Some, List, ap, ◌∙◌, append_assoc}
+use Rattle.std.proofs.Common.{ℕ, ◌++◌, Option, None, Some, List, ap, ◌∙◌, append_assoc}
 use Rattle.std.specs.Io.KnownBytes.{Appends}
 
 -- two writes in a row

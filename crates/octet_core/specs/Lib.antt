@@ -5,3 +5,4 @@ pub mod Counted
 pub mod Hexadecimal
 pub mod Reader
 pub mod Decimal
+pub mod Stops

@@ -2,6 +2,7 @@
 
 ghost use Rattle.std.specs.Prelude.{◌≡◌, ◌≢◌, ◌≤◌, ◌<◌, length, IfOk};
 
+use std::fmt::{self, Debug, Formatter};
 use std::io::{self, ErrorKind, Read, Write};
 
 /// How many octets a `Taker` keeps at most.
@@ -34,7 +35,7 @@ impl After {
 }
 
 /// A reader that gives octets, at most `step` by one call.
-#[derive(Debug, Drop)]
+#[derive(Drop)]
 pub struct Feeder<'a> {
     octets: &'a [u8],
     step: usize,
@@ -65,6 +66,19 @@ impl<'a> Feeder<'a> {
     }
 }
 
+/// How many octets there are and how far they were given: no octet is shown.
+impl Debug for Feeder<'_> {
+    fn fmt<W: fmt::Write>(&self, f: &mut Formatter<W>) -> fmt::Result {
+        f.debug_struct("Feeder")
+            .field("octets", &self.octets.len())
+            .field("step", &self.step)
+            .field("after", &self.after)
+            .field("place", &self.place)
+            .field("given", &self.given)
+            .finish()
+    }
+}
+
 impl Read for Feeder<'_> {
     fn read(&mut self, room: &mut [u8]) -> io::Result<usize> {
         if self.place == self.octets.len() {
@@ -83,7 +97,7 @@ impl Read for Feeder<'_> {
 }
 
 /// A writer that keeps what it takes, at most `step` octets by one call.
-#[derive(Debug, Drop)]
+#[derive(Drop)]
 pub struct Taker {
     held: [u8; LARGEST_ROOM],
     len: usize,
@@ -114,6 +128,18 @@ impl Taker {
     /// The octets that were taken.
     pub fn kept(&self) -> &[u8] {
         &self.held[..self.len]
+    }
+}
+
+/// How many octets were taken: no octet is shown.
+impl Debug for Taker {
+    fn fmt<W: fmt::Write>(&self, f: &mut Formatter<W>) -> fmt::Result {
+        f.debug_struct("Taker")
+            .field("kept_octets", &self.len)
+            .field("room", &self.room)
+            .field("step", &self.step)
+            .field("after", &self.after)
+            .finish()
     }
 }
 

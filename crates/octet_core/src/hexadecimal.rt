@@ -6,6 +6,8 @@ ghost use Rattle.octet_core.specs.Hexadecimal.{IsHexFault};
 
 use hex::FromHexError;
 use std::alloc::{AllocError, Global};
+use std::error::Error;
+use std::fmt::{self, Display, Formatter, Write};
 
 /// Why a text is no octets in hexadecimal.
 #[derive(Clone, Copy, Debug, PartialEq, Eq)]
@@ -17,6 +19,25 @@ pub enum HexFault {
     /// A growth was refused. The text has an even number of octets, and may have another digit.
     Memory,
 }
+
+/// The name of the fault, with the place of a digit after it, as in `Digit at 3`; `memory` where a growth was
+/// refused.
+impl Display for HexFault {
+    ghost use Rattle.std.specs.Prelude.{Some};
+    ghost use Rattle.octet_core.specs.Stops.{hex_fault_text};
+
+    ghost output = { λ fault. Some (hex_fault_text fault) };
+
+    fn fmt<W: Write>(&self, f: &mut Formatter<W>) -> fmt::Result {
+        match self {
+            HexFault::Odd => f.write_str("Odd"),
+            HexFault::Digit { place } => write!(f, "Digit at {place}"),
+            HexFault::Memory => f.write_str("memory"),
+        }
+    }
+}
+
+impl Error for HexFault {}
 
 /// The octets that the text gives with two digits each, in either case.
 pub fn octets_of(alloc: Global, text: &str) -> Result<Vec<u8>, HexFault>

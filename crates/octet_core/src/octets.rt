@@ -1,9 +1,10 @@
 //! Lists of octets and texts that own their memory, which contracts see as lists of octets.
 
+use std::fmt::{self, Debug, Formatter, Write};
 use std::marker::Model;
 
 /// Octets in a vector, which contracts see as a list.
-#[derive(Debug, Drop)]
+#[derive(Drop)]
 pub struct Octets {
     held: Vec<u8>,
 }
@@ -64,8 +65,17 @@ impl Eq for Octets {
     ghost laws = { Prim.search (comparing, rules) };
 }
 
+/// How many octets there are. They may be a message, so none is shown.
+impl Debug for Octets {
+    fn fmt<W: Write>(&self, f: &mut Formatter<W>) -> fmt::Result {
+        f.debug_struct("Octets")
+            .field("octets", &self.held.len())
+            .finish()
+    }
+}
+
 /// A text, which contracts see as the list of its octets in UTF-8.
-#[derive(Debug, Drop)]
+#[derive(Drop)]
 pub struct Text {
     held: String,
 }
@@ -124,4 +134,13 @@ impl Eq for Text {
     ghost use Rattle.std.specs.Cmp.Rules.{comparing};
 
     ghost laws = { Prim.search (comparing, rules) };
+}
+
+/// How many octets there are. They may tell a message, so none is shown.
+impl Debug for Text {
+    fn fmt<W: Write>(&self, f: &mut Formatter<W>) -> fmt::Result {
+        f.debug_struct("Text")
+            .field("octets", &self.held.len())
+            .finish()
+    }
 }

@@ -1,9 +1,12 @@
 //! Why octets are refused.
 
 ghost use Rattle.std.specs.Prelude.{◌≡◌};
+ghost use Rattle.octet_core.specs.Stops.{ForReason, IsMapped};
 ghost use Rattle.octet_core.specs.declared.stop.Stop.TheVariants.{At};
 
 use std::alloc::AllocError;
+use std::error::Error;
+use std::fmt::{self, Debug, Display, Formatter, Write};
 
 /// Why octets are no spelling of a value. Places count octets from 0.
 #[derive(Clone, Copy, Debug, PartialEq, Eq)]
@@ -13,6 +16,38 @@ pub enum Stop<R> {
     /// The octet at `place` is the first after which no spelling goes on.
     At { place: usize, reason: R },
 }
+
+impl<R> Stop<R> {
+    /// The same with another reason: of the reason, where there is one, what `rename` gives. The place stays.
+    pub fn map<T, F: FnOnce(R) -> T>(self, rename: F) -> Stop<T>
+        requires { ForReason self (F.pre rename) }
+        ensures { IsMapped (F.post rename) self result }
+    {
+        match self {
+            Stop::Short { place } => Stop::Short { place },
+            Stop::At { place, reason } => Stop::At {
+                place,
+                reason: rename(reason),
+            },
+        }
+    }
+}
+
+/// `short at P`, or `refused at P: ` and the reason.
+impl<R: Display> Display for Stop<R> {
+    ghost use Rattle.octet_core.specs.Stops.{stop_text};
+
+    ghost output = { stop_text R.output };
+
+    fn fmt<W: Write>(&self, f: &mut Formatter<W>) -> fmt::Result {
+        match self {
+            Stop::Short { place } => write!(f, "short at {place}"),
+            Stop::At { place, reason } => write!(f, "refused at {place}: {reason}"),
+        }
+    }
+}
+
+impl<R: Debug + Display + Drop> Error for Stop<R> {}
 
 /// Why a call that takes memory gave no value.
 #[derive(Clone, Copy, Debug, PartialEq, Eq)]
@@ -43,6 +78,22 @@ impl<R> From<Stop<R>> for Refused<R> {
     }
 }
 
+/// The stop, or `memory`.
+impl<R: Display> Display for Refused<R> {
+    ghost use Rattle.octet_core.specs.Stops.{refused_text};
+
+    ghost output = { refused_text R.output };
+
+    fn fmt<W: Write>(&self, f: &mut Formatter<W>) -> fmt::Result {
+        match self {
+            Refused::Stop(stop) => Display::fmt(stop, f),
+            Refused::Memory => f.write_str("memory"),
+        }
+    }
+}
+
+impl<R: Debug + Display + Drop> Error for Refused<R> {}
+
 /// A refusal that a reader keeps and repeats: the octet at `place`, counted from the first that it was
 /// ever fed, is the first after which no spelling goes on.
 #[derive(Clone, Copy, Debug, PartialEq, Eq)]
@@ -62,3 +113,19 @@ impl<R> Refusal<R> {
         }
     }
 }
+
+/// As its stop: `refused at P: ` and the reason.
+impl<R: Display> Display for Refusal<R> {
+    ghost use Rattle.octet_core.specs.Stops.{stop_text};
+    ghost use Rattle.octet_core.specs.declared.stop.Stop.TheVariants.{At};
+
+    ghost output = { λ refusal. stop_text R.output (At refusal.place refusal.reason) };
+
+    fn fmt<W: Write>(&self, f: &mut Formatter<W>) -> fmt::Result {
+        let place = self.place;
+        write!(f, "refused at {place}: ")?;
+        Display::fmt(&self.reason, f)
+    }
+}
+
+impl<R: Debug + Display + Drop> Error for Refusal<R> {}

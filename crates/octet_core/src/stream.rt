@@ -5,6 +5,8 @@ ghost use Rattle.std.specs.Io.{ReadsAtMost, WritesAtMost};
 ghost use Rattle.std.specs.Io.KnownBytes.{ReadConsumes, WriteAppends, Appends, Keeps};
 ghost use Rattle.octet_core.specs.Failures.{Counts, ReadFails, WriteFails, HasFailed, next_count};
 
+use std::error::Error;
+use std::fmt::{self, Display, Formatter};
 use std::io;
 
 /// A reader that counts the calls that failed. The end of its input is no failure.
@@ -42,6 +44,20 @@ pub trait Sink {
 pub struct WriteFault {
     pub written: usize,
 }
+
+/// How many octets were written, as in `Write after 3 octets`.
+impl Display for WriteFault {
+    ghost use Rattle.std.specs.Prelude.{Some, ◌++◌, codes, decimal};
+
+    ghost output = { λ fault. Some (codes "Write after " ++ (decimal fault.written ++ codes " octets")) };
+
+    fn fmt<W: fmt::Write>(&self, f: &mut Formatter<W>) -> fmt::Result {
+        let written = self.written;
+        write!(f, "Write after {written} octets")
+    }
+}
+
+impl Error for WriteFault {}
 
 /// Writes some of the octets by one call, `None` where it fails.
 fn write_some<W: Sink>(writer: &mut W, octets: &[u8]) -> Option<usize>

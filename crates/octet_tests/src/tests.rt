@@ -1,6 +1,7 @@
 //! What no clause says: values from outside, and what the devices give and keep.
 
 mod decimal;
+mod refusals;
 
 use octet_core::{
     After, Counted, FailsOnce, Feeder, HexFault, Octets, Sink, Source, Taker, Text, WriteFault,

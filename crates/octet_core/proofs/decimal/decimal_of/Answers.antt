@@ -1,5 +1,4 @@
-use Rattle.std.proofs.Common.{◌≡◌, Option, Some, IfSome, ◌∙◌, sym, ℕ, ◌<◌, decimal}
-use Rattle.std.specs.Str.Parse.{digits_value}
+use Rattle.std.proofs.Common.{◌∙◌, sym}
 use Rattle.octet_core.proofs.Decimals.{value-most, value-decimal, none-decimal}
 use Rattle.octet_core.proofs.decimal.decimal_of.Goals as goal
 
