@@ -5,6 +5,7 @@ ghost use Rattle.octet_core.specs.Octets.{AreOctets};
 ghost use Rattle.apdu_core.specs.Command.{IsCount};
 
 use octet_core::Octets;
+use std::fmt::{self, Debug, Formatter, Write};
 use std::marker::Model;
 
 /// What follows the header of a command (ISO/IEC 7816-3, clause 12), in its seven shapes: a data field
@@ -50,7 +51,7 @@ pub enum Shape {
 
 /// A command (ISO/IEC 7816-3, clause 12): CLA, INS, P1 and P2, and a body whose numbers its length
 /// fields can tell. Its spelling has 4 to 65,544 octets.
-#[derive(Debug, PartialEq, Eq, Drop)]
+#[derive(PartialEq, Eq, Drop)]
 pub struct Command {
     header: [u8; 4],
     body: Body,
@@ -184,4 +185,11 @@ fn is_part(part: &[u8], most: usize) -> bool
     ensures octets { AreOctets part.now }
 {
     (1..=most).contains(&part.len())
+}
+
+/// The shape, how many octets the data field has, and Le. A command may carry a PIN, so no octet of it is shown.
+impl Debug for Command {
+    fn fmt<W: Write>(&self, f: &mut Formatter<W>) -> fmt::Result {
+        f.debug_struct("Command").field("body", &self.body).finish()
+    }
 }

@@ -10,10 +10,11 @@ use crate::command::{Body, Command, Shape};
 use crate::reason::CommandReason;
 use octet_core::{Octets, Stop};
 use std::alloc::{AllocError, Global};
+use std::fmt::{self, Debug, Formatter, Write};
 use std::marker::Model;
 
 /// The body of a command, with its data field in the octets that were read.
-#[derive(Clone, Copy, Debug, PartialEq, Eq)]
+#[derive(Clone, Copy, PartialEq, Eq)]
 pub(crate) enum BodyRef<'a> {
     Empty,
     ShortLe { le: u32 },
@@ -25,7 +26,7 @@ pub(crate) enum BodyRef<'a> {
 }
 
 /// A command whose data field stands in the octets from which it was read (ISO/IEC 7816-3, clause 12).
-#[derive(Debug, Drop)]
+#[derive(Drop)]
 pub struct CommandRef<'a> {
     header: [u8; 4],
     body: BodyRef<'a>,
@@ -271,5 +272,16 @@ fn long_le(high: u8, low: u8) -> u32
     match u32::from(high) * 256 + u32::from(low) {
         0 => 65_536,
         number => number,
+    }
+}
+
+/// The shape, how many octets the data field has, and Le: as of a [`Command`], no octet is shown.
+impl Debug for CommandRef<'_> {
+    fn fmt<W: Write>(&self, f: &mut Formatter<W>) -> fmt::Result {
+        f.debug_struct("CommandRef")
+            .field("shape", &self.shape())
+            .field("part_octets", &self.part().len())
+            .field("le", &self.le())
+            .finish()
     }
 }

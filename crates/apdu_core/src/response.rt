@@ -3,7 +3,9 @@
 ghost use Rattle.std.specs.Prelude.{◌↔◌, ◌≤◌, IsTrue, length};
 ghost use Rattle.octet_core.specs.Octets.{AreOctets};
 
+use crate::status::status_class;
 use octet_core::Octets;
+use std::fmt::{self, Debug, Formatter, Write};
 use std::marker::Model;
 
 /// The octets of the longest data field of a response.
@@ -11,7 +13,7 @@ pub const LONGEST_PART: usize = 65_536;
 
 /// A response (ISO/IEC 7816-3, clause 12): a data field of at most 65,536 octets, and the status bytes
 /// SW1 and SW2. Its spelling has 2 to 65,538 octets.
-#[derive(Debug, PartialEq, Eq, Drop)]
+#[derive(PartialEq, Eq, Drop)]
 pub struct Response {
     part: Octets,
     sw1: u8,
@@ -86,4 +88,14 @@ fn is_part(part: &[u8]) -> bool
     ensures octets { AreOctets part.now }
 {
     part.len() <= LONGEST_PART
+}
+
+/// How many octets the data field has, and the class of the status bytes: no octet is shown.
+impl Debug for Response {
+    fn fmt<W: Write>(&self, f: &mut Formatter<W>) -> fmt::Result {
+        f.debug_struct("Response")
+            .field("part_octets", &self.part.get().len())
+            .field("status", &status_class(self.sw1, self.sw2))
+            .finish()
+    }
 }

@@ -7,12 +7,14 @@ ghost use Rattle.apdu_core.specs.Response.{ResponseParts, IsResponse, IsReason};
 use crate::command_ref::copy_of;
 use crate::reason::ResponseReason;
 use crate::response::{LONGEST_PART, Response};
+use crate::status::status_class;
 use octet_core::Stop;
 use std::alloc::{AllocError, Global};
+use std::fmt::{self, Debug, Formatter, Write};
 use std::marker::Model;
 
 /// A response whose data field stands in the octets from which it was read (ISO/IEC 7816-3, clause 12).
-#[derive(Debug, Drop)]
+#[derive(Drop)]
 pub struct ResponseRef<'a> {
     part: &'a [u8],
     sw1: u8,
@@ -85,5 +87,15 @@ impl<'a> ResponseRef<'a> {
     {
         let part = copy_of(alloc, self.part)?;
         Ok(Response::of_parts(part, self.sw1, self.sw2))
+    }
+}
+
+/// How many octets the data field has, and the class of the status bytes: no octet is shown.
+impl Debug for ResponseRef<'_> {
+    fn fmt<W: Write>(&self, f: &mut Formatter<W>) -> fmt::Result {
+        f.debug_struct("ResponseRef")
+            .field("part_octets", &self.part.len())
+            .field("status", &status_class(self.sw1, self.sw2))
+            .finish()
     }
 }

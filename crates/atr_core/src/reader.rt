@@ -9,6 +9,7 @@ ghost use Rattle.atr_core.specs.Taking.{HasTaken, IsTaken, nothing_taken, refusa
 use crate::partial::Partial;
 use crate::{Atr, AtrReason};
 use octet_core::{Refusal, Stop};
+use std::fmt::{self, Debug, Formatter, Write};
 use std::marker::Model;
 
 /// What the octets so far have come to.
@@ -142,5 +143,19 @@ impl Partial {
             }
         }
         Ok(piece.len())
+    }
+}
+
+/// How many octets were taken, and the refusal that it keeps.
+impl Debug for AtrReader {
+    fn fmt<W: Write>(&self, f: &mut Formatter<W>) -> fmt::Result {
+        let refusal = match &self.stage {
+            Stage::Taken(_) => None,
+            Stage::Refused(refusal) => Some(*refusal),
+        };
+        f.debug_struct("AtrReader")
+            .field("taken", &self.count)
+            .field("refusal", &refusal)
+            .finish()
     }
 }

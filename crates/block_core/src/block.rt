@@ -7,6 +7,7 @@ ghost use Rattle.block_core.specs.declared.pcb.Pcb.TheVariants.{Info, Ready, Req
 use crate::pcb::{Fault, Number, Pcb, S};
 use arrayvec::ArrayVec;
 use octet_core::lrc;
+use std::fmt::{self, Debug, Formatter, Write};
 use std::marker::Model;
 
 /// The octets of the longest information field.
@@ -18,7 +19,7 @@ pub const LONGEST_BLOCK: usize = 258;
 /// A block (ISO/IEC 7816-3, clause 11.3): its node address (NAD), what it is (PCB) and its
 /// information field, which suits the kind: at most 254 octets in an I-block, none in an R-block, in an
 /// S-block those that it calls for.
-#[derive(Clone, Debug, PartialEq, Eq, Drop)]
+#[derive(Clone, PartialEq, Eq, Drop)]
 pub struct Block {
     nad: u8,
     pcb: Pcb,
@@ -114,6 +115,18 @@ impl Block {
             pcb,
             inf: field(inf),
         }
+    }
+}
+
+/// Its node address, what it is, and how many octets its field has. The field may be of a command, which may
+/// carry a PIN, so no octet of it is shown.
+impl Debug for Block {
+    fn fmt<W: Write>(&self, f: &mut Formatter<W>) -> fmt::Result {
+        f.debug_struct("Block")
+            .field("nad", &self.nad)
+            .field("pcb", &self.pcb)
+            .field("inf_octets", &self.inf.len())
+            .finish()
     }
 }
 

@@ -11,11 +11,12 @@ use crate::block::Block;
 use crate::pcb::Pcb;
 use crate::reason::BlockReason;
 use octet_core::{Stop, lrc};
+use std::fmt::{self, Debug, Formatter, Write};
 use std::marker::Model;
 
 /// A block whose information field stands in the octets from which it was read (ISO/IEC 7816-3, clause
 /// 11.3). Contracts see the same parts as of a `Block`.
-#[derive(Debug, Drop)]
+#[derive(Drop)]
 pub struct BlockRef<'a> {
     nad: u8,
     pcb: Pcb,
@@ -198,4 +199,15 @@ fn refused(place: usize, reason: BlockReason) -> Stop<BlockReason>
     ensures { result ≡ At place reason }
 {
     Stop::At { place, reason }
+}
+
+/// Its node address, what it is, and how many octets its field has: as of a [`Block`], no octet of it is shown.
+impl Debug for BlockRef<'_> {
+    fn fmt<W: Write>(&self, f: &mut Formatter<W>) -> fmt::Result {
+        f.debug_struct("BlockRef")
+            .field("nad", &self.nad)
+            .field("pcb", &self.pcb)
+            .field("inf_octets", &self.inf.len())
+            .finish()
+    }
 }

@@ -10,11 +10,12 @@ use crate::reason::BlockReason;
 use crate::stage::Stage;
 use arrayvec::ArrayVec;
 use octet_core::{Stop, lrc};
+use std::fmt::{self, Debug, Formatter, Write};
 use std::marker::Model;
 
 /// A reader of one block (ISO/IEC 7816-3, clause 11.3) whose octets come in pieces. It keeps them in a
 /// fixed buffer of 258 octets and takes no memory.
-#[derive(Debug, Drop)]
+#[derive(Drop)]
 pub struct BlockReader {
     ifs: u8,
     held: ArrayVec<u8, LONGEST_BLOCK>,
@@ -134,5 +135,16 @@ impl BlockReader {
                 .advanced(self.held.as_slice(), self.sum, self.ifs);
         }
         run.len()
+    }
+}
+
+/// The information size, how many octets were taken, and what comes next: no octet is shown.
+impl Debug for BlockReader {
+    fn fmt<W: Write>(&self, f: &mut Formatter<W>) -> fmt::Result {
+        f.debug_struct("BlockReader")
+            .field("ifs", &self.ifs)
+            .field("taken", &self.held.len())
+            .field("stage", &self.stage)
+            .finish()
     }
 }

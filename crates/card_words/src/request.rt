@@ -56,7 +56,7 @@ pub struct Input {
 }
 
 /// Values that are known for tags, in the order of their words, which contracts see as a list.
-#[derive(Drop)]
+#[derive(Debug, Drop)]
 pub struct Knowns {
     list: Vec<Known>,
 }
@@ -87,7 +87,7 @@ impl Knowns {
 }
 
 /// What a command line asks for.
-#[derive(Drop)]
+#[derive(Debug, Drop)]
 pub enum Request {
     /// Whether the octets are a value of the kind, and how many of them it takes.
     Check(Input),

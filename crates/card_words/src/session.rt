@@ -18,7 +18,7 @@ pub struct Pair {
 }
 
 /// Commands and their replies, in the order of their words, which contracts see as a list.
-#[derive(Drop)]
+#[derive(Debug, Drop)]
 pub struct Pairs {
     pairs: Vec<Pair>,
 }
@@ -48,8 +48,31 @@ impl Pairs {
     }
 }
 
+impl PartialEq for Pairs {
+    ghost use Rattle.std.specs.Prelude.{◌==◌};
+    ghost use Rattle.std.specs.Ordering.{on, eq_of_both};
+    ghost use lib.Pointwise.{pointwise};
+    ghost use Rattle.std.proofs.Common.{rules};
+    ghost use Rattle.std.specs.Cmp.Rules.{comparing};
+
+    ghost eq = { pointwise (eq_of_both (on (λ p. p.command) (pointwise ◌==◌)) (on (λ p. p.reply) (pointwise ◌==◌))) };
+
+    ghost laws = { Prim.search (comparing, rules) };
+
+    fn eq(&self, other: &Self) -> bool {
+        self.get() == other.get()
+    }
+}
+
+impl Eq for Pairs {
+    ghost use Rattle.std.proofs.Common.{rules};
+    ghost use Rattle.std.specs.Cmp.Rules.{comparing};
+
+    ghost laws = { Prim.search (comparing, rules) };
+}
+
 /// Numbers of blocks, from 1, in the order of their word, which contracts see as a list.
-#[derive(Drop)]
+#[derive(Debug, Drop)]
 pub struct BlockNumbers {
     numbers: Vec<u64>,
 }
@@ -78,8 +101,30 @@ impl BlockNumbers {
     }
 }
 
+impl PartialEq for BlockNumbers {
+    ghost use Rattle.std.specs.Prelude.{◌==◌};
+    ghost use lib.Pointwise.{pointwise};
+    ghost use Rattle.std.proofs.Common.{rules};
+    ghost use Rattle.std.specs.Cmp.Rules.{comparing};
+
+    ghost eq = { pointwise ◌==◌ };
+
+    ghost laws = { Prim.search (comparing, rules) };
+
+    fn eq(&self, other: &Self) -> bool {
+        self.get() == other.get()
+    }
+}
+
+impl Eq for BlockNumbers {
+    ghost use Rattle.std.proofs.Common.{rules};
+    ghost use Rattle.std.specs.Cmp.Rules.{comparing};
+
+    ghost laws = { Prim.search (comparing, rules) };
+}
+
 /// A session of both ends on one line.
-#[derive(Drop)]
+#[derive(Debug, PartialEq, Eq, Drop)]
 pub struct Session {
     /// The card's answer to reset.
     pub atr: Octets,

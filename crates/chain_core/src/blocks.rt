@@ -6,6 +6,7 @@ ghost use Rattle.chain_core.specs.Chain.{links};
 ghost use Rattle.chain_core.specs.Cut.{cut_of, first_link};
 
 use block_core::{Block, Number};
+use std::fmt::{self, Debug, Formatter, Write};
 use std::marker::Model;
 
 /// The first block of the chain into which the octets of a message from place `start` on are cut, with
@@ -23,7 +24,7 @@ pub fn block_at(msg: &[u8], start: usize, ifs: u8, number: Number) -> Block
 }
 
 /// The blocks that are left of the chain into which a message is cut.
-#[derive(Debug, Drop)]
+#[derive(Drop)]
 pub struct Cut<'a> {
     rest: Option<&'a [u8]>,
     ifs: u8,
@@ -77,5 +78,17 @@ impl Iterator for Cut<'_> {
         };
         self.number = self.number.other();
         Some(block)
+    }
+}
+
+/// How many octets of the message are left, the information size and the number of the next block: no octet is
+/// shown.
+impl Debug for Cut<'_> {
+    fn fmt<W: Write>(&self, f: &mut Formatter<W>) -> fmt::Result {
+        f.debug_struct("Cut")
+            .field("octets_left", &self.rest.map_or(0, |rest| rest.len()))
+            .field("ifs", &self.ifs)
+            .field("number", &self.number)
+            .finish()
     }
 }

@@ -14,6 +14,7 @@ use crate::reason::ChainReason;
 use block_core::{BlockReader, Number};
 use octet_core::{Refusal, Stop};
 use std::alloc::{AllocError, Global};
+use std::fmt::{self, Debug, Formatter, Write};
 use std::marker::Model;
 
 /// The blocks of the longest chain.
@@ -21,7 +22,7 @@ pub const MOST_BLOCKS: u32 = 131_072;
 
 /// A receiver of one chain (ISO/IEC 7816-3, clause 11.6) whose octets come in pieces. It joins the fields
 /// of the blocks to the message, for which `new` reserves memory once; no later call takes any.
-#[derive(Debug, Drop)]
+#[derive(Drop)]
 pub struct Receiver {
     ifs: u8,
     first: Number,
@@ -236,5 +237,23 @@ impl Receiver {
             }
             Err(Stop::Short { .. }) => unreachable!(),
         }
+    }
+}
+
+/// Sizes, numbers, and how many octets came. A message may carry a PIN, so no octet is shown.
+impl Debug for Receiver {
+    fn fmt<W: Write>(&self, f: &mut Formatter<W>) -> fmt::Result {
+        f.debug_struct("Receiver")
+            .field("ifs", &self.ifs)
+            .field("first", &self.first)
+            .field("max", &self.max)
+            .field("message_octets", &self.message.len())
+            .field("blocks", &self.blocks)
+            .field("number", &self.number)
+            .field("reader", &self.reader)
+            .field("part", &self.part)
+            .field("done", &self.done)
+            .field("refusal", &self.refusal)
+            .finish()
     }
 }

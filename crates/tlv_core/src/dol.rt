@@ -16,7 +16,7 @@ use std::marker::Model;
 
 /// A data object list: tags, each with the length that its value is to have (EMV 4.3 Book 3,
 /// clause 5.4).
-#[derive(Drop)]
+#[derive(Debug, Drop)]
 pub struct Dol {
     entries: Vec<(Tag, u8)>,
 }
@@ -83,6 +83,29 @@ impl Dol {
         }
         Ok(out)
     }
+}
+
+impl PartialEq for Dol {
+    ghost use Rattle.std.specs.Prelude.{◌==◌};
+    ghost use Rattle.std.specs.Ordering.{on, eq_of_both};
+    ghost use lib.Pointwise.{pointwise};
+    ghost use Rattle.std.proofs.Common.{rules};
+    ghost use Rattle.std.specs.Cmp.Rules.{comparing};
+
+    ghost eq = { pointwise (eq_of_both (on (λ e. e.0) (pointwise ◌==◌)) (on (λ e. e.1) ◌==◌)) };
+
+    ghost laws = { Prim.search (comparing, rules) };
+
+    fn eq(&self, other: &Self) -> bool {
+        self.entries() == other.entries()
+    }
+}
+
+impl Eq for Dol {
+    ghost use Rattle.std.proofs.Common.{rules};
+    ghost use Rattle.std.specs.Cmp.Rules.{comparing};
+
+    ghost laws = { Prim.search (comparing, rules) };
 }
 
 /// Adds the octets of an entry.

@@ -24,7 +24,7 @@ pub enum Improper {
 
 /// A list of data objects and fillers that has a spelling of at most 1,048,576 octets, with its
 /// outermost objects at depth 1 and its innermost at depth 16 at most.
-#[derive(Drop)]
+#[derive(Debug, Drop)]
 pub struct Forest {
     nodes: Nodes,
 }

@@ -4,7 +4,7 @@ use crate::tag::Tag;
 use octet_core::{Format, Octets};
 
 /// A value that is known for a tag.
-#[derive(Drop)]
+#[derive(Debug, PartialEq, Eq, Drop)]
 pub struct Known {
     /// The tag that it is known for.
     pub tag: Tag,

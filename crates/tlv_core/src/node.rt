@@ -5,6 +5,7 @@ ghost use Rattle.std.specs.Prelude.{◌≡◌};
 use crate::form::Form;
 use crate::tag::Tag;
 use octet_core::Octets;
+use std::fmt::{self, Debug, Formatter, Write};
 use std::marker::Model;
 
 /// A list of data objects and fillers, which contracts see as a tree by its first item and the rest.
@@ -59,7 +60,7 @@ impl Nodes {
 }
 
 /// A filler octet 00, or a data object with its tag, the form of its length field, and its value.
-#[derive(Drop)]
+#[derive(Debug, Drop)]
 #[cycle(tree)]
 pub enum Node {
     /// An octet 00 between objects, without a meaning.
@@ -68,4 +69,13 @@ pub enum Node {
     Primitive { tag: Tag, form: Form, value: Octets },
     /// An object whose value is objects and fillers.
     Constructed { tag: Tag, form: Form, nodes: Nodes },
+}
+
+/// How many nodes there are: those inside aren't shown, nor is an octet of a value.
+impl Debug for Nodes {
+    fn fmt<W: Write>(&self, f: &mut Formatter<W>) -> fmt::Result {
+        f.debug_struct("Nodes")
+            .field("nodes", &self.list.len())
+            .finish()
+    }
 }

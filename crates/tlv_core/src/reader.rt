@@ -13,6 +13,7 @@ use crate::progress::Progress;
 use crate::reason::{Refusal, TlvReason};
 use octet_core::{Refused, Stop};
 use std::alloc::{AllocError, Global};
+use std::fmt::{self, Debug, Formatter, Write};
 use std::marker::Model;
 
 /// A reader of a forest that is fed in pieces of any length. It keeps the tree that its octets make so
@@ -141,5 +142,17 @@ impl ForestReader {
                 Err(Refused::Stop(refusal.stop()))
             }
         }
+    }
+}
+
+/// How far the octets have come, and the refusal that stands: no octet is shown.
+impl Debug for ForestReader {
+    fn fmt<W: Write>(&self, f: &mut Formatter<W>) -> fmt::Result {
+        f.debug_struct("ForestReader")
+            .field("taken", &self.progress.count())
+            .field("open_objects", &self.progress.level())
+            .field("value_octets_left", &self.progress.value_left())
+            .field("refusal", &self.refusal)
+            .finish()
     }
 }
