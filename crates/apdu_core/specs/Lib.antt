@@ -6,3 +6,4 @@ pub mod Sending
 pub mod Receiving
 pub mod Arrival
 pub mod Put
+pub mod Names

@@ -1,5 +1,9 @@
 //! Refusals of APDUs.
 
+use octet_core::Named;
+use std::error::Error;
+use std::fmt::{self, Display, Formatter, Write};
+
 /// Why octets are no command APDU.
 #[derive(Clone, Copy, Debug, PartialEq, Eq)]
 pub enum CommandReason {
@@ -7,9 +11,61 @@ pub enum CommandReason {
     Trailing,
 }
 
+impl Named for CommandReason {
+    ghost use Rattle.apdu_core.specs.Names.{command_reason_name};
+
+    ghost text = { command_reason_name };
+
+    fn name(self) -> &'static str {
+        match self {
+            CommandReason::Trailing => "Trailing",
+        }
+    }
+}
+
+/// The reason's name.
+impl Display for CommandReason {
+    ghost use Rattle.std.specs.Prelude.{Some};
+    ghost use Rattle.apdu_core.specs.Names.{command_reason_name};
+
+    ghost output = { λ reason. Some (command_reason_name reason) };
+
+    fn fmt<W: Write>(&self, f: &mut Formatter<W>) -> fmt::Result {
+        f.write_str(self.name())
+    }
+}
+
+impl Error for CommandReason {}
+
 /// Why octets are no response APDU.
 #[derive(Clone, Copy, Debug, PartialEq, Eq)]
 pub enum ResponseReason {
     /// The octet stands at place 65,538, after the last that the longest response has.
     TooLong,
 }
+
+impl Named for ResponseReason {
+    ghost use Rattle.apdu_core.specs.Names.{response_reason_name};
+
+    ghost text = { response_reason_name };
+
+    fn name(self) -> &'static str {
+        match self {
+            ResponseReason::TooLong => "TooLong",
+        }
+    }
+}
+
+/// The reason's name.
+impl Display for ResponseReason {
+    ghost use Rattle.std.specs.Prelude.{Some};
+    ghost use Rattle.apdu_core.specs.Names.{response_reason_name};
+
+    ghost output = { λ reason. Some (response_reason_name reason) };
+
+    fn fmt<W: Write>(&self, f: &mut Formatter<W>) -> fmt::Result {
+        f.write_str(self.name())
+    }
+}
+
+impl Error for ResponseReason {}

@@ -16,6 +16,8 @@ use block_core::Number;
 use chain_core::{ChainReason, ReadRefusal, Receiver, read_chain};
 use octet_core::{Refused, Source, Stop};
 use std::alloc::{AllocError, Global};
+use std::error::Error;
+use std::fmt::{self, Debug, Display, Formatter, Write};
 
 /// The octets of the longest command.
 pub const LONGEST_COMMAND: usize = 65_544;
@@ -36,6 +38,24 @@ pub enum ReceiveFault<R> {
     /// The whole chain was read and no more, and its message is no such APDU.
     Apdu(Stop<R>),
 }
+
+/// `memory`, `Read after N octets`, or `Chain: ` or `Apdu: ` and the stop.
+impl<R: Display> Display for ReceiveFault<R> {
+    ghost use Rattle.apdu_core.specs.Names.{receive_fault_text};
+
+    ghost output = { receive_fault_text R.output };
+
+    fn fmt<W: Write>(&self, f: &mut Formatter<W>) -> fmt::Result {
+        match self {
+            ReceiveFault::Memory => f.write_str("memory"),
+            ReceiveFault::Read { taken } => write!(f, "Read after {taken} octets"),
+            ReceiveFault::Chain(stop) => write!(f, "Chain: {stop}"),
+            ReceiveFault::Apdu(stop) => write!(f, "Apdu: {stop}"),
+        }
+    }
+}
+
+impl<R: Debug + Display + Drop> Error for ReceiveFault<R> {}
 
 impl<R> From<AllocError> for ReceiveFault<R> {
     ghost use Rattle.std.specs.Prelude.{◌≡◌};

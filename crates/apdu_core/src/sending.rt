@@ -12,6 +12,8 @@ use block_core::Number;
 use chain_core::write_chain;
 use octet_core::{Sink, WriteFault};
 use std::alloc::{AllocError, Global};
+use std::error::Error;
+use std::fmt::{self, Display, Formatter, Write};
 
 /// Why no whole APDU was sent.
 #[derive(Clone, Copy, Debug, PartialEq, Eq)]
@@ -21,6 +23,23 @@ pub enum SendFault {
     /// The writer failed, or took no octet, after the first `written` octets of the chain.
     Write { written: usize },
 }
+
+/// `memory`, or `Write after N octets`.
+impl Display for SendFault {
+    ghost use Rattle.std.specs.Prelude.{Some};
+    ghost use Rattle.apdu_core.specs.Names.{send_fault_text};
+
+    ghost output = { λ fault. Some (send_fault_text fault) };
+
+    fn fmt<W: Write>(&self, f: &mut Formatter<W>) -> fmt::Result {
+        match self {
+            SendFault::Memory => f.write_str("memory"),
+            SendFault::Write { written } => write!(f, "Write after {written} octets"),
+        }
+    }
+}
+
+impl Error for SendFault {}
 
 impl From<AllocError> for SendFault {
     ghost use Rattle.std.specs.Prelude.{◌≡◌};

@@ -4,3 +4,4 @@ pub mod Waiting
 pub mod Rates
 pub mod Partial
 pub mod Taking
+pub mod Names

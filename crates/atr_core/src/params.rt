@@ -6,6 +6,9 @@ ghost use Rattle.atr_core.specs.T1.{T1Values, IsUsable, t1_params_of, first_afte
 ghost use Rattle.atr_core.specs.Waiting.{block_cycles, block_waiting, character_waiting};
 
 use crate::{Atr, Indicated, Interface};
+use octet_core::Named;
+use std::error::Error;
+use std::fmt::{self, Display, Formatter, Write};
 use std::marker::Model;
 
 /// IFSC where no TA for T=1 stands.
@@ -121,6 +124,34 @@ pub enum ParamFault {
     /// The CRC is chosen as redundancy code, which this stack doesn't do.
     Crc,
 }
+
+impl Named for ParamFault {
+    ghost use Rattle.atr_core.specs.Names.{param_fault_name};
+
+    ghost text = { param_fault_name };
+
+    fn name(self) -> &'static str {
+        match self {
+            ParamFault::NoT1 => "NoT1",
+            ParamFault::ReservedIfsc => "ReservedIfsc",
+            ParamFault::Crc => "Crc",
+        }
+    }
+}
+
+/// The fault's name.
+impl Display for ParamFault {
+    ghost use Rattle.std.specs.Prelude.{Some};
+    ghost use Rattle.atr_core.specs.Names.{param_fault_name};
+
+    ghost output = { λ fault. Some (param_fault_name fault) };
+
+    fn fmt<W: Write>(&self, f: &mut Formatter<W>) -> fmt::Result {
+        f.write_str(self.name())
+    }
+}
+
+impl Error for ParamFault {}
 
 /// The parameters of T=1 that the answer gives, by the first TA, TB and TC for T=1, each found apart
 /// after the second TD or a later one, or their defaults 20, 4D and 00 (ISO/IEC 7816-3, clause

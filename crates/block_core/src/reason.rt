@@ -4,6 +4,9 @@ ghost use Rattle.std.specs.Prelude.{◌≡◌, ◌⊎◌, ◌↔◌, IfSome, IfN
 ghost use Rattle.block_core.specs.Block.{FitsLen, IsLenFault, IsAboutIfs};
 
 use crate::pcb::{Pcb, S};
+use octet_core::Named;
+use std::error::Error;
+use std::fmt::{self, Display, Formatter, Write};
 
 /// Why octets are no block, in the order in which they are tried at a place.
 #[derive(Clone, Copy, Debug, PartialEq, Eq)]
@@ -19,6 +22,36 @@ pub enum BlockReason {
     /// The exclusive-or of all octets up to the last isn't 00.
     BadLrc,
 }
+
+impl Named for BlockReason {
+    ghost use Rattle.block_core.specs.Names.{reason_name};
+
+    ghost text = { reason_name };
+
+    fn name(self) -> &'static str {
+        match self {
+            BlockReason::BadPcb => "BadPcb",
+            BlockReason::BadLen => "BadLen",
+            BlockReason::OverIfs => "OverIfs",
+            BlockReason::BadIfs => "BadIfs",
+            BlockReason::BadLrc => "BadLrc",
+        }
+    }
+}
+
+/// The reason's name.
+impl Display for BlockReason {
+    ghost use Rattle.std.specs.Prelude.{Some};
+    ghost use Rattle.block_core.specs.Names.{reason_name};
+
+    ghost output = { λ reason. Some (reason_name reason) };
+
+    fn fmt<W: Write>(&self, f: &mut Formatter<W>) -> fmt::Result {
+        f.write_str(self.name())
+    }
+}
+
+impl Error for BlockReason {}
 
 impl Pcb {
     /// Why no block of this kind has an information field of this length.

@@ -9,15 +9,9 @@ use Rattle.atr_core.specs.declared.atr.Convention.TheVariants.{Direct, Inverse}
 use Rattle.atr_core.specs.declared.atr.Interface.{Interface}
 use Rattle.atr_core.specs.declared.atr.Indicated.{Indicated}
 use Rattle.atr_core.specs.declared.params.ParamFault.{ParamFault}
-use Rattle.atr_core.specs.declared.params.ParamFault.TheVariants.{NoT1, ReservedIfsc, Crc}
-use Rattle.atr_core.specs.declared.reason.AtrReason.{AtrReason}
-use Rattle.atr_core.specs.declared.reason.AtrReason.TheVariants.{BadTs, TooLong, BadTck}
+pub use Rattle.atr_core.specs.Names.{reason_name as reason_text}
+use Rattle.atr_core.specs.Names.{param_fault_name}
 use Rattle.card_tool.specs.Texts.{octets_text}
-
-abbrev pub reason_text : AtrReason → List ℕ
-reason_text BadTs = codes "BadTs"
-reason_text TooLong = codes "TooLong"
-reason_text BadTck = codes "BadTck"
 
 abbrev pub convention_text : Convention → List ℕ
 convention_text Direct = codes "direct"
@@ -47,14 +41,9 @@ abbrev pub rate_text : Option ℕ → List ℕ
 rate_text None = codes "reserved"
 rate_text (Some rate) = decimal rate
 
-abbrev pub fault_text : ParamFault → List ℕ
-fault_text NoT1 = codes "NoT1"
-fault_text ReservedIfsc = codes "ReservedIfsc"
-fault_text Crc = codes "Crc"
-
 abbrev pub t1_text : Result T1Values ParamFault → List ℕ
 t1_text (Ok values) = codes "ifsc " ++ (decimal values.ifsc ++ (codes " bwi " ++ (decimal values.bwi ++ (codes " cwi " ++ decimal values.cwi))))
-t1_text (Err fault) = fault_text fault
+t1_text (Err fault) = param_fault_name fault
 
 -- each interface byte that stands, in its order
 abbrev pub interface_text : AtrParts → List ℕ

@@ -7,16 +7,8 @@ use Rattle.block_core.specs.declared.pcb.Pcb.{Pcb}
 use Rattle.block_core.specs.declared.pcb.Pcb.TheVariants.{Info, Ready, Request, Response}
 use Rattle.block_core.specs.declared.pcb.S.{S}
 use Rattle.block_core.specs.declared.pcb.S.TheVariants.{Resynch, Ifs, Abort, Wtx}
-use Rattle.block_core.specs.declared.reason.BlockReason.{BlockReason}
-use Rattle.block_core.specs.declared.reason.BlockReason.TheVariants.{BadPcb, BadLen, OverIfs, BadIfs, BadLrc}
+pub use Rattle.block_core.specs.Names.{reason_name as reason_text}
 use Rattle.card_tool.specs.Texts.{octets_text}
-
-abbrev pub reason_text : BlockReason → List ℕ
-reason_text BadPcb = codes "BadPcb"
-reason_text BadLen = codes "BadLen"
-reason_text OverIfs = codes "OverIfs"
-reason_text BadIfs = codes "BadIfs"
-reason_text BadLrc = codes "BadLrc"
 
 abbrev pub supervisory_text : S → List ℕ
 supervisory_text Resynch = codes "RESYNCH"

@@ -6,24 +6,12 @@ use Rattle.block_core.specs.Block.{Parts, spelling}
 use Rattle.block_core.specs.declared.pcb.Number.{Number}
 use Rattle.chain_core.specs.Chain.{IsChain, message_of}
 use Rattle.chain_core.specs.Taken.{Reception}
-use Rattle.chain_core.specs.declared.reason.ChainReason.{ChainReason}
-use Rattle.chain_core.specs.declared.reason.ChainReason.TheVariants.{BadNad, BadPcb, NotInfo, BadSequence, TooManyBlocks, BadLen, OverIfs, TooLong, BadLrc}
+pub use Rattle.chain_core.specs.Names.{reason_name as reason_text}
 use Rattle.card_tool.specs.Texts.{octets_text}
 
 -- the greatest number of octets of a message
 abbrev pub longest_message : ℕ
 longest_message = 131072
-
-abbrev pub reason_text : ChainReason → List ℕ
-reason_text BadNad = codes "BadNad"
-reason_text BadPcb = codes "BadPcb"
-reason_text NotInfo = codes "NotInfo"
-reason_text BadSequence = codes "BadSequence"
-reason_text TooManyBlocks = codes "TooManyBlocks"
-reason_text BadLen = codes "BadLen"
-reason_text OverIfs = codes "OverIfs"
-reason_text TooLong = codes "TooLong"
-reason_text BadLrc = codes "BadLrc"
 
 -- the octets of each block, a line a block
 abbrev pub blocks_text : List Parts → List ℕ

@@ -4,12 +4,8 @@ use Rattle.hex.specs.Hex.{encode_upper}
 use Rattle.apdu_core.specs.Command.{CommandParts, le_of, part_of, shape_of}
 use Rattle.apdu_core.specs.declared.command.Shape.{Shape}
 use Rattle.apdu_core.specs.declared.command.Shape.TheVariants.{Empty, ShortLe, ShortPart, ShortBoth, LongLe, LongPart, LongBoth}
-use Rattle.apdu_core.specs.declared.reason.CommandReason.{CommandReason}
-use Rattle.apdu_core.specs.declared.reason.CommandReason.TheVariants.{Trailing}
+pub use Rattle.apdu_core.specs.Names.{command_reason_name as reason_text}
 use Rattle.card_tool.specs.Texts.{octets_text}
-
-abbrev pub reason_text : CommandReason → List ℕ
-reason_text Trailing = codes "Trailing"
 
 -- the case that a shape is of
 abbrev pub shape_text : Shape → List ℕ

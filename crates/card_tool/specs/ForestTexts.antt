@@ -7,17 +7,8 @@ use Rattle.tlv_core.specs.Flat.{PartValue, parts_of}
 use Rattle.tlv_core.specs.Tree.{Tree}
 use Rattle.tlv_core.specs.Forest.{spelling}
 use Rattle.tlv_core.specs.Tidy.{tidy}
-use Rattle.tlv_core.specs.declared.reason.TlvReason.{TlvReason}
-use Rattle.tlv_core.specs.declared.reason.TlvReason.TheVariants.{TooDeep, TagSecond, TagLong, LengthForm, Overrun, TooLong}
+pub use Rattle.tlv_core.specs.Names.{reason_name as reason_text}
 use Rattle.card_tool.specs.Texts.{octets_text}
-
-abbrev pub reason_text : TlvReason → List ℕ
-reason_text TooDeep = codes "TooDeep"
-reason_text TagSecond = codes "TagSecond"
-reason_text TagLong = codes "TagLong"
-reason_text LengthForm = codes "LengthForm"
-reason_text Overrun = codes "Overrun"
-reason_text TooLong = codes "TooLong"
 
 -- the octets of the tidied forest
 abbrev pub tidied_text : Tree → List ℕ

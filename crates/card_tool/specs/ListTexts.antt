@@ -1,14 +1,8 @@
 -- What the program says of a data object list.
 use Rattle.std.specs.Prelude.{ℕ, List, [], ◌∷◌, ◌++◌, length, codes, decimal}
 use Rattle.hex.specs.Hex.{encode_upper}
-use Rattle.tlv_core.specs.declared.reason.DolReason.{DolReason}
-use Rattle.tlv_core.specs.declared.reason.DolReason.TheVariants.{TagZero, TagSecond, TagLong}
+pub use Rattle.tlv_core.specs.Names.{dol_reason_name as reason_text}
 use Rattle.card_tool.specs.Texts.{octets_text}
-
-abbrev pub reason_text : DolReason → List ℕ
-reason_text TagZero = codes "TagZero"
-reason_text TagSecond = codes "TagSecond"
-reason_text TagLong = codes "TagLong"
 
 -- the tag and the length of an entry
 abbrev pub entry_text : List ℕ × ℕ → List ℕ

@@ -2,14 +2,10 @@
 use Rattle.std.specs.Prelude.{ℕ, List, [], ◌∷◌, ◌++◌, ◌&&◌, ◌==◌, nat_le, codes, if◌then◌else◌}
 use Rattle.hex.specs.Hex.{encode_upper}
 use Rattle.apdu_core.specs.Response.{ResponseParts}
-use Rattle.apdu_core.specs.declared.reason.ResponseReason.{ResponseReason}
-use Rattle.apdu_core.specs.declared.reason.ResponseReason.TheVariants.{TooLong}
+pub use Rattle.apdu_core.specs.Names.{response_reason_name as reason_text}
 use Rattle.apdu_core.specs.declared.status.StatusClass.{StatusClass}
 use Rattle.apdu_core.specs.declared.status.StatusClass.TheVariants.{Normal, Warning, Execution, Checking, Proprietary, Invalid}
 use Rattle.card_tool.specs.Texts.{octets_text}
-
-abbrev pub reason_text : ResponseReason → List ℕ
-reason_text TooLong = codes "TooLong"
 
 abbrev pub name_of : StatusClass → List ℕ
 name_of Normal = codes "normal"

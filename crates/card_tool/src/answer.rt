@@ -5,10 +5,9 @@ ghost use Rattle.card_words.specs.Texts.{fault_text};
 ghost use Rattle.card_tool.specs.Texts.{accepted_text, duplicate_text, refused_as_text, refused_at_text, refused_text, short_text};
 ghost use Rattle.card_tool.specs.declared.status.Status.TheVariants as ended;
 
-use crate::reason::Named;
 use crate::status::Status;
 use card_words::Fault;
-use octet_core::{Octets, Stop};
+use octet_core::{Named, Octets, Stop};
 use std::alloc::{AllocError, Global};
 
 /// A text to be written, and how the program then ends.

@@ -6,16 +6,15 @@ ghost use Rattle.octet_core.specs.Grammar.{self_ended};
 ghost use Rattle.atr_core.specs.Atr.{IsAtr, IsReason};
 ghost use Rattle.card_tool.specs.Answers.{Tells};
 ghost use Rattle.card_tool.specs.Texts.{accepted_text};
-ghost use Rattle.card_tool.specs.AtrTexts.{atr_text, byte_text, bytes_text, convention_text, fault_text, interface_text, meaning_text, rate_text, reason_text, t1_text, tck_text, td_text, tds_text};
+ghost use Rattle.card_tool.specs.AtrTexts.{atr_text, byte_text, bytes_text, convention_text, interface_text, meaning_text, rate_text, reason_text, t1_text, tck_text, td_text, tds_text};
 
 use crate::answer::Answer;
-use crate::reason::Named;
 use crate::text::octets_word;
 use atr_core::{
-    Atr, AtrReason, Convention, Indicated, Interface, ParamFault, T1Params, decode, rates,
+    Atr, Convention, Indicated, Interface, ParamFault, T1Params, decode, rates,
     t1_params,
 };
-use octet_core::hex_upper;
+use octet_core::{Named, hex_upper};
 use std::alloc::{AllocError, Global};
 
 /// Whether an answer to reset begins the octets, and how many it takes.
@@ -35,18 +34,6 @@ pub(crate) fn show(alloc: Global, octets: &[u8]) -> Result<Answer, AllocError>
     match decode(octets) {
         Ok((atr, _)) => Ok(Answer::told(lines(alloc, &atr)?)),
         Err(stop) => Answer::refused(alloc, stop),
-    }
-}
-
-impl Named for AtrReason {
-    ghost text = { reason_text };
-
-    fn name(self) -> &'static str {
-        match self {
-            AtrReason::BadTs => "BadTs",
-            AtrReason::TooLong => "TooLong",
-            AtrReason::BadTck => "BadTck",
-        }
     }
 }
 
@@ -178,16 +165,6 @@ fn t1_words(alloc: Global, params: Result<T1Params, ParamFault>) -> Result<Strin
             let cwi = params.cwi();
             format!(in alloc; "ifsc {ifsc} bwi {bwi} cwi {cwi}")
         }
-        Err(fault) => String::from_str(alloc, fault_name(fault)),
-    }
-}
-
-fn fault_name(fault: ParamFault) -> &'static str
-    ensures { result.now ≡ fault_text fault }
-{
-    match fault {
-        ParamFault::NoT1 => "NoT1",
-        ParamFault::ReservedIfsc => "ReservedIfsc",
-        ParamFault::Crc => "Crc",
+        Err(fault) => String::from_str(alloc, fault.name()),
     }
 }

@@ -8,9 +8,8 @@ ghost use Rattle.card_tool.specs.Texts.{accepted_text};
 ghost use Rattle.card_tool.specs.BlockTexts.{block_text, more_number, pcb_text, reason_text, supervisory_text};
 
 use crate::answer::Answer;
-use crate::reason::Named;
 use crate::text::octets_word;
-use block_core::{Block, BlockReason, Fault, Number, Pcb, S, decode, encode};
+use block_core::{Block, Fault, Number, Pcb, S, decode, encode};
 use octet_core::hex_upper;
 use std::alloc::{AllocError, Global};
 
@@ -35,20 +34,6 @@ pub(crate) fn show(alloc: Global, octets: &[u8], ifs: u8) -> Result<Answer, Allo
     match decode(octets, ifs) {
         Ok((block, _)) => Ok(Answer::told(lines(alloc, &block)?)),
         Err(stop) => Answer::refused(alloc, stop),
-    }
-}
-
-impl Named for BlockReason {
-    ghost text = { reason_text };
-
-    fn name(self) -> &'static str {
-        match self {
-            BlockReason::BadPcb => "BadPcb",
-            BlockReason::BadLen => "BadLen",
-            BlockReason::OverIfs => "OverIfs",
-            BlockReason::BadIfs => "BadIfs",
-            BlockReason::BadLrc => "BadLrc",
-        }
     }
 }
 

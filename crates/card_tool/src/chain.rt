@@ -11,7 +11,6 @@ ghost use Rattle.card_tool.specs.ChainTexts.{blocks_text, chain_text, longest_me
 ghost use Rattle.card_tool.specs.Texts.{accepted_text};
 
 use crate::answer::Answer;
-use crate::reason::Named;
 use crate::text::octets_word;
 use block_core::{Block, Number, encode};
 use chain_core::{ChainReason, Receiver, cut};
@@ -78,24 +77,6 @@ fn received(
             place: octets.len(),
         })),
         Err(stop) => Err(Refused::Stop(stop)),
-    }
-}
-
-impl Named for ChainReason {
-    ghost text = { reason_text };
-
-    fn name(self) -> &'static str {
-        match self {
-            ChainReason::BadNad => "BadNad",
-            ChainReason::BadPcb => "BadPcb",
-            ChainReason::NotInfo => "NotInfo",
-            ChainReason::BadSequence => "BadSequence",
-            ChainReason::TooManyBlocks => "TooManyBlocks",
-            ChainReason::BadLen => "BadLen",
-            ChainReason::OverIfs => "OverIfs",
-            ChainReason::TooLong => "TooLong",
-            ChainReason::BadLrc => "BadLrc",
-        }
     }
 }
 

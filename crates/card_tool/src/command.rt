@@ -8,9 +8,8 @@ ghost use Rattle.card_tool.specs.CommandTexts.{command_text, le_text, reason_tex
 ghost use Rattle.card_tool.specs.Texts.{accepted_text};
 
 use crate::answer::Answer;
-use crate::reason::Named;
 use crate::text::octets_word;
-use apdu_core::{CommandReason, CommandRef, Shape};
+use apdu_core::{CommandRef, Shape};
 use octet_core::hex_upper;
 use std::alloc::{AllocError, Global};
 
@@ -31,16 +30,6 @@ pub(crate) fn show(alloc: Global, octets: &[u8]) -> Result<Answer, AllocError>
     match CommandRef::decode(octets) {
         Ok(command) => Ok(Answer::told(lines(alloc, &command)?)),
         Err(stop) => Answer::refused(alloc, stop),
-    }
-}
-
-impl Named for CommandReason {
-    ghost text = { reason_text };
-
-    fn name(self) -> &'static str {
-        match self {
-            CommandReason::Trailing => "Trailing",
-        }
     }
 }
 

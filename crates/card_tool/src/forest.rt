@@ -11,7 +11,6 @@ ghost use Rattle.card_tool.specs.ForestTexts.{forest_text, lines_text, part_text
 ghost use Rattle.card_tool.specs.Texts.{accepted_text};
 
 use crate::answer::Answer;
-use crate::reason::Named;
 use crate::text::octets_word;
 use octet_core::{Refused, Stop, hex_upper};
 use std::alloc::{AllocError, Global};
@@ -109,17 +108,3 @@ fn value_word(alloc: Global, part: &Part<'_>) -> Result<String, AllocError>
     }
 }
 
-impl Named for TlvReason {
-    ghost text = { reason_text };
-
-    fn name(self) -> &'static str {
-        match self {
-            TlvReason::TooDeep => "TooDeep",
-            TlvReason::TagSecond => "TagSecond",
-            TlvReason::TagLong => "TagLong",
-            TlvReason::LengthForm => "LengthForm",
-            TlvReason::Overrun => "Overrun",
-            TlvReason::TooLong => "TooLong",
-        }
-    }
-}

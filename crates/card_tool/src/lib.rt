@@ -21,7 +21,6 @@ pub mod host;
 pub mod laws;
 pub mod list;
 pub mod program;
-mod reason;
 pub mod response;
 mod simulation;
 pub mod status;

@@ -9,12 +9,11 @@ ghost use Rattle.card_tool.specs.ListTexts.{dol_text, entries_text, entry_text, 
 ghost use Rattle.card_tool.specs.Texts.{accepted_text};
 
 use crate::answer::Answer;
-use crate::reason::Named;
 use crate::text::octets_word;
 use card_words::{Fault, Knowns};
 use octet_core::{Refused, hex_upper};
 use std::alloc::{AllocError, Global};
-use tlv_core::{Dol, DolReason, FillFault, Tag};
+use tlv_core::{Dol, FillFault, Tag};
 
 /// Whether the octets are a data object list.
 pub(crate) fn check(alloc: Global, octets: &[u8]) -> Result<Answer, AllocError>
@@ -110,14 +109,3 @@ fn entry_line(alloc: Global, tag: &Tag, length: u8) -> Result<String, AllocError
     format!(in alloc; "{tag} {length}\n")
 }
 
-impl Named for DolReason {
-    ghost text = { reason_text };
-
-    fn name(self) -> &'static str {
-        match self {
-            DolReason::TagZero => "TagZero",
-            DolReason::TagSecond => "TagSecond",
-            DolReason::TagLong => "TagLong",
-        }
-    }
-}

@@ -8,9 +8,8 @@ ghost use Rattle.card_tool.specs.ResponseTexts.{class_text, name_of, reason_text
 ghost use Rattle.card_tool.specs.Texts.{accepted_text};
 
 use crate::answer::Answer;
-use crate::reason::Named;
 use crate::text::octets_word;
-use apdu_core::{ResponseReason, ResponseRef, StatusClass, status_class};
+use apdu_core::{ResponseRef, StatusClass, status_class};
 use octet_core::hex_upper;
 use std::alloc::{AllocError, Global};
 
@@ -31,16 +30,6 @@ pub(crate) fn show(alloc: Global, octets: &[u8]) -> Result<Answer, AllocError>
     match ResponseRef::decode(octets) {
         Ok(response) => Ok(Answer::told(lines(alloc, &response)?)),
         Err(stop) => Answer::refused(alloc, stop),
-    }
-}
-
-impl Named for ResponseReason {
-    ghost text = { reason_text };
-
-    fn name(self) -> &'static str {
-        match self {
-            ResponseReason::TooLong => "TooLong",
-        }
     }
 }
 

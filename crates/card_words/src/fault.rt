@@ -6,6 +6,8 @@ ghost use Rattle.card_words.specs.Faults.{fault_of_hex};
 
 use octet_core::HexFault;
 use std::alloc::AllocError;
+use std::error::Error;
+use std::fmt::{self, Display, Formatter, Write};
 
 /// Why the program could not answer.
 #[derive(Clone, Copy, Debug, PartialEq, Eq)]
@@ -36,6 +38,15 @@ impl Fault {
         }
     }
 }
+
+/// The line that the program prints, without its end.
+impl Display for Fault {
+    fn fmt<W: Write>(&self, f: &mut Formatter<W>) -> fmt::Result {
+        f.write_str(self.text().trim_end())
+    }
+}
+
+impl Error for Fault {}
 
 impl From<AllocError> for Fault {
     ghost use Rattle.card_words.specs.declared.fault.Fault.{Fault};

@@ -11,6 +11,8 @@ ghost use Rattle.chain_core.specs.Reads.{Reads, CountsFault, MovesOn};
 use crate::reason::ChainReason;
 use crate::receiver::Receiver;
 use octet_core::{Source, Stop};
+use std::error::Error;
+use std::fmt::{self, Display, Formatter, Write};
 
 /// Why no whole chain was read.
 #[derive(Clone, Copy, Debug, PartialEq, Eq)]
@@ -21,6 +23,22 @@ pub enum ReadRefusal {
     /// The chain was refused, or the source ended before it was whole.
     Stop(Stop<ChainReason>),
 }
+
+/// `Read after N octets`, or the stop.
+impl Display for ReadRefusal {
+    ghost use Rattle.chain_core.specs.Names.{read_refusal_text};
+
+    ghost output = { read_refusal_text };
+
+    fn fmt<W: Write>(&self, f: &mut Formatter<W>) -> fmt::Result {
+        match self {
+            ReadRefusal::Read { taken } => write!(f, "Read after {taken} octets"),
+            ReadRefusal::Stop(stop) => Display::fmt(stop, f),
+        }
+    }
+}
+
+impl Error for ReadRefusal {}
 
 /// The most octets that one call of a source is asked for: the longest field and the LRC.
 const MOST_WANTED: usize = 255;

@@ -10,7 +10,8 @@ use Rattle.exchange_core.specs.declared.line.Arrival.TheVariants.{Whole, Lost, C
 use Rattle.exchange_core.specs.declared.way.Way.TheVariants.{In}
 use Rattle.exchange_core.specs.declared.line.Line.{Line}
 use Rattle.exchange_core.specs.declared.line.Line.TheVariants.{Command, Ifsd, Quiet, Answer, IfsSet, GivenUp, Dead, Reply, Time, Ifsc, Asked, FromTerminal, FromCard, Moment, Note}
-use Rattle.exchange_core.specs.Replay.{calls, terminal_role, terminal_gives, terminal_refusal, card_role, card_gives, card_refusal}
+use Rattle.exchange_core.specs.Replay.{calls, terminal_role, terminal_gives, card_role, card_gives}
+use Rattle.t1_core.specs.Names.{terminal_fault_name, card_fault_name}
 use Rattle.exchange_core.specs.Recording.{terminal_input, card_input, IsCardCall}
 use Rattle.exchange_core.specs.Given.{way_of}
 
@@ -64,7 +65,7 @@ terminal-turn t after step (Err fault) e f = tt
 
 pub terminal-refused : (step : TerminalStep) (outcome : Result TerminalTurn TerminalFault)
     → outcome ≡ turn_of step
-    → IfErr outcome (λ fault. calls (terminal_gives step) ≡ calls (Err (terminal_refusal fault)))
+    → IfErr outcome (λ fault. calls (terminal_gives step) ≡ calls (Err (terminal_fault_name fault)))
 terminal-refused (Ok step) (Err fault) e = cc
 terminal-refused (Err own) (Err fault) e = cc
 terminal-refused step (Ok turn) e = tt
@@ -78,7 +79,7 @@ card-turn c after step (Err fault) e f = tt
 
 pub card-refused : (step : CardStep) (outcome : Result CardTurn CardFault)
     → outcome ≡ card_turn_of step
-    → IfErr outcome (λ fault. calls (card_gives step) ≡ calls (Err (card_refusal fault)))
+    → IfErr outcome (λ fault. calls (card_gives step) ≡ calls (Err (card_fault_name fault)))
 card-refused (Ok step) (Err fault) e = cc
 card-refused (Err own) (Err fault) e = cc
 card-refused step (Ok turn) e = tt

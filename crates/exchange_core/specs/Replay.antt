@@ -3,7 +3,7 @@ use Rattle.std.specs.Prelude.{◌≡◌, ◌⊎◌, ℕ, ◌+◌, List, [], ◌�
 use Rattle.atr_core.specs.Atr.{AtrParts, IsAtr}
 use Rattle.atr_core.specs.T1.{T1Values, t1_params_of}
 use Rattle.atr_core.specs.declared.params.ParamFault.{ParamFault}
-use Rattle.atr_core.specs.declared.params.ParamFault.TheVariants.{NoT1, ReservedIfsc, Crc}
+use Rattle.atr_core.specs.Names.{param_fault_name}
 use Rattle.block_core.specs.Block.{spelling}
 use Rattle.t1_core.specs.Came.{class_of, quiet}
 use Rattle.t1_core.specs.Terminal.{TerminalState, TerminalStep, transmit, ask_ifs, takes, terminal_turn, new_terminal}
@@ -11,12 +11,9 @@ use Rattle.t1_core.specs.Card.{CardState, CardStep, replies, more_time, ask_ifs 
 use Rattle.t1_core.specs.CardViews.{owed}
 use Rattle.t1_core.specs.declared.turns.TerminalTurn.{TerminalTurn}
 use Rattle.t1_core.specs.declared.turns.TerminalTurn.TheVariants.{Send, Answered, IfsSet as SetIfs, GivenUp as GaveUp, Dead as Died}
-use Rattle.t1_core.specs.declared.turns.TerminalFault.{TerminalFault}
-use Rattle.t1_core.specs.declared.turns.TerminalFault.TheVariants.{Dead as IsDead, Busy, TooLong, Reserved, Idle}
+use Rattle.t1_core.specs.Names.{terminal_fault_name, card_fault_name}
 use Rattle.t1_core.specs.declared.turns.CardTurn.{CardTurn}
 use Rattle.t1_core.specs.declared.turns.CardTurn.TheVariants.{Send as Sends, Asked as AskedHost}
-use Rattle.t1_core.specs.declared.turns.CardFault.{CardFault}
-use Rattle.t1_core.specs.declared.turns.CardFault.TheVariants.{Order, TooLong as ReplyTooLong, Reserved as SizeReserved}
 use Rattle.exchange_core.specs.Text.{line_text}
 use Rattle.exchange_core.specs.declared.line.Arrival.{Arrival}
 use Rattle.exchange_core.specs.declared.line.Arrival.TheVariants.{Whole, Lost, Changed}
@@ -94,16 +91,9 @@ arriving taking sent Whole = taking sent
 arriving taking sent Lost = passes
 arriving taking sent (Changed octets) = taking octets
 
-abbrev pub terminal_refusal : TerminalFault → List ℕ
-terminal_refusal IsDead = codes "Dead"
-terminal_refusal Busy = codes "Busy"
-terminal_refusal TooLong = codes "TooLong"
-terminal_refusal Reserved = codes "Reserved"
-terminal_refusal Idle = codes "Idle"
-
 abbrev pub terminal_gives : TerminalStep → Result (TerminalTurn × TerminalState) (List ℕ)
 terminal_gives (Ok step) = Ok (step.0, step.1)
-terminal_gives (Err fault) = Err (terminal_refusal fault)
+terminal_gives (Err fault) = Err (terminal_fault_name fault)
 
 abbrev pub terminal_role : TerminalState → Line → Role TerminalState TerminalTurn
 terminal_role t (Command octets) = calls (terminal_gives (terminal_turn t (transmit octets)))
@@ -133,14 +123,9 @@ terminal_line t Died = Dead
 abbrev pub terminal_end : End TerminalState TerminalTurn
 terminal_end = record { role = terminal_role; line = terminal_line }
 
-abbrev pub card_refusal : CardFault → List ℕ
-card_refusal Order = codes "Order"
-card_refusal ReplyTooLong = codes "TooLong"
-card_refusal SizeReserved = codes "Reserved"
-
 abbrev pub card_gives : CardStep → Result (CardTurn × CardState) (List ℕ)
 card_gives (Ok step) = Ok (step.0, step.1)
-card_gives (Err fault) = Err (card_refusal fault)
+card_gives (Err fault) = Err (card_fault_name fault)
 
 abbrev pub card_role : CardState → Line → Role CardState CardTurn
 card_role c (Reply octets) = calls (card_gives (card_turn c (replies octets)))
@@ -169,15 +154,10 @@ card_end = record { role = card_role; line = card_line }
 
 -- ---- the whole file
 
-abbrev pub param_refusal : ParamFault → List ℕ
-param_refusal NoT1 = codes "NoT1"
-param_refusal ReservedIfsc = codes "ReservedIfsc"
-param_refusal Crc = codes "Crc"
-
 -- the size of information fields that the card takes at first, or the name of what is wrong
 abbrev pub size_of : Result T1Values ParamFault → Result ℕ (List ℕ)
 size_of (Ok values) = Ok values.ifsc
-size_of (Err fault) = Err (param_refusal fault)
+size_of (Err fault) = Err (param_fault_name fault)
 
 -- What the octets of an answer to reset give an end: where they are one whole answer, what that says about T=1.
 abbrev pub IsFound : List ℕ → Result ℕ (List ℕ) → Type 0

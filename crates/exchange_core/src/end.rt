@@ -6,11 +6,13 @@ ghost use Rattle.t1_core.specs.Card.{card_turn, turn_of as card_turn_of, state_a
 ghost use Rattle.exchange_core.specs.Given.{line_of, way_of};
 ghost use Rattle.exchange_core.specs.Recording.{terminal_input, card_input, IsCardCall};
 ghost use Rattle.exchange_core.specs.declared.way.Way.TheVariants.{In};
-ghost use Rattle.exchange_core.specs.Replay.{End, calls, terminal_end, card_end, terminal_refusal, card_refusal};
+ghost use Rattle.exchange_core.specs.Replay.{End, calls, terminal_end, card_end};
+ghost use Rattle.t1_core.specs.Names.{terminal_fault_name, card_fault_name};
 
 use crate::given::Given;
 use crate::line::Line;
 use crate::way::Way;
+use octet_core::Named;
 use t1_core::{Card, CardFault, CardTurn, Terminal, TerminalFault, TerminalTurn};
 
 /// An end that a file is replayed for.
@@ -55,7 +57,7 @@ impl Replayed for Terminal {
 
     ghost end = { terminal_end };
 
-    ghost refusal = { terminal_refusal };
+    ghost refusal = { terminal_fault_name };
 
     fn way(&self, line: &Line) -> Way {
         match line {
@@ -73,13 +75,7 @@ impl Replayed for Terminal {
     }
 
     fn refusal(fault: TerminalFault) -> &'static str {
-        match fault {
-            TerminalFault::Dead => "Dead",
-            TerminalFault::Busy => "Busy",
-            TerminalFault::TooLong => "TooLong",
-            TerminalFault::Reserved => "Reserved",
-            TerminalFault::Idle => "Idle",
-        }
+        fault.name()
     }
 
     fn given<'a>(&'a self, turn: &'a TerminalTurn) -> Given<'a> {
@@ -100,7 +96,7 @@ impl Replayed for Card {
 
     ghost end = { card_end };
 
-    ghost refusal = { card_refusal };
+    ghost refusal = { card_fault_name };
 
     fn way(&self, line: &Line) -> Way {
         match line {
@@ -118,11 +114,7 @@ impl Replayed for Card {
     }
 
     fn refusal(fault: CardFault) -> &'static str {
-        match fault {
-            CardFault::Order => "Order",
-            CardFault::TooLong => "TooLong",
-            CardFault::Reserved => "Reserved",
-        }
+        fault.name()
     }
 
     fn given<'a>(&'a self, turn: &'a CardTurn) -> Given<'a> {

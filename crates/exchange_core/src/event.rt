@@ -4,10 +4,12 @@ ghost use Rattle.std.specs.Prelude.{◌≡◌};
 ghost use Rattle.exchange_core.specs.declared.event.EventFault.TheVariants.{Memory};
 
 use std::alloc::AllocError;
+use std::error::Error;
+use std::fmt::{self, Debug, Display, Formatter, Write};
 use t1_core::{CardFault, CardTurn, TerminalFault, TerminalTurn};
 
 /// What may happen next on the line, or at an end of it. The octets are lent.
-#[derive(Clone, Copy, Debug)]
+#[derive(Clone, Copy)]
 pub enum Event<'a> {
     /// The block under way arrives as it was sent.
     Deliver,
@@ -29,6 +31,29 @@ pub enum Event<'a> {
     AskIfsc(u8),
 }
 
+/// What happens, with the number of octets of a message: none of them is shown, since it may carry a PIN.
+impl Debug for Event<'_> {
+    fn fmt<W: Write>(&self, f: &mut Formatter<W>) -> fmt::Result {
+        match self {
+            Event::Deliver => f.write_str("Deliver"),
+            Event::Damage => f.write_str("Damage"),
+            Event::Spoil => f.write_str("Spoil"),
+            Event::Lose => f.write_str("Lose"),
+            Event::Transmit(command) => {
+                let octets = command.len();
+                write!(f, "Transmit({octets} octets)")
+            }
+            Event::AskIfsd(size) => write!(f, "AskIfsd({size})"),
+            Event::Reply(reply) => {
+                let octets = reply.len();
+                write!(f, "Reply({octets} octets)")
+            }
+            Event::MoreTime(times) => write!(f, "MoreTime({times})"),
+            Event::AskIfsc(size) => write!(f, "AskIfsc({size})"),
+        }
+    }
+}
+
 /// Why an event changed nothing and wrote nothing.
 #[derive(Clone, Copy, Debug, PartialEq, Eq)]
 pub enum EventFault {
@@ -41,6 +66,25 @@ pub enum EventFault {
     /// Out of memory for the record.
     Memory,
 }
+
+/// The name of the fault, and that of the end's after it, as in `Terminal: Busy`; `memory` out of memory.
+impl Display for EventFault {
+    ghost use Rattle.std.specs.Prelude.{Some};
+    ghost use Rattle.exchange_core.specs.Faults.{event_fault_text};
+
+    ghost output = { λ fault. Some (event_fault_text fault) };
+
+    fn fmt<W: Write>(&self, f: &mut Formatter<W>) -> fmt::Result {
+        match self {
+            EventFault::NothingUnderWay => f.write_str("NothingUnderWay"),
+            EventFault::Terminal(fault) => write!(f, "Terminal: {fault}"),
+            EventFault::Card(fault) => write!(f, "Card: {fault}"),
+            EventFault::Memory => f.write_str("memory"),
+        }
+    }
+}
+
+impl Error for EventFault {}
 
 impl From<AllocError> for EventFault {
     ghost from_gives = { λ _ fault. fault ≡ Memory };
@@ -59,6 +103,23 @@ pub enum RecorderFault {
     /// Out of memory.
     Memory,
 }
+
+/// `Refused: ` and the name that replay gives, or `memory`.
+impl Display for RecorderFault {
+    ghost use Rattle.std.specs.Prelude.{Some};
+    ghost use Rattle.exchange_core.specs.Faults.{recorder_fault_text};
+
+    ghost output = { λ fault. Some (recorder_fault_text fault) };
+
+    fn fmt<W: Write>(&self, f: &mut Formatter<W>) -> fmt::Result {
+        match self {
+            RecorderFault::Refused(name) => write!(f, "Refused: {name}"),
+            RecorderFault::Memory => f.write_str("memory"),
+        }
+    }
+}
+
+impl Error for RecorderFault {}
 
 impl From<AllocError> for RecorderFault {
     ghost use Rattle.exchange_core.specs.declared.event.RecorderFault.{RecorderFault};

@@ -2,7 +2,7 @@
 
 ghost use Rattle.std.specs.Prelude.{◌≡◌, Some, None, Ok, Err, IfOk, IfErr, OnOk, string_bytes};
 ghost use Rattle.exchange_core.specs.declared.replaying.ReplayFault.TheVariants.{Differs, Memory};
-ghost use Rattle.exchange_core.specs.Replay.{Replays, IfDiffers, IsFound, replay_from, replay_line, replay_lines, refused, param_refusal};
+ghost use Rattle.exchange_core.specs.Replay.{Replays, IfDiffers, IsFound, replay_from, replay_line, replay_lines, refused};
 ghost use Rattle.exchange_core.specs.Run.{IsRun};
 
 use crate::end::Replayed;
@@ -11,9 +11,11 @@ use crate::laws::agreeing_is_a_run;
 use crate::line::Line;
 use crate::way::Way;
 use atr_core::laws::one_accepted;
-use atr_core::{ParamFault, T1Params, decode, t1_params};
-use octet_core::Text;
+use atr_core::{T1Params, decode, t1_params};
+use octet_core::{Named, Text};
 use std::alloc::{AllocError, Global};
+use std::error::Error;
+use std::fmt::{self, Display, Formatter, Write};
 use t1_core::{Card, Terminal};
 
 /// The line of the answer to reset; line 1 is the header.
@@ -40,6 +42,23 @@ pub enum ReplayFault {
     /// Out of memory.
     Memory,
 }
+
+/// `line N: Differs`, or `memory`. What the end gives isn't written, since it may be a message.
+impl Display for ReplayFault {
+    ghost use Rattle.std.specs.Prelude.{Some};
+    ghost use Rattle.exchange_core.specs.Faults.{replay_fault_text};
+
+    ghost output = { λ fault. Some (replay_fault_text fault) };
+
+    fn fmt<W: Write>(&self, f: &mut Formatter<W>) -> fmt::Result {
+        match self {
+            ReplayFault::Differs { line, .. } => write!(f, "line {line}: Differs"),
+            ReplayFault::Memory => f.write_str("memory"),
+        }
+    }
+}
+
+impl Error for ReplayFault {}
 
 impl From<AllocError> for ReplayFault {
     ghost from_gives = { λ _ fault. fault ≡ Memory };
@@ -78,19 +97,8 @@ pub(crate) fn params_of(octets: &[u8]) -> Result<T1Params, &'static str>
 {
     one_accepted();
     match decode(octets) {
-        Ok((atr, taken)) if taken == octets.len() => t1_params(&atr).map_err(param_refusal),
+        Ok((atr, taken)) if taken == octets.len() => t1_params(&atr).map_err(|fault| fault.name()),
         _ => Err("BadAtr"),
-    }
-}
-
-/// The name of what is wrong with the parameters of T=1.
-fn param_refusal(fault: ParamFault) -> &'static str
-    ensures { result.now ≡ param_refusal fault }
-{
-    match fault {
-        ParamFault::NoT1 => "NoT1",
-        ParamFault::ReservedIfsc => "ReservedIfsc",
-        ParamFault::Crc => "Crc",
     }
 }
 

@@ -3,6 +3,8 @@
 ghost use Rattle.std.specs.Prelude.{◌≡◌};
 ghost use Rattle.line_core.specs.declared.fault.ExchangeFault.TheVariants.{Refused};
 
+use std::error::Error;
+use std::fmt::{self, Display, Formatter, Write};
 use std::io;
 use t1_core::TerminalFault;
 
@@ -22,6 +24,21 @@ pub enum ExchangeFault {
     /// The terminal refused the call: nothing was sent, and nothing changes.
     Refused(TerminalFault),
 }
+
+/// The name of the fault, and what it holds after it, as in `Refused: Busy`.
+impl Display for ExchangeFault {
+    fn fmt<W: Write>(&self, f: &mut Formatter<W>) -> fmt::Result {
+        match self {
+            ExchangeFault::GivenUp => f.write_str("GivenUp"),
+            ExchangeFault::Dead => f.write_str("Dead"),
+            ExchangeFault::Line(error) => write!(f, "Line: {error}"),
+            ExchangeFault::UsedUp => f.write_str("UsedUp"),
+            ExchangeFault::Refused(fault) => write!(f, "Refused: {fault}"),
+        }
+    }
+}
+
+impl Error for ExchangeFault {}
 
 impl From<TerminalFault> for ExchangeFault {
     ghost from_gives = { λ fault made. made ≡ Refused fault };

@@ -10,6 +10,8 @@ ghost use Rattle.line_core.specs.Service.{Event, came, asked, sending, on_line, 
 use crate::exchanging::LONGEST_ARRIVAL;
 use crate::line::Heard;
 use block_core::LONGEST_BLOCK;
+use std::error::Error;
+use std::fmt::{self, Display, Formatter, Write};
 use std::io;
 use t1_core::laws::told;
 use t1_core::{Card, CardFault, CardPut};
@@ -64,6 +66,19 @@ pub enum ServeFault {
     /// The card refused what came, `Order` where its host still owes a reply, or the reply, `TooLong`.
     Refused(CardFault),
 }
+
+/// The name of the fault, and what it holds after it, as in `Refused: Order`.
+impl Display for ServeFault {
+    fn fmt<W: Write>(&self, f: &mut Formatter<W>) -> fmt::Result {
+        match self {
+            ServeFault::Line(error) => write!(f, "Line: {error}"),
+            ServeFault::UsedUp => f.write_str("UsedUp"),
+            ServeFault::Refused(fault) => write!(f, "Refused: {fault}"),
+        }
+    }
+}
+
+impl Error for ServeFault {}
 
 impl From<CardFault> for ServeFault {
     ghost from_gives = { λ fault made. made ≡ Refused fault };

@@ -2,6 +2,8 @@
 
 use exchange_core::RecorderFault;
 use std::alloc::AllocError;
+use std::error::Error;
+use std::fmt::{self, Display, Formatter, Write};
 
 /// Why there is no exchange of a session.
 #[derive(Clone, Copy, Debug, PartialEq, Eq)]
@@ -14,6 +16,24 @@ pub enum SimulationFault {
     /// Out of memory.
     Memory,
 }
+
+/// `Refused: ` and the name that replay gives, `TooLarge`, or `memory`.
+impl Display for SimulationFault {
+    ghost use Rattle.std.specs.Prelude.{Some};
+    ghost use Rattle.simulator.specs.Faults.{simulation_fault_text};
+
+    ghost output = { λ fault. Some (simulation_fault_text fault) };
+
+    fn fmt<W: Write>(&self, f: &mut Formatter<W>) -> fmt::Result {
+        match self {
+            SimulationFault::Refused(name) => write!(f, "Refused: {name}"),
+            SimulationFault::TooLarge => f.write_str("TooLarge"),
+            SimulationFault::Memory => f.write_str("memory"),
+        }
+    }
+}
+
+impl Error for SimulationFault {}
 
 impl From<AllocError> for SimulationFault {
     ghost use Rattle.std.specs.Prelude.{◌≡◌};

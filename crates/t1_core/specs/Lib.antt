@@ -9,3 +9,4 @@ pub mod CardViews
 pub mod Sending
 pub mod Put
 pub mod Awaited
+pub mod Names

@@ -4,6 +4,9 @@ ghost use Rattle.std.specs.Prelude.{◌≡◌, ◌≤◌};
 ghost use Rattle.t1_core.specs.Waiting.{granted, waiting_times};
 
 use block_core::{Block, Pcb, S};
+use octet_core::Named;
+use std::error::Error;
+use std::fmt::{self, Display, Formatter, Write};
 
 /// What the terminal does next.
 #[derive(Debug, PartialEq, Eq, Drop)]
@@ -78,6 +81,36 @@ pub enum TerminalFault {
     Idle,
 }
 
+impl Named for TerminalFault {
+    ghost use Rattle.t1_core.specs.Names.{terminal_fault_name};
+
+    ghost text = { terminal_fault_name };
+
+    fn name(self) -> &'static str {
+        match self {
+            TerminalFault::Dead => "Dead",
+            TerminalFault::Busy => "Busy",
+            TerminalFault::TooLong => "TooLong",
+            TerminalFault::Reserved => "Reserved",
+            TerminalFault::Idle => "Idle",
+        }
+    }
+}
+
+/// The fault's name.
+impl Display for TerminalFault {
+    ghost use Rattle.std.specs.Prelude.{Some};
+    ghost use Rattle.t1_core.specs.Names.{terminal_fault_name};
+
+    ghost output = { λ fault. Some (terminal_fault_name fault) };
+
+    fn fmt<W: Write>(&self, f: &mut Formatter<W>) -> fmt::Result {
+        f.write_str(self.name())
+    }
+}
+
+impl Error for TerminalFault {}
+
 /// What the card does next.
 #[derive(Debug, PartialEq, Eq, Drop)]
 pub enum CardTurn {
@@ -106,6 +139,34 @@ pub enum CardFault {
     /// The sizes 0 and 255 are reserved.
     Reserved,
 }
+
+impl Named for CardFault {
+    ghost use Rattle.t1_core.specs.Names.{card_fault_name};
+
+    ghost text = { card_fault_name };
+
+    fn name(self) -> &'static str {
+        match self {
+            CardFault::Order => "Order",
+            CardFault::TooLong => "TooLong",
+            CardFault::Reserved => "Reserved",
+        }
+    }
+}
+
+/// The fault's name.
+impl Display for CardFault {
+    ghost use Rattle.std.specs.Prelude.{Some};
+    ghost use Rattle.t1_core.specs.Names.{card_fault_name};
+
+    ghost output = { λ fault. Some (card_fault_name fault) };
+
+    fn fmt<W: Write>(&self, f: &mut Formatter<W>) -> fmt::Result {
+        f.write_str(self.name())
+    }
+}
+
+impl Error for CardFault {}
 
 /// What the terminal waits for, without the octets that it holds.
 #[derive(Clone, Copy, Debug, PartialEq, Eq)]

@@ -23,3 +23,4 @@ pub mod Fill
 pub mod Grown
 pub mod Flat
 pub mod Read
+pub mod Names

@@ -9,6 +9,8 @@ use crate::known::Known;
 use crate::tag::Tag;
 use octet_core::Format;
 use std::alloc::{AllocError, Global};
+use std::error::Error;
+use std::fmt::{self, Display, Formatter, Write};
 
 /// Why a data object list isn't filled.
 #[derive(Clone, Copy, Debug, PartialEq, Eq)]
@@ -18,6 +20,23 @@ pub enum FillFault {
     /// A growth was refused.
     Memory,
 }
+
+/// `Duplicate`, or `memory`.
+impl Display for FillFault {
+    ghost use Rattle.std.specs.Prelude.{Some};
+    ghost use Rattle.tlv_core.specs.Names.{fill_fault_text};
+
+    ghost output = { λ fault. Some (fill_fault_text fault) };
+
+    fn fmt<W: Write>(&self, f: &mut Formatter<W>) -> fmt::Result {
+        match self {
+            FillFault::Duplicate => f.write_str("Duplicate"),
+            FillFault::Memory => f.write_str("memory"),
+        }
+    }
+}
+
+impl Error for FillFault {}
 
 impl From<AllocError> for FillFault {
     ghost use Rattle.std.specs.Prelude.{◌≡◌};

@@ -4,6 +4,9 @@ ghost use Rattle.std.specs.Prelude.{◌≡◌, IfOk, IfErr};
 
 use crate::node::Nodes;
 use crate::survey::{has_deep, has_other_kind, has_unfit, octets_of};
+use octet_core::Named;
+use std::error::Error;
+use std::fmt::{self, Display, Formatter, Write};
 use std::marker::Model;
 
 /// How many octets a forest has at most.
@@ -21,6 +24,35 @@ pub enum Improper {
     /// There are more than 1,048,576 octets.
     Size,
 }
+
+impl Named for Improper {
+    ghost use Rattle.tlv_core.specs.Names.{improper_name};
+
+    ghost text = { improper_name };
+
+    fn name(self) -> &'static str {
+        match self {
+            Improper::Depth => "Depth",
+            Improper::Tag => "Tag",
+            Improper::Form => "Form",
+            Improper::Size => "Size",
+        }
+    }
+}
+
+/// The reason's name.
+impl Display for Improper {
+    ghost use Rattle.std.specs.Prelude.{Some};
+    ghost use Rattle.tlv_core.specs.Names.{improper_name};
+
+    ghost output = { λ reason. Some (improper_name reason) };
+
+    fn fmt<W: Write>(&self, f: &mut Formatter<W>) -> fmt::Result {
+        f.write_str(self.name())
+    }
+}
+
+impl Error for Improper {}
 
 /// A list of data objects and fillers that has a spelling of at most 1,048,576 octets, with its
 /// outermost objects at depth 1 and its innermost at depth 16 at most.

@@ -3,7 +3,9 @@
 ghost use Rattle.std.specs.Prelude.{◌≡◌};
 ghost use Rattle.octet_core.specs.declared.stop.Stop.TheVariants.{At};
 
-use octet_core::Stop;
+use octet_core::{Named, Stop};
+use std::error::Error;
+use std::fmt::{self, Display, Formatter, Write};
 
 /// Why octets are no forest: what is wrong with the first octet after which none goes on. Where two
 /// of them hold, the one that stands first here is the reason.
@@ -23,6 +25,37 @@ pub enum TlvReason {
     TooLong,
 }
 
+impl Named for TlvReason {
+    ghost use Rattle.tlv_core.specs.Names.{reason_name};
+
+    ghost text = { reason_name };
+
+    fn name(self) -> &'static str {
+        match self {
+            TlvReason::TooDeep => "TooDeep",
+            TlvReason::TagSecond => "TagSecond",
+            TlvReason::TagLong => "TagLong",
+            TlvReason::LengthForm => "LengthForm",
+            TlvReason::Overrun => "Overrun",
+            TlvReason::TooLong => "TooLong",
+        }
+    }
+}
+
+/// The reason's name.
+impl Display for TlvReason {
+    ghost use Rattle.std.specs.Prelude.{Some};
+    ghost use Rattle.tlv_core.specs.Names.{reason_name};
+
+    ghost output = { λ reason. Some (reason_name reason) };
+
+    fn fmt<W: Write>(&self, f: &mut Formatter<W>) -> fmt::Result {
+        f.write_str(self.name())
+    }
+}
+
+impl Error for TlvReason {}
+
 /// Why octets are no data object list. Where two of them hold, the one that stands first here is the
 /// reason.
 #[derive(Clone, Copy, Debug, PartialEq, Eq)]
@@ -34,6 +67,34 @@ pub enum DolReason {
     /// A third tag octet has bit 8, so that a fourth would follow.
     TagLong,
 }
+
+impl Named for DolReason {
+    ghost use Rattle.tlv_core.specs.Names.{dol_reason_name};
+
+    ghost text = { dol_reason_name };
+
+    fn name(self) -> &'static str {
+        match self {
+            DolReason::TagZero => "TagZero",
+            DolReason::TagSecond => "TagSecond",
+            DolReason::TagLong => "TagLong",
+        }
+    }
+}
+
+/// The reason's name.
+impl Display for DolReason {
+    ghost use Rattle.std.specs.Prelude.{Some};
+    ghost use Rattle.tlv_core.specs.Names.{dol_reason_name};
+
+    ghost output = { λ reason. Some (dol_reason_name reason) };
+
+    fn fmt<W: Write>(&self, f: &mut Formatter<W>) -> fmt::Result {
+        f.write_str(self.name())
+    }
+}
+
+impl Error for DolReason {}
 
 /// The refusal of an octet of a forest that comes in pieces.
 #[derive(Clone, Copy, Debug, PartialEq, Eq)]
