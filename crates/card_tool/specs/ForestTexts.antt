@@ -32,4 +32,4 @@ parts_text parts = codes "objects " ++ (decimal (length parts) ++ (codes "\n" ++
 
 -- the objects of a forest, each before those inside it
 abbrev pub forest_text : Tree → List ℕ
-forest_text t = parts_text (parts_of 1 t)
+forest_text t = parts_text (parts_of 1 0 t)

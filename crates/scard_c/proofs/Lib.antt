@@ -5,4 +5,4 @@ pub mod Puts
 pub mod Refusals
 pub mod Turns
 pub mod Values
-pub mod Walks
+pub mod Placing

@@ -1,6 +1,5 @@
 -- The parts of a forest as C sees them.
 use Rattle.std.specs.Prelude.{◌≡◌, ℕ, ◌+◌, ◌-◌, ◌≤◌, ◌==◌, ◌&&◌, min, Bool, false, List, [], ◌∷◌, length, take, drop, map, cond, if◌then◌else◌, bytes_eq, slice_get, Option, Some, None}
-use Rattle.std.specs.List.{prefix_len}
 use Rattle.tlv_core.specs.Tag.{constructed_bit, header_of}
 use Rattle.tlv_core.specs.TagView.{padded}
 use Rattle.tlv_core.specs.Form.{further}
@@ -9,7 +8,8 @@ use Rattle.tlv_core.specs.Forest.{IsForest, IsProper, spelling, largest}
 use Rattle.tlv_core.specs.Parts.{Placed, value_place, preorder, first_on}
 use Rattle.tlv_core.specs.declared.node.Node.{Node}
 use Rattle.tlv_core.specs.declared.node.Node.TheVariants as node
-use Rattle.tlv_core.specs.Flat.{PartValue, parts_of}
+use Rattle.tlv_core.specs.declared.part.Part.{Part}
+use Rattle.tlv_core.specs.Flat.{PartValue, part_seen}
 use Rattle.scard_c.specs.Verdict.{put_verdict, put_into}
 use Rattle.scard_c.specs.declared.verdict.Verdict.{Verdict}
 use Rattle.scard_c.specs.declared.parts.CTag.{CTag}
@@ -34,36 +34,20 @@ pub record PutsParts (max : ℕ) (octets : List ℕ) (old new : List CPart) (v :
   pub verdict : v ≡ put_verdict (parts_shown tree) old
   pub array : new ≡ put_into (parts_shown tree) old
 
--- ---- how the places are found
+-- ---- one part after another
 
--- these are the parts of the forest that the octets spell
-pub record HasParts (octets : List ℕ) (parts : List PartValue) : Type 0 where
-  pub tree : Tree
-  pub proper : IsProper 1 tree
-  pub is : octets ≡ spelling tree
-  pub size : length octets ≤ largest
-  pub are : parts ≡ parts_of 1 tree
+-- an object with its place, without the octets of its value
+abbrev pub placed_of : PartValue → Placed
+placed_of p = record { depth = p.depth; tag = p.tag; form = p.form; place = p.place; len = length p.value }
 
--- how many fillers the octets begin with
-abbrev pub fillers_of : List ℕ → ℕ
-fillers_of octets = prefix_len (λ octet. octet == 0) octets
+-- a part as it is put into the array
+abbrev pub part_put : Part → CPart
+part_put part = part_shown (placed_of (part_seen part))
 
--- where the value of the next object is, after `at` octets
-abbrev pub place_of : List ℕ → ℕ → PartValue → ℕ
-place_of octets at p = at + fillers_of (drop at octets) + length (header_of p.tag p.form (length p.value))
-
--- an object whose value is at this place
-abbrev pub placed_at : ℕ → PartValue → Placed
-placed_at place p = record { depth = p.depth; tag = p.tag; form = p.form; place = place; len = length p.value }
-
--- how many octets were passed once an object was found: up to its nodes, or to its end
-abbrev pub passed : ℕ → PartValue → ℕ
-passed place p = if constructed_bit p.tag == 1 then place else place + length p.value
-
--- the objects with their places, after `at` octets
-abbrev pub walk : List ℕ → ℕ → List PartValue → List Placed
-walk octets at [] = []
-walk octets at (p ∷ parts) = placed_at (place_of octets at p) p ∷ walk octets (passed (place_of octets at p) p) parts
+-- none is deeper than an object of a forest
+abbrev pub AreShallow : List PartValue → Type 0
+AreShallow [] = Unit {0}
+AreShallow (p ∷ parts) = (p.depth ≤ 16) × AreShallow parts
 
 -- ---- the first object on a path of tags
 

@@ -1,6 +1,6 @@
 //! The parts of a forest (EMV 4.3 Book 3, Annex B; ISO/IEC 7816-4, clause 5.2.2).
 
-ghost use Rattle.std.specs.Prelude.{◌≡◌, ◌≢◌, ◌≤◌, ◌<◌, ◌+◌, length, map, drop, zero, slice_get};
+ghost use Rattle.std.specs.Prelude.{◌≡◌, ◌≢◌, ◌≤◌, ◌<◌, length, map, drop, slice_get};
 ghost use Rattle.octet_core.specs.Grammar.{whole, Refuses};
 ghost use Rattle.tlv_core.specs.Forest.{IsForest, IsProper};
 ghost use Rattle.tlv_core.specs.Tree.{Tree};
@@ -8,7 +8,7 @@ ghost use Rattle.tlv_core.specs.Reasons.{IsReason};
 ghost use Rattle.tlv_core.specs.Flat.{part_seen};
 ghost use Rattle.scard_c.specs.Verdict.{IsRefusal, Tells, put_verdict, put_into, no_memory, wrong_argument};
 ghost use Rattle.scard_c.specs.Tlv.{tlv_reason};
-ghost use Rattle.scard_c.specs.Parts.{PutsParts, HasParts, walk, part_shown, tag_shown, placed_at, place_of, passed, fillers_of, tag_of, tag_is, is_on, found, parts_shown, FindsFirst};
+ghost use Rattle.scard_c.specs.Parts.{PutsParts, AreShallow, part_put, tag_shown, tag_of, tag_is, is_on, found, parts_shown, FindsFirst};
 
 use crate::verdict::Verdict;
 use std::alloc::Global;
@@ -62,7 +62,7 @@ pub extern "C" fn scard_tlv_parts(
         return Verdict::argument();
     }
     match FlatForest::read(alloc, octets, max) {
-        Ok(forest) => put_parts(octets, forest.parts(), out),
+        Ok(forest) => put_parts(forest.parts(), out),
         Err(refused) => Verdict::refused(refused),
     }
 }
@@ -122,64 +122,32 @@ pub(crate) fn octets_of(tag: &CTag) -> &[u8]
     &tag.octets[..(tag.count as usize).min(3)]
 }
 
-/// Puts the parts of these octets into an array, if it has room for them.
-fn put_parts(octets: &[u8], parts: &[Part<'_>], out: &mut [CPart]) -> Verdict
-    requires { HasParts octets.now (map part_seen parts.now) }
-    ensures verdict { result ≡ put_verdict (map part_shown (walk octets.now 0 (map part_seen parts.now))) out.old }
-    ensures array { out.new ≡ put_into (map part_shown (walk octets.now 0 (map part_seen parts.now))) out.old }
+/// Puts parts into an array, if it has room for them.
+fn put_parts(parts: &[Part<'_>], out: &mut [CPart]) -> Verdict
+    requires { AreShallow (map part_seen parts.now) }
+    ensures verdict { result ≡ put_verdict (map part_put parts.now) out.old }
+    ensures array { out.new ≡ put_into (map part_put parts.now) out.old }
     ensures stays { result.status ≢ 0 → out.new ≡ out.old }
 {
     if parts.len() > out.len() {
         return Verdict::lacking(parts.len());
     }
-    let mut at = 0;
     for (index, part) in parts.iter().enumerate() {
-        let place = place_of(octets, at, part);
-        out[index] = shown(part, place);
-        at = passed(place, part);
+        out[index] = shown(part);
     }
     Verdict::ok(parts.len())
 }
 
-/// Where the value of the next object is, after `at` octets.
-fn place_of(octets: &[u8], at: usize, part: &Part<'_>) -> usize
-    requires inside { at ≤ length octets.now }
-    requires fits { place_of octets.now at (part_seen part.now) ≤ length octets.now }
-    ensures { result ≡ place_of octets.now at (part_seen part.now) }
-{
-    let header = part.tag.octets().len() + part.length_field().len();
-    at + fillers_of(&octets[at..]) + header
-}
-
-/// How many fillers the octets begin with.
-fn fillers_of(octets: &[u8]) -> usize
-    ensures { result ≡ fillers_of octets.now }
-{
-    octets.iter().take_while(|octet| **octet == 0).count()
-}
-
-/// How many octets were passed once an object was found: up to its nodes, or to its end.
-fn passed(place: usize, part: &Part<'_>) -> usize
-    requires { place + length part.now.value.now < 18446744073709551616 }
-    ensures { result ≡ passed place (part_seen part.now) }
-{
-    if part.tag.is_constructed() {
-        place
-    } else {
-        place + part.value.len()
-    }
-}
-
-fn shown(part: &Part<'_>, place: usize) -> CPart
+fn shown(part: &Part<'_>) -> CPart
     requires { part.now.depth ≤ 16 }
-    ensures { result ≡ part_shown (placed_at place (part_seen part.now)) }
+    ensures { result ≡ part_put part.now }
 {
     CPart {
         depth: part.depth as u8,
         is_constructed: u8::from(part.tag.is_constructed()),
         len_octets: part.length_field().len() as u8,
         tag: tag_shown(&part.tag),
-        place,
+        place: part.place,
         len: part.value.len(),
     }
 }

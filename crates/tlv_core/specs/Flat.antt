@@ -8,31 +8,35 @@ use Rattle.tlv_core.specs.Parts.{Placed, value_place, preorder}
 use Rattle.tlv_core.specs.Reasons.{Kept, HasTaken}
 use Rattle.tlv_core.specs.Grown.{Opened, ValueSoFar, Grown, HasGrown}
 
--- an object with the octets of its value
+-- an object with the octets of its value, and their place in the octets of the forest
 pub record PartValue : Type 0 where
   pub depth : ℕ
   pub tag : List ℕ
   pub form : Form
+  pub place : ℕ
   pub value : List ℕ
 
 -- the object that is placed so in the octets b
 abbrev pub part_in : List ℕ → Placed → PartValue
-part_in b p = record { depth = p.depth; tag = p.tag; form = p.form; value = take p.len (drop p.place b) }
+part_in b p = record { depth = p.depth; tag = p.tag; form = p.form; place = p.place; value = take p.len (drop p.place b) }
 
 -- the parts of the forest that the octets b spell
 abbrev pub parts_in : List ℕ → Tree → List PartValue
 parts_in b t = map (part_in b) (preorder 1 0 t)
 
--- the objects of a list at depth d, each before its nodes; the value of a constructed one is the octets of its nodes
-abbrev pub parts_of : ℕ → Tree → List PartValue
-parts_of d End = []
-parts_of d (Filler rest) = parts_of d rest
-parts_of d (Primitive tag form value rest) = record { depth = d; tag = tag; form = form; value = value } ∷ parts_of d rest
-parts_of d (Constructed tag form nodes rest) = record { depth = d; tag = tag; form = form; value = spelling nodes } ∷ (parts_of (d + 1) nodes ++ parts_of d rest)
+-- the objects of a list at depth d whose octets begin at this place, each before its nodes; the value of a constructed one is the octets of its nodes
+abbrev pub parts_of : ℕ → ℕ → Tree → List PartValue
+parts_of d at End = []
+parts_of d at (Filler rest) = parts_of d (at + 1) rest
+parts_of d at (Primitive tag form value rest) =
+    record { depth = d; tag = tag; form = form; place = value_place at tag form (length value); value = value } ∷ parts_of d (value_place at tag form (length value) + length value) rest
+parts_of d at (Constructed tag form nodes rest) =
+    record { depth = d; tag = tag; form = form; place = value_place at tag form (length (spelling nodes)); value = spelling nodes }
+    ∷ (parts_of (d + 1) (value_place at tag form (length (spelling nodes))) nodes ++ parts_of d (value_place at tag form (length (spelling nodes)) + length (spelling nodes)) rest)
 
 -- what contracts see of the parts that are lent
 abbrev pub part_seen : Part → PartValue
-part_seen part = record { depth = part.depth; tag = part.tag; form = part.form; value = part.value.now }
+part_seen part = record { depth = part.depth; tag = part.tag; form = part.form; place = part.place; value = part.value.now }
 
 -- the part of this object comes after the others
 abbrev pub IsKeptPart : List ℕ → Placed → List Part → List Part → Type 0

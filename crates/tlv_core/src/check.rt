@@ -1,6 +1,6 @@
 //! The check of a forest that comes in pieces.
 
-ghost use Rattle.std.specs.Prelude.{◌≡◌, ℕ, ◌≤◌, ◌↔◌, List, [], ◌++◌, OnOk, IfErr, OnSome, MatchResult, None, Ok};
+ghost use Rattle.std.specs.Prelude.{◌≡◌, ℕ, ◌≤◌, ◌↔◌, List, [], ◌++◌, length, OnOk, IfErr, OnSome, MatchResult, None, Ok};
 ghost use Rattle.octet_core.specs.Grammar.{Refuses, RefusesAt, whole};
 ghost use Rattle.tlv_core.specs.Tree.{Tree};
 ghost use Rattle.tlv_core.specs.Forest.{IsForest};
@@ -9,13 +9,14 @@ ghost use Rattle.tlv_core.specs.Reasons.{IsReason};
 use crate::progress::Progress;
 use crate::reason::{Refusal, TlvReason};
 use octet_core::Stop;
+use std::fmt::{self, Debug, Formatter, Write};
 use std::marker::Model;
 
 /// A check of the octets of a forest that come in pieces. It takes no memory: it keeps the places at
 /// which open objects end, at most 16, and the octets of a header, at most seven.
 ///
 /// Contracts see what the octets so far leave open, and the refusal that stands.
-#[derive(Debug, Drop)]
+#[derive(Drop)]
 pub struct ForestCheck {
     progress: Progress,
     refusal: Option<Refusal>,
@@ -96,5 +97,26 @@ impl ForestCheck {
         Err(Stop::Short {
             place: self.progress.count(),
         })
+    }
+
+    /// How many octets were taken; where one was refused, those before it.
+    pub fn taken(&self) -> usize
+        ensures count { result ≡ self.now.kept.count }
+        ensures octets { (b : List ℕ) → HasChecked b self.now → result ≡ length b }
+        ensures most { result ≤ self.now.kept.max }
+    {
+        self.progress.count()
+    }
+}
+
+/// How far the octets have come, and the refusal that stands: no octet is shown.
+impl Debug for ForestCheck {
+    fn fmt<W: Write>(&self, f: &mut Formatter<W>) -> fmt::Result {
+        f.debug_struct("ForestCheck")
+            .field("taken", &self.progress.count())
+            .field("open_objects", &self.progress.level())
+            .field("value_octets_left", &self.progress.value_left())
+            .field("refusal", &self.refusal)
+            .finish()
     }
 }

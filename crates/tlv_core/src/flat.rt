@@ -16,12 +16,13 @@ use crate::progress::Progress;
 use crate::reason::TlvReason;
 use octet_core::{Refused, Stop};
 use std::alloc::Global;
+use std::fmt::{self, Debug, Formatter, Write};
 use std::marker::Model;
 
 /// The objects of a forest in the order of their headers, each before those inside it, without the
 /// fillers. Their values are lent from the octets of the forest.
 ///
-/// Contracts see the list of parts, each with the octets of its value.
+/// Contracts see the list of parts, each with the octets of its value and their place.
 #[derive(Drop)]
 pub struct FlatForest<'a> {
     parts: Vec<Part<'a>>,
@@ -48,7 +49,7 @@ impl<'a> FlatForest<'a> {
         requires { max ≤ 1048576 }
         ensures found { IfOk result (λ _. (t : Tree) × Accepts whole (IsForest max) octets.now t (length octets.now)) }
         ensures places { IfOk result (λ flat. (t : Tree) → IsForest max t octets.now → flat ≡ parts_in octets.now t) }
-        ensures values { IfOk result (λ flat. (t : Tree) → IsForest max t octets.now → flat ≡ parts_of 1 t) }
+        ensures values { IfOk result (λ flat. (t : Tree) → IsForest max t octets.now → flat ≡ parts_of 1 0 t) }
         ensures refused { IfErr result (RefusesUnlessMemory whole (IsForest max) (IsReason max) octets.now) }
     {
         let mut progress = Progress::new(max);
@@ -69,6 +70,15 @@ impl<'a> FlatForest<'a> {
         ensures { map part_seen result.now ≡ self.now }
     {
         self.parts.as_slice()
+    }
+}
+
+/// How many parts there are.
+impl Debug for FlatForest<'_> {
+    fn fmt<W: Write>(&self, f: &mut Formatter<W>) -> fmt::Result {
+        f.debug_struct("FlatForest")
+            .field("parts", &self.parts.len())
+            .finish()
     }
 }
 
@@ -119,6 +129,7 @@ fn keep<'a>(
         depth,
         tag: object.tag,
         form: object.form,
+        place,
         value: &rest[..rest.len().min(object.len as usize)],
     };
     match parts.push(part) {

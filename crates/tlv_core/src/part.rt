@@ -1,14 +1,15 @@
 //! Parts of forests, lent from their octets.
 
-ghost use Rattle.std.specs.Prelude.{◌≡◌, ◌<◌, length};
+ghost use Rattle.std.specs.Prelude.{◌≡◌, ◌<◌, ◌-◌, ℕ, length};
 ghost use Rattle.tlv_core.specs.Form.{capacity};
 
 use crate::form::Form;
 use crate::tag::Tag;
 use arrayvec::ArrayVec;
+use std::fmt::{self, Debug, Formatter, Write};
 
 /// An object of a forest, with its value as it stands in the octets of the forest.
-#[derive(Clone, Copy, Debug)]
+#[derive(Clone, Copy, PartialEq, Eq)]
 pub struct Part<'a> {
     /// The depth at which the object stands, 1 to 16.
     pub depth: usize,
@@ -16,18 +17,53 @@ pub struct Part<'a> {
     pub tag: Tag,
     /// The form of its length field.
     pub form: Form,
+    /// The place of its value in the octets of the forest, counted from 0.
+    pub place: usize,
     /// The octets of its value: those that its nodes have, where it is constructed.
     pub value: &'a [u8],
     ghost fits: { length value.now < capacity form },
 }
 
 impl Part<'_> {
-    ghost use Rattle.tlv_core.specs.Tag.{length_field};
+    ghost use Rattle.tlv_core.specs.Tag.{header_of, length_field};
+    ghost use Rattle.tlv_core.specs.Parts.{value_place};
 
     /// The octets of its length field, one to five.
     pub fn length_field(&self) -> ArrayVec<u8, 5>
         ensures { result.items ≡ length_field self.now.form (length self.now.value.now) }
     {
         self.form.field(self.value.len())
+    }
+
+    /// The place of its header in the octets of the forest, which is that of the first octet of its tag. The
+    /// header ends where the value begins, at `place`.
+    ///
+    /// 0 where `place` leaves no room for the header, as no part of a [`FlatForest`](crate::FlatForest) does.
+    pub fn header_place(&self) -> usize
+        ensures before { result ≡ self.now.place - length (header_of self.now.tag self.now.form (length self.now.value.now)) }
+        ensures header { (at : ℕ) → self.now.place ≡ value_place at self.now.tag self.now.form (length self.now.value.now) → result ≡ at }
+    {
+        self.place.saturating_sub(self.header_len())
+    }
+
+    /// How many octets its header has: its tag and its length field.
+    fn header_len(&self) -> usize
+        ensures { result ≡ length (header_of self.now.tag self.now.form (length self.now.value.now)) }
+    {
+        self.tag.octets().len() + self.length_field().len()
+    }
+}
+
+/// Its tag, where it is, and how many octets its value has. The value may be secret, so no octet of it is
+/// shown.
+impl Debug for Part<'_> {
+    fn fmt<W: Write>(&self, f: &mut Formatter<W>) -> fmt::Result {
+        f.debug_struct("Part")
+            .field("depth", &self.depth)
+            .field("tag", &self.tag)
+            .field("form", &self.form)
+            .field("place", &self.place)
+            .field("value_octets", &self.value.len())
+            .finish()
     }
 }

@@ -18,7 +18,7 @@ use arrayvec::ArrayVec;
 pub(crate) const DEEPEST: usize = 16;
 
 /// What is kept of the octets of a forest that were taken so far.
-#[derive(Debug, Drop)]
+#[derive(Drop)]
 pub(crate) struct Progress {
     /// The limit of the whole, in octets.
     max: usize,

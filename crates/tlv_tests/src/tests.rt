@@ -11,6 +11,7 @@ use tlv_core::{
 mod improper;
 mod parts;
 mod pieces;
+mod printed;
 
 /// The tag of these octets.
 fn tag(rt: &HostRuntime, text: &str) -> Result<Tag, Fail> {

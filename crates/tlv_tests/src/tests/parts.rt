@@ -19,6 +19,7 @@ fn check_parts(alloc: Global, rt: &impl Abort, text: &str, wanted: &[Wanted]) ->
     assert!(rt; same(flat.parts().len(), wanted.len()), "{text}");
     for (part, (depth, tag, place, value)) in flat.parts().iter().zip(wanted) {
         assert!(rt; same(part.depth, *depth), "{text}");
+        assert!(rt; same(part.place, *place), "{text}");
         assert!(rt; same(hex_upper(alloc, part.tag.octets())?.as_str(), *tag));
         assert!(rt; same(hex_upper(alloc, part.value)?.as_str(), *value));
         let rest = octets.as_slice().get(*place..).ok_or("a place")?;
@@ -49,6 +50,23 @@ fn parts_are_in_preorder(rt: HostRuntime) -> Result<(), Fail> {
         "700200005A0112",
         &[(1, "70", 2, "0000"), (1, "5A", 6, "12")],
     )
+}
+
+/// Where the header and the value of each object begin, after fillers and behind long length fields.
+const PLACES: [(usize, usize); 4] = [(1, 4), (5, 9), (10, 12), (12, 14)];
+
+#[test]
+fn parts_tell_their_places(rt: HostRuntime) -> Result<(), Fail> {
+    let octets = octets_of(rt.alloc(), "0070810A00828200015070025000")?;
+    let flat = FlatForest::read(rt.alloc(), octets.as_slice(), LARGEST_FOREST)
+        .ok()
+        .ok_or("a forest")?;
+    assert!(rt; same(flat.parts().len(), PLACES.len()));
+    for (part, (header, value)) in flat.parts().iter().zip(PLACES) {
+        assert!(rt; same(part.header_place(), header));
+        assert!(rt; same(part.place, value));
+    }
+    Ok(())
 }
 
 #[test]

@@ -26,6 +26,16 @@ fn pieces_are_joined(rt: HostRuntime) -> Result<(), Fail> {
 }
 
 #[test]
+fn octets_that_a_check_took(rt: HostRuntime) {
+    let mut check = ForestCheck::new(65_536);
+    assert!(rt; same(check.taken(), 0));
+    assert!(rt; same(check.feed(&[0x6F, 0x04, 0xA5]), Ok(())));
+    assert!(rt; same(check.taken(), 3));
+    assert!(rt; check.feed(&[0x02, 0x5A, 0x01, 0x00]).is_err());
+    assert!(rt; same(check.taken(), 5));
+}
+
+#[test]
 fn trees_are_read_in_pieces(rt: HostRuntime) -> Result<(), Fail> {
     let text = "006F108407A0000000041010A505BF0C025000005A81011200";
     let octets = octets_of(rt.alloc(), text)?;
