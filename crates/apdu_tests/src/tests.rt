@@ -1,6 +1,7 @@
 //! Commands, responses and status bytes from outside, and each call once with ample memory.
 
 mod faults;
+mod printed;
 
 use apdu_core::{
     Body, Command, CommandReason, CommandRef, ReceiveFault, Response, ResponseReason, ResponseRef,

@@ -1,5 +1,7 @@
 //! Blocks from the standard's tables, and calls that no clause pins.
 
+mod printed;
+
 ghost use Rattle.std.specs.Prelude.{◌≤◌};
 
 use block_core::{
