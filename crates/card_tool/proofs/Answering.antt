@@ -13,7 +13,7 @@ use Rattle.card_words.specs.declared.fault.Fault.TheVariants.{Memory}
 use Rattle.card_words.specs.declared.request.Request.{Request}
 use Rattle.card_words.specs.declared.request.Request.TheVariants.{Help}
 use Rattle.card_tool.specs.Answers.{Answers, AnswersTo, IsAnswerTo, IsRight, IsRightTo, IsToldOf}
-use Rattle.card_tool.specs.Files.{IsTaken}
+use Rattle.card_tool.specs.Files.{IsTaken, ReadsWhole}
 use Rattle.card_tool.specs.declared.answer.Answer.{Answer}
 use Rattle.card_tool.specs.declared.status.Status.{Status}
 use Rattle.card_tool.specs.declared.status.Status.TheVariants as status
@@ -106,3 +106,17 @@ module _ (request : Request) (given : Given) (Told : List ℕ → List ℕ → S
 
   pub told-wanting : (octets : List ℕ) → IsTaken given held left before after (Ok octets) → IsRightTo request held left before after (fault_text Memory) status.Fault
   told-wanting octets had = inr (refl, refl, had.count)
+
+-- ---- a whole file
+
+-- a request that tells of what standard input has
+module _ (request : Request) (Told : List ℕ → List ℕ → Status → Type 0) (held left : Option (List ℕ)) (before after : ℕ)
+    (answers : (file : Result (List ℕ) Fault) (text : List ℕ) (ended : Status) → IsToldOf Told file text ended → IsAnswerTo request file text ended) where
+  pub file-told : (file text : List ℕ) (ended : Status) → ReadsWhole held left before after (Ok file) → Told file text ended → IsRightTo request held left before after text ended
+  file-told file text ended had told = inl (record { file = Ok file; is_file = λ asked. had; is_answer = answers (Ok file) text ended told })
+
+  pub file-fault : (fault : Fault) → ReadsWhole held left before after (Err fault) → IsRightTo request held left before after (fault_text fault) status.Fault
+  file-fault fault had = inl (record { file = Err fault; is_file = λ asked. had; is_answer = answers (Err fault) (fault_text fault) status.Fault (refl, refl) })
+
+  pub file-wanting : (file : List ℕ) → ReadsWhole held left before after (Ok file) → IsRightTo request held left before after (fault_text Memory) status.Fault
+  file-wanting file had = inr (refl, refl, had.count)

@@ -12,12 +12,15 @@ ghost use Rattle.card_words.specs.Texts.{fault_text};
 ghost use Rattle.card_words.specs.Words.{texts, AskForFile, IsSized, NeedsFile};
 
 use crate::answer::Answer;
-use crate::file::octets_given;
+use crate::file::{LARGEST_FILE, octets_given, read_whole};
 use crate::program::{answer_to, check, show};
 use crate::status::Status;
-use crate::{forest, list};
-use card_words::{Fault, Request};
-use explainer::{forest_note, known_note, list_note, octets_note, words_note};
+use crate::{exchange, forest, list, simulation};
+use card_words::{Fault, Request, Session};
+use explainer::{
+    file_note, forest_note, known_note, large_note, list_note, octets_note, replay_note,
+    session_note, words_note,
+};
 use octet_core::{Octets, Source};
 use std::alloc::{AllocError, Global};
 
@@ -87,7 +90,48 @@ fn answered_to<R: Source>(
             };
             Ok(noted(answer, note))
         }
+        other => exchange_explained(alloc, other, reader),
+    }
+}
+
+/// The text and the status of a request that isn't one about octets, with what is to be said of its file or session.
+fn exchange_explained<R: Source>(
+    alloc: Global,
+    request: Request,
+    reader: &mut R,
+) -> Result<Answer, Fault>
+    requires { IsSized request }
+    ensures told { Gives (IsExplained (IsRightTo request (R.remaining reader.old) (R.remaining reader.new) (R.failures reader.old) (R.failures reader.new))) result }
+    ensures unread { (NeedsFile request → ⊥) → reader.new ≡ reader.old }
+    ensures few { IsBegun (R.remaining reader.old) (R.remaining reader.new) 4194305 }
+{
+    match request {
+        Request::Replay(end) => {
+            let file = read_whole(alloc, reader)?;
+            let note = replay_note(alloc, file.get(), end);
+            let answer = exchange::replayed(alloc, file, end)?;
+            Ok(noted(answer, note))
+        }
+        Request::Migrate => {
+            let file = read_whole(alloc, reader)?;
+            let note = file_note(alloc, file.get());
+            let answer = exchange::migrated(alloc, file)?;
+            Ok(noted(answer, note))
+        }
+        Request::Simulate(session) => {
+            let answer = simulation::simulated(alloc, &session)?;
+            let note = simulation_note(alloc, &session, answer.status);
+            Ok(noted(answer, note))
+        }
         other => answer_to(alloc, other, reader),
+    }
+}
+
+/// What is to be said of a session, by how the program ends.
+fn simulation_note(alloc: Global, session: &Session, status: Status) -> Result<String, AllocError> {
+    match status {
+        Status::Fault => large_note(alloc, LARGEST_FILE),
+        _ => session_note(alloc, session.atr.get()),
     }
 }
 
@@ -107,15 +151,17 @@ fn noted(answer: Answer, note: Result<String, AllocError>) -> Answer
     }
 }
 
-/// The line of a fault, with what is wrong with the words.
+/// The line of a fault, with what is wrong with the words or too large.
 fn faulted(alloc: Global, words: &[String], fault: Fault) -> Result<Answer, Fault>
     ensures { MatchResult result (λ answer. (note : List ℕ) × (answer.text ≡ fault_text fault ++ note) × (answer.status ≡ ended.Fault)) (λ same. same ≡ fault) }
 {
-    match fault {
-        Fault::Words | Fault::Hex => match Answer::faulted(alloc, fault) {
-            Ok(answer) => Ok(noted(answer, words_note(alloc, words))),
-            Err(_) => Err(fault),
-        },
-        _ => Err(fault),
+    let note = match fault {
+        Fault::Words | Fault::Hex => words_note(alloc, words),
+        Fault::TooLarge => large_note(alloc, LARGEST_FILE),
+        _ => return Err(fault),
+    };
+    match Answer::faulted(alloc, fault) {
+        Ok(answer) => Ok(noted(answer, note)),
+        Err(_) => Err(fault),
     }
 }

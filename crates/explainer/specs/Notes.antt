@@ -49,3 +49,13 @@ digit_note number character place = codes "word " ++ (decimal number ++ (codes "
 
 abbrev pub odd_note : ℕ → ℕ → List ℕ
 odd_note number count = codes "word " ++ (decimal number ++ (codes ": an odd number of digits, " ++ (decimal count ++ codes "\n")))
+
+-- ---- files
+
+-- a line of a file by its number, with its text, and what is to be said of it
+abbrev pub line_note : ℕ → List ℕ → List ℕ → List ℕ
+line_note number line what = codes "line " ++ (decimal number ++ (codes " of the file: " ++ (line ++ (codes "\n" ++ (what ++ codes "\n")))))
+
+-- how many octets standard input or a session's text may have
+abbrev pub large_note : ℕ → List ℕ
+large_note most = codes "standard input, and the text of a session, has at most " ++ (decimal most ++ codes " octets\n")

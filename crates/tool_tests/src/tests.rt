@@ -5,6 +5,7 @@ ghost use Rattle.std.specs.Prelude.{◌≤◌, ◌≢◌};
 mod apdus;
 mod chains;
 mod explanations;
+mod file_explanations;
 mod files;
 mod largest;
 mod objects;

@@ -165,7 +165,7 @@ const OCTETS: [Row; 26] = [
 ];
 
 /// Words that are no request.
-const WORDS: [Row; 21] = [
+const WORDS: [Row; 26] = [
     (
         "check foo 3B",
         "fault: words\n",
@@ -285,6 +285,36 @@ const WORDS: [Row; 21] = [
         "fault: words\n",
         Status::Fault,
         "word 4: a pair is COMMAND:REPLY\n",
+    ),
+    (
+        "simulate 3B00 00A4:9000",
+        "refused: NoT1\n",
+        Status::Refused,
+        "the answer to reset has no TD that offers T=1\n",
+    ),
+    (
+        "simulate 3B808111FFEF",
+        "refused: ReservedIfsc\n",
+        Status::Refused,
+        "the answer to reset has 00 or FF for the card's information size, in the first TA for T=1\n",
+    ),
+    (
+        "simulate 3B8081410141",
+        "refused: Crc\n",
+        Status::Refused,
+        "the answer to reset asks for the CRC, in the first TC for T=1, and only the LRC is done\n",
+    ),
+    (
+        "simulate 3B80813120455500",
+        "refused: BadAtr\n",
+        Status::Refused,
+        "octets of the answer to reset: 7; octets left after it: 1\n",
+    ),
+    (
+        "simulate 3B808131204554",
+        "refused: BadAtr\n",
+        Status::Refused,
+        "octet 6 is 54: TCK makes the exclusive-or of all octets from T0 to TCK 00\noctets from place 0:\n3B808131204554\n            ^^\n",
     ),
     (
         "frobnicate",
