@@ -29,7 +29,7 @@ use Rattle.block_core.specs.declared.pcb.Number.{Number}
 use Rattle.block_core.specs.declared.pcb.Number.TheVariants.{Zero, One}
 use Rattle.clap.specs.declared.builder.action.ArgAction.TheVariants.{Append, SetTrue}
 
--- ---- the form of the words
+-- ---- the form of the words; each value has a name in help
 
 -- the option that asks for an explanation, which every subcommand has
 abbrev pub explain_rule : Rule
@@ -39,24 +39,24 @@ abbrev pub begun_app : List ℕ → App
 begun_app name = with_rule (new_app name) explain_rule
 
 abbrev pub kind_rule : Rule
-kind_rule = record (new_rule (codes "kind")) { required = true }
+kind_rule = record (new_rule (codes "kind")) { required = true; value_names = 1 }
 
 abbrev pub hex_rule : Rule
-hex_rule = new_rule (codes "hex")
+hex_rule = record (new_rule (codes "hex")) { value_names = 1 }
 
 -- an option that takes any word
 abbrev pub option_rule : List ℕ → Rule
-option_rule name = record (new_rule name) { long = Some name }
+option_rule name = record (new_rule name) { long = Some name; value_names = 1 }
 
 -- the form of octets on standard input
 abbrev pub stdin_rule : Rule
 stdin_rule = option_rule (codes "stdin")
 
 abbrev pub ifs_rule : Rule
-ifs_rule = record (new_rule (codes "ifs")) { long = Some (codes "ifs"); parser = Some (parser.Signed (pos 1) (pos 254)) }
+ifs_rule = record (new_rule (codes "ifs")) { long = Some (codes "ifs"); value_names = 1; parser = Some (parser.Signed (pos 1) (pos 254)) }
 
 abbrev pub number_rule : Rule
-number_rule = record (new_rule (codes "number")) { long = Some (codes "number"); parser = Some (parser.Signed (pos 0) (pos 1)) }
+number_rule = record (new_rule (codes "number")) { long = Some (codes "number"); value_names = 1; parser = Some (parser.Signed (pos 0) (pos 1)) }
 
 -- a subcommand that takes what octets are taken for: a kind, an information size and a first number
 abbrev pub expected_app : List ℕ → App
@@ -67,17 +67,17 @@ abbrev pub input_app : List ℕ → App
 input_app name = with_rule (with_rule (expected_app name) hex_rule) stdin_rule
 
 abbrev pub what_rule : Rule
-what_rule = record (new_rule (codes "what")) { required = true }
+what_rule = record (new_rule (codes "what")) { required = true; value_names = 1 }
 
 abbrev pub words_rule : Rule
-words_rule = record (new_rule (codes "words")) { action = Some Append }
+words_rule = record (new_rule (codes "words")) { value_names = 1; action = Some Append }
 
 -- the subcommand that builds what a word says, of the words after it
 abbrev pub build_app : App
 build_app = with_rule (with_rule (with_rule (begun_app (codes "build")) what_rule) words_rule) stdin_rule
 
 abbrev pub end_rule : Rule
-end_rule = record (new_rule (codes "end")) { long = Some (codes "end"); required = true }
+end_rule = record (new_rule (codes "end")) { long = Some (codes "end"); value_names = 1; required = true }
 
 -- the subcommand that replays recorded exchanges at an end
 abbrev pub replay_app : App
@@ -88,13 +88,13 @@ abbrev pub migrate_app : App
 migrate_app = begun_app (codes "migrate")
 
 abbrev pub atr_rule : Rule
-atr_rule = record (new_rule (codes "atr")) { required = true }
+atr_rule = record (new_rule (codes "atr")) { required = true; value_names = 1 }
 
 abbrev pub pairs_rule : Rule
-pairs_rule = record (new_rule (codes "pairs")) { action = Some Append }
+pairs_rule = record (new_rule (codes "pairs")) { value_names = 1; action = Some Append }
 
 abbrev pub ifsd_rule : Rule
-ifsd_rule = record (new_rule (codes "ifsd")) { long = Some (codes "ifsd"); parser = Some (parser.Signed (pos 1) (pos 254)) }
+ifsd_rule = record (new_rule (codes "ifsd")) { long = Some (codes "ifsd"); value_names = 1; parser = Some (parser.Signed (pos 1) (pos 254)) }
 
 -- the subcommand that records a session of both ends, first with its words and the size that is asked for
 abbrev pub session_app : App

@@ -5,6 +5,7 @@ ghost use Rattle.clap.specs.Words.{app_of, rule_of};
 ghost use Rattle.clap.specs.declared.builder.command.Command.TheViews.{out-Command};
 ghost use Rattle.card_words.specs.Words.{atr_rule, begun_app, build_app, end_rule, expected_app, explain_rule, hex_rule, ifs_rule, ifsd_rule, input_app, kind_rule, migrate_app, number_rule, octets_app, option_rule, pairs_rule, replay_app, scard, session_app, simulate_app, stdin_rule, what_rule, words_rule};
 
+use crate::help::{BUILD, CHECK, MIGRATE, PROGRAM, Page, REPLAY, SHOW, SIMULATE, with_page};
 use clap::{Arg, ArgAction, Command, value_parser};
 use std::alloc::{AllocError, Global};
 
@@ -25,19 +26,10 @@ pub(crate) fn program<'a>(alloc: Global) -> Result<Command<'a>, AllocError>
 fn octets_command<'a>(alloc: Global) -> Result<Command<'a>, AllocError>
     ensures { IfOk result (λ command. app_of command ≡ octets_app) }
 {
-    let check = input_command(
-        alloc,
-        "check",
-        "Say whether octets are a value, and how many it takes: KIND HEX, or KIND --stdin FORM",
-    )?;
-    let show = input_command(
-        alloc,
-        "show",
-        "Show the value that octets spell: KIND HEX, or KIND --stdin FORM",
-    )?;
+    let check = input_command(alloc, "check", &CHECK)?;
+    let show = input_command(alloc, "show", &SHOW)?;
     let build = build_command(alloc)?;
-    Command::new(alloc, "scard")
-        .about("Answers to reset, T=1 blocks, APDUs and data objects of smart cards")
+    with_page(Command::new(alloc, "scard"), &PROGRAM)
         .subcommand(check)?
         .subcommand(show)?
         .subcommand(build)
@@ -47,12 +39,12 @@ fn octets_command<'a>(alloc: Global) -> Result<Command<'a>, AllocError>
 fn input_command<'a>(
     alloc: Global,
     name: &'a str,
-    about: &'a str,
+    page: &Page<'a>,
 ) -> Result<Command<'a>, AllocError>
     ensures app { IfOk result (λ command. app_of command ≡ input_app name.now) }
     ensures local { IfOk result (λ command. (out-Command command).has_globals ≡ false) }
 {
-    expected_command(alloc, name, about)?
+    expected_command(alloc, name, page)?
         .arg(hex_arg(alloc))?
         .arg(stdin_arg(alloc))
 }
@@ -61,12 +53,12 @@ fn input_command<'a>(
 fn expected_command<'a>(
     alloc: Global,
     name: &'a str,
-    about: &'a str,
+    page: &Page<'a>,
 ) -> Result<Command<'a>, AllocError>
     ensures app { IfOk result (λ command. app_of command ≡ expected_app name.now) }
     ensures local { IfOk result (λ command. (out-Command command).has_globals ≡ false) }
 {
-    begun_command(alloc, name, about)?
+    begun_command(alloc, name, page)?
         .arg(kind_arg(alloc))?
         .arg(ifs_arg(alloc))?
         .arg(number_arg(alloc))
@@ -76,14 +68,12 @@ fn expected_command<'a>(
 fn begun_command<'a>(
     alloc: Global,
     name: &'a str,
-    about: &'a str,
+    page: &Page<'a>,
 ) -> Result<Command<'a>, AllocError>
     ensures app { IfOk result (λ command. app_of command ≡ begun_app name.now) }
     ensures local { IfOk result (λ command. (out-Command command).has_globals ≡ false) }
 {
-    Command::new(alloc, name)
-        .about(about)
-        .arg(explain_arg(alloc))
+    with_page(Command::new(alloc, name), page).arg(explain_arg(alloc))
 }
 
 fn explain_arg<'a>(alloc: Global) -> Arg<'a>
@@ -101,13 +91,7 @@ fn build_command<'a>(alloc: Global) -> Result<Command<'a>, AllocError>
     ensures app { IfOk result (λ command. app_of command ≡ build_app) }
     ensures local { IfOk result (λ command. (out-Command command).has_globals ≡ false) }
 {
-    let begun = begun_command(
-        alloc,
-        "build",
-        "Build octets: chain IFS NUMBER HEX, tidy HEX, tidy --stdin FORM, \
-         or fill DOL F:TAG:VALUE..",
-    )?;
-    begun
+    begun_command(alloc, "build", &BUILD)?
         .arg(what_arg(alloc))?
         .arg(words_arg(alloc))?
         .arg(stdin_arg(alloc))
@@ -118,12 +102,7 @@ fn replay_command<'a>(alloc: Global) -> Result<Command<'a>, AllocError>
     ensures app { IfOk result (λ command. app_of command ≡ replay_app) }
     ensures local { IfOk result (λ command. (out-Command command).has_globals ≡ false) }
 {
-    let begun = begun_command(
-        alloc,
-        "replay",
-        "Replay the recorded exchanges on standard input at one end",
-    )?;
-    begun.arg(end_arg(alloc))
+    begun_command(alloc, "replay", &REPLAY)?.arg(end_arg(alloc))
 }
 
 /// The subcommand that takes recorded exchanges into the newest version.
@@ -131,11 +110,7 @@ fn migrate_command<'a>(alloc: Global) -> Result<Command<'a>, AllocError>
     ensures app { IfOk result (λ command. app_of command ≡ migrate_app) }
     ensures local { IfOk result (λ command. (out-Command command).has_globals ≡ false) }
 {
-    begun_command(
-        alloc,
-        "migrate",
-        "Write the recorded exchanges on standard input in the newest version",
-    )
+    begun_command(alloc, "migrate", &MIGRATE)
 }
 
 /// The subcommand that records a session of both ends.
@@ -144,16 +119,16 @@ fn simulate_command<'a>(alloc: Global) -> Result<Command<'a>, AllocError>
     ensures local { IfOk result (λ command. (out-Command command).has_globals ≡ false) }
 {
     session_command(alloc)?
-        .arg(option_arg(alloc, "lose", "The numbers of blocks that are lost, as 2,5"))?
-        .arg(option_arg(
+        .arg(list_arg(alloc, "lose", "The blocks that are lost, as 2,5"))?
+        .arg(list_arg(
             alloc,
             "damage",
-            "The numbers of blocks that arrive with their last octet changed",
+            "The blocks that arrive with their last octet changed",
         ))?
-        .arg(option_arg(
+        .arg(list_arg(
             alloc,
             "spoil",
-            "The numbers of blocks that arrive with another node address",
+            "The blocks that arrive with another node address",
         ))
 }
 
@@ -162,12 +137,7 @@ fn session_command<'a>(alloc: Global) -> Result<Command<'a>, AllocError>
     ensures app { IfOk result (λ command. app_of command ≡ session_app) }
     ensures local { IfOk result (λ command. (out-Command command).has_globals ≡ false) }
 {
-    let begun = begun_command(
-        alloc,
-        "simulate",
-        "Record a session of a terminal and a card, each of whose blocks may be disturbed",
-    )?;
-    begun
+    begun_command(alloc, "simulate", &SIMULATE)?
         .arg(atr_arg(alloc))?
         .arg(pairs_arg(alloc))?
         .arg(ifsd_arg(alloc))
@@ -179,7 +149,8 @@ fn atr_arg<'a>(alloc: Global) -> Arg<'a>
 {
     Arg::new(alloc, "atr")
         .required(true)
-        .help("The card's answer to reset in hexadecimal")
+        .value_name("ATR")
+        .help("The card's answer to reset, in hexadecimal")
 }
 
 fn pairs_arg<'a>(alloc: Global) -> Arg<'a>
@@ -188,7 +159,8 @@ fn pairs_arg<'a>(alloc: Global) -> Arg<'a>
 {
     Arg::new(alloc, "pairs")
         .action(ArgAction::Append)
-        .help("Commands and the replies to them, each COMMAND:REPLY")
+        .value_name("COMMAND:REPLY")
+        .help("Commands and the replies to them, in hexadecimal or none")
 }
 
 fn ifsd_arg<'a>(alloc: Global) -> Arg<'a>
@@ -198,15 +170,27 @@ fn ifsd_arg<'a>(alloc: Global) -> Arg<'a>
     Arg::new(alloc, "ifsd")
         .long("ifsd")
         .value_parser(value_parser!(u8).range(1..=254))
+        .value_name("N")
         .help("The information size that the terminal asks for first, 1 to 254")
 }
 
-/// An option that takes any word.
-fn option_arg<'a>(alloc: Global, name: &'a str, help: &'a str) -> Arg<'a>
+/// An option that takes a list of blocks.
+fn list_arg<'a>(alloc: Global, name: &'a str, help: &'a str) -> Arg<'a>
     ensures rule { rule_of result ≡ option_rule name.now }
     ensures local { result.global ≡ false }
 {
-    Arg::new(alloc, name).long(name).help(help)
+    option_arg(alloc, name, "LIST", help)
+}
+
+/// An option that takes any word, which help calls `value`.
+fn option_arg<'a>(alloc: Global, name: &'a str, value: &'a str, help: &'a str) -> Arg<'a>
+    ensures rule { rule_of result ≡ option_rule name.now }
+    ensures local { result.global ≡ false }
+{
+    Arg::new(alloc, name)
+        .long(name)
+        .value_name(value)
+        .help(help)
 }
 
 fn end_arg<'a>(alloc: Global) -> Arg<'a>
@@ -216,6 +200,7 @@ fn end_arg<'a>(alloc: Global) -> Arg<'a>
     Arg::new(alloc, "end")
         .long("end")
         .required(true)
+        .value_name("END")
         .help("The end that is replayed: terminal or card")
 }
 
@@ -225,6 +210,7 @@ fn what_arg<'a>(alloc: Global) -> Arg<'a>
 {
     Arg::new(alloc, "what")
         .required(true)
+        .value_name("WHAT")
         .help("What is built: chain, tidy or fill")
 }
 
@@ -234,6 +220,7 @@ fn words_arg<'a>(alloc: Global) -> Arg<'a>
 {
     Arg::new(alloc, "words")
         .action(ArgAction::Append)
+        .value_name("WORD")
         .help("The words that it is built of")
 }
 
@@ -244,6 +231,7 @@ fn number_arg<'a>(alloc: Global) -> Arg<'a>
     Arg::new(alloc, "number")
         .long("number")
         .value_parser(value_parser!(u8).range(0..=1))
+        .value_name("N")
         .help("The number of the first block of a chain, 0 or 1 [default: 0]")
 }
 
@@ -251,16 +239,19 @@ fn kind_arg<'a>(alloc: Global) -> Arg<'a>
     ensures rule { rule_of result ≡ kind_rule }
     ensures local { result.global ≡ false }
 {
-    Arg::new(alloc, "kind").required(true).help(
-        "What the octets are taken for: atr, block, chain, command, response, tlv or dol",
-    )
+    Arg::new(alloc, "kind")
+        .required(true)
+        .value_name("KIND")
+        .help("What the octets are taken for: atr, block, chain, command, response, tlv or dol")
 }
 
 fn hex_arg<'a>(alloc: Global) -> Arg<'a>
     ensures rule { rule_of result ≡ hex_rule }
     ensures local { result.global ≡ false }
 {
-    Arg::new(alloc, "hex").help("The octets in hexadecimal, or none; or give --stdin")
+    Arg::new(alloc, "hex").value_name("HEX").help(
+        "The octets, two hexadecimal digits each, or none where there are none",
+    )
 }
 
 fn stdin_arg<'a>(alloc: Global) -> Arg<'a>
@@ -270,6 +261,7 @@ fn stdin_arg<'a>(alloc: Global) -> Arg<'a>
     option_arg(
         alloc,
         "stdin",
+        "FORM",
         "In place of HEX: read the octets from standard input, as FORM says: hex or octets",
     )
 }
@@ -281,5 +273,6 @@ fn ifs_arg<'a>(alloc: Global) -> Arg<'a>
     Arg::new(alloc, "ifs")
         .long("ifs")
         .value_parser(value_parser!(u8).range(1..=254))
+        .value_name("N")
         .help("The information size, 1 to 254 [default: 254]")
 }

@@ -9,6 +9,7 @@ pub mod explain;
 pub mod fault;
 mod forms;
 pub mod given;
+mod help;
 mod known;
 mod loose;
 pub mod request;

@@ -320,7 +320,7 @@ const WORDS: [Row; 26] = [
         "frobnicate",
         "fault: words\n",
         Status::Fault,
-        "error: unrecognized subcommand 'frobnicate'\n\nUsage: scard [COMMAND]\n\nFor more information, try '--help'.\n",
+        "error: unrecognized subcommand 'frobnicate'\n\nUsage: scard <COMMAND>\n\nFor more information, try '--help'.\n",
     ),
 ];
 

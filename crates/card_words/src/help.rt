@@ -1,0 +1,159 @@
+//! The words of help: of each command what it does, its forms, and what a person has to know to use it.
+//!
+//! No clause names these words, so another wording breaks no proof. The names of values are those of docs/PROGRAM.md.
+
+ghost use Rattle.std.specs.Prelude.{◌≡◌};
+ghost use Rattle.clap.specs.Words.{app_of};
+ghost use Rattle.clap.specs.declared.builder.command.Command.TheViews.{out-Command};
+
+use clap::Command;
+
+/// What help says of a command beside its lists of arguments.
+pub(crate) struct Page<'a> {
+    /// What it does, in a line.
+    about: &'a str,
+    /// A line for each form of its words.
+    usage: &'a str,
+    /// What comes after the lists.
+    after: &'a str,
+}
+
+/// A command with a page of help.
+pub(crate) fn with_page<'a>(command: Command<'a>, page: &Page<'a>) -> Command<'a>
+    ensures app { app_of result ≡ app_of command.entry }
+    ensures local { (out-Command result).has_globals ≡ (out-Command command.entry).has_globals }
+{
+    command
+        .about(page.about)
+        .override_usage(page.usage)
+        .after_help(page.after)
+}
+
+/// The page of the program.
+pub(crate) const PROGRAM: Page<'static> = Page {
+    about: "Check, show, build and replay what smart cards and terminals exchange",
+    usage: "scard <COMMAND>",
+    after: "Kinds of octets:
+  atr       an answer to reset
+  block     a block of the T=1 protocol
+  chain     the I-blocks that carry one message
+  command   a command APDU
+  response  a response APDU
+  tlv       a forest of data objects
+  dol       a list of data objects that are asked for
+
+Octets are hexadecimal, two digits each, in either case; the word none gives no octets. With --stdin in place of a
+word check, show and build tidy read them from standard input.
+
+Exit status:
+  0  accepted, or done
+  1  refused, or short, or an end that does otherwise than a file says
+  2  a fault of the words, of a file, of memory or of a stream
+
+Every line goes to standard output. With --explain lines about what is wrong come after it.
+
+Examples:
+  scard help check
+  scard check block 00000500A4040000A5",
+};
+
+/// The page of `check`.
+pub(crate) const CHECK: Page<'static> = Page {
+    about: "Say whether octets are a value, and how many of them it takes",
+    usage: "scard check <KIND> <HEX> [--ifs <N>] [--number <N>]
+       scard check <KIND> --stdin <FORM> [--ifs <N>] [--number <N>]",
+    after: "The kinds block and chain use --ifs, and chain uses --number; the others leave them unused.
+An answer to reset, a block and a chain may have more octets after them; the others end with the last octet.
+
+Exit status:
+  0  ok N octets: they are a value, or begin with one
+  1  short at P: more must come; refused at P: REASON: no value goes on after the octet at place P
+  2  a fault, as fault: words or fault: hex
+
+Examples:
+  scard check block 00000500A4040000A5
+  printf '3B 80 80\\n01 01' | scard check atr --stdin hex",
+};
+
+/// The page of `show`.
+pub(crate) const SHOW: Page<'static> = Page {
+    about: "Show the value that octets spell, line by line",
+    usage: "scard show <KIND> <HEX> [--ifs <N>] [--number <N>]
+       scard show <KIND> --stdin <FORM> [--ifs <N>] [--number <N>]",
+    after: "The kinds block and chain use --ifs, and chain uses --number; the others leave them unused.
+
+Exit status:
+  0  the value was shown
+  1  short at P: more must come; refused at P: REASON: no value goes on after the octet at place P
+  2  a fault, as fault: words or fault: hex
+
+Examples:
+  scard show atr 3B808131204555
+  scard show tlv 6F108407A0000000041010A505BF0C025000 --explain",
+};
+
+/// The page of `build`.
+pub(crate) const BUILD: Page<'static> = Page {
+    about: "Build octets: the blocks of a chain, a tidy forest, or what a list asks for",
+    usage: "scard build chain <IFS> <NUMBER> <HEX>
+       scard build tidy <HEX>
+       scard build tidy --stdin <FORM>
+       scard build fill <DOL> [F:TAG:VALUE]...",
+    after: "chain  cuts the message HEX into blocks with fields of at most IFS octets, 1 to 254; the first block
+       has the number NUMBER, 0 or 1
+tidy   writes a forest of data objects in the fewest octets that say the same
+fill   gives the octets that the list DOL asks for, of values that are known: F is n (numeric),
+       c (compressed numeric) or o (any other), TAG and VALUE are hexadecimal
+
+Exit status:
+  0  the octets were built; none stands for no octets
+  1  the forest or the list is refused, or two values have one tag
+  2  a fault, as fault: words or fault: hex
+
+Examples:
+  scard build chain 2 0 00A4040000
+  scard build fill 9F02069A03 n:9F02:1000 n:9A:260101",
+};
+
+/// The page of `replay`.
+pub(crate) const REPLAY: Page<'static> = Page {
+    about: "Replay the recorded exchange on standard input at one end",
+    usage: "scard replay --end <END>",
+    after: "Exit status:
+  0  ok N lines: the end does all that the file says
+  1  line N: engine gives TEXT: it does otherwise there
+  2  a fault of the file, as fault: Header or fault: line 3: Word
+
+Examples:
+  scard replay --end card <examples/damaged_and_lost.exchange
+  scard simulate 3B808131204555 00A4040000:9000 --lose 2 | scard replay --end terminal",
+};
+
+/// The page of `migrate`.
+pub(crate) const MIGRATE: Page<'static> = Page {
+    about: "Write the recorded exchange on standard input in the newest version",
+    usage: "scard migrate",
+    after: "Exit status:
+  0  the file in version 2, with the same lines
+  2  a fault of the file, as fault: Header or fault: line 3: Word
+
+Examples:
+  scard migrate <examples/damaged_and_lost.exchange
+  scard simulate 3B808131204555 00A4040000:9000 | scard migrate",
+};
+
+/// The page of `simulate`.
+pub(crate) const SIMULATE: Page<'static> = Page {
+    about: "Record a session of a terminal and a card, each of whose blocks may be disturbed",
+    usage: "scard simulate <ATR> [COMMAND:REPLY]... [--ifsd <N>] [--lose <LIST>] [--damage <LIST>] [--spoil <LIST>]",
+    after: "LIST is numbers of blocks, parted by commas, from 1 in the order in which both ends send them.
+
+Exit status:
+  0  the file of the exchange, which replays at both ends
+  1  refused: NAME: the answer to reset can't be used
+  2  a fault, as fault: words, fault: hex or fault: TooLarge
+
+Examples:
+  scard simulate 3B808131204555 00A4040000:9000
+  scard simulate 3B808131204555 00A4040000:9000 00B0000000:6A82 --lose 2,5 --damage 3",
+};
