@@ -1,39 +1,26 @@
 //! Sessions call by call, and calls that no clause pins.
 
+mod blocks;
+mod calls;
 mod lent;
 mod limits;
+mod put;
 mod states;
 
 use atr_core::T1Params;
-use block_core::{LONGEST_BLOCK, encode};
+use blocks::{
+    ASK_AGAIN, ASK_AGAIN_DAMAGED, ASK_AGAIN_INVALID, ASK_FOR_2, ASK_FOR_32, ASK_FOR_254, DATA,
+    DATA_FIRST, DATA_REST, DONE, DONE_BLOCK, GO_ON, READ, READ_BLOCK, READ_FIRST, READ_REST,
+    RESYNCH, RESYNCHED, SELECT, SELECT_BLOCK, SELECT_DAMAGED, SIZE_2, SIZE_254, TIMES,
+};
+use calls::{
+    Call, CardCall, CardWanted, Wanted, assert_card_gives, assert_gives, called, card_gives, gives,
+    has_answer, has_command, is_answer, is_command,
+};
 use std::alloc::Global;
 use std::test::Fail;
-use t1_core::{
-    Card, CardFault, CardPut, CardTurn, Terminal, TerminalFault, TerminalPut, TerminalTurn,
-};
+use t1_core::{Card, CardFault, Terminal, TerminalFault, TerminalTurn};
 use testing::same;
-
-const SELECT: [u8; 5] = [0x00, 0xA4, 0x04, 0x00, 0x00];
-
-const READ: [u8; 5] = [0x00, 0xB0, 0x00, 0x00, 0x02];
-
-const DONE: [u8; 2] = [0x90, 0x00];
-
-const DATA: [u8; 4] = [0xAA, 0xBB, 0x90, 0x00];
-
-const SELECT_BLOCK: [u8; 9] = [0x00, 0x00, 0x05, 0x00, 0xA4, 0x04, 0x00, 0x00, 0xA5];
-
-const DONE_BLOCK: [u8; 6] = [0x00, 0x00, 0x02, 0x90, 0x00, 0x92];
-
-const ASK_AGAIN: [u8; 4] = [0x00, 0x80, 0x00, 0x80];
-
-const ASK_AGAIN_DAMAGED: [u8; 4] = [0x00, 0x81, 0x00, 0x81];
-
-const ASK_AGAIN_INVALID: [u8; 4] = [0x00, 0x82, 0x00, 0x82];
-
-const RESYNCH: [u8; 4] = [0x00, 0xC0, 0x00, 0xC0];
-
-const RESYNCHED: [u8; 4] = [0x00, 0xE0, 0x00, 0xE0];
 
 /// The parameters of a card that takes information fields of so many octets.
 fn params(ifsc: u8) -> Result<T1Params, Fail> {
@@ -41,253 +28,367 @@ fn params(ifsc: u8) -> Result<T1Params, Fail> {
 }
 
 fn terminal(alloc: Global) -> Result<Terminal, Fail> {
-    Ok(Terminal::new(alloc, params(32)?)?)
+    terminal_for(alloc, 32)
+}
+
+/// A terminal whose card takes information fields of so many octets.
+fn terminal_for(alloc: Global, ifsc: u8) -> Result<Terminal, Fail> {
+    Ok(Terminal::new(alloc, params(ifsc)?)?)
 }
 
 fn card(alloc: Global) -> Result<Card, Fail> {
     Ok(Card::new(alloc, params(32)?)?)
 }
 
-/// Whether the terminal sends these octets.
-fn sends(turn: Result<TerminalTurn, TerminalFault>, octets: &[u8]) -> bool {
-    match turn {
-        Ok(TerminalTurn::Send(block)) => encode(&block).as_slice() == octets,
-        _ => false,
-    }
-}
-
-/// Whether the card sends these octets.
-fn gives(turn: Result<CardTurn, CardFault>, octets: &[u8]) -> bool {
-    match turn {
-        Ok(CardTurn::Send(block)) => encode(&block).as_slice() == octets,
-        _ => false,
-    }
-}
-
-fn is_answer(terminal: &Terminal, octets: &[u8]) -> bool {
-    terminal.answer().is_some_and(|answer| answer == octets)
-}
-
-fn is_command(card: &Card, octets: &[u8]) -> bool {
-    card.command().is_some_and(|command| command == octets)
-}
-
 /// A terminal that sent a command of one block.
 fn in_answer(alloc: Global) -> Result<Terminal, Fail> {
     let mut terminal = terminal(alloc)?;
-    sends(terminal.transmit(&SELECT), &SELECT_BLOCK)
-        .then_some(())
-        .ok_or("another block was sent")?;
+    gives(
+        &mut terminal,
+        Call::Transmit(&SELECT),
+        Wanted::Block(&SELECT_BLOCK),
+    )
+    .then_some(())
+    .ok_or("another block was sent")?;
     Ok(terminal)
+}
+
+/// A card whose host owes the reply to a command of one block.
+fn in_reply(alloc: Global) -> Result<Card, Fail> {
+    let mut card = card(alloc)?;
+    card_gives(
+        &mut card,
+        CardCall::Received(&SELECT_BLOCK),
+        CardWanted::Asked,
+    )
+    .then_some(())
+    .ok_or("the host is not asked")?;
+    Ok(card)
 }
 
 #[test]
 fn damaged_and_lost_at_the_terminal(rt: HostRuntime) -> Result<(), Fail> {
+    const ROWS: [(Call, Wanted); 3] = [
+        (
+            Call::Received(&ASK_AGAIN_DAMAGED),
+            Wanted::Block(&SELECT_BLOCK),
+        ),
+        (Call::Quiet, Wanted::Block(&ASK_AGAIN)),
+        (Call::Received(&DONE_BLOCK), Wanted::Answered),
+    ];
     let mut t = in_answer(rt.alloc())?;
-    assert!(rt; t.answer().is_none());
-    assert!(rt; sends(t.received(&ASK_AGAIN_DAMAGED), &SELECT_BLOCK));
-    assert!(rt; sends(t.quiet(), &ASK_AGAIN));
-    assert!(rt; same(t.received(&DONE_BLOCK), Ok(TerminalTurn::Answered)));
+    assert!(rt; !has_answer(&t));
+    assert_gives(&rt, &mut t, &ROWS);
     assert!(rt; is_answer(&t, &DONE));
     Ok(())
 }
 
 #[test]
 fn damaged_and_lost_at_the_card(rt: HostRuntime) -> Result<(), Fail> {
+    const ROWS: [(CardCall, CardWanted); 2] = [
+        (
+            CardCall::Received(&SELECT_DAMAGED),
+            CardWanted::Block(&ASK_AGAIN_DAMAGED),
+        ),
+        (CardCall::Received(&SELECT_BLOCK), CardWanted::Asked),
+    ];
     let mut c = card(rt.alloc())?;
-    let damaged = [0x00, 0x00, 0x05, 0x00, 0xA4, 0x04, 0x00, 0x00, 0xA4];
-    assert!(rt; gives(c.received(&damaged), &ASK_AGAIN_DAMAGED));
-    assert!(rt; same(c.received(&SELECT_BLOCK), Ok(CardTurn::Asked)));
+    assert_card_gives(&rt, &mut c, &ROWS);
     assert!(rt; is_command(&c, &SELECT));
-    assert!(rt; gives(c.reply(&DONE), &DONE_BLOCK));
-    assert!(rt; c.command().is_none());
-    assert!(rt; gives(c.received(&ASK_AGAIN), &DONE_BLOCK));
+    let reply = CardCall::Reply(&DONE);
+    assert!(rt; card_gives(&mut c, reply, CardWanted::Block(&DONE_BLOCK)));
+    assert!(rt; !has_command(&c));
+    let again = CardCall::Received(&ASK_AGAIN);
+    assert!(rt; card_gives(&mut c, again, CardWanted::Block(&DONE_BLOCK)));
     Ok(())
 }
 
 #[test]
 fn every_block_lost(rt: HostRuntime) -> Result<(), Fail> {
+    const ROWS: [(Call, Wanted); 10] = [
+        (Call::Quiet, Wanted::Block(&ASK_AGAIN)),
+        (Call::Quiet, Wanted::Block(&ASK_AGAIN)),
+        (Call::Quiet, Wanted::Block(&ASK_AGAIN)),
+        (Call::Quiet, Wanted::Block(&RESYNCH)),
+        (Call::Quiet, Wanted::Block(&RESYNCH)),
+        (Call::Quiet, Wanted::Block(&RESYNCH)),
+        (Call::Quiet, Wanted::Dead),
+        (
+            Call::Transmit(&SELECT),
+            Wanted::Refused(TerminalFault::Dead),
+        ),
+        (Call::AskIfs(0), Wanted::Refused(TerminalFault::Dead)),
+        (Call::Quiet, Wanted::Refused(TerminalFault::Dead)),
+    ];
     let mut t = in_answer(rt.alloc())?;
-    for _ in 0..3u8 {
-        assert!(rt; sends(t.quiet(), &ASK_AGAIN));
-    }
-    for _ in 0..3u8 {
-        assert!(rt; sends(t.quiet(), &RESYNCH));
-    }
-    assert!(rt; same(t.quiet(), Ok(TerminalTurn::Dead)));
-    assert!(rt; same(t.transmit(&SELECT), Err(TerminalFault::Dead)));
-    assert!(rt; same(t.ask_ifs(0), Err(TerminalFault::Dead)));
-    assert!(rt; same(t.quiet(), Err(TerminalFault::Dead)));
+    assert_gives(&rt, &mut t, &ROWS);
     Ok(())
 }
 
+/// What a terminal gives that hears nothing of the answer, and then that the card was resynchronized.
+const GIVEN_UP: [(Call<'static>, Wanted<'static>); 5] = [
+    (Call::Quiet, Wanted::Block(&ASK_AGAIN)),
+    (Call::Quiet, Wanted::Block(&ASK_AGAIN)),
+    (Call::Quiet, Wanted::Block(&ASK_AGAIN)),
+    (Call::Quiet, Wanted::Block(&RESYNCH)),
+    (Call::Received(&RESYNCHED), Wanted::GivenUp),
+];
+
 #[test]
 fn resynchronized(rt: HostRuntime) -> Result<(), Fail> {
+    const AT_CARD: [(CardCall, CardWanted); 2] = [
+        (CardCall::Received(&RESYNCH), CardWanted::Block(&RESYNCHED)),
+        (CardCall::Received(&SELECT_BLOCK), CardWanted::Asked),
+    ];
     let mut t = in_answer(rt.alloc())?;
-    for _ in 0..3u8 {
-        assert!(rt; sends(t.quiet(), &ASK_AGAIN));
-    }
-    assert!(rt; sends(t.quiet(), &RESYNCH));
+    assert_gives(&rt, &mut t, &GIVEN_UP);
+    assert!(rt; !has_answer(&t));
+    assert!(rt;
+        gives(
+            &mut t,
+            Call::Transmit(&SELECT),
+            Wanted::Block(&SELECT_BLOCK)
+        )
+    );
     let mut c = card(rt.alloc())?;
-    assert!(rt; gives(c.received(&RESYNCH), &RESYNCHED));
-    assert!(rt; same(t.received(&RESYNCHED), Ok(TerminalTurn::GivenUp)));
-    assert!(rt; t.answer().is_none());
-    assert!(rt; sends(t.transmit(&SELECT), &SELECT_BLOCK));
-    assert!(rt; same(c.received(&SELECT_BLOCK), Ok(CardTurn::Asked)));
+    assert_card_gives(&rt, &mut c, &AT_CARD);
     Ok(())
 }
 
 #[test]
 fn acted_on_and_given_up(rt: HostRuntime) -> Result<(), Fail> {
+    const AT_CARD: [(CardCall, CardWanted); 7] = [
+        (CardCall::Received(&SELECT_BLOCK), CardWanted::Asked),
+        (CardCall::Reply(&DONE), CardWanted::Block(&DONE_BLOCK)),
+        (
+            CardCall::Received(&ASK_AGAIN),
+            CardWanted::Block(&DONE_BLOCK),
+        ),
+        (
+            CardCall::Received(&ASK_AGAIN),
+            CardWanted::Block(&DONE_BLOCK),
+        ),
+        (
+            CardCall::Received(&ASK_AGAIN),
+            CardWanted::Block(&DONE_BLOCK),
+        ),
+        (CardCall::Received(&RESYNCH), CardWanted::Block(&RESYNCHED)),
+        (CardCall::Received(&SELECT_BLOCK), CardWanted::Asked),
+    ];
     let mut t = in_answer(rt.alloc())?;
+    assert_gives(&rt, &mut t, &GIVEN_UP);
+    assert!(rt;
+        gives(
+            &mut t,
+            Call::Transmit(&SELECT),
+            Wanted::Block(&SELECT_BLOCK)
+        )
+    );
     let mut c = card(rt.alloc())?;
-    assert!(rt; same(c.received(&SELECT_BLOCK), Ok(CardTurn::Asked)));
-    assert!(rt; gives(c.reply(&DONE), &DONE_BLOCK));
-    for _ in 0..3u8 {
-        assert!(rt; sends(t.quiet(), &ASK_AGAIN));
-        assert!(rt; gives(c.received(&ASK_AGAIN), &DONE_BLOCK));
-    }
-    assert!(rt; sends(t.quiet(), &RESYNCH));
-    assert!(rt; gives(c.received(&RESYNCH), &RESYNCHED));
-    assert!(rt; same(t.received(&RESYNCHED), Ok(TerminalTurn::GivenUp)));
-    assert!(rt; sends(t.transmit(&SELECT), &SELECT_BLOCK));
-    assert!(rt; same(c.received(&SELECT_BLOCK), Ok(CardTurn::Asked)));
+    assert_card_gives(&rt, &mut c, &AT_CARD);
     assert!(rt; is_command(&c, &SELECT));
     Ok(())
 }
 
+/// Whether a terminal grants a request for more time, and takes the answer after it.
+fn grants(alloc: Global, request: &[u8], response: &[u8]) -> Result<bool, Fail> {
+    let mut t = in_answer(alloc)?;
+    Ok(
+        gives(&mut t, Call::Received(request), Wanted::Block(response))
+            && gives(&mut t, Call::Received(&DONE_BLOCK), Wanted::Answered),
+    )
+}
+
+/// Whether a card asks for more time, keeps its command, and goes on once it was granted.
+fn asks(alloc: Global, multiple: u8, request: &[u8], response: &[u8]) -> Result<bool, Fail> {
+    let mut c = in_reply(alloc)?;
+    Ok(
+        card_gives(
+            &mut c,
+            CardCall::MoreTime(multiple),
+            CardWanted::Block(request),
+        ) && is_command(&c, &SELECT)
+            && card_gives(&mut c, CardCall::Received(response), CardWanted::Asked)
+            && card_gives(
+                &mut c,
+                CardCall::Reply(&DONE),
+                CardWanted::Block(&DONE_BLOCK),
+            ),
+    )
+}
+
 #[test]
 fn more_time(rt: HostRuntime) -> Result<(), Fail> {
-    for multiple in [0x00u8, 0x01, 0xFF] {
-        let mut t = in_answer(rt.alloc())?;
-        let mut c = card(rt.alloc())?;
-        assert!(rt; same(c.received(&SELECT_BLOCK), Ok(CardTurn::Asked)));
-        let request = [0x00, 0xC3, 0x01, multiple, 0xC2 ^ multiple];
-        let response = [0x00, 0xE3, 0x01, multiple, 0xE2 ^ multiple];
-        assert!(rt; gives(c.more_time(multiple), &request));
-        assert!(rt; is_command(&c, &SELECT));
-        assert!(rt; sends(t.received(&request), &response));
-        assert!(rt; same(c.received(&response), Ok(CardTurn::Asked)));
-        assert!(rt; gives(c.reply(&DONE), &DONE_BLOCK));
-        assert!(rt; same(t.received(&DONE_BLOCK), Ok(TerminalTurn::Answered)));
+    for (multiple, request, response, _) in &TIMES {
+        assert!(rt;
+            asks(rt.alloc(), *multiple, request, response)?,
+            "{multiple}"
+        );
+        assert!(rt; grants(rt.alloc(), request, response)?, "{multiple}");
     }
     Ok(())
 }
 
+/// How many times the waiting time the terminal waits after a call.
+fn waiting(t: &mut Terminal, call: Call<'_>) -> Result<u8, TerminalFault> {
+    match called(t, call) {
+        Ok(turn) => Ok(turn.waiting()),
+        Err(fault) => Err(fault),
+    }
+}
+
 #[test]
 fn how_long_is_waited(rt: HostRuntime) -> Result<(), Fail> {
-    for (multiple, times) in [(0x00u8, 1), (0x01, 1), (0xFF, 255)] {
+    for (_, request, _, times) in &TIMES {
         let mut t = in_answer(rt.alloc())?;
-        let request = [0x00, 0xC3, 0x01, multiple, 0xC2 ^ multiple];
-        assert!(rt; same(t.received(&request).map(|turn| turn.waiting()), Ok(times)));
-        assert!(rt; same(t.quiet().map(|turn| turn.waiting()), Ok(1)));
-        assert!(rt; same(t.received(&DONE_BLOCK).map(|turn| turn.waiting()), Ok(1)));
+        assert!(rt; same(waiting(&mut t, Call::Received(request)), Ok(*times)));
+        assert!(rt; same(waiting(&mut t, Call::Quiet), Ok(1)));
+        assert!(rt; same(waiting(&mut t, Call::Received(&DONE_BLOCK)), Ok(1)));
     }
     Ok(())
 }
 
 #[test]
 fn a_size_and_a_chained_answer(rt: HostRuntime) -> Result<(), Fail> {
+    const AT_TERMINAL: [(Call, Wanted); 5] = [
+        (Call::AskIfs(2), Wanted::Block(&ASK_FOR_2)),
+        (Call::Received(&SIZE_2), Wanted::IfsSet),
+        (Call::Transmit(&READ), Wanted::Block(&READ_BLOCK)),
+        (Call::Received(&DATA_FIRST), Wanted::Block(&GO_ON)),
+        (Call::Received(&DATA_REST), Wanted::Answered),
+    ];
+    const AT_CARD: [(CardCall, CardWanted); 4] = [
+        (CardCall::Received(&ASK_FOR_2), CardWanted::Block(&SIZE_2)),
+        (CardCall::Received(&READ_BLOCK), CardWanted::Asked),
+        (CardCall::Reply(&DATA), CardWanted::Block(&DATA_FIRST)),
+        (CardCall::Received(&GO_ON), CardWanted::Block(&DATA_REST)),
+    ];
     let mut t = terminal(rt.alloc())?;
-    let mut c = card(rt.alloc())?;
-    let question = [0x00, 0xC1, 0x01, 0x02, 0xC2];
-    let taken = [0x00, 0xE1, 0x01, 0x02, 0xE2];
-    assert!(rt; sends(t.ask_ifs(2), &question));
-    assert!(rt; gives(c.received(&question), &taken));
-    assert!(rt; same(t.received(&taken), Ok(TerminalTurn::IfsSet)));
-    let command = [0x00, 0x00, 0x05, 0x00, 0xB0, 0x00, 0x00, 0x02, 0xB7];
-    assert!(rt; sends(t.transmit(&READ), &command));
-    assert!(rt; same(c.received(&command), Ok(CardTurn::Asked)));
-    let first = [0x00, 0x20, 0x02, 0xAA, 0xBB, 0x33];
-    let next = [0x00, 0x90, 0x00, 0x90];
-    let last = [0x00, 0x40, 0x02, 0x90, 0x00, 0xD2];
-    assert!(rt; gives(c.reply(&DATA), &first));
-    assert!(rt; sends(t.received(&first), &next));
-    assert!(rt; gives(c.received(&next), &last));
-    assert!(rt; same(t.received(&last), Ok(TerminalTurn::Answered)));
+    assert_gives(&rt, &mut t, &AT_TERMINAL);
     assert!(rt; is_answer(&t, &DATA));
+    let mut c = card(rt.alloc())?;
+    assert_card_gives(&rt, &mut c, &AT_CARD);
     Ok(())
 }
 
 #[test]
 fn calls_that_are_refused(rt: HostRuntime) -> Result<(), Fail> {
+    const AT_TERMINAL: [(Call, Wanted); 7] = [
+        (
+            Call::Received(&DONE_BLOCK),
+            Wanted::Refused(TerminalFault::Idle),
+        ),
+        (Call::Quiet, Wanted::Refused(TerminalFault::Idle)),
+        (Call::AskIfs(0), Wanted::Refused(TerminalFault::Reserved)),
+        (Call::AskIfs(255), Wanted::Refused(TerminalFault::Reserved)),
+        (Call::Transmit(&SELECT), Wanted::Block(&SELECT_BLOCK)),
+        (
+            Call::Transmit(&SELECT),
+            Wanted::Refused(TerminalFault::Busy),
+        ),
+        (Call::AskIfs(0), Wanted::Refused(TerminalFault::Busy)),
+    ];
+    const AT_CARD: [(CardCall, CardWanted); 6] = [
+        (
+            CardCall::Reply(&DONE),
+            CardWanted::Refused(CardFault::Order),
+        ),
+        (CardCall::MoreTime(1), CardWanted::Refused(CardFault::Order)),
+        (CardCall::Received(&SELECT_BLOCK), CardWanted::Asked),
+        (
+            CardCall::Received(&SELECT_BLOCK),
+            CardWanted::Refused(CardFault::Order),
+        ),
+        (
+            CardCall::AskIfs(0),
+            CardWanted::Refused(CardFault::Reserved),
+        ),
+        (
+            CardCall::AskIfs(255),
+            CardWanted::Refused(CardFault::Reserved),
+        ),
+    ];
     let mut t = terminal(rt.alloc())?;
-    assert!(rt; same(t.received(&DONE_BLOCK), Err(TerminalFault::Idle)));
-    assert!(rt; same(t.quiet(), Err(TerminalFault::Idle)));
-    assert!(rt; same(t.ask_ifs(0), Err(TerminalFault::Reserved)));
-    assert!(rt; same(t.ask_ifs(255), Err(TerminalFault::Reserved)));
-    assert!(rt; sends(t.transmit(&SELECT), &SELECT_BLOCK));
-    assert!(rt; same(t.transmit(&SELECT), Err(TerminalFault::Busy)));
-    assert!(rt; same(t.ask_ifs(0), Err(TerminalFault::Busy)));
+    assert_gives(&rt, &mut t, &AT_TERMINAL);
     let mut c = card(rt.alloc())?;
-    assert!(rt; same(c.reply(&DONE), Err(CardFault::Order)));
-    assert!(rt; same(c.more_time(1), Err(CardFault::Order)));
-    assert!(rt; same(c.received(&SELECT_BLOCK), Ok(CardTurn::Asked)));
-    assert!(rt; same(c.received(&SELECT_BLOCK), Err(CardFault::Order)));
-    assert!(rt; same(c.ask_ifs(0), Err(CardFault::Reserved)));
-    assert!(rt; same(c.ask_ifs(255), Err(CardFault::Reserved)));
+    assert_card_gives(&rt, &mut c, &AT_CARD);
     Ok(())
+}
+
+/// Whether a terminal sends these octets in one block.
+fn sends_whole(t: &mut Terminal, command: &[u8]) -> bool {
+    matches!(called(t, Call::Transmit(command)), Ok(TerminalTurn::Send(block)) if block.inf() == command)
 }
 
 #[test]
 fn the_card_asks_for_254(rt: HostRuntime) -> Result<(), Fail> {
-    let mut t = in_answer(rt.alloc())?;
-    let mut c = card(rt.alloc())?;
-    assert!(rt; same(c.received(&SELECT_BLOCK), Ok(CardTurn::Asked)));
-    let question = [0x00, 0xC1, 0x01, 0xFE, 0x3E];
-    let taken = [0x00, 0xE1, 0x01, 0xFE, 0x1E];
-    assert!(rt; gives(c.ask_ifs(254), &question));
-    assert!(rt; same(c.reply(&DONE), Err(CardFault::Order)));
+    const LONG: [u8; 254] = [0x5A; 254];
+    const AT_TERMINAL: [(Call, Wanted); 2] = [
+        (Call::Received(&ASK_FOR_254), Wanted::Block(&SIZE_254)),
+        (Call::Received(&DONE_BLOCK), Wanted::Answered),
+    ];
+    const AT_CARD: [(CardCall, CardWanted); 2] = [
+        (CardCall::AskIfs(254), CardWanted::Block(&ASK_FOR_254)),
+        (
+            CardCall::Reply(&DONE),
+            CardWanted::Refused(CardFault::Order),
+        ),
+    ];
+    const TAKEN: [(CardCall, CardWanted); 2] = [
+        (CardCall::Received(&SIZE_254), CardWanted::Asked),
+        (CardCall::Reply(&DONE), CardWanted::Block(&DONE_BLOCK)),
+    ];
+    let mut c = in_reply(rt.alloc())?;
+    assert_card_gives(&rt, &mut c, &AT_CARD);
     assert!(rt; is_command(&c, &SELECT));
-    assert!(rt; sends(t.received(&question), &taken));
-    assert!(rt; same(c.received(&taken), Ok(CardTurn::Asked)));
-    assert!(rt; gives(c.reply(&DONE), &DONE_BLOCK));
-    assert!(rt; same(t.received(&DONE_BLOCK), Ok(TerminalTurn::Answered)));
-    let long = [0x5A; 254];
-    let turn = t.transmit(&long);
-    assert!(rt; matches!(turn, Ok(TerminalTurn::Send(block)) if block.inf() == long.as_slice()));
+    assert_card_gives(&rt, &mut c, &TAKEN);
+    let mut t = in_answer(rt.alloc())?;
+    assert_gives(&rt, &mut t, &AT_TERMINAL);
+    assert!(rt; sends_whole(&mut t, &LONG));
     Ok(())
 }
 
 #[test]
 fn what_is_no_answer(rt: HostRuntime) -> Result<(), Fail> {
-    let another_node = [0x01, 0x00, 0x02, 0x90, 0x00, 0x93];
-    let left_over = [0x00, 0x00, 0x02, 0x90, 0x00, 0x92, 0x00];
-    let damaged = [0x00, 0x00, 0x02, 0x90, 0x00, 0x93];
-    let abort = [0x00, 0xC2, 0x00, 0xC2];
-    assert!(rt;
-        sends(
-            in_answer(rt.alloc())?.received(&another_node),
-            &ASK_AGAIN_INVALID
-        )
-    );
-    assert!(rt;
-        sends(
-            in_answer(rt.alloc())?.received(&left_over),
-            &ASK_AGAIN_INVALID
-        )
-    );
-    assert!(rt;
-        sends(
-            in_answer(rt.alloc())?.received(&damaged),
-            &ASK_AGAIN_DAMAGED
-        )
-    );
-    assert!(rt; sends(in_answer(rt.alloc())?.received(&abort), &ASK_AGAIN_INVALID));
+    // From another node, with an octet left over, damaged, and a request for ABORT.
+    const ROWS: [(Call, Wanted); 4] = [
+        (
+            Call::Received(&[0x01, 0x00, 0x02, 0x90, 0x00, 0x93]),
+            Wanted::Block(&ASK_AGAIN_INVALID),
+        ),
+        (
+            Call::Received(&[0x00, 0x00, 0x02, 0x90, 0x00, 0x92, 0x00]),
+            Wanted::Block(&ASK_AGAIN_INVALID),
+        ),
+        (
+            Call::Received(&[0x00, 0x00, 0x02, 0x90, 0x00, 0x93]),
+            Wanted::Block(&ASK_AGAIN_DAMAGED),
+        ),
+        (
+            Call::Received(&[0x00, 0xC2, 0x00, 0xC2]),
+            Wanted::Block(&ASK_AGAIN_INVALID),
+        ),
+    ];
+    for (call, wanted) in ROWS {
+        let mut t = in_answer(rt.alloc())?;
+        assert!(rt; gives(&mut t, call, wanted));
+    }
     Ok(())
 }
 
 #[test]
 fn an_answer_outlives_a_question_given_up(rt: HostRuntime) -> Result<(), Fail> {
+    const ROWS: [(Call, Wanted); 7] = [
+        (Call::Received(&DONE_BLOCK), Wanted::Answered),
+        (Call::AskIfs(32), Wanted::Block(&ASK_FOR_32)),
+        (Call::Quiet, Wanted::Block(&ASK_FOR_32)),
+        (Call::Quiet, Wanted::Block(&ASK_FOR_32)),
+        (Call::Quiet, Wanted::Block(&ASK_FOR_32)),
+        (Call::Quiet, Wanted::Block(&RESYNCH)),
+        (Call::Received(&RESYNCHED), Wanted::GivenUp),
+    ];
     let mut t = in_answer(rt.alloc())?;
-    assert!(rt; same(t.received(&DONE_BLOCK), Ok(TerminalTurn::Answered)));
-    let question = [0x00, 0xC1, 0x01, 0x20, 0xE0];
-    assert!(rt; sends(t.ask_ifs(32), &question));
-    for _ in 0..3u8 {
-        assert!(rt; sends(t.quiet(), &question));
-    }
-    assert!(rt; sends(t.quiet(), &RESYNCH));
-    assert!(rt; same(t.received(&RESYNCHED), Ok(TerminalTurn::GivenUp)));
+    assert_gives(&rt, &mut t, &ROWS);
     assert!(rt; is_answer(&t, &DONE));
     Ok(())
 }
@@ -295,103 +396,25 @@ fn an_answer_outlives_a_question_given_up(rt: HostRuntime) -> Result<(), Fail> {
 #[test]
 fn messages_that_are_too_long(rt: HostRuntime) -> Result<(), Fail> {
     let command = vec![in rt.alloc(); 0xA5u8; 65_545]?;
-    let reply = vec![in rt.alloc(); 0x5Au8; 65_539]?;
     let mut t = terminal(rt.alloc())?;
-    assert!(rt; same(t.transmit(&command), Err(TerminalFault::TooLong)));
-    let mut c = card(rt.alloc())?;
-    assert!(rt; same(c.received(&SELECT_BLOCK), Ok(CardTurn::Asked)));
-    assert!(rt; same(c.reply(&reply), Err(CardFault::TooLong)));
+    let transmit = Call::Transmit(command.as_slice());
+    assert!(rt; gives(&mut t, transmit, Wanted::Refused(TerminalFault::TooLong)));
+    let reply = vec![in rt.alloc(); 0x5Au8; 65_539]?;
+    let mut c = in_reply(rt.alloc())?;
+    let reply = CardCall::Reply(reply.as_slice());
+    assert!(rt; card_gives(&mut c, reply, CardWanted::Refused(CardFault::TooLong)));
     Ok(())
 }
 
 #[test]
 fn a_repeated_block_keeps_its_octets(rt: HostRuntime) -> Result<(), Fail> {
-    let mut t = Terminal::new(rt.alloc(), params(2)?)?;
-    let first = [0x00, 0x20, 0x02, 0x00, 0xB0, 0x92];
-    assert!(rt; sends(t.transmit(&READ), &first));
-    let larger = [0x00, 0xC1, 0x01, 0xFE, 0x3E];
-    let taken = [0x00, 0xE1, 0x01, 0xFE, 0x1E];
-    assert!(rt; sends(t.received(&larger), &taken));
-    assert!(rt; sends(t.received(&ASK_AGAIN), &first));
-    let next = [0x00, 0x90, 0x00, 0x90];
-    let rest = [0x00, 0x40, 0x03, 0x00, 0x00, 0x02, 0x41];
-    assert!(rt; sends(t.received(&next), &rest));
-    Ok(())
-}
-
-/// The octets of a block, in a buffer that had others.
-type Buffer = [u8; LONGEST_BLOCK];
-
-/// What the terminal answers to these octets, or where nothing came.
-fn put(t: &mut Terminal, octets: &[u8], out: &mut Buffer) -> Result<TerminalPut, TerminalFault> {
-    match octets {
-        [] => t.quiet_into(out),
-        _ => t.received_into(octets, out),
-    }
-}
-
-/// Whether the first octets of a buffer are these, and the next is as it was.
-fn holds(buffer: &Buffer, octets: &[u8]) -> bool {
-    buffer.starts_with(octets) && buffer.get(octets.len()) == Some(&0xEE)
-}
-
-fn sent(count: usize, waiting: u8) -> Result<TerminalPut, TerminalFault> {
-    Ok(TerminalPut::Send { count, waiting })
-}
-
-#[test]
-fn blocks_put_by_the_terminal(rt: HostRuntime) -> Result<(), Fail> {
-    let mut t = terminal(rt.alloc())?;
-    let mut out = [0xEE; LONGEST_BLOCK];
-    assert!(rt; same(t.transmit_into(&SELECT, &mut out), sent(9, 1)));
-    assert!(rt; holds(&out, &SELECT_BLOCK));
-    let more_time = [0x00, 0xC3, 0x01, 0x03, 0xC1];
-    assert!(rt; same(put(&mut t, &more_time, &mut out), sent(5, 3)));
-    assert!(rt; same(put(&mut t, &[], &mut out), sent(4, 1)));
-    assert!(rt;
-        same(
-            put(&mut t, &DONE_BLOCK, &mut out),
-            Ok(TerminalPut::Answered)
-        )
-    );
-    assert!(rt; same(put(&mut t, &[], &mut out), Err(TerminalFault::Idle)));
-    Ok(())
-}
-
-#[test]
-fn a_size_put_by_the_terminal(rt: HostRuntime) -> Result<(), Fail> {
-    let mut t = terminal(rt.alloc())?;
-    let mut out = [0xEE; LONGEST_BLOCK];
-    assert!(rt; same(t.ask_ifs_into(254, &mut out), sent(5, 1)));
-    assert!(rt; holds(&out, &[0x00, 0xC1, 0x01, 0xFE, 0x3E]));
-    Ok(())
-}
-
-/// A card whose host owes the reply to a command.
-fn asked(alloc: Global, out: &mut Buffer) -> Result<Card, Fail> {
-    let mut c = card(alloc)?;
-    (c.received_into(&SELECT_BLOCK, out) == Ok(CardPut::Asked))
-        .then_some(())
-        .ok_or("the host is not asked")?;
-    Ok(c)
-}
-
-#[test]
-fn blocks_put_by_the_card(rt: HostRuntime) -> Result<(), Fail> {
-    let mut out = [0xEE; LONGEST_BLOCK];
-    let mut c = asked(rt.alloc(), &mut out)?;
-    assert!(rt; same(out[0], 0xEE));
-    assert!(rt; same(c.reply_into(&DONE, &mut out), Ok(CardPut::Send(6))));
-    assert!(rt; holds(&out, &DONE_BLOCK));
-    Ok(())
-}
-
-#[test]
-fn questions_put_by_the_card(rt: HostRuntime) -> Result<(), Fail> {
-    let mut out = [0xEE; LONGEST_BLOCK];
-    let mut c = asked(rt.alloc(), &mut out)?;
-    assert!(rt; same(c.ask_ifs_into(0, &mut out), Err(CardFault::Reserved)));
-    assert!(rt; same(c.more_time_into(3, &mut out), Ok(CardPut::Send(5))));
-    assert!(rt; holds(&out, &[0x00, 0xC3, 0x01, 0x03, 0xC1]));
+    const ROWS: [(Call, Wanted); 4] = [
+        (Call::Transmit(&READ), Wanted::Block(&READ_FIRST)),
+        (Call::Received(&ASK_FOR_254), Wanted::Block(&SIZE_254)),
+        (Call::Received(&ASK_AGAIN), Wanted::Block(&READ_FIRST)),
+        (Call::Received(&GO_ON), Wanted::Block(&READ_REST)),
+    ];
+    let mut t = terminal_for(rt.alloc(), 2)?;
+    assert_gives(&rt, &mut t, &ROWS);
     Ok(())
 }
