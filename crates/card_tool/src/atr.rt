@@ -11,8 +11,7 @@ ghost use Rattle.card_tool.specs.AtrTexts.{atr_text, byte_text, bytes_text, conv
 use crate::answer::Answer;
 use crate::text::octets_word;
 use atr_core::{
-    Atr, Convention, Indicated, Interface, ParamFault, T1Params, decode, rates,
-    t1_params,
+    Atr, Convention, Indicated, Interface, ParamFault, T1Params, decode, rates, t1_params,
 };
 use octet_core::{Named, hex_upper};
 use std::alloc::{AllocError, Global};

@@ -107,4 +107,3 @@ fn value_word(alloc: Global, part: &Part<'_>) -> Result<String, AllocError>
         octets_word(alloc, part.value)
     }
 }
-

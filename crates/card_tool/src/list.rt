@@ -108,4 +108,3 @@ fn entry_line(alloc: Global, tag: &Tag, length: u8) -> Result<String, AllocError
     let tag = hex_upper(alloc, tag.octets())?;
     format!(in alloc; "{tag} {length}\n")
 }
-
