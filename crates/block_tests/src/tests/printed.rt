@@ -22,6 +22,9 @@ fn reasons_are_named(rt: HostRuntime) {
 
 const FIELD: [u8; 5] = [0x00, 0x20, 0x00, 0x80, 0x12];
 
+/// The first six octets of an I-block with this field.
+const FRONT: [u8; 6] = [0x00, 0x60, 0x05, 0x00, 0x20, 0x00];
+
 #[test]
 fn debug_shows_no_octet(rt: HostRuntime) {
     let alloc = rt.alloc();
@@ -33,7 +36,7 @@ fn debug_shows_no_octet(rt: HostRuntime) {
     assert!(rt; debugs(alloc, &block, seen));
     let octets = encode(&block);
     let mut reader = BlockReader::new(254);
-    assert!(rt; same(reader.feed(&octets.as_slice()[..6]), Ok((6, false))));
+    assert!(rt; same(reader.feed(&FRONT), Ok((6, false))));
     let seen = "BlockReader { ifs: 254, taken: 6, \
         stage: Rest { pcb: Info { number: One, more: true }, end: 8 } }";
     assert!(rt; debugs(alloc, &reader, seen));

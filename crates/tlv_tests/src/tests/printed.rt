@@ -52,22 +52,24 @@ fn faults_are_named(rt: HostRuntime) {
     assert!(rt; shows(rt.alloc(), &FillFault::Memory, "memory"));
 }
 
+/// An object with an object inside.
+const OBJECTS: [u8; 7] = [0x70, 0x05, 0x5A, 0x03, 0x12, 0x34, 0x56];
+
 #[test]
 fn debug_shows_no_octet(rt: HostRuntime) -> Result<(), Fail> {
     let alloc = rt.alloc();
-    let octets = octets_of(alloc, "70055A03123456")?;
     let mut check = ForestCheck::new(LARGEST_FOREST);
-    assert!(rt; same(check.feed(&octets.as_slice()[..5]), Ok(())));
+    assert!(rt; same(check.feed(&OBJECTS[..5]), Ok(())));
     let seen = "ForestCheck { taken: 5, open_objects: 1, value_octets_left: 2, refusal: None }";
     assert!(rt; debugs(alloc, &check, seen));
-    let flat = FlatForest::read(alloc, octets.as_slice(), LARGEST_FOREST)
+    let flat = FlatForest::read(alloc, &OBJECTS, LARGEST_FOREST)
         .ok()
         .ok_or("a forest")?;
     let seen = "Part { depth: 2, tag: Tag { octets: [90, 0, 0], count: 1 }, form: One, place: 4, \
         value_octets: 3 }";
     assert!(rt; debugs(alloc, flat.parts().last().ok_or("a part")?, seen));
     assert!(rt; debugs(alloc, &flat, "FlatForest { parts: 2 }"));
-    let forest = decode(alloc, octets.as_slice(), LARGEST_FOREST)
+    let forest = decode(alloc, &OBJECTS, LARGEST_FOREST)
         .ok()
         .ok_or("a forest")?;
     assert!(rt; debugs(alloc, &forest, "Forest { nodes: Nodes { nodes: 1 } }"));
