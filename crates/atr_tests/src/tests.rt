@@ -1,5 +1,7 @@
 //! Answers to reset with their verdicts and what they say, by the tables of ISO/IEC 7816-3.
 
+mod printed;
+
 use arrayvec::ArrayVec;
 use atr_core::laws::are_equal;
 use atr_core::{

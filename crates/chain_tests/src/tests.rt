@@ -2,6 +2,7 @@
 
 mod faults;
 mod plain;
+mod printed;
 
 use block_core::{Number, encode};
 use chain_core::{ChainReason, ReadRefusal, Receiver, block_at, cut};

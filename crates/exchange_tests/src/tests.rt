@@ -3,6 +3,7 @@
 mod chains;
 mod drawn;
 mod faults;
+mod printed;
 mod recording;
 mod replay;
 mod sessions;

@@ -15,6 +15,7 @@ use std::alloc::Global;
 use std::io::{self, ErrorKind};
 use std::test::Fail;
 use t1_core::{Card, CardFault, CardPut, Terminal, TerminalFault};
+use testing::shows;
 
 const SELECT: [u8; 5] = [0x00, 0xA4, 0x04, 0x00, 0x00];
 
@@ -510,4 +511,17 @@ fn a_reply_that_is_too_long(rt: HostRuntime) -> Result<(), Fail> {
     assert!(rt; line.said == 0 && host.acted == 1);
     assert!(rt; card.reply(&DONE).is_ok());
     Ok(())
+}
+
+#[test]
+fn faults_are_printed(rt: HostRuntime) {
+    let alloc = rt.alloc();
+    let busy = ExchangeFault::Refused(TerminalFault::Busy);
+    assert!(rt; shows(alloc, &busy, "Refused: Busy"));
+    assert!(rt; shows(alloc, &ExchangeFault::GivenUp, "GivenUp"));
+    assert!(rt; shows(alloc, &ExchangeFault::Dead, "Dead"));
+    assert!(rt; shows(alloc, &ExchangeFault::UsedUp, "UsedUp"));
+    let order = ServeFault::Refused(CardFault::Order);
+    assert!(rt; shows(alloc, &order, "Refused: Order"));
+    assert!(rt; shows(alloc, &ServeFault::UsedUp, "UsedUp"));
 }

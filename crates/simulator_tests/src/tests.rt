@@ -7,7 +7,7 @@ use simulator::{SimulationFault, simulate};
 use std::alloc::Global;
 use std::process::Abort;
 use std::test::Fail;
-use testing::same;
+use testing::{same, shows};
 
 /// The answer to reset of a card that takes information fields of 32 octets.
 const ATR: &str = "3B808131204555";
@@ -370,4 +370,17 @@ fn sessions_that_are_too_large(rt: HostRuntime) -> Result<(), Fail> {
     }
     assert!(rt; simulate(rt.alloc(), &session, 5).is_ok());
     Ok(())
+}
+
+const FAULTS: [(SimulationFault, &str); 3] = [
+    (SimulationFault::Refused("NoT1"), "Refused: NoT1"),
+    (SimulationFault::TooLarge, "TooLarge"),
+    (SimulationFault::Memory, "memory"),
+];
+
+#[test]
+fn faults_are_printed(rt: HostRuntime) {
+    for (fault, text) in FAULTS {
+        assert!(rt; shows(rt.alloc(), &fault, text));
+    }
 }

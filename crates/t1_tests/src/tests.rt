@@ -4,6 +4,7 @@ mod blocks;
 mod calls;
 mod lent;
 mod limits;
+mod printed;
 mod put;
 mod states;
 

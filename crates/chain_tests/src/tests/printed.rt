@@ -1,0 +1,73 @@
+//! What is printed of reasons and faults, and of values that may hold a message.
+
+use block_core::Number;
+use chain_core::{ChainReason, ReadRefusal, Receiver, cut};
+use octet_core::{Named, Stop};
+use std::test::Fail;
+use testing::{debugs, same, shows};
+
+const REASONS: [(ChainReason, &str); 9] = [
+    (ChainReason::BadNad, "BadNad"),
+    (ChainReason::BadPcb, "BadPcb"),
+    (ChainReason::NotInfo, "NotInfo"),
+    (ChainReason::BadSequence, "BadSequence"),
+    (ChainReason::TooManyBlocks, "TooManyBlocks"),
+    (ChainReason::BadLen, "BadLen"),
+    (ChainReason::OverIfs, "OverIfs"),
+    (ChainReason::TooLong, "TooLong"),
+    (ChainReason::BadLrc, "BadLrc"),
+];
+
+#[test]
+fn reasons_are_named(rt: HostRuntime) {
+    for (reason, name) in REASONS {
+        assert!(rt; same(reason.name(), name));
+        assert!(rt; shows(rt.alloc(), &reason, name));
+    }
+}
+
+#[test]
+fn refusals_of_a_source_are_printed(rt: HostRuntime) {
+    let alloc = rt.alloc();
+    assert!(rt;
+        shows(
+            alloc,
+            &ReadRefusal::Read { taken: 7 },
+            "Read after 7 octets"
+        )
+    );
+    let stop = Stop::At {
+        place: 3,
+        reason: ChainReason::BadLrc,
+    };
+    assert!(rt; shows(alloc, &ReadRefusal::Stop(stop), "refused at 3: BadLrc"));
+}
+
+const MESSAGE: [u8; 5] = [0x00, 0x20, 0x00, 0x80, 0x12];
+
+#[test]
+fn debug_shows_no_octet(rt: HostRuntime) -> Result<(), Fail> {
+    let alloc = rt.alloc();
+    let blocks = cut(&MESSAGE, 2, Number::Zero);
+    assert!(rt;
+        debugs(
+            alloc,
+            &blocks,
+            "Cut { octets_left: 5, ifs: 2, number: Zero }"
+        )
+    );
+    let mut receiver = Receiver::new(alloc, 2, Number::Zero, 8)?;
+    assert!(rt;
+        same(
+            receiver.feed(&[0x00, 0x20, 0x02, 0x31, 0x32]),
+            Ok((5, false))
+        )
+    );
+    let seen =
+        "Receiver { ifs: 2, first: Zero, max: 8, message_octets: 0, blocks: 0, number: Zero, \
+        reader: BlockReader { ifs: 2, taken: 5, \
+        stage: Rest { pcb: Info { number: Zero, more: true }, end: 5 } }, \
+        part: Rest { more: true, len: 2 }, done: false, refusal: None }";
+    assert!(rt; debugs(alloc, &receiver, seen));
+    Ok(())
+}

@@ -1,0 +1,45 @@
+//! What is printed of reasons and faults, and of values that may hold a message.
+
+use block_core::{Block, Number};
+use octet_core::Named;
+use t1_core::{CardFault, CardTurn, TerminalFault, TerminalTurn};
+use testing::{debugs, same, shows};
+
+const OF_THE_TERMINAL: [(TerminalFault, &str); 5] = [
+    (TerminalFault::Dead, "Dead"),
+    (TerminalFault::Busy, "Busy"),
+    (TerminalFault::TooLong, "TooLong"),
+    (TerminalFault::Reserved, "Reserved"),
+    (TerminalFault::Idle, "Idle"),
+];
+
+const OF_THE_CARD: [(CardFault, &str); 3] = [
+    (CardFault::Order, "Order"),
+    (CardFault::TooLong, "TooLong"),
+    (CardFault::Reserved, "Reserved"),
+];
+
+#[test]
+fn faults_are_named(rt: HostRuntime) {
+    for (fault, name) in OF_THE_TERMINAL {
+        assert!(rt; same(fault.name(), name));
+        assert!(rt; shows(rt.alloc(), &fault, name));
+    }
+    for (fault, name) in OF_THE_CARD {
+        assert!(rt; same(fault.name(), name));
+        assert!(rt; shows(rt.alloc(), &fault, name));
+    }
+}
+
+#[test]
+fn turns_show_no_octet_of_a_message(rt: HostRuntime) {
+    match Block::info(0, Number::Zero, false, &[0x31, 0x32]) {
+        Some(block) => {
+            let seen =
+                "Send(Block { nad: 0, pcb: Info { number: Zero, more: false }, inf_octets: 2 })";
+            assert!(rt; debugs(rt.alloc(), &TerminalTurn::Send(block), seen));
+        }
+        None => assert!(rt; false),
+    }
+    assert!(rt; debugs(rt.alloc(), &CardTurn::Asked, "Asked"));
+}
