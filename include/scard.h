@@ -600,6 +600,46 @@ struct scard_verdict scard_atr_reader_value(struct scard_handle *handle, struct 
 struct scard_verdict scard_block_reader_value(struct scard_handle *handle, struct scard_block *out,
                                               uint8_t *octets, size_t room);
 
+/* ---- a check of a forest in pieces, without an allocator ---- */
+
+/* The state of a check that the caller keeps, 92 octets. Its fields are the library's own: `begin` writes them, and
+ * each piece. It keeps where the open objects end, at most 16, and of the octets that came only those of a header that
+ * isn't whole yet.
+ *
+ * Whatever octets a state has, a call is safe: where they are no state of a check it answers ARGUMENT and changes
+ * nothing. These calls take no memory.
+ */
+struct scard_lent_header {
+    uint8_t kind;
+    uint8_t tag[3];
+    uint8_t tag_count;
+    uint8_t form;
+    uint8_t read;
+    uint32_t number;
+};
+
+struct scard_lent_check {
+    uint32_t max;
+    uint32_t count;
+    uint32_t value_left;
+    struct scard_lent_header header;
+    uint32_t ends[16];
+    uint8_t level;
+    uint8_t refused;
+};
+
+/* Begins a check of a forest of at most `max` octets, itself at most SCARD_TLV_LARGEST, whatever the state was. OK with
+ * place 0, ARGUMENT: then nothing changes.
+ */
+struct scard_verdict scard_lent_check_begin(struct scard_lent_check *state, size_t max);
+
+/* Gives the next octets to a check, and says what there is to say of all that it took, as scard_reader_feed and
+ * scard_reader_finish of a check in a handle. `feed`: MORE, AT, ARGUMENT. `finish`: OK with place 0, SHORT, AT,
+ * ARGUMENT. ARGUMENT (with place 0): the state is none of a check.
+ */
+struct scard_verdict scard_lent_check_feed(struct scard_lent_check *state, const uint8_t *octets, size_t count);
+struct scard_verdict scard_lent_check_finish(const struct scard_lent_check *state);
+
 /* ---- the structs ---- */
 
 /* The structs above, for scard_struct_size. */
@@ -619,7 +659,9 @@ enum scard_struct {
     SCARD_STRUCT_KNOWN = 13,
     SCARD_STRUCT_HANDLE = 14,
     SCARD_STRUCT_LENT_TERMINAL = 15,
-    SCARD_STRUCT_LENT_CARD = 16
+    SCARD_STRUCT_LENT_CARD = 16,
+    SCARD_STRUCT_LENT_HEADER = 17,
+    SCARD_STRUCT_LENT_CHECK = 18
 };
 
 /* How many octets a struct has in the library, to be compared with its sizeof; 0 for any other number. */

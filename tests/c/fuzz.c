@@ -1,5 +1,5 @@
 /* Random and changed octets: what is decoded is encoded again as the same octets, the parts of a forest are where their
- * tags are, and tidying twice is once.
+ * tags are, tidying twice is once, and a check that the caller keeps says of two pieces what is said of the whole.
  */
 #include "check.h"
 
@@ -56,6 +56,20 @@ static int lie(const uint8_t *octets, size_t count, struct scard_verdict checked
     return v.status == SCARD_OK;
 }
 
+/* Two pieces, given to a check that the caller keeps. */
+static int halved(const uint8_t *octets, size_t count, struct scard_verdict checked)
+{
+    struct scard_lent_check check;
+    size_t first = any((uint32_t)count + 1);
+    struct scard_verdict v;
+    scard_lent_check_begin(&check, SCARD_TLV_LARGEST);
+    scard_lent_check_feed(&check, octets, first);
+    scard_lent_check_feed(&check, octets + first, count - first);
+    v = scard_lent_check_finish(&check);
+    return v.status == checked.status && v.reason == checked.reason
+        && (v.status == SCARD_OK || v.place == checked.place);
+}
+
 static int again(const uint8_t *octets, size_t count)
 {
     uint8_t out[8 * MOST];
@@ -88,7 +102,7 @@ static int again(const uint8_t *octets, size_t count)
     }
     v = scard_tlv_check(octets, count, SCARD_TLV_LARGEST);
     good &= v.place <= count && v.status <= SCARD_AT;
-    good &= lie(octets, count, v);
+    good &= lie(octets, count, v) && halved(octets, count, v);
     w = scard_tlv_tidy(octets, count, SCARD_TLV_LARGEST, out, count);
     good &= v.status == w.status && v.reason == w.reason;
     if (w.status == SCARD_OK) {

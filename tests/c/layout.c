@@ -22,8 +22,11 @@ static void sizes(void)
     SIZE(SCARD_STRUCT_HANDLE, scard_handle);
     SIZE(SCARD_STRUCT_LENT_TERMINAL, scard_lent_terminal);
     SIZE(SCARD_STRUCT_LENT_CARD, scard_lent_card);
+    SIZE(SCARD_STRUCT_LENT_HEADER, scard_lent_header);
+    SIZE(SCARD_STRUCT_LENT_CHECK, scard_lent_check);
     CHECK(sizeof(struct scard_lent_terminal) < 128 && sizeof(struct scard_lent_card) < 128);
-    CHECK(scard_struct_size(0) == 0 && scard_struct_size(17) == 0 && scard_struct_size(255) == 0);
+    CHECK(sizeof(struct scard_lent_check) == 92 && sizeof(struct scard_lent_check) < 128);
+    CHECK(scard_struct_size(0) == 0 && scard_struct_size(19) == 0 && scard_struct_size(255) == 0);
 }
 
 static void places(void)
@@ -73,6 +76,15 @@ static void places(void)
     PLACE(scard_lent_card, size, 8);
     PLACE(scard_lent_card, saved_place, 16);
     PLACE(scard_lent_card, reply_len, 56);
+    PLACE(scard_lent_header, tag, 1);
+    PLACE(scard_lent_header, tag_count, 4);
+    PLACE(scard_lent_header, read, 6);
+    PLACE(scard_lent_header, number, 8);
+    PLACE(scard_lent_check, value_left, 8);
+    PLACE(scard_lent_check, header, 12);
+    PLACE(scard_lent_check, ends, 24);
+    PLACE(scard_lent_check, level, 88);
+    PLACE(scard_lent_check, refused, 89);
 }
 
 int main(void)

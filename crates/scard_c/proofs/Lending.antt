@@ -11,6 +11,11 @@ use Rattle.t1_core.specs.CardViews.{card_held}
 use Rattle.scard_c.specs.Verdict.{ok_at, wrong_argument}
 use Rattle.scard_c.specs.Kept.{IsTerminal, IsCard, terminal_of, card_of}
 use Rattle.scard_c.specs.Lent.{IsAtFront}
+use Rattle.scard_c.specs.KeptCheck.{IsCheck, check_of}
+use Rattle.tlv_core.specs.declared.places.CheckPlaces.{CheckPlaces}
+use Rattle.tlv_core.specs.Check.{Checked}
+use Rattle.tlv_core.specs.Places.{checked_at}
+use Rattle.scard_c.specs.declared.kept_check.CCheck.{CCheck}
 use Rattle.scard_c.specs.declared.verdict.Verdict.{Verdict}
 use Rattle.scard_c.specs.declared.kept.CTerminal.{CTerminal}
 use Rattle.scard_c.specs.declared.kept.CCard.{CCard}
@@ -32,6 +37,13 @@ pub card-held-by : (c : CCard) (command reply : List ℕ) (t : CardState) (p : C
     → card_of c ≡ Some p → IsCard c command reply t → t ≡ card_held p command reply
 card-held-by c command reply t p e is =
     is.held ∙ ap (λ (q : CardPlaces). card_held q command reply) (same-card (card_of c) is.places p is.spelled e)
+
+same-check : (spelled : Option CheckPlaces) (p q : CheckPlaces) → spelled ≡ Some p → spelled ≡ Some q → p ≡ q
+same-check spelled p q e f = cc
+
+-- the check that a state is keeps the places that the state spells
+pub check-held-by : (c : CCheck) (k : Checked) (p : CheckPlaces) → check_of c ≡ Some p → IsCheck c k → k ≡ checked_at p
+check-held-by c k p e is = is.held ∙ ap checked_at (same-check (check_of c) is.places p is.spelled e)
 
 -- the first octets of a buffer, as the answer
 pub answer-at-front : (is_answered : Bool) (n : ℕ) (buffer : List ℕ) (lent : Option (Bor (List ℕ))) (v : Verdict)

@@ -15,3 +15,5 @@ pub mod Readers
 pub mod Kept
 pub mod Layout
 pub mod Lent
+pub mod KeptCheck
+pub mod LentCheck

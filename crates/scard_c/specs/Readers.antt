@@ -97,12 +97,15 @@ pub record EndsChain (s : Reception) (v : Verdict) : Type 0 where
   pub finished : IsFinished (IsChain s.ifs s.number s.max) (IsChainReason s.ifs s.number s.max) taken.HasTaken taken.refusal_of s answer
   pub verdict : v ≡ told_end chain_reason answer
 
-pub record EndsForest (s : Checked) (v : Verdict) : Type 0 where
+pub record EndsCheck (s : Checked) (v : Verdict) : Type 0 where
   pub answer : Result (Unit {0}) (Stop TlvReason)
   pub repeats : OnSome s.refusal (answer ≡ answer_of s.refusal)
   pub all : (b : List ℕ) → HasChecked b s → MatchResult answer (λ _. (t : Tree) × IsForest s.kept.max t b) (Refuses whole (IsForest s.kept.max) (IsReason s.kept.max) b)
-  pub some_taken : s.refusal ≡ None → (b : List ℕ) × HasChecked b s
   pub verdict : v ≡ told_end tlv_reason answer
+
+pub record EndsForest (s : Checked) (v : Verdict) : Type 0 where
+  pub ends : EndsCheck s v
+  pub some_taken : s.refusal ≡ None → (b : List ℕ) × HasChecked b s
 
 abbrev pub ReaderEnds : Reader → Verdict → Type 0
 ReaderEnds (Atr s) v = EndsAtr s v

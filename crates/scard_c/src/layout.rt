@@ -9,6 +9,7 @@ use crate::block::CBlock;
 use crate::filling::CKnown;
 use crate::handle::Handle;
 use crate::kept::{CCard, CTerminal};
+use crate::kept_check::{CCheck, CHeader};
 use crate::parts::{CPart, CTag};
 use crate::turn::CTurn;
 use crate::verdict::Verdict;
@@ -36,6 +37,8 @@ pub extern "C" fn scard_struct_size(number: u8) -> usize
         14 => size_of::<Handle>(),
         15 => size_of::<CTerminal>(),
         16 => size_of::<CCard>(),
+        17 => size_of::<CHeader>(),
+        18 => size_of::<CCheck>(),
         _ => 0,
     }
 }

@@ -59,7 +59,7 @@ impl Reader {
 }
 
 /// What a check of a forest answered to a piece of this length.
-fn checked(answer: Result<(), Stop<TlvReason>>, count: usize) -> Verdict
+pub(crate) fn checked(answer: Result<(), Stop<TlvReason>>, count: usize) -> Verdict
     ensures { result ≡ told_checked count answer }
 {
     match answer {

@@ -19,6 +19,14 @@ pub pow256 : (k : ℕ) → 0 < 256 ^ k
 pow256 zero = omega arith
 pow256 (suc k) = omega (arith, pow256 k, pow_suc k)
 
+-- what at most three octets say
+pub power-of-few : (k : ℕ) → k < 4 → 256 ^ k < 4294967296
+power-of-few zero lt = omega arith
+power-of-few (suc zero) lt = omega arith
+power-of-few (suc (suc zero)) lt = omega arith
+power-of-few (suc (suc (suc zero))) lt = omega arith
+power-of-few (suc (suc (suc (suc k)))) lt = absurd (omega arith)
+
 pub length-high_first : (k n : ℕ) → length (high_first k n) ≡ k
 length-high_first zero n = refl
 length-high_first (suc k) n = ap suc (length-high_first k (n % 256 ^ k))

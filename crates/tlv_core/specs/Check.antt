@@ -20,3 +20,8 @@ pub record HasChecked (b : List ℕ) (k : Checked) : Type 0 where
 abbrev pub answer_of : Option Refusal → Result (Unit {0}) (Stop TlvReason)
 answer_of None = Ok tt
 answer_of (Some r) = Err (At r.place r.reason)
+
+-- the refusal of the octet at this place, if any
+abbrev pub refusal_at : ℕ → Option TlvReason → Option Refusal
+refusal_at count None = None
+refusal_at count (Some reason) = Some (record { place = count; reason = reason })

@@ -18,6 +18,8 @@ pub mod Header
 pub mod Open
 pub mod Progress
 pub mod Check
+pub mod Checking
+pub mod Places
 pub mod Own
 pub mod Fill
 pub mod Grown

@@ -6,8 +6,9 @@ ghost use Rattle.tlv_core.specs.Tree.{Tree};
 ghost use Rattle.tlv_core.specs.Forest.{IsForest};
 ghost use Rattle.tlv_core.specs.Reasons.{IsReason};
 
+use crate::checking::Checking;
 use crate::progress::Progress;
-use crate::reason::{Refusal, TlvReason};
+use crate::reason::TlvReason;
 use octet_core::Stop;
 use std::fmt::{self, Debug, Formatter, Write};
 use std::marker::Model;
@@ -18,22 +19,22 @@ use std::marker::Model;
 /// Contracts see what the octets so far leave open, and the refusal that stands.
 #[derive(Drop)]
 pub struct ForestCheck {
-    progress: Progress,
-    refusal: Option<Refusal>,
+    checking: Checking,
 }
 
 impl Model for ForestCheck {
     ghost use Rattle.std.specs.Prelude.{ℕ, List};
     ghost use Rattle.tlv_core.specs.Check.{Checked};
+    ghost use Rattle.tlv_core.specs.Checking.{checked_of};
     ghost use Rattle.tlv_core.specs.Progress.{kept_of};
 
     ghost Value = { Checked };
 
     ghost use Rattle.tlv_core.specs.Reasons.{HasTaken};
 
-    ghost view = { λ check. record { kept = kept_of check.progress; refusal = check.refusal } };
+    ghost view = { λ check. checked_of check.checking };
 
-    ghost invariant = { λ check. (b : List ℕ) × HasTaken b (kept_of check.progress) };
+    ghost invariant = { λ check. (b : List ℕ) × HasTaken b (kept_of check.checking.progress) };
 }
 
 impl ForestCheck {
@@ -46,8 +47,10 @@ impl ForestCheck {
         ensures nothing { (b : List ℕ) → HasChecked b result ↔ (b ≡ []) }
     {
         ForestCheck {
-            progress: Progress::new(max),
-            refusal: None,
+            checking: Checking {
+                progress: Progress::new(max),
+                refused: None,
+            },
         }
     }
 
@@ -62,21 +65,7 @@ impl ForestCheck {
         ensures refused { (b : List ℕ) → HasChecked b self.old →
             IfErr result (RefusesAt whole (IsForest self.old.kept.max) (IsReason self.old.kept.max) (b ++ piece.now)) }
     {
-        if let Some(refusal) = self.refusal {
-            return Err(refusal.stop());
-        }
-        let mut taken = 0;
-        while taken < piece.len() {
-            match self.progress.advance(&piece[taken..]) {
-                Ok(count) => taken += count,
-                Err(reason) => {
-                    let refusal = self.progress.refusal(reason);
-                    self.refusal = Some(refusal);
-                    return Err(refusal.stop());
-                }
-            }
-        }
-        Ok(())
+        self.checking.feed(piece)
     }
 
     /// The verdict on all pieces fed: `Ok` where they are a forest, `Short` at their end where one goes
@@ -88,15 +77,7 @@ impl ForestCheck {
         // so what is said of every list that it may have taken is said of some
         ensures some_taken { self.now.refusal ≡ None → (b : List ℕ) × HasChecked b self.now }
     {
-        if let Some(refusal) = self.refusal {
-            return Err(refusal.stop());
-        }
-        if self.progress.is_idle() {
-            return Ok(());
-        }
-        Err(Stop::Short {
-            place: self.progress.count(),
-        })
+        self.checking.finish()
     }
 
     /// How many octets were taken; where one was refused, those before it.
@@ -105,7 +86,7 @@ impl ForestCheck {
         ensures octets { (b : List ℕ) → HasChecked b self.now → result ≡ length b }
         ensures most { result ≤ self.now.kept.max }
     {
-        self.progress.count()
+        self.checking.progress.count()
     }
 }
 
@@ -113,10 +94,10 @@ impl ForestCheck {
 impl Debug for ForestCheck {
     fn fmt<W: Write>(&self, f: &mut Formatter<W>) -> fmt::Result {
         f.debug_struct("ForestCheck")
-            .field("taken", &self.progress.count())
-            .field("open_objects", &self.progress.level())
-            .field("value_octets_left", &self.progress.value_left())
-            .field("refusal", &self.refusal)
+            .field("taken", &self.checking.progress.count())
+            .field("open_objects", &self.checking.progress.level())
+            .field("value_octets_left", &self.checking.progress.value_left())
+            .field("refusal", &self.checking.refusal())
             .finish()
     }
 }

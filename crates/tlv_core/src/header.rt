@@ -1,6 +1,6 @@
 //! The header of an object, tag and length field, taken octet by octet.
 
-ghost use Rattle.std.specs.Prelude.{◌≡◌, ◌+◌, ◌*◌, ◌^◌, ◌<◌, ◌≤◌, [], ◌∷◌, ◌↔◌, IsTrue, IfOk, IfErr, MatchOption, ◌%◌};
+ghost use Rattle.std.specs.Prelude.{◌≡◌, ◌+◌, ◌*◌, ◌^◌, ◌<◌, ◌≤◌, [], ◌∷◌, ◌↔◌, IsTrue, true, IfOk, IfErr, MatchOption, ◌%◌};
 ghost use Rattle.octet_core.specs.Grammar.{IsFirst};
 ghost use Rattle.tlv_core.specs.Tag.{IsTag, IsLong};
 ghost use Rattle.tlv_core.specs.Form.{further};
@@ -9,11 +9,11 @@ ghost use Rattle.tlv_core.specs.Header.{header_octets, IsWell, IsTagPart, IsNext
 
 use crate::form::Form;
 use crate::reason::TlvReason;
-use crate::tag::{Tag, is_long};
+use crate::tag::{Tag, is_long, is_tag};
 
 /// The octets of a header so far.
 #[derive(Clone, Copy, Debug)]
-pub(crate) enum Header {
+pub enum Header {
     /// None.
     Nothing,
     /// A first tag octet that a second one follows.
@@ -53,6 +53,25 @@ pub(crate) struct ObjectHeader {
 }
 
 impl Header {
+    /// Whether they are a part of a header, of the kind that is said.
+    pub(crate) fn is_well(&self) -> bool
+        ensures yes { result ≡ true → IsWell self.now }
+        ensures no { IsWell self.now → result ≡ true }
+    {
+        match self {
+            Header::Nothing => true,
+            Header::First(first) => is_long(*first),
+            Header::Second(first, second) => is_long(*first) && *second > 0x80,
+            Header::Tagged(tag) => is_tag(tag.octets()),
+            Header::Sized {
+                tag,
+                form,
+                read,
+                number,
+            } => is_tag(tag.octets()) && is_part(*form, *read, *number),
+        }
+    }
+
     /// Whether no octet of a header is under way.
     pub(crate) fn is_nothing(&self) -> bool
         requires { IsWell self.now }
@@ -269,4 +288,16 @@ fn least_length(left: u8, number: u32) -> usize
     ensures { result ≡ left + number * 256 ^ left }
 {
     usize::from(left) + number as usize * 0x100_usize.pow(u32::from(left))
+}
+
+/// Whether a length field of this form goes on after `read` of its octets after the first, and these can say
+/// `number`.
+fn is_part(form: Form, read: u8, number: u32) -> bool
+    ensures yes { result ≡ true → (read < further form) × (number < 256 ^ read) }
+    ensures no { (read < further form) × (number < 256 ^ read) → result ≡ true }
+{
+    if read >= form.further() {
+        return false;
+    }
+    number < 0x100_u32.pow(u32::from(read))
 }

@@ -7,19 +7,21 @@
 #![tactic(auto)]
 
 pub mod check;
+mod checking;
 pub mod decoder;
 pub mod dol;
 pub mod filling;
 pub mod flat;
 pub mod forest;
 pub mod form;
-mod header;
+pub mod header;
 pub mod known;
 pub mod laws;
 pub mod node;
 pub mod part;
 mod partial;
 pub mod path;
+pub mod places;
 mod progress;
 pub mod reader;
 pub mod reason;
@@ -36,10 +38,12 @@ pub use filling::{FillFault, fill};
 pub use flat::FlatForest;
 pub use forest::{Forest, Improper, LARGEST_FOREST};
 pub use form::Form;
+pub use header::Header;
 pub use known::Known;
 pub use node::{Node, Nodes};
 pub use part::Part;
 pub use path::first;
+pub use places::CheckPlaces;
 pub use reader::ForestReader;
 pub use reason::{DolReason, TlvReason};
 pub use spelling::encode;

@@ -10,6 +10,7 @@ ghost use Rattle.tlv_core.specs.declared.reason.TlvReason.TheVariants.{TooDeep, 
 ghost use Rattle.tlv_core.specs.Open.{AreEnds, IsWell-prop, open_after};
 
 use crate::header::{Header, Next, ObjectHeader};
+use crate::places::CheckPlaces;
 use crate::reason::{Refusal, TlvReason};
 use crate::short::{ShortHeader, short_header};
 use arrayvec::ArrayVec;
@@ -25,7 +26,7 @@ pub(crate) struct Progress {
     /// How many octets were taken.
     count: usize,
     /// The places at which the open constructed objects end, outermost first.
-    ends: ArrayVec<usize, DEEPEST>,
+    ends: ArrayVec<u32, DEEPEST>,
     /// The header under way.
     header: Header,
     /// How many octets are to come of the primitive value under way.
@@ -48,6 +49,7 @@ impl Progress {
     ghost use Rattle.tlv_core.specs.Short.{after_short, whole_of};
     ghost use Rattle.tlv_core.specs.Tag.{constructed_bit};
     ghost use Rattle.tlv_core.specs.Progress.{kept_of};
+    ghost use Rattle.tlv_core.specs.Places.{AreCheckPlaces, kept_at};
 
     /// Before the first octet of a forest of at most `max` octets.
     pub(crate) fn new(max: usize) -> Self
@@ -60,6 +62,43 @@ impl Progress {
             ends: ArrayVec::new(),
             header: Header::Nothing,
             value_left: 0,
+        }
+    }
+
+    /// What these places keep.
+    pub(crate) fn of(places: &CheckPlaces) -> Self
+        requires { AreCheckPlaces places.now }
+        ensures { kept_of result ≡ kept_at places.now }
+    {
+        let mut ends = ArrayVec::new();
+        let all = ends.try_extend_from_slice(&places.ends[..places.level as usize]);
+        all.unwrap();
+        Progress {
+            max: places.max as usize,
+            count: places.count as usize,
+            ends,
+            header: places.header,
+            value_left: places.value_left as usize,
+        }
+    }
+
+    /// The places that keep this, and why the next octet was refused, if it was.
+    pub(crate) fn places(&self, refused: Option<TlvReason>) -> CheckPlaces
+        ensures fit { AreCheckPlaces result }
+        ensures kept { kept_at result ≡ kept_of self.now }
+        ensures reason { result.refused ≡ refused }
+    {
+        let level = self.ends.len();
+        let mut ends = [0; DEEPEST];
+        ends[..level].copy_from_slice(self.ends.as_slice());
+        CheckPlaces {
+            max: self.max as u32,
+            count: self.count as u32,
+            ends,
+            level: level as u8,
+            header: self.header,
+            value_left: self.value_left as u32,
+            refused,
         }
     }
 
@@ -156,7 +195,7 @@ impl Progress {
         self.count += object.taken();
         close(&mut self.ends, self.count);
         if let Some(len) = object.opens() {
-            self.ends.push(self.count + len);
+            self.ends.push((self.count + len) as u32);
         }
     }
 
@@ -240,7 +279,7 @@ impl Progress {
         ensures { result ≡ room_of (self.now.max - self.now.count) (rooms_to self.now.count self.now.ends.items) }
     {
         match self.ends.as_slice().last() {
-            Some(end) => *end - self.count,
+            Some(end) => *end as usize - self.count,
             None => self.max - self.count,
         }
     }
@@ -258,7 +297,7 @@ impl Progress {
             return;
         }
         if object.tag.is_constructed() {
-            self.ends.push(self.count + len);
+            self.ends.push((self.count + len) as u32);
         } else {
             self.value_left = len;
         }
@@ -266,7 +305,7 @@ impl Progress {
 }
 
 /// Closes the objects whose end is reached after `count` octets.
-fn close(ends: &mut ArrayVec<usize, DEEPEST>, count: usize)
+fn close(ends: &mut ArrayVec<u32, DEEPEST>, count: usize)
     ensures { ends.new.items ≡ open_after count ends.old.items }
 {
     let open = open_count(ends.as_slice(), count);
@@ -274,8 +313,8 @@ fn close(ends: &mut ArrayVec<usize, DEEPEST>, count: usize)
 }
 
 /// How many objects are open yet after `count` octets.
-fn open_count(ends: &[usize], count: usize) -> usize
+fn open_count(ends: &[u32], count: usize) -> usize
     ensures { result ≡ prefix_len (λ end. nat_lt count end) ends.now }
 {
-    ends.iter().take_while(|end| **end > count).count()
+    ends.iter().take_while(|end| **end as usize > count).count()
 }

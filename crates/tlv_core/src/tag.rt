@@ -27,7 +27,7 @@ pub(crate) fn is_constructed(first: u8) -> bool
 }
 
 /// Whether these octets are one whole tag.
-fn is_tag(octets: &[u8]) -> bool
+pub(crate) fn is_tag(octets: &[u8]) -> bool
     ensures { IsTrue result ↔ IsTag octets.now }
 {
     match octets {

@@ -11,6 +11,7 @@ use tlv_core::{
 mod improper;
 mod parts;
 mod pieces;
+mod places;
 mod printed;
 
 /// The tag of these octets.

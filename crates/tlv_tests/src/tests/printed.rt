@@ -4,7 +4,7 @@ use octet_core::{Format, Named, Octets, octets_of};
 use std::test::Fail;
 use testing::{debugs, same, shows};
 use tlv_core::{
-    Dol, DolReason, FillFault, FlatForest, ForestCheck, ForestReader, Improper, Known,
+    CheckPlaces, Dol, DolReason, FillFault, FlatForest, ForestCheck, ForestReader, Improper, Known,
     LARGEST_FOREST, Tag, TlvReason, decode,
 };
 
@@ -62,6 +62,10 @@ fn debug_shows_no_octet(rt: HostRuntime) -> Result<(), Fail> {
     assert!(rt; same(check.feed(&OBJECTS[..5]), Ok(())));
     let seen = "ForestCheck { taken: 5, open_objects: 1, value_octets_left: 2, refusal: None }";
     assert!(rt; debugs(alloc, &check, seen));
+    let mut places = CheckPlaces::begin(LARGEST_FOREST);
+    assert!(rt; same(places.feed(&OBJECTS[..5]), Ok(())));
+    let seen = "CheckPlaces { taken: 5, open_objects: 1, value_octets_left: 2, refused: None }";
+    assert!(rt; debugs(alloc, &places, seen));
     let flat = FlatForest::read(alloc, &OBJECTS, LARGEST_FOREST)
         .ok()
         .ok_or("a forest")?;

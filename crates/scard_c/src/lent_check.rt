@@ -1,0 +1,50 @@
+//! A check of a forest that comes in pieces, without an allocator: the caller keeps the state.
+
+ghost use Rattle.std.specs.Prelude.{◌≡◌, ◌≤◌, ◌<◌};
+ghost use Rattle.scard_c.specs.Verdict.{wrong_argument};
+ghost use Rattle.scard_c.specs.LentCheck.{IsBegunCheck, CheckFed, CheckEnded};
+
+use crate::kept_check::CCheck;
+use crate::reader::checked;
+use crate::verdict::Verdict;
+use tlv_core::{CheckPlaces, LARGEST_FOREST};
+
+/// Begins a check of a forest of at most `max` octets, whatever the state was. `ARGUMENT` above 1,048,576:
+/// then nothing changes.
+#[unsafe(no_mangle)]
+pub extern "C" fn scard_lent_check_begin(state: &mut CCheck, max: usize) -> Verdict
+    ensures ok { max ≤ 1048576 → IsBegunCheck max state.new result }
+    ensures argument { 1048576 < max → (result ≡ wrong_argument 0) × (state.new ≡ state.old) }
+{
+    if max > LARGEST_FOREST {
+        return Verdict::argument();
+    }
+    *state = CCheck::of(&CheckPlaces::begin(max));
+    Verdict::ok(0)
+}
+
+/// Gives the next octets to a check. `MORE`: it took them all. `AT`: the octet at `place`, counted from the
+/// first ever given, is refused; from then on it is refused again. `ARGUMENT` where the state is no check.
+#[unsafe(no_mangle)]
+pub extern "C" fn scard_lent_check_feed(state: &mut CCheck, piece: &[u8]) -> Verdict
+    ensures { CheckFed state.old state.new piece.now result }
+{
+    let Some(mut places) = state.places() else {
+        return Verdict::argument();
+    };
+    let answer = places.feed(piece);
+    *state = CCheck::of(&places);
+    checked(answer, piece.len())
+}
+
+/// What there is to say of all octets that a check was given: `OK` with place 0 where they are a forest,
+/// `SHORT` at their end where one goes on, or the refusal. `ARGUMENT` where the state is no check.
+#[unsafe(no_mangle)]
+pub extern "C" fn scard_lent_check_finish(state: &CCheck) -> Verdict
+    ensures { CheckEnded state.now result }
+{
+    match state.places() {
+        Some(places) => Verdict::ended(places.finish()),
+        None => Verdict::argument(),
+    }
+}

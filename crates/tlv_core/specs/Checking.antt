@@ -1,0 +1,7 @@
+-- What a check of a forest keeps, as contracts see it.
+use Rattle.tlv_core.specs.declared.checking.Checking.{Checking}
+use Rattle.tlv_core.specs.Progress.{kept_of}
+use Rattle.tlv_core.specs.Check.{Checked, refusal_at}
+
+abbrev pub checked_of : Checking → Checked
+checked_of c = record { kept = kept_of c.progress; refusal = refusal_at c.progress.count c.refused }

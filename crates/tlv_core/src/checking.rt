@@ -1,0 +1,75 @@
+//! The steps of a check of a forest in pieces, whoever keeps what it keeps.
+
+ghost use Rattle.std.specs.Prelude.{◌≡◌, ℕ, List, ◌++◌, OnOk, IfErr, OnSome, MatchResult, None};
+ghost use Rattle.octet_core.specs.Grammar.{Refuses, RefusesAt, whole};
+ghost use Rattle.tlv_core.specs.Tree.{Tree};
+ghost use Rattle.tlv_core.specs.Forest.{IsForest};
+ghost use Rattle.tlv_core.specs.Reasons.{IsReason, HasTaken};
+ghost use Rattle.tlv_core.specs.Check.{HasChecked, answer_of};
+ghost use Rattle.tlv_core.specs.Checking.{checked_of};
+ghost use Rattle.tlv_core.specs.Progress.{kept_of};
+
+use crate::progress::Progress;
+use crate::reason::{Refusal, TlvReason};
+use octet_core::Stop;
+
+/// What a check keeps: what the octets so far leave open, and why the next one was refused, if it was.
+#[derive(Drop)]
+pub(crate) struct Checking {
+    pub(crate) progress: Progress,
+    pub(crate) refused: Option<TlvReason>,
+}
+
+impl Checking {
+    /// Takes the next piece, or refuses an octet of it. It says nothing of octets that nobody fed: some of
+    /// the clauses are about all those that it may have taken.
+    pub(crate) fn feed(&mut self, piece: &[u8]) -> Result<(), Stop<TlvReason>>
+        ensures limit { (kept_of self.new.progress).max ≡ (kept_of self.old.progress).max }
+        ensures answer { result ≡ answer_of (checked_of self.new).refusal }
+        ensures repeats { OnSome self.old.refused (self.new ≡ self.old) }
+        ensures taken { (b : List ℕ) → HasChecked b (checked_of self.old) → OnOk result (HasChecked (b ++ piece.now) (checked_of self.new)) }
+        ensures refused { (b : List ℕ) → HasChecked b (checked_of self.old) →
+            IfErr result (RefusesAt whole (IsForest self.old.progress.max) (IsReason self.old.progress.max) (b ++ piece.now)) }
+        ensures some { (b : List ℕ) × HasTaken b (kept_of self.old.progress) → (b : List ℕ) × HasTaken b (kept_of self.new.progress) }
+    {
+        if let Some(refusal) = self.refusal() {
+            return Err(refusal.stop());
+        }
+        let mut taken = 0;
+        while taken < piece.len() {
+            match self.progress.advance(&piece[taken..]) {
+                Ok(count) => taken += count,
+                Err(reason) => {
+                    self.refused = Some(reason);
+                    return Err(self.progress.refusal(reason).stop());
+                }
+            }
+        }
+        Ok(())
+    }
+
+    /// The verdict on all octets: `Ok` where they are a forest, `Short` at their end where one goes on, and
+    /// the refusal that stands.
+    pub(crate) fn finish(&self) -> Result<(), Stop<TlvReason>>
+        ensures repeats { OnSome self.now.refused (result ≡ answer_of (checked_of self.now).refusal) }
+        ensures verdict { (b : List ℕ) → HasChecked b (checked_of self.now) → MatchResult result (λ _. (t : Tree) × IsForest self.now.progress.max t b)
+            (Refuses whole (IsForest self.now.progress.max) (IsReason self.now.progress.max) b) }
+    {
+        if let Some(refusal) = self.refusal() {
+            return Err(refusal.stop());
+        }
+        if self.progress.is_idle() {
+            return Ok(());
+        }
+        Err(Stop::Short {
+            place: self.progress.count(),
+        })
+    }
+
+    /// The refusal that stands.
+    pub(crate) fn refusal(&self) -> Option<Refusal>
+        ensures { result ≡ (checked_of self.now).refusal }
+    {
+        self.refused.map(|reason| self.progress.refusal(reason))
+    }
+}

@@ -1,0 +1,128 @@
+//! A check of a forest whose caller keeps what it keeps: some eighty octets, and none of the octets that came
+//! but those of a header under way.
+
+ghost use Rattle.std.specs.Prelude.{◌≡◌, ℕ, ◌≤◌, ◌<◌, ◌↔◌, List, [], ◌++◌, OnOk, IfErr, OnSome, MatchResult, IsTrue, true};
+ghost use Rattle.octet_core.specs.Grammar.{Refuses, RefusesAt, whole};
+ghost use Rattle.tlv_core.specs.Tree.{Tree};
+ghost use Rattle.tlv_core.specs.Forest.{IsForest};
+ghost use Rattle.tlv_core.specs.Reasons.{IsReason};
+ghost use Rattle.tlv_core.specs.Open.{AreEnds};
+
+use crate::checking::Checking;
+use crate::forest::LARGEST_FOREST;
+use crate::header::Header;
+use crate::progress::{DEEPEST, Progress};
+use crate::reason::TlvReason;
+use octet_core::Stop;
+use std::fmt::{self, Debug, Formatter, Write};
+
+/// What a check of a forest keeps, as plain numbers: a whole check, where its caller keeps it.
+///
+/// [`CheckPlaces::begin`] makes them, and each call keeps them fit. Where something else may have written to
+/// them, [`CheckPlaces::fit`] says whether they still are those of a check.
+#[derive(Clone, Copy)]
+pub struct CheckPlaces {
+    /// The limit of the whole, in octets.
+    pub max: u32,
+    /// How many octets were taken.
+    pub count: u32,
+    /// The first `level` are the places at which the open constructed objects end, outermost first.
+    pub ends: [u32; DEEPEST],
+    pub level: u8,
+    /// The header under way.
+    pub header: Header,
+    /// How many octets are to come of the primitive value under way.
+    pub value_left: u32,
+    /// Why the next octet was refused, if it was.
+    pub refused: Option<TlvReason>,
+}
+
+impl CheckPlaces {
+    ghost use Rattle.tlv_core.specs.Check.{HasChecked, answer_of};
+    ghost use Rattle.tlv_core.specs.Checking.{checked_of};
+    ghost use Rattle.tlv_core.specs.Places.{AreCheckPlaces, checked_at, kept_at};
+
+    /// A check of a forest of at most `max` octets, itself at most 1,048,576, before its first octet.
+    pub fn begin(max: usize) -> CheckPlaces
+        requires { max ≤ 1048576 }
+        ensures fit { AreCheckPlaces result }
+        ensures limit { (kept_at result).max ≡ max }
+        ensures nothing { (b : List ℕ) → HasChecked b (checked_at result) ↔ (b ≡ []) }
+    {
+        Progress::new(max).places(None)
+    }
+
+    /// Takes the next piece, or refuses an octet of it, as `ForestCheck::feed`. It can't know which octets
+    /// were fed before: what it says is so of all that these places may have taken.
+    pub fn feed(&mut self, piece: &[u8]) -> Result<(), Stop<TlvReason>>
+        requires { AreCheckPlaces self.old }
+        ensures fit { AreCheckPlaces self.new }
+        ensures limit { self.new.max ≡ self.old.max }
+        ensures answer { result ≡ answer_of (checked_at self.new).refusal }
+        ensures repeats { OnSome (checked_at self.old).refusal (checked_at self.new ≡ checked_at self.old) }
+        ensures taken { (b : List ℕ) → HasChecked b (checked_at self.old) → OnOk result (HasChecked (b ++ piece.now) (checked_at self.new)) }
+        ensures refused { (b : List ℕ) → HasChecked b (checked_at self.old) →
+            IfErr result (RefusesAt whole (IsForest self.old.max) (IsReason self.old.max) (b ++ piece.now)) }
+    {
+        let mut checking = self.checking();
+        let answer = checking.feed(piece);
+        *self = checking.progress.places(checking.refused);
+        answer
+    }
+
+    /// The verdict on all pieces fed, as `ForestCheck::finish`.
+    pub fn finish(&self) -> Result<(), Stop<TlvReason>>
+        requires { AreCheckPlaces self.now }
+        ensures repeats { OnSome (checked_at self.now).refusal (result ≡ answer_of (checked_at self.now).refusal) }
+        ensures verdict { (b : List ℕ) → HasChecked b (checked_at self.now) → MatchResult result (λ _. (t : Tree) × IsForest self.now.max t b)
+            (Refuses whole (IsForest self.now.max) (IsReason self.now.max) b) }
+    {
+        self.checking().finish()
+    }
+
+    /// The check that they are.
+    fn checking(&self) -> Checking
+        requires { AreCheckPlaces self.now }
+        ensures { checked_of result ≡ checked_at self.now }
+    {
+        Checking {
+            progress: Progress::of(self),
+            refused: self.refused,
+        }
+    }
+
+    /// Whether these are the places of a check.
+    pub fn fit(&self) -> bool
+        ensures yes { result ≡ true → AreCheckPlaces self.now }
+        ensures no { AreCheckPlaces self.now → result ≡ true }
+    {
+        let level = self.level as usize;
+        self.max as usize <= LARGEST_FOREST
+            && self.value_left <= self.max
+            && self.count <= self.max - self.value_left
+            && level <= DEEPEST
+            && self.header.is_well()
+            && (self.header.is_nothing() || level < DEEPEST)
+            && are_ends(self.max, self.count, &self.ends[..level])
+    }
+}
+
+/// How far the octets have come, and why the next one was refused: no octet is shown.
+impl Debug for CheckPlaces {
+    fn fmt<W: Write>(&self, f: &mut Formatter<W>) -> fmt::Result {
+        f.debug_struct("CheckPlaces")
+            .field("taken", &self.count)
+            .field("open_objects", &self.level)
+            .field("value_octets_left", &self.value_left)
+            .field("refused", &self.refused)
+            .finish()
+    }
+}
+
+/// Whether each of these places is after the octets that came, and within the limit.
+fn are_ends(max: u32, count: u32, ends: &[u32]) -> bool
+    ensures yes { result ≡ true → AreEnds max count ends.now }
+    ensures no { AreEnds max count ends.now → result ≡ true }
+{
+    ends.iter().all(|&end| count < end && end <= max)
+}
