@@ -33,3 +33,4 @@ pub mod Walked
 pub mod Closes
 pub mod Reading
 pub mod Rows
+pub mod Alike

@@ -24,5 +24,6 @@ pub mod Own
 pub mod Fill
 pub mod Grown
 pub mod Flat
+pub mod Same
 pub mod Read
 pub mod Names

@@ -22,10 +22,10 @@ tree_size (Constructed tag form nodes rest) = 1 + tree_size nodes + tree_size re
 
 -- ---- how contracts tell lists of objects apart: by the items in order, each with what follows it
 
-abbrev Item : Type 0
+abbrev pub Item : Type 0
 Item = ℕ × (List ℕ × (Form × List ℕ))
 
-abbrev items_of : Tree → List Item
+abbrev pub items_of : Tree → List Item
 items_of End = (0, ([], (One, []))) ∷ []
 items_of (Filler rest) = (1, ([], (One, []))) ∷ items_of rest
 items_of (Primitive tag form value rest) = (2, (tag, (form, value))) ∷ items_of rest
@@ -63,6 +63,10 @@ trees-back (Constructed tag form nodes rest) items =
 
 pub tree-back : (t : Tree) → first_tree (trees_of (items_of t)) ≡ t
 tree-back t = ap (λ (is : List Item). first_tree (trees_of is)) (sym (append-nil (items_of t))) ∙ ap first_tree (trees-back t [])
+
+-- lists with the same items are one
+pub one_tree : (s t : Tree) → items_of s ≡ items_of t → s ≡ t
+one_tree s t e = sym (tree-back s) ∙ ap (λ (is : List Item). first_tree (trees_of is)) e ∙ tree-back t
 
 abbrev pub tree_code : Coded Tree
 tree_code = code_by (List Item) (coded_list (coded× coded_ℕ (coded× (coded_list coded_ℕ) (coded× form_code (coded_list coded_ℕ))))) items_of (λ is. first_tree (trees_of is)) tree-back

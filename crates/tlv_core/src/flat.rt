@@ -1,6 +1,6 @@
 //! The parts of a forest, flat and without copies.
 
-ghost use Rattle.std.specs.Prelude.{◌≡◌, ℕ, ◌<◌, ◌≤◌, length, map, drop, take, IfOk, IfErr, OnOk, ◌∷◌, []};
+ghost use Rattle.std.specs.Prelude.{◌≡◌, ◌↔◌, IsTrue, ℕ, ◌<◌, ◌≤◌, length, map, drop, take, IfOk, IfErr, OnOk, ◌∷◌, []};
 ghost use Rattle.octet_core.specs.Grammar.{Accepts, RefusesUnlessMemory, whole};
 ghost use Rattle.tlv_core.specs.Form.{capacity};
 ghost use Rattle.tlv_core.specs.Tree.{Tree};
@@ -73,6 +73,26 @@ impl<'a> FlatForest<'a> {
     }
 }
 
+impl PartialEq for FlatForest<'_> {
+    ghost use lib.Pointwise.{pointwise};
+    ghost use Rattle.tlv_core.specs.Same.{same_part, parts_equiv};
+    ghost use Rattle.std.specs.Cmp.{partial_equiv_from_equiv};
+
+    ghost eq = { pointwise same_part };
+
+    ghost laws = { partial_equiv_from_equiv parts_equiv };
+
+    fn eq(&self, other: &Self) -> bool {
+        have_same(self.parts(), other.parts())
+    }
+}
+
+impl Eq for FlatForest<'_> {
+    ghost use Rattle.tlv_core.specs.Same.{parts_equiv};
+
+    ghost laws = { parts_equiv };
+}
+
 /// How many parts there are.
 impl Debug for FlatForest<'_> {
     fn fmt<W: Write>(&self, f: &mut Formatter<W>) -> fmt::Result {
@@ -80,6 +100,34 @@ impl Debug for FlatForest<'_> {
             .field("parts", &self.parts.len())
             .finish()
     }
+}
+
+/// Whether the parts are the same, in the same order.
+fn have_same(parts: &[Part<'_>], others: &[Part<'_>]) -> bool
+    ensures { IsTrue result ↔ (map part_seen parts.now ≡ map part_seen others.now) }
+{
+    if parts.len() != others.len() {
+        return false;
+    }
+    for (place, part) in parts.iter().enumerate() {
+        if !is_same(part, &others[place]) {
+            return false;
+        }
+    }
+    true
+}
+
+/// Whether two parts are the same.
+fn is_same(one: &Part<'_>, other: &Part<'_>) -> bool
+    ensures { IsTrue result ↔ (part_seen one.now ≡ part_seen other.now) }
+{
+    let value = one.value;
+    let other_value = other.value;
+    one.depth == other.depth
+        && one.tag == other.tag
+        && one.form == other.form
+        && one.place == other.place
+        && value == other_value
 }
 
 /// Takes the next octets of a forest: a run of the value under way, or one octet of a header. Where

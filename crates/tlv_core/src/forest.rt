@@ -76,6 +76,25 @@ impl Model for Forest {
     ghost invariant = { λ forest. HasSpelling largest forest.nodes };
 }
 
+impl PartialEq for Forest {
+    ghost use Rattle.tlv_core.specs.Same.{same_tree, tree_equiv};
+    ghost use Rattle.std.specs.Cmp.{partial_equiv_from_equiv};
+
+    ghost eq = { same_tree };
+
+    ghost laws = { partial_equiv_from_equiv tree_equiv };
+
+    fn eq(&self, other: &Self) -> bool {
+        self.nodes() == other.nodes()
+    }
+}
+
+impl Eq for Forest {
+    ghost use Rattle.tlv_core.specs.Same.{tree_equiv};
+
+    ghost laws = { tree_equiv };
+}
+
 impl Forest {
     ghost use Rattle.tlv_core.specs.Forest.{HasSpelling, largest};
     ghost use Rattle.tlv_core.specs.Improper.{IsFirstImproper};

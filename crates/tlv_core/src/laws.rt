@@ -1,12 +1,21 @@
 //! Laws of forests, as contracts.
 
-ghost use Rattle.std.specs.Prelude.{◌≡◌, List, ℕ};
+ghost use Rattle.std.specs.Prelude.{◌≡◌, ◌↔◌, IsTrue, List, ℕ};
 ghost use Rattle.octet_core.specs.Octets.{AreOctets};
 ghost use Rattle.tlv_core.specs.Laws.{OneForest, Completion, ForestVerdict, TakenLaws};
 ghost use Rattle.tlv_core.specs.Dol.{DolVerdict, IsDol};
 ghost use Rattle.tlv_core.specs.Improper.{AreObjects, ImproperLaw};
 ghost use Rattle.tlv_core.specs.Tree.{Tree};
 ghost use Rattle.tlv_core.specs.Tidy.{TidyLaws};
+
+use crate::forest::Forest;
+
+/// `==` says whether two forests are the same list of objects, with the forms and fillers as they came.
+pub fn are_equal(a: &Forest, b: &Forest) -> bool
+    ensures { IsTrue result ↔ (a.now ≡ b.now) }
+{
+    a == b
+}
 
 /// No octets spell two forests.
 pub fn one_forest()

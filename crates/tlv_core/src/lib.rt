@@ -25,6 +25,7 @@ pub mod places;
 mod progress;
 pub mod reader;
 pub mod reason;
+mod same;
 mod short;
 pub mod spelling;
 mod survey;

@@ -3,6 +3,7 @@
 ghost use Rattle.std.specs.Prelude.{◌≡◌};
 
 use crate::form::Form;
+use crate::same::{are_same, is_same};
 use crate::tag::Tag;
 use octet_core::Octets;
 use std::fmt::{self, Debug, Formatter, Write};
@@ -69,6 +70,44 @@ pub enum Node {
     Primitive { tag: Tag, form: Form, value: Octets },
     /// An object whose value is objects and fillers.
     Constructed { tag: Tag, form: Form, nodes: Nodes },
+}
+
+impl PartialEq for Nodes {
+    ghost use Rattle.tlv_core.specs.Same.{same_tree, tree_equiv};
+    ghost use Rattle.std.specs.Cmp.{partial_equiv_from_equiv};
+
+    ghost eq = { same_tree };
+
+    ghost laws = { partial_equiv_from_equiv tree_equiv };
+
+    fn eq(&self, other: &Self) -> bool {
+        are_same(self, other)
+    }
+}
+
+impl Eq for Nodes {
+    ghost use Rattle.tlv_core.specs.Same.{tree_equiv};
+
+    ghost laws = { tree_equiv };
+}
+
+impl PartialEq for Node {
+    ghost use Rattle.tlv_core.specs.Same.{same_node, node_equiv};
+    ghost use Rattle.std.specs.Cmp.{partial_equiv_from_equiv};
+
+    ghost eq = { same_node };
+
+    ghost laws = { partial_equiv_from_equiv node_equiv };
+
+    fn eq(&self, other: &Self) -> bool {
+        is_same(self, other)
+    }
+}
+
+impl Eq for Node {
+    ghost use Rattle.tlv_core.specs.Same.{node_equiv};
+
+    ghost laws = { node_equiv };
 }
 
 /// How many nodes there are: those inside aren't shown, nor is an octet of a value.

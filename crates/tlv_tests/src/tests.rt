@@ -8,6 +8,7 @@ use tlv_core::{
     Known, LARGEST_FOREST, Node, Nodes, Tag, TlvReason, decode, encode, fill, first, tidy,
 };
 
+mod equality;
 mod improper;
 mod parts;
 mod pieces;
