@@ -2,7 +2,7 @@
 _scard() {
     local word=${COMP_WORDS[COMP_CWORD]} before=${COMP_WORDS[COMP_CWORD - 1]} words=
     case $before in
-    --stdin) words='hex octets' ;;
+    --stdin) words='hex octets lines' ;;
     --end) words='terminal card' ;;
     --number) words='0 1' ;;
     --ifs | --ifsd | --lose | --damage | --spoil) ;;

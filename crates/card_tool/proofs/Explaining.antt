@@ -53,6 +53,9 @@ module _ (words : List (List ℕ)) (held left : Option (List ℕ)) (before after
   unasked (Ok answer) h = record { text = answer.text; note = []; is_right = h; is_whole = sym (append-nil answer.text); unasked = λ _. refl }
   unasked (Err fault) h = record { text = fault_text fault; note = []; is_right = h; is_whole = sym (append-nil (fault_text fault)); unasked = λ _. refl }
 
+  pub unasked-fault : (fault : Fault) → IsRight words held left before after (fault_text fault) status.Fault → IsRightWith words held left before after (fault_text fault) status.Fault
+  unasked-fault fault h = record { text = fault_text fault; note = []; is_right = h; is_whole = sym (append-nil (fault_text fault)); unasked = λ _. refl }
+
   -- words that ask for one
   pub asked : (r : Result Answer Fault) → (asks_to_explain words ≡ true) → Gives (IsExplained (IsRight words held left before after)) r → Gives (IsRightWith words held left before after) r
   asked (Ok answer) ask h = record { text = h.text; note = h.note; is_right = h.is_right; is_whole = h.is_whole; unasked = λ silent. absurd (cc (ask, silent)) }

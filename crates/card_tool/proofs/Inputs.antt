@@ -14,14 +14,14 @@ use Rattle.card_words.specs.declared.given.Given.TheVariants.{Word}
 use Rattle.card_tool.specs.Files.{largest_file, IsBegun, IsHeld, IsMore, IsTaken, IsTooLarge, IsWhole, ReadsMore, ReadsWhole}
 
 -- two reads in a row
-Consumes-then : (a b c : Option (List ℕ)) (x y : List ℕ) → Consumes a b x → Consumes b c y → Consumes a c (x ++ y)
+pub Consumes-then : (a b c : Option (List ℕ)) (x y : List ℕ) → Consumes a b x → Consumes b c y → Consumes a c (x ++ y)
 Consumes-then None b c x y p q = tt
 Consumes-then (Some a) None c x y p q = absurd p
 Consumes-then (Some a) (Some b) None x y p q = absurd q
 Consumes-then (Some a) (Some b) (Some c) x y p q = p ∙ ap (λ (l : List ℕ). x ++ l) q ∙ sym (append_assoc x y c)
 
 -- a read, and then a call that read nothing
-Consumes-kept : (a b c : Option (List ℕ)) (x : List ℕ) → Consumes a b x → Keeps b c → Consumes a c x
+pub Consumes-kept : (a b c : Option (List ℕ)) (x : List ℕ) → Consumes a b x → Keeps b c → Consumes a c x
 Consumes-kept None b c x p q = tt
 Consumes-kept (Some a) None c x p q = absurd p
 Consumes-kept (Some a) (Some b) None x p q = absurd q

@@ -8,5 +8,7 @@ pub mod Chains
 pub mod Forests
 pub mod Duplicates
 pub mod Inputs
+pub mod ByLine
+pub mod Asking
 pub mod Answering
 pub mod Explaining

@@ -1,5 +1,5 @@
 -- That a request has one answer.
-use Rattle.std.proofs.Common.{◌≡◌, ◌≤◌, ◌∙◌, inl, inr, ℕ, List, Result, Ok, Err, IfOk, ap, length, subst, sym, refl}
+use Rattle.std.proofs.Common.{◌≡◌, ◌≤◌, ◌∙◌, ◌++◌, inl, inr, ℕ, List, [], ◌∷◌, Bool, true, false, if◌then◌else◌, nat_le, Result, Ok, Err, IfOk, ap, length, subst, sym, refl}
 use Rattle.octet_core.specs.Octets.{AreOctets}
 use Rattle.octet_core.specs.Grammar.{Ending, OneVerdict, self_ended, whole}
 use Rattle.atr_core.specs.Atr as atr
@@ -11,7 +11,7 @@ use Rattle.card_tool.specs.ExchangeTexts.{Migrates, Replays}
 use Rattle.card_tool.proofs.OneOf.{OneText, ended-by, plain}
 use Rattle.card_tool.proofs.Exchanges.{migrated-once, replayed-once}
 use Rattle.card_tool.proofs.Simulations.{simulated-once}
-use Rattle.card_tool.specs.Answers.{Checks, IsAnswerTo, IsFilled, IsToldOf, IsFilledBy, Shows, Tells, Tidies, accepted, refused, unknown, duplicate, full, listed, no_list}
+use Rattle.card_tool.specs.Answers.{AreLinesTold, Checks, IsAnswerTo, IsLineTold, IsFilled, IsToldOf, IsFilledBy, Shows, Tells, Tidies, accepted, refused, unknown, duplicate, full, listed, no_list}
 use Rattle.card_tool.specs.Texts.{accepted_text, duplicate_text, refused_text}
 use Rattle.card_words.specs.Texts.{fault_text}
 use Rattle.card_words.specs.declared.fault.Fault.{Fault}
@@ -46,13 +46,19 @@ use Rattle.card_tool.specs.ForestTexts.{forest_text, tidied_text}
 use Rattle.card_tool.specs.ListTexts as list_texts
 use Rattle.card_tool.specs.ListTexts.{dol_text, filled_text}
 use Rattle.card_words.specs.Given.{octets_given}
+use Rattle.card_words.specs.Loose.{loose_octets}
+use Rattle.card_words.specs.declared.fault.Fault.TheVariants.{TooLarge}
+use Rattle.card_words.specs.declared.given.Form.TheVariants as form
+use Rattle.card_words.specs.declared.given.Given.TheVariants as given
+use Rattle.card_tool.specs.Files.{largest_file}
+use Rattle.card_tool.specs.Lines.{all_lines, line_octets, worse, AreTold}
 use Rattle.card_words.specs.Words.{HasOctets, IsSized, NeedsOctets}
 use Rattle.card_words.proofs.Givens.{octets-given}
 use Rattle.card_words.specs.declared.request.Kind.{Kind}
 use Rattle.card_words.specs.declared.request.Kind.TheVariants.{Atr, Block, Chain, Command, Response, Tlv, Dol}
 use Rattle.card_words.specs.declared.request.Expected.{Expected}
 use Rattle.card_words.specs.declared.request.Request.{Request}
-use Rattle.card_words.specs.declared.request.Request.TheVariants.{BuildChain, BuildTidy, BuildFill, Check, Show, Replay, Migrate, Simulate, Help}
+use Rattle.card_words.specs.declared.request.Request.TheVariants.{BuildChain, BuildTidy, BuildFill, Check, CheckLines, Show, Replay, Migrate, Simulate, Help}
 use Rattle.card_tool.specs.declared.status.Status.{Status}
 use Rattle.card_tool.specs.declared.status.Status.TheVariants as status
 
@@ -153,6 +159,14 @@ module _ (b : List ℕ) (known : Result (List Known) Fault) (octets : AreOctets 
 
 -- ---- requests
 
+-- what a line gives are octets
+line-octets : (line : List ℕ) → IfOk (line_octets line) AreOctets
+line-octets line = go (nat_le (length line) largest_file)
+  where
+    go : (t : Bool) → IfOk (if t then loose_octets line else Err TooLarge) AreOctets
+    go true = octets-given (given.Read form.Hex) (Ok line) tt (λ none. absurd none)
+    go false = tt
+
 -- what octets come to, where any come to one text
 told-octets : (Told : List ℕ → List ℕ → Status → Type 0) → ((b : List ℕ) → AreOctets b → OneText (Told b)) → (r : Result (List ℕ) Fault) → IfOk r AreOctets → OneText (IsToldOf Told r)
 told-octets Told once (Ok b) octets = once b octets
@@ -163,9 +177,34 @@ told-of : (Told : List ℕ → List ℕ → Status → Type 0) → ((octets : Li
 told-of Told once (Ok octets) = once octets
 told-of Told once (Err fault) = ended-by (fault_text fault) status.Fault
 
+-- a line's text
+line-once : (expected : Expected) → expected.ifs ≤ 254 → (line : List ℕ) → OneText (IsLineTold expected line)
+line-once expected small line = told-octets (Checks expected.kind expected) (λ b. checked expected.kind expected b small) (line_octets line) (line-octets line)
+
+module _ (Line : List ℕ → List ℕ → Status → Type 0) (once : (line : List ℕ) → OneText (Line line)) where
+  one-told-each : (lines : List (List ℕ)) (t u : List ℕ) (s q : Status) → AreTold Line lines t s → AreTold Line lines u q → (t ≡ u) × (s ≡ q)
+  one-told-each [] t u s q h g = (h.0 ∙ sym g.0, h.1 ∙ sym g.1)
+  one-told-each (line ∷ lines) t u s q h g =
+      let first = (once line).one h.first g.first h.one g.one h.is_first g.is_first in
+      let more = one-told-each lines h.more g.more h.others g.others h.is_more g.is_more in
+      let text : h.first ++ h.more ≡ g.first ++ g.more = ap (λ (l : List ℕ). l ++ h.more) first.0 ∙ ap (λ (l : List ℕ). g.first ++ l) more.0 in
+      let ended : worse h.one h.others ≡ worse g.one g.others = ap (λ (e : Status). worse e h.others) first.1 ∙ ap (λ (e : Status). worse g.one e) more.1 in
+      (h.is_text ∙ text ∙ sym g.is_text, h.is_ended ∙ ended ∙ sym g.is_ended)
+
+  some-told-each : (lines : List (List ℕ)) → (t : List ℕ) × (s : Status) × AreTold Line lines t s
+  some-told-each [] = ([], status.Accepted, (refl, refl))
+  some-told-each (line ∷ lines) =
+      let first = (once line).some in
+      let more = some-told-each lines in
+      (first.0 ++ more.0, worse first.1 more.1, record { first = first.0; one = first.1; more = more.0; others = more.1; is_first = first.2; is_more = more.2; is_text = refl; is_ended = refl })
+
+  told-each-once : (lines : List (List ℕ)) → OneText (AreTold Line lines)
+  told-each-once lines = record { one = one-told-each lines; some = some-told-each lines }
+
 pub one-answer : (request : Request) (file : Result (List ℕ) Fault) → IsSized request → HasOctets request → (NeedsOctets request → IfOk file AreOctets) → OneText (IsAnswerTo request file)
 one-answer (Check input) file sized octets as_read =
     told-octets (Checks input.expected.kind input.expected) (λ b. checked input.expected.kind input.expected b sized.1) (octets_given input.given file) (octets-given input.given file octets as_read)
+one-answer (CheckLines expected) file sized octets as_read = told-of (λ b. AreLinesTold expected (all_lines b)) (λ b. told-each-once (IsLineTold expected) (line-once expected sized.1) (all_lines b)) file
 one-answer (Show input) file sized octets as_read =
     told-octets (Shows input.expected.kind input.expected) (λ b. shown input.expected.kind input.expected b sized.1) (octets_given input.given file) (octets-given input.given file octets as_read)
 one-answer (BuildChain ifs number message) file sized octets as_read = plain (blocks_text (links number (cut_of ifs message)))

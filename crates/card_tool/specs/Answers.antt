@@ -38,6 +38,7 @@ use Rattle.card_tool.specs.ListTexts.{dol_text, filled_text}
 use Rattle.card_tool.specs.ExchangeTexts.{Migrates, Replays}
 use Rattle.card_tool.specs.SimulationTexts.{Simulates}
 use Rattle.card_tool.specs.Files.{ReadsWhole}
+use Rattle.card_tool.specs.Lines.{all_lines, line_octets, AreTold}
 use Rattle.card_words.specs.Given.{octets_given}
 use Rattle.card_words.specs.Words.{AskForFile, IsRead, NeedsFile}
 use Rattle.card_tool.specs.declared.status.Status.{Status}
@@ -49,7 +50,7 @@ use Rattle.card_words.specs.declared.request.Kind.{Kind}
 use Rattle.card_words.specs.declared.request.Kind.TheVariants.{Atr, Block, Chain, Command, Response, Tlv, Dol}
 use Rattle.card_words.specs.declared.request.Expected.{Expected}
 use Rattle.card_words.specs.declared.request.Request.{Request}
-use Rattle.card_words.specs.declared.request.Request.TheVariants.{BuildChain, BuildTidy, BuildFill, Check, Show, Replay, Migrate, Simulate, Help}
+use Rattle.card_words.specs.declared.request.Request.TheVariants.{BuildChain, BuildTidy, BuildFill, Check, CheckLines, Show, Replay, Migrate, Simulate, Help}
 
 -- the text and the status that the verdict on octets has, where a value is told so
 pub data Tells {V R : Type 0} (e : Ending) (S : V → List ℕ → Type 0) (Reason : R → List ℕ → Type 0) (name : R → List ℕ) (told : V → ℕ → List ℕ) (b text : List ℕ) (ended : Status) : Type 0 where
@@ -95,9 +96,17 @@ pub data IsFilled (b : List ℕ) (known : Result (List Known) Fault) (text : Lis
 abbrev pub IsToldOf : (List ℕ → List ℕ → Status → Type 0) → Result (List ℕ) Fault → List ℕ → Status → Type 0
 IsToldOf Told octets text ended = MatchResult octets (λ b. Told b text ended) (λ fault. (text ≡ fault_text fault) × (ended ≡ status.Fault))
 
+-- the text and the status of one line
+abbrev pub IsLineTold : Expected → List ℕ → List ℕ → Status → Type 0
+IsLineTold expected line text ended = IsToldOf (Checks expected.kind expected) (line_octets line) text ended
+
+abbrev pub AreLinesTold : Expected → List (List ℕ) → List ℕ → Status → Type 0
+AreLinesTold expected lines text ended = AreTold (IsLineTold expected) lines text ended
+
 -- the text and the status that a request has, with what reading standard input gave
 abbrev pub IsAnswerTo : Request → Result (List ℕ) Fault → List ℕ → Status → Type 0
 IsAnswerTo (Check input) file text ended = IsToldOf (Checks input.expected.kind input.expected) (octets_given input.given file) text ended
+IsAnswerTo (CheckLines expected) file text ended = IsToldOf (λ b. AreLinesTold expected (all_lines b)) file text ended
 IsAnswerTo (Show input) file text ended = IsToldOf (Shows input.expected.kind input.expected) (octets_given input.given file) text ended
 IsAnswerTo (BuildChain ifs number message) file text ended = (text ≡ blocks_text (links number (cut_of ifs message))) × (ended ≡ status.Accepted)
 IsAnswerTo (BuildTidy given) file text ended = IsToldOf Tidies (octets_given given file) text ended
@@ -106,6 +115,15 @@ IsAnswerTo (Replay side) file text ended = IsToldOf (Replays side) file text end
 IsAnswerTo Migrate file text ended = IsToldOf Migrates file text ended
 IsAnswerTo (Simulate session) file text ended = Simulates session text ended
 IsAnswerTo (Help help) file text ended = (text ≡ help) × (ended ≡ status.Accepted)
+
+-- a request that is answered by one text, after all was read that it asks for
+abbrev pub HasOneText : Request → Type 0
+HasOneText (CheckLines expected) = ⊥
+HasOneText _ = Unit {0}
+
+-- what words are read as, or that memory ran out
+abbrev pub IsReadFrom : List (List ℕ) → Result Request Fault → Type 0
+IsReadFrom words read = (read ≡ Err Memory) ⊎ IsRead words read
 
 -- the text and the status that the words have: those of the request, or the fault's
 pub record IsAnswer (words : List (List ℕ)) (file : Result (List ℕ) Fault) (text : List ℕ) (ended : Status) : Type 0 where

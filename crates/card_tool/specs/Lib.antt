@@ -10,5 +10,7 @@ pub mod ResponseTexts
 pub mod ForestTexts
 pub mod ListTexts
 pub mod BlockTexts
+pub mod Lines
 pub mod Answers
+pub mod LineAnswers
 pub mod Explained

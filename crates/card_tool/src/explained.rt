@@ -3,8 +3,8 @@
 //! The text and the status are those that the words have without the option. What comes after the text is made by
 //! the crate explainer; where memory for it is refused it is left out.
 
-ghost use Rattle.std.specs.Prelude.{◌≡◌, ◌++◌, List, ℕ, MatchResult};
-ghost use Rattle.card_tool.specs.Answers.{Gives, IsRight, IsRightTo};
+ghost use Rattle.std.specs.Prelude.{◌≡◌, ◌++◌, List, ℕ, IfOk, MatchResult};
+ghost use Rattle.card_tool.specs.Answers.{Gives, HasOneText, IsReadFrom, IsRight, IsRightTo};
 ghost use Rattle.card_tool.specs.Explained.{IsExplained};
 ghost use Rattle.card_tool.specs.Files.{IsBegun};
 ghost use Rattle.card_tool.specs.declared.status.Status.TheVariants as ended;
@@ -24,29 +24,41 @@ use explainer::{
 use octet_core::{Octets, Source};
 use std::alloc::{AllocError, Global};
 
-/// The text and the status of what the words ask for, with an explanation.
+/// The text and the status of what the words were read as, with an explanation.
 pub(crate) fn explained<R: Source>(
     alloc: Global,
     words: &[String],
+    read: Result<Request, Fault>,
     reader: &mut R,
 ) -> Result<Answer, Fault>
+    requires read { IsReadFrom (texts words.now) read }
+    requires sized { IfOk read IsSized }
+    requires one { IfOk read HasOneText }
     ensures told { Gives (IsExplained (IsRight (texts words.now) (R.remaining reader.old) (R.remaining reader.new) (R.failures reader.old) (R.failures reader.new))) result }
     ensures unread { (AskForFile (texts words.now) → ⊥) → reader.new ≡ reader.old }
     ensures few { IsBegun (R.remaining reader.old) (R.remaining reader.new) 4194305 }
 {
-    match answered(alloc, words, reader) {
+    match answered(alloc, words, read, reader) {
         Ok(answer) => Ok(answer),
         Err(fault) => faulted(alloc, words, fault),
     }
 }
 
 /// The same, without the explanation of a fault.
-fn answered<R: Source>(alloc: Global, words: &[String], reader: &mut R) -> Result<Answer, Fault>
+fn answered<R: Source>(
+    alloc: Global,
+    words: &[String],
+    read: Result<Request, Fault>,
+    reader: &mut R,
+) -> Result<Answer, Fault>
+    requires read { IsReadFrom (texts words.now) read }
+    requires sized { IfOk read IsSized }
+    requires one { IfOk read HasOneText }
     ensures told { Gives (IsExplained (IsRight (texts words.now) (R.remaining reader.old) (R.remaining reader.new) (R.failures reader.old) (R.failures reader.new))) result }
     ensures unread { (AskForFile (texts words.now) → ⊥) → reader.new ≡ reader.old }
     ensures few { IsBegun (R.remaining reader.old) (R.remaining reader.new) 4194305 }
 {
-    let request = card_words::read(alloc, words)?;
+    let request = read?;
     answered_to(alloc, words, request, reader)
 }
 
@@ -57,7 +69,8 @@ fn answered_to<R: Source>(
     request: Request,
     reader: &mut R,
 ) -> Result<Answer, Fault>
-    requires { IsSized request }
+    requires sized { IsSized request }
+    requires one { HasOneText request }
     ensures told { Gives (IsExplained (IsRightTo request (R.remaining reader.old) (R.remaining reader.new) (R.failures reader.old) (R.failures reader.new))) result }
     ensures unread { (NeedsFile request → ⊥) → reader.new ≡ reader.old }
     ensures few { IsBegun (R.remaining reader.old) (R.remaining reader.new) 4194305 }
@@ -100,7 +113,8 @@ fn exchange_explained<R: Source>(
     request: Request,
     reader: &mut R,
 ) -> Result<Answer, Fault>
-    requires { IsSized request }
+    requires sized { IsSized request }
+    requires one { HasOneText request }
     ensures told { Gives (IsExplained (IsRightTo request (R.remaining reader.old) (R.remaining reader.new) (R.failures reader.old) (R.failures reader.new))) result }
     ensures unread { (NeedsFile request → ⊥) → reader.new ≡ reader.old }
     ensures few { IsBegun (R.remaining reader.old) (R.remaining reader.new) 4194305 }

@@ -19,6 +19,7 @@ pub mod file;
 pub mod forest;
 pub mod host;
 pub mod laws;
+mod lines;
 pub mod list;
 pub mod program;
 pub mod response;

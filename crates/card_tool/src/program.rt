@@ -1,16 +1,20 @@
 //! The program: from its words to the text that it writes.
 
-ghost use Rattle.std.specs.Prelude.{◌≡◌, ◌≤◌, IfOk};
-ghost use Rattle.card_tool.specs.Answers.{Answers, AnswersTo, Checks, Gives, IsWritten, Shows, Writes};
+ghost use Rattle.std.specs.Prelude.{◌≡◌, ◌≤◌, IfOk, IfErr};
+ghost use Rattle.card_tool.specs.Answers.{AnswersTo, Checks, Gives, HasOneText, IsReadFrom, IsWritten, Shows, Writes};
 ghost use Rattle.card_tool.specs.Explained.{IsRightWith};
 ghost use Rattle.card_tool.specs.Files.{IsBegun};
+ghost use Rattle.card_tool.specs.LineAnswers.{AskForNoLines, WritesLines};
 ghost use Rattle.card_words.specs.Texts.{fault_text};
-ghost use Rattle.card_words.specs.Words.{texts, AskForFile, IsSized, NeedsFile};
+ghost use Rattle.card_words.specs.Words.{texts, AskForFile, AskForLines, IsSized, NeedsFile};
+ghost use Rattle.card_words.specs.declared.request.Expected.{Expected as AnyExpected};
+ghost use Rattle.card_words.specs.declared.request.Request.TheVariants.{CheckLines};
 ghost use Rattle.card_tool.specs.declared.status.Status.TheVariants as ended;
 
 use crate::answer::Answer;
 use crate::explained::explained;
 use crate::file::{octets_given, read_whole};
+use crate::lines::check_lines;
 use crate::status::Status;
 use crate::{atr, block, chain, command, exchange, forest, list, response, simulation};
 use card_words::{Expected, Fault, Kind, Request, asks_to_explain};
@@ -24,17 +28,60 @@ use std::alloc::{AllocError, Global};
 /// the text is written; in both cases the status is `Fault`. The reader is read only where the words ask
 /// for octets of standard input or for a file of recorded exchanges, to its end, but no further than one
 /// octet past the largest file.
+///
+/// Where the words ask for the lines of standard input, each is answered by a line before the reader is
+/// called again, however many come; no explanation follows. After a fault of memory or of the reader no
+/// more lines are answered.
 pub fn run<R: Source, W: Sink>(
     alloc: Global,
     words: Vec<String>,
     reader: &mut R,
     writer: &mut W,
 ) -> Status
-    ensures written { Writes (IsRightWith (texts words.items) (R.remaining reader.old) (R.remaining reader.new) (R.failures reader.old) (R.failures reader.new)) (W.contents writer.old) (W.contents writer.new) (W.failures writer.old) (W.failures writer.new) result }
-    ensures unread { (AskForFile (texts words.items) → ⊥) → reader.new ≡ reader.old }
+    ensures written { AskForNoLines (texts words.items) → Writes (IsRightWith (texts words.items) (R.remaining reader.old) (R.remaining reader.new) (R.failures reader.old) (R.failures reader.new)) (W.contents writer.old) (W.contents writer.new) (W.failures writer.old) (W.failures writer.new) result }
+    ensures lines { (expected : AnyExpected) → AskForLines expected (texts words.items) → WritesLines expected (R.remaining reader.old) (R.remaining reader.new) (R.failures reader.old) (R.failures reader.new) (W.contents writer.old) (W.contents writer.new) (W.failures writer.old) (W.failures writer.new) result }
+    ensures unread { AskForNoLines (texts words.items) → (AskForFile (texts words.items) → ⊥) → reader.new ≡ reader.old }
+    ensures few { AskForNoLines (texts words.items) → IsBegun (R.remaining reader.old) (R.remaining reader.new) 4194305 }
+{
+    let words = words.as_slice();
+    match card_words::read(alloc, words) {
+        Ok(request) => match lines_asked(request) {
+            Ok(expected) => check_lines(alloc, expected, reader, writer),
+            Err(request) => one_text(alloc, words, Ok(request), reader, writer),
+        },
+        Err(Fault::Memory) => report(Fault::Memory, writer),
+        Err(fault) => one_text(alloc, words, Err(fault), reader, writer),
+    }
+}
+
+/// What the lines are taken for that a request asks for, or the request back.
+fn lines_asked(request: Request) -> Result<Expected, Request>
+    ensures lines { IfOk result (λ expected. request ≡ CheckLines expected) }
+    ensures same { IfErr result (λ same. request ≡ same) }
+    ensures one { IfErr result HasOneText }
+{
+    match request {
+        Request::CheckLines(expected) => Ok(expected),
+        other => Err(other),
+    }
+}
+
+/// Writes the one text that the words have, as what they were read.
+fn one_text<R: Source, W: Sink>(
+    alloc: Global,
+    words: &[String],
+    read: Result<Request, Fault>,
+    reader: &mut R,
+    writer: &mut W,
+) -> Status
+    requires read { IsReadFrom (texts words.now) read }
+    requires sized { IfOk read IsSized }
+    requires one { IfOk read HasOneText }
+    ensures written { Writes (IsRightWith (texts words.now) (R.remaining reader.old) (R.remaining reader.new) (R.failures reader.old) (R.failures reader.new)) (W.contents writer.old) (W.contents writer.new) (W.failures writer.old) (W.failures writer.new) result }
+    ensures unread { (AskForFile (texts words.now) → ⊥) → reader.new ≡ reader.old }
     ensures few { IsBegun (R.remaining reader.old) (R.remaining reader.new) 4194305 }
 {
-    match answer_as_asked(alloc, words.as_slice(), reader) {
+    match answer_as_asked(alloc, words, read, reader) {
         Ok(answer) => write(answer.text.get(), answer.status, writer),
         Err(fault) => report(fault, writer),
     }
@@ -47,7 +94,8 @@ pub fn report<W: Sink>(fault: Fault, writer: &mut W) -> Status
     write(fault.text().as_bytes(), Status::Fault, writer)
 }
 
-fn write<W: Sink>(text: &[u8], status: Status, writer: &mut W) -> Status
+/// Writes a text: the status, unless the writer fails.
+pub(crate) fn write<W: Sink>(text: &[u8], status: Status, writer: &mut W) -> Status
     ensures { IsWritten text.now status (W.contents writer.old) (W.contents writer.new) (W.failures writer.old) (W.failures writer.new) result }
 {
     match write_octets(writer, text) {
@@ -60,26 +108,20 @@ fn write<W: Sink>(text: &[u8], status: Status, writer: &mut W) -> Status
 fn answer_as_asked<R: Source>(
     alloc: Global,
     words: &[String],
+    read: Result<Request, Fault>,
     reader: &mut R,
 ) -> Result<Answer, Fault>
+    requires read { IsReadFrom (texts words.now) read }
+    requires sized { IfOk read IsSized }
+    requires one { IfOk read HasOneText }
     ensures told { Gives (IsRightWith (texts words.now) (R.remaining reader.old) (R.remaining reader.new) (R.failures reader.old) (R.failures reader.new)) result }
     ensures unread { (AskForFile (texts words.now) → ⊥) → reader.new ≡ reader.old }
     ensures few { IsBegun (R.remaining reader.old) (R.remaining reader.new) 4194305 }
 {
     if asks_to_explain(words) {
-        explained(alloc, words, reader)
-    } else {
-        answer(alloc, words, reader)
+        return explained(alloc, words, read, reader);
     }
-}
-
-/// The text and the status of what the words ask for.
-fn answer<R: Source>(alloc: Global, words: &[String], reader: &mut R) -> Result<Answer, Fault>
-    ensures told { Answers (texts words.now) (R.remaining reader.old) (R.remaining reader.new) (R.failures reader.old) (R.failures reader.new) result }
-    ensures unread { (AskForFile (texts words.now) → ⊥) → reader.new ≡ reader.old }
-    ensures few { IsBegun (R.remaining reader.old) (R.remaining reader.new) 4194305 }
-{
-    let request = card_words::read(alloc, words)?;
+    let request = read?;
     answer_to(alloc, request, reader)
 }
 
@@ -89,7 +131,8 @@ pub(crate) fn answer_to<R: Source>(
     request: Request,
     reader: &mut R,
 ) -> Result<Answer, Fault>
-    requires { IsSized request }
+    requires sized { IsSized request }
+    requires one { HasOneText request }
     ensures told { AnswersTo request (R.remaining reader.old) (R.remaining reader.new) (R.failures reader.old) (R.failures reader.new) result }
     ensures unread { (NeedsFile request → ⊥) → reader.new ≡ reader.old }
     ensures few { IsBegun (R.remaining reader.old) (R.remaining reader.new) 4194305 }
@@ -99,6 +142,7 @@ pub(crate) fn answer_to<R: Source>(
             let octets = octets_given(alloc, input.given, reader)?;
             Ok(check(alloc, input.expected, octets.get())?)
         }
+        Request::CheckLines(_) => unreachable!(),
         Request::Show(input) => {
             let octets = octets_given(alloc, input.given, reader)?;
             Ok(show(alloc, input.expected, octets.get())?)

@@ -8,10 +8,10 @@ use Rattle.hex.specs.declared.error.FromHexError.{FromHexError}
 use Rattle.hex.proofs.HexLemmas.{decode_of-ok}
 use Rattle.clap.specs.Words.{Row, all_of, first_of, subcommand_of}
 use Rattle.octet_core.specs.Octets.{AreOctets}
-use Rattle.card_words.specs.Given.{form_of, given_of, GivesOctets}
+use Rattle.card_words.specs.Given.{asks_for_lines, form_of, given_of, GivesOctets}
 use Rattle.card_words.specs.Session.{blocks_of, pair_of, pairs_of, AreOctetPairs, IsSize}
 use Rattle.card_words.specs.Value.{◌>>=◌, hex_octets, octets_of_word, parted, UnlessMemory}
-use Rattle.card_words.specs.Words.{byte_or, size_of, number_of, number_of_word, needed, kind_of, expected_of, input_of, short_message, chain_by, chain_of, tidy_of, fill_of, build_words, build_of, end_of_word, replay_of, all_or_none, asked_size, session_of, request_by, request_of, scard, HasOctets, IsRead, IsSized, taken, called_for_help, not_taken}
+use Rattle.card_words.specs.Words.{byte_or, size_of, number_of, number_of_word, needed, kind_of, expected_of, input_of, short_message, check_by, chain_by, chain_of, tidy_of, fill_of, build_words, build_of, end_of_word, replay_of, all_or_none, asked_size, session_of, request_by, request_of, scard, HasOctets, IsRead, IsSized, taken, called_for_help, not_taken}
 use Rattle.card_words.specs.declared.fault.Fault.{Fault}
 use Rattle.card_words.specs.declared.fault.Fault.TheVariants.{Words}
 use Rattle.card_words.specs.declared.session.Pair.{Pair}
@@ -20,7 +20,7 @@ use Rattle.card_words.specs.declared.given.Given.{Given}
 use Rattle.card_words.specs.declared.request.Expected.{Expected}
 use Rattle.card_words.specs.declared.request.Input.{Input}
 use Rattle.card_words.specs.declared.request.Request.{Request}
-use Rattle.card_words.specs.declared.request.Request.TheVariants.{BuildTidy, Migrate, Help}
+use Rattle.card_words.specs.declared.request.Request.TheVariants.{BuildTidy, CheckLines, Migrate, Help}
 
 pub both-steps : {A B : Type 0} (r : Result A Fault) (f : A → Result B Fault) (b : B) → r >>= f ≡ Ok b → (a : A) × (r ≡ Ok a) × (f a ≡ Ok b)
 both-steps (Ok a) f b h = (a, refl, h)
@@ -89,6 +89,15 @@ input-proper rows input h =
     let small = expected-sized rows expected.0 expected.1 in
     let octets = given-octets (first_of (codes "hex") rows) (first_of (codes "stdin") rows) given.0 given.1 in
     subst (λ (i : Input). (1 ≤ i.expected.ifs) × (i.expected.ifs ≤ 254) × GivesOctets i.given) (same _ input given.2) (small.0, small.1, octets)
+
+check-proper : (expected : Expected) (hex form : Option (List ℕ)) (request : Request) → (1 ≤ expected.ifs) × (expected.ifs ≤ 254) → check_by expected hex form ≡ Ok request → IsProper request
+check-proper expected hex form request small h =
+    elim (one-of (asks_for_lines hex form) (Ok (CheckLines expected)) _ request h) [
+      | inl lines ↦ subst IsProper (same _ request lines) (small, tt)
+      | inr other ↦
+          let given = both-steps (given_of hex form) _ request other in
+          subst IsProper (same _ request given.2) (small, given-octets hex form given.0 given.1)
+    ]
 
 short-by : (b : List ℕ) (message : List ℕ) (t : Bool) → nat_le (length b) 131072 ≡ t → (if t then Ok b else Err Words) ≡ Ok message → (b ≡ message) × (length message ≤ 131072)
 short-by b message true t h = let e : b ≡ message = same b message h in (e, subst (λ (l : List ℕ). length l ≤ 131072) e (grind (arith, nat_tests)))
@@ -194,9 +203,8 @@ named-proper : (name : List ℕ) (rows : List Row) (request : Request) → reque
 named-proper name rows request h =
     elim (one-of (bytes_eq name (codes "check")) _ _ request h) [
       | inl check ↦
-          let input = both-steps (input_of rows) _ request check in
-          let proper = input-proper rows input.0 input.1 in
-          subst IsProper (same _ request input.2) ((proper.0, proper.1), proper.2)
+          let expected = both-steps (expected_of rows) _ request check in
+          check-proper expected.0 (first_of (codes "hex") rows) (first_of (codes "stdin") rows) request (expected-sized rows expected.0 expected.1) expected.2
       | inr other ↦
           elim (one-of (bytes_eq name (codes "show")) _ _ request other) [
             | inl show ↦

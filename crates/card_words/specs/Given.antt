@@ -1,5 +1,5 @@
 -- Where octets come from: a word, or standard input in a form.
-use Rattle.std.specs.Prelude.{List, ℕ, codes, Option, Some, None, Result, Ok, Err, if◌then◌else◌}
+use Rattle.std.specs.Prelude.{List, ℕ, codes, Bool, false, Option, Some, None, Result, Ok, Err, if◌then◌else◌}
 use Rattle.std.specs.Str.{bytes_eq}
 use Rattle.octet_core.specs.Octets.{AreOctets}
 use Rattle.card_words.specs.Loose.{loose_octets}
@@ -24,6 +24,11 @@ abbrev pub given_of : Option (List ℕ) → Option (List ℕ) → Result Given F
 given_of (Some hex) None = octets_of_word hex >>= (λ octets. Ok (Word octets))
 given_of None (Some word) = form_of word >>= (λ form. Ok (Read form))
 given_of _ _ = Err Words
+
+-- lines of standard input, and no HEX word beside that
+abbrev pub asks_for_lines : Option (List ℕ) → Option (List ℕ) → Bool
+asks_for_lines None (Some word) = bytes_eq word (codes "lines")
+asks_for_lines _ _ = false
 
 -- ---- what they are
 

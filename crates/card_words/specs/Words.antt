@@ -10,7 +10,7 @@ use Rattle.clap.specs.declared.builder.value_parser.ValueParser.TheVariants as p
 use Rattle.clap.specs.declared.error.kind.ErrorKind.{ErrorKind}
 use Rattle.clap.specs.declared.error.kind.ErrorKind.TheVariants.{DisplayHelp, OutOfMemory}
 use Rattle.octet_core.specs.Octets.{AreOctets}
-use Rattle.card_words.specs.Given.{given_of, GivesOctets, IsAsRead, IsFromReader}
+use Rattle.card_words.specs.Given.{asks_for_lines, given_of, GivesOctets, IsAsRead, IsFromReader}
 use Rattle.card_words.specs.Known.{knowns_of}
 use Rattle.card_words.specs.Session.{blocks_of, pairs_of, AreOctetPairs, IsSize}
 use Rattle.card_words.specs.Value.{◌>>=◌, octets_of_word}
@@ -24,7 +24,7 @@ use Rattle.card_words.specs.declared.request.Expected.{Expected}
 use Rattle.card_words.specs.declared.request.Input.{Input}
 use Rattle.card_words.specs.declared.request.Request.{Request}
 use Rattle.card_words.specs.declared.session.Session.{Session}
-use Rattle.card_words.specs.declared.request.Request.TheVariants.{BuildChain, BuildTidy, BuildFill, Check, Show, Replay, Migrate, Simulate, Help}
+use Rattle.card_words.specs.declared.request.Request.TheVariants.{BuildChain, BuildTidy, BuildFill, Check, CheckLines, Show, Replay, Migrate, Simulate, Help}
 use Rattle.block_core.specs.declared.pcb.Number.{Number}
 use Rattle.block_core.specs.declared.pcb.Number.TheVariants.{Zero, One}
 use Rattle.clap.specs.declared.builder.action.ArgAction.TheVariants.{Append, SetTrue}
@@ -169,6 +169,15 @@ input_of rows = do
   given ← given_of (first_of (codes "hex") rows) (first_of (codes "stdin") rows)
   Ok (record { expected = expected; given = given })
 
+-- octets to be checked, or lines of them
+abbrev pub check_by : Expected → Option (List ℕ) → Option (List ℕ) → Result Request Fault
+check_by expected hex form =
+    if asks_for_lines hex form then Ok (CheckLines expected)
+    else given_of hex form >>= (λ given. Ok (Check (record { expected = expected; given = given })))
+
+abbrev pub check_of : List Row → Result Request Fault
+check_of rows = expected_of rows >>= (λ expected. check_by expected (first_of (codes "hex") rows) (first_of (codes "stdin") rows))
+
 -- a message that a chain can carry
 abbrev pub short_message : List ℕ → Result (List ℕ) Fault
 short_message octets = if nat_le (length octets) 131072 then Ok octets else Err Words
@@ -248,7 +257,7 @@ session_of rows = do
 
 abbrev pub request_by : List ℕ → List Row → Result Request Fault
 request_by name rows =
-    if bytes_eq name (codes "check") then input_of rows >>= (λ input. Ok (Check input))
+    if bytes_eq name (codes "check") then check_of rows
     else (if bytes_eq name (codes "show") then input_of rows >>= (λ input. Ok (Show input))
     else (if bytes_eq name (codes "build") then build_of rows
     else (if bytes_eq name (codes "replay") then replay_of rows
@@ -263,6 +272,7 @@ request_of (Some entered) = request_by entered.0 entered.1
 -- an information size that a request asks for is one
 abbrev pub IsSized : Request → Type 0
 IsSized (Check input) = (1 ≤ input.expected.ifs) × (input.expected.ifs ≤ 254)
+IsSized (CheckLines expected) = (1 ≤ expected.ifs) × (expected.ifs ≤ 254)
 IsSized (Show input) = (1 ≤ input.expected.ifs) × (input.expected.ifs ≤ 254)
 IsSized (BuildChain ifs number message) = (1 ≤ ifs) × (ifs ≤ 254) × (length message ≤ 131072)
 IsSized (BuildTidy given) = Unit {0}
@@ -275,6 +285,7 @@ IsSized (Help help) = Unit {0}
 -- what a request has for octets are octets
 abbrev pub HasOctets : Request → Type 0
 HasOctets (Check input) = GivesOctets input.given
+HasOctets (CheckLines expected) = Unit {0}
 HasOctets (Show input) = GivesOctets input.given
 HasOctets (BuildChain ifs number message) = AreOctets message
 HasOctets (BuildTidy given) = GivesOctets given
@@ -309,6 +320,10 @@ AskForFile = AskFor NeedsFile
 
 abbrev pub AskForOctets : List (List ℕ) → Type 0
 AskForOctets = AskFor NeedsOctets
+
+-- words that ask for the lines of standard input to be checked
+abbrev pub AskForLines : Expected → List (List ℕ) → Type 0
+AskForLines expected words = (fault_of scard words ≡ []) × (request_of (subcommand_of scard words) ≡ Ok (CheckLines expected))
 
 abbrev pub HasOther : Kinds → Type 0
 HasOther kinds = (kind : ErrorKind) × IsAmong kind kinds × (kind ≢ DisplayHelp)

@@ -262,7 +262,7 @@ fn stdin_arg<'a>(alloc: Global) -> Arg<'a>
         alloc,
         "stdin",
         "FORM",
-        "In place of HEX: read the octets from standard input, as FORM says: hex or octets",
+        "In place of HEX: read the octets from standard input, as FORM says: hex, octets, or for check lines",
     )
 }
 

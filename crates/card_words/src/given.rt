@@ -1,7 +1,7 @@
 //! Where octets come from: a word, or standard input.
 
 ghost use Rattle.std.specs.Prelude.{◌≡◌, option_map};
-ghost use Rattle.card_words.specs.Given.{form_of, given_of, octets_in};
+ghost use Rattle.card_words.specs.Given.{asks_for_lines, form_of, given_of, octets_in};
 ghost use Rattle.card_words.specs.Value.{UnlessMemory};
 
 use crate::fault::Fault;
@@ -53,6 +53,16 @@ pub(crate) fn read_given(
         (Some(hex), None) => Ok(Given::Word(octets(alloc, hex)?)),
         (None, Some(word)) => Ok(Given::Read(read_form(word)?)),
         _ => Err(Fault::Words),
+    }
+}
+
+/// Whether lines of standard input are asked for, and no HEX word is beside that.
+pub(crate) fn asks_for_lines(hex: Option<&str>, form_word: Option<&str>) -> bool
+    ensures { result ≡ asks_for_lines (option_map (λ word. word.now) hex.entry) (option_map (λ word. word.now) form_word.entry) }
+{
+    match (hex, form_word) {
+        (None, Some(word)) => word == "lines",
+        _ => false,
     }
 }
 

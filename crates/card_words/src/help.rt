@@ -64,9 +64,10 @@ pub(crate) const CHECK: Page<'static> = Page {
        scard check <KIND> --stdin <FORM> [--ifs <N>] [--number <N>]",
     after: "The kinds block and chain use --ifs, and chain uses --number; the others leave them unused.
 An answer to reset, a block and a chain may have more octets after them; the others end with the last octet.
+With --stdin lines each line of standard input is hexadecimal, and is answered by a line of its own as it comes.
 
 Exit status:
-  0  ok N octets: they are a value, or begin with one
+  0  ok N octets: they are a value, or begin with one; of lines, all of them
   1  short at P: more must come; refused at P: REASON: no value goes on after the octet at place P
   2  a fault, as fault: words or fault: hex
 

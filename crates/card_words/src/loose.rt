@@ -8,8 +8,9 @@ use crate::fault::Fault;
 use octet_core::Octets;
 use std::alloc::Global;
 
-/// The octets that a text gives in hexadecimal, two digits each, in groups that blanks part.
-pub(crate) fn loose_octets(alloc: Global, text: &[u8]) -> Result<Octets, Fault>
+/// The octets that a text gives in hexadecimal, two digits each, in groups that blanks part. A text that is no
+/// hexadecimal is `Hex`.
+pub fn loose_octets(alloc: Global, text: &[u8]) -> Result<Octets, Fault>
     ensures { UnlessMemory result (loose_octets text.now) }
 {
     let mut octets = Vec::with_capacity(alloc, text.len() / 2)?;

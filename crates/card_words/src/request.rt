@@ -91,6 +91,8 @@ impl Knowns {
 pub enum Request {
     /// Whether the octets are a value of the kind, and how many of them it takes.
     Check(Input),
+    /// The same of each line of standard input, which is hexadecimal as a text of it is.
+    CheckLines(Expected),
     /// The value that the octets spell.
     Show(Input),
     /// The blocks of the chain into which a message of at most 131,072 octets is cut.

@@ -4,13 +4,13 @@ ghost use Rattle.std.specs.Prelude.{◌≡◌, ◌⊎◌, ◌≤◌, [], Err, If
 ghost use Rattle.clap.specs.Words.{all_of, fault_of, first_of, found_of, rows_of, subcommand_of, subcommand_rows_of};
 ghost use Rattle.clap.specs.Kinds.{HasKind};
 ghost use Rattle.clap.specs.Values.{kind_of as error_kind};
-ghost use Rattle.card_words.specs.Words.{build_of, build_words, chain_of, end_of_word, asked_size, expected_of, session_of, input_of, kind_of, number_of, number_of_word, replay_of, request_of, scard, size_of, texts, tidy_of, fill_of, HasOctets, IsHelpOrFault, IsRead, IsSized};
+ghost use Rattle.card_words.specs.Words.{build_of, build_words, chain_of, check_of, end_of_word, asked_size, expected_of, session_of, input_of, kind_of, number_of, number_of_word, replay_of, request_of, scard, size_of, texts, tidy_of, fill_of, HasOctets, IsHelpOrFault, IsRead, IsSized};
 ghost use Rattle.card_words.specs.Session.{IsSize};
 ghost use Rattle.card_words.specs.Value.{UnlessMemory};
 
 use crate::fault::Fault;
 use crate::forms::program;
-use crate::given::read_given;
+use crate::given::{asks_for_lines, read_given};
 use crate::known::knowns;
 use crate::request::{End, Expected, Input, Kind, Request};
 use crate::session::{Session, read_blocks, read_pairs};
@@ -42,7 +42,7 @@ fn request(alloc: Global, matches: &ArgMatches) -> Result<Request, Fault>
         return Err(Fault::Words);
     };
     match name {
-        "check" => Ok(Request::Check(input(alloc, entered)?)),
+        "check" => check(alloc, entered),
         "show" => Ok(Request::Show(input(alloc, entered)?)),
         "build" => build(alloc, entered),
         "replay" => replay(entered),
@@ -57,6 +57,21 @@ fn entered<'a, 'b>(matches: &'b ArgMatches<'a>) -> Option<(&'a str, &'b ArgMatch
     ensures { option_map (λ p. (p.0.now, rows_of (found_of p.1.now))) result ≡ subcommand_rows_of matches.now }
 {
     matches.subcommand()
+}
+
+/// Octets to be checked, or lines of them.
+fn check(alloc: Global, matches: &ArgMatches) -> Result<Request, Fault>
+    ensures read { UnlessMemory result (check_of (rows_of (found_of matches.now))) }
+    ensures sized { IfOk result IsSized }
+{
+    let expected = expected(matches)?;
+    let hex = word(matches, "hex");
+    let form = word(matches, "stdin");
+    if asks_for_lines(hex, form) {
+        return Ok(Request::CheckLines(expected));
+    }
+    let given = read_given(alloc, hex, form)?;
+    Ok(Request::Check(Input { expected, given }))
 }
 
 /// Octets, and what they are taken for.

@@ -73,7 +73,12 @@ fn form_note(alloc: Global, words: &[String], form: usize) -> Result<String, All
             "standard input: octets are two hexadecimal digits each, in groups that blanks part\n";
         return String::from_str(alloc, text);
     }
-    said(alloc, form, "a form is hex or octets")
+    let what = if word_at(words, 1) == "check" {
+        "a form is hex, octets or lines"
+    } else {
+        "a form is hex or octets"
+    };
+    said(alloc, form, what)
 }
 
 /// What is built, and of which words.

@@ -8,6 +8,7 @@ mod explanations;
 mod file_explanations;
 mod files;
 mod largest;
+mod lines;
 mod objects;
 mod sessions;
 mod simulations;

@@ -200,7 +200,7 @@ const WORDS: [Row; 26] = [
         "check --stdin=text block",
         "fault: words\n",
         Status::Fault,
-        "word 2: a form is hex or octets\n",
+        "word 2: a form is hex, octets or lines\n",
     ),
     (
         "build chain 0 0 00",

@@ -1,6 +1,18 @@
+use Rattle.std.proofs.Common.{inl, inr}
+use Rattle.std.proofs.lemmas.Result.{err_from_is_err_and}
 use Rattle.card_words.specs.Words.{texts}
-use Rattle.card_tool.proofs.Explaining.{unasked}
+use Rattle.card_tool.proofs.Answering.{answered-words, refused-words}
+use Rattle.card_tool.proofs.Explaining.{unasked, unasked-fault}
 use Rattle.card_tool.proofs.program.answer_as_asked.Goals as goal
 
-pub returns-else-asks_to_explain-clause-told : goal.returns-else-asks_to_explain-clause-told
-returns-else-asks_to_explain-clause-told g c = unasked (texts c.args.words.now) (g.R.Source.remaining c.args.reader.now) (g.R.Source.remaining c.answer.new.reader) (g.R.Source.failures c.args.reader.now) (g.R.Source.failures c.answer.new.reader) c.answer.result c.answer.ensures.told
+pub returns-in_err-request-clause-told : goal.returns-in_err-request-clause-told
+returns-in_err-request-clause-told g c =
+    let fault = err_from_is_err_and c.from_residual.result c.from_residual.ensures.1 in
+    rw (fault.1, fault.2) (unasked-fault (texts c.args.words.now) _ _ _ _ c.in_err-request.field-0.0 (refused-words (texts c.args.words.now) _ _ c.in_err-request.field-0.0 (rw c.in_err-request.was at c.requires.read)))
+
+pub returns-clause-told : goal.returns-clause-told
+returns-clause-told g c =
+    elim (rw c.in_ok-request.was at c.requires.read) [
+      | inl memory ↦ absurd (cc memory)
+      | inr read ↦ unasked (texts c.args.words.now) (g.R.Source.remaining c.args.reader.now) (g.R.Source.remaining c.answer_to.new.reader) (g.R.Source.failures c.args.reader.now) (g.R.Source.failures c.answer_to.new.reader) c.answer_to.result (answered-words (texts c.args.words.now) _ _ _ _ c.in_ok-request.request c.answer_to.result read c.answer_to.ensures.told)
+    ]

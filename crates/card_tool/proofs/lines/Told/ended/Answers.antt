@@ -1,0 +1,24 @@
+use Rattle.std.proofs.Common.{◌++◌, List, ℕ, refl, subst}
+use Rattle.card_words.specs.Texts.{fault_text}
+use Rattle.card_words.specs.declared.fault.Fault.TheVariants.{Memory}
+use Rattle.card_tool.specs.Answers.{IsWritten}
+use Rattle.card_tool.specs.LineAnswers.{all_told, first_told}
+use Rattle.card_tool.specs.declared.status.Status.TheVariants as ended
+use Rattle.card_tool.proofs.ByLine.{begun-here}
+use Rattle.card_tool.proofs.lines.Told.ended.Goals as goal
+
+pub returns-in-Ok : goal.returns-in-Ok
+returns-in-Ok g c read written h = record {
+  text = c.last.new.self.text.items;
+  right = c.last.new.self.status;
+  is_right = all_told (c.in-Ok.ensures.told read written h);
+  is_written = rw c.as_slice.ensures.value at c.write.ensures;
+}
+
+pub returns-in-Err : goal.returns-in-Err
+returns-in-Err g c read written h = record {
+  text = c.args.self.text.items ++ fault_text Memory;
+  right = ended.Fault;
+  is_right = first_told c.args.self.text.items (begun-here c.args.self.expected read written c.args.self.line.items c.args.self.text.items c.args.self.status h) refl refl;
+  is_written = subst (λ (t : List ℕ). IsWritten (t ++ fault_text Memory) ended.Fault (g.W.Sink.contents c.args.writer.now) (g.W.Sink.contents c.faulted.new.writer) (g.W.Sink.failures c.args.writer.now) (g.W.Sink.failures c.faulted.new.writer) c.faulted.result) c.in-Err.ensures.kept c.faulted.ensures;
+}

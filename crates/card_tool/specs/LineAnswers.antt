@@ -1,0 +1,68 @@
+-- What is written where each line of standard input is checked.
+--
+-- held and left are the octets that the reader held before and after, where they are known; before and
+-- after are the counts of its calls that failed.
+use Rattle.std.specs.Prelude.{◌≡◌, ◌<◌, ◌≤◌, ◌++◌, ◌+◌, ◌^◌, ◌-◌, ℕ, List, [], Option, length, take}
+use Rattle.std.specs.Io.KnownBytes.{Appends, Consumes, IsAtEnd}
+use Rattle.octet_core.specs.Failures.{next_count, HasFailed}
+use Rattle.card_words.specs.Texts.{fault_text}
+use Rattle.card_words.specs.Words.{AskForLines}
+use Rattle.card_words.specs.declared.fault.Fault.TheVariants.{Memory, Read, TooLarge}
+use Rattle.card_words.specs.declared.request.Expected.{Expected}
+use Rattle.card_tool.specs.Answers.{AreLinesTold, Writes}
+use Rattle.card_tool.specs.Files.{largest_file}
+use Rattle.card_tool.specs.Lines.{all_lines, ended_lines, rest_after}
+use Rattle.card_tool.specs.declared.status.Status.{Status}
+use Rattle.card_tool.specs.declared.status.Status.TheVariants as status
+
+-- words that ask for no lines
+abbrev pub AskForNoLines : List (List ℕ) → Type 0
+AskForNoLines words = (expected : Expected) → AskForLines expected words → ⊥
+
+-- ---- where a reader has them
+
+-- so many octets may be the last that are read of an input without an end
+abbrev pub most_read : ℕ
+most_read = 2 ^ 64 - 1
+
+-- What reading lines comes to.
+pub data TellsLines (expected : Expected) (held left : Option (List ℕ)) (before after : ℕ) (text : List ℕ) (ended : Status) : Type 0 where
+  -- all lines of the octets that the reader had
+  whole : (read : List ℕ) → Consumes held left read → IsAtEnd left → after ≡ before → AreLinesTold expected (all_lines read) text ended → TellsLines expected held left before after text ended
+  -- a call of the reader failed: the lines that ended before, and the line of that fault
+  failed : (read told : List ℕ) (so_far : Status) → Consumes held left read → after ≡ next_count before → AreLinesTold expected (ended_lines read) told so_far
+      → text ≡ told ++ fault_text Read → ended ≡ status.Fault → TellsLines expected held left before after text ended
+  -- memory ran out: the first lines, and the line of that fault
+  wanting : (read told : List ℕ) (so_far : Status) (done more : List (List ℕ)) → Consumes held left read → after ≡ before → all_lines read ≡ done ++ more → AreLinesTold expected done told so_far
+      → text ≡ told ++ fault_text Memory → ended ≡ status.Fault → TellsLines expected held left before after text ended
+  -- so many octets came that they can't be counted
+  endless : (read told : List ℕ) (so_far : Status) → Consumes held left read → after ≡ before → most_read ≤ length read → AreLinesTold expected (ended_lines read) told so_far
+      → text ≡ told ++ fault_text TooLarge → ended ≡ status.Fault → TellsLines expected held left before after text ended
+
+-- What writing the answers to lines comes to.
+pub data WritesLines (expected : Expected) (held left : Option (List ℕ)) (before after : ℕ) (old new : Option (List ℕ)) (unwritten failures : ℕ) (ended : Status) : Type 0 where
+  -- one such text is written, or the writer failed within it
+  answered : Writes (TellsLines expected held left before after) old new unwritten failures ended → WritesLines expected held left before after old new unwritten failures ended
+  -- the writer failed within the text of the lines that had ended, and nothing was read after that
+  stopped : (read text : List ℕ) (so_far : Status) → Consumes held left read → after ≡ before → AreLinesTold expected (ended_lines read) text so_far
+      → (count : ℕ) → count < length text → Appends old new (take count text) → HasFailed unwritten failures → ended ≡ status.Fault → WritesLines expected held left before after old new unwritten failures ended
+
+-- ---- the lines so far
+
+-- What is kept after octets were read: the line under way, of which no more than one octet past the limit, and what its lines are told by, of which some is written.
+pub record HasSaid (expected : Expected) (read written line text : List ℕ) (ended : Status) : Type 0 where
+  pub is_told : AreLinesTold expected (ended_lines read) (written ++ text) ended
+  pub is_line : line ≡ take (largest_file + 1) (rest_after [] read)
+
+-- the first of the lines are told
+pub record HasBegun (expected : Expected) (lines : List (List ℕ)) (text : List ℕ) : Type 0 where
+  pub done : List (List ℕ)
+  pub more : List (List ℕ)
+  pub so_far : Status
+  pub is_front : lines ≡ done ++ more
+  pub is_told : AreLinesTold expected done text so_far
+
+-- what is left to be written at the end of the input, where some is written
+pub data IsRest (expected : Expected) (lines : List (List ℕ)) (written text : List ℕ) (ended : Status) : Type 0 where
+  all_told : AreLinesTold expected lines (written ++ text) ended → IsRest expected lines written text ended
+  first_told : (told : List ℕ) → HasBegun expected lines (written ++ told) → text ≡ told ++ fault_text Memory → ended ≡ status.Fault → IsRest expected lines written text ended

@@ -1,0 +1,179 @@
+//! Lines of standard input, each of which is checked and answered as it comes.
+
+ghost use Rattle.std.specs.Prelude.{◌≡◌, ◌≤◌, ◌++◌, ◌∷◌, [], ℕ, List, IfOk, OnOk, OnErr};
+ghost use Rattle.card_tool.specs.Answers.{AreLinesTold, IsLineTold, IsWritten, Writes};
+ghost use Rattle.card_tool.specs.LineAnswers.{HasBegun, HasSaid, IsRest, WritesLines};
+ghost use Rattle.card_tool.specs.Lines.{all_lines, worse};
+ghost use Rattle.card_tool.specs.declared.status.Status.TheVariants as ended;
+ghost use Rattle.card_words.specs.Texts.{fault_text};
+ghost use Rattle.card_tool.specs.declared.status.Status.{Status as AnyStatus};
+
+use crate::answer::Answer;
+use crate::file::LARGEST_FILE;
+use crate::program::{check, report, write};
+use crate::status::Status;
+use card_words::{Expected, Fault, loose_octets};
+use octet_core::{Sink, Source, write_octets};
+use std::alloc::{AllocError, Global};
+
+/// How many octets are read by one call at most.
+const PIECE: usize = 8_192;
+
+/// What is kept between two calls of the reader.
+#[derive(Drop)]
+struct Told {
+    expected: Expected,
+    /// The octets of the line under way, but no more than one past the limit.
+    line: Vec<u8>,
+    /// What is still to be written.
+    text: Vec<u8>,
+    /// How the program ends where no more lines come.
+    status: Status,
+}
+
+/// Answers each line of the reader by a line, before the next call of the reader.
+pub(crate) fn check_lines<R: Source, W: Sink>(
+    alloc: Global,
+    expected: Expected,
+    reader: &mut R,
+    writer: &mut W,
+) -> Status
+    requires least { 1 ≤ expected.ifs }
+    requires most { expected.ifs ≤ 254 }
+    ensures { WritesLines expected (R.remaining reader.old) (R.remaining reader.new) (R.failures reader.old) (R.failures reader.new) (W.contents writer.old) (W.contents writer.new) (W.failures writer.old) (W.failures writer.new) result }
+{
+    let mut told = Told {
+        expected,
+        line: Vec::new(alloc),
+        text: Vec::new(alloc),
+        status: Status::Accepted,
+    };
+    let mut room = [0; PIECE];
+    for _turn in 0..u64::MAX {
+        match write_octets(writer, told.text.as_slice()) {
+            Ok(()) => told.text.clear(),
+            Err(_) => return Status::Fault,
+        }
+        match reader.read(&mut room) {
+            Ok(0) => return told.ended(alloc, writer),
+            Ok(count) => match told.feed(alloc, &room[..count]) {
+                Ok(()) => {}
+                Err(_) => return told.faulted(Fault::Memory, writer),
+            },
+            Err(_) => return told.faulted(Fault::Read, writer),
+        }
+    }
+    told.faulted(Fault::TooLarge, writer)
+}
+
+impl Told {
+    /// Takes the octets of a piece, and answers the lines that end in it.
+    fn feed(&mut self, alloc: Global, piece: &[u8]) -> Result<(), AllocError>
+        requires least { 1 ≤ self.old.expected.ifs }
+        requires most { self.old.expected.ifs ≤ 254 }
+        ensures expected { self.new.expected ≡ self.old.expected }
+        ensures said { OnOk result ((read written : List ℕ) → HasSaid self.old.expected read written self.old.line.items self.old.text.items self.old.status → HasSaid self.old.expected (read ++ piece.now) written self.new.line.items self.new.text.items self.new.status) }
+        ensures begun { OnErr result ((read written : List ℕ) → HasSaid self.old.expected read written self.old.line.items self.old.text.items self.old.status → HasBegun self.old.expected (all_lines (read ++ piece.now)) (written ++ self.new.text.items)) }
+    {
+        for octet in piece {
+            self.take(alloc, *octet)?;
+        }
+        Ok(())
+    }
+
+    /// Takes an octet, and answers the line that it ends.
+    fn take(&mut self, alloc: Global, octet: u8) -> Result<(), AllocError>
+        requires least { 1 ≤ self.old.expected.ifs }
+        requires most { self.old.expected.ifs ≤ 254 }
+        ensures expected { self.new.expected ≡ self.old.expected }
+        ensures said { OnOk result ((read written : List ℕ) → HasSaid self.old.expected read written self.old.line.items self.old.text.items self.old.status → HasSaid self.old.expected (read ++ (octet ∷ [])) written self.new.line.items self.new.text.items self.new.status) }
+        ensures kept { OnErr result (self.new.text.items ≡ self.old.text.items) }
+    {
+        if octet == b'\n' {
+            return self.answer(alloc);
+        }
+        if self.line.len() <= LARGEST_FILE {
+            self.line.push(octet)?;
+        }
+        Ok(())
+    }
+
+    /// Answers the line under way, and begins another.
+    fn answer(&mut self, alloc: Global) -> Result<(), AllocError>
+        requires least { 1 ≤ self.old.expected.ifs }
+        requires most { self.old.expected.ifs ≤ 254 }
+        ensures expected { self.new.expected ≡ self.old.expected }
+        ensures told { OnOk result ((text : List ℕ) × (ended : AnyStatus) × IsLineTold self.old.expected self.old.line.items text ended × (self.new.text.items ≡ self.old.text.items ++ text) × (self.new.status ≡ worse self.old.status ended)) }
+        ensures line { OnOk result (self.new.line.items ≡ []) }
+        ensures kept { OnErr result (self.new.text.items ≡ self.old.text.items) }
+    {
+        let answer = line_answer(alloc, self.expected, self.line.as_slice())?;
+        self.text.extend_from_slice(answer.text.get())?;
+        self.status = worse(self.status, answer.status);
+        self.line.clear();
+        Ok(())
+    }
+
+    /// Answers the last line, where it has octets: it needs no end.
+    fn last(&mut self, alloc: Global) -> Result<(), AllocError>
+        requires least { 1 ≤ self.old.expected.ifs }
+        requires most { self.old.expected.ifs ≤ 254 }
+        ensures told { OnOk result ((read written : List ℕ) → HasSaid self.old.expected read written self.old.line.items self.old.text.items self.old.status → AreLinesTold self.old.expected (all_lines read) (written ++ self.new.text.items) self.new.status) }
+        ensures kept { OnErr result (self.new.text.items ≡ self.old.text.items) }
+    {
+        if self.line.is_empty() {
+            return Ok(());
+        }
+        self.answer(alloc)
+    }
+
+    /// Answers the last line, and writes what is left.
+    fn ended<W: Sink>(mut self, alloc: Global, writer: &mut W) -> Status
+        requires least { 1 ≤ self.expected.ifs }
+        requires most { self.expected.ifs ≤ 254 }
+        ensures { (read written : List ℕ) → HasSaid self.expected read written self.line.items self.text.items self.status → Writes (IsRest self.expected (all_lines read) written) (W.contents writer.old) (W.contents writer.new) (W.failures writer.old) (W.failures writer.new) result }
+    {
+        match self.last(alloc) {
+            Ok(()) => write(self.text.as_slice(), self.status, writer),
+            Err(_) => self.faulted(Fault::Memory, writer),
+        }
+    }
+
+    /// Writes what is left, and the line of a fault.
+    fn faulted<W: Sink>(self, fault: Fault, writer: &mut W) -> Status
+        ensures { IsWritten (self.text.items ++ fault_text fault) ended.Fault (W.contents writer.old) (W.contents writer.new) (W.failures writer.old) (W.failures writer.new) result }
+    {
+        match write_octets(writer, self.text.as_slice()) {
+            Ok(()) => report(fault, writer),
+            Err(_) => Status::Fault,
+        }
+    }
+}
+
+/// The line that a line of octets is answered by.
+fn line_answer(alloc: Global, expected: Expected, line: &[u8]) -> Result<Answer, AllocError>
+    requires least { 1 ≤ expected.ifs }
+    requires most { expected.ifs ≤ 254 }
+    ensures { IfOk result (λ answer. IsLineTold expected line.now answer.text answer.status) }
+{
+    if line.len() > LARGEST_FILE {
+        return Answer::faulted(alloc, Fault::TooLarge);
+    }
+    match loose_octets(alloc, line) {
+        Ok(octets) => check(alloc, expected, octets.get()),
+        Err(Fault::Memory) => Err(AllocError),
+        Err(fault) => Answer::faulted(alloc, fault),
+    }
+}
+
+/// The worse of two ends.
+fn worse(status: Status, other: Status) -> Status
+    ensures { result ≡ worse status other }
+{
+    match (status, other) {
+        (Status::Accepted, other) => other,
+        (Status::Refused, Status::Accepted) => Status::Refused,
+        (Status::Refused, other) => other,
+        (Status::Fault, _) => Status::Fault,
+    }
+}
