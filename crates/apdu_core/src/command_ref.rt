@@ -25,7 +25,7 @@ pub(crate) enum BodyRef<'a> {
     LongBoth { part: &'a [u8], le: u32 },
 }
 
-/// A command whose data field stands in the octets from which it was read (ISO/IEC 7816-3, clause 12).
+/// A command whose data field lies in the octets from which it was read (ISO/IEC 7816-3, clause 12).
 #[derive(Drop)]
 pub struct CommandRef<'a> {
     header: [u8; 4],

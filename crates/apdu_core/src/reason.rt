@@ -40,7 +40,7 @@ impl Error for CommandReason {}
 /// Why octets are no response APDU.
 #[derive(Clone, Copy, Debug, PartialEq, Eq)]
 pub enum ResponseReason {
-    /// The octet stands at place 65,538, after the last that the longest response has.
+    /// The octet is at place 65,538, after the last that the longest response has.
     TooLong,
 }
 

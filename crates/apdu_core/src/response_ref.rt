@@ -13,7 +13,7 @@ use std::alloc::{AllocError, Global};
 use std::fmt::{self, Debug, Formatter, Write};
 use std::marker::Model;
 
-/// A response whose data field stands in the octets from which it was read (ISO/IEC 7816-3, clause 12).
+/// A response whose data field lies in the octets from which it was read (ISO/IEC 7816-3, clause 12).
 #[derive(Drop)]
 pub struct ResponseRef<'a> {
     part: &'a [u8],

@@ -206,7 +206,7 @@ fn are_protocols(indicated: &[Indicated]) -> bool
     indicated.iter().all(|x| x.protocol < 16)
 }
 
-/// Whether a TCK stands: where some protocol other than T=0 is indicated.
+/// Whether there is a TCK: where some protocol other than T=0 is indicated.
 pub(crate) fn has_tck(indicated: &[Indicated]) -> bool
     ensures { result ≡ needs_tck indicated.now }
 {

@@ -118,7 +118,7 @@ fn push_bytes(octets: &mut ArrayVec<u8, 32>, bytes: Interface)
     push_byte(octets, bytes.tc);
 }
 
-/// Appends an interface byte, if it stands.
+/// Appends an interface byte, if it is there.
 fn push_byte(octets: &mut ArrayVec<u8, 32>, byte: Option<u8>)
     requires { array_vec_len octets.old + length (option_to_list byte) ≤ 32 }
     ensures { octets.new.items ≡ octets.old.items ++ option_to_list byte }

@@ -11,13 +11,13 @@ use std::error::Error;
 use std::fmt::{self, Display, Formatter, Write};
 use std::marker::Model;
 
-/// IFSC where no TA for T=1 stands.
+/// IFSC where there is no TA for T=1.
 const DEFAULT_IFSC: u8 = 32;
 
-/// BWI 4 and CWI 13, where no TB for T=1 stands.
+/// BWI 4 and CWI 13, where there is no TB for T=1.
 const DEFAULT_WAITING: u8 = 0x4D;
 
-/// The LRC, where no TC for T=1 stands.
+/// The LRC, where there is no TC for T=1.
 const DEFAULT_CODE: u8 = 0;
 
 /// The parameters of T=1 (ISO/IEC 7816-3, clause 11.4).

@@ -39,7 +39,7 @@ pub(crate) struct Header {
     bytes: Interface,
     /// What the same T0 or TD announces and hasn't come.
     awaited: Announced,
-    /// Whether a TCK stands: some protocol isn't 0.
+    /// Whether there is a TCK: some protocol isn't 0.
     tck: bool,
     /// The exclusive-or of all octets from T0 on.
     sum: u8,
@@ -56,7 +56,7 @@ pub(crate) struct Tail {
     historical: ArrayVec<u8, 15>,
     /// How many historical bytes T0 announces.
     historical_len: usize,
-    /// Whether a TCK stands.
+    /// Whether there is a TCK.
     tck: bool,
     /// The exclusive-or of all octets from T0 on.
     sum: u8,

@@ -5,7 +5,7 @@ ghost use Rattle.atr_core.specs.Rates.{rates_of};
 
 use crate::Atr;
 
-/// TA1 where none stands: Fi 372 and Di 1.
+/// TA1 where there is none: Fi 372 and Di 1.
 const DEFAULT_TA1: u8 = 0x11;
 
 /// The clock rate conversion integers Fi by their index, `None` where reserved.
@@ -49,7 +49,7 @@ const BAUD_RATES: [Option<u16>; 16] = [
 ];
 
 /// The integers Fi and Di that TA1 gives by its high and its low nibble, or those of the default 11
-/// where no TA1 stands; `None` for one whose index is reserved (ISO/IEC 7816-3, clause 8.3).
+/// where there is no TA1; `None` for one whose index is reserved (ISO/IEC 7816-3, clause 8.3).
 pub fn rates(atr: &Atr) -> (Option<u16>, Option<u16>)
     ensures { result ≡ rates_of atr.now }
 {

@@ -14,7 +14,7 @@ use octet_core::{Stop, lrc};
 use std::fmt::{self, Debug, Formatter, Write};
 use std::marker::Model;
 
-/// A block whose information field stands in the octets from which it was read (ISO/IEC 7816-3, clause
+/// A block whose information field lies in the octets from which it was read (ISO/IEC 7816-3, clause
 /// 11.3). Contracts see the same parts as of a `Block`.
 #[derive(Drop)]
 pub struct BlockRef<'a> {

@@ -80,7 +80,7 @@ impl BlockReader {
     }
 
     /// What there is to say when no more octets come: `Short` with the octets taken where the block isn't
-    /// whole, or the refusal that stands.
+    /// whole, or the refusal that is kept.
     pub fn finish(&self) -> Result<(), Stop<BlockReason>>
         ensures { IsFinished (IsBlock self.now.ifs) (IsReason self.now.ifs) HasTaken refusal_of self.now result }
     {

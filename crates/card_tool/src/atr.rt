@@ -36,7 +36,7 @@ pub(crate) fn show(alloc: Global, octets: &[u8]) -> Result<Answer, AllocError>
     }
 }
 
-/// An answer to reset, line by line: its convention, each interface byte that stands, the historical
+/// An answer to reset, line by line: its convention, each interface byte that is there, the historical
 /// bytes, TCK, the rates, and the parameters of T=1 or why there are none.
 fn lines(alloc: Global, atr: &Atr) -> Result<String, AllocError>
     ensures { IfOk result (λ text. string_bytes text ≡ atr_text atr.now) }
@@ -51,7 +51,7 @@ fn lines(alloc: Global, atr: &Atr) -> Result<String, AllocError>
     )
 }
 
-/// Each interface byte that stands, in its order.
+/// Each interface byte that is there, in its order.
 fn interface_lines(alloc: Global, atr: &Atr) -> Result<String, AllocError>
     ensures { IfOk result (λ text. string_bytes text ≡ interface_text atr.now) }
 {

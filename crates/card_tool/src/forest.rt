@@ -86,7 +86,7 @@ fn part_lines(alloc: Global, parts: &[Part<'_>]) -> Result<String, AllocError>
     Ok(lines)
 }
 
-/// An object, behind two spaces for each depth above 1: its tag, its length field and its value.
+/// An object, after two spaces for each depth above 1: its tag, its length field and its value.
 fn part_line(alloc: Global, part: &Part<'_>) -> Result<String, AllocError>
     ensures { IfOk result (λ text. string_bytes text ≡ part_text (part_seen part.now)) }
 {

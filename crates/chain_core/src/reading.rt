@@ -52,7 +52,7 @@ const MOST_WANTED: usize = 255;
 /// octets of the chain that came before the end, and the receiver is as after them. `At` gives the first
 /// octet after which no chain goes on, counted from the first that was fed since the receiver was new or
 /// restarted, and its reason; the receiver keeps it. No octet is then read past the first three of the block
-/// in which that octet stands, or past that octet.
+/// in which that octet is, or past that octet.
 ///
 /// Where the receiver is done the answer is `Ok(())`, and where it refused that refusal; then nothing is
 /// read.

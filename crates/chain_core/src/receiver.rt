@@ -113,7 +113,7 @@ impl Receiver {
     }
 
     /// What there is to say when no more octets come: `Short` with the octets taken where the chain isn't
-    /// whole, or the refusal that stands.
+    /// whole, or the refusal that is kept.
     pub fn finish(&self) -> Result<(), Stop<ChainReason>>
         ensures finished { IsFinished (IsChain self.now.ifs self.now.number self.now.max) (IsReason self.now.ifs self.now.number self.now.max) HasTaken refusal_of self.now result }
         ensures done { OnOk result ((self.now.refusal ≡ None) × (self.now.done ≡ true)) }

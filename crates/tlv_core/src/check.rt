@@ -16,7 +16,7 @@ use std::marker::Model;
 /// A check of the octets of a forest that come in pieces. It takes no memory: it keeps the places at
 /// which open objects end, at most 16, and the octets of a header, at most seven.
 ///
-/// Contracts see what the octets so far leave open, and the refusal that stands.
+/// Contracts see what the octets so far leave open, and the refusal that is kept.
 #[derive(Drop)]
 pub struct ForestCheck {
     checking: Checking,
@@ -69,7 +69,7 @@ impl ForestCheck {
     }
 
     /// The verdict on all pieces fed: `Ok` where they are a forest, `Short` at their end where one goes
-    /// on, and the refusal that stands.
+    /// on, and the refusal that is kept.
     pub fn finish(&self) -> Result<(), Stop<TlvReason>>
         ensures repeats { OnSome self.now.refusal (result ≡ answer_of self.now.refusal) }
         ensures verdict { (b : List ℕ) → HasChecked b self.now → MatchResult result (λ _. (t : Tree) × IsForest self.now.kept.max t b)
@@ -90,7 +90,7 @@ impl ForestCheck {
     }
 }
 
-/// How far the octets have come, and the refusal that stands: no octet is shown.
+/// How far the octets have come, and the refusal that is kept: no octet is shown.
 impl Debug for ForestCheck {
     fn fmt<W: Write>(&self, f: &mut Formatter<W>) -> fmt::Result {
         f.debug_struct("ForestCheck")

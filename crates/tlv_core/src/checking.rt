@@ -49,7 +49,7 @@ impl Checking {
     }
 
     /// The verdict on all octets: `Ok` where they are a forest, `Short` at their end where one goes on, and
-    /// the refusal that stands.
+    /// the refusal that is kept.
     pub(crate) fn finish(&self) -> Result<(), Stop<TlvReason>>
         ensures repeats { OnSome self.now.refused (result ≡ answer_of (checked_of self.now).refusal) }
         ensures verdict { (b : List ℕ) → HasChecked b (checked_of self.now) → MatchResult result (λ _. (t : Tree) × IsForest self.now.progress.max t b)
@@ -66,7 +66,7 @@ impl Checking {
         })
     }
 
-    /// The refusal that stands.
+    /// The refusal that is kept.
     pub(crate) fn refusal(&self) -> Option<Refusal>
         ensures { result ≡ (checked_of self.now).refusal }
     {

@@ -15,7 +15,7 @@ pub const LARGEST_FOREST: usize = 1_048_576;
 /// Why a list of nodes is no forest.
 #[derive(Clone, Copy, Debug, PartialEq, Eq)]
 pub enum Improper {
-    /// An object stands inside one of depth 16.
+    /// An object is inside one of depth 16.
     Depth,
     /// Bit 6 of a tag disagrees with the kind of its object.
     Tag,

@@ -8,10 +8,10 @@ use crate::tag::Tag;
 use arrayvec::ArrayVec;
 use std::fmt::{self, Debug, Formatter, Write};
 
-/// An object of a forest, with its value as it stands in the octets of the forest.
+/// An object of a forest, with its value as it is in the octets of the forest.
 #[derive(Clone, Copy, PartialEq, Eq)]
 pub struct Part<'a> {
-    /// The depth at which the object stands, 1 to 16.
+    /// The depth of the object, 1 to 16.
     pub depth: usize,
     /// Its tag.
     pub tag: Tag,

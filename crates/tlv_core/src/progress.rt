@@ -15,7 +15,7 @@ use crate::reason::{Refusal, TlvReason};
 use crate::short::{ShortHeader, short_header};
 use arrayvec::ArrayVec;
 
-/// The greatest depth at which an object stands; the outermost objects stand at depth 1.
+/// The greatest depth of an object; the outermost objects have depth 1.
 pub(crate) const DEEPEST: usize = 16;
 
 /// What is kept of the octets of a forest that were taken so far.

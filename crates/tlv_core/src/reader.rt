@@ -19,7 +19,7 @@ use std::marker::Model;
 /// A reader of a forest that is fed in pieces of any length. It keeps the tree that its octets make so
 /// far: the objects that are open, at most 16, the lists before them, and the value under way.
 ///
-/// Contracts see that tree, what the octets so far leave open, and the refusal that stands.
+/// Contracts see that tree, what the octets so far leave open, and the refusal that is kept.
 #[derive(Drop)]
 pub struct ForestReader {
     progress: Progress,
@@ -83,7 +83,7 @@ impl ForestReader {
         Ok(())
     }
 
-    /// That no more octets come: the forest that the octets taken spell, the refusal that stands, or
+    /// That no more octets come: the forest that the octets taken spell, the refusal that is kept, or
     /// `Short` at their end.
     pub fn finish(self) -> Result<Forest, Stop<TlvReason>>
         ensures repeats { (refusal : Refusal) → self.refusal ≡ Some refusal → result ≡ Err (stop_of refusal) }
@@ -145,7 +145,7 @@ impl ForestReader {
     }
 }
 
-/// How far the octets have come, and the refusal that stands: no octet is shown.
+/// How far the octets have come, and the refusal that is kept: no octet is shown.
 impl Debug for ForestReader {
     fn fmt<W: Write>(&self, f: &mut Formatter<W>) -> fmt::Result {
         f.debug_struct("ForestReader")

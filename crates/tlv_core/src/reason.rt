@@ -8,7 +8,7 @@ use std::error::Error;
 use std::fmt::{self, Display, Formatter, Write};
 
 /// Why octets are no forest: what is wrong with the first octet after which none goes on. Where two
-/// of them hold, the one that stands first here is the reason.
+/// of them hold, the one that is first here is the reason.
 #[derive(Clone, Copy, Debug, PartialEq, Eq)]
 pub enum TlvReason {
     /// An object begins inside an object of depth 16.
@@ -56,7 +56,7 @@ impl Display for TlvReason {
 
 impl Error for TlvReason {}
 
-/// Why octets are no data object list. Where two of them hold, the one that stands first here is the
+/// Why octets are no data object list. Where two of them hold, the one that is first here is the
 /// reason.
 #[derive(Clone, Copy, Debug, PartialEq, Eq)]
 pub enum DolReason {

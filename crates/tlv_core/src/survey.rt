@@ -49,7 +49,7 @@ fn octets_with(tag: &Tag, form: Form, len: usize) -> usize
     len.saturating_add(header)
 }
 
-/// Whether an object stands too deep, where the list stands at this depth.
+/// Whether an object is too deep, where the list is at this depth.
 pub(crate) fn has_deep(nodes: &Nodes, depth: usize) -> bool
     requires { depth ≤ 17 }
     ensures { IsTrue result ↔ SomeObject IsDeep depth nodes.now }
@@ -72,7 +72,7 @@ pub(crate) fn has_deep(nodes: &Nodes, depth: usize) -> bool
     false
 }
 
-/// Whether the node is an object that stands too deep, at this depth.
+/// Whether the node is an object that is too deep, at this depth.
 fn is_deep(node: &Node, depth: usize) -> bool
     ensures { IsTrue result ↔ OwnIs IsDeep depth node.now }
 {

@@ -21,7 +21,7 @@ use std::process::Abort;
 use std::test::Fail;
 use testing::same;
 
-/// The words of a command line, behind the program's name.
+/// The words of a command line, after the program's name.
 pub(super) fn words_of(alloc: Global, line: &[&str]) -> Result<Vec<String>, AllocError> {
     let mut words = Vec::new(alloc);
     words.push(String::from_str(alloc, "scard")?)?;

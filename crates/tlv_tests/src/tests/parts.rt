@@ -52,7 +52,7 @@ fn parts_are_in_preorder(rt: HostRuntime) -> Result<(), Fail> {
     )
 }
 
-/// Where the header and the value of each object begin, after fillers and behind long length fields.
+/// Where the header and the value of each object begin, after fillers and after long length fields.
 const PLACES: [(usize, usize); 4] = [(1, 4), (5, 9), (10, 12), (12, 14)];
 
 #[test]
