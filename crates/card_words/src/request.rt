@@ -86,8 +86,31 @@ impl Knowns {
     }
 }
 
+impl PartialEq for Knowns {
+    ghost use lib.Pointwise.{pointwise};
+    ghost use Rattle.std.specs.Cmp.{partial_equiv_from_equiv};
+    ghost use Rattle.std.proofs.lemmas.Cmp.{lists_equiv};
+    ghost use Rattle.tlv_core.specs.contracts.known.KnownPartialEq.TheImpl as same_known;
+    ghost use Rattle.tlv_core.specs.contracts.known.KnownEq.TheImpl.Laws as same_laws;
+
+    ghost eq = { pointwise same_known.eq-value.it };
+
+    ghost laws = { partial_equiv_from_equiv (lists_equiv same_laws.laws-law) };
+
+    fn eq(&self, other: &Self) -> bool {
+        self.get() == other.get()
+    }
+}
+
+impl Eq for Knowns {
+    ghost use Rattle.std.proofs.lemmas.Cmp.{lists_equiv};
+    ghost use Rattle.tlv_core.specs.contracts.known.KnownEq.TheImpl.Laws as same_laws;
+
+    ghost laws = { lists_equiv same_laws.laws-law };
+}
+
 /// What a command line asks for.
-#[derive(Debug, Drop)]
+#[derive(Debug, PartialEq, Eq, Drop)]
 pub enum Request {
     /// Whether the octets are a value of the kind, and how many of them it takes.
     Check(Input),
