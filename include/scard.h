@@ -437,7 +437,10 @@ struct scard_turn {
 struct scard_verdict scard_terminal_open(struct scard_handle *handle, uint8_t ifsc, uint8_t bwi, uint8_t cwi);
 struct scard_verdict scard_card_open(struct scard_handle *handle, uint8_t ifsc, uint8_t bwi, uint8_t cwi);
 
-/* Frees what the handle holds, and leaves it empty. An empty handle is fine. */
+/*
+ * Frees what the handle holds, and leaves it empty. An empty handle is fine. The buffers of an end are overwritten
+ * before their memory is given back.
+ */
 void scard_close(struct scard_handle *handle);
 
 /* The calls of an end. Each wants a buffer of SCARD_BLOCK_ROOM octets, and writes the octets of a block to it at

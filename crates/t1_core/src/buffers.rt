@@ -26,6 +26,21 @@ pub(crate) fn overwrite(buffer: &mut [u8])
     buffer.fill(0);
 }
 
+/// Gives the memory of a buffer back, once each octet in it is 0.
+pub(crate) fn give_back(buffer: Vec<u8>) {
+    let cleared = cleared(buffer);
+    drop(cleared);
+}
+
+/// The buffer with each octet set to 0.
+fn cleared(buffer: Vec<u8>) -> Vec<u8>
+    ensures { result.items ≡ replicate (vec_len buffer) 0 }
+{
+    let mut held = buffer;
+    overwrite(held.as_mut_slice());
+    held
+}
+
 /// A buffer of so many octets; `Err` out of memory.
 pub(crate) fn buffer(alloc: Global, octets: usize) -> Result<Vec<u8>, AllocError>
     ensures { IfOk result (λ buffer. vec_len buffer ≡ octets) }

@@ -11,7 +11,7 @@ mod into;
 mod readers;
 mod steps;
 
-use crate::buffers::{buffer, overwrite};
+use crate::buffers::{buffer, give_back, overwrite};
 use crate::places::CardPlaces;
 use crate::terminal::{LONGEST_ANSWER, LONGEST_COMMAND};
 use crate::turns::{CardFault, CardTurn};
@@ -21,7 +21,8 @@ use std::marker::Model;
 
 /// A card and its host's side of it. Contracts see its state, `CardState` in `specs/Card.antt`, and each
 /// call does what `card_turn` says there; a refused call changes nothing (ISO/IEC 7816-3, clause 11.6).
-#[derive(Drop)]
+///
+/// Where a card is dropped, its buffers are overwritten before their memory is given back.
 pub struct Card {
     places: CardPlaces,
     command: Vec<u8>,
@@ -38,6 +39,18 @@ impl Model for Card {
     ghost view = { λ c. card_held c.places c.command.items c.reply.items };
 
     ghost invariant = { λ c. AreCardPlaces c.places (vec_len c.command) (vec_len c.reply) };
+}
+
+impl Drop for Card {
+    fn drop(self) {
+        let Card {
+            places: _,
+            command,
+            reply,
+        } = self;
+        give_back(command);
+        give_back(reply);
+    }
 }
 
 impl Card {

@@ -9,7 +9,7 @@ mod into;
 mod readers;
 mod steps;
 
-use crate::buffers::{buffer, overwrite};
+use crate::buffers::{buffer, give_back, overwrite};
 use crate::places::TerminalPlaces;
 use crate::turns::{TerminalFault, TerminalTurn};
 use atr_core::T1Params;
@@ -24,7 +24,8 @@ pub const LONGEST_ANSWER: usize = 65_538;
 
 /// The terminal of one card. Contracts see its state, `TerminalState` in `specs/Terminal.antt`, and each
 /// call does what `terminal_turn` says there; a refused call changes nothing (ISO/IEC 7816-3, clause 11.6).
-#[derive(Drop)]
+///
+/// Where a terminal is dropped, its buffers are overwritten before their memory is given back.
 pub struct Terminal {
     places: TerminalPlaces,
     command: Vec<u8>,
@@ -41,6 +42,18 @@ impl Model for Terminal {
     ghost view = { λ t. terminal_held t.places t.command.items t.joined.items };
 
     ghost invariant = { λ t. AreTerminalPlaces t.places (vec_len t.command) (vec_len t.joined) };
+}
+
+impl Drop for Terminal {
+    fn drop(self) {
+        let Terminal {
+            places: _,
+            command,
+            joined,
+        } = self;
+        give_back(command);
+        give_back(joined);
+    }
 }
 
 impl Terminal {
