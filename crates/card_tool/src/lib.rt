@@ -1,7 +1,7 @@
 //! The program `scard` as a function of its words and of a reader: all that the program does. `serve` takes
 //! the words from the system.
 //!
-//! card_words reads what a command line asks for into a `Request`. `answer` makes the text and the status
+//! card_words reads what a command line asks for into a `Request`. `answer_to` makes the text and the status
 //! that a request has, by a module for each kind of octets, one for files of recorded exchanges, which
 //! `read_whole` reads, and one for simulated sessions, and `run` writes that text. What the text is, is said by
 //! definitions: `IsAnswer` in `specs/Answers.antt`, over card_words' `IsRead`. What exchange_core gives stands
