@@ -9,3 +9,4 @@ pub mod Partials
 pub mod Completed
 pub mod Equal
 pub mod Feeding
+pub mod Alike

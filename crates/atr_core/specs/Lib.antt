@@ -5,3 +5,4 @@ pub mod Rates
 pub mod Partial
 pub mod Taking
 pub mod Names
+pub mod Same

@@ -32,10 +32,10 @@ abbrev pub taking_of : Stage → Taking
 taking_of (Taken p) = record { octets = taken_of p; refusal = None }
 taking_of (Refused r) = record { octets = []; refusal = Some r }
 
--- what a reader keeps agrees with the octets that it has taken, and with their number
-abbrev pub Agrees : Stage → ℕ → Type 0
-Agrees (Taken p) count = Holds p × (count ≡ length (taken_of p))
-Agrees (Refused r) count = Unit {0}
+-- what a reader keeps of an answer that goes on, or is whole, agrees with the octets that it has taken
+abbrev pub Agrees : Stage → List ℕ → Type 0
+Agrees (Taken p) octets = Holds p × (octets ≡ taken_of p)
+Agrees (Refused r) octets = Unit {0}
 
 -- what a piece makes of the octets before it: so many of it are taken, all unless the answer ends, or one is refused
 abbrev pub IsTaken : List ℕ → List ℕ → Partial → Result ℕ (Refusal AtrReason) → Type 0

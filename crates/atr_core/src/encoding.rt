@@ -129,7 +129,7 @@ fn push_byte(octets: &mut ArrayVec<u8, 32>, byte: Option<u8>)
 }
 
 /// Appends octets.
-fn push_all<const N: usize>(octets: &mut ArrayVec<u8, N>, more: &[u8])
+pub(crate) fn push_all<const N: usize>(octets: &mut ArrayVec<u8, N>, more: &[u8])
     requires { array_vec_len octets.old + length more.now ≤ N }
     ensures value { octets.new.items ≡ octets.old.items ++ more.now }
     ensures octets { AreOctets more.now }

@@ -7,13 +7,20 @@ ghost use Rattle.atr_core.specs.Taking.{nothing_taken, HasTaken};
 ghost use Rattle.atr_core.specs.Atr.{AtrParts, IsAtr, IsReason, Meets};
 ghost use Rattle.atr_core.specs.declared.reason.AtrReason.{AtrReason};
 
-use crate::Atr;
+use crate::{Atr, AtrReader};
 
 /// What `==` tells: whether two answers have the same parts.
 pub fn are_equal(a: &Atr, b: &Atr) -> bool
     ensures { IsTrue result ↔ (a.now ≡ b.now) }
 {
     a == b
+}
+
+/// What `==` tells of two readers: whether they have taken the same octets, or keep the same refusal.
+pub fn are_equal_readers(reader: &AtrReader, other: &AtrReader) -> bool
+    ensures { IsTrue result ↔ (reader.now ≡ other.now) }
+{
+    reader == other
 }
 
 /// Every input is accepted or refused, never both, with one answer, one length, one place and one

@@ -5,9 +5,13 @@ ghost use Rattle.octet_core.specs.Reader.{IsFed, IsFinished};
 ghost use Rattle.atr_core.specs.Atr.{AtrParts, IsAtr, IsReason};
 ghost use Rattle.atr_core.specs.Partial.{Holds, is_whole, taken_of};
 ghost use Rattle.atr_core.specs.Taking.{HasTaken, IsTaken, nothing_taken, refusal_kept};
+ghost use Rattle.std.specs.Prelude.{IsTrue};
 
+use crate::atr::MOST_OCTETS;
+use crate::encoding::push_all;
 use crate::partial::Partial;
 use crate::{Atr, AtrReason};
+use arrayvec::ArrayVec;
 use octet_core::{Refusal, Stop};
 use std::fmt::{self, Debug, Formatter, Write};
 use std::marker::Model;
@@ -22,13 +26,14 @@ pub(crate) enum Stage {
 }
 
 /// A reader of one answer to reset that is fed in pieces of any length (ISO/IEC 7816-3, clause 8.2). It
-/// takes no memory, and keeps what at most 33 octets say.
+/// takes no memory, and keeps at most 33 octets and what they say.
 ///
-/// Contracts see the octets that it has taken, and the refusal that it keeps.
+/// Contracts see the octets that it has taken, and the refusal that it keeps, and so does `==`: readers are
+/// equal where they have taken the same octets, or keep the same refusal.
 #[derive(Drop)]
 pub struct AtrReader {
     stage: Stage,
-    count: usize,
+    octets: ArrayVec<u8, MOST_OCTETS>,
 }
 
 impl Model for AtrReader {
@@ -40,7 +45,46 @@ impl Model for AtrReader {
 
     ghost view = { λ reader. taking_of reader.stage };
 
-    ghost invariant = { λ reader. Agrees reader.stage reader.count };
+    ghost invariant = { λ reader. Agrees reader.stage reader.octets.items };
+}
+
+impl PartialEq for AtrReader {
+    ghost use Rattle.atr_core.specs.Same.{same_taking, taking_equiv};
+    ghost use Rattle.std.specs.Cmp.{partial_equiv_from_equiv};
+
+    ghost eq = { same_taking };
+
+    ghost laws = { partial_equiv_from_equiv taking_equiv };
+
+    fn eq(&self, other: &Self) -> bool {
+        match (&self.stage, &other.stage) {
+            (Stage::Taken(_), Stage::Taken(_)) => {
+                same_octets(self.octets.as_slice(), other.octets.as_slice())
+            }
+            (Stage::Refused(refusal), Stage::Refused(other)) => same_refusal(*refusal, *other),
+            _ => false,
+        }
+    }
+}
+
+impl Eq for AtrReader {
+    ghost use Rattle.atr_core.specs.Same.{taking_equiv};
+
+    ghost laws = { taking_equiv };
+}
+
+/// Whether these are the same octets.
+fn same_octets(octets: &[u8], others: &[u8]) -> bool
+    ensures { IsTrue result ↔ (octets.now ≡ others.now) }
+{
+    octets == others
+}
+
+/// Whether these are at one place, for one reason.
+fn same_refusal(refusal: Refusal<AtrReason>, other: Refusal<AtrReason>) -> bool
+    ensures { IsTrue result ↔ (refusal ≡ other) }
+{
+    refusal == other
 }
 
 impl AtrReader {
@@ -50,7 +94,7 @@ impl AtrReader {
     {
         AtrReader {
             stage: Stage::Taken(Partial::Start),
-            count: 0,
+            octets: ArrayVec::new(),
         }
     }
 
@@ -70,9 +114,9 @@ impl AtrReader {
         if partial.is_whole() {
             return Ok((0, true));
         }
-        match partial.take_piece(self.count, piece) {
+        match partial.take_piece(self.octets.len(), piece) {
             Ok(taken) => {
-                self.count += taken;
+                push_all(&mut self.octets, &piece[..taken]);
                 Ok((taken, partial.is_whole()))
             }
             Err(refusal) => {
@@ -105,7 +149,9 @@ impl AtrReader {
         if partial.is_whole() {
             return Ok(());
         }
-        Err(Stop::Short { place: self.count })
+        Err(Stop::Short {
+            place: self.octets.len(),
+        })
     }
 
     /// Begins anew, with nothing taken and no refusal.
@@ -113,7 +159,7 @@ impl AtrReader {
         ensures { self.new ≡ nothing_taken }
     {
         self.stage = Stage::Taken(Partial::Start);
-        self.count = 0;
+        self.octets.clear();
     }
 }
 
@@ -154,7 +200,7 @@ impl Debug for AtrReader {
             Stage::Refused(refusal) => Some(*refusal),
         };
         f.debug_struct("AtrReader")
-            .field("taken", &self.count)
+            .field("taken", &self.octets.len())
             .field("refusal", &refusal)
             .finish()
     }

@@ -238,6 +238,34 @@ fn a_refusal_is_kept_until_reset(rt: HostRuntime) {
     assert!(rt; same(reader.feed(b"\x3F\x00\x00"), Ok((2, true))));
 }
 
+/// A reader that was fed these octets.
+fn fed(piece: &[u8]) -> AtrReader {
+    let mut reader = AtrReader::new();
+    let _ = reader.feed(piece);
+    reader
+}
+
+#[test]
+fn readers_are_equal_by_octets_or_refusal(rt: HostRuntime) {
+    let mut in_pieces = fed(b"\x3B\x80");
+    let _ = in_pieces.feed(b"\x81\x31");
+    assert!(rt; in_pieces == fed(b"\x3B\x80\x81\x31"));
+    assert!(rt; in_pieces != fed(b"\x3B\x80\x81\x11"));
+    assert!(rt; in_pieces != fed(b"\x3B\x80\x81"));
+    assert!(rt; fed(T1_CARD) == fed(T1_CARD));
+    assert!(rt; fed(b"\x3B\x00") != fed(b"\x3F\x00"));
+    assert!(rt; fed(b"") == AtrReader::new());
+    assert!(rt; fed(b"\x3B") != AtrReader::new());
+    // Both are refused at the first octet, for TS.
+    assert!(rt; fed(b"\x00") == fed(b"\x3D\x00"));
+    assert!(rt; fed(b"\x00") != AtrReader::new());
+    // TCK is refused at two places.
+    assert!(rt; fed(b"\x3B\x80\x81\x31\x20\x45\x54") != fed(b"\x3B\x80\x01\x00"));
+    let mut anew = fed(b"\x00");
+    anew.reset();
+    assert!(rt; anew == AtrReader::new());
+}
+
 #[test]
 fn each_cut_of_an_answer_in_two(rt: HostRuntime) {
     for place in 0..T1_CARD.len() {

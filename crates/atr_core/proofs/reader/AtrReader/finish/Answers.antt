@@ -1,4 +1,4 @@
-use Rattle.std.proofs.Common.{◌∙◌, sym, ap, subst, Err}
+use Rattle.std.proofs.Common.{◌∙◌, sym, ap, subst, Err, length}
 use Rattle.octet_core.specs.Reader.{IsFinished}
 use Rattle.octet_core.specs.declared.stop.Stop.TheVariants.{Short}
 use Rattle.atr_core.specs.Atr.{IsAtr, IsReason}
@@ -9,6 +9,6 @@ use Rattle.atr_core.proofs.reader.AtrReader.finish.Goals as goal
 
 pub returns : goal.returns
 returns c =
-    let agrees = subst (λ (s : Stage). Agrees s c.self.inside.count) c.in-Taken.is c.self.invariant in
-    subst (λ (s : Taking). IsFinished IsAtr IsReason HasTaken refusal_kept s (Err (Short c.self.inside.count))) (ap taking_of (sym c.in-Taken.is) ∙ c.self.view_is)
-    (finished c.in-Taken.partial c.self.inside.count agrees.0 (sym c.if-is_whole.ensures) agrees.1)
+    let agrees = subst (λ (s : Stage). Agrees s c.self.inside.octets.items) c.in-Taken.is c.self.invariant in
+    subst (λ (s : Taking). IsFinished IsAtr IsReason HasTaken refusal_kept s (Err (Short c.len.result))) (ap taking_of (sym c.in-Taken.is) ∙ c.self.view_is)
+    (finished c.in-Taken.partial c.len.result agrees.0 (sym c.if-is_whole.ensures) (c.len.ensures.value ∙ ap length agrees.1))
