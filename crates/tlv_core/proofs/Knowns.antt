@@ -38,7 +38,7 @@ found_in : (tag : List ℕ) (x : Known) (xs : List Known) (l : Known) (t : Bool)
 found_in tag x xs l true b rest e = let same : x ≡ l = cc in record { place = 0; inside = omega arith; is = e; same = (bytes_eq-Decides tag x.tag).0 b ∙ ap (λ (k : Known). k.tag) same }
 found_in tag x xs l false b rest e = found_behind tag x xs l (rest e)
 
-found_at : (tag : List ℕ) (xs : List Known) (l : Known) → known_for tag xs ≡ Some l → Found tag xs l
+pub found_at : (tag : List ℕ) (xs : List Known) (l : Known) → known_for tag xs ≡ Some l → Found tag xs l
 found_at tag [] l e = cc
 found_at tag (x ∷ xs) l e = found_in tag x xs l (bytes_eq tag x.tag) refl (found_at tag xs l) e
 
@@ -46,7 +46,7 @@ none_tail : (tag : List ℕ) (x : Known) (t : Bool) (o : Option Known) → cond 
 none_tail tag x true o e = cc
 none_tail tag x false o e = (refl, e)
 
-none_at : (tag : List ℕ) (xs : List Known) (j : ℕ) (l : Known) → known_for tag xs ≡ None → slice_get xs j ≡ Some l → tag ≡ l.tag → ⊥
+pub none_at : (tag : List ℕ) (xs : List Known) (j : ℕ) (l : Known) → known_for tag xs ≡ None → slice_get xs j ≡ Some l → tag ≡ l.tag → ⊥
 none_at tag [] j l n g same = cc
 none_at tag (x ∷ xs) zero l n g same =
     let first : x ≡ l = cc in

@@ -24,6 +24,7 @@ pub mod Listed
 pub mod Somewhere
 pub mod Listing
 pub mod Knowns
+pub mod ByTags
 pub mod Growing
 pub mod Grows
 pub mod Placing

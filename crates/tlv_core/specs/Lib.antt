@@ -22,6 +22,7 @@ pub mod Checking
 pub mod Places
 pub mod Own
 pub mod Fill
+pub mod ByTag
 pub mod Grown
 pub mod Flat
 pub mod Same

@@ -1,14 +1,16 @@
 //! Filling a data object list with known values.
 
-ghost use Rattle.std.specs.Prelude.{◌≡◌, ℕ, ◌+◌, ◌++◌, length, replicate, IsTrue, ◌↔◌, IfOk, IfErr, OnOk, bytes_eq};
+ghost use Rattle.std.specs.Prelude.{◌≡◌, ℕ, ◌+◌, ◌++◌, List, length, replicate, IsTrue, ◌↔◌, IfOk, IfErr, OnOk, bytes_eq};
 ghost use Rattle.std.specs.Option.{option_copied};
 ghost use Rattle.tlv_core.specs.Fill.{fitted, known_for, entry_part, filled, HasDuplicate, IsFillFault};
+ghost use Rattle.tlv_core.specs.ByTag.{HasAll};
 
 use crate::dol::Dol;
 use crate::known::Known;
 use crate::tag::Tag;
 use octet_core::Format;
 use std::alloc::{AllocError, Global};
+use std::collections::BTreeMap;
 use std::error::Error;
 use std::fmt::{self, Display, Formatter, Write};
 
@@ -58,19 +60,52 @@ impl From<AllocError> for FillFault {
 ///
 /// `Duplicate` where two known values have one tag, also where the list doesn't name it; else the
 /// octets or `Memory`.
+///
+/// With n known values and m entries it makes some (n + m) log n comparisons of tags, and it takes memory for a
+/// map of n places beside the octets. Where that is refused, all known values are compared pair by pair, which is
+/// n² comparisons, to tell `Duplicate` from `Memory`.
 pub fn fill(alloc: Global, dol: &Dol, known: &[Known]) -> Result<Vec<u8>, FillFault>
     ensures filled { IfOk result (λ octets. octets.items ≡ filled known.now dol.now) }
     ensures unique { IfOk result (λ _. HasDuplicate known.now → ⊥) }
     ensures fault { IfErr result (IsFillFault known.now) }
 {
-    if has_duplicate(known) {
-        return Err(FillFault::Duplicate);
-    }
+    let placed = by_tag(alloc, known)?;
     let mut out = Vec::new(alloc);
     for (tag, length) in dol.entries() {
-        append_part(&mut out, known, tag, *length as usize)?;
+        append_part(&mut out, &placed, tag, *length as usize)?;
     }
     Ok(out)
+}
+
+/// Known values by the octets of their tags.
+type ByTag<'a> = BTreeMap<&'a [u8], &'a Known>;
+
+/// All known values by their tags.
+fn by_tag<'a>(alloc: Global, known: &'a [Known]) -> Result<ByTag<'a>, FillFault>
+    ensures all { IfOk result (HasAll known.now) }
+    ensures unique { IfOk result (λ _. HasDuplicate known.now → ⊥) }
+    ensures fault { IfErr result (IsFillFault known.now) }
+{
+    let mut placed = BTreeMap::new(alloc);
+    for one in known {
+        match placed.insert(one.tag.octets(), one) {
+            Ok(None) => {}
+            Ok(Some(_)) => return Err(FillFault::Duplicate),
+            Err(_) => return Err(fault_without_memory(known)),
+        }
+    }
+    Ok(placed)
+}
+
+/// The fault where a growth was refused before all tags were compared.
+fn fault_without_memory(known: &[Known]) -> FillFault
+    ensures { IsFillFault known.now result }
+{
+    if has_duplicate(known) {
+        FillFault::Duplicate
+    } else {
+        FillFault::Memory
+    }
 }
 
 /// Whether two known values have one tag.
@@ -93,18 +128,19 @@ fn find<'a>(known: &'a [Known], tag: &Tag) -> Option<&'a Known>
 }
 
 /// Adds the part of an entry.
-fn append_part(
+fn append_part<'a>(
     out: &mut Vec<u8>,
-    known: &[Known],
-    tag: &Tag,
+    placed: &ByTag<'a>,
+    tag: &'a Tag,
     length: usize,
 ) -> Result<(), AllocError>
-    ensures { OnOk result (out.new.items ≡ out.old.items ++ entry_part known.now (tag.now, length)) }
+    ensures { (known : List Known) → HasAll known placed.now →
+        OnOk result (out.new.items ≡ out.old.items ++ entry_part known (tag.now, length)) }
 {
     if tag.is_constructed() {
         return append_copies(out, 0, length);
     }
-    match find(known, tag) {
+    match placed.get(&tag.octets()) {
         Some(known) => append_fitted(out, known.format, known.value.get(), length),
         None => append_copies(out, 0, length),
     }
