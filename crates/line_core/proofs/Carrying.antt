@@ -1,12 +1,14 @@
 -- A line over a source and a sink: what one call reads, and what a talk adds to those before it.
 use Rattle.std.proofs.KnownBytes.{Consumes-nil, Consumes-kept}
-use Rattle.std.proofs.Common.{◌≡◌, ◌≤◌, ◌<◌, ◌∙◌, ◌+◌, ◌++◌, [], ◌∷◌, ℕ, List, take, length, refl, sym, ap, subst, arith, Option, Result, Ok, Err}
+use Rattle.std.proofs.Common.{◌≡◌, ◌≤◌, ◌<◌, ◌∙◌, ◌+◌, ◌++◌, [], ◌∷◌, ℕ, List, take, length, refl, sym, ap, subst, arith, Option, Result, Ok, Err, OnOk, IfErr}
 use Rattle.std.proofs.lemmas.List.{length-take-le, take-append-le}
 use Rattle.std.proofs.Math.Seq.{take-length, take-append_seam, take-append-add}
 use Rattle.std.specs.Io.{ReadsAtMost}
 use Rattle.std.specs.Io.KnownBytes.{ReadConsumes, Consumes, Appends}
 use Rattle.line_core.specs.Line.{Arrival, block, nothing, failure, Talk}
-use Rattle.line_core.specs.Streams.{Wire, Carries, HasCarried, IsWritten, IsFramed, MovesOn, came_of}
+use Rattle.line_core.specs.Service.{Event, sending}
+use Rattle.line_core.specs.Service as at_card
+use Rattle.line_core.specs.Streams.{Wire, Carries, HasCarried, Moves, HasServed, HasServedTo, wire_of, IsWritten, IsFramed, MovesOn, came_of}
 
 -- one talk more
 pub carried-on : (first mid now : Wire) (talks : List Talk) (talk : Talk) → HasCarried first talks mid → Carries mid talk now → HasCarried first (talks ++ talk ∷ []) now
@@ -57,3 +59,20 @@ carries-part left written after sent waiting count fewer part = record {
 
 pub talked-on : (before : List Talk) (old now : Wire) (talk : Talk) → Carries old talk now → (first : Wire) × HasCarried first before old → (first : Wire) × HasCarried first (before ++ talk ∷ []) now
 talked-on before old now talk carries (first, held) = (first, carried-on first old now before talk held carries)
+
+-- one event more on the line of a card
+served-on : (first mid now : Wire) (events : List Event) (event : Event) → HasServed first events mid → Moves mid event now → HasServed first (events ++ event ∷ []) now
+served-on first mid now [] event e moves = (now, subst (λ (w : Wire). Moves w event now) (sym e) moves, refl)
+served-on first mid now (one ∷ events) event (next, before, held) moves = (next, before, served-on next mid now events event held moves)
+
+pub happens-on : (before : List Event) (old now : Wire) (event : Event) → Moves old event now → HasServedTo old before → HasServedTo now (before ++ event ∷ [])
+happens-on before old now event moves (first, held) = (first, served-on first old now before event held moves)
+
+-- these octets were read, and they are what came, whether or not a failure is told as the end
+pub moves-heard : (left after written : Option (List ℕ)) (octets : List ℕ) (arrival : Arrival) → came_of arrival ≡ octets → Consumes left after octets → IsFramed octets → Moves (wire_of left written) (at_card.came arrival) (wire_of after written)
+moves-heard left after written octets arrival same came framed = (subst (Consumes left after) (sym same) came, subst IsFramed (sym same) framed, refl)
+
+-- the call to send a block wrote all of it, or failed after a part
+pub moves-said : {A E : Type 0} (left written after : Option (List ℕ)) (octets : List ℕ) (result : Result A E) → OnOk result (Appends written after octets) → IfErr result (λ _. (count : ℕ) × (count < length octets) × Appends written after (take count octets)) → Moves (wire_of left written) (sending octets result) (wire_of left after)
+moves-said left written after octets (Ok done) all part = (refl, all)
+moves-said left written after octets (Err fault) all part = (refl, part)

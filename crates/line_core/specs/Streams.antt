@@ -1,13 +1,18 @@
 -- A line whose octets are written to a sink and read from a source.
-use Rattle.std.specs.Prelude.{◌≡◌, ◌≤◌, ℕ, ◌+◌, List, [], ◌∷◌, ◌++◌, length, take, slice_index, Option, Result, IfOk, IfErr}
+use Rattle.std.specs.Prelude.{◌≡◌, ◌≤◌, ◌<◌, ℕ, ◌+◌, List, [], ◌∷◌, ◌++◌, length, take, slice_index, Option, Result, IfOk, IfErr}
 use Rattle.std.specs.Io.KnownBytes.{Appends, Consumes}
 use Rattle.line_core.specs.Line.{Arrival, block, nothing, failure, Talk}
+use Rattle.line_core.specs.Service.{Event}
+use Rattle.line_core.specs.Service as at_card
 use Rattle.line_core.specs.declared.streaming.StreamLine.{StreamLine}
 
 -- the octets that are left to read and those that were written, where they are known
 pub record Wire : Type 0 where
   pub left : Option (List ℕ)
   pub written : Option (List ℕ)
+
+abbrev pub wire_of : Option (List ℕ) → Option (List ℕ) → Wire
+wire_of left written = record { left = left; written = written }
 
 -- the octets that came
 abbrev pub came_of : Arrival → List ℕ
@@ -37,6 +42,26 @@ pub record Carries (old : Wire) (talk : Talk) (new : Wire) : Type 0 where
 abbrev pub HasCarried : Wire → List Talk → Wire → Type 0
 HasCarried first [] now = first ≡ now
 HasCarried first (talk ∷ talks) now = (next : Wire) × Carries first talk next × HasCarried next talks now
+
+-- from some wire on
+abbrev pub HasCarriedTo : Wire → List Talk → Type 0
+HasCarriedTo now talks = (first : Wire) × HasCarried first talks now
+
+-- One event on the line of a card: what came is read and ends with its block, if not before; what is sent is written, all unless the line failed; and nothing else is touched.
+abbrev pub Moves : Wire → Event → Wire → Type 0
+Moves old (at_card.came arrival) new = Consumes old.left new.left (came_of arrival) × IsFramed (came_of arrival) × (new.written ≡ old.written)
+Moves old (at_card.sent octets) new = (new.left ≡ old.left) × Appends old.written new.written octets
+Moves old (at_card.unsent octets) new = (new.left ≡ old.left) × ((count : ℕ) × (count < length octets) × Appends old.written new.written (take count octets))
+Moves old (at_card.asked command reply) new = ⊥
+
+-- the same of one event after another
+abbrev pub HasServed : Wire → List Event → Wire → Type 0
+HasServed first [] now = first ≡ now
+HasServed first (event ∷ events) now = (next : Wire) × Moves first event next × HasServed next events now
+
+-- from some wire on
+abbrev pub HasServedTo : Wire → List Event → Type 0
+HasServedTo now events = (first : Wire) × HasServed first events now
 
 module _ {R W : Type 0} where
   abbrev pub source_of : StreamLine R W → R

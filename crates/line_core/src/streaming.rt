@@ -1,22 +1,31 @@
 //! A line whose octets go to a writer and come from a reader.
 
-ghost use Rattle.std.specs.Prelude.{◌≡◌, ◌≤◌, ◌<◌, ◌+◌, ℕ, List, length, take, slice_index, IfOk};
-ghost use Rattle.std.specs.Io.KnownBytes.{Consumes};
-ghost use Rattle.line_core.specs.Line.{FitsRoom, arrival_of};
-ghost use Rattle.line_core.specs.Streams.{Wire, HasCarried, IsFramed, MovesOn, came_of, source_of, sink_of};
+ghost use Rattle.std.specs.Prelude.{◌≡◌, ◌≢◌, ◌≤◌, ◌<◌, ◌+◌, ℕ, List, [], ◌∷◌, length, take, slice_index, IfOk, IfErr, OnOk, Ok, Err};
+ghost use Rattle.std.specs.IoError.{error_kind};
+ghost use Rattle.std.specs.Io.KnownBytes.{Consumes, Appends};
+ghost use Rattle.line_core.specs.Line.{Adds, FitsRoom, arrival_of};
+ghost use Rattle.line_core.specs.Service.{Happens, came, sending};
+ghost use Rattle.line_core.specs.Streams.{Moves, Carries, HasCarriedTo, HasServedTo, IsFramed, MovesOn, came_of, wire_of, source_of, sink_of};
 
 use crate::line::{Heard, Line};
+use crate::serving::CardLine;
 use octet_core::{Sink, Source, write_octets};
 use std::io::{self, ErrorKind};
 
-/// A line over a reader and a writer, as those of a serial port.
+/// A line over a reader and a writer, as those of a serial port: a `Line` for a terminal, and a `CardLine` for
+/// a card.
 ///
-/// A block is written whole. What comes after it is read up to its end, which its third octet tells: the
-/// reader is asked for NAD, PCB and LEN, and then for LEN + 1 octets, so what follows the block stays unread.
-/// How long a block is waited for is the reader's affair: where a call fails with `TimedOut` or `WouldBlock`
-/// before the first octet, nothing came. A block of which only the first octets came before the reader ended
-/// or failed is handed over so far. `Err` comes where the writer failed, as `WriteZero`, and where the reader
-/// failed otherwise, or ended, as `UnexpectedEof`, before the first octet. No failed call is tried again.
+/// A block is written whole. What comes is read up to its end, which its third octet tells: the reader is
+/// asked for NAD, PCB and LEN, and then for LEN + 1 octets, so what follows the block stays unread. How long a
+/// block is waited for is the reader's affair: where a call fails with `TimedOut` or `WouldBlock` before the
+/// first octet, nothing came. A block of which only the first octets came before the reader ended or failed is
+/// handed over so far. `Err` comes where the writer failed, as `WriteZero`, and where the reader failed
+/// otherwise before the first octet. No failed call is tried again.
+///
+/// The ends differ where the reader has ended before the first octet, or fails with `UnexpectedEof` there. For
+/// a terminal, whose block has no answer then, that is the line's failure, `UnexpectedEof`. For a card it is
+/// `Nothing`: no more comes, and `serve` ends with `Ok`. Since `Nothing` ends serving, the reader of a card
+/// has to wait for the next block as long as it takes, and to time out only where no more comes.
 #[derive(Debug, Drop)]
 pub struct StreamLine<R, W> {
     source: R,
@@ -41,13 +50,69 @@ impl<R, W> StreamLine<R, W> {
 }
 
 impl<R: Source, W: Sink> Line for StreamLine<R, W> {
-    ghost said = { λ line talks. (first : Wire) × HasCarried first talks (record { left = R.remaining (source_of line); written = W.contents (sink_of line) }) };
+    ghost said = { λ line. HasCarriedTo (wire_of (R.remaining (source_of line)) (W.contents (sink_of line))) };
 
-    fn talk(&mut self, block: &[u8], _waiting: u8, room: &mut [u8]) -> io::Result<Heard> {
-        match write_octets(&mut self.sink, block) {
+    fn talk(&mut self, block: &[u8], _waiting: u8, room: &mut [u8]) -> io::Result<Heard>
+        requires { 259 ≤ length room.old }
+        ensures fits { IfOk result (λ heard. FitsRoom heard room.new) }
+        ensures said { Adds (HasCarriedTo (wire_of (R.remaining (source_of self.old)) (W.contents (sink_of self.old)))) (HasCarriedTo (wire_of (R.remaining (source_of self.new)) (W.contents (sink_of self.new)))) (record { sent = block.now; waiting = _waiting; arrival = arrival_of result room.new } ∷ []) }
+        ensures carried { Carries (wire_of (R.remaining (source_of self.old)) (W.contents (sink_of self.old))) (record { sent = block.now; waiting = _waiting; arrival = arrival_of result room.new }) (wire_of (R.remaining (source_of self.new)) (W.contents (sink_of self.new))) }
+    {
+        match write_block(&mut self.sink, block) {
             Ok(()) => read_block(&mut self.source, room),
-            Err(_) => Err(ErrorKind::WriteZero.into()),
+            Err(fault) => Err(fault),
         }
+    }
+}
+
+impl<R: Source, W: Sink> CardLine for StreamLine<R, W> {
+    ghost said = { λ line. HasServedTo (wire_of (R.remaining (source_of line)) (W.contents (sink_of line))) };
+
+    fn hear(&mut self, room: &mut [u8]) -> io::Result<Heard>
+        requires { 259 ≤ length room.old }
+        ensures fits { IfOk result (λ heard. FitsRoom heard room.new) }
+        ensures said { Happens (HasServedTo (wire_of (R.remaining (source_of self.old)) (W.contents (sink_of self.old)))) (HasServedTo (wire_of (R.remaining (source_of self.new)) (W.contents (sink_of self.new)))) (came (arrival_of result room.new) ∷ []) }
+        ensures moved { Moves (wire_of (R.remaining (source_of self.old)) (W.contents (sink_of self.old))) (came (arrival_of result room.new)) (wire_of (R.remaining (source_of self.new)) (W.contents (sink_of self.new))) }
+        ensures failed { IfErr result (λ fault. error_kind fault ≢ ErrorKind.UnexpectedEof) }
+    {
+        over_at_end(read_block(&mut self.source, room))
+    }
+
+    fn say(&mut self, block: &[u8]) -> io::Result<()>
+        ensures said { Happens (HasServedTo (wire_of (R.remaining (source_of self.old)) (W.contents (sink_of self.old)))) (HasServedTo (wire_of (R.remaining (source_of self.new)) (W.contents (sink_of self.new)))) (sending block.now result ∷ []) }
+        ensures moved { Moves (wire_of (R.remaining (source_of self.old)) (W.contents (sink_of self.old))) (sending block.now result) (wire_of (R.remaining (source_of self.new)) (W.contents (sink_of self.new))) }
+        ensures failed { IfErr result (λ fault. error_kind fault ≡ ErrorKind.WriteZero) }
+    {
+        write_block(&mut self.sink, block)
+    }
+}
+
+/// Writes a block whole: `WriteZero` where the writer fails before its last octet.
+fn write_block<W: Sink>(sink: &mut W, block: &[u8]) -> io::Result<()>
+    ensures all { OnOk result (Appends (W.contents sink.old) (W.contents sink.new) block.now) }
+    ensures part { IfErr result (λ _. (count : ℕ) × (count < length block.now) × Appends (W.contents sink.old) (W.contents sink.new) (take count block.now)) }
+    ensures failed { IfErr result (λ fault. error_kind fault ≡ ErrorKind.WriteZero) }
+{
+    match write_octets(sink, block) {
+        Ok(()) => Ok(()),
+        Err(_) => Err(ErrorKind::WriteZero.into()),
+    }
+}
+
+/// What a card hears where this was read: of a reader that ended before the first octet, that no more comes.
+fn over_at_end(read: io::Result<Heard>) -> io::Result<Heard>
+    ensures fits { (room : List ℕ) → IfOk read (λ heard. FitsRoom heard room) → IfOk result (λ heard. FitsRoom heard room) }
+    ensures came { (room : List ℕ) → came_of (arrival_of result room) ≡ came_of (arrival_of read room) }
+    ensures heard { IfOk read (λ heard. result ≡ Ok heard) }
+    ensures over { IfErr read (λ fault. error_kind fault ≡ ErrorKind.UnexpectedEof → result ≡ Ok Heard.Nothing) }
+    ensures failed { IfErr result (λ fault. (read ≡ Err fault) × (error_kind fault ≢ ErrorKind.UnexpectedEof)) }
+{
+    match read {
+        Ok(heard) => Ok(heard),
+        Err(fault) => match fault.kind() {
+            ErrorKind::UnexpectedEof => Ok(Heard::Nothing),
+            _ => Err(fault),
+        },
     }
 }
 

@@ -1,6 +1,7 @@
 //! Exchanges over a card at the other end of a line in memory, and over lines that fail, are silent or talk too
 //! much.
 
+mod card_streams;
 mod serving;
 
 ghost use Rattle.std.specs.Prelude.{◌≤◌, length};

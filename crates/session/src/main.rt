@@ -1,11 +1,13 @@
 //! One exchange between both ends of T=1, from the card's answer to reset.
 #![tactic(auto)]
 
+ghost use Rattle.std.specs.Prelude.{[], ◌∷◌};
+
 use atr_core::{decode, t1_params};
-use line_core::{Heard, Line, exchange};
-use octet_core::hex_upper;
+use line_core::{Heard, Host, Line, StreamLine, exchange, serve};
+use octet_core::{Counted, hex_upper};
 use std::io;
-use t1_core::{Card, CardPut, Terminal};
+use t1_core::{Card, Terminal};
 
 const ATR: [u8; 7] = [0x3B, 0x80, 0x81, 0x31, 0x20, 0x45, 0x55];
 
@@ -26,6 +28,22 @@ fn main(rt: HostRuntime) -> io::Result<()> {
     }
 }
 
+/// The card's application, which takes every command as done.
+#[derive(Drop)]
+struct Done;
+
+impl Host for Done {
+    ghost served = { λ _ _. Unit {0} };
+
+    ghost reply = { λ _. 144 ∷ 0 ∷ [] };
+
+    fn act(&mut self, _command: &[u8]) {}
+
+    fn reply(&self) -> &[u8] {
+        &[0x90, 0x00]
+    }
+}
+
 /// A line to a card in this program, which prints the blocks on it.
 #[derive(Drop)]
 struct Wire<'a> {
@@ -38,14 +56,15 @@ impl Line for Wire<'_> {
 
     fn talk(&mut self, block: &[u8], _waiting: u8, room: &mut [u8]) -> io::Result<Heard> {
         println!(self.rt; "terminal {}", hex_upper(self.rt.alloc(), block)?)?;
-        let mut put = self.card.received_into(block, room);
-        if put == Ok(CardPut::Asked) {
-            put = self.card.reply_into(&[0x90, 0x00], room);
-        }
-        let Ok(CardPut::Send(count)) = put else {
+        let mut out = Vec::new(self.rt.alloc());
+        let mut line = StreamLine::new(Counted::new(block), Counted::new(&mut out));
+        // The card's reader ends after the block, and with it the serving.
+        if serve(&mut self.card, &mut line, &mut Done, 2).is_err() {
             return Ok(Heard::Nothing);
-        };
-        println!(self.rt; "card {}", hex_upper(self.rt.alloc(), &room[..count])?)?;
+        }
+        println!(self.rt; "card {}", hex_upper(self.rt.alloc(), &out)?)?;
+        let count = out.len().min(room.len());
+        room[..count].copy_from_slice(&out[..count]);
         Ok(Heard::Octets(count))
     }
 }

@@ -56,13 +56,13 @@ impl CardLine for CardScript<'_> {
 
 /// A host that gives every command the same reply.
 #[derive(Drop)]
-struct Replies<'a> {
+pub(super) struct Replies<'a> {
     reply: &'a [u8],
     acted: u64,
     is_select: bool,
 }
 
-fn replying(reply: &[u8]) -> Replies<'_> {
+pub(super) fn replying(reply: &[u8]) -> Replies<'_> {
     Replies {
         reply,
         acted: 0,
