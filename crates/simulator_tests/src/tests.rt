@@ -1,5 +1,7 @@
 //! Sessions and the texts of their exchanges.
 
+mod requests;
+
 use card_words::{BlockNumbers, Pair, Pairs, Session};
 use exchange_core::{Exchange, Side, replay, write_exchange};
 use octet_core::{Octets, octets_of};
