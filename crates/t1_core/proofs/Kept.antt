@@ -15,7 +15,7 @@ use Rattle.t1_core.specs.declared.turns.TerminalFault.TheVariants.{TooLong}
 use Rattle.t1_core.specs.declared.turns.CardFault.TheVariants.{TooLong as ReplyTooLong}
 use Rattle.block_core.specs.Block.{other}
 use Rattle.t1_core.specs.Came.{same, info, ready, request}
-use Rattle.t1_core.specs.Terminal.{failure, no_failure, fails, sends_next, is_reserved, idle, answer, resynch, dead, Limits}
+use Rattle.t1_core.specs.Terminal.{failure, no_failure, fails, sends_next, is_reserved, idle, answer, resynch, dead, Limits, most_repeats, most_resynchs}
 use Rattle.t1_core.specs.Card.{CardState, command, host, reply, asking, size, time, number_after, sends_next as card_sends_next, sends_saved, waiting as card_waiting}
 use Rattle.t1_core.specs.Link.{tables, Link, link_with, run, nothing, to_card, Exchange, answered, unanswered, given_up, command_of, without_answer, terminal_makes, card_makes, happens, Event, delivers, damages, spoils, loses, transmits, asks_ifsd, host_replies, host_asks_time, host_asks_ifsc}
 use Rattle.t1_core.specs.Promises.{Matches, FitsReceiver, AllFit}
@@ -55,7 +55,7 @@ ends_held (unanswered m ∷ es) (h ∷ hs) ok = record { matches = ok.matches; e
 -- a failure repeats a block, or leads to RESYNCH
 failing_by : {P : Type 0} (l : Link) (d : ℕ) (b : Parts) → l.card.first_ifsc ≡ l.terminal.first_ifsc → NoHost l.card.waits → Spare P l.terminal.failures l.failed d → Held l.exchanges l.services
     → Good P l.terminal.limits l.card.limits (link (record l.terminal { failures = l.terminal.failures + 1 }) l.card (to_card b) l.exchanges l.services d (l.failed + 1))
-    → (x : Bool) → nat_lt l.terminal.failures 3 ≡ x → Good P l.terminal.limits l.card.limits (terminal_makes l (record l { disturbed = d }) (if x then Ok (Send b, record l.terminal { failures = l.terminal.failures + 1 }, failure) else Ok (Send (request Resynch []), record l.terminal { waits = resynch 1 }, failure)))
+    → (x : Bool) → nat_lt l.terminal.failures most_repeats ≡ x → Good P l.terminal.limits l.card.limits (terminal_makes l (record l { disturbed = d }) (if x then Ok (Send b, record l.terminal { failures = l.terminal.failures + 1 }, failure) else Ok (Send (request Resynch []), record l.terminal { waits = resynch 1 }, failure)))
 failing_by {P} l d b e nh u ok again true h = again
 failing_by {P} l d b e nh u ok again false h =
     let three = ltb-false _ _ h in
@@ -64,11 +64,11 @@ failing_by {P} l d b e nh u ok again false h =
 failing : {P : Type 0} (l : Link) (d : ℕ) (b : Parts) → l.card.first_ifsc ≡ l.terminal.first_ifsc → NoHost l.card.waits → Spare P l.terminal.failures l.failed d → Held l.exchanges l.services
     → Good P l.terminal.limits l.card.limits (link (record l.terminal { failures = l.terminal.failures + 1 }) l.card (to_card b) l.exchanges l.services d (l.failed + 1))
     → Good P l.terminal.limits l.card.limits (terminal_makes l (record l { disturbed = d }) (fails l.terminal b))
-failing l d b e nh u ok again = failing_by l d b e nh u ok again (nat_lt l.terminal.failures 3) refl
+failing l d b e nh u ok again = failing_by l d b e nh u ok again (nat_lt l.terminal.failures most_repeats) refl
 
 -- RESYNCH is asked for again, or the terminal is dead
 asking_again_by : {P : Type 0} (l : Link) (d k : ℕ) → l.card.first_ifsc ≡ l.terminal.first_ifsc → NoHost l.card.waits → Asked P k 2 l.failed d → Held l.exchanges l.services
-    → (x : Bool) → nat_lt k 3 ≡ x → Good P l.terminal.limits l.card.limits (terminal_makes l (record l { disturbed = d }) (if x then Ok (Send (request Resynch []), record l.terminal { waits = resynch (k + 1) }, no_failure) else Ok (Dead, record l.terminal { waits = dead }, no_failure)))
+    → (x : Bool) → nat_lt k most_resynchs ≡ x → Good P l.terminal.limits l.card.limits (terminal_makes l (record l { disturbed = d }) (if x then Ok (Send (request Resynch []), record l.terminal { waits = resynch (k + 1) }, no_failure) else Ok (Dead, record l.terminal { waits = dead }, no_failure)))
 asking_again_by {P} l d k e nh u ok true h =
     subst (λ i0. Good P l.terminal.limits l.card.limits (link (record l.terminal { waits = resynch (k + 1) }) (record l.card { first_ifsc = i0 }) (to_card (request Resynch [])) l.exchanges l.services d l.failed)) (sym e) (asks_resynch l.card.waits (λ fit. let now = u fit in omega arith) nh ok)
 asking_again_by {P} l d k e nh u ok false h =
@@ -76,8 +76,8 @@ asking_again_by {P} l d k e nh u ok false h =
     over l.card.waits (λ fit. let now = u fit in omega arith) nh (ends_held l.exchanges l.services ok)
 
 asking_again : {P : Type 0} (l : Link) (d k : ℕ) → l.card.first_ifsc ≡ l.terminal.first_ifsc → NoHost l.card.waits → Asked P k 2 l.failed d → Held l.exchanges l.services
-    → Good P l.terminal.limits l.card.limits (terminal_makes l (record l { disturbed = d }) (if nat_lt k 3 then Ok (Send (request Resynch []), record l.terminal { waits = resynch (k + 1) }, no_failure) else Ok (Dead, record l.terminal { waits = dead }, no_failure)))
-asking_again l d k e nh u ok = asking_again_by l d k e nh u ok (nat_lt k 3) refl
+    → Good P l.terminal.limits l.card.limits (terminal_makes l (record l { disturbed = d }) (if nat_lt k most_resynchs then Ok (Send (request Resynch []), record l.terminal { waits = resynch (k + 1) }, no_failure) else Ok (Dead, record l.terminal { waits = dead }, no_failure)))
+asking_again l d k e nh u ok = asking_again_by l d k e nh u ok (nat_lt k most_resynchs) refl
 
 same_self : (x : Number) → same x x ≡ true
 same_self Zero = refl

@@ -18,7 +18,7 @@ use Rattle.t1_core.specs.declared.turns.CardTurn.{CardTurn}
 use Rattle.t1_core.specs.declared.turns.CardTurn.TheVariants.{Send as Sends, Asked}
 use Rattle.block_core.specs.Block.{other}
 use Rattle.t1_core.specs.Came.{Came, got, damaged, invalid, quiet, same, carried, info, ready, request, response}
-use Rattle.t1_core.specs.Terminal.{TerminalState, TerminalStep, fails, joins, sends_next, in_exchange, terminal_came, terminal_turn, transmit, ask_ifs, if_idle, is_reserved, is_more, Waits, idle, ack, answer, more, ifs, resynch, dead, waiting}
+use Rattle.t1_core.specs.Terminal.{TerminalState, TerminalStep, fails, joins, sends_next, in_exchange, terminal_came, terminal_turn, transmit, ask_ifs, if_idle, is_reserved, is_more, Waits, idle, ack, answer, more, ifs, resynch, dead, waiting, most_repeats, most_resynchs}
 use Rattle.t1_core.specs.Card.{CardState, CardStep, Waits as CardWaits, command, host, reply, asking, CardRequest, size, time, request_block, saving, waiting as card_waiting, joins as card_joins, sends_next as card_sends_next, sends_saved, in_either, card_came, card_turn, if_host, replies, more_time, ask_ifs as card_ask_ifs}
 use Rattle.t1_core.specs.Link.{tables, Link, UnderWay, nothing, to_card, to_terminal, sent_by_terminal, sent_by_card, unanswered, with_reply, delivered, arrives, lost, Exchange, terminal_makes, card_makes, happens, run, link_with, Event, delivers, damages, spoils, loses, transmits, asks_ifsd, host_replies, host_asks_time, host_asks_ifsc}
 use Rattle.t1_core.specs.Promises.{HandsOctets, AllHandOctets, IsTaken, AlwaysTaken, Fits, FitsSize}
@@ -89,7 +89,7 @@ either P true a b p q = p
 either P false a b p q = q
 
 failing : (t : TerminalState) (b : Parts) → SoundWaits t.waits → Sound b → SoundStep (fails t b)
-failing t b w h = either SoundStep (nat_lt t.failures 3) _ _ (h, w) (resynch-sound, tt)
+failing t b w h = either SoundStep (nat_lt t.failures most_repeats) _ _ (h, w) (resynch-sound, tt)
 
 waiting-sound : (field rest : List ℕ) → AreOctets field → AreOctets rest → SoundWaits (waiting field rest)
 waiting-sound field [] h k = h
@@ -118,15 +118,15 @@ going : (t : TerminalState) (w : Waits) (came : Came) → SoundWaits t.waits →
 going t idle came tw h k = tt
 going t dead came tw h k = tt
 going t (resynch asked) (got (Response Resynch) inf) tw h k = (tt, tt)
-going t (resynch asked) (got (Info number goes_on) inf) tw h k = either SoundStep (nat_lt asked 3) _ _ (resynch-sound, tt) (tt, tt)
-going t (resynch asked) (got (Ready number fault) inf) tw h k = either SoundStep (nat_lt asked 3) _ _ (resynch-sound, tt) (tt, tt)
-going t (resynch asked) (got (Request kind) inf) tw h k = either SoundStep (nat_lt asked 3) _ _ (resynch-sound, tt) (tt, tt)
-going t (resynch asked) (got (Response Ifs) inf) tw h k = either SoundStep (nat_lt asked 3) _ _ (resynch-sound, tt) (tt, tt)
-going t (resynch asked) (got (Response Abort) inf) tw h k = either SoundStep (nat_lt asked 3) _ _ (resynch-sound, tt) (tt, tt)
-going t (resynch asked) (got (Response Wtx) inf) tw h k = either SoundStep (nat_lt asked 3) _ _ (resynch-sound, tt) (tt, tt)
-going t (resynch asked) damaged tw h k = either SoundStep (nat_lt asked 3) _ _ (resynch-sound, tt) (tt, tt)
-going t (resynch asked) invalid tw h k = either SoundStep (nat_lt asked 3) _ _ (resynch-sound, tt) (tt, tt)
-going t (resynch asked) quiet tw h k = either SoundStep (nat_lt asked 3) _ _ (resynch-sound, tt) (tt, tt)
+going t (resynch asked) (got (Info number goes_on) inf) tw h k = either SoundStep (nat_lt asked most_resynchs) _ _ (resynch-sound, tt) (tt, tt)
+going t (resynch asked) (got (Ready number fault) inf) tw h k = either SoundStep (nat_lt asked most_resynchs) _ _ (resynch-sound, tt) (tt, tt)
+going t (resynch asked) (got (Request kind) inf) tw h k = either SoundStep (nat_lt asked most_resynchs) _ _ (resynch-sound, tt) (tt, tt)
+going t (resynch asked) (got (Response Ifs) inf) tw h k = either SoundStep (nat_lt asked most_resynchs) _ _ (resynch-sound, tt) (tt, tt)
+going t (resynch asked) (got (Response Abort) inf) tw h k = either SoundStep (nat_lt asked most_resynchs) _ _ (resynch-sound, tt) (tt, tt)
+going t (resynch asked) (got (Response Wtx) inf) tw h k = either SoundStep (nat_lt asked most_resynchs) _ _ (resynch-sound, tt) (tt, tt)
+going t (resynch asked) damaged tw h k = either SoundStep (nat_lt asked most_resynchs) _ _ (resynch-sound, tt) (tt, tt)
+going t (resynch asked) invalid tw h k = either SoundStep (nat_lt asked most_resynchs) _ _ (resynch-sound, tt) (tt, tt)
+going t (resynch asked) quiet tw h k = either SoundStep (nat_lt asked most_resynchs) _ _ (resynch-sound, tt) (tt, tt)
 going t (ifs n) (got (Response Ifs) inf) tw h k = either SoundStep (carried inf == n) _ _ (tt, tt) (failing t _ tw (size-sound n h.0 h.1))
 going t (ifs n) (got (Info number goes_on) inf) tw h k = failing t _ tw (size-sound n h.0 h.1)
 going t (ifs n) (got (Ready number fault) inf) tw h k = failing t _ tw (size-sound n h.0 h.1)

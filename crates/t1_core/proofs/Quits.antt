@@ -8,7 +8,7 @@ use Rattle.t1_core.specs.declared.turns.TerminalTurn.{TerminalTurn}
 use Rattle.t1_core.specs.declared.turns.TerminalTurn.TheVariants.{Send, Answered, IfsSet, GivenUp, Dead}
 use Rattle.block_core.specs.Block.{other}
 use Rattle.t1_core.specs.Came.{Came, got, damaged, invalid, quiet, same, carried}
-use Rattle.t1_core.specs.Terminal.{TerminalState, turn_of, TerminalStep, fails, joins, in_exchange, terminal_came, terminal_turn, TerminalInput, transmit, ask_ifs, takes, if_idle, is_reserved, Waits, idle, ack, answer, more, ifs, resynch, dead}
+use Rattle.t1_core.specs.Terminal.{TerminalState, turn_of, TerminalStep, fails, joins, in_exchange, terminal_came, terminal_turn, TerminalInput, transmit, ask_ifs, takes, if_idle, is_reserved, Waits, idle, ack, answer, more, ifs, resynch, dead, most_repeats}
 use Rattle.t1_core.specs.declared.turns.TerminalFault.{TerminalFault}
 
 abbrev is_given_up : TerminalTurn → Bool
@@ -34,7 +34,7 @@ either true a b p q = p
 either false a b p q = q
 
 failing : (t : TerminalState) (b : Parts) → GoesOn (fails t b)
-failing t b = either (nat_lt t.failures 3) _ _ refl refl
+failing t b = either (nat_lt t.failures most_repeats) _ _ refl refl
 
 joining : (t : TerminalState) (joined : List ℕ) (goes_on : Bool) → GoesOn (joins t joined goes_on)
 joining t joined true = refl

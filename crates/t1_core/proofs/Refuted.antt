@@ -12,7 +12,7 @@ use Rattle.t1_core.specs.declared.turns.CardTurn.{CardTurn}
 use Rattle.block_core.specs.declared.pcb.Number.{Number}
 use Rattle.block_core.specs.declared.pcb.Number.TheVariants.{Zero}
 use Rattle.t1_core.specs.Came.{got, same, request}
-use Rattle.t1_core.specs.Terminal.{TerminalState, TerminalStep, TerminalInput, terminal_turn, takes, sends_next, Mark, failure, no_failure, Waits, resynch, dead, longest}
+use Rattle.t1_core.specs.Terminal.{TerminalState, TerminalStep, TerminalInput, terminal_turn, takes, sends_next, Mark, failure, no_failure, Waits, resynch, dead, longest, first_ifsd}
 use Rattle.t1_core.specs.Card.{CardState, CardStep, CardInput, Waits as CardWaits, command, host, new_card, takes as card_takes, card_turn}
 use Rattle.t1_core.specs.Link.{Tables, Link, run, new_link, delivers, loses, transmits, asks_ifsd, host_replies, Exchange, answered, unanswered, command_of}
 use Rattle.t1_core.proofs.Quits.{is_resynch}
@@ -29,7 +29,7 @@ keeps_ifsd c input = card_turn c input
 
 pub keeps_ifsd-refuted : InStepWhenIdle (record { terminal = terminal_turn; card = keeps_ifsd }) → ⊥
 keeps_ifsd-refuted h =
-    let e : ◌≡◌ {A = ℕ} 32 2 = (h longest longest 32 (asks_ifsd 2 ∷ delivers ∷ delivers ∷ transmits [] ∷ loses ∷ loses ∷ loses ∷ loses ∷ delivers ∷ delivers ∷ []) tt).ifsd in
+    let e : ◌≡◌ {A = ℕ} first_ifsd 2 = (h longest longest 32 (asks_ifsd 2 ∷ delivers ∷ delivers ∷ transmits [] ∷ loses ∷ loses ∷ loses ∷ loses ∷ delivers ∷ delivers ∷ []) tt).ifsd in
     omega (arith, e)
 
 -- The terminal asks for RESYNCH at the first failure.

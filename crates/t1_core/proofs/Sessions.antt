@@ -9,7 +9,7 @@ use Rattle.t1_core.specs.declared.turns.TerminalTurn.TheVariants.{Send}
 use Rattle.t1_core.specs.declared.turns.TerminalFault.TheVariants.{Idle, Busy, Reserved}
 use Rattle.t1_core.specs.declared.turns.CardFault.TheVariants.{Order, Reserved as CardReserved}
 use Rattle.t1_core.specs.Came.{got, damaged, invalid, quiet, class_of, ready, request, response}
-use Rattle.t1_core.specs.Terminal.{TerminalState, longest, new_terminal, terminal_turn, transmit, ask_ifs, takes, state_after, turn_of}
+use Rattle.t1_core.specs.Terminal.{TerminalState, longest, new_terminal, terminal_turn, transmit, ask_ifs, takes, state_after, turn_of, first_ifsd}
 use Rattle.t1_core.specs.Card.{new_card, card_turn, replies, ask_ifs as card_ask_ifs, takes as card_takes, host}
 use Rattle.t1_core.specs.Link.{tables, Link, new_link, link_with, run, to_card, to_terminal, delivers, damages, loses, transmits, host_replies, host_asks_ifsc, answered, unanswered, given_up}
 
@@ -18,26 +18,26 @@ abbrev select : List ℕ
 select = 0x00 ∷ 0xA4 ∷ 0x04 ∷ 0x00 ∷ 0x00 ∷ []
 
 -- What four lists of octets are to a terminal: another node address, an octet left over, a wrong check octet, and an ABORT request.
-other_address : class_of 32 (0x01 ∷ 0x00 ∷ 0x02 ∷ 0x90 ∷ 0x00 ∷ 0x93 ∷ []) ≡ invalid
+other_address : class_of first_ifsd (0x01 ∷ 0x00 ∷ 0x02 ∷ 0x90 ∷ 0x00 ∷ 0x93 ∷ []) ≡ invalid
 other_address = refl
 
-left_over : class_of 32 (0x00 ∷ 0x00 ∷ 0x02 ∷ 0x90 ∷ 0x00 ∷ 0x92 ∷ 0x00 ∷ []) ≡ invalid
+left_over : class_of first_ifsd (0x00 ∷ 0x00 ∷ 0x02 ∷ 0x90 ∷ 0x00 ∷ 0x92 ∷ 0x00 ∷ []) ≡ invalid
 left_over = refl
 
-wrong_sum : class_of 32 (0x00 ∷ 0x00 ∷ 0x02 ∷ 0x90 ∷ 0x00 ∷ 0x93 ∷ []) ≡ damaged
+wrong_sum : class_of first_ifsd (0x00 ∷ 0x00 ∷ 0x02 ∷ 0x90 ∷ 0x00 ∷ 0x93 ∷ []) ≡ damaged
 wrong_sum = refl
 
-abort : class_of 32 (0x00 ∷ 0xC2 ∷ 0x00 ∷ 0xC2 ∷ []) ≡ got (Request Abort) []
+abort : class_of first_ifsd (0x00 ∷ 0xC2 ∷ 0x00 ∷ 0xC2 ∷ []) ≡ got (Request Abort) []
 abort = refl
 
 -- a field above the size, and a size that is reserved
 too_long : class_of 2 (0x00 ∷ 0x00 ∷ 0x03 ∷ 0x01 ∷ 0x02 ∷ 0x03 ∷ 0x03 ∷ []) ≡ invalid
 too_long = refl
 
-bad_size : class_of 32 (0x00 ∷ 0xC1 ∷ 0x01 ∷ 0xFF ∷ 0x3F ∷ []) ≡ invalid
+bad_size : class_of first_ifsd (0x00 ∷ 0xC1 ∷ 0x01 ∷ 0xFF ∷ 0x3F ∷ []) ≡ invalid
 bad_size = refl
 
-no_octets : class_of 32 [] ≡ invalid
+no_octets : class_of first_ifsd [] ≡ invalid
 no_octets = refl
 
 -- What the terminal sends for each of them while it waits for the answer.

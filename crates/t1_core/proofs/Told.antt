@@ -10,7 +10,7 @@ use Rattle.t1_core.specs.declared.turns.CardTurn.{CardTurn}
 use Rattle.t1_core.specs.declared.turns.CardTurn.TheVariants.{Asked}
 use Rattle.block_core.specs.Block.{other}
 use Rattle.t1_core.specs.Came.{Came, got, damaged, invalid, quiet, same, carried}
-use Rattle.t1_core.specs.Terminal.{TerminalState, TerminalStep, fails, joins, in_exchange, terminal_came, terminal_turn, TerminalInput, transmit, ask_ifs, takes, if_idle, is_reserved, Waits, idle, ack, answer, more, ifs, resynch, dead}
+use Rattle.t1_core.specs.Terminal.{TerminalState, TerminalStep, fails, joins, in_exchange, terminal_came, terminal_turn, TerminalInput, transmit, ask_ifs, takes, if_idle, is_reserved, Waits, idle, ack, answer, more, ifs, resynch, dead, most_repeats, most_resynchs}
 use Rattle.t1_core.specs.Card.{CardState, CardStep, Waits as CardWaits, command, host, reply, asking, size, time, joins as card_joins, sends_saved, card_came, CardInput, replies, more_time, ask_ifs as card_ask_ifs, takes as card_takes, card_turn, if_host}
 use Rattle.t1_core.specs.Promises.{Tells}
 use Rattle.t1_core.specs.Link.{tables}
@@ -28,7 +28,7 @@ either P true a b p q = p
 either P false a b p q = q
 
 failing : (t : TerminalState) (b : Parts) → Tell (fails t b)
-failing t b = either Tell (nat_lt t.failures 3) _ _ tt tt
+failing t b = either Tell (nat_lt t.failures most_repeats) _ _ tt tt
 
 joining : (t : TerminalState) (joined : List ℕ) (goes_on : Bool) → Tell (joins t joined goes_on)
 joining t joined true = tt
@@ -50,15 +50,15 @@ going : (t : TerminalState) (w : Waits) (came : Came) → Tell (terminal_came t 
 going t idle came = tt
 going t dead came = tt
 going t (resynch asked) (got (Response Resynch) inf) = tt
-going t (resynch asked) (got (Response Ifs) inf) = either Tell (nat_lt asked 3) _ _ tt tt
-going t (resynch asked) (got (Response Abort) inf) = either Tell (nat_lt asked 3) _ _ tt tt
-going t (resynch asked) (got (Response Wtx) inf) = either Tell (nat_lt asked 3) _ _ tt tt
-going t (resynch asked) (got (Request kind) inf) = either Tell (nat_lt asked 3) _ _ tt tt
-going t (resynch asked) (got (Info number goes_on) inf) = either Tell (nat_lt asked 3) _ _ tt tt
-going t (resynch asked) (got (Ready number fault) inf) = either Tell (nat_lt asked 3) _ _ tt tt
-going t (resynch asked) damaged = either Tell (nat_lt asked 3) _ _ tt tt
-going t (resynch asked) invalid = either Tell (nat_lt asked 3) _ _ tt tt
-going t (resynch asked) quiet = either Tell (nat_lt asked 3) _ _ tt tt
+going t (resynch asked) (got (Response Ifs) inf) = either Tell (nat_lt asked most_resynchs) _ _ tt tt
+going t (resynch asked) (got (Response Abort) inf) = either Tell (nat_lt asked most_resynchs) _ _ tt tt
+going t (resynch asked) (got (Response Wtx) inf) = either Tell (nat_lt asked most_resynchs) _ _ tt tt
+going t (resynch asked) (got (Request kind) inf) = either Tell (nat_lt asked most_resynchs) _ _ tt tt
+going t (resynch asked) (got (Info number goes_on) inf) = either Tell (nat_lt asked most_resynchs) _ _ tt tt
+going t (resynch asked) (got (Ready number fault) inf) = either Tell (nat_lt asked most_resynchs) _ _ tt tt
+going t (resynch asked) damaged = either Tell (nat_lt asked most_resynchs) _ _ tt tt
+going t (resynch asked) invalid = either Tell (nat_lt asked most_resynchs) _ _ tt tt
+going t (resynch asked) quiet = either Tell (nat_lt asked most_resynchs) _ _ tt tt
 going t (ack field rest) (got (Ready number fault) inf) = either Tell (same number t.number) _ _ (failing t _) tt
 going t (ack field rest) (got (Info number goes_on) inf) = exchanging t (got (Info number goes_on) inf)
 going t (ack field rest) (got (Request kind) inf) = exchanging t (got (Request kind) inf)

@@ -12,7 +12,7 @@ use Rattle.t1_core.specs.declared.turns.CardFault.{CardFault}
 use Rattle.t1_core.specs.declared.turns.CardFault.TheVariants.{Order, TooLong, Reserved}
 use Rattle.block_core.specs.Block.{other}
 use Rattle.t1_core.specs.Came.{Came, got, damaged, same, carried, info, ready, request, response}
-use Rattle.t1_core.specs.Terminal.{Limits, longest, is_reserved, is_more}
+use Rattle.t1_core.specs.Terminal.{Limits, longest, first_ifsd, is_reserved, is_more}
 
 -- What the card has asked the terminal for on its host's behalf.
 pub data CardRequest : Type 0 where
@@ -49,7 +49,7 @@ pub record CardState : Type 0 where
 
 -- at the start, with room for messages of so many octets
 abbrev pub card_with : Limits → ℕ → CardState
-card_with limits ifsc = record { number = Zero; expected = Zero; saved = None; ifsc = ifsc; ifsd = 32; first_ifsc = ifsc; command = []; waits = command []; limits = limits }
+card_with limits ifsc = record { number = Zero; expected = Zero; saved = None; ifsc = ifsc; ifsd = first_ifsd; first_ifsc = ifsc; command = []; waits = command []; limits = limits }
 
 abbrev pub new_card : ℕ → CardState
 new_card ifsc = card_with longest ifsc

@@ -49,6 +49,18 @@ longest = record { command = longest_command; answer = longest_answer }
 abbrev pub at_most : ℕ → ℕ → Limits
 at_most m n = record { command = min m longest_command; answer = min n longest_answer }
 
+-- The most octets of a field that a terminal takes at the start and after RESYNCH (ISO/IEC 7816-3, clause 11.4).
+abbrev pub first_ifsd : ℕ
+first_ifsd = 32
+
+-- Failures in a row that a block which is sent meets: the next one leads to RESYNCH.
+abbrev pub most_repeats : ℕ
+most_repeats = 3
+
+-- How many times in a row RESYNCH is asked for, before the card is found dead.
+abbrev pub most_resynchs : ℕ
+most_resynchs = 3
+
 -- What the terminal holds.
 pub record TerminalState : Type 0 where
   -- the number of its I-block under way or next, and the one that it expects from the card
@@ -70,7 +82,7 @@ pub record TerminalState : Type 0 where
 
 -- at the start, with room for messages of so many octets
 abbrev pub terminal_with : Limits → ℕ → TerminalState
-terminal_with limits ifsc = record { number = Zero; expected = Zero; failures = 0; ifsc = ifsc; ifsd = 32; first_ifsc = ifsc; command = []; waits = idle; answered = None; limits = limits }
+terminal_with limits ifsc = record { number = Zero; expected = Zero; failures = 0; ifsc = ifsc; ifsd = first_ifsd; first_ifsc = ifsc; command = []; waits = idle; answered = None; limits = limits }
 
 abbrev pub new_terminal : ℕ → TerminalState
 new_terminal ifsc = terminal_with longest ifsc
@@ -100,10 +112,10 @@ sends_info t field rest = Ok (Send (info t.number (is_more rest) field), record 
 abbrev pub sends_next : TerminalState → List ℕ → TerminalStep
 sends_next t octets = sends_info t (take t.ifsc octets) (drop t.ifsc octets)
 
--- After three repeats in a row the next failure leads to RESYNCH (clause 11.6; the count is this project's).
+-- After the most repeats in a row the next failure leads to RESYNCH (clause 11.6; the count is this project's).
 abbrev pub fails : TerminalState → Parts → TerminalStep
 fails t block =
-    if nat_lt t.failures 3
+    if nat_lt t.failures most_repeats
     then Ok (Send block, record t { failures = t.failures + 1 }, failure)
     else Ok (Send (request Resynch []), record t { waits = resynch 1 }, failure)
 
@@ -160,9 +172,9 @@ in_ifs t size came = fails t (request Ifs (size ∷ []))
 -- RESYNCH was asked for.
 abbrev pub in_resynch : TerminalState → ℕ → Came → TerminalStep
 in_resynch t asked (got (Response Resynch) inf) =
-    Ok (GivenUp, record t { number = Zero; expected = Zero; failures = 0; ifsc = t.first_ifsc; ifsd = 32; waits = idle }, no_failure)
+    Ok (GivenUp, record t { number = Zero; expected = Zero; failures = 0; ifsc = t.first_ifsc; ifsd = first_ifsd; waits = idle }, no_failure)
 in_resynch t asked came =
-    if nat_lt asked 3
+    if nat_lt asked most_resynchs
     then Ok (Send (request Resynch []), record t { waits = resynch (asked + 1) }, no_failure)
     else Ok (Dead, record t { waits = dead }, no_failure)
 

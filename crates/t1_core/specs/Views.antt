@@ -10,7 +10,7 @@ use Rattle.block_core.specs.declared.pcb.S.TheVariants.{Ifs as Size}
 use Rattle.block_core.specs.declared.pcb.Pcb.TheVariants.{Response}
 use Rattle.t1_core.specs.Came.{Came, got, damaged, invalid, carried}
 use Rattle.t1_core.specs.declared.places.TerminalPlaces.{TerminalPlaces}
-use Rattle.t1_core.specs.Terminal.{TerminalState, Waits, idle, ack, answer, more, ifs, resynch, dead}
+use Rattle.t1_core.specs.Terminal.{TerminalState, Waits, idle, ack, answer, more, ifs, resynch, dead, most_resynchs}
 
 abbrev pub came_of : Arrived → Came
 came_of (Whole block) = got block.pcb block.inf
@@ -67,7 +67,7 @@ IsWait (Ack cut) command joined is_answered = IsInner cut command × (joined ≡
 IsWait (Answer cut) command joined is_answered = IsLast cut command × (joined ≡ 0) × (is_answered ≡ false)
 IsWait More command joined is_answered = is_answered ≡ false
 IsWait (Ifs size) command joined is_answered = IsSize size
-IsWait (Resynch asked) command joined is_answered = asked ≤ 3
+IsWait (Resynch asked) command joined is_answered = asked ≤ most_resynchs
 IsWait Dead command joined is_answered = Unit {0}
 
 -- the slice that a call hands out, where there is one

@@ -56,7 +56,7 @@ impl Drop for Card {
 impl Card {
     /// A new card that waits for a command, with buffers for the longest command and reply; `Err` for
     /// lack of memory. No later call takes any. It takes information fields of IFSC octets, and the
-    /// terminal those of 32.
+    /// terminal those of [`FIRST_IFSD`](crate::FIRST_IFSD).
     pub fn new(alloc: Global, params: T1Params) -> Result<Card, AllocError>
         ensures { IfOk result (λ card. card ≡ new_card params.ifsc) }
     {

@@ -5,7 +5,9 @@ ghost use Rattle.std.specs.Prelude.{◌≡◌, ◌≤◌, true};
 ghost use Rattle.t1_core.specs.Views.{AreTerminalPlaces, IsSize, IsInner, IsLast, IsWait};
 ghost use Rattle.t1_core.specs.CardViews.{AreCardPlaces, IsSaved, IsCardWait};
 
+use crate::guards::is_reserved;
 use crate::places::{CardPlaces, TerminalPlaces};
+use crate::terminal::MOST_RESYNCHS;
 use crate::turns::{CardWait, Cut, Request, TerminalWait};
 
 /// Whether a block's field may have this size.
@@ -13,7 +15,7 @@ fn is_size(size: u8) -> bool
     ensures yes { result ≡ true → IsSize size }
     ensures no { IsSize size → result ≡ true }
 {
-    1 <= size && size <= 254
+    !is_reserved(size)
 }
 
 impl Cut {
@@ -46,7 +48,7 @@ impl TerminalWait {
             TerminalWait::Answer(cut) => cut.is_last(command) && joined == 0 && !is_answered,
             TerminalWait::More => !is_answered,
             TerminalWait::Ifs(size) => is_size(size),
-            TerminalWait::Resynch(asked) => asked <= 3,
+            TerminalWait::Resynch(asked) => asked <= MOST_RESYNCHS,
         }
     }
 }

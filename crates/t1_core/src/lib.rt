@@ -15,6 +15,7 @@ pub mod card;
 mod class;
 mod cutting;
 mod fitting;
+mod guards;
 pub mod laws;
 mod places;
 mod replying;
@@ -24,7 +25,9 @@ pub mod turns;
 
 pub use card::Card;
 pub use places::{CardPlaces, TerminalPlaces};
-pub use terminal::{LONGEST_ANSWER, LONGEST_COMMAND, Terminal};
+pub use terminal::{
+    FIRST_IFSD, LONGEST_ANSWER, LONGEST_COMMAND, MOST_REPEATS, MOST_RESYNCHS, Terminal,
+};
 pub use turns::{
     CardAwaits, CardFault, CardPut, CardTurn, CardWait, Cut, Request, TerminalAwaits,
     TerminalFault, TerminalPut, TerminalTurn, TerminalWait,

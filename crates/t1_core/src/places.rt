@@ -10,7 +10,7 @@ ghost use Rattle.t1_core.specs.Card.{card_with};
 ghost use Rattle.t1_core.specs.CardViews.{card_held, AreCardPlaces};
 
 use crate::buffers::overwrite;
-use crate::terminal::{LONGEST_ANSWER, LONGEST_COMMAND};
+use crate::terminal::{FIRST_IFSD, LONGEST_ANSWER, LONGEST_COMMAND};
 use crate::turns::{CardWait, Cut, TerminalWait};
 use atr_core::T1Params;
 use block_core::Number;
@@ -68,7 +68,7 @@ impl TerminalPlaces {
             expected: Number::Zero,
             failures: 0,
             ifsc: params.ifsc(),
-            ifsd: 32,
+            ifsd: FIRST_IFSD,
             first_ifsc: params.ifsc(),
             wait: TerminalWait::Idle,
             is_answered: false,
@@ -129,7 +129,7 @@ impl CardPlaces {
             expected: Number::Zero,
             saved: None,
             ifsc: params.ifsc(),
-            ifsd: 32,
+            ifsd: FIRST_IFSD,
             first_ifsc: params.ifsc(),
             wait: CardWait::Command,
             most_command,

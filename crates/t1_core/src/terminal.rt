@@ -22,6 +22,18 @@ pub const LONGEST_COMMAND: usize = 65_544;
 /// The octets of the longest answer.
 pub const LONGEST_ANSWER: usize = 65_538;
 
+/// The most octets of an information field that a terminal takes, IFSD, at the start of a session and after
+/// RESYNCH, until the card takes another size (ISO/IEC 7816-3, clause 11.4).
+pub const FIRST_IFSD: u8 = 32;
+
+/// How many failures in a row a terminal meets by sending a block again, or by an R-block; the next one leads to
+/// RESYNCH (ISO/IEC 7816-3, clause 11.6; the count is this project's).
+pub const MOST_REPEATS: u8 = 3;
+
+/// How many times in a row a terminal asks for RESYNCH, before it finds the card dead (ISO/IEC 7816-3, clause
+/// 11.6; the count is this project's).
+pub const MOST_RESYNCHS: u8 = 3;
+
 /// The terminal of one card. Contracts see its state, `TerminalState` in `specs/Terminal.antt`, and each
 /// call does what `terminal_turn` says there; a refused call changes nothing (ISO/IEC 7816-3, clause 11.6).
 ///
@@ -58,7 +70,8 @@ impl Drop for Terminal {
 
 impl Terminal {
     /// A new terminal, idle, with buffers for the longest command and answer; `Err` out of memory.
-    /// No later call takes any. It takes information fields of 32 octets, and the card those of IFSC.
+    /// No later call takes any. It takes information fields of [`FIRST_IFSD`] octets, and the card those of
+    /// IFSC.
     pub fn new(alloc: Global, params: T1Params) -> Result<Terminal, AllocError>
         ensures { IfOk result (λ terminal. terminal ≡ new_terminal params.ifsc) }
     {

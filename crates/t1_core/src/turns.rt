@@ -181,7 +181,8 @@ pub enum TerminalAwaits {
     MoreAnswer,
     /// The response to a question about this information size.
     Size(u8),
-    /// The response to RESYNCH, which was asked for so many times, 1 to 3.
+    /// The response to RESYNCH, which was asked for so many times, 1 to
+    /// [`MOST_RESYNCHS`](crate::MOST_RESYNCHS).
     Resynch(u8),
     /// Nothing any more: the card was found dead.
     Nothing,

@@ -12,9 +12,11 @@ ghost use Rattle.t1_core.specs.Card.{command, reply, asking, takes, replies, mor
 use crate::buffers::append;
 use crate::class::{Arrived, classify};
 use crate::cutting::{field_in, is_same};
+use crate::guards::{if_host, is_reserved};
 use crate::places::CardPlaces;
 use crate::replying::{acknowledged, next_block};
 use crate::sending::{CardAct, Sent, Short};
+use crate::terminal::FIRST_IFSD;
 use crate::turns::{CardFault, CardWait, Request};
 use block_core::{BlockRef, Fault, Number, Pcb, S};
 
@@ -52,10 +54,7 @@ impl CardPlaces {
         ensures turn { card_answers (card_held self.new held.now answer.new) result ≡ turn_of (card_turn (card_held self.old held.now answer.old) (replies octets.now)) }
         ensures state { card_held self.new held.now answer.new ≡ state_after (card_held self.old held.now answer.old) (card_turn (card_held self.old held.now answer.old) (replies octets.now)) }
     {
-        match self.wait {
-            CardWait::Host => {}
-            _ => return Err(CardFault::Order),
-        }
+        if_host(self.wait)?;
         if octets.len() > self.most_reply {
             return Err(CardFault::TooLong);
         }
@@ -78,10 +77,7 @@ impl CardPlaces {
         ensures turn { card_answers (card_held self.new held.now answer.now) result ≡ turn_of (card_turn (card_held self.old held.now answer.now) (more_time multiple)) }
         ensures state { card_held self.new held.now answer.now ≡ state_after (card_held self.old held.now answer.now) (card_turn (card_held self.old held.now answer.now) (more_time multiple)) }
     {
-        match self.wait {
-            CardWait::Host => {}
-            _ => return Err(CardFault::Order),
-        }
+        if_host(self.wait)?;
         let request = Request::Time(multiple);
         self.wait = CardWait::Asking(request);
         Ok(CardAct::Send(Sent::Other(request.block())))
@@ -99,11 +95,8 @@ impl CardPlaces {
         ensures turn { card_answers (card_held self.new held.now answer.now) result ≡ turn_of (card_turn (card_held self.old held.now answer.now) (ask_ifs size)) }
         ensures state { card_held self.new held.now answer.now ≡ state_after (card_held self.old held.now answer.now) (card_turn (card_held self.old held.now answer.now) (ask_ifs size)) }
     {
-        match self.wait {
-            CardWait::Host => {}
-            _ => return Err(CardFault::Order),
-        }
-        if size == 0 || size == 255 {
+        if_host(self.wait)?;
+        if is_reserved(size) {
             return Err(CardFault::Reserved);
         }
         let request = Request::Size(size);
@@ -300,7 +293,7 @@ impl CardPlaces {
         self.expected = Number::Zero;
         self.saved = None;
         self.ifsc = self.first_ifsc;
-        self.ifsd = 32;
+        self.ifsd = FIRST_IFSD;
         self.command_len = 0;
         self.wait = CardWait::Command;
         CardAct::Send(Sent::Other(Short::response(S::Resynch, &[])))

@@ -21,7 +21,7 @@ impl Terminal {
     /// The most octets of an information field that the terminal takes now, 1 to 254: whoever frames the
     /// card's blocks with a `BlockReader` makes it of this size.
     ///
-    /// It changes at the turn `IfsSet`, and is 32 again after `GivenUp`.
+    /// It changes at the turn `IfsSet`, and is [`FIRST_IFSD`](crate::FIRST_IFSD) again after `GivenUp`.
     pub fn ifsd(&self) -> u8
         ensures { result ≡ self.now.ifsd }
     {
@@ -43,7 +43,7 @@ impl Terminal {
     }
 
     /// Failures in a row: blocks that were sent again, or asked for again, since the last step forward.
-    /// After 3 the next failure leads to RESYNCH.
+    /// After [`MOST_REPEATS`](crate::MOST_REPEATS) the next failure leads to RESYNCH.
     pub fn failures(&self) -> u8
         ensures { result ≡ self.now.failures }
     {

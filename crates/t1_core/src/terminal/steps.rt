@@ -4,13 +4,15 @@ ghost use Rattle.std.specs.Prelude.{◌≡◌, ◌≤◌, ◌+◌, ◌++◌, len
 ghost use Rattle.t1_core.specs.Came.{class_of, quiet, info, ready};
 ghost use Rattle.t1_core.specs.Views.{terminal_held, AreTerminalPlaces, came_of, field_at, rest_at, joined_of, IsJoining, IsInner, IsLast, IsSize};
 ghost use Rattle.t1_core.specs.Sending.{field_sent, terminal_sends, terminal_does, terminal_answers};
-ghost use Rattle.t1_core.specs.Terminal.{ack, answer, more, takes, transmit, ask_ifs, terminal_turn, in_exchange, in_ack, in_answer, in_more, in_ifs, in_resynch, joins, sends_next, fails, turn_of, state_after};
+ghost use Rattle.t1_core.specs.Terminal.{ack, answer, more, takes, transmit, ask_ifs, most_resynchs, terminal_turn, in_exchange, in_ack, in_answer, in_more, in_ifs, in_resynch, joins, sends_next, fails, turn_of, state_after};
 
 use crate::buffers::append;
 use crate::class::{Arrived, classify};
 use crate::cutting::{field_in, is_same};
+use crate::guards::{if_idle, is_reserved};
 use crate::places::TerminalPlaces;
 use crate::sending::{Sent, Short, TerminalAct};
+use crate::terminal::{FIRST_IFSD, MOST_REPEATS, MOST_RESYNCHS};
 use crate::turns::{Cut, TerminalFault, TerminalWait};
 use block_core::{BlockRef, Fault, Number, Pcb, S};
 
@@ -27,11 +29,7 @@ impl TerminalPlaces {
         ensures turn { terminal_answers (terminal_held self.new held.new joined.now) result ≡ turn_of (terminal_turn (terminal_held self.old held.old joined.now) (transmit command.now)) }
         ensures state { terminal_held self.new held.new joined.now ≡ state_after (terminal_held self.old held.old joined.now) (terminal_turn (terminal_held self.old held.old joined.now) (transmit command.now)) }
     {
-        match self.wait {
-            TerminalWait::Idle => {}
-            TerminalWait::Dead => return Err(TerminalFault::Dead),
-            _ => return Err(TerminalFault::Busy),
-        }
+        if_idle(self.wait)?;
         if command.len() > self.most_command {
             return Err(TerminalFault::TooLong);
         }
@@ -53,12 +51,8 @@ impl TerminalPlaces {
         ensures turn { terminal_answers (terminal_held self.new held.now joined.now) result ≡ turn_of (terminal_turn (terminal_held self.old held.now joined.now) (ask_ifs size)) }
         ensures state { terminal_held self.new held.now joined.now ≡ state_after (terminal_held self.old held.now joined.now) (terminal_turn (terminal_held self.old held.now joined.now) (ask_ifs size)) }
     {
-        match self.wait {
-            TerminalWait::Idle => {}
-            TerminalWait::Dead => return Err(TerminalFault::Dead),
-            _ => return Err(TerminalFault::Busy),
-        }
-        if size == 0 || size == 255 {
+        if_idle(self.wait)?;
+        if is_reserved(size) {
             return Err(TerminalFault::Reserved);
         }
         self.failures = 0;
@@ -231,7 +225,7 @@ impl TerminalPlaces {
         arrived: &Arrived,
     ) -> TerminalAct
         requires fit { AreTerminalPlaces self.old (length held.now) (length joined.now) }
-        requires asked { asked ≤ 3 }
+        requires asked { asked ≤ most_resynchs }
         ensures fit { AreTerminalPlaces self.new (length held.now) (length joined.now) }
         ensures turn { turn_of (in_resynch (terminal_held self.old held.now joined.now) asked (came_of arrived.now)) ≡ Ok (terminal_does (terminal_held self.new held.now joined.now) result) }
         ensures state { terminal_held self.new held.now joined.now ≡ state_after (terminal_held self.old held.now joined.now) (in_resynch (terminal_held self.old held.now joined.now) asked (came_of arrived.now)) }
@@ -244,7 +238,7 @@ impl TerminalPlaces {
                     self.expected = Number::Zero;
                     self.failures = 0;
                     self.ifsc = self.first_ifsc;
-                    self.ifsd = 32;
+                    self.ifsd = FIRST_IFSD;
                     self.wait = TerminalWait::Idle;
                     TerminalAct::GivenUp
                 }
@@ -259,12 +253,12 @@ impl TerminalPlaces {
     /// RESYNCH is asked for again, or the card is found dead.
     fn resynch_again(&mut self, held: &[u8], joined: &[u8], asked: u8) -> TerminalAct
         requires fit { AreTerminalPlaces self.old (length held.now) (length joined.now) }
-        requires asked { asked ≤ 3 }
+        requires asked { asked ≤ most_resynchs }
         ensures fit { AreTerminalPlaces self.new (length held.now) (length joined.now) }
         ensures turn { turn_of (in_resynch (terminal_held self.old held.now joined.now) asked quiet) ≡ Ok (terminal_does (terminal_held self.new held.now joined.now) result) }
         ensures state { terminal_held self.new held.now joined.now ≡ state_after (terminal_held self.old held.now joined.now) (in_resynch (terminal_held self.old held.now joined.now) asked quiet) }
     {
-        if asked < 3 {
+        if asked < MOST_RESYNCHS {
             self.wait = TerminalWait::Resynch(asked + 1);
             TerminalAct::Send(Sent::Other(Short::request(S::Resynch, &[])))
         } else {
@@ -287,7 +281,6 @@ impl TerminalPlaces {
             size: self.ifsc,
         };
         self.joined_len = 0;
-        self.is_answered = false;
         let command = &held[..self.command_len];
         if command.len() - place > cut.size as usize {
             self.wait = TerminalWait::Ack(cut);
@@ -327,7 +320,7 @@ impl TerminalPlaces {
         ensures turn { turn_of (fails (terminal_held self.old held.now joined.now) (terminal_sends (terminal_held self.old held.now joined.now) sent)) ≡ Ok (terminal_does (terminal_held self.new held.now joined.now) result) }
         ensures state { terminal_held self.new held.now joined.now ≡ state_after (terminal_held self.old held.now joined.now) (fails (terminal_held self.old held.now joined.now) (terminal_sends (terminal_held self.old held.now joined.now) sent)) }
     {
-        if self.failures < 3 {
+        if self.failures < MOST_REPEATS {
             self.failures += 1;
             return TerminalAct::Send(sent);
         }
