@@ -20,8 +20,8 @@ const SAME: [[&str; 2]; 8] = [
     ["scard show --ifs 8 block 00", "scard show block --ifs 8 00"],
     ["scard build chain 5 0 none", "scard build chain 5 0 none"],
     [
-        "scard build fill 9F3704 f:9F37:aabbccdd",
-        "scard build fill 9f3704 f:9f37:AABBCCDD",
+        "scard build fill 9F3704 o:9F37:aabbccdd",
+        "scard build fill 9f3704 o:9f37:AABBCCDD",
     ],
     ["scard replay --end card", "scard replay --end card"],
     [
@@ -39,8 +39,8 @@ const OTHER: [[&str; 2]; 10] = [
     ["scard check tlv 00", "scard check dol 00"],
     ["scard build chain 5 0 00", "scard build chain 5 1 00"],
     [
-        "scard build fill 9F3704 F:9F37:AA",
-        "scard build fill 9F3704 F:9F37:AB",
+        "scard build fill 9F3704 o:9F37:AA",
+        "scard build fill 9F3704 o:9F37:AB",
     ],
     ["scard replay --end card", "scard replay --end terminal"],
     [
