@@ -92,7 +92,7 @@ struct CardAtLine<'a> {
 }
 
 impl Line for CardAtLine<'_> {
-    ghost said = { λ _ _. Unit {0} };
+    ghost said = { λ _ _ _. Unit {0} };
 
     fn talk(&mut self, block: &[u8], _waiting: u8, room: &mut [u8]) -> io::Result<Heard> {
         self.blocks = self.blocks.saturating_add(1);
@@ -114,7 +114,7 @@ struct TerminalAtLine<'a> {
 }
 
 impl CardLine for TerminalAtLine<'_> {
-    ghost said = { λ _ _. Unit {0} };
+    ghost said = { λ _ _ _. Unit {0} };
 
     fn hear(&mut self, room: &mut [u8]) -> io::Result<Heard> {
         let put = match self.count {
@@ -146,7 +146,7 @@ impl CardLine for TerminalAtLine<'_> {
 struct Replies<'a>(&'a [u8]);
 
 impl Host for Replies<'_> {
-    ghost served = { λ _ _. Unit {0} };
+    ghost served = { λ _ _ _. Unit {0} };
 
     ghost reply = { λ host. host.0.now };
 

@@ -136,6 +136,6 @@ done-fine (Ok x) t h = h
 done-fine (Err inner) t h = tt
 
 -- A command that is done has an answer.
-pub answered : (before after : List Talk → Type 0) (most : ℕ) (t left : TerminalState) (command : List ℕ) (r : Result (Unit {0}) ExchangeFault) → HasRun before after most t (transmit command) (ending_of r) left → OnOk r (IsSome left.answered)
+pub answered : {A : Type 0} (before after : A → List Talk → Type 0) (most : ℕ) (t left : TerminalState) (command : List ℕ) (r : Result (Unit {0}) ExchangeFault) → HasRun before after most t (transmit command) (ending_of r) left → OnOk r (IsSome left.answered)
 answered before after most t left command r (talks, adds, run) =
     done-fine r left (ends-fine talks _ _ _ left _ (after-step t _ (begins-fine t t.waits _ (either (nat_le (length command) t.limits.command) _ _ (waits-fine _ _) tt))) run)

@@ -8,7 +8,7 @@ use Rattle.std.specs.Io.KnownBytes.{ReadConsumes, Consumes, Appends}
 use Rattle.line_core.specs.Line.{Arrival, block, nothing, failure, Talk}
 use Rattle.line_core.specs.Service.{Event, sending}
 use Rattle.line_core.specs.Service as at_card
-use Rattle.line_core.specs.Streams.{Wire, Carries, HasCarried, Moves, HasServed, HasServedTo, wire_of, IsWritten, IsFramed, MovesOn, came_of}
+use Rattle.line_core.specs.Streams.{Wire, Carries, HasCarried, Moves, HasServed, wire_of, IsWritten, IsFramed, MovesOn, came_of}
 
 -- one talk more
 pub carried-on : (first mid now : Wire) (talks : List Talk) (talk : Talk) → HasCarried first talks mid → Carries mid talk now → HasCarried first (talks ++ talk ∷ []) now
@@ -57,16 +57,10 @@ carries-part left written after sent waiting count fewer part = record {
   framed = λ long. omega (arith, long);
 }
 
-pub talked-on : (before : List Talk) (old now : Wire) (talk : Talk) → Carries old talk now → (first : Wire) × HasCarried first before old → (first : Wire) × HasCarried first (before ++ talk ∷ []) now
-talked-on before old now talk carries (first, held) = (first, carried-on first old now before talk held carries)
-
 -- one event more on the line of a card
-served-on : (first mid now : Wire) (events : List Event) (event : Event) → HasServed first events mid → Moves mid event now → HasServed first (events ++ event ∷ []) now
+pub served-on : (first mid now : Wire) (events : List Event) (event : Event) → HasServed first events mid → Moves mid event now → HasServed first (events ++ event ∷ []) now
 served-on first mid now [] event e moves = (now, subst (λ (w : Wire). Moves w event now) (sym e) moves, refl)
 served-on first mid now (one ∷ events) event (next, before, held) moves = (next, before, served-on next mid now events event held moves)
-
-pub happens-on : (before : List Event) (old now : Wire) (event : Event) → Moves old event now → HasServedTo old before → HasServedTo now (before ++ event ∷ [])
-happens-on before old now event moves (first, held) = (first, served-on first old now before event held moves)
 
 -- these octets were read, and they are what came, whether or not a failure is told as the end
 pub moves-heard : (left after written : Option (List ℕ)) (octets : List ℕ) (arrival : Arrival) → came_of arrival ≡ octets → Consumes left after octets → IsFramed octets → Moves (wire_of left written) (at_card.came arrival) (wire_of after written)

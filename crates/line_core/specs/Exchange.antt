@@ -75,8 +75,8 @@ IsReady next out (Ok put.GivenUp) = next ≡ ends given_up
 IsReady next out (Ok put.Dead) = next ≡ ends dead
 IsReady next out (Err inner) = next ≡ ends (ending_of {A = TerminalPut} (Err inner))
 
--- The terminal in state t takes this call: what is on the line before and after, and the state that it leaves, are those of such a run.
-abbrev pub HasRun : (List Talk → Type 0) → (List Talk → Type 0) → ℕ → TerminalState → TerminalInput → Ending → TerminalState → Type 0
+-- The terminal in state t takes this call: what is added to the line, and the state that it leaves, are those of such a run.
+abbrev pub HasRun : {A : Type 0} → (A → List Talk → Type 0) → (A → List Talk → Type 0) → ℕ → TerminalState → TerminalInput → Ending → TerminalState → Type 0
 HasRun before after most t input ending left = (talks : List Talk) × Adds before after talks × Runs most (next_of (turn_of (terminal_turn t input))) (state_after t (terminal_turn t input)) talks ending left
 
 -- the answer is the one that the terminal holds

@@ -26,6 +26,6 @@ abbrev pub FitsRoom : Heard → List ℕ → Type 0
 FitsRoom (Octets count) room = count ≤ length room
 FitsRoom Nothing room = Unit {0}
 
--- Whatever was on the line before, these talks came after it, and nothing else did.
-abbrev pub Adds : (List Talk → Type 0) → (List Talk → Type 0) → List Talk → Type 0
-Adds old new talks = (before : List Talk) → old before → new (before ++ talks)
+-- Whatever was on the line since another one, these talks came after it, and nothing else did.
+abbrev pub Adds : {A : Type 0} → (A → List Talk → Type 0) → (A → List Talk → Type 0) → List Talk → Type 0
+Adds {A} old new talks = (first : A) (before : List Talk) → old first before → new first (before ++ talks)

@@ -37,9 +37,9 @@ abbrev pub sending : {A E : Type 0} → List ℕ → Result A E → Event
 sending octets (Ok done) = sent octets
 sending octets (Err fault) = unsent octets
 
--- Whatever happened before, these events came after it, and nothing else did.
-abbrev pub Happens : (List Event → Type 0) → (List Event → Type 0) → List Event → Type 0
-Happens old new events = (before : List Event) → old before → new (before ++ events)
+-- Whatever happened since another line, or another host, these events came after it, and nothing else did.
+abbrev pub Happens : {A : Type 0} → (A → List Event → Type 0) → (A → List Event → Type 0) → List Event → Type 0
+Happens {A} old new events = (first : A) (before : List Event) → old first before → new first (before ++ events)
 
 -- How serving ends: nothing comes any more, the line failed, as many blocks came as the caller allows, or the card refused what came or the reply.
 pub data Ending : Type 0 where

@@ -43,10 +43,6 @@ abbrev pub HasCarried : Wire → List Talk → Wire → Type 0
 HasCarried first [] now = first ≡ now
 HasCarried first (talk ∷ talks) now = (next : Wire) × Carries first talk next × HasCarried next talks now
 
--- from some wire on
-abbrev pub HasCarriedTo : Wire → List Talk → Type 0
-HasCarriedTo now talks = (first : Wire) × HasCarried first talks now
-
 -- One event on the line of a card: what came is read and ends with its block, if not before; what is sent is written, all unless the line failed; and nothing else is touched.
 abbrev pub Moves : Wire → Event → Wire → Type 0
 Moves old (at_card.came arrival) new = Consumes old.left new.left (came_of arrival) × IsFramed (came_of arrival) × (new.written ≡ old.written)
@@ -58,10 +54,6 @@ Moves old (at_card.asked command reply) new = ⊥
 abbrev pub HasServed : Wire → List Event → Wire → Type 0
 HasServed first [] now = first ≡ now
 HasServed first (event ∷ events) now = (next : Wire) × Moves first event next × HasServed next events now
-
--- from some wire on
-abbrev pub HasServedTo : Wire → List Event → Type 0
-HasServedTo now events = (first : Wire) × HasServed first events now
 
 module _ {R W : Type 0} where
   abbrev pub source_of : StreamLine R W → R

@@ -18,11 +18,13 @@ pub enum Heard {
 
 /// A line to a card: what a driver of a reader has.
 ///
-/// Contracts see the talks that were on it. A line of which nothing is known, such as a device, has for
-/// `said` what always holds, `λ _ _. Unit {0}`.
+/// Contracts see the talks that were on it since it was another line. Where none were on a line since it was itself, as
+/// with a [`StreamLine`](crate::StreamLine), a caller takes the line before a call for the other one, and has all that
+/// was on it since. A line of which nothing is known, such as a device, has for `said` what always holds,
+/// `λ _ _ _. Unit {0}`.
 pub trait Line {
-    /// These may be the talks that were on the line so far.
-    ghost said: { Self → List Talk → Type 0 };
+    /// These may be the talks that were on the line since it was another line (the second).
+    ghost said: { Self → Self → List Talk → Type 0 };
 
     /// Sends the octets of a block, 4 to 258, and takes what comes after it into the buffer.
     ///

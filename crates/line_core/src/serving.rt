@@ -18,11 +18,11 @@ use t1_core::{Card, CardFault, CardPut};
 
 /// The line of a card: what a card, or a simulator of one, has.
 ///
-/// Contracts see what was on it. A line of which nothing is known, such as a device, has for `said` what
-/// always holds, `λ _ _. Unit {0}`.
+/// Contracts see what was on it since it was another line, as of a [`Line`](crate::Line). A line of which nothing is
+/// known, such as a device, has for `said` what always holds, `λ _ _ _. Unit {0}`.
 pub trait CardLine {
-    /// These may be the events that were on the line so far.
-    ghost said: { Self → List Event → Type 0 };
+    /// These may be the events that were on the line since it was another line (the second).
+    ghost said: { Self → Self → List Event → Type 0 };
 
     /// Waits for the next block as long as it takes, and takes it into the buffer. `Nothing` says that no
     /// more comes, as where the card's power is off.
@@ -38,11 +38,11 @@ pub trait CardLine {
 
 /// What a card does with the commands that it is given.
 ///
-/// Contracts see them, each with its reply; where nothing is said of them `served` is what always holds,
-/// `λ _ _. Unit {0}`.
+/// Contracts see those since it was another host, each with its reply; where nothing is said of them `served` is what
+/// always holds, `λ _ _ _. Unit {0}`.
 pub trait Host {
-    /// These may be the commands and replies so far.
-    ghost served: { Self → List Event → Type 0 };
+    /// These may be the commands and replies since it was another host (the second).
+    ghost served: { Self → Self → List Event → Type 0 };
 
     /// The reply to the last command.
     ghost reply: { Self → List ℕ };

@@ -5,7 +5,7 @@ ghost use Rattle.std.specs.IoError.{error_kind};
 ghost use Rattle.std.specs.Io.KnownBytes.{Consumes, Appends};
 ghost use Rattle.line_core.specs.Line.{Adds, FitsRoom, arrival_of};
 ghost use Rattle.line_core.specs.Service.{Happens, came, sending};
-ghost use Rattle.line_core.specs.Streams.{Moves, Carries, HasCarriedTo, HasServedTo, IsFramed, MovesOn, came_of, wire_of, source_of, sink_of};
+ghost use Rattle.line_core.specs.Streams.{Moves, Carries, HasCarried, HasServed, IsFramed, MovesOn, came_of, wire_of, source_of, sink_of};
 
 use crate::line::{Heard, Line};
 use crate::serving::CardLine;
@@ -50,12 +50,12 @@ impl<R, W> StreamLine<R, W> {
 }
 
 impl<R: Source, W: Sink> Line for StreamLine<R, W> {
-    ghost said = { λ line. HasCarriedTo (wire_of (R.remaining (source_of line)) (W.contents (sink_of line))) };
+    ghost said = { λ line first talks. HasCarried (wire_of (R.remaining (source_of first)) (W.contents (sink_of first))) talks (wire_of (R.remaining (source_of line)) (W.contents (sink_of line))) };
 
     fn talk(&mut self, block: &[u8], _waiting: u8, room: &mut [u8]) -> io::Result<Heard>
         requires { 259 ≤ length room.old }
         ensures fits { IfOk result (λ heard. FitsRoom heard room.new) }
-        ensures said { Adds (HasCarriedTo (wire_of (R.remaining (source_of self.old)) (W.contents (sink_of self.old)))) (HasCarriedTo (wire_of (R.remaining (source_of self.new)) (W.contents (sink_of self.new)))) (record { sent = block.now; waiting = _waiting; arrival = arrival_of result room.new } ∷ []) }
+        ensures said { Adds (λ first talks. HasCarried (wire_of (R.remaining (source_of first)) (W.contents (sink_of first))) talks (wire_of (R.remaining (source_of self.old)) (W.contents (sink_of self.old)))) (λ first talks. HasCarried (wire_of (R.remaining (source_of first)) (W.contents (sink_of first))) talks (wire_of (R.remaining (source_of self.new)) (W.contents (sink_of self.new)))) (record { sent = block.now; waiting = _waiting; arrival = arrival_of result room.new } ∷ []) }
         ensures carried { Carries (wire_of (R.remaining (source_of self.old)) (W.contents (sink_of self.old))) (record { sent = block.now; waiting = _waiting; arrival = arrival_of result room.new }) (wire_of (R.remaining (source_of self.new)) (W.contents (sink_of self.new))) }
     {
         match write_block(&mut self.sink, block) {
@@ -66,12 +66,12 @@ impl<R: Source, W: Sink> Line for StreamLine<R, W> {
 }
 
 impl<R: Source, W: Sink> CardLine for StreamLine<R, W> {
-    ghost said = { λ line. HasServedTo (wire_of (R.remaining (source_of line)) (W.contents (sink_of line))) };
+    ghost said = { λ line first events. HasServed (wire_of (R.remaining (source_of first)) (W.contents (sink_of first))) events (wire_of (R.remaining (source_of line)) (W.contents (sink_of line))) };
 
     fn hear(&mut self, room: &mut [u8]) -> io::Result<Heard>
         requires { 259 ≤ length room.old }
         ensures fits { IfOk result (λ heard. FitsRoom heard room.new) }
-        ensures said { Happens (HasServedTo (wire_of (R.remaining (source_of self.old)) (W.contents (sink_of self.old)))) (HasServedTo (wire_of (R.remaining (source_of self.new)) (W.contents (sink_of self.new)))) (came (arrival_of result room.new) ∷ []) }
+        ensures said { Happens (λ first events. HasServed (wire_of (R.remaining (source_of first)) (W.contents (sink_of first))) events (wire_of (R.remaining (source_of self.old)) (W.contents (sink_of self.old)))) (λ first events. HasServed (wire_of (R.remaining (source_of first)) (W.contents (sink_of first))) events (wire_of (R.remaining (source_of self.new)) (W.contents (sink_of self.new)))) (came (arrival_of result room.new) ∷ []) }
         ensures moved { Moves (wire_of (R.remaining (source_of self.old)) (W.contents (sink_of self.old))) (came (arrival_of result room.new)) (wire_of (R.remaining (source_of self.new)) (W.contents (sink_of self.new))) }
         ensures failed { IfErr result (λ fault. error_kind fault ≢ ErrorKind.UnexpectedEof) }
     {
@@ -79,7 +79,7 @@ impl<R: Source, W: Sink> CardLine for StreamLine<R, W> {
     }
 
     fn say(&mut self, block: &[u8]) -> io::Result<()>
-        ensures said { Happens (HasServedTo (wire_of (R.remaining (source_of self.old)) (W.contents (sink_of self.old)))) (HasServedTo (wire_of (R.remaining (source_of self.new)) (W.contents (sink_of self.new)))) (sending block.now result ∷ []) }
+        ensures said { Happens (λ first events. HasServed (wire_of (R.remaining (source_of first)) (W.contents (sink_of first))) events (wire_of (R.remaining (source_of self.old)) (W.contents (sink_of self.old)))) (λ first events. HasServed (wire_of (R.remaining (source_of first)) (W.contents (sink_of first))) events (wire_of (R.remaining (source_of self.new)) (W.contents (sink_of self.new)))) (sending block.now result ∷ []) }
         ensures moved { Moves (wire_of (R.remaining (source_of self.old)) (W.contents (sink_of self.old))) (sending block.now result) (wire_of (R.remaining (source_of self.new)) (W.contents (sink_of self.new))) }
         ensures failed { IfErr result (λ fault. error_kind fault ≡ ErrorKind.WriteZero) }
     {

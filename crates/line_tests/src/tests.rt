@@ -90,7 +90,7 @@ fn filled(octets: &[u8], room: &mut [u8]) -> Heard
 }
 
 impl Line for Script<'_> {
-    ghost said = { λ _ _. Unit {0} };
+    ghost said = { λ _ _ _. Unit {0} };
 
     fn talk(&mut self, _block: &[u8], waiting: u8, room: &mut [u8]) -> io::Result<Heard> {
         self.talks = self.talks.saturating_add(1);
@@ -124,7 +124,7 @@ fn is_command(card: &Card, octets: &[u8]) -> bool {
 }
 
 impl Line for Wire<'_> {
-    ghost said = { λ _ _. Unit {0} };
+    ghost said = { λ _ _ _. Unit {0} };
 
     fn talk(&mut self, block: &[u8], _waiting: u8, room: &mut [u8]) -> io::Result<Heard> {
         let mut out = [0; 258];

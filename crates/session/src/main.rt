@@ -33,7 +33,7 @@ fn main(rt: HostRuntime) -> io::Result<()> {
 struct Done;
 
 impl Host for Done {
-    ghost served = { λ _ _. Unit {0} };
+    ghost served = { λ _ _ _. Unit {0} };
 
     ghost reply = { λ _. 144 ∷ 0 ∷ [] };
 
@@ -52,7 +52,7 @@ struct Wire<'a> {
 }
 
 impl Line for Wire<'_> {
-    ghost said = { λ _ _. Unit {0} };
+    ghost said = { λ _ _ _. Unit {0} };
 
     fn talk(&mut self, block: &[u8], _waiting: u8, room: &mut [u8]) -> io::Result<Heard> {
         println!(self.rt; "terminal {}", hex_upper(self.rt.alloc(), block)?)?;

@@ -27,7 +27,7 @@ fn card_over<'a>(steps: &'a [Step<'a>], then: Step<'a>) -> CardScript<'a> {
 }
 
 impl CardLine for CardScript<'_> {
-    ghost said = { λ _ _. Unit {0} };
+    ghost said = { λ _ _ _. Unit {0} };
 
     fn hear(&mut self, room: &mut [u8]) -> io::Result<Heard> {
         let step = match self.steps {
@@ -71,7 +71,7 @@ pub(super) fn replying(reply: &[u8]) -> Replies<'_> {
 }
 
 impl Host for Replies<'_> {
-    ghost served = { λ _ _. Unit {0} };
+    ghost served = { λ _ _ _. Unit {0} };
 
     ghost reply = { λ h. h.reply.now };
 
