@@ -10,3 +10,4 @@ pub mod Completed
 pub mod Equal
 pub mod Feeding
 pub mod Alike
+pub mod OnePass

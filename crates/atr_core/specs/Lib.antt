@@ -6,3 +6,4 @@ pub mod Partial
 pub mod Taking
 pub mod Names
 pub mod Same
+pub mod Whole

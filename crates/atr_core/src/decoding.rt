@@ -5,6 +5,7 @@ ghost use Rattle.octet_core.specs.Grammar.{Accepts, Refuses, self_ended};
 ghost use Rattle.atr_core.specs.Atr.{IsAtr, IsReason};
 
 use crate::partial::Partial;
+use crate::whole::Parts;
 use crate::{Atr, AtrReason};
 use octet_core::Stop;
 
@@ -17,8 +18,21 @@ pub fn decode(octets: &[u8]) -> Result<(Atr, usize), Stop<AtrReason>>
     ensures found { IfOk result (λ found. Accepts self_ended IsAtr octets.now found.0 found.1) }
     ensures refused { IfErr result (λ stop. Refuses self_ended IsAtr IsReason octets.now stop) }
 {
+    let mut parts = Parts::new();
+    match parts.read(octets) {
+        Some(count) => Ok((parts.atr(), count)),
+        None => by_octets(octets),
+    }
+}
+
+/// The same octet by octet, which tells the place and the reason of a refusal.
+#[inline(never)]
+fn by_octets(octets: &[u8]) -> Result<(Atr, usize), Stop<AtrReason>>
+    ensures found { IfOk result (λ found. Accepts self_ended IsAtr octets.now found.0 found.1) }
+    ensures refused { IfErr result (λ stop. Refuses self_ended IsAtr IsReason octets.now stop) }
+{
     let mut partial = Partial::Start;
-    let count = match partial.take_piece(0, octets) {
+    let count = match partial.take_octets(0, octets) {
         Ok(count) => count,
         Err(refusal) => return Err(refusal.stop()),
     };

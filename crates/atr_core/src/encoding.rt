@@ -134,5 +134,9 @@ pub(crate) fn push_all<const N: usize>(octets: &mut ArrayVec<u8, N>, more: &[u8]
     ensures value { octets.new.items ≡ octets.old.items ++ more.now }
     ensures octets { AreOctets more.now }
 {
+    if let [octet] = more {
+        octets.push(*octet);
+        return;
+    }
     octets.try_extend_from_slice(more).unwrap();
 }

@@ -15,6 +15,7 @@ mod partial;
 pub mod rating;
 pub mod reader;
 pub mod reason;
+mod whole;
 
 pub use atr::{Atr, Convention, Indicated, Interface};
 pub use decoding::decode;

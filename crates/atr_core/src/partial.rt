@@ -65,10 +65,10 @@ pub(crate) struct Tail {
 /// Which of TA, TB, TC and TD follow T0 or a TD.
 #[derive(Clone, Copy)]
 pub(crate) struct Announced {
-    ta: bool,
-    tb: bool,
-    tc: bool,
-    td: bool,
+    pub(crate) ta: bool,
+    pub(crate) tb: bool,
+    pub(crate) tc: bool,
+    pub(crate) td: bool,
 }
 
 impl Partial {
@@ -117,7 +117,7 @@ impl Partial {
 }
 
 /// What TS says.
-fn opened(ts: u8) -> Result<Convention, AtrReason>
+pub(crate) fn opened(ts: u8) -> Result<Convention, AtrReason>
     ensures is { IfOk result (λ convention. ts_of convention ≡ ts) }
     ensures refused { IfErr result (λ reason. IsReason reason (ts ∷ [])) }
 {
@@ -130,7 +130,7 @@ fn opened(ts: u8) -> Result<Convention, AtrReason>
 
 impl Announced {
     /// What the high nibble of T0 or of a TD announces.
-    fn by(octet: u8) -> Announced
+    pub(crate) fn by(octet: u8) -> Announced
         ensures { Announces result octet }
     {
         Announced {

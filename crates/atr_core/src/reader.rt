@@ -1,6 +1,6 @@
 //! Answers to reset that come in pieces.
 
-ghost use Rattle.std.specs.Prelude.{◌≡◌, ◌↔◌, ◌≤◌, ℕ, List, [], None, false, IsSome, IsNone, MatchOption, length};
+ghost use Rattle.std.specs.Prelude.{◌≡◌, ◌↔◌, ◌≤◌, ℕ, List, [], None, false, IfNone, IfSome, IsSome, IsNone, MatchOption, Ok, length};
 ghost use Rattle.octet_core.specs.Reader.{IsFed, IsFinished};
 ghost use Rattle.atr_core.specs.Atr.{AtrParts, IsAtr, IsReason};
 ghost use Rattle.atr_core.specs.Partial.{Holds, is_whole, taken_of};
@@ -10,6 +10,7 @@ ghost use Rattle.std.specs.Prelude.{IsTrue};
 use crate::atr::MOST_OCTETS;
 use crate::encoding::push_all;
 use crate::partial::Partial;
+use crate::whole::Parts;
 use crate::{Atr, AtrReason};
 use arrayvec::ArrayVec;
 use octet_core::{Refusal, Stop};
@@ -104,6 +105,7 @@ impl AtrReader {
     /// A refusal is `At` the first octet after which no answer goes on, counted from the first ever fed;
     /// those before it count as taken. From then on each call answers the same refusal and changes
     /// nothing, until `reset`.
+    #[inline]
     pub fn feed(&mut self, piece: &[u8]) -> Result<(usize, bool), Stop<AtrReason>>
         ensures { IsFed IsAtr IsReason HasTaken refusal_kept self.old self.new piece.now result }
     {
@@ -167,6 +169,38 @@ impl Partial {
     /// Takes octets of a piece after `count` octets, until the answer is whole or one is refused: how
     /// many.
     pub(crate) fn take_piece(
+        &mut self,
+        count: usize,
+        piece: &[u8],
+    ) -> Result<usize, Refusal<AtrReason>>
+        requires holds { Holds self.old }
+        requires unended { is_whole self.old ≡ false }
+        requires count { count ≡ length (taken_of self.old) }
+        ensures { IsTaken (taken_of self.old) piece.now self.new result }
+    {
+        if count == 0 && piece.len() > 1 {
+            if let Some(taken) = self.take_whole(piece) {
+                return Ok(taken);
+            }
+        }
+        self.take_octets(count, piece)
+    }
+
+    /// Takes a whole answer from the front of a piece, where no octet has come before: how many octets.
+    /// `None` where the piece doesn't begin with one.
+    #[inline(never)]
+    fn take_whole(&mut self, piece: &[u8]) -> Option<usize>
+        ensures taken { IfSome result (λ count. IsTaken [] piece.now self.new (Ok count)) }
+        ensures left { IfNone result (self.new ≡ self.old) }
+    {
+        let mut parts = Parts::new();
+        let count = parts.read(piece)?;
+        *self = Partial::Whole(parts.atr());
+        Some(count)
+    }
+
+    /// The same octet by octet.
+    pub(crate) fn take_octets(
         &mut self,
         count: usize,
         piece: &[u8],

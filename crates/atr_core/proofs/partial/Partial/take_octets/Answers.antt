@@ -5,7 +5,7 @@ use Rattle.atr_core.specs.Atr.{IsReason}
 use Rattle.atr_core.specs.Partial.{taken_of}
 use Rattle.atr_core.proofs.Completed.{Unfinished, goes-on, refused-at}
 use Rattle.atr_core.proofs.Feeding.{holds-few}
-use Rattle.atr_core.proofs.partial.Partial.take_piece.Goals as goal
+use Rattle.atr_core.proofs.partial.Partial.take_octets.Goals as goal
 
 pub overflow_add-place_ever : goal.overflow_add-place_ever
 overflow_add-place_ever c = omega (arith, holds-few c.args.self.now c.requires.holds, c.requires.count, c.loop-place-test.true, c.type_inv.piece)

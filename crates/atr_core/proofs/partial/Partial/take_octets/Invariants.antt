@@ -1,6 +1,6 @@
 use Rattle.std.proofs.Common.{◌≡◌, ◌++◌, take, false}
 use Rattle.atr_core.specs.Partial.{Holds, is_whole, taken_of}
-use Rattle.atr_core.proofs.partial.Partial.take_piece.Given as goal
+use Rattle.atr_core.proofs.partial.Partial.take_octets.Given as goal
 
 -- the octets before the piece and those of it so far are those that have come, and more must
 abbrev pub invariant-loop-place : goal.invariant-loop-place

@@ -1,0 +1,33 @@
+-- A whole answer to reset, read in one pass: what each part of the pass takes from the front of octets.
+use Rattle.std.specs.Prelude.{◌≡◌, ℕ, ◌%◌, ◌<◌, ◌++◌, List, Bool, if◌then◌else◌, Option, Some, None}
+use Rattle.std.specs.List.{AllByRecursion}
+use Rattle.octet_core.specs.Octets.{xor_of}
+use Rattle.atr_core.specs.declared.atr.Interface.{Interface}
+use Rattle.atr_core.specs.declared.atr.Indicated.{Indicated}
+use Rattle.atr_core.specs.declared.whole.Parts.{Parts}
+use Rattle.atr_core.specs.Atr.{AtrParts, announcing, goes_on, octets_of, td_octets}
+
+-- the answer with these parts
+abbrev pub made_of : Parts → AtrParts
+made_of p = record { convention = p.convention; first = p.first; indicated = p.indicated.items; historical = p.historical.items }
+
+-- the bytes that the octet announces, whether a TD follows, and what is left of the octets after it
+pub record IsSection (octet : ℕ) (octets : List ℕ) (bytes : Interface) (td : Bool) (rest : List ℕ) : Type 0 where
+  pub told : announcing bytes td (octet % 16) ≡ octet
+  pub is : octets ≡ octets_of bytes ++ rest
+
+-- the TDs with which the octets begin, none where td says so, and what is left after the bytes of the last
+pub record AreTds (td : Bool) (octets : List ℕ) (indicated : List Indicated) (rest : List ℕ) : Type 0 where
+  pub some : goes_on indicated ≡ td
+  pub protocols : AllByRecursion (λ x. x.protocol < 16) indicated
+  pub is : octets ≡ td_octets indicated ++ rest
+
+-- these TDs and whatever TDs are read next make all of them
+pub record AreTdsSoFar (td : Bool) (octets : List ℕ) (indicated : List Indicated) (more : Bool) (rest : List ℕ) : Type 0 where
+  pub protocols : AllByRecursion (λ x. x.protocol < 16) indicated
+  pub some : (xs : List Indicated) → goes_on xs ≡ more → goes_on (indicated ++ xs) ≡ td
+  pub is : (xs : List Indicated) (left : List ℕ) → goes_on xs ≡ more → rest ≡ td_octets xs ++ left → octets ≡ td_octets (indicated ++ xs) ++ left
+
+-- TCK after the octets that it checks, where it is needed
+abbrev pub tck_after : Bool → List ℕ → Option ℕ
+tck_after needed checked = if needed then Some (xor_of checked) else None

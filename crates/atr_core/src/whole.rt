@@ -1,0 +1,182 @@
+//! A whole answer to reset, read in one pass.
+
+ghost use Rattle.std.specs.Prelude.{◌≡◌, ◌+◌, ◌<◌, ◌++◌, ℕ, Bool, [], IfSome, length};
+ghost use Rattle.std.specs.Option.{option_to_list};
+ghost use Rattle.octet_core.specs.Grammar.{Accepts, self_ended};
+ghost use Rattle.atr_core.specs.Atr.{IsAtr, IsProper, bit_of};
+ghost use Rattle.atr_core.specs.Partial.{or_awaited};
+ghost use Rattle.atr_core.specs.Whole.{AreTds, IsSection, made_of, tck_after};
+
+use crate::atr::{MOST_OCTETS, has_tck};
+use crate::encoding::push_all;
+use crate::partial::{Announced, opened};
+use crate::{Atr, Convention, Indicated, Interface};
+use arrayvec::ArrayVec;
+use octet_core::lrc;
+
+/// The parts of an answer, each written where it is kept.
+#[derive(Drop)]
+pub(crate) struct Parts {
+    convention: Convention,
+    first: Interface,
+    indicated: ArrayVec<Indicated, 31>,
+    historical: ArrayVec<u8, 15>,
+}
+
+/// What T0 or a TD announces up to the next TD, taken from the front of octets.
+#[derive(Clone, Copy)]
+struct Section<'a> {
+    bytes: Interface,
+    /// Whether a TD follows.
+    td: bool,
+    /// The octets that are left.
+    rest: &'a [u8],
+}
+
+impl Parts {
+    /// Parts of which none is read yet.
+    #[inline]
+    pub(crate) fn new() -> Parts
+        ensures indicated { result.indicated.items ≡ [] }
+        ensures historical { result.historical.items ≡ [] }
+    {
+        Parts {
+            convention: Convention::Direct,
+            first: Interface::default(),
+            indicated: ArrayVec::new(),
+            historical: ArrayVec::new(),
+        }
+    }
+
+    /// Reads the answer with which the octets begin: how many octets it takes. `None` where they begin
+    /// with none; why is not told.
+    #[inline]
+    pub(crate) fn read(&mut self, octets: &[u8]) -> Option<usize>
+        requires indicated { self.old.indicated.items ≡ [] }
+        requires historical { self.old.historical.items ≡ [] }
+        ensures { IfSome result (λ count. Accepts self_ended IsAtr octets.now (made_of self.new) count) }
+    {
+        let [ts, checked @ ..] = octets else {
+            return None;
+        };
+        let [t0, after @ ..] = checked else {
+            return None;
+        };
+        let Ok(convention) = opened(*ts) else {
+            return None;
+        };
+        let section = read_section(*t0, after)?;
+        self.convention = convention;
+        self.first = section.bytes;
+        let tail = read_tds(&mut self.indicated, section.td, section.rest)?;
+        let tck = read_historical(&mut self.historical, usize::from(*t0 % 16), tail)?;
+        let checked = &checked[..checked.len() - tck.len()];
+        let left = after_tck(has_tck(self.indicated.as_slice()), checked, tck)?;
+        let count = octets.len() - left.len();
+        if count > MOST_OCTETS {
+            return None;
+        }
+        Some(count)
+    }
+
+    /// The answer with these parts.
+    #[inline]
+    pub(crate) fn atr(self) -> Atr
+        requires { IsProper (made_of self) }
+        ensures { result ≡ made_of self }
+    {
+        Atr::of_parts(self.convention, self.first, self.indicated, self.historical)
+    }
+}
+
+/// The interface bytes that T0 or a TD announces, from the front of the octets after it.
+#[inline]
+fn read_section(octet: u8, octets: &[u8]) -> Option<Section<'_>>
+    ensures { IfSome result (λ section. IsSection octet octets.now section.bytes section.td section.rest.now) }
+{
+    let announced = Announced::by(octet);
+    let (ta, rest) = read_byte(announced.ta, octets)?;
+    let (tb, rest) = read_byte(announced.tb, rest)?;
+    let (tc, rest) = read_byte(announced.tc, rest)?;
+    Some(Section {
+        bytes: Interface { ta, tb, tc },
+        td: announced.td,
+        rest,
+    })
+}
+
+/// An interface byte from the front of octets, where it is announced, and the octets that are left.
+#[inline]
+fn read_byte(announced: bool, octets: &[u8]) -> Option<(Option<u8>, &[u8])>
+    ensures told { IfSome result (λ taken. (weight : ℕ) → bit_of taken.0 weight ≡ bit_of (or_awaited announced None) weight) }
+    ensures is { IfSome result (λ taken. octets.now ≡ option_to_list taken.0 ++ taken.1.now) }
+{
+    if !announced {
+        return Some((None, octets));
+    }
+    let [octet, rest @ ..] = octets else {
+        return None;
+    };
+    Some((Some(*octet), rest))
+}
+
+/// Reads each TD with its bytes from the front of octets: the octets that are left. `td` says whether
+/// there is a first one.
+#[inline]
+fn read_tds<'a>(
+    indicated: &mut ArrayVec<Indicated, 31>,
+    td: bool,
+    octets: &'a [u8],
+) -> Option<&'a [u8]>
+    requires { indicated.old.items ≡ [] }
+    ensures { IfSome result (λ rest. AreTds td octets.now indicated.new.items rest.now) }
+{
+    let mut td = td;
+    let mut rest = octets;
+    while td {
+        let [octet, after @ ..] = rest else {
+            return None;
+        };
+        let section = read_section(*octet, after)?;
+        let protocol = *octet % 16;
+        let bytes = section.bytes;
+        if indicated.is_full() {
+            return None;
+        }
+        indicated.push(Indicated { protocol, bytes });
+        td = section.td;
+        rest = section.rest;
+    }
+    Some(rest)
+}
+
+/// Reads so many historical bytes from the front of octets: the octets that are left.
+#[inline]
+fn read_historical<'a>(
+    historical: &mut ArrayVec<u8, 15>,
+    count: usize,
+    octets: &'a [u8],
+) -> Option<&'a [u8]>
+    requires blank { historical.old.items ≡ [] }
+    requires few { count < 16 }
+    ensures is { IfSome result (λ rest. octets.now ≡ historical.new.items ++ rest.now) }
+    ensures count { IfSome result (λ rest. length historical.new.items ≡ count) }
+{
+    let (bytes, rest) = octets.split_at_checked(count)?;
+    push_all(historical, bytes);
+    Some(rest)
+}
+
+/// The octets that are left after TCK, where it is `needed`: the exclusive-or of those that it checks.
+#[inline]
+fn after_tck<'a>(needed: bool, checked: &[u8], octets: &'a [u8]) -> Option<&'a [u8]>
+    ensures { IfSome result (λ left. octets.now ≡ option_to_list (tck_after needed checked.now) ++ left.now) }
+{
+    if !needed {
+        return Some(octets);
+    }
+    match octets {
+        [tck, left @ ..] if *tck == lrc(checked) => Some(left),
+        _ => None,
+    }
+}
