@@ -276,6 +276,66 @@ fn each_cut_of_an_answer_in_two(rt: HostRuntime) {
     }
 }
 
+/// Answers that are accepted, refused at each kind of place, and followed by other octets.
+const WHOLE_OR_NOT: [&[u8]; 16] = [
+    BOTH_PROTOCOLS,
+    T1_CARD,
+    LONGEST,
+    MOST_TDS,
+    TOO_MANY_TDS,
+    b"\x3F\x00",
+    // All of TA to TC, and fifteen historical bytes.
+    b"\x3B\x7F\x11\x22\x33\x01\x02\x03\x04\x05\x06\x07\x08\x09\x0A\x0B\x0C\x0D\x0E\x0F\x00",
+    // TB alone, then TC alone, and TCK.
+    b"\x3B\xA1\x05\xC1\x06\x11\x20\x55\x07\x00",
+    // T=0 alone: an octet that could be a TCK stays unread.
+    b"\x3B\x80\x00\x80",
+    // T=15, with a global TA.
+    b"\x3B\x80\x1F\x07\x98",
+    // TS is refused.
+    b"\x3A\x00",
+    b"\x00",
+    // TCK is refused.
+    b"\x3B\x80\x81\x31\x20\x45\x54",
+    b"\x3B\x80\x01\x00\x81",
+    // A TD is refused: the fourth makes too many octets.
+    b"\x3B\xFF\x11\x22\x33\xF1\x44\x55\x66\xF1\x77\x88\x99\xF1",
+    b"",
+];
+
+/// What a reader says of octets that it is fed one by one: how many it takes, or why not.
+fn octet_by_octet(octets: &[u8]) -> Result<usize, Stop<AtrReason>> {
+    let mut reader = AtrReader::new();
+    let mut count = 0;
+    for octet in octets {
+        let (taken, whole) = reader.feed(&[*octet])?;
+        count = taken.saturating_add(count);
+        if whole {
+            return Ok(count);
+        }
+    }
+    reader.finish().map(|_| count)
+}
+
+/// What a reader says of octets that it is fed at once.
+fn at_once(octets: &[u8]) -> Result<usize, Stop<AtrReason>> {
+    let mut reader = AtrReader::new();
+    let (count, _) = reader.feed(octets)?;
+    reader.finish().map(|_| count)
+}
+
+#[test]
+fn one_pass_agrees_with_octet_by_octet(rt: HostRuntime) {
+    for octets in WHOLE_OR_NOT {
+        for end in 0..=octets.len() {
+            let front = &octets[..end];
+            let wanted = octet_by_octet(front);
+            assert!(rt; same(decode(front).map(|found| found.1), wanted));
+            assert!(rt; same(at_once(front), wanted));
+        }
+    }
+}
+
 #[test]
 fn waiting_times(rt: HostRuntime) {
     let first = T1Params::new(32, 4, 13).expect(&rt, "parameters");
