@@ -29,7 +29,7 @@ pub record Grew (b : List ℕ) (k : Kept) (all : List Placed) : Type 0 where
   pub placed_is : placed tree ≡ all
 
 -- with an item after the innermost list, all is closed that can be
-closed_grew : (b : List ℕ) (k : Kept) (opened : List Opened) (list : Tree) (all : List Placed) → k.header ≡ [] → k.value_left ≡ 0 → ClosingSome b k.rooms opened list → placed_in 1 0 opened (placed_list list None) ≡ all → Grew b k all
+pub closed_grew : (b : List ℕ) (k : Kept) (opened : List Opened) (list : Tree) (all : List Placed) → k.header ≡ [] → k.value_left ≡ 0 → ClosingSome b k.rooms opened list → placed_in 1 0 opened (placed_list list None) ≡ all → Grew b k all
 closed_grew b k opened list all none z h e =
     let c = all_closed h.closed b k.rooms opened list h.closing in
     record { tree = record { opened = c.opened_now; list = c.list_now; value = None }; grown = closing_done b k c.opened_now c.list_now none z c.closing; placed_is = c.placed_same ∙ e }
@@ -75,7 +75,7 @@ filler_placed : (list : Tree) (d place : ℕ) → placed_list (join list (Filler
 filler_placed list d place = append-nil (preorder d place (join list (Filler End))) ∙ preorder-join list (Filler End) d place
 
 -- so it is with each kind of object
-abbrev All : List Opened → Tree → List Placed
+abbrev pub All : List Opened → Tree → List Placed
 All opened list = placed_in 1 0 opened (placed_list list None)
 
 empty_grew : (b : List ℕ) (k : Kept) (x : ℕ) (o : ObjectHeader) (item : Tree) (opened : List Opened) (list : Tree) → Comes b k x (next.Object o) opened list → o.len ≡ 0
@@ -131,7 +131,7 @@ next_grew b k x (next.Object o) opened list h =
           ]
     ]
 
-none_placed : (b : List ℕ) (k : Kept) (g : Grown) → HasGrown b k g → k.value_left ≡ 0 → placed g ≡ All g.opened g.list
+pub none_placed : (b : List ℕ) (k : Kept) (g : Grown) → HasGrown b k g → k.value_left ≡ 0 → placed g ≡ All g.opened g.list
 none_placed b k g h z = ap (λ (v : Option ValueSoFar). placed_in 1 0 g.opened (placed_list g.list v)) (none_under (1 + length k.rooms) g.value k.header k.value_left h.under z)
 
 pub octet_grew : (b : List ℕ) (k : Kept) (x : ℕ) (next : Next) (g : Grown) → HasTaken b k → k.value_left ≡ 0 → IsStep k x next → HasGrown b k g → Grew (b ++ x ∷ []) (after_next k next) (placed g ++ placed_next (1 + length k.rooms) (k.count + 1) next)

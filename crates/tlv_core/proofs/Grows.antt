@@ -42,7 +42,7 @@ at_header b k g h z =
 pub none_kept : (b : List ℕ) (k : Kept) (g : Grown) → HasGrown b k g → k.value_left ≡ 0 → g ≡ record { opened = g.opened; list = g.list; value = None }
 none_kept b k g h z = ap (λ (v : Option ValueSoFar). record { opened = g.opened; list = g.list; value = v }) (none_under (1 + length k.rooms) g.value k.header k.value_left h.under z)
 
-step_fits : (b : List ℕ) (k : Kept) (s : Held b k) (m : ℕ) → m ≤ room_of (k.max - length b) k.rooms → FitsIn (k.max - length b) k.rooms m
+pub step_fits : (b : List ℕ) (k : Kept) (s : Held b k) (m : ℕ) → m ≤ room_of (k.max - length b) k.rooms → FitsIn (k.max - length b) k.rooms m
 step_fits b k s m le = fits_more (k.max - length b) k.rooms _ m s.fits le
 
 -- ---- after it

@@ -17,7 +17,7 @@ use Rattle.tlv_core.specs.Tag.{IsTag, constructed_bit, header_of}
 use Rattle.tlv_core.specs.Tree.{End, Primitive, Constructed}
 use Rattle.tlv_core.specs.Forest.{spelling, IsObject, deepest}
 use Rattle.tlv_core.specs.Reasons.{Kept, HasTaken, room_of}
-use Rattle.tlv_core.specs.Short.{IsShort, IsShortLength, taken_of, whole_of, opened, after_short}
+use Rattle.tlv_core.specs.Short.{IsShort, IsShortLength, MayCome, taken_of, whole_of, opened, after_short}
 use Rattle.tlv_core.specs.Steps.{spent}
 use Rattle.tlv_core.specs.Open.{rooms_to, open_after}
 use Rattle.tlv_core.proofs.Ends.{kept, rooms-open, rooms-push}
@@ -76,9 +76,10 @@ by_kind b octets k m n true tag form r are deep is_tag bit small inside is room 
 by_kind b octets k m n false tag form r are deep is_tag bit small inside is room = primitive_taken b octets k m n tag form r are deep is_tag bit small inside is room
 
 -- an object with a short header is taken, whole or its header, where it fits
-pub short_taken : (b octets : List ℕ) (k : Kept) (o : ShortHeader) → IsShort octets o → AreOctets octets → k.header ≡ [] → k.value_left ≡ 0 → length k.rooms < 16 → taken_of o ≤ length octets → whole_of o ≤ room_of (k.max - k.count) k.rooms
-    → HasTaken b k → HasTaken (b ++ take (taken_of o) octets) (after_short k o)
-short_taken b octets k o short are empty z deep inside room h = by_kind b octets k o.header o.len o.is_constructed short.tag short.form (ready b k h empty z) are (omega arith) short.is_tag short.bit short.fits inside short.is room
+pub short_taken : (b octets : List ℕ) (k : Kept) (o : ShortHeader) → MayCome k octets o → AreOctets octets → HasTaken b k → HasTaken (b ++ take (taken_of o) octets) (after_short k o)
+short_taken b octets k o may are h =
+    let short = may.short in
+    by_kind b octets k o.header o.len o.is_constructed (take o.tag octets) o.form (ready b k h may.nothing may.idle) are (omega (arith, may.shallow)) short.is_tag short.bit short.fits may.here short.is may.room
 
 -- ---- what is kept then
 
@@ -105,6 +106,14 @@ kind_within false h n = omega arith
 pub taken_within : (o : ShortHeader) → taken_of o ≤ whole_of o
 taken_within o = kind_within o.is_constructed o.header o.len
 
+kind_some : (c : Bool) (h n : ℕ) → 0 < h → 0 < cond c h (h + n)
+kind_some true h n some = some
+kind_some false h n some = omega arith
+
+-- and some of it is taken
+pub taken_some : (octets : List ℕ) (o : ShortHeader) → IsShort octets o → 0 < taken_of o
+taken_some octets o short = kind_some o.is_constructed o.header o.len (omega (arith, short.longer))
+
 -- the same, with what was under way before: nothing
 pub was_nothing : (max count left : ℕ) (rooms : List ℕ) (h : Header) → h ≡ Nothing → left ≡ 0 → kept max count rooms (header_octets h) left ≡ kept max count rooms [] 0
 was_nothing max count left rooms h none empty = ap (λ (l : List ℕ). kept max count rooms l left) (ap header_octets none) ∙ ap (λ (n : ℕ). kept max count rooms [] n) empty
@@ -128,13 +137,11 @@ bit_of (x ∷ octets) (suc t) false some is_tag e =
 
 -- a tag and a length field are a header
 pub joined : (octets : List ℕ) (t : ℕ) (c : Bool) (l : ShortLength) → IsTag (take t octets) → 0 < t → t ≤ length octets → IsTrue c ↔ (slice_index octets 0 / 32 % 2 ≡ 1) → IsShortLength (drop t octets) l
-    → IsShort octets (record { header = t + l.octets; is_constructed = c; len = l.len })
+    → IsShort octets (record { tag = t; form = l.form; header = t + l.octets; is_constructed = c; len = l.len })
 joined octets t c l is_tag some inside e h =
     record {
-      tag = take t octets;
-      form = h.form;
       is_tag = is_tag;
-      some = omega arith;
+      longer = omega (arith, h.some);
       within = omega (arith, h.within, length-drop t octets);
       fits = h.fits;
       is = take-add t l.octets octets ∙ ap (λ (rest : List ℕ). take t octets ++ rest) h.is;

@@ -44,7 +44,7 @@ flat_none max k b is =
     })
 
 -- what grew, with its parts
-flat_grew : (b : List ℕ) (k : Kept) (now : List ℕ) (all : List Placed) (parts : List Part) → k.count ≤ length b → now ≡ take k.count b → HasTaken now k → Grew now k all → map part_seen parts ≡ map (part_in b) all → HasFlat b k parts
+pub flat_grew : (b : List ℕ) (k : Kept) (now : List ℕ) (all : List Placed) (parts : List Part) → k.count ≤ length b → now ≡ take k.count b → HasTaken now k → Grew now k all → map part_seen parts ≡ map (part_in b) all → HasFlat b k parts
 flat_grew b k now all parts le is taken g e =
     record {
       within = le;

@@ -1,12 +1,11 @@
 -- Objects with a short header: a tag of one octet or two, and a length field of at most three.
-use Rattle.std.specs.Prelude.{◌≡◌, ℕ, ◌+◌, ◌<◌, ◌≤◌, List, [], ◌∷◌, ◌++◌, length, take, Bool, true, false, cond}
+use Rattle.std.specs.Prelude.{◌≡◌, ℕ, ◌+◌, ◌-◌, ◌<◌, ◌≤◌, List, [], ◌∷◌, ◌++◌, length, take, Bool, true, false, cond}
 use Rattle.std.proofs.Common.{zero, suc}
-use Rattle.tlv_core.specs.declared.form.Form.{Form}
 use Rattle.tlv_core.specs.declared.short.ShortHeader.{ShortHeader}
 use Rattle.tlv_core.specs.declared.short.ShortLength.{ShortLength}
 use Rattle.tlv_core.specs.Form.{capacity}
 use Rattle.tlv_core.specs.Tag.{IsTag, constructed_bit, header_of, length_field}
-use Rattle.tlv_core.specs.Reasons.{Kept}
+use Rattle.tlv_core.specs.Reasons.{Kept, room_of}
 use Rattle.tlv_core.specs.Steps.{spent}
 
 -- how many octets are taken at once: all of a primitive object, the header of a constructed one
@@ -19,23 +18,20 @@ whole_of o = o.header + o.len
 
 -- the octets begin with this length field
 pub record IsShortLength (octets : List ℕ) (l : ShortLength) : Type 0 where
-  pub form : Form
   pub some : 0 < l.octets
   pub few : l.octets ≤ 3
   pub within : l.octets ≤ length octets
-  pub fits : l.len < capacity form
-  pub is : take l.octets octets ≡ length_field form l.len
+  pub fits : l.len < capacity l.form
+  pub is : take l.octets octets ≡ length_field l.form l.len
 
 -- the octets begin with this header
 pub record IsShort (octets : List ℕ) (o : ShortHeader) : Type 0 where
-  pub tag : List ℕ
-  pub form : Form
-  pub is_tag : IsTag tag
-  pub some : 0 < o.header
+  pub is_tag : IsTag (take o.tag octets)
+  pub longer : o.tag < o.header
   pub within : o.header ≤ length octets
-  pub fits : o.len < capacity form
-  pub is : take o.header octets ≡ header_of tag form o.len
-  pub bit : constructed_bit tag ≡ cond o.is_constructed 1 0
+  pub fits : o.len < capacity o.form
+  pub is : take o.header octets ≡ header_of (take o.tag octets) o.form o.len
+  pub bit : constructed_bit (take o.tag octets) ≡ cond o.is_constructed 1 0
 
 -- the room in the object, where it is open then
 abbrev pub opened : Bool → ℕ → List ℕ
@@ -46,3 +42,12 @@ opened true (suc n) = suc n ∷ []
 -- what is kept after such an object, or its header
 abbrev pub after_short : Kept → ShortHeader → Kept
 after_short k o = record { max = k.max; count = k.count + taken_of o; rooms = spent (taken_of o) k.rooms ++ opened o.is_constructed o.len; header = []; value_left = 0 }
+
+-- after what is kept these octets begin with this header, and what is taken at once of the object is here and fits
+pub record MayCome (k : Kept) (octets : List ℕ) (o : ShortHeader) : Type 0 where
+  pub nothing : k.header ≡ []
+  pub idle : k.value_left ≡ 0
+  pub shallow : length k.rooms < 16
+  pub short : IsShort octets o
+  pub here : taken_of o ≤ length octets
+  pub room : whole_of o ≤ room_of (k.max - k.count) k.rooms

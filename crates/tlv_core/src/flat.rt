@@ -130,8 +130,8 @@ fn is_same(one: &Part<'_>, other: &Part<'_>) -> bool
         && value == other_value
 }
 
-/// Takes the next octets of a forest: a run of the value under way, or one octet of a header. Where
-/// that completes the header of an object, its part is kept.
+/// Takes the next octets of a forest: a run of the value under way, an object with a short header, or
+/// one octet of a header. Where that completes the header of an object, its part is kept.
 fn advance<'a>(
     progress: &mut Progress,
     parts: &mut Vec<Part<'a>>,
@@ -149,6 +149,12 @@ fn advance<'a>(
         return Ok(());
     }
     let depth = progress.level() + 1;
+    let start = progress.count();
+    let here = &octets[start..];
+    if let Some(short) = progress.take_short(here) {
+        let place = start + usize::from(short.header);
+        return keep(parts, depth, short.object(here), octets, place);
+    }
     match progress.take(octets[progress.count()]) {
         Ok(next) => match next.object() {
             Some(object) => keep(parts, depth, object, octets, progress.count()),

@@ -46,7 +46,7 @@ impl Progress {
     ghost use Rattle.tlv_core.specs.Open.{rooms_to};
     ghost use Rattle.tlv_core.specs.Header.{IsWellNext, next_need};
     ghost use Rattle.tlv_core.specs.Steps.{entered, after_next, after_run, IsStep, IsWrongAfter};
-    ghost use Rattle.tlv_core.specs.Short.{after_short, whole_of};
+    ghost use Rattle.tlv_core.specs.Short.{after_short, whole_of, MayCome};
     ghost use Rattle.tlv_core.specs.Tag.{constructed_bit};
     ghost use Rattle.tlv_core.specs.Progress.{kept_of};
     ghost use Rattle.tlv_core.specs.Places.{AreCheckPlaces, kept_at};
@@ -154,33 +154,33 @@ impl Progress {
             self.skip(run);
             return Ok(run);
         }
-        if let Some(taken) = self.take_short(octets) {
-            return Ok(taken);
+        if let Some(object) = self.take_short(octets) {
+            return Ok(object.taken());
         }
         self.take(octets[0])?;
         Ok(1)
     }
 
     /// Takes a primitive object, or the header of a constructed one, where its tag has one octet or two, its
-    /// length field at most three, and all of that is here and fits. How many octets were taken; where there
+    /// length field at most three, and all of that is here and fits. The header that was taken; where there
     /// is nothing of the kind, nothing changes.
-    fn take_short(&mut self, octets: &[u8]) -> Option<usize>
+    #[inline(always)]
+    pub(crate) fn take_short(&mut self, octets: &[u8]) -> Option<ShortHeader>
         requires { self.old.value_left ≡ 0 }
         ensures max { self.new.max ≡ self.old.max }
-        ensures some { IfSome result (λ n. (0 < n) × (n ≤ length octets.now)) }
-        ensures taken { IfSome result (λ n. (b : List ℕ) → HasTaken b (kept_of self.old) → HasTaken (b ++ take n octets.now) (kept_of self.new)) }
+        ensures some { IfSome result (MayCome (kept_of self.old) octets.now) }
+        ensures after { IfSome result (λ o. kept_of self.new ≡ after_short (kept_of self.old) o) }
         ensures none { IfNone result (self.new ≡ self.old) }
     {
         if !self.header.is_nothing() || self.ends.len() >= DEEPEST {
             return None;
         }
         let object = short_header(octets)?;
-        let taken = object.taken();
-        if taken > octets.len() || object.whole() > self.room() {
+        if object.taken() > octets.len() || object.whole() > self.room() {
             return None;
         }
         self.pass(object);
-        Some(taken)
+        Some(object)
     }
 
     /// Passes over an object with a short header, or enters it where it is constructed and not empty.

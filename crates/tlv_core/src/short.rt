@@ -4,11 +4,17 @@ ghost use Rattle.std.specs.Prelude.{◌≡◌, ◌<◌, ◌≤◌, ◌+◌, [], 
 ghost use Rattle.tlv_core.specs.Tag.{IsTag};
 ghost use Rattle.tlv_core.specs.Short.{IsShort, IsShortLength, opened, taken_of, whole_of};
 
-use crate::tag::{is_constructed, is_last, is_long};
+use crate::form::Form;
+use crate::header::ObjectHeader;
+use crate::tag::{Tag, is_constructed, is_last, is_long};
 
 /// The header of an object whose tag has one octet or two, and whose length field has at most three.
 #[derive(Clone, Copy)]
 pub(crate) struct ShortHeader {
+    /// The number of its tag's octets, 1 or 2.
+    pub(crate) tag: u8,
+    /// The form of its length field.
+    pub(crate) form: Form,
     /// The number of its octets, 2 to 5.
     pub(crate) header: u8,
     pub(crate) is_constructed: bool,
@@ -19,6 +25,7 @@ pub(crate) struct ShortHeader {
 /// A length field of at most three octets.
 #[derive(Clone, Copy)]
 pub(crate) struct ShortLength {
+    pub(crate) form: Form,
     /// The number of its octets, 1 to 3.
     pub(crate) octets: u8,
     /// The length that it says.
@@ -56,6 +63,18 @@ impl ShortHeader {
     {
         usize::from(self.header) + usize::from(self.len)
     }
+
+    /// The same header, with its tag, which is at the front of these octets.
+    pub(crate) fn object(&self, octets: &[u8]) -> ObjectHeader
+        requires { IsShort octets.now self.now }
+        ensures { result ≡ record { tag = take self.now.tag octets.now; form = self.now.form; len = self.now.len } }
+    {
+        ObjectHeader {
+            tag: Tag::of(&octets[..usize::from(self.tag)]),
+            form: self.form,
+            len: u32::from(self.len),
+        }
+    }
 }
 
 /// The short header with which these octets begin, if they do.
@@ -65,6 +84,8 @@ pub(crate) fn short_header(octets: &[u8]) -> Option<ShortHeader>
     let tag = short_tag(octets)?;
     let length = short_length(&octets[usize::from(tag)..])?;
     Some(ShortHeader {
+        tag,
+        form: length.form,
         header: tag + length.octets,
         is_constructed: is_constructed(octets[0]),
         len: length.len,
@@ -89,14 +110,17 @@ fn short_length(octets: &[u8]) -> Option<ShortLength>
 {
     match octets {
         [len, ..] if *len < 0x80 => Some(ShortLength {
+            form: Form::One,
             octets: 1,
             len: u16::from(*len),
         }),
         [0x81, len, ..] => Some(ShortLength {
+            form: Form::Two,
             octets: 2,
             len: u16::from(*len),
         }),
         [0x82, high, low, ..] => Some(ShortLength {
+            form: Form::Three,
             octets: 3,
             len: u16::from(*high) * 0x100 + u16::from(*low),
         }),

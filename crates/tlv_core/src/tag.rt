@@ -81,11 +81,20 @@ impl Tag {
         requires { IsTag octets.now }
         ensures { result ≡ octets.now }
     {
-        let mut held = [0; 3];
-        held[..octets.len()].copy_from_slice(octets);
-        Tag {
-            octets: held,
-            count: octets.len() as u8,
+        match octets {
+            [first] => Tag {
+                octets: [*first, 0, 0],
+                count: 1,
+            },
+            [first, second] => Tag {
+                octets: [*first, *second, 0],
+                count: 2,
+            },
+            [first, second, third] => Tag {
+                octets: [*first, *second, *third],
+                count: 3,
+            },
+            _ => unreachable!(),
         }
     }
 

@@ -103,7 +103,16 @@ fn octets_are_refused_at_their_place(rt: HostRuntime) -> Result<(), Fail> {
             "{text}"
         );
     }
-    for (text, place) in [("5A02", 2), ("5A830FFFFB", 5)] {
+    const CUT: [(&str, usize); 7] = [
+        ("5A02", 2),
+        ("5A830FFFFB", 5),
+        ("9F", 1),
+        ("5A8200", 3),
+        ("DF8102", 3),
+        ("6F108407A0000000041010A505BF", 14),
+        ("6F108407A0000000041010A505BF0C", 15),
+    ];
+    for (text, place) in CUT {
         assert!(rt;
             same(
                 checked(&rt, text, LARGEST_FOREST)?,

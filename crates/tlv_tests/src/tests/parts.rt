@@ -52,6 +52,21 @@ fn parts_are_in_preorder(rt: HostRuntime) -> Result<(), Fail> {
     )
 }
 
+#[test]
+fn short_and_long_headers_have_parts(rt: HostRuntime) -> Result<(), Fail> {
+    check_parts(
+        rt.alloc(),
+        &rt,
+        "7012DF810201125A82000234569F028300000178",
+        &[
+            (1, "70", 2, "DF810201125A82000234569F028300000178"),
+            (2, "DF8102", 6, "12"),
+            (2, "5A", 11, "3456"),
+            (2, "9F02", 19, "78"),
+        ],
+    )
+}
+
 /// Where the header and the value of each object begin, after fillers and after long length fields.
 const PLACES: [(usize, usize); 4] = [(1, 4), (5, 9), (10, 12), (12, 14)];
 

@@ -9,6 +9,8 @@ use Rattle.tlv_core.specs.Reasons.{HasTaken, tlv_reasons}
 use Rattle.tlv_core.specs.Steps.{IsWrongAfter}
 use Rattle.tlv_core.specs.declared.progress.Progress.{Progress}
 use Rattle.tlv_core.specs.Progress.{kept_of}
+use Rattle.tlv_core.specs.Short.{taken_of}
+use Rattle.tlv_core.proofs.Shorts.{short_taken, taken_some}
 use Rattle.tlv_core.proofs.Advances.{skip_taken, take_taken}
 use Rattle.tlv_core.proofs.Ends.{take_one}
 use Rattle.tlv_core.proofs.progress.Progress.advance.Goals as goal
@@ -21,6 +23,20 @@ returns-then-self-gt0-clause-ok c b h =
     let octets : AreOctets c.args.octets.now = λ i. omega (arith, c.type_inv.octets i) in
     subst (HasTaken (b ++ add)) (sym c.skip.ensures)
     (skip_taken b k run add (omega (arith, length-take run c.args.octets.now, c.min-run.ensures)) (octets-take run c.args.octets.now octets) (omega (arith, c.min-run.ensures, c.requires)) (omega (arith, c.min-run.ensures)) h)
+
+pub returns-in-Some-clause-some : goal.returns-in-Some-clause-some
+returns-in-Some-clause-some c =
+    let may = c.in-Some.ensures.some in
+    (omega (arith, c.taken.ensures, taken_some c.args.octets.now c.in-Some.object may.short), omega (arith, c.taken.ensures, may.here))
+
+pub returns-in-Some-clause-ok : goal.returns-in-Some-clause-ok
+returns-in-Some-clause-ok c b h =
+    let k = kept_of c.args.self.now in
+    let o = c.in-Some.object in
+    let now = kept_of c.take_short.new.self in
+    let octets : AreOctets c.args.octets.now = λ i. omega (arith, c.type_inv.octets i) in
+    let taken : HasTaken (b ++ take (taken_of o) c.args.octets.now) now = subst (HasTaken (b ++ take (taken_of o) c.args.octets.now)) (sym c.in-Some.ensures.after) (short_taken b c.args.octets.now k o c.in-Some.ensures.some octets h) in
+    subst (λ (m : ℕ). HasTaken (b ++ take m c.args.octets.now) now) (sym c.taken.ensures) taken
 
 pub returns-clause-ok : goal.returns-clause-ok
 returns-clause-ok c b h =
