@@ -2,14 +2,11 @@
 
 use crate::work::Work;
 use block_core::Number;
-use chain_core::{Receiver, read_chain, write_chain};
+use chain_core::{LONGEST_MESSAGE, Receiver, read_chain, write_chain};
 use octet_core::Counted;
 use std::alloc::Global;
 use std::io::{self, ErrorKind};
 use std::time::Instant;
-
-/// The greatest number of octets of a message.
-const LONGEST_MESSAGE: usize = 131_072;
 
 /// The information size.
 const IFS: u8 = 254;

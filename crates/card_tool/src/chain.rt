@@ -13,12 +13,9 @@ ghost use Rattle.card_tool.specs.Texts.{accepted_text};
 use crate::answer::Answer;
 use crate::text::octets_word;
 use block_core::{Block, Number, encode};
-use chain_core::{ChainReason, Receiver, cut};
+use chain_core::{ChainReason, LONGEST_MESSAGE, Receiver, cut};
 use octet_core::{Refused, Stop, hex_upper};
 use std::alloc::{AllocError, Global};
-
-/// The greatest number of octets of a message.
-const LONGEST_MESSAGE: usize = 131_072;
 
 /// Whether a chain begins the octets, and how many it takes.
 pub(crate) fn check(

@@ -27,7 +27,7 @@ use Rattle.chain_core.proofs.Stuck.{not-other, same-number}
 length-take-one : (n x : ℕ) → n ≤ length (x ∷ []) → length (take n (x ∷ [])) ≤ 1
 length-take-one n x le = omega (arith, length-take n (x ∷ []))
 
-counted : (more last : Bool) (blocks : ℕ) → (last ≡ false → blocks + 2 ≤ 131072) → blocks + 1 ≤ 131072 → (more ≡ true → last ≡ false) → blocks + 1 + more_count more ≤ 131072
+pub counted : (more last : Bool) (blocks : ℕ) → (last ≡ false → blocks + 2 ≤ 131072) → blocks + 1 ≤ 131072 → (more ≡ true → last ≡ false) → blocks + 1 + more_count more ≤ 131072
 counted false last blocks few some h = omega arith
 counted true last blocks few some h = omega (arith, few (h refl))
 

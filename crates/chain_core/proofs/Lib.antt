@@ -15,3 +15,5 @@ pub mod Rests
 pub mod Feeds
 pub mod Moves
 pub mod Ends
+pub mod Parity
+pub mod Lent

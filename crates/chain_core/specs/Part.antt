@@ -88,3 +88,10 @@ end_of parts.Nad = 3
 end_of parts.Pcb = 3
 end_of (parts.Len more) = 3
 end_of (parts.Rest more len) = len + 4
+
+-- the field, of this length, and the LRC come next
+abbrev pub IsRest : part.Part → ℕ → Type 0
+IsRest parts.Nad n = ⊥
+IsRest parts.Pcb n = ⊥
+IsRest (parts.Len more) n = ⊥
+IsRest (parts.Rest more len) n = n ≡ len

@@ -3,14 +3,16 @@
 //! A chain carries a message in the information fields of I-blocks, with NAD 00, alternating numbers, and
 //! M=1 on all but the last. The grammar, `IsChain` in `specs/Chain.antt`, relates the fields to the octets
 //! of the blocks in a row; `specs/Cut.antt` says how a message is cut into fields. `cut` and `write_chain`
-//! make chains, a `Receiver` takes one in pieces and joins its message, `read_chain` feeds it from a source,
-//! and `laws` says what holds of the grammar alone.
+//! make chains, a `Receiver` takes one in pieces and joins its message, `ReceiverPlaces` join it in a buffer that
+//! their caller lends, `read_chain` feeds a receiver from a source, and `laws` says what holds of the grammar
+//! alone.
 #![tactic(auto)]
 
 pub mod blocks;
 pub mod cutting;
 pub mod laws;
-mod part;
+pub mod part;
+pub mod places;
 pub mod reading;
 pub mod reason;
 pub mod receiver;
@@ -18,7 +20,9 @@ pub mod writing;
 
 pub use blocks::{Cut, block_at};
 pub use cutting::cut;
+pub use part::Part;
+pub use places::ReceiverPlaces;
 pub use reading::{ReadRefusal, read_chain};
 pub use reason::ChainReason;
-pub use receiver::{MOST_BLOCKS, Receiver};
+pub use receiver::{LONGEST_MESSAGE, MOST_BLOCKS, Receiver};
 pub use writing::write_chain;

@@ -10,7 +10,7 @@ use block_core::{Number, Pcb};
 
 /// What comes next of the block under way.
 #[derive(Clone, Copy, Debug, PartialEq, Eq)]
-pub(crate) enum Part {
+pub enum Part {
     Nad,
     Pcb,
     /// LEN, of a block that says by M whether more follow.

@@ -20,6 +20,9 @@ use std::marker::Model;
 /// The blocks of the longest chain.
 pub const MOST_BLOCKS: u32 = 131_072;
 
+/// The most octets that the limit of a message can be.
+pub const LONGEST_MESSAGE: usize = 131_072;
+
 /// A receiver of one chain (ISO/IEC 7816-3, clause 11.6) whose octets come in pieces. It joins the fields
 /// of the blocks to the message, for which `new` reserves memory once; no later call takes any.
 #[derive(Drop)]

@@ -5,9 +5,9 @@ mod plain;
 mod printed;
 
 use block_core::{Number, encode};
-use chain_core::{ChainReason, ReadRefusal, Receiver, block_at, cut};
+use chain_core::{ChainReason, ReadRefusal, Receiver, ReceiverPlaces, block_at, cut};
 use octet_core::{After, Counted, Feeder, Source, Stop, Taker, WriteFault};
-use plain::{feed, has, read, write};
+use plain::{feed, feed_lent, finish_lent, has, read, write};
 use std::test::Fail;
 use testing::same;
 
@@ -110,6 +110,46 @@ fn received_in_two_pieces(rt: HostRuntime) -> Result<(), Fail> {
         receiver.restart(Number::Zero);
     }
     Ok(())
+}
+
+#[test]
+fn joined_in_a_lent_buffer(rt: HostRuntime) {
+    for cut in 0..CHAIN.len() + 1 {
+        let (front, back) = CHAIN.split_at(cut);
+        let mut places = ReceiverPlaces::begin(2, Number::Zero, 5);
+        let mut message = [0; 6];
+        assert!(rt;
+            same(
+                feed_lent(&mut places, &mut message, front),
+                Some(Ok((front.len(), cut == CHAIN.len())))
+            )
+        );
+        if cut < CHAIN.len() {
+            assert!(rt; places.message_len().is_none());
+            assert!(rt;
+                same(
+                    finish_lent(&places, 5),
+                    Some(Err(Stop::Short { place: cut }))
+                )
+            );
+        }
+        assert!(rt;
+            same(
+                feed_lent(&mut places, &mut message, back),
+                Some(Ok((back.len(), true)))
+            )
+        );
+        assert!(rt;
+            same(
+                feed_lent(&mut places, &mut message, &[0xFF]),
+                Some(Ok((0, true)))
+            )
+        );
+        assert!(rt; same(finish_lent(&places, 5), Some(Ok(()))));
+        assert!(rt; same(places.message_len(), Some(5)));
+        assert!(rt; message[..5] == SELECT);
+        assert!(rt; same(finish_lent(&places, 4), None));
+    }
 }
 
 /// Whether the chain is taken, and the octet after it not, where a piece ends after the octet at each

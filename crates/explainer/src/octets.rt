@@ -6,13 +6,10 @@ use crate::mark::{left, stop_note};
 use apdu_core::{CommandRef, ResponseRef};
 use block_core::Number;
 use card_words::{Expected, Kind};
-use chain_core::Receiver;
+use chain_core::{LONGEST_MESSAGE, Receiver};
 use octet_core::{Refused, Stop};
 use std::alloc::{AllocError, Global};
 use tlv_core::{Dol, ForestCheck, LARGEST_FOREST, TlvReason};
-
-/// The greatest number of octets of a message of a chain.
-const LONGEST_MESSAGE: usize = 131_072;
 
 /// What a person wants to know of octets that are checked or shown: where they are refused and why, how many are
 /// wanting, or how many are left after the value; else nothing.

@@ -6,13 +6,10 @@ use crate::kind::{Answer, Chain, Kind, Reason, Value, stop_of};
 use apdu_core::{
     Body, Command, CommandRef, Response, ResponseRef, Shape, decode_command, decode_response,
 };
-use chain_core::Receiver;
+use chain_core::{LONGEST_MESSAGE, Receiver};
 use octet_core::{Octets, Refused};
 use std::alloc::{AllocError, Global};
 use tlv_core::{Dol, FlatForest};
-
-/// The longest message of a chain.
-const LONGEST_MESSAGE: usize = 131_072;
 
 /// How many octets a forest has at most here.
 pub(crate) const FOREST: usize = 65_536;

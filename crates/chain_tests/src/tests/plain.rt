@@ -2,7 +2,7 @@
 
 use super::SELECT;
 use block_core::Number;
-use chain_core::{ChainReason, ReadRefusal, Receiver, read_chain, write_chain};
+use chain_core::{ChainReason, ReadRefusal, Receiver, ReceiverPlaces, read_chain, write_chain};
 use octet_core::{Sink, Source, Stop, WriteFault};
 
 /// What a receiver answers to these octets.
@@ -16,6 +16,29 @@ pub(super) fn feed(
 /// Whether a receiver has this message.
 pub(super) fn has(receiver: &Receiver, message: &[u8]) -> bool {
     receiver.message() == Some(message)
+}
+
+/// What a receiver over a lent buffer answers to these octets; nothing where it is none.
+pub(super) fn feed_lent(
+    places: &mut ReceiverPlaces,
+    message: &mut [u8],
+    octets: &[u8],
+) -> Option<Result<(usize, bool), Stop<ChainReason>>> {
+    if !places.fit(message.len()) {
+        return None;
+    }
+    Some(places.feed(message, octets))
+}
+
+/// What it says when no more octets come.
+pub(super) fn finish_lent(
+    places: &ReceiverPlaces,
+    room: usize,
+) -> Option<Result<(), Stop<ChainReason>>> {
+    if !places.fit(room) {
+        return None;
+    }
+    Some(places.finish())
 }
 
 /// What reading a chain gives.

@@ -1,0 +1,71 @@
+-- A receiver of a chain as its caller keeps it, with the octets of the message in the caller's buffer.
+use Rattle.std.specs.Prelude.{◌≡◌, ℕ, ◌+◌, ◌≤◌, List, [], ◌∷◌, length, take, drop, Bool, true, false, Some, None, Result, Err, OnOk, IfErr}
+use Rattle.octet_core.specs.declared.stop.Refusal.{Refusal}
+use Rattle.octet_core.specs.declared.stop.Stop.{Stop}
+use Rattle.octet_core.specs.declared.stop.Stop.TheVariants.{Short, At}
+use Rattle.block_core.specs.Block.{pcb_octet}
+use Rattle.block_core.specs.declared.pcb.Number.{Number}
+use Rattle.block_core.specs.declared.pcb.Pcb.TheVariants.{Info}
+use Rattle.chain_core.specs.declared.part.Part as part
+use Rattle.chain_core.specs.declared.part.Part.TheVariants as parts
+use Rattle.chain_core.specs.declared.places.ReceiverPlaces.{ReceiverPlaces}
+use Rattle.chain_core.specs.Chain.{IsChain, number_after}
+use Rattle.chain_core.specs.Part.{more_count}
+use Rattle.chain_core.specs.Taken.{Reception, HasTaken}
+use Rattle.chain_core.specs.declared.reason.ChainReason.{ChainReason}
+
+-- the octets of the block under way, by what comes next of it and those of its field that came
+abbrev pub under_way_of : Number → part.Part → List ℕ → List ℕ
+under_way_of number parts.Nad field = []
+under_way_of number parts.Pcb field = 0 ∷ []
+under_way_of number (parts.Len more) field = 0 ∷ pcb_octet (Info number more) ∷ []
+under_way_of number (parts.Rest more len) field = 0 ∷ pcb_octet (Info number more) ∷ len ∷ field
+
+-- the number of the block under way, or of the next
+abbrev pub number_at : ReceiverPlaces → Number
+number_at p = number_after p.first p.blocks
+
+-- the octets of its field that came: they come after the message
+abbrev pub field_at : ReceiverPlaces → List ℕ → List ℕ
+field_at p message = take p.came (drop p.joined message)
+
+-- the receiver that they are with this buffer
+abbrev pub received_at : ReceiverPlaces → List ℕ → Reception
+received_at p message = record {
+  ifs = p.ifs;
+  number = p.first;
+  max = p.max;
+  blocks = p.blocks;
+  joined = take p.joined message;
+  under_way = under_way_of (number_at p) p.part (field_at p message);
+  done = p.done;
+  refusal = p.refusal;
+}
+
+-- a block under way that can come after so many blocks with so many octets, of whose field so many came
+abbrev pub IsUnderWay : (ifs max blocks joined came : ℕ) → part.Part → Type 0
+IsUnderWay ifs max blocks joined came parts.Nad = Unit {0}
+IsUnderWay ifs max blocks joined came parts.Pcb = Unit {0}
+IsUnderWay ifs max blocks joined came (parts.Len more) = blocks + 1 + more_count more ≤ 131072
+IsUnderWay ifs max blocks joined came (parts.Rest more len) = (blocks + 1 + more_count more ≤ 131072) × (len ≤ ifs) × (joined + len ≤ max) × (came ≤ len)
+
+-- a whole chain has no block under way
+abbrev pub IsAmong : Bool → ReceiverPlaces → Type 0
+IsAmong true p = p.part ≡ parts.Nad
+IsAmong false p = (p.blocks + 1 ≤ 131072) × IsUnderWay p.ifs p.max p.blocks p.joined p.came p.part
+
+-- They are those of a receiver with a buffer of so many octets.
+pub record AreReceiverPlaces (p : ReceiverPlaces) (room : ℕ) : Type 0 where
+  pub least : 1 ≤ p.ifs
+  pub most : p.ifs ≤ 254
+  pub limit : p.max ≤ 131072
+  pub reserved : p.max ≤ room
+  pub joined : p.joined ≤ p.max
+  pub blocks : p.blocks ≤ 131072
+  pub among : IsAmong p.done p
+
+-- What a receiver answers when no more octets come, of all octets that it may have taken.
+pub record IsFinishedHere (r : Reception) (result : Result (Unit {0}) (Stop ChainReason)) : Type 0 where
+  pub done : OnOk result ((t : List ℕ) → HasTaken r t → (v : List (List ℕ)) × IsChain r.ifs r.number r.max v t)
+  pub short : IfErr result (λ stop. r.refusal ≡ None → (t : List ℕ) → HasTaken r t → (stop ≡ Short (length t)) × ((v : List (List ℕ)) → IsChain r.ifs r.number r.max v t → ⊥))
+  pub repeated : (refusal : Refusal ChainReason) → r.refusal ≡ Some refusal → result ≡ Err (At refusal.place refusal.reason)
