@@ -643,6 +643,52 @@ struct scard_verdict scard_lent_check_begin(struct scard_lent_check *state, size
 struct scard_verdict scard_lent_check_feed(struct scard_lent_check *state, const uint8_t *octets, size_t count);
 struct scard_verdict scard_lent_check_finish(const struct scard_lent_check *state);
 
+/* ---- a chain in pieces, without an allocator ---- */
+
+/* The state of a receiver of one chain that the caller keeps, 32 octets. Its fields are the library's own: `begin`
+ * writes them, and each piece. The octets of the message go to the front of the caller's buffer as they come.
+ *
+ * Whatever octets a state has, a call is safe: where they are no state of a receiver whose message fits the buffer it
+ * answers ARGUMENT and changes nothing. These calls take no memory.
+ */
+struct scard_lent_receiver {
+    size_t refused_at;
+    uint32_t max;
+    uint32_t blocks;
+    uint32_t joined;
+    uint8_t ifs;
+    uint8_t number;
+    uint8_t part;
+    uint8_t more;
+    uint8_t len;
+    uint8_t came;
+    uint8_t done;
+    uint8_t refused;
+};
+
+/* Begins a receiver of one chain, whatever the state was: I-blocks have at most `ifs` octets, 1 to 254, the first
+ * has the number `ns`, 0 or 1, and the message at most `max` octets, itself at most 131,072. OK with place 0, ARGUMENT:
+ * then nothing changes.
+ */
+struct scard_verdict scard_lent_receiver_begin(struct scard_lent_receiver *state, uint8_t ifs, uint8_t ns, size_t max);
+
+/* Gives the next octets to a receiver, and says what there is to say of all that it took, as scard_reader_feed and
+ * scard_reader_finish of a receiver in a handle. `message` is the buffer of the message, the same at each call, with
+ * room for `max` octets; what is in it after the message so far is the library's. The octets may not be in the buffer.
+ * `feed`: OK, MORE, AT, ARGUMENT. `finish`: OK with place 0, SHORT, AT, ARGUMENT. ARGUMENT (with place 0): the state is
+ * none of a receiver, or the buffer is too small for it.
+ */
+struct scard_verdict scard_lent_receiver_feed(struct scard_lent_receiver *state, uint8_t *message, size_t room,
+                                              const uint8_t *octets, size_t count);
+struct scard_verdict scard_lent_receiver_finish(const struct scard_lent_receiver *state,
+                                                const uint8_t *message, size_t room);
+
+/* How many octets at the front of the buffer are the message, once the chain is whole: the place of the verdict. They
+ * are written nowhere else. OK, ARGUMENT (with place 0: it isn't whole).
+ */
+struct scard_verdict scard_lent_receiver_message(const struct scard_lent_receiver *state,
+                                                 const uint8_t *message, size_t room);
+
 /* ---- the structs ---- */
 
 /* The structs above, for scard_struct_size. */
@@ -664,7 +710,8 @@ enum scard_struct {
     SCARD_STRUCT_LENT_TERMINAL = 15,
     SCARD_STRUCT_LENT_CARD = 16,
     SCARD_STRUCT_LENT_HEADER = 17,
-    SCARD_STRUCT_LENT_CHECK = 18
+    SCARD_STRUCT_LENT_CHECK = 18,
+    SCARD_STRUCT_LENT_RECEIVER = 19
 };
 
 /* How many octets a struct has in the library, to be compared with its sizeof; 0 for any other number. */

@@ -24,9 +24,11 @@ static void sizes(void)
     SIZE(SCARD_STRUCT_LENT_CARD, scard_lent_card);
     SIZE(SCARD_STRUCT_LENT_HEADER, scard_lent_header);
     SIZE(SCARD_STRUCT_LENT_CHECK, scard_lent_check);
+    SIZE(SCARD_STRUCT_LENT_RECEIVER, scard_lent_receiver);
     CHECK(sizeof(struct scard_lent_terminal) < 128 && sizeof(struct scard_lent_card) < 128);
     CHECK(sizeof(struct scard_lent_check) == 92 && sizeof(struct scard_lent_check) < 128);
-    CHECK(scard_struct_size(0) == 0 && scard_struct_size(19) == 0 && scard_struct_size(255) == 0);
+    CHECK(sizeof(struct scard_lent_receiver) == 32);
+    CHECK(scard_struct_size(0) == 0 && scard_struct_size(20) == 0 && scard_struct_size(255) == 0);
 }
 
 static void places(void)
@@ -85,6 +87,11 @@ static void places(void)
     PLACE(scard_lent_check, ends, 24);
     PLACE(scard_lent_check, level, 88);
     PLACE(scard_lent_check, refused, 89);
+    PLACE(scard_lent_receiver, max, 8);
+    PLACE(scard_lent_receiver, joined, 16);
+    PLACE(scard_lent_receiver, ifs, 20);
+    PLACE(scard_lent_receiver, came, 25);
+    PLACE(scard_lent_receiver, refused, 27);
 }
 
 int main(void)

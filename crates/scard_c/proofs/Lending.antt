@@ -16,6 +16,11 @@ use Rattle.tlv_core.specs.declared.places.CheckPlaces.{CheckPlaces}
 use Rattle.tlv_core.specs.Check.{Checked}
 use Rattle.tlv_core.specs.Places.{checked_at}
 use Rattle.scard_c.specs.declared.kept_check.CCheck.{CCheck}
+use Rattle.chain_core.specs.declared.places.ReceiverPlaces.{ReceiverPlaces}
+use Rattle.chain_core.specs.Taken.{Reception}
+use Rattle.chain_core.specs.Places.{received_at}
+use Rattle.scard_c.specs.KeptReceiver.{IsReceiver, receiver_of}
+use Rattle.scard_c.specs.declared.kept_receiver.CReceiver.{CReceiver}
 use Rattle.scard_c.specs.declared.verdict.Verdict.{Verdict}
 use Rattle.scard_c.specs.declared.kept.CTerminal.{CTerminal}
 use Rattle.scard_c.specs.declared.kept.CCard.{CCard}
@@ -44,6 +49,13 @@ same-check spelled p q e f = cc
 -- the check that a state is keeps the places that the state spells
 pub check-held-by : (c : CCheck) (k : Checked) (p : CheckPlaces) → check_of c ≡ Some p → IsCheck c k → k ≡ checked_at p
 check-held-by c k p e is = is.held ∙ ap checked_at (same-check (check_of c) is.places p is.spelled e)
+
+same-receiver : (spelled : Option ReceiverPlaces) (p q : ReceiverPlaces) → spelled ≡ Some p → spelled ≡ Some q → p ≡ q
+same-receiver spelled p q e f = cc
+
+-- the receiver that a state and a buffer are has the places that the state spells
+pub receiver-held-by : (c : CReceiver) (message : List ℕ) (r : Reception) (p : ReceiverPlaces) → receiver_of c ≡ Some p → IsReceiver c message r → r ≡ received_at p message
+receiver-held-by c message r p e is = is.held ∙ ap (λ (q : ReceiverPlaces). received_at q message) (same-receiver (receiver_of c) is.places p is.spelled e)
 
 -- the first octets of a buffer, as the answer
 pub answer-at-front : (is_answered : Bool) (n : ℕ) (buffer : List ℕ) (lent : Option (Bor (List ℕ))) (v : Verdict)

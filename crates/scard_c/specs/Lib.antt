@@ -17,3 +17,5 @@ pub mod Layout
 pub mod Lent
 pub mod KeptCheck
 pub mod LentCheck
+pub mod KeptReceiver
+pub mod LentReceiver

@@ -12,10 +12,7 @@ use crate::block::put_block;
 use crate::number::{is_reserved, number_of};
 use crate::verdict::{Numbered, Verdict};
 use block_core::{BlockRef, Number, encode};
-use chain_core::{ChainReason, block_at, cut};
-
-/// The octets of the longest message of a chain.
-pub(crate) const LONGEST_MESSAGE: usize = 131_072;
+use chain_core::{ChainReason, LONGEST_MESSAGE, block_at, cut};
 
 /// Writes the first block of the chain into which the message from place `start` on is cut.
 ///

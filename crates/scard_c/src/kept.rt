@@ -55,7 +55,7 @@ pub struct CCard {
 }
 
 /// What a mark says: 0 no, 1 yes.
-fn mark_of(mark: u8) -> Option<bool>
+pub(crate) fn mark_of(mark: u8) -> Option<bool>
     ensures { result ≡ mark_of mark }
 {
     match mark {
@@ -66,14 +66,14 @@ fn mark_of(mark: u8) -> Option<bool>
 }
 
 /// The mark of an answer.
-fn mark(is_so: bool) -> u8
+pub(crate) fn mark(is_so: bool) -> u8
     ensures { mark_of result ≡ Some is_so }
 {
     if is_so { 1 } else { 0 }
 }
 
 /// The octet of a number.
-fn octet(number: Number) -> u8
+pub(crate) fn octet(number: Number) -> u8
     ensures { number_of result ≡ Some number }
 {
     match number {

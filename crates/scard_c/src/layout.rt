@@ -10,6 +10,7 @@ use crate::filling::CKnown;
 use crate::handle::Handle;
 use crate::kept::{CCard, CTerminal};
 use crate::kept_check::{CCheck, CHeader};
+use crate::kept_receiver::CReceiver;
 use crate::parts::{CPart, CTag};
 use crate::turn::CTurn;
 use crate::verdict::Verdict;
@@ -39,6 +40,7 @@ pub extern "C" fn scard_struct_size(number: u8) -> usize
         16 => size_of::<CCard>(),
         17 => size_of::<CHeader>(),
         18 => size_of::<CCheck>(),
+        19 => size_of::<CReceiver>(),
         _ => 0,
     }
 }

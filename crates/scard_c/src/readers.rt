@@ -13,7 +13,6 @@ ghost use Rattle.scard_c.specs.Readers.{Feeds, Ends, AtrOf, GivesAtr, BlockOf, I
 
 use crate::atr::{self, CAtr};
 use crate::block::{self, CBlock};
-use crate::chain::LONGEST_MESSAGE;
 use crate::ends::opened;
 use crate::engine::Engine;
 use crate::handle::Handle;
@@ -23,7 +22,7 @@ use crate::reader::Reader;
 use crate::verdict::{OK, Verdict};
 use atr_core::AtrReader;
 use block_core::{BlockReader, encode};
-use chain_core::Receiver;
+use chain_core::{LONGEST_MESSAGE, Receiver};
 use std::alloc::Global;
 use tlv_core::{ForestCheck, LARGEST_FOREST};
 

@@ -1,0 +1,20 @@
+use Rattle.std.proofs.Common.{◌≡◌, ◌≤◌, ◌∙◌, ℕ, List, length, Option, Some, IfSome, sym, subst}
+use Rattle.block_core.specs.declared.pcb.Number.{Number}
+use Rattle.chain_core.specs.Taken.{fresh}
+use Rattle.scard_c.specs.Verdict.{ok_at}
+use Rattle.scard_c.specs.KeptReceiver.{IsReceiver}
+use Rattle.scard_c.proofs.lent_receiver.scard_lent_receiver_begin.Goals as goal
+
+pub returns-clause-ok : goal.returns-clause-ok
+returns-clause-ok c = λ _.
+    subst (λ (o : Option Number). IfSome o (λ number. c.args.max ≤ 131072 → (c.ok.result ≡ ok_at 0) × ((message : List ℕ) → c.args.max ≤ length message → IsReceiver c.of.result message (fresh c.args.ifs number c.args.max))))
+    (sym c.in-Some.is ∙ c.number_of.ensures)
+    (λ few. (
+      c.ok.ensures,
+      λ message room. record {
+        places = c.begin.result;
+        spelled = c.of.ensures;
+        fit = c.begin.ensures.fit (length message) room;
+        held = sym (c.begin.ensures.fresh message);
+      },
+    ))

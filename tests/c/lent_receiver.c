@@ -1,0 +1,210 @@
+/* Receivers of chains whose state and message the caller keeps, beside those in handles, and states that something
+ * else wrote to. */
+#include "check.h"
+
+enum { ROOM = 300 };
+
+/* A receiver in a handle and one that is kept here, which were told the same. */
+struct both {
+    struct scard_handle handle;
+    struct scard_lent_receiver state;
+    uint8_t message[ROOM];
+};
+
+static void empty(struct both *both)
+{
+    struct scard_handle handle = SCARD_HANDLE_EMPTY;
+    memset(both, 0, sizeof *both);
+    both->handle = handle;
+}
+
+static void begin(struct both *both, uint8_t ifs, uint8_t ns, size_t max)
+{
+    struct scard_verdict v = scard_lent_receiver_begin(&both->state, ifs, ns, max);
+    CHECK(v.status == SCARD_OK && v.place == 0);
+    CHECK(scard_receiver_open(&both->handle, ifs, ns, max).status == SCARD_OK);
+}
+
+static int same(struct scard_verdict a, struct scard_verdict b)
+{
+    return a.status == b.status && a.reason == b.reason && a.place == b.place;
+}
+
+/* Both say the same of all octets so far, and of the message. */
+static void agree(struct both *both)
+{
+    uint8_t copied[ROOM];
+    struct scard_verdict lent = scard_lent_receiver_message(&both->state, both->message, ROOM);
+    struct scard_verdict held = scard_message(&both->handle, copied, ROOM);
+    CHECK(same(scard_lent_receiver_finish(&both->state, both->message, ROOM), scard_reader_finish(&both->handle)));
+    CHECK(same(lent, held));
+    CHECK(lent.status != SCARD_OK || memcmp(both->message, copied, lent.place) == 0);
+}
+
+/* Feeds octets in pieces of this length, each in a block of its own; the last verdict. */
+static struct scard_verdict feed(struct both *both, const uint8_t *octets, size_t count, size_t piece)
+{
+    struct scard_verdict v = {SCARD_MORE, 0, 0};
+    size_t taken = 0;
+    while (v.status == SCARD_MORE && taken < count) {
+        size_t left = count - taken, some = left < piece ? left : piece;
+        uint8_t *own = (uint8_t *)malloc(some);
+        memcpy(own, octets + taken, some);
+        v = scard_lent_receiver_feed(&both->state, both->message, ROOM, own, some);
+        CHECK(same(v, scard_reader_feed(&both->handle, own, some)));
+        CHECK(v.status != SCARD_MORE || v.place == some);
+        taken += some;
+        free(own);
+        agree(both);
+    }
+    return v;
+}
+
+/* 00 A4 04 00 00 in blocks of two octets, and an octet after them. */
+static const char CHAIN[] = "00200200A4860060020400660000010001FF";
+
+static void chains(void)
+{
+    struct octets chain = of_hex(CHAIN);
+    struct both both;
+    size_t piece;
+    empty(&both);
+    for (piece = 1; piece <= chain.count; piece++) {
+        struct scard_verdict v;
+        begin(&both, 2, 0, 5);
+        v = feed(&both, chain.at, chain.count, piece);
+        CHECK(v.status == SCARD_OK);
+        v = scard_lent_receiver_message(&both.state, both.message, 5);
+        CHECK(v.status == SCARD_OK && is_hex(both.message, v.place, "00A4040000"));
+        CHECK(scard_lent_receiver_message(&both.state, both.message, 4).status == SCARD_ARGUMENT);
+        begin(&both, 2, 0, 4);
+        v = feed(&both, chain.at, chain.count, piece);
+        CHECK(strcmp(line_of(v, SCARD_CODEC_CHAIN), "refused at 14: TooLong") == 0);
+        begin(&both, 2, 1, 5);
+        v = feed(&both, chain.at, chain.count, piece);
+        CHECK(strcmp(line_of(v, SCARD_CODEC_CHAIN), "refused at 1: BadSequence") == 0);
+    }
+    scard_close(&both.handle);
+    free(chain.at);
+}
+
+/* Each octet of the chain with each value, under limits of 0 to 6 octets and sizes of 1 to 3. */
+static void mutated(void)
+{
+    struct octets chain = of_hex(CHAIN);
+    struct both both;
+    size_t place;
+    int value;
+    empty(&both);
+    for (place = 0; place < chain.count; place++) {
+        uint8_t was = chain.at[place];
+        for (value = 0; value < 256; value++) {
+            chain.at[place] = (uint8_t)value;
+            begin(&both, (uint8_t)(1 + value % 3), 0, place % 7);
+            feed(&both, chain.at, chain.count, 1 + (place + (size_t)value) % 5);
+            begin(&both, 2, 0, ROOM);
+            feed(&both, chain.at, chain.count, 1 + ((size_t)value >> 4));
+        }
+        chain.at[place] = was;
+    }
+    scard_close(&both.handle);
+    free(chain.at);
+}
+
+/* A message of 300 octets in blocks of 254, which are cut here. */
+static void longest_fields(void)
+{
+    struct both both;
+    uint8_t sent[ROOM], octets[ROOM + 8];
+    size_t place, piece;
+    struct scard_verdict cut;
+    empty(&both);
+    for (place = 0; place < ROOM; place++) {
+        sent[place] = (uint8_t)(place * 7);
+    }
+    cut = scard_chain_cut(sent, ROOM, 254, 1, octets, sizeof octets);
+    CHECK(cut.status == SCARD_OK && cut.place == ROOM + 8);
+    for (piece = 1; piece <= cut.place; piece += 1 + piece / 3) {
+        begin(&both, 254, 1, ROOM);
+        CHECK(feed(&both, octets, cut.place, piece).status == SCARD_OK);
+        CHECK(scard_lent_receiver_message(&both.state, both.message, ROOM).place == ROOM);
+        CHECK(memcmp(both.message, sent, ROOM) == 0);
+    }
+    scard_close(&both.handle);
+}
+
+static void argued(void)
+{
+    struct scard_lent_receiver state, before;
+    uint8_t message[5], octet = 0x00;
+    memset(&state, 0xA5, sizeof state);
+    before = state;
+    CHECK(strcmp(line_of(scard_lent_receiver_begin(&state, 0, 0, 5), 3), "argument 0") == 0);
+    CHECK(strcmp(line_of(scard_lent_receiver_begin(&state, 255, 0, 5), 3), "argument 0") == 0);
+    CHECK(strcmp(line_of(scard_lent_receiver_begin(&state, 2, 2, 5), 3), "argument 0") == 0);
+    CHECK(strcmp(line_of(scard_lent_receiver_begin(&state, 2, 0, 131073), 3), "argument 0") == 0);
+    CHECK(strcmp(line_of(scard_lent_receiver_begin(&state, 2, 0, SIZE_MAX), 3), "argument 0") == 0);
+    CHECK(strcmp(line_of(scard_lent_receiver_feed(&state, message, 5, &octet, 1), 3), "argument 0") == 0);
+    CHECK(strcmp(line_of(scard_lent_receiver_finish(&state, message, 5), 3), "argument 0") == 0);
+    CHECK(strcmp(line_of(scard_lent_receiver_message(&state, message, 5), 3), "argument 0") == 0);
+    CHECK(memcmp(&state, &before, sizeof state) == 0);
+    CHECK(scard_lent_receiver_begin(&state, 2, 0, 5).status == SCARD_OK);
+    CHECK(scard_lent_receiver_feed(&state, message, 4, &octet, 1).status == SCARD_ARGUMENT);
+    CHECK(scard_lent_receiver_feed(&state, message, 5, NULL, 0).status == SCARD_MORE);
+    CHECK(scard_lent_receiver_begin(&state, 2, 0, 0).status == SCARD_OK);
+    CHECK(scard_lent_receiver_feed(&state, NULL, 0, &octet, 1).status == SCARD_MORE);
+    CHECK(scard_lent_receiver_begin(&state, 254, 1, 131072).status == SCARD_OK);
+    CHECK(scard_lent_receiver_finish(&state, message, 5).status == SCARD_ARGUMENT);
+}
+
+/* Each octet of a state set to each value: a call is safe within a buffer of exactly its size, and where it is
+ * refused nothing changes. Says how many states were none. */
+static size_t spoilt(const struct scard_lent_receiver *begun, const uint8_t *rest, size_t count)
+{
+    size_t place, none = 0;
+    int value;
+    for (place = 0; place < sizeof *begun; place++) {
+        for (value = 0; value < 256; value++) {
+            struct scard_lent_receiver state = *begun, before;
+            struct scard_verdict end, fed;
+            uint8_t *message = (uint8_t *)calloc(5, 1), old[5] = {0};
+            ((uint8_t *)&state)[place] = (uint8_t)value;
+            memcpy(&before, &state, sizeof state);
+            end = scard_lent_receiver_finish(&state, message, 5);
+            fed = scard_lent_receiver_feed(&state, message, 5, rest, count);
+            CHECK((end.status == SCARD_ARGUMENT) == (fed.status == SCARD_ARGUMENT));
+            if (fed.status == SCARD_ARGUMENT) {
+                CHECK(memcmp(&state, &before, sizeof state) == 0 && memcmp(message, old, 5) == 0);
+                none++;
+            } else {
+                CHECK(scard_lent_receiver_finish(&state, message, 5).status != SCARD_ARGUMENT);
+            }
+            free(message);
+        }
+    }
+    return none;
+}
+
+static void states(void)
+{
+    struct octets chain = of_hex(CHAIN);
+    size_t count;
+    for (count = 0; count <= chain.count; count++) {
+        struct scard_lent_receiver state;
+        uint8_t message[5];
+        CHECK(scard_lent_receiver_begin(&state, 2, 0, 5).status == SCARD_OK);
+        scard_lent_receiver_feed(&state, message, 5, chain.at, count);
+        CHECK(spoilt(&state, chain.at + count, chain.count - count) > 1000);
+    }
+    free(chain.at);
+}
+
+int main(void)
+{
+    chains();
+    mutated();
+    longest_fields();
+    argued();
+    states();
+    return verdict_of_checks("lent_receiver");
+}
