@@ -147,7 +147,7 @@ fn joined_in_a_lent_buffer(rt: HostRuntime) {
         );
         assert!(rt; same(finish_lent(&places, 5), Some(Ok(()))));
         assert!(rt; same(places.message_len(), Some(5)));
-        assert!(rt; message[..5] == SELECT);
+        assert!(rt; message[..5] == SELECT[..]);
         assert!(rt; same(finish_lent(&places, 4), None));
     }
 }
