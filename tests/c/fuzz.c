@@ -1,5 +1,6 @@
 /* Random and changed octets: what is decoded is encoded again as the same octets, the parts of a forest are where their
- * tags are, tidying twice is once, and a check that the caller keeps says of two pieces what is said of the whole.
+ * tags are, tidying twice is once, and a check and a receiver of chains that the caller keeps say of two pieces what is
+ * said of the whole.
  */
 #include "check.h"
 
@@ -112,7 +113,42 @@ static int again(const uint8_t *octets, size_t count)
     return good;
 }
 
-/* A message that is cut: its blocks are decoded one after another, and their fields are the message. */
+/* What a receiver says of a chain in two pieces; the message is in the buffer. */
+static struct scard_verdict received(struct scard_lent_receiver *receiver, uint8_t *message, size_t room,
+                                     const uint8_t *chain, size_t count, size_t first)
+{
+    struct scard_verdict v = scard_lent_receiver_feed(receiver, message, room, chain, first);
+    if (v.status == SCARD_MORE) {
+        scard_lent_receiver_feed(receiver, message, room, chain + first, count - first);
+    }
+    return scard_lent_receiver_finish(receiver, message, room);
+}
+
+/* A chain is received as its message, and with an octet changed two receivers of other pieces say the same. */
+static int arrives(uint8_t *chain, size_t count, uint8_t ifs, const uint8_t *octets, size_t len)
+{
+    uint8_t message[MOST], other[MOST];
+    struct scard_lent_receiver receiver, twin;
+    struct scard_verdict v, w;
+    int good;
+    scard_lent_receiver_begin(&receiver, ifs, 0, MOST);
+    v = received(&receiver, message, MOST, chain, count, any((uint32_t)count + 1));
+    w = scard_lent_receiver_message(&receiver, message, MOST);
+    good = v.status == SCARD_OK && same(w, message, octets, len);
+    chain[any((uint32_t)count)] = (uint8_t)any(256);
+    scard_lent_receiver_begin(&receiver, ifs, 0, MOST);
+    scard_lent_receiver_begin(&twin, ifs, 0, MOST);
+    v = received(&receiver, message, MOST, chain, count, any((uint32_t)count + 1));
+    w = received(&twin, other, MOST, chain, count, 1);
+    good &= v.status == w.status && v.reason == w.reason && v.place == w.place && v.status <= SCARD_AT;
+    v = scard_lent_receiver_message(&receiver, message, MOST);
+    w = scard_lent_receiver_message(&twin, other, MOST);
+    return good && v.status == w.status && v.place == w.place
+        && (v.status != SCARD_OK || memcmp(message, other, v.place) == 0);
+}
+
+/* A message that is cut: its blocks are decoded one after another, and their fields are the message, as
+ * that of a receiver. */
 static int joins(const uint8_t *octets, size_t count)
 {
     uint8_t chain[8 * MOST], ifs = (uint8_t)(1 + any(254));
@@ -131,7 +167,7 @@ static int joins(const uint8_t *octets, size_t count)
         joined += block.inf_len;
         place += one.place;
     }
-    return joined == count;
+    return joined == count && arrives(chain, v.place, ifs, octets, count);
 }
 
 int main(void)
