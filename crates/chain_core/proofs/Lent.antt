@@ -1,5 +1,5 @@
 -- Receivers that their callers keep: what they are, and how they get on.
-use Rattle.std.proofs.Common.{◌≡◌, ◌≢◌, ℕ, ◌+◌, ◌-◌, ◌*◌, ◌<◌, ◌≤◌, ◌++◌, List, [], ◌∷◌, length, take, drop, refl, sym, ap, subst, ◌∙◌, arith, Bool, true, false, not, append_assoc, inl, inr, Some, None, nat_eq, slice_index, get_or, bit_xor}
+use Rattle.std.proofs.Common.{◌≡◌, ◌≢◌, ℕ, ◌+◌, ◌-◌, ◌*◌, ◌<◌, ◌≤◌, ◌++◌, List, [], ◌∷◌, length, take, drop, refl, sym, ap, subst, ◌∙◌, arith, Bool, true, false, not, inl, inr, Some, None, nat_eq, slice_index, get_or, bit_xor}
 use Rattle.std.proofs.lemmas.List.{length-append, length-take, length-drop, drop-take, drop-append-le, take-append-le, take_all, take_at}
 use Rattle.std.proofs.lemmas.List.Sums.{fold-append}
 use Rattle.std.proofs.Math.Seq.{take-add}
@@ -23,10 +23,10 @@ use Rattle.chain_core.specs.declared.part.Part as part
 use Rattle.chain_core.specs.declared.part.Part.TheVariants as parts
 use Rattle.chain_core.specs.declared.places.ReceiverPlaces.{ReceiverPlaces}
 use Rattle.chain_core.specs.Part.{IsAtPart, IsHead, IsHeadFault, IsBehind, IsRest, more_count, place_of}
-use Rattle.chain_core.specs.Taken.{Reception, HasTaken, IsOpen}
+use Rattle.chain_core.specs.Taken.{Reception, HasTaken}
 use Rattle.chain_core.specs.Receiving.{IsWaiting, Waits, IsSound, Goes}
 use Rattle.chain_core.specs.Places.{under_way_of, number_at, field_at, received_at, IsUnderWay, IsAmong, AreReceiverPlaces}
-use Rattle.chain_core.proofs.Heads.{counted, block-behind, place-len}
+use Rattle.chain_core.proofs.Heads.{counted, block-behind}
 use Rattle.chain_core.proofs.Joins.{Whole, joined-goes}
 use Rattle.chain_core.proofs.Receptions.{last-free, head-waits, more-taken, head-refused}
 use Rattle.chain_core.proofs.Rests.{Refused, rest-refused}

@@ -1,15 +1,15 @@
 //! A receiver of a chain that its caller keeps, some thirty octets, and whose message is in the caller's buffer.
 
-ghost use Rattle.std.specs.Prelude.{◌≡◌, ◌+◌, ◌*◌, ◌<◌, ◌≤◌, ◌++◌, length, take, Some, None, [], ◌∷◌, IfOk, IfErr, IfSome, IfNone, OnOk, MatchBool, true, false, List, ℕ, ◌⊎◌, IsSome};
+ghost use Rattle.std.specs.Prelude.{◌≡◌, ◌+◌, ◌*◌, ◌<◌, ◌≤◌, length, take, Some, None, [], ◌∷◌, IfSome, IfNone, MatchBool, true, false, List, ℕ, ◌⊎◌, IsSome};
 ghost use Rattle.octet_core.specs.Octets.{AreOctets};
 ghost use Rattle.octet_core.specs.Reader.{IsFed};
 ghost use Rattle.octet_core.specs.declared.stop.Refusal.{Refusal};
-ghost use Rattle.octet_core.specs.declared.stop.Stop.TheVariants.{Short, At};
+ghost use Rattle.octet_core.specs.declared.stop.Stop.TheVariants.{Short};
 ghost use Rattle.chain_core.specs.declared.reason.ChainReason.{ChainReason};
 ghost use Rattle.chain_core.specs.declared.part.Part.TheVariants.{Rest};
 ghost use Rattle.chain_core.specs.Chain.{IsChain, IsReason, number_after};
 ghost use Rattle.chain_core.specs.Part.{IsHead, IsRest};
-ghost use Rattle.chain_core.specs.Taken.{HasTaken, AreBefore, IsOpen, IsClosed, fresh, refusal_of};
+ghost use Rattle.chain_core.specs.Taken.{HasTaken, IsOpen, IsClosed, fresh, refusal_of};
 ghost use Rattle.chain_core.specs.Receiving.{Goes};
 ghost use Rattle.chain_core.specs.Places.{AreReceiverPlaces, IsUnderWay, number_at, field_at, under_way_of, received_at, IsFinishedHere};
 

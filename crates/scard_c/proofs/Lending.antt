@@ -1,5 +1,5 @@
 -- What is at the front of a buffer that C lends, and that a state spells one end.
-use Rattle.std.proofs.Common.{◌≡◌, ℕ, ◌≤◌, List, length, take, Bool, true, false, Option, Some, None, IfSome, IfNone, refl, sym, ap, ◌∙◌, arith}
+use Rattle.std.proofs.Common.{◌≡◌, ℕ, ◌≤◌, List, length, take, Bool, true, false, Option, Some, None, IfSome, IfNone, ap, ◌∙◌}
 use Rattle.std.proofs.lemmas.List.{length-take-le}
 use denote.Ref.{Bor}
 use Rattle.t1_core.specs.declared.places.TerminalPlaces.{TerminalPlaces}

@@ -1,4 +1,4 @@
-use Rattle.std.proofs.Common.{◌≡◌, ◌+◌, ◌*◌, arith, ap, sym, ◌∙◌, refl, length, List, ℕ}
+use Rattle.std.proofs.Common.{◌≡◌, ◌+◌, ◌*◌, arith, ap, length}
 use Rattle.octet_core.specs.declared.stop.Stop.TheVariants.{Short}
 use Rattle.chain_core.proofs.Feeds.{none_some, not-spelled}
 use Rattle.chain_core.proofs.Taken.{done-spelled, length-taken}

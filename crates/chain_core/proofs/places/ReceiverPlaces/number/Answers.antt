@@ -1,4 +1,4 @@
-use Rattle.std.proofs.Common.{◌≡◌, ◌+◌, ◌*◌, ◌/◌, ◌%◌, ◌<◌, ℕ, suc, sym, ◌∙◌, arith}
+use Rattle.std.proofs.Common.{◌/◌, ◌<◌, ℕ, sym, ◌∙◌, arith}
 use Rattle.std.proofs.Math.Nat.{mod-lt, div-add-mod}
 use Rattle.chain_core.proofs.Parity.{after-even, after-odd}
 use Rattle.chain_core.proofs.places.ReceiverPlaces.number.Goals as goal

@@ -1,4 +1,4 @@
-use Rattle.std.proofs.Common.{◌≡◌, ◌+◌, ◌-◌, ◌*◌, ◌<◌, ℕ, Some, arith, sym, ap, subst, ◌∙◌, nat_eq, ◌∷◌, []}
+use Rattle.std.proofs.Common.{◌≡◌, ◌+◌, ◌-◌, ◌*◌, ℕ, Some, arith, sym, ap, subst, ◌∙◌, nat_eq, ◌∷◌, []}
 use Rattle.block_core.specs.declared.pcb.Number.{Number}
 use Rattle.chain_core.specs.Part.{IsBehind, IsHeadFault, place_of}
 use Rattle.chain_core.specs.Receiving.{Goes}

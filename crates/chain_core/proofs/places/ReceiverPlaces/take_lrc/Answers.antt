@@ -1,4 +1,4 @@
-use Rattle.std.proofs.Common.{◌≡◌, ◌≢◌, ◌+◌, ◌-◌, ◌*◌, ◌++◌, ℕ, List, [], ◌∷◌, length, Bool, take, drop, arith, sym, ap, subst, ◌∙◌, Some, refl, bit_xor}
+use Rattle.std.proofs.Common.{◌≡◌, ◌+◌, ◌-◌, ◌*◌, ℕ, List, [], ◌∷◌, length, Bool, take, drop, arith, sym, ap, subst, ◌∙◌, Some, bit_xor}
 use Rattle.octet_core.specs.Octets.{AreOctets, xor_of}
 use Rattle.block_core.specs.Block.{pcb_octet}
 use Rattle.block_core.specs.declared.pcb.Number.{Number}
@@ -6,7 +6,6 @@ use Rattle.block_core.specs.declared.pcb.Pcb.TheVariants.{Info}
 use Rattle.chain_core.specs.Receiving.{Goes}
 use Rattle.chain_core.specs.Places.{number_at, received_at, AreReceiverPlaces}
 use Rattle.chain_core.specs.declared.places.ReceiverPlaces.{ReceiverPlaces}
-use Rattle.chain_core.specs.declared.part.Part.TheVariants as parts
 use Rattle.chain_core.specs.declared.reason.ChainReason.TheVariants.{BadLrc}
 use Rattle.chain_core.proofs.Lent.{with_rest, closed_at, front_at, front-sum, sum-off, lrc-on, lrc-off, closed-fit}
 use Rattle.chain_core.proofs.places.ReceiverPlaces.take_lrc.Goals as goal
