@@ -44,7 +44,7 @@ part_from c None = None
 part_from c (Some more) = part_of c.part more c.len
 
 abbrev pub receiver_from : CReceiver → Option Number → Option Part → Option Bool → Option (Option (Refusal ChainReason)) → Option ReceiverPlaces
-receiver_from c (Some first) (Some part) (Some done) (Some refusal) = Some (record {
+receiver_from c (Some first) (Some part) (Some is_done) (Some refusal) = Some (record {
   ifs = c.ifs;
   first = first;
   max = c.max;
@@ -52,10 +52,10 @@ receiver_from c (Some first) (Some part) (Some done) (Some refusal) = Some (reco
   joined = c.joined;
   part = part;
   came = c.came;
-  done = done;
+  done = is_done;
   refusal = refusal;
 })
-receiver_from c first part done refusal = None
+receiver_from c first part is_done refusal = None
 
 -- the places that a state spells, if any
 abbrev pub receiver_of : CReceiver → Option ReceiverPlaces
