@@ -1,50 +1,32 @@
 -- That a request has one answer.
 use Rattle.std.proofs.Common.{◌≡◌, ◌≤◌, ◌∙◌, ◌++◌, inl, inr, ℕ, List, [], ◌∷◌, Bool, true, false, if◌then◌else◌, nat_le, Result, Ok, Err, IfOk, ap, length, subst, sym, refl}
 use Rattle.octet_core.specs.Octets.{AreOctets}
-use Rattle.octet_core.specs.Grammar.{Ending, OneVerdict, self_ended, whole}
-use Rattle.atr_core.specs.Atr as atr
-use Rattle.atr_core.specs.Atr.{IsAtr}
+use Rattle.octet_core.specs.Grammar.{OneVerdict}
 use Rattle.atr_core.proofs.Goes as atr_goes
-use Rattle.block_core.specs.Block.{IsBlock, IsReason}
 use Rattle.block_core.proofs.Goes.{one-verdict}
 use Rattle.card_tool.specs.ExchangeTexts.{Migrates, Replays}
 use Rattle.card_tool.proofs.OneOf.{OneText, ended-by, plain}
 use Rattle.card_tool.proofs.Exchanges.{migrated-once, replayed-once}
 use Rattle.card_tool.proofs.Simulations.{simulated-once}
-use Rattle.card_tool.specs.Answers.{AreLinesTold, Checks, IsAnswerTo, IsLineTold, IsFilled, IsToldOf, IsFilledBy, Shows, Tells, Tidies, accepted, refused, unknown, duplicate, full, listed, no_list}
+use Rattle.card_tool.specs.Answers.{AreLinesTold, Checks, IsAnswerTo, IsLineTold, IsFilled, IsToldOf, IsFilledBy, Shows, Tells, Tidies, accepted, refused, unknown, duplicate, full, listed, no_list, codec_of}
+use Rattle.card_tool.specs.Codec.{Codec}
 use Rattle.card_tool.specs.Texts.{accepted_text, duplicate_text, refused_text}
 use Rattle.card_words.specs.Texts.{fault_text}
 use Rattle.card_words.specs.declared.fault.Fault.{Fault}
 use Rattle.tlv_core.proofs.Entries.{dol_verdict}
 use Rattle.tlv_core.proofs.Verdict.{one_verdict as forest_verdict}
 use Rattle.card_tool.proofs.Duplicates.{duplicate-or-not}
-use Rattle.card_tool.specs.AtrTexts as atr_texts
-use Rattle.card_tool.specs.AtrTexts.{atr_text}
-use Rattle.card_tool.specs.BlockTexts.{block_text, reason_text}
-use Rattle.chain_core.specs.Chain as chain
-use Rattle.chain_core.specs.Chain.{links, IsChain}
+use Rattle.chain_core.specs.Chain.{links}
 use Rattle.chain_core.proofs.Goes as chain_goes
 use Rattle.chain_core.specs.Cut.{cut_of}
-use Rattle.card_tool.specs.ChainTexts as chain_texts
-use Rattle.card_tool.specs.ChainTexts.{blocks_text, chain_text, longest_message}
-use Rattle.apdu_core.specs.Command as command
-use Rattle.apdu_core.specs.Command.{IsCommand}
-use Rattle.apdu_core.specs.Response as response
-use Rattle.apdu_core.specs.Response.{IsResponse}
+use Rattle.card_tool.specs.ChainTexts.{blocks_text, longest_message}
 use Rattle.apdu_core.proofs.Whole.{command-one_verdict, response-one_verdict}
-use Rattle.card_tool.specs.CommandTexts as command_texts
-use Rattle.card_tool.specs.CommandTexts.{command_text}
-use Rattle.card_tool.specs.ResponseTexts as response_texts
-use Rattle.card_tool.specs.ResponseTexts.{response_text}
-use Rattle.tlv_core.specs.Forest.{largest, IsForest}
-use Rattle.tlv_core.specs.Reasons as forest
-use Rattle.tlv_core.specs.Dol.{IsDol, IsDolReason}
+use Rattle.tlv_core.specs.Forest.{largest}
 use Rattle.tlv_core.specs.Fill.{filled, HasDuplicate}
 use Rattle.tlv_core.specs.declared.known.Known.{Known}
-use Rattle.card_tool.specs.ForestTexts as forest_texts
-use Rattle.card_tool.specs.ForestTexts.{forest_text, tidied_text}
+use Rattle.card_tool.specs.ForestTexts.{forest_codec, tidied_text}
 use Rattle.card_tool.specs.ListTexts as list_texts
-use Rattle.card_tool.specs.ListTexts.{dol_text, filled_text}
+use Rattle.card_tool.specs.ListTexts.{filled_text}
 use Rattle.card_words.specs.Given.{octets_given}
 use Rattle.card_words.specs.Loose.{loose_octets}
 use Rattle.card_words.specs.declared.fault.Fault.TheVariants.{TooLarge}
@@ -62,8 +44,12 @@ use Rattle.card_words.specs.declared.request.Request.TheVariants.{BuildChain, Bu
 use Rattle.card_tool.specs.declared.status.Status.{Status}
 use Rattle.card_tool.specs.declared.status.Status.TheVariants as status
 
-module _ {V R : Type 0} (e : Ending) (S : V → List ℕ → Type 0) (Reason : R → List ℕ → Type 0) (name : R → List ℕ) (told : V → ℕ → List ℕ) (b : List ℕ) (verdict : OneVerdict e S Reason b) where
-  one-told : (t u : List ℕ) (s q : Status) → Tells e S Reason name told b t s → Tells e S Reason name told b u q → (t ≡ u) × (s ≡ q)
+-- octets have one verdict
+abbrev IsJudged : {V R : Type 0} → Codec V R → List ℕ → Type 0
+IsJudged c b = OneVerdict c.ending c.Spells c.IsReason b
+
+module _ {V R : Type 0} (c : Codec V R) (told : V → ℕ → List ℕ) (b : List ℕ) (verdict : IsJudged c b) where
+  one-told : (t u : List ℕ) (s q : Status) → Tells c told b t s → Tells c told b u q → (t ≡ u) × (s ≡ q)
   one-told t u s q (accepted v n h text ended) (accepted w m g other different) =
       let same = verdict.one_value v w n m h g in
       let value : v ≡ w = same.0 in
@@ -71,41 +57,36 @@ module _ {V R : Type 0} (e : Ending) (S : V → List ℕ → Type 0) (Reason : R
       (text ∙ ap (λ (x : V). told x n) value ∙ ap (told w) count ∙ sym other, ended ∙ sym different)
   one-told t u s q (accepted v n h text ended) (refused stop g other different) = absurd (verdict.not_both v n stop h g)
   one-told t u s q (refused stop h text ended) (accepted w m g other different) = absurd (verdict.not_both w m stop g h)
-  one-told t u s q (refused stop h text ended) (refused halt g other different) = (text ∙ ap (refused_text name) (verdict.one_refusal stop halt h g) ∙ sym other, ended ∙ sym different)
+  one-told t u s q (refused stop h text ended) (refused halt g other different) = (text ∙ ap (refused_text c.name) (verdict.one_refusal stop halt h g) ∙ sym other, ended ∙ sym different)
 
-  some-told : (t : List ℕ) × (s : Status) × Tells e S Reason name told b t s
+  some-told : (t : List ℕ) × (s : Status) × Tells c told b t s
   some-told = elim verdict.some [
     | inl h ↦ (told h.0 h.1, status.Accepted, accepted h.0 h.1 h.2 refl refl)
-    | inr h ↦ (refused_text name h.0, status.Refused, refused h.0 h.1 refl refl)
+    | inr h ↦ (refused_text c.name h.0, status.Refused, refused h.0 h.1 refl refl)
   ]
 
-  told-once : OneText (Tells e S Reason name told b)
+  told-once : OneText (Tells c told b)
   told-once = record { one = one-told; some = some-told }
 
 -- ---- the kinds
 
+judged : (kind : Kind) (expected : Expected) (b : List ℕ) → expected.ifs ≤ 254 → AreOctets b → IsJudged (codec_of kind expected).codec b
+judged Atr expected b small octets = atr_goes.one-verdict b octets
+judged Block expected b small octets = one-verdict expected.ifs b small octets
+judged Chain expected b small octets = chain_goes.one-verdict expected.ifs expected.number longest_message b small octets
+judged Command expected b small octets = command-one_verdict b octets
+judged Response expected b small octets = response-one_verdict b octets
+judged Tlv expected b small octets = forest_verdict largest b octets
+judged Dol expected b small octets = dol_verdict b octets
+
 checked : (kind : Kind) (expected : Expected) (b : List ℕ) → expected.ifs ≤ 254 → AreOctets b → OneText (Checks kind expected b)
-checked Atr expected b small octets = told-once self_ended IsAtr atr.IsReason atr_texts.reason_text (λ v n. accepted_text n) b (atr_goes.one-verdict b octets)
-checked Block expected b small octets = told-once self_ended (IsBlock expected.ifs) (IsReason expected.ifs) reason_text (λ v n. accepted_text n) b (one-verdict expected.ifs b small octets)
-checked Chain expected b small octets =
-    told-once self_ended (IsChain expected.ifs expected.number longest_message) (chain.IsReason expected.ifs expected.number longest_message) chain_texts.reason_text (λ v n. accepted_text n) b (chain_goes.one-verdict expected.ifs expected.number longest_message b small octets)
-checked Command expected b small octets = told-once whole IsCommand command.IsReason command_texts.reason_text (λ v n. accepted_text n) b (command-one_verdict b octets)
-checked Response expected b small octets = told-once whole IsResponse response.IsReason response_texts.reason_text (λ v n. accepted_text n) b (response-one_verdict b octets)
-checked Tlv expected b small octets = told-once whole (IsForest largest) (forest.IsReason largest) forest_texts.reason_text (λ v n. accepted_text n) b (forest_verdict largest b octets)
-checked Dol expected b small octets = told-once whole IsDol IsDolReason list_texts.reason_text (λ v n. accepted_text n) b (dol_verdict b octets)
+checked kind expected b small octets = told-once (codec_of kind expected).codec (λ v n. accepted_text n) b (judged kind expected b small octets)
 
 shown : (kind : Kind) (expected : Expected) (b : List ℕ) → expected.ifs ≤ 254 → AreOctets b → OneText (Shows kind expected b)
-shown Atr expected b small octets = told-once self_ended IsAtr atr.IsReason atr_texts.reason_text (λ v n. atr_text v) b (atr_goes.one-verdict b octets)
-shown Block expected b small octets = told-once self_ended (IsBlock expected.ifs) (IsReason expected.ifs) reason_text (λ v n. block_text v) b (one-verdict expected.ifs b small octets)
-shown Chain expected b small octets =
-    told-once self_ended (IsChain expected.ifs expected.number longest_message) (chain.IsReason expected.ifs expected.number longest_message) chain_texts.reason_text (λ v n. chain_text v) b (chain_goes.one-verdict expected.ifs expected.number longest_message b small octets)
-shown Command expected b small octets = told-once whole IsCommand command.IsReason command_texts.reason_text (λ v n. command_text v) b (command-one_verdict b octets)
-shown Response expected b small octets = told-once whole IsResponse response.IsReason response_texts.reason_text (λ v n. response_text v) b (response-one_verdict b octets)
-shown Tlv expected b small octets = told-once whole (IsForest largest) (forest.IsReason largest) forest_texts.reason_text (λ v n. forest_text v) b (forest_verdict largest b octets)
-shown Dol expected b small octets = told-once whole IsDol IsDolReason list_texts.reason_text (λ v n. dol_text v) b (dol_verdict b octets)
+shown kind expected b small octets = told-once (codec_of kind expected).codec (λ v n. (codec_of kind expected).codec.lines v) b (judged kind expected b small octets)
 
 tidied : (b : List ℕ) → AreOctets b → OneText (Tidies b)
-tidied b octets = told-once whole (IsForest largest) (forest.IsReason largest) forest_texts.reason_text (λ v n. tidied_text v) b (forest_verdict largest b octets)
+tidied b octets = told-once forest_codec (λ v n. tidied_text v) b (forest_verdict largest b octets)
 
 -- ---- filling
 

@@ -3,38 +3,24 @@ use Rattle.std.specs.Prelude.{◌≡◌, ◌<◌, ℕ, ◌⊎◌, List, Option, 
 use Rattle.std.specs.Io.KnownBytes.{Appends}
 use Rattle.octet_core.specs.declared.stop.Stop.{Stop}
 use Rattle.octet_core.specs.Failures.{HasFailed}
-use Rattle.octet_core.specs.Grammar.{Ending, self_ended, whole, Accepts, Refuses}
-use Rattle.atr_core.specs.Atr as atr
-use Rattle.atr_core.specs.Atr.{IsAtr}
-use Rattle.block_core.specs.Block.{IsBlock, IsReason}
+use Rattle.octet_core.specs.Grammar.{whole, Refuses}
 use Rattle.card_tool.specs.Texts.{accepted_text, duplicate_text, refused_text}
+use Rattle.card_tool.specs.Codec.{Codec, Stops, Takes}
+use Rattle.card_tool.specs.AtrTexts.{atr_codec}
+use Rattle.card_tool.specs.BlockTexts.{block_codec}
+use Rattle.chain_core.specs.Chain.{links}
+use Rattle.card_tool.specs.ChainTexts.{blocks_text, chain_codec}
+use Rattle.card_tool.specs.CommandTexts.{command_codec}
+use Rattle.card_tool.specs.ResponseTexts.{response_codec}
+use Rattle.card_tool.specs.ForestTexts.{forest_codec, tidied_text}
+use Rattle.card_tool.specs.ListTexts.{list_codec, filled_text}
 use Rattle.card_words.specs.Texts.{fault_text}
-use Rattle.card_tool.specs.AtrTexts as atr_texts
-use Rattle.card_tool.specs.AtrTexts.{atr_text}
-use Rattle.card_tool.specs.BlockTexts.{block_text, reason_text}
-use Rattle.chain_core.specs.Chain as chain
-use Rattle.chain_core.specs.Chain.{links, IsChain}
 use Rattle.chain_core.specs.Cut.{cut_of}
-use Rattle.card_tool.specs.ChainTexts as chain_texts
-use Rattle.card_tool.specs.ChainTexts.{blocks_text, chain_text, longest_message}
-use Rattle.apdu_core.specs.Command as command
-use Rattle.apdu_core.specs.Command.{IsCommand}
-use Rattle.apdu_core.specs.Response as response
-use Rattle.apdu_core.specs.Response.{IsResponse}
-use Rattle.card_tool.specs.CommandTexts as command_texts
-use Rattle.card_tool.specs.CommandTexts.{command_text}
-use Rattle.card_tool.specs.ResponseTexts as response_texts
-use Rattle.card_tool.specs.ResponseTexts.{response_text}
-use Rattle.tlv_core.specs.Forest.{largest, IsForest}
-use Rattle.tlv_core.specs.Reasons as forest
-use Rattle.card_tool.specs.ForestTexts as forest_texts
-use Rattle.card_tool.specs.ForestTexts.{forest_text, tidied_text}
 use Rattle.tlv_core.specs.Dol.{IsDol, IsDolReason}
 use Rattle.tlv_core.specs.Fill.{filled, HasDuplicate}
 use Rattle.tlv_core.specs.declared.known.Known.{Known}
 use Rattle.tlv_core.specs.declared.reason.DolReason.{DolReason}
 use Rattle.card_tool.specs.ListTexts as list_texts
-use Rattle.card_tool.specs.ListTexts.{dol_text, filled_text}
 use Rattle.card_tool.specs.ExchangeTexts.{Migrates, Replays}
 use Rattle.card_tool.specs.SimulationTexts.{Simulates}
 use Rattle.card_tool.specs.Files.{ReadsWhole}
@@ -53,33 +39,40 @@ use Rattle.card_words.specs.declared.request.Request.{Request}
 use Rattle.card_words.specs.declared.request.Request.TheVariants.{BuildChain, BuildTidy, BuildFill, Check, CheckLines, Show, Replay, Migrate, Simulate, Help}
 
 -- the text and the status that the verdict on octets has, where a value is told so
-pub data Tells {V R : Type 0} (e : Ending) (S : V → List ℕ → Type 0) (Reason : R → List ℕ → Type 0) (name : R → List ℕ) (told : V → ℕ → List ℕ) (b text : List ℕ) (ended : Status) : Type 0 where
-  accepted : (v : V) (n : ℕ) → Accepts e S b v n → text ≡ told v n → ended ≡ status.Accepted → Tells e S Reason name told b text ended
-  refused : (stop : Stop R) → Refuses e S Reason b stop → text ≡ refused_text name stop → ended ≡ status.Refused → Tells e S Reason name told b text ended
+pub data Tells {V R : Type 0} (c : Codec V R) (told : V → ℕ → List ℕ) (b text : List ℕ) (ended : Status) : Type 0 where
+  accepted : (v : V) (n : ℕ) → Takes c b v n → text ≡ told v n → ended ≡ status.Accepted → Tells c told b text ended
+  refused : (stop : Stop R) → Stops c b stop → text ≡ refused_text c.name stop → ended ≡ status.Refused → Tells c told b text ended
+
+-- a codec of some values and reasons
+pub record Row : Type 1 where
+  pub Value : Type 0
+  pub Reason : Type 0
+  pub codec : Codec Value Reason
+
+abbrev row : {V R : Type 0} → Codec V R → Row
+row c = record { Value = _; Reason = _; codec = c }
+
+-- the codec of a kind
+abbrev pub codec_of : Kind → Expected → Row
+codec_of Atr expected = row atr_codec
+codec_of Block expected = row (block_codec expected.ifs)
+codec_of Chain expected = row (chain_codec expected.ifs expected.number)
+codec_of Command expected = row command_codec
+codec_of Response expected = row response_codec
+codec_of Tlv expected = row forest_codec
+codec_of Dol expected = row list_codec
 
 -- how many octets the value takes
 abbrev pub Checks : Kind → Expected → List ℕ → List ℕ → Status → Type 0
-Checks Atr expected b = Tells self_ended IsAtr atr.IsReason atr_texts.reason_text (λ v n. accepted_text n) b
-Checks Block expected b = Tells self_ended (IsBlock expected.ifs) (IsReason expected.ifs) reason_text (λ v n. accepted_text n) b
-Checks Chain expected b = Tells self_ended (IsChain expected.ifs expected.number longest_message) (chain.IsReason expected.ifs expected.number longest_message) chain_texts.reason_text (λ v n. accepted_text n) b
-Checks Command expected b = Tells whole IsCommand command.IsReason command_texts.reason_text (λ v n. accepted_text n) b
-Checks Response expected b = Tells whole IsResponse response.IsReason response_texts.reason_text (λ v n. accepted_text n) b
-Checks Tlv expected b = Tells whole (IsForest largest) (forest.IsReason largest) forest_texts.reason_text (λ v n. accepted_text n) b
-Checks Dol expected b = Tells whole IsDol IsDolReason list_texts.reason_text (λ v n. accepted_text n) b
+Checks kind expected b = Tells (codec_of kind expected).codec (λ v n. accepted_text n) b
 
 -- the value itself
 abbrev pub Shows : Kind → Expected → List ℕ → List ℕ → Status → Type 0
-Shows Atr expected b = Tells self_ended IsAtr atr.IsReason atr_texts.reason_text (λ v n. atr_text v) b
-Shows Block expected b = Tells self_ended (IsBlock expected.ifs) (IsReason expected.ifs) reason_text (λ v n. block_text v) b
-Shows Chain expected b = Tells self_ended (IsChain expected.ifs expected.number longest_message) (chain.IsReason expected.ifs expected.number longest_message) chain_texts.reason_text (λ v n. chain_text v) b
-Shows Command expected b = Tells whole IsCommand command.IsReason command_texts.reason_text (λ v n. command_text v) b
-Shows Response expected b = Tells whole IsResponse response.IsReason response_texts.reason_text (λ v n. response_text v) b
-Shows Tlv expected b = Tells whole (IsForest largest) (forest.IsReason largest) forest_texts.reason_text (λ v n. forest_text v) b
-Shows Dol expected b = Tells whole IsDol IsDolReason list_texts.reason_text (λ v n. dol_text v) b
+Shows kind expected b = Tells (codec_of kind expected).codec (λ v n. (codec_of kind expected).codec.lines v) b
 
 -- the forest in the fewest octets that say the same
 abbrev pub Tidies : List ℕ → List ℕ → Status → Type 0
-Tidies b = Tells whole (IsForest largest) (forest.IsReason largest) forest_texts.reason_text (λ v n. tidied_text v) b
+Tidies b = Tells forest_codec (λ v n. tidied_text v) b
 
 -- what a list asks for: a fault of what is known, then two known values with one tag, else the octets that fill it
 pub data IsFilledBy (known : Result (List Known) Fault) (entries : List (List ℕ × ℕ)) (text : List ℕ) (ended : Status) : Type 0 where

@@ -1,7 +1,7 @@
 -- What the program says of an answer to reset.
 use Rattle.std.specs.Prelude.{ℕ, ◌+◌, List, [], ◌∷◌, ◌++◌, codes, decimal, Option, Some, None, Result, Ok, Err}
 use Rattle.hex.specs.Hex.{encode_upper}
-use Rattle.atr_core.specs.Atr.{AtrParts, announcing, goes_on, tck_of}
+use Rattle.atr_core.specs.Atr.{AtrParts, IsAtr, IsReason, announcing, goes_on, tck_of}
 use Rattle.atr_core.specs.Rates.{rates_of}
 use Rattle.atr_core.specs.T1.{T1Values, t1_params_of}
 use Rattle.atr_core.specs.declared.atr.Convention.{Convention}
@@ -12,6 +12,9 @@ use Rattle.atr_core.specs.declared.params.ParamFault.{ParamFault}
 pub use Rattle.atr_core.specs.Names.{reason_name as reason_text}
 use Rattle.atr_core.specs.Names.{param_fault_name}
 use Rattle.card_tool.specs.Texts.{octets_text}
+use Rattle.octet_core.specs.Grammar.{self_ended}
+use Rattle.atr_core.specs.declared.reason.AtrReason.{AtrReason}
+use Rattle.card_tool.specs.Codec.{Codec}
 
 abbrev pub convention_text : Convention → List ℕ
 convention_text Direct = codes "direct"
@@ -56,3 +59,6 @@ meaning_text a = codes "F " ++ (rate_text (rates_of a).0 ++ (codes "\nD " ++ (ra
 -- an answer to reset, line by line
 abbrev pub atr_text : AtrParts → List ℕ
 atr_text a = codes "convention " ++ (convention_text a.convention ++ (codes "\n" ++ (interface_text a ++ (codes "historical " ++ (octets_text a.historical ++ (codes "\ntck " ++ (tck_text (tck_of a) ++ (codes "\n" ++ meaning_text a))))))))
+
+abbrev pub atr_codec : Codec AtrParts AtrReason
+atr_codec = record { ending = self_ended; Spells = IsAtr; IsReason = IsReason; name = reason_text; lines = atr_text }

@@ -2,13 +2,16 @@
 use Rattle.std.specs.Prelude.{ℕ, List, [], ◌∷◌, ◌++◌, Bool, true, false, codes, decimal}
 use Rattle.hex.specs.Hex.{encode_upper}
 use Rattle.octet_core.specs.Octets.{xor_of}
-use Rattle.block_core.specs.Block.{Parts, front_of, number_bit, fault_code}
+use Rattle.block_core.specs.Block.{Parts, IsBlock, IsReason, front_of, number_bit, fault_code}
 use Rattle.block_core.specs.declared.pcb.Pcb.{Pcb}
 use Rattle.block_core.specs.declared.pcb.Pcb.TheVariants.{Info, Ready, Request, Response}
 use Rattle.block_core.specs.declared.pcb.S.{S}
 use Rattle.block_core.specs.declared.pcb.S.TheVariants.{Resynch, Ifs, Abort, Wtx}
 pub use Rattle.block_core.specs.Names.{reason_name as reason_text}
 use Rattle.card_tool.specs.Texts.{octets_text}
+use Rattle.octet_core.specs.Grammar.{self_ended}
+use Rattle.block_core.specs.declared.reason.BlockReason.{BlockReason}
+use Rattle.card_tool.specs.Codec.{Codec}
 
 abbrev pub supervisory_text : S → List ℕ
 supervisory_text Resynch = codes "RESYNCH"
@@ -29,3 +32,7 @@ pcb_text (Response about) = codes "S response " ++ supervisory_text about
 -- a block, line by line
 abbrev pub block_text : Parts → List ℕ
 block_text v = codes "nad " ++ (encode_upper (v.nad ∷ []) ++ (codes "\npcb " ++ (pcb_text v.pcb ++ (codes "\ninf " ++ (octets_text v.inf ++ (codes "\nlrc " ++ (encode_upper (xor_of (front_of v) ∷ []) ++ codes "\n")))))))
+
+-- of an information size
+abbrev pub block_codec : ℕ → Codec Parts BlockReason
+block_codec ifs = record { ending = self_ended; Spells = IsBlock ifs; IsReason = IsReason ifs; name = reason_text; lines = block_text }

@@ -4,10 +4,12 @@ use Rattle.hex.specs.Hex.{encode_upper}
 use Rattle.octet_core.specs.Grammar.{Accepts, self_ended}
 use Rattle.block_core.specs.Block.{Parts, spelling}
 use Rattle.block_core.specs.declared.pcb.Number.{Number}
-use Rattle.chain_core.specs.Chain.{IsChain, message_of}
+use Rattle.chain_core.specs.Chain.{IsChain, IsReason, message_of}
 use Rattle.chain_core.specs.Taken.{Reception}
 pub use Rattle.chain_core.specs.Names.{reason_name as reason_text}
 use Rattle.card_tool.specs.Texts.{octets_text}
+use Rattle.chain_core.specs.declared.reason.ChainReason.{ChainReason}
+use Rattle.card_tool.specs.Codec.{Codec}
 
 -- the greatest number of octets of a message
 abbrev pub longest_message : ℕ
@@ -30,3 +32,7 @@ pub record IsReceived (ifs : ℕ) (number : Number) (b : List ℕ) (r : Receptio
   pub joined : r.joined ≡ message_of fields
   pub done : r.done ≡ true
   pub none : r.refusal ≡ None
+
+-- of an information size and the number of the first block
+abbrev pub chain_codec : ℕ → Number → Codec (List (List ℕ)) ChainReason
+chain_codec ifs number = record { ending = self_ended; Spells = IsChain ifs number longest_message; IsReason = IsReason ifs number longest_message; name = reason_text; lines = chain_text }

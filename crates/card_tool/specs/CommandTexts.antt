@@ -1,11 +1,14 @@
 -- What the program says of a command.
 use Rattle.std.specs.Prelude.{ℕ, List, ◌++◌, Option, Some, None, codes, decimal}
 use Rattle.hex.specs.Hex.{encode_upper}
-use Rattle.apdu_core.specs.Command.{CommandParts, le_of, part_of, shape_of}
+use Rattle.apdu_core.specs.Command.{CommandParts, IsCommand, IsReason, le_of, part_of, shape_of}
 use Rattle.apdu_core.specs.declared.command.Shape.{Shape}
 use Rattle.apdu_core.specs.declared.command.Shape.TheVariants.{Empty, ShortLe, ShortPart, ShortBoth, LongLe, LongPart, LongBoth}
 pub use Rattle.apdu_core.specs.Names.{command_reason_name as reason_text}
 use Rattle.card_tool.specs.Texts.{octets_text}
+use Rattle.octet_core.specs.Grammar.{whole}
+use Rattle.apdu_core.specs.declared.reason.CommandReason.{CommandReason}
+use Rattle.card_tool.specs.Codec.{Codec}
 
 -- the case that a shape is of
 abbrev pub shape_text : Shape → List ℕ
@@ -25,3 +28,6 @@ le_text (Some le) = decimal le
 abbrev pub command_text : CommandParts → List ℕ
 command_text c =
     shape_text (shape_of c.body) ++ (codes "\nheader " ++ (encode_upper c.header ++ (codes "\npart " ++ (octets_text (part_of c.body) ++ (codes "\nle " ++ (le_text (le_of c.body) ++ codes "\n"))))))
+
+abbrev pub command_codec : Codec CommandParts CommandReason
+command_codec = record { ending = whole; Spells = IsCommand; IsReason = IsReason; name = reason_text; lines = command_text }

@@ -5,10 +5,14 @@ use Rattle.hex.specs.Hex.{encode_upper}
 use Rattle.tlv_core.specs.Tag.{constructed_bit, length_field}
 use Rattle.tlv_core.specs.Flat.{PartValue, parts_of}
 use Rattle.tlv_core.specs.Tree.{Tree}
-use Rattle.tlv_core.specs.Forest.{spelling}
+use Rattle.tlv_core.specs.Forest.{largest, spelling, IsForest}
 use Rattle.tlv_core.specs.Tidy.{tidy}
 pub use Rattle.tlv_core.specs.Names.{reason_name as reason_text}
 use Rattle.card_tool.specs.Texts.{octets_text}
+use Rattle.octet_core.specs.Grammar.{whole}
+use Rattle.tlv_core.specs.Reasons.{IsReason}
+use Rattle.tlv_core.specs.declared.reason.TlvReason.{TlvReason}
+use Rattle.card_tool.specs.Codec.{Codec}
 
 -- the octets of the tidied forest
 abbrev pub tidied_text : Tree → List ℕ
@@ -33,3 +37,6 @@ parts_text parts = codes "objects " ++ (decimal (length parts) ++ (codes "\n" ++
 -- the objects of a forest, each before those inside it
 abbrev pub forest_text : Tree → List ℕ
 forest_text t = parts_text (parts_of 1 0 t)
+
+abbrev pub forest_codec : Codec Tree TlvReason
+forest_codec = record { ending = whole; Spells = IsForest largest; IsReason = IsReason largest; name = reason_text; lines = forest_text }

@@ -3,6 +3,7 @@ pub mod Files
 pub mod ExchangeTexts
 pub mod SimulationTexts
 pub mod Texts
+pub mod Codec
 pub mod AtrTexts
 pub mod ChainTexts
 pub mod CommandTexts

@@ -3,6 +3,10 @@ use Rattle.std.specs.Prelude.{ℕ, List, [], ◌∷◌, ◌++◌, length, codes,
 use Rattle.hex.specs.Hex.{encode_upper}
 pub use Rattle.tlv_core.specs.Names.{dol_reason_name as reason_text}
 use Rattle.card_tool.specs.Texts.{octets_text}
+use Rattle.octet_core.specs.Grammar.{whole}
+use Rattle.tlv_core.specs.Dol.{IsDol, IsDolReason}
+use Rattle.tlv_core.specs.declared.reason.DolReason.{DolReason}
+use Rattle.card_tool.specs.Codec.{Codec}
 
 -- the tag and the length of an entry
 abbrev pub entry_text : List ℕ × ℕ → List ℕ
@@ -19,3 +23,6 @@ dol_text entries = codes "entries " ++ (decimal (length entries) ++ (codes "\n" 
 -- the octets that fill a list
 abbrev pub filled_text : List ℕ → List ℕ
 filled_text octets = octets_text octets ++ codes "\n"
+
+abbrev pub list_codec : Codec (List (List ℕ × ℕ)) DolReason
+list_codec = record { ending = whole; Spells = IsDol; IsReason = IsDolReason; name = reason_text; lines = dol_text }

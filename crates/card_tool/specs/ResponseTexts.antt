@@ -1,11 +1,14 @@
 -- What the program says of a response.
 use Rattle.std.specs.Prelude.{ℕ, List, [], ◌∷◌, ◌++◌, ◌&&◌, ◌==◌, nat_le, codes, if◌then◌else◌}
 use Rattle.hex.specs.Hex.{encode_upper}
-use Rattle.apdu_core.specs.Response.{ResponseParts}
+use Rattle.apdu_core.specs.Response.{ResponseParts, IsResponse, IsReason}
 pub use Rattle.apdu_core.specs.Names.{response_reason_name as reason_text}
 use Rattle.apdu_core.specs.declared.status.StatusClass.{StatusClass}
 use Rattle.apdu_core.specs.declared.status.StatusClass.TheVariants.{Normal, Warning, Execution, Checking, Proprietary, Invalid}
 use Rattle.card_tool.specs.Texts.{octets_text}
+use Rattle.octet_core.specs.Grammar.{whole}
+use Rattle.apdu_core.specs.declared.reason.ResponseReason.{ResponseReason}
+use Rattle.card_tool.specs.Codec.{Codec}
 
 abbrev pub name_of : StatusClass → List ℕ
 name_of Normal = codes "normal"
@@ -35,3 +38,6 @@ class_text sw1 sw2 = name_of (class_of sw1 sw2)
 abbrev pub response_text : ResponseParts → List ℕ
 response_text r =
     codes "part " ++ (octets_text r.part ++ (codes "\nstatus " ++ (encode_upper (r.sw1 ∷ r.sw2 ∷ []) ++ (codes " " ++ (class_text r.sw1 r.sw2 ++ codes "\n")))))
+
+abbrev pub response_codec : Codec ResponseParts ResponseReason
+response_codec = record { ending = whole; Spells = IsResponse; IsReason = IsReason; name = reason_text; lines = response_text }

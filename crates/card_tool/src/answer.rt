@@ -12,10 +12,10 @@ use std::alloc::{AllocError, Global};
 
 /// A text to be written, and how the program then ends.
 #[derive(Debug, Drop)]
-pub struct Answer {
+pub(crate) struct Answer {
     /// The text's octets in UTF-8.
-    pub text: Octets,
-    pub status: Status,
+    pub(crate) text: Octets,
+    pub(crate) status: Status,
 }
 
 impl Answer {

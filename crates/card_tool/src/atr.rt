@@ -1,38 +1,37 @@
 //! What the program says of an answer to reset.
 
-ghost use Rattle.std.specs.Prelude.{◌≡◌, ◌≤◌, ◌<◌, IfOk, length, string_bytes};
+ghost use Rattle.std.specs.Prelude.{◌≡◌, ◌≤◌, ◌<◌, IfOk, length, refl, string_bytes};
 ghost use Rattle.std.specs.List.{AllByRecursion};
-ghost use Rattle.octet_core.specs.Grammar.{self_ended};
-ghost use Rattle.atr_core.specs.Atr.{IsAtr, IsReason};
-ghost use Rattle.card_tool.specs.Answers.{Tells};
-ghost use Rattle.card_tool.specs.Texts.{accepted_text};
-ghost use Rattle.card_tool.specs.AtrTexts.{atr_text, byte_text, bytes_text, convention_text, interface_text, meaning_text, rate_text, reason_text, t1_text, tck_text, td_text, tds_text};
+ghost use Rattle.atr_core.specs.Atr.{AtrParts};
+ghost use Rattle.card_tool.specs.AtrTexts.{atr_codec, atr_text, byte_text, bytes_text, convention_text, interface_text, meaning_text, rate_text, t1_text, tck_text, td_text, tds_text};
 
-use crate::answer::Answer;
+use crate::codec::{Codec, Outcome};
 use crate::text::octets_word;
 use atr_core::{
-    Atr, Convention, Indicated, Interface, ParamFault, T1Params, decode, rates, t1_params,
+    Atr, AtrReason, Convention, Indicated, Interface, ParamFault, T1Params, decode, rates,
+    t1_params,
 };
+use card_words::Expected;
 use octet_core::{Named, hex_upper};
 use std::alloc::{AllocError, Global};
 
-/// Whether an answer to reset begins the octets, and how many it takes.
-pub(crate) fn check(alloc: Global, octets: &[u8]) -> Result<Answer, AllocError>
-    ensures { IfOk result (λ answer. Tells self_ended IsAtr IsReason reason_text (λ v n. accepted_text n) octets.now answer.text answer.status) }
-{
-    match decode(octets) {
-        Ok((_, taken)) => Answer::accepted(alloc, taken),
-        Err(stop) => Answer::refused(alloc, stop),
-    }
-}
+impl Codec for Atr {
+    type Reason = AtrReason;
 
-/// The answer to reset that begins the octets.
-pub(crate) fn show(alloc: Global, octets: &[u8]) -> Result<Answer, AllocError>
-    ensures { IfOk result (λ answer. Tells self_ended IsAtr IsReason reason_text (λ v n. atr_text v) octets.now answer.text answer.status) }
-{
-    match decode(octets) {
-        Ok((atr, _)) => Ok(Answer::told(lines(alloc, &atr)?)),
-        Err(stop) => Answer::refused(alloc, stop),
+    ghost Value = { AtrParts };
+
+    ghost codec = { λ _. atr_codec };
+
+    ghost named = { λ _. refl };
+
+    fn taken(_alloc: Global, octets: &[u8], _expected: Expected) -> Outcome<usize, AtrReason> {
+        let (_, taken) = decode(octets)?;
+        Ok(taken)
+    }
+
+    fn shown(alloc: Global, octets: &[u8], _expected: Expected) -> Outcome<String, AtrReason> {
+        let (atr, _) = decode(octets)?;
+        Ok(lines(alloc, &atr)?)
     }
 }
 

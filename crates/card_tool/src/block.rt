@@ -1,39 +1,33 @@
 //! What the program says of a block.
 
-ghost use Rattle.std.specs.Prelude.{◌≡◌, ◌≤◌, IfOk, string_bytes};
-ghost use Rattle.octet_core.specs.Grammar.{self_ended, Refuses};
-ghost use Rattle.block_core.specs.Block.{fault_code, number_bit, IsBlock, IsReason};
-ghost use Rattle.card_tool.specs.Answers.{Tells};
-ghost use Rattle.card_tool.specs.Texts.{accepted_text};
-ghost use Rattle.card_tool.specs.BlockTexts.{block_text, more_number, pcb_text, reason_text, supervisory_text};
+ghost use Rattle.std.specs.Prelude.{◌≡◌, IfOk, refl, string_bytes};
+ghost use Rattle.block_core.specs.Block.{fault_code, number_bit, Parts};
+ghost use Rattle.card_tool.specs.BlockTexts.{block_codec, block_text, more_number, pcb_text, supervisory_text};
 
-use crate::answer::Answer;
+use crate::codec::{Codec, Outcome};
 use crate::text::octets_word;
-use block_core::{Block, Fault, Number, Pcb, S, decode, encode};
+use block_core::{Block, BlockReason, Fault, Number, Pcb, S, decode, encode};
+use card_words::Expected;
 use octet_core::hex_upper;
 use std::alloc::{AllocError, Global};
 
-/// Whether a block begins the octets, and how many it takes.
-pub(crate) fn check(alloc: Global, octets: &[u8], ifs: u8) -> Result<Answer, AllocError>
-    requires least { 1 ≤ ifs }
-    requires most { ifs ≤ 254 }
-    ensures { IfOk result (λ answer. Tells self_ended (IsBlock ifs) (IsReason ifs) reason_text (λ v n. accepted_text n) octets.now answer.text answer.status) }
-{
-    match decode(octets, ifs) {
-        Ok((_, taken)) => Answer::accepted(alloc, taken),
-        Err(stop) => Answer::refused(alloc, stop),
-    }
-}
+impl Codec for Block {
+    type Reason = BlockReason;
 
-/// The block that begins the octets.
-pub(crate) fn show(alloc: Global, octets: &[u8], ifs: u8) -> Result<Answer, AllocError>
-    requires least { 1 ≤ ifs }
-    requires most { ifs ≤ 254 }
-    ensures { IfOk result (λ answer. Tells self_ended (IsBlock ifs) (IsReason ifs) reason_text (λ v n. block_text v) octets.now answer.text answer.status) }
-{
-    match decode(octets, ifs) {
-        Ok((block, _)) => Ok(Answer::told(lines(alloc, &block)?)),
-        Err(stop) => Answer::refused(alloc, stop),
+    ghost Value = { Parts };
+
+    ghost codec = { λ expected. block_codec expected.ifs };
+
+    ghost named = { λ _. refl };
+
+    fn taken(_alloc: Global, octets: &[u8], expected: Expected) -> Outcome<usize, BlockReason> {
+        let (_, taken) = decode(octets, expected.ifs)?;
+        Ok(taken)
+    }
+
+    fn shown(alloc: Global, octets: &[u8], expected: Expected) -> Outcome<String, BlockReason> {
+        let (block, _) = decode(octets, expected.ifs)?;
+        Ok(lines(alloc, &block)?)
     }
 }
 

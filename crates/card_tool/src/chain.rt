@@ -1,55 +1,38 @@
 //! What the program says of a chain.
 
-ghost use Rattle.std.specs.Prelude.{◌≡◌, ◌≤◌, ℕ, List, length, true, None, IfOk, IfErr, string_bytes};
+ghost use Rattle.std.specs.Prelude.{◌≡◌, ◌≤◌, ℕ, List, length, true, None, refl, IfOk, IfErr, string_bytes};
 ghost use Rattle.octet_core.specs.Grammar.{self_ended, RefusesUnlessMemory};
 ghost use Rattle.chain_core.specs.Chain.{links, message_of, IsChain, IsReason};
 ghost use Rattle.chain_core.specs.Cut.{cut_of};
 ghost use Rattle.hex.specs.Hex.{encode_upper};
 ghost use Rattle.block_core.specs.Block.{spelling};
-ghost use Rattle.card_tool.specs.Answers.{Tells};
-ghost use Rattle.card_tool.specs.ChainTexts.{blocks_text, chain_text, longest_message, reason_text, IsReceived};
-ghost use Rattle.card_tool.specs.Texts.{accepted_text};
+ghost use Rattle.card_tool.specs.ChainTexts.{blocks_text, chain_codec, chain_text, longest_message, IsReceived};
 
-use crate::answer::Answer;
+use crate::codec::{Codec, Outcome};
 use crate::text::octets_word;
 use block_core::{Block, Number, encode};
+use card_words::Expected;
 use chain_core::{ChainReason, LONGEST_MESSAGE, Receiver, cut};
 use octet_core::{Refused, Stop, hex_upper};
 use std::alloc::{AllocError, Global};
 
-/// Whether a chain begins the octets, and how many it takes.
-pub(crate) fn check(
-    alloc: Global,
-    octets: &[u8],
-    ifs: u8,
-    number: Number,
-) -> Result<Answer, AllocError>
-    requires least { 1 ≤ ifs }
-    requires most { ifs ≤ 254 }
-    ensures { IfOk result (λ answer. Tells self_ended (IsChain ifs number longest_message) (IsReason ifs number longest_message) reason_text (λ v n. accepted_text n) octets.now answer.text answer.status) }
-{
-    match received(alloc, octets, ifs, number) {
-        Ok((_, taken)) => Answer::accepted(alloc, taken),
-        Err(Refused::Stop(stop)) => Answer::refused(alloc, stop),
-        Err(Refused::Memory) => Err(AllocError),
-    }
-}
+impl Codec for Receiver {
+    type Reason = ChainReason;
 
-/// The chain that begins the octets.
-pub(crate) fn show(
-    alloc: Global,
-    octets: &[u8],
-    ifs: u8,
-    number: Number,
-) -> Result<Answer, AllocError>
-    requires least { 1 ≤ ifs }
-    requires most { ifs ≤ 254 }
-    ensures { IfOk result (λ answer. Tells self_ended (IsChain ifs number longest_message) (IsReason ifs number longest_message) reason_text (λ v n. chain_text v) octets.now answer.text answer.status) }
-{
-    match received(alloc, octets, ifs, number) {
-        Ok((receiver, _)) => Ok(Answer::told(lines(alloc, &receiver)?)),
-        Err(Refused::Stop(stop)) => Answer::refused(alloc, stop),
-        Err(Refused::Memory) => Err(AllocError),
+    ghost Value = { List (List ℕ) };
+
+    ghost codec = { λ expected. chain_codec expected.ifs expected.number };
+
+    ghost named = { λ _. refl };
+
+    fn taken(alloc: Global, octets: &[u8], expected: Expected) -> Outcome<usize, ChainReason> {
+        let (_, taken) = received(alloc, octets, expected.ifs, expected.number)?;
+        Ok(taken)
+    }
+
+    fn shown(alloc: Global, octets: &[u8], expected: Expected) -> Outcome<String, ChainReason> {
+        let (receiver, _) = received(alloc, octets, expected.ifs, expected.number)?;
+        Ok(lines(alloc, &receiver)?)
     }
 }
 

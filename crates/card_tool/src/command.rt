@@ -1,35 +1,33 @@
 //! What the program says of a command.
 
-ghost use Rattle.std.specs.Prelude.{◌≡◌, IfOk, length, string_bytes};
-ghost use Rattle.octet_core.specs.Grammar.{whole};
-ghost use Rattle.apdu_core.specs.Command.{IsCommand, IsReason};
-ghost use Rattle.card_tool.specs.Answers.{Tells};
-ghost use Rattle.card_tool.specs.CommandTexts.{command_text, le_text, reason_text, shape_text};
-ghost use Rattle.card_tool.specs.Texts.{accepted_text};
+ghost use Rattle.std.specs.Prelude.{◌≡◌, IfOk, refl, string_bytes};
+ghost use Rattle.apdu_core.specs.Command.{CommandParts};
+ghost use Rattle.card_tool.specs.CommandTexts.{command_codec, command_text, le_text, shape_text};
 
-use crate::answer::Answer;
+use crate::codec::{Codec, Outcome};
 use crate::text::octets_word;
-use apdu_core::{CommandRef, Shape};
+use apdu_core::{Command, CommandReason, CommandRef, Shape};
+use card_words::Expected;
 use octet_core::hex_upper;
 use std::alloc::{AllocError, Global};
 
-/// Whether the octets are a command.
-pub(crate) fn check(alloc: Global, octets: &[u8]) -> Result<Answer, AllocError>
-    ensures { IfOk result (λ answer. Tells whole IsCommand IsReason reason_text (λ v n. accepted_text n) octets.now answer.text answer.status) }
-{
-    match CommandRef::decode(octets) {
-        Ok(_) => Answer::accepted(alloc, octets.len()),
-        Err(stop) => Answer::refused(alloc, stop),
-    }
-}
+impl Codec for Command {
+    type Reason = CommandReason;
 
-/// The command that the octets are.
-pub(crate) fn show(alloc: Global, octets: &[u8]) -> Result<Answer, AllocError>
-    ensures { IfOk result (λ answer. Tells whole IsCommand IsReason reason_text (λ v n. command_text v) octets.now answer.text answer.status) }
-{
-    match CommandRef::decode(octets) {
-        Ok(command) => Ok(Answer::told(lines(alloc, &command)?)),
-        Err(stop) => Answer::refused(alloc, stop),
+    ghost Value = { CommandParts };
+
+    ghost codec = { λ _. command_codec };
+
+    ghost named = { λ _. refl };
+
+    fn taken(_alloc: Global, octets: &[u8], _expected: Expected) -> Outcome<usize, CommandReason> {
+        CommandRef::decode(octets)?;
+        Ok(octets.len())
+    }
+
+    fn shown(alloc: Global, octets: &[u8], _expected: Expected) -> Outcome<String, CommandReason> {
+        let command = CommandRef::decode(octets)?;
+        Ok(lines(alloc, &command)?)
     }
 }
 

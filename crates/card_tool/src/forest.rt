@@ -1,45 +1,45 @@
 //! What the program says of a forest of data objects.
 
-ghost use Rattle.std.specs.Prelude.{◌≡◌, List, ℕ, IfOk, MatchResult, length, map, string_bytes};
+ghost use Rattle.std.specs.Prelude.{◌≡◌, List, ℕ, IfOk, MatchResult, map, refl, string_bytes};
 ghost use Rattle.octet_core.specs.Grammar.{whole, Refuses};
 ghost use Rattle.tlv_core.specs.Tree.{Tree};
 ghost use Rattle.tlv_core.specs.Forest.{largest, IsForest};
 ghost use Rattle.tlv_core.specs.Reasons.{IsReason};
 ghost use Rattle.tlv_core.specs.Flat.{part_seen};
 ghost use Rattle.card_tool.specs.Answers.{Tells};
-ghost use Rattle.card_tool.specs.ForestTexts.{forest_text, lines_text, part_text, parts_text, reason_text, tidied_text, value_text};
-ghost use Rattle.card_tool.specs.Texts.{accepted_text};
+ghost use Rattle.card_tool.specs.ForestTexts.{forest_codec, lines_text, part_text, parts_text, tidied_text, value_text};
 
 use crate::answer::Answer;
+use crate::codec::{Codec, Outcome};
 use crate::text::octets_word;
+use card_words::Expected;
 use octet_core::{Refused, Stop, hex_upper};
 use std::alloc::{AllocError, Global};
 use tlv_core::{FlatForest, Forest, ForestCheck, LARGEST_FOREST, Part, TlvReason, decode, encode};
 
-/// Whether the octets are a forest.
-pub(crate) fn check(alloc: Global, octets: &[u8]) -> Result<Answer, AllocError>
-    ensures { IfOk result (λ answer. Tells whole (IsForest largest) (IsReason largest) reason_text (λ v n. accepted_text n) octets.now answer.text answer.status) }
-{
-    match verdict(octets) {
-        Ok(()) => Answer::accepted(alloc, octets.len()),
-        Err(stop) => Answer::refused(alloc, stop),
-    }
-}
+impl Codec for Forest {
+    type Reason = TlvReason;
 
-/// The objects of the forest that the octets spell, each before those inside it.
-pub(crate) fn show(alloc: Global, octets: &[u8]) -> Result<Answer, AllocError>
-    ensures { IfOk result (λ answer. Tells whole (IsForest largest) (IsReason largest) reason_text (λ v n. forest_text v) octets.now answer.text answer.status) }
-{
-    match FlatForest::read(alloc, octets, LARGEST_FOREST) {
-        Ok(forest) => Ok(Answer::told(lines(alloc, forest.parts())?)),
-        Err(Refused::Stop(stop)) => Answer::refused(alloc, stop),
-        Err(Refused::Memory) => Err(AllocError),
+    ghost Value = { Tree };
+
+    ghost codec = { λ _. forest_codec };
+
+    ghost named = { λ _. refl };
+
+    fn taken(_alloc: Global, octets: &[u8], _expected: Expected) -> Outcome<usize, TlvReason> {
+        verdict(octets)?;
+        Ok(octets.len())
+    }
+
+    fn shown(alloc: Global, octets: &[u8], _expected: Expected) -> Outcome<String, TlvReason> {
+        let forest = FlatForest::read(alloc, octets, LARGEST_FOREST)?;
+        Ok(lines(alloc, forest.parts())?)
     }
 }
 
 /// The forest that the octets spell, in the shortest octets that say the same.
 pub(crate) fn tidy(alloc: Global, octets: &[u8]) -> Result<Answer, AllocError>
-    ensures { IfOk result (λ answer. Tells whole (IsForest largest) (IsReason largest) reason_text (λ v n. tidied_text v) octets.now answer.text answer.status) }
+    ensures { IfOk result (λ answer. Tells forest_codec (λ v n. tidied_text v) octets.now answer.text answer.status) }
 {
     match decode(alloc, octets, LARGEST_FOREST) {
         Ok(forest) => Ok(Answer::told(tidied(alloc, &forest)?)),

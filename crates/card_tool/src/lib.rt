@@ -2,30 +2,31 @@
 //! the words from the system.
 //!
 //! card_words reads what a command line asks for into a `Request`. `answer_to` makes the text and the status
-//! that a request has, by a module for each kind of octets, one for files of recorded exchanges, which
+//! that a request has, by a module for each kind of octets (a `Codec`), one for files of recorded exchanges, which
 //! `read_whole` reads, and one for simulated sessions, and `run` writes that text. What the text is, is said by
 //! definitions: `IsAnswer` in `specs/Answers.antt`, over card_words' `IsRead`. What exchange_core gives stands
 //! at the root too.
 #![tactic(auto)]
 
-pub mod answer;
-pub mod atr;
-pub mod block;
-pub mod chain;
-pub mod command;
+mod answer;
+mod atr;
+mod block;
+mod chain;
+mod codec;
+mod command;
 mod exchange;
 mod explained;
 pub mod file;
-pub mod forest;
+mod forest;
 pub mod host;
 pub mod laws;
 mod lines;
-pub mod list;
+mod list;
 pub mod program;
-pub mod response;
+mod response;
 mod simulation;
 pub mod status;
-pub mod text;
+mod text;
 
 pub use card_words::Fault;
 pub use exchange_core::{

@@ -1,39 +1,35 @@
 //! What the program says of a data object list.
 
-ghost use Rattle.std.specs.Prelude.{◌≡◌, ◌++◌, List, ℕ, IfOk, OnOk, length, string_bytes};
-ghost use Rattle.octet_core.specs.Grammar.{whole};
-ghost use Rattle.tlv_core.specs.Dol.{IsDol, IsDolReason};
+ghost use Rattle.std.specs.Prelude.{◌≡◌, ◌++◌, List, ℕ, IfOk, OnOk, length, refl, string_bytes};
 ghost use Rattle.tlv_core.specs.Fill.{filled, HasDuplicate};
-ghost use Rattle.card_tool.specs.Answers.{Tells, IsFilled, IsFilledBy};
-ghost use Rattle.card_tool.specs.ListTexts.{dol_text, entries_text, entry_text, filled_text, reason_text};
-ghost use Rattle.card_tool.specs.Texts.{accepted_text};
+ghost use Rattle.card_tool.specs.Answers.{IsFilled, IsFilledBy};
+ghost use Rattle.card_tool.specs.ListTexts.{dol_text, entries_text, entry_text, filled_text, list_codec};
 
 use crate::answer::Answer;
+use crate::codec::{Codec, Outcome};
 use crate::text::octets_word;
-use card_words::{Fault, Knowns};
+use card_words::{Expected, Fault, Knowns};
 use octet_core::{Refused, hex_upper};
 use std::alloc::{AllocError, Global};
-use tlv_core::{Dol, FillFault, Tag};
+use tlv_core::{Dol, DolReason, FillFault, Tag};
 
-/// Whether the octets are a data object list.
-pub(crate) fn check(alloc: Global, octets: &[u8]) -> Result<Answer, AllocError>
-    ensures { IfOk result (λ answer. Tells whole IsDol IsDolReason reason_text (λ v n. accepted_text n) octets.now answer.text answer.status) }
-{
-    match Dol::decode(alloc, octets) {
-        Ok(_) => Answer::accepted(alloc, octets.len()),
-        Err(Refused::Stop(stop)) => Answer::refused(alloc, stop),
-        Err(Refused::Memory) => Err(AllocError),
+impl Codec for Dol {
+    type Reason = DolReason;
+
+    ghost Value = { List (List ℕ × ℕ) };
+
+    ghost codec = { λ _. list_codec };
+
+    ghost named = { λ _. refl };
+
+    fn taken(alloc: Global, octets: &[u8], _expected: Expected) -> Outcome<usize, DolReason> {
+        Dol::decode(alloc, octets)?;
+        Ok(octets.len())
     }
-}
 
-/// The data object list that the octets spell.
-pub(crate) fn show(alloc: Global, octets: &[u8]) -> Result<Answer, AllocError>
-    ensures { IfOk result (λ answer. Tells whole IsDol IsDolReason reason_text (λ v n. dol_text v) octets.now answer.text answer.status) }
-{
-    match Dol::decode(alloc, octets) {
-        Ok(dol) => Ok(Answer::told(lines(alloc, &dol)?)),
-        Err(Refused::Stop(stop)) => Answer::refused(alloc, stop),
-        Err(Refused::Memory) => Err(AllocError),
+    fn shown(alloc: Global, octets: &[u8], _expected: Expected) -> Outcome<String, DolReason> {
+        let dol = Dol::decode(alloc, octets)?;
+        Ok(lines(alloc, &dol)?)
     }
 }
 

@@ -16,10 +16,15 @@ use crate::explained::explained;
 use crate::file::{octets_given, read_whole};
 use crate::lines::check_lines;
 use crate::status::Status;
-use crate::{atr, block, chain, command, exchange, forest, list, response, simulation};
+use crate::{chain, codec, exchange, forest, list, simulation};
+use apdu_core::{Command, Response};
+use atr_core::Atr;
+use block_core::Block;
 use card_words::{Expected, Fault, Kind, Request, asks_to_explain};
+use chain_core::Receiver;
 use octet_core::{Sink, Source, write_octets};
 use std::alloc::{AllocError, Global};
+use tlv_core::{Dol, Forest};
 
 /// Does what the words ask for, of which the first is the program's name, and writes one text: with an
 /// explanation after it where they have `--explain`, which is left out where memory for it is refused.
@@ -180,13 +185,13 @@ pub(crate) fn check(alloc: Global, expected: Expected, octets: &[u8]) -> Result<
     ensures { IfOk result (λ answer. Checks expected.kind expected octets.now answer.text answer.status) }
 {
     match expected.kind {
-        Kind::Atr => atr::check(alloc, octets),
-        Kind::Block => block::check(alloc, octets, expected.ifs),
-        Kind::Chain => chain::check(alloc, octets, expected.ifs, expected.number),
-        Kind::Command => command::check(alloc, octets),
-        Kind::Response => response::check(alloc, octets),
-        Kind::Tlv => forest::check(alloc, octets),
-        Kind::Dol => list::check(alloc, octets),
+        Kind::Atr => codec::check::<Atr>(alloc, octets, expected),
+        Kind::Block => codec::check::<Block>(alloc, octets, expected),
+        Kind::Chain => codec::check::<Receiver>(alloc, octets, expected),
+        Kind::Command => codec::check::<Command>(alloc, octets, expected),
+        Kind::Response => codec::check::<Response>(alloc, octets, expected),
+        Kind::Tlv => codec::check::<Forest>(alloc, octets, expected),
+        Kind::Dol => codec::check::<Dol>(alloc, octets, expected),
     }
 }
 
@@ -197,12 +202,12 @@ pub(crate) fn show(alloc: Global, expected: Expected, octets: &[u8]) -> Result<A
     ensures { IfOk result (λ answer. Shows expected.kind expected octets.now answer.text answer.status) }
 {
     match expected.kind {
-        Kind::Atr => atr::show(alloc, octets),
-        Kind::Block => block::show(alloc, octets, expected.ifs),
-        Kind::Chain => chain::show(alloc, octets, expected.ifs, expected.number),
-        Kind::Command => command::show(alloc, octets),
-        Kind::Response => response::show(alloc, octets),
-        Kind::Tlv => forest::show(alloc, octets),
-        Kind::Dol => list::show(alloc, octets),
+        Kind::Atr => codec::show::<Atr>(alloc, octets, expected),
+        Kind::Block => codec::show::<Block>(alloc, octets, expected),
+        Kind::Chain => codec::show::<Receiver>(alloc, octets, expected),
+        Kind::Command => codec::show::<Command>(alloc, octets, expected),
+        Kind::Response => codec::show::<Response>(alloc, octets, expected),
+        Kind::Tlv => codec::show::<Forest>(alloc, octets, expected),
+        Kind::Dol => codec::show::<Dol>(alloc, octets, expected),
     }
 }

@@ -1,35 +1,33 @@
 //! What the program says of a response.
 
-ghost use Rattle.std.specs.Prelude.{◌≡◌, IfOk, length, string_bytes};
-ghost use Rattle.octet_core.specs.Grammar.{whole};
-ghost use Rattle.apdu_core.specs.Response.{IsResponse, IsReason};
-ghost use Rattle.card_tool.specs.Answers.{Tells};
-ghost use Rattle.card_tool.specs.ResponseTexts.{class_text, name_of, reason_text, response_text};
-ghost use Rattle.card_tool.specs.Texts.{accepted_text};
+ghost use Rattle.std.specs.Prelude.{◌≡◌, IfOk, refl, string_bytes};
+ghost use Rattle.apdu_core.specs.Response.{ResponseParts};
+ghost use Rattle.card_tool.specs.ResponseTexts.{class_text, name_of, response_codec, response_text};
 
-use crate::answer::Answer;
+use crate::codec::{Codec, Outcome};
 use crate::text::octets_word;
-use apdu_core::{ResponseRef, StatusClass, status_class};
+use apdu_core::{Response, ResponseReason, ResponseRef, StatusClass, status_class};
+use card_words::Expected;
 use octet_core::hex_upper;
 use std::alloc::{AllocError, Global};
 
-/// Whether the octets are a response.
-pub(crate) fn check(alloc: Global, octets: &[u8]) -> Result<Answer, AllocError>
-    ensures { IfOk result (λ answer. Tells whole IsResponse IsReason reason_text (λ v n. accepted_text n) octets.now answer.text answer.status) }
-{
-    match ResponseRef::decode(octets) {
-        Ok(_) => Answer::accepted(alloc, octets.len()),
-        Err(stop) => Answer::refused(alloc, stop),
-    }
-}
+impl Codec for Response {
+    type Reason = ResponseReason;
 
-/// The response that the octets are.
-pub(crate) fn show(alloc: Global, octets: &[u8]) -> Result<Answer, AllocError>
-    ensures { IfOk result (λ answer. Tells whole IsResponse IsReason reason_text (λ v n. response_text v) octets.now answer.text answer.status) }
-{
-    match ResponseRef::decode(octets) {
-        Ok(response) => Ok(Answer::told(lines(alloc, &response)?)),
-        Err(stop) => Answer::refused(alloc, stop),
+    ghost Value = { ResponseParts };
+
+    ghost codec = { λ _. response_codec };
+
+    ghost named = { λ _. refl };
+
+    fn taken(_alloc: Global, octets: &[u8], _expected: Expected) -> Outcome<usize, ResponseReason> {
+        ResponseRef::decode(octets)?;
+        Ok(octets.len())
+    }
+
+    fn shown(alloc: Global, octets: &[u8], _expected: Expected) -> Outcome<String, ResponseReason> {
+        let response = ResponseRef::decode(octets)?;
+        Ok(lines(alloc, &response)?)
     }
 }
 

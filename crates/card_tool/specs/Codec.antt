@@ -1,0 +1,24 @@
+-- What the octets of a kind are to the program.
+use Rattle.std.specs.Prelude.{ℕ, List}
+use Rattle.octet_core.specs.Grammar.{Ending, Accepts, Refuses, RefusesUnlessMemory}
+use Rattle.octet_core.specs.declared.stop.Refused.{Refused}
+use Rattle.octet_core.specs.declared.stop.Stop.{Stop}
+
+-- where a value V ends, which octets spell it, why octets are refused, the names of these reasons R, and the lines that
+-- a value is shown by
+pub record Codec (V R : Type 0) : Type 1 where
+  pub ending : Ending
+  pub Spells : V → List ℕ → Type 0
+  pub IsReason : R → List ℕ → Type 0
+  pub name : R → List ℕ
+  pub lines : V → List ℕ
+
+-- the first n octets of b spell v
+abbrev pub Takes : {V R : Type 0} → Codec V R → List ℕ → V → ℕ → Type 0
+Takes c b v n = Accepts c.ending c.Spells b v n
+
+abbrev pub Stops : {V R : Type 0} → Codec V R → List ℕ → Stop R → Type 0
+Stops c b stop = Refuses c.ending c.Spells c.IsReason b stop
+
+abbrev pub StopsUnlessMemory : {V R : Type 0} → Codec V R → List ℕ → Refused R → Type 0
+StopsUnlessMemory c b refused = RefusesUnlessMemory c.ending c.Spells c.IsReason b refused
