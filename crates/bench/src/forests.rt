@@ -1,5 +1,7 @@
 //! Forests of data objects, checked and read.
 
+ghost use Rattle.std.specs.Prelude.{◌<◌, length};
+
 use crate::work::Work;
 use std::alloc::Global;
 use std::io::{self, ErrorKind};
@@ -7,30 +9,37 @@ use std::time::Instant;
 use tlv_core::{FlatForest, ForestCheck, ForestReader, LARGEST_FOREST};
 
 /// Four objects at three depths, in 18 octets.
-const OBJECTS: [u8; 18] = [
+pub(crate) const OBJECTS: [u8; 18] = [
     0x70, 0x10, 0x5A, 0x06, 0x12, 0x34, 0x56, 0x78, 0x90, 0x12, 0x70, 0x06, 0x9F, 0x02, 0x03, 0x00,
     0x10, 0x00,
 ];
 
+/// A primitive object with a value of six octets.
+const OBJECT: [u8; 9] = [0x9F, 0x02, 0x06, 0x00, 0x00, 0x00, 0x12, 0x34, 0x56];
+
 /// A primitive object whose value has 60,000 octets begins so.
 const LARGE: [u8; 4] = [0x5A, 0x82, 0xEA, 0x60];
 
-/// Judges forests of many small and of few large objects, of 64 KiB and of 1 MiB.
+/// Judges forests of many small and of few large objects, of 64 KiB and of 1 MiB, and a flat one of 370
+/// small objects.
 pub(crate) fn judge_each(rt: &HostRuntime, timed: bool) -> io::Result<()> {
     for size in [65_536, LARGEST_FOREST] {
-        let many = many(rt.alloc(), size)?;
+        let many = many(rt.alloc(), &OBJECTS, size)?;
         judge(rt, timed, "many objects", many.as_slice())?;
         let large = large(rt.alloc(), size)?;
         judge(rt, timed, "large objects", large.as_slice())?;
     }
-    Ok(())
+    let flat = many(rt.alloc(), &OBJECT, 370 * OBJECT.len())?;
+    judge(rt, timed, "flat objects", flat.as_slice())
 }
 
-/// Small objects, nested, in at most so many octets.
-fn many(alloc: Global, size: usize) -> io::Result<Vec<u8>> {
+/// The same objects again and again, in at most so many octets.
+pub(crate) fn many(alloc: Global, objects: &[u8], size: usize) -> io::Result<Vec<u8>>
+    requires { 0 < length objects.now }
+{
     let mut octets = Vec::new(alloc);
-    for _ in 0..size / OBJECTS.len() {
-        octets.extend_from_slice(&OBJECTS)?;
+    for _ in 0..size / objects.len() {
+        octets.extend_from_slice(objects)?;
     }
     Ok(octets)
 }

@@ -12,6 +12,7 @@ mod chains;
 mod exchanges;
 mod forests;
 mod lines;
+mod pieces;
 mod session;
 mod work;
 
@@ -24,6 +25,7 @@ fn main(rt: HostRuntime) -> io::Result<()> {
     chains::carry_each(&rt, timed)?;
     apdus::decode_each(&rt, timed)?;
     forests::judge_each(&rt, timed)?;
+    pieces::check_each(&rt, timed)?;
     session::exchange_each(&rt, timed)?;
     buffers::exchange_each(&rt, timed)?;
     lines::exchange_each(&rt, timed)?;

@@ -1,46 +1,30 @@
 -- The parts of a forest so far, as objects with a short header are taken at once.
-use Rattle.std.proofs.Common.{◌≡◌, ℕ, ◌+◌, ◌-◌, ◌<◌, ◌≤◌, List, [], ◌∷◌, ◌++◌, length, take, drop, refl, sym, ap, subst, ◌∙◌, arith, Bool, true, false, cond, zero, suc, append-nil, append_assoc}
+use Rattle.std.proofs.Common.{◌≡◌, ℕ, ◌+◌, ◌<◌, ◌≤◌, List, [], ◌∷◌, ◌++◌, length, take, drop, refl, sym, ap, subst, ◌∙◌, arith, Bool, true, false, cond, zero, suc, append-nil}
 use Rattle.std.specs.Prelude.{map, None}
 use Rattle.std.proofs.lemmas.List.{length-take, length-drop, map-append}
-use Rattle.std.proofs.Math.Seq.{take-add}
 use Rattle.octet_core.specs.Octets.{AreOctets}
 use Rattle.octet_core.proofs.Lists.{octets-take, octets-drop}
 use Rattle.tlv_core.specs.declared.form.Form.{Form}
 use Rattle.tlv_core.specs.declared.part.Part.{Part}
 use Rattle.tlv_core.specs.declared.short.ShortHeader.{ShortHeader}
-use Rattle.tlv_core.specs.Form.{capacity}
-use Rattle.tlv_core.specs.Tag.{IsTag, constructed_bit, header_of}
+use Rattle.tlv_core.specs.Tag.{constructed_bit, header_of}
 use Rattle.tlv_core.specs.Tree.{Tree, End, Primitive, Constructed}
-use Rattle.tlv_core.specs.Forest.{spelling, IsProper, IsObject, deepest}
+use Rattle.tlv_core.specs.Forest.{spelling, IsProper, IsObject}
 use Rattle.tlv_core.specs.Parts.{Placed, preorder, value_place}
-use Rattle.tlv_core.specs.Reasons.{Kept, HasTaken, room_of}
+use Rattle.tlv_core.specs.Reasons.{Kept, HasTaken}
 use Rattle.tlv_core.specs.Short.{MayCome, taken_of, opened, after_short}
 use Rattle.tlv_core.specs.Steps.{spent}
-use Rattle.tlv_core.specs.Grown.{Opened, Grown, AreOpen, HasGrown}
+use Rattle.tlv_core.specs.Grown.{Opened, Grown, HasGrown}
 use Rattle.tlv_core.specs.Flat.{PartValue, part_in, placed_at, placed_list, placed, IsKeptPart, HasFlat}
 use Rattle.tlv_core.proofs.One.{join}
-use Rattle.tlv_core.proofs.Stands.{FitsIn, fits_need}
-use Rattle.tlv_core.proofs.Steps.{fits_more}
-use Rattle.tlv_core.proofs.Taken.{held_of}
 use Rattle.tlv_core.proofs.Ends.{kept}
 use Rattle.tlv_core.proofs.Fed.{take_taken_more}
-use Rattle.tlv_core.proofs.Shorts.{short_taken}
-use Rattle.tlv_core.proofs.Growing.{item_grown, all_stay, open_last, open_length}
-use Rattle.tlv_core.proofs.Grows.{AtHeader, at_header, step_fits}
+use Rattle.tlv_core.proofs.Shorts.{primitive_spelled, short_taken}
+use Rattle.tlv_core.proofs.Entering.{Fits, item_added, open_added, short_fits}
+use Rattle.tlv_core.proofs.Growing.{open_length}
 use Rattle.tlv_core.proofs.Placing.{inner_place, inner_place-is, inside, placed-more, placed-last, preorder-join}
 use Rattle.tlv_core.proofs.Flattening.{Grew, All, closed_grew, none_placed}
 use Rattle.tlv_core.proofs.Walked.{flat_grew}
-
--- after these octets a header of m octets fits that says n
-record Fits (b : List ℕ) (k : Kept) (m n : ℕ) (tag : List ℕ) (form : Form) (outer : List Opened) (list : Tree) : Type 0 where
-  none : k.header ≡ []
-  count : length b ≡ k.count
-  deep : 1 + length k.rooms ≤ deepest
-  is_tag : IsTag tag
-  small : n < capacity form
-  len : length (header_of tag form n) ≡ m
-  fits : FitsIn (k.max - length b) k.rooms (m + n)
-  at : AtHeader b k outer list
 
 -- its object, at the depth of the innermost list
 abbrev pub added : Kept → ℕ → ℕ → List ℕ → Form → List Placed
@@ -68,12 +52,11 @@ item_placed list item tag form n d place one =
 item_grew : (b : List ℕ) (k : Kept) (m n taken : ℕ) (add tag : List ℕ) (form : Form) (outer : List Opened) (list item : Tree) → Fits b k m n tag form outer list → taken ≤ m + n → length add ≡ taken → add ≡ spelling item → IsProper (1 + length k.rooms) item
     → ((d at : ℕ) → preorder d at item ≡ placed_at d at tag form n ∷ []) → Grew (b ++ add) (kept k.max (k.count + taken) (spent taken k.rooms ++ []) [] 0) (All outer list ++ added k m n tag form)
 item_grew b k m n taken add tag form outer list item h le len is proper one =
-    let fits : FitsIn (k.max - length b) k.rooms taken = fits_more (k.max - length b) k.rooms (m + n) taken h.fits (omega (arith, le, fits_need k.rooms (k.max - length b) (m + n) h.fits)) in
     let d = 1 + length outer in
     let place = inner_place 0 outer in
     let p = placed_at d (place + length (spelling list)) tag form n ∷ [] in
     let all = placed-more outer 1 0 (placed_list (join list item) None) (placed_list list None) p (item_placed list item tag form n d place (one d)) in
-    let some = item_grown outer k.rooms list k.header b taken (k.max - length b) add item h.at.opened_yet h.at.proper len fits (ap (λ (l : List ℕ). l ++ add) h.none ∙ is) proper in
+    let some = item_added b k m n taken add tag form outer list item h le len is proper in
     subst (λ (rooms : List ℕ). Grew (b ++ add) (kept k.max (k.count + taken) rooms [] 0) (All outer list ++ added k m n tag form)) (sym (append-nil (spent taken k.rooms)))
     (
     closed_grew (b ++ add) (kept k.max (k.count + taken) (spent taken k.rooms) [] 0) outer (join list item) (All outer list ++ added k m n tag form) refl refl some
@@ -89,14 +72,9 @@ open_grew b k m n add tag form outer list h some len is bit =
     let place = inner_place 0 outer in
     let p = placed_at d (place + length (spelling list)) tag form n ∷ [] in
     let all = placed-more outer 1 0 (inside q (placed_list End None)) (placed_list list None) p (ap (λ (l : List Placed). l ++ p) (sym (append-nil (preorder d place list)))) in
-    let s = all_stay outer k.rooms (spelling list ++ k.header) b m (k.max - length b) n add h.at.opened_yet len some h.fits in
-    let octets : (spelling list ++ k.header) ++ add ≡ spelling list ++ header_of tag form n = append_assoc (spelling list) k.header add ∙ ap (λ (l : List ℕ). spelling list ++ l) (ap (λ (l : List ℕ). l ++ add) h.none ∙ is) in
-    let object : IsObject (1 + length k.rooms) 1 tag form n = record { depth = h.deep; is_tag = h.is_tag; is_bit = bit; fits = h.small } in
-    let proper_now : IsProper (1 + length (spent m k.rooms)) list = subst (λ (j : ℕ). IsProper (1 + j) list) (sym s.level) h.at.proper in
-    let object_now : IsObject (1 + length (spent m k.rooms)) 1 tag form n = subst (λ (j : ℕ). IsObject (1 + j) 1 tag form n) (sym s.level) object in
     record {
       tree = record { opened = outer ++ q ∷ []; list = End; value = None };
-      grown = record { opened = open_last outer (spent m k.rooms) 1 q (b ++ add) proper_now object_now (subst (λ (l : List ℕ). AreOpen 1 outer (spent m k.rooms) l (b ++ add)) octets s.opened_yet); proper = tt; under = refl };
+      grown = open_added b k m n add tag form outer list h some len is bit;
       placed_is = placed-last outer 1 0 q (placed_list End None) ∙ all ∙ ap (λ (l : List Placed). All outer list ++ l) (object_at b k m n tag form outer list h);
     }
 
@@ -107,9 +85,7 @@ kind_grew b octets k m n false tag form outer list h are bit inside is =
     let value : List ℕ = take n (drop m octets) in
     let len : length value ≡ n = omega (arith, length-take n (drop m octets), length-drop m octets) in
     let object : IsObject (1 + length k.rooms) 0 tag form n = record { depth = h.deep; is_tag = h.is_tag; is_bit = bit; fits = h.small } in
-    let octets_is : take (m + n) octets ≡ spelling (Primitive tag form value End) =
-    take-add m n octets ∙ ap (λ (l : List ℕ). l ++ value) (is ∙ ap (header_of tag form) (sym len)) ∙ ap (λ (l : List ℕ). header_of tag form (length value) ++ l) (sym (append-nil value)) in
-    item_grew b k m n (m + n) (take (m + n) octets) tag form outer list (Primitive tag form value End) h (omega arith) (omega (arith, length-take (m + n) octets)) octets_is
+    item_grew b k m n (m + n) (take (m + n) octets) tag form outer list (Primitive tag form value End) h (omega arith) (omega (arith, length-take (m + n) octets)) (primitive_spelled octets m n tag form inside is)
     (subst (IsObject (1 + length k.rooms) 0 tag form) (sym len) object, octets-take n (drop m octets) (octets-drop m octets are), tt) (λ d at. ap (λ (j : ℕ). placed_at d at tag form j ∷ []) len)
 kind_grew b octets k m zero true tag form outer list h are bit inside is =
     let object : IsObject (1 + length k.rooms) 1 tag form 0 = record { depth = h.deep; is_tag = h.is_tag; is_bit = bit; fits = h.small } in
@@ -122,22 +98,9 @@ at_once_grew : (b octets : List ℕ) (k : Kept) (o : ShortHeader) (g : Grown) �
     → Grew (b ++ take (taken_of o) octets) (after_short k o) (placed g ++ added k o.header o.len (take o.tag octets) o.form)
 at_once_grew b octets k o g taken may are h =
     let short = may.short in
-    let tag = take o.tag octets in
-    let len : length (header_of tag o.form o.len) ≡ o.header = omega (arith, ap length short.is, length-take o.header octets, short.within) in
-    let room : o.header + o.len ≤ room_of (k.max - length b) k.rooms = subst (λ (c : ℕ). o.header + o.len ≤ room_of (k.max - c) k.rooms) (sym taken.count) may.room in
-    let fits : Fits b k o.header o.len tag o.form g.opened g.list =
-    record {
-      none = may.nothing;
-      count = taken.count;
-      deep = omega (arith, may.shallow);
-      is_tag = short.is_tag;
-      small = short.fits;
-      len = len;
-      fits = step_fits b k (held_of b k taken) (o.header + o.len) room;
-      at = at_header b k g h may.idle;
-    } in
-    subst (λ (l : List Placed). Grew (b ++ take (taken_of o) octets) (after_short k o) (l ++ added k o.header o.len tag o.form)) (sym (none_placed b k g h may.idle))
-    (kind_grew b octets k o.header o.len o.is_constructed tag o.form g.opened g.list fits are short.bit may.here short.is)
+    let fits = short_fits b octets k o g taken may h in
+    subst (λ (l : List Placed). Grew (b ++ take (taken_of o) octets) (after_short k o) (l ++ added k o.header o.len (take o.tag octets) o.form)) (sym (none_placed b k g h may.idle))
+    (kind_grew b octets k o.header o.len o.is_constructed (take o.tag octets) o.form g.opened g.list fits are short.bit may.here short.is)
 
 -- the parts so far, with that of the object
 pub flat_at_once : (b : List ℕ) (k : Kept) (old new : List Part) (o : ShortHeader) → AreOctets b → MayCome k (drop k.count b) o

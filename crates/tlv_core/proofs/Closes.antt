@@ -13,13 +13,13 @@ use Rattle.tlv_core.specs.Tree.{Tree, End}
 use Rattle.tlv_core.specs.Forest.{spelling}
 use Rattle.tlv_core.specs.Nodes.{tree_of}
 use Rattle.tlv_core.specs.Reasons.{Kept}
-use Rattle.tlv_core.specs.Grown.{Opened, ValueSoFar, HasGrown, Closing}
-use Rattle.tlv_core.specs.Read.{opened_of, value_of, grown_of, IsEmptyNode}
+use Rattle.tlv_core.specs.Grown.{Opened, HasGrown, Closing}
+use Rattle.tlv_core.specs.Read.{opened_of, value_of, grown_of, entering, IsWholeNode}
 use Rattle.tlv_core.proofs.One.{join}
 use Rattle.tlv_core.proofs.Listed.{tree-append}
 use Rattle.tlv_core.proofs.Stands.{length-zeros}
 use Rattle.tlv_core.proofs.Growing.{ClosingSome, open_length, close_one, closed_list, closing_done}
-use Rattle.tlv_core.proofs.Grows.{IsEmptyItem}
+use Rattle.tlv_core.proofs.Grows.{IsWholeItem}
 
 -- some of the objects are closed, and as many more can be
 pub record ClosesOn (b rooms : List ℕ) (opened : List OpenObject) (list : List Node) : Type 0 where
@@ -57,17 +57,18 @@ item_done b k old new y item item_is none z idle h close =
     let before = subst (Closing b k.rooms h.closed (map opened_of old.opened.items)) tree h.closing in
     subst (λ (v : Option OpenValue). HasGrown b k (record { opened = map opened_of new.opened.items; list = tree_of new.list.items; value = value_of v })) (sym idle) (closing_done b k (map opened_of new.opened.items) (tree_of new.list.items) none z (close h.closed before))
 
-pub empty_tree : (h : ObjectHeader) (y : Node) → IsEmptyNode h y → IsEmptyItem h (tree_of (y ∷ []))
-empty_tree h y (inl e) = inl (e.0, ap (λ (n : Node). tree_of (n ∷ [])) e.1)
-empty_tree h y (inr e) = inr (e.0, ap (λ (n : Node). tree_of (n ∷ [])) e.1)
+pub whole_tree : (h : ObjectHeader) (value : List ℕ) (y : Node) → IsWholeNode h value y → IsWholeItem h value (tree_of (y ∷ []))
+whole_tree h value y (inl e) = inl (e.0, ap (λ (n : Node). tree_of (n ∷ [])) e.1)
+whole_tree h value y (inr e) = inr (e.0, ap (λ (n : Node). tree_of (n ∷ [])) e.1)
 
 -- an object is open after the others
-pub open_done : (b : List ℕ) (k : Kept) (before now : List OpenObject) (o : OpenObject) (list list_now : List Node) (value : Option OpenValue) → now ≡ before ++ o ∷ [] → o.before.items ≡ list → list_now ≡ [] → value_of value ≡ None
-    → HasGrown b k (record { opened = map opened_of before ++ record { before = tree_of list; tag = o.header.tag; form = o.header.form; len = o.header.len } ∷ []; list = End; value = None })
-    → HasGrown b k (record { opened = map opened_of now; list = tree_of list_now; value = value_of value })
-open_done b k before now o list list_now value is list_is none idle h =
-    let all : map opened_of before ++ record { before = tree_of list; tag = o.header.tag; form = o.header.form; len = o.header.len } ∷ [] ≡ map opened_of now =
-    ap (λ (l : List Node). map opened_of before ++ record { before = tree_of l; tag = o.header.tag; form = o.header.form; len = o.header.len } ∷ []) (sym list_is) ∙ sym (map-append opened_of before (o ∷ [])) ∙ ap (map opened_of) (sym is) in
-    subst (λ (l : List Opened). HasGrown b k (record { opened = l; list = tree_of list_now; value = value_of value })) all
-    (subst (λ (l : List Node). HasGrown b k (record { opened = map opened_of before ++ record { before = tree_of list; tag = o.header.tag; form = o.header.form; len = o.header.len } ∷ []; list = tree_of l; value = value_of value })) (sym none)
-    (subst (λ (v : Option ValueSoFar). HasGrown b k (record { opened = map opened_of before ++ record { before = tree_of list; tag = o.header.tag; form = o.header.form; len = o.header.len } ∷ []; list = End; value = v })) (sym idle) h))
+pub open_done : (old : Partial) (now : List OpenObject) (o : OpenObject) (list : List Node) (value : Option OpenValue) → old.value ≡ None → value ≡ old.value → now ≡ old.opened.items ++ o ∷ [] → o.before.items ≡ old.list.items → list ≡ []
+    → record { opened = map opened_of now; list = tree_of list; value = value_of value } ≡ entering (grown_of old) o.header
+open_done old now o list value idle same is list_is none =
+    let g = grown_of old in
+    let h = o.header in
+    let all : map opened_of now ≡ map opened_of old.opened.items ++ record { before = tree_of old.list.items; tag = h.tag; form = h.form; len = h.len } ∷ [] =
+    ap (map opened_of) is ∙ map-append opened_of old.opened.items (o ∷ []) ∙ ap (λ (l : List Node). map opened_of old.opened.items ++ record { before = tree_of l; tag = h.tag; form = h.form; len = h.len } ∷ []) list_is in
+    ap (λ (l : List Opened). record { opened = l; list = tree_of list; value = value_of value }) all
+    ∙ ap (λ (l : List Node). record { opened = (entering g h).opened; list = tree_of l; value = value_of value }) none
+    ∙ ap (λ (v : Option OpenValue). record { opened = (entering g h).opened; list = End; value = value_of v }) (same ∙ idle)

@@ -79,11 +79,11 @@ at_object b k x o taken z step =
 pub object_is : (b : List ℕ) (k : Kept) (x : ℕ) (o : ObjectHeader) (bit : ℕ) → AtObject b k x o → IsStep k x (next.Object o) → constructed_bit o.tag ≡ bit → IsObject (1 + length k.rooms) bit o.tag o.form o.len
 object_is b k x o bit at step e = record { depth = at.deep; is_tag = step.follows.0; is_bit = e; fits = step.follows.1 }
 
--- an object whose value is empty
-abbrev pub IsEmptyItem : ObjectHeader → Tree → Type 0
-IsEmptyItem o item = ((constructed_bit o.tag ≡ 0) × (item ≡ Primitive o.tag o.form [] End)) ⊎ ((constructed_bit o.tag ≡ 1) × (item ≡ Constructed o.tag o.form End End))
+-- an object that is whole: a primitive one with this value, or a constructed one that is empty
+abbrev pub IsWholeItem : ObjectHeader → List ℕ → Tree → Type 0
+IsWholeItem o value item = ((constructed_bit o.tag ≡ 0) × (item ≡ Primitive o.tag o.form value End)) ⊎ ((constructed_bit o.tag ≡ 1) × (item ≡ Constructed o.tag o.form End End))
 
-empty_item : (d : ℕ) (o : ObjectHeader) (item : Tree) → IsEmptyItem o item → ((bit : ℕ) → constructed_bit o.tag ≡ bit → IsObject d bit o.tag o.form 0) → IsProper d item × (header_of o.tag o.form 0 ≡ spelling item)
+empty_item : (d : ℕ) (o : ObjectHeader) (item : Tree) → IsWholeItem o [] item → ((bit : ℕ) → constructed_bit o.tag ≡ bit → IsObject d bit o.tag o.form 0) → IsProper d item × (header_of o.tag o.form 0 ≡ spelling item)
 empty_item d o item (inl e) object = (
   subst (IsProper d) (sym e.1) (object 0 e.0, octets_nil, tt),
   sym (append-nil (header_of o.tag o.form 0)) ∙ ap spelling (sym e.1),
@@ -93,7 +93,7 @@ empty_item d o item (inr e) object = (
   sym (append-nil (header_of o.tag o.form 0)) ∙ ap spelling (sym e.1),
 )
 
-pub empty_grown : (b : List ℕ) (k : Kept) (x : ℕ) (o : ObjectHeader) (item : Tree) (opened : List Opened) (list : Tree) → HasTaken b k → k.value_left ≡ 0 → IsStep k x (next.Object o) → o.len ≡ 0 → IsEmptyItem o item → AtHeader b k opened list
+pub empty_grown : (b : List ℕ) (k : Kept) (x : ℕ) (o : ObjectHeader) (item : Tree) (opened : List Opened) (list : Tree) → HasTaken b k → k.value_left ≡ 0 → IsStep k x (next.Object o) → o.len ≡ 0 → IsWholeItem o [] item → AtHeader b k opened list
     → ClosingSome (b ++ x ∷ []) (spent 1 k.rooms) opened (join list item)
 empty_grown b k x o item opened list taken z step none is h =
     let at = at_object b k x o taken z step in

@@ -31,6 +31,7 @@ pub mod Placing
 pub mod Flattening
 pub mod Valued
 pub mod Walked
+pub mod Entering
 pub mod AtOnce
 pub mod Closes
 pub mod Reading

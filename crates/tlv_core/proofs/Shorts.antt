@@ -40,15 +40,20 @@ ready b k h empty z =
     let under = held_header k (1 + length k.rooms) k.max (length b) k.rooms s.under s.ok s.is z in
     record { held = s; none = sym under.header ∙ empty }
 
+-- the octets of a primitive object
+pub primitive_spelled : (octets : List ℕ) (m n : ℕ) (tag : List ℕ) (form : Form) → m + n ≤ length octets → take m octets ≡ header_of tag form n → take (m + n) octets ≡ spelling (Primitive tag form (take n (drop m octets)) End)
+primitive_spelled octets m n tag form inside is =
+    let value : List ℕ = take n (drop m octets) in
+    let len : length value ≡ n = omega (arith, length-take n (drop m octets), length-drop m octets) in
+    take-add m n octets ∙ ap (λ (l : List ℕ). l ++ value) (is ∙ ap (header_of tag form) (sym len)) ∙ ap (λ (l : List ℕ). header_of tag form (length value) ++ l) (sym (append-nil value))
+
 primitive_taken : (b octets : List ℕ) (k : Kept) (m n : ℕ) (tag : List ℕ) (form : Form) → Ready b k → AreOctets octets → 1 + length k.rooms ≤ deepest → IsTag tag → constructed_bit tag ≡ 0 → n < capacity form → m + n ≤ length octets → take m octets ≡ header_of tag form n
     → m + n ≤ room_of (k.max - k.count) k.rooms → HasTaken (b ++ take (m + n) octets) (after k (m + n) (spent (m + n) k.rooms ++ []))
 primitive_taken b octets k m n tag form r are deep is_tag bit small inside is room =
     let value : List ℕ = take n (drop m octets) in
     let len : length value ≡ n = omega (arith, length-take n (drop m octets), length-drop m octets) in
     let object : IsObject (1 + length k.rooms) 0 tag form n = record { depth = deep; is_tag = is_tag; is_bit = bit; fits = small } in
-    let octets_is : take (m + n) octets ≡ spelling (Primitive tag form value End) =
-    take-add m n octets ∙ ap (λ (l : List ℕ). l ++ value) (is ∙ ap (header_of tag form) (sym len)) ∙ ap (λ (l : List ℕ). header_of tag form (length value) ++ l) (sym (append-nil value)) in
-    let whole : under_octets r.held.under ++ take (m + n) octets ≡ spelling (Primitive tag form value End) = ap (λ (l : List ℕ). l ++ take (m + n) octets) r.none ∙ octets_is in
+    let whole : under_octets r.held.under ++ take (m + n) octets ≡ spelling (Primitive tag form value End) = ap (λ (l : List ℕ). l ++ take (m + n) octets) r.none ∙ primitive_spelled octets m n tag form inside is in
     subst (λ (l : List ℕ). HasTaken (b ++ take (m + n) octets) (after k (m + n) l)) (sym (append-nil (spent (m + n) k.rooms)))
     (
     taken_item b k (m + n) (take (m + n) octets) r.held (Primitive tag form value End) (omega (arith, length-take (m + n) octets)) (subst (λ (c : ℕ). m + n ≤ room_of (k.max - c) k.rooms) (held_count b k r.held) room)

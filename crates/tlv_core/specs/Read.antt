@@ -1,5 +1,6 @@
 -- What a reader of forests that come in pieces keeps.
-use Rattle.std.specs.Prelude.{◌≡◌, ◌≤◌, ◌⊎◌, ℕ, ◌+◌, List, [], ◌++◌, length, take, map, Option, Some, None}
+use Rattle.std.specs.Prelude.{◌≡◌, ◌≤◌, ◌⊎◌, ℕ, ◌+◌, List, [], ◌∷◌, ◌++◌, length, take, map, Option, Some, None}
+use Rattle.octet_core.specs.Octets.{AreOctets}
 use Rattle.octet_core.specs.Grammar.{RefusesAt, whole}
 use Rattle.octet_core.specs.declared.stop.Stop.{Stop}
 use Rattle.octet_core.specs.declared.stop.Stop.TheVariants.{At}
@@ -13,12 +14,14 @@ use Rattle.tlv_core.specs.declared.reason.TlvReason.{TlvReason}
 use Rattle.tlv_core.specs.declared.reason.Refusal.{Refusal}
 use Rattle.tlv_core.specs.declared.header.ObjectHeader.{ObjectHeader}
 use Rattle.tlv_core.specs.declared.header.Next.{Next}
+use Rattle.tlv_core.specs.declared.short.ShortHeader.{ShortHeader}
 use Rattle.tlv_core.specs.declared.node.Node.{Node}
 use Rattle.tlv_core.specs.declared.node.Node.TheVariants as node
 use Rattle.tlv_core.specs.Tag.{constructed_bit}
 use Rattle.tlv_core.specs.Tree.{End}
 use Rattle.tlv_core.specs.Forest.{IsForest}
 use Rattle.tlv_core.specs.Steps.{IsStep}
+use Rattle.tlv_core.specs.Short.{MayCome}
 use Rattle.tlv_core.specs.Progress.{kept_of}
 use Rattle.tlv_core.specs.Nodes.{tree_of}
 use Rattle.tlv_core.specs.Reasons.{Kept, HasTaken, IsReason}
@@ -51,9 +54,20 @@ pub record TakesNext (b : List ℕ) (k : Kept) (x : ℕ) (next : Next) (g : Grow
   pub step : IsStep k x next
   pub grown : HasGrown b k g
 
--- an object with this header, whose value is empty
-abbrev pub IsEmptyNode : ObjectHeader → Node → Type 0
-IsEmptyNode o y = ((constructed_bit o.tag ≡ 0) × (y ≡ node.Primitive o.tag o.form [])) ⊎ ((constructed_bit o.tag ≡ 1) × (y ≡ node.Constructed o.tag o.form End))
+-- the same where an object with this short header comes, at the front of the octets
+pub record TakesShort (b : List ℕ) (k : Kept) (octets : List ℕ) (o : ShortHeader) (g : Grown) : Type 0 where
+  pub taken : HasTaken b k
+  pub are : AreOctets octets
+  pub may : MayCome k octets o
+  pub grown : HasGrown b k g
+
+-- with one object more that is open, after the innermost list
+abbrev pub entering : Grown → ObjectHeader → Grown
+entering g o = record { opened = g.opened ++ record { before = g.list; tag = o.tag; form = o.form; len = o.len } ∷ []; list = End; value = None }
+
+-- an object with this header: a primitive one with this value, or a constructed one that is empty
+abbrev pub IsWholeNode : ObjectHeader → List ℕ → Node → Type 0
+IsWholeNode o value y = ((constructed_bit o.tag ≡ 0) × (y ≡ node.Primitive o.tag o.form value)) ⊎ ((constructed_bit o.tag ≡ 1) × (y ≡ node.Constructed o.tag o.form End))
 
 -- ---- the reader
 

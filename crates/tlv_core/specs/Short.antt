@@ -1,5 +1,5 @@
 -- Objects with a short header: a tag of one octet or two, and a length field of at most three.
-use Rattle.std.specs.Prelude.{◌≡◌, ℕ, ◌+◌, ◌-◌, ◌<◌, ◌≤◌, List, [], ◌∷◌, ◌++◌, length, take, Bool, true, false, cond}
+use Rattle.std.specs.Prelude.{◌≡◌, ℕ, ◌+◌, ◌-◌, ◌<◌, ◌≤◌, List, [], ◌∷◌, ◌++◌, length, take, drop, Bool, true, false, cond}
 use Rattle.std.proofs.Common.{zero, suc}
 use Rattle.tlv_core.specs.declared.short.ShortHeader.{ShortHeader}
 use Rattle.tlv_core.specs.declared.short.ShortLength.{ShortLength}
@@ -11,6 +11,10 @@ use Rattle.tlv_core.specs.Steps.{spent}
 -- how many octets are taken at once: all of a primitive object, the header of a constructed one
 abbrev pub taken_of : ShortHeader → ℕ
 taken_of o = cond o.is_constructed o.header (o.header + o.len)
+
+-- those of them that are octets of its value
+abbrev pub value_in : List ℕ → ShortHeader → List ℕ
+value_in octets o = take (taken_of o - o.header) (drop o.header octets)
 
 -- and how many the object has
 abbrev pub whole_of : ShortHeader → ℕ

@@ -1,6 +1,6 @@
 //! The tree of a forest that comes in pieces.
 
-ghost use Rattle.std.specs.Prelude.{◌≡◌, ◌≢◌, ℕ, ◌+◌, ◌<◌, ◌≤◌, List, [], ◌∷◌, ◌++◌, length, None, IfOk, OnOk, vec_len, vec_capacity};
+ghost use Rattle.std.specs.Prelude.{◌≡◌, ◌≢◌, ℕ, ◌+◌, ◌<◌, ◌≤◌, List, [], ◌∷◌, ◌++◌, length, take, None, IfOk, OnOk, vec_len, vec_capacity};
 ghost use Rattle.tlv_core.specs.declared.node.Node.TheVariants as node;
 ghost use Rattle.tlv_core.specs.Tree.{End};
 ghost use Rattle.tlv_core.specs.Nodes.{tree_of};
@@ -11,6 +11,7 @@ ghost use Rattle.tlv_core.specs.Grown.{HasGrown, Closing};
 use crate::header::{Next, ObjectHeader};
 use crate::node::{Node, Nodes};
 use crate::progress::DEEPEST;
+use crate::short::ShortHeader;
 use octet_core::Octets;
 use std::alloc::{AllocError, Global};
 use std::mem;
@@ -45,7 +46,8 @@ pub(crate) struct Partial {
 impl Partial {
     ghost use Rattle.std.specs.Prelude.{Some, map, IfErr, OnErr};
     ghost use Rattle.tlv_core.specs.declared.header.Next.TheVariants as next;
-    ghost use Rattle.tlv_core.specs.Read.{opened_of, grown_of, extended, TakesNext, IsEmptyNode};
+    ghost use Rattle.tlv_core.specs.Read.{opened_of, grown_of, entering, extended, TakesNext, TakesShort, IsWholeNode};
+    ghost use Rattle.tlv_core.specs.Short.{after_short, taken_of, value_in};
 
     /// Before the first octet. It has the memory of its stack from then on.
     pub(crate) fn new(alloc: Global) -> Result<Self, AllocError>
@@ -87,11 +89,10 @@ impl Partial {
         ensures { (b : List ℕ) (k : Kept) (x : ℕ) → TakesNext b k x (next.Object header) (grown_of self.old) → length (after_next k (next.Object header)).rooms ≡ level → HasGrown (b ++ x ∷ []) (after_next k (next.Object header)) (grown_of self.new) }
     {
         if header.len == 0 {
-            let node = self.empty(header);
+            let node = self.whole(header, Vec::new(self.alloc));
             self.add(node, level);
         } else if header.tag.is_constructed() {
-            let before = mem::replace(&mut self.list, Vec::new(self.alloc));
-            self.opened.push_reserved(OpenObject { before, header });
+            self.open(header);
         } else {
             self.value = Some(OpenValue {
                 header,
@@ -100,9 +101,53 @@ impl Partial {
         }
     }
 
-    /// An object whose value is empty.
-    fn empty(&self, header: ObjectHeader) -> Node
-        ensures { IsEmptyNode header result }
+    /// Copies the octets of a value, into memory for just these.
+    pub(crate) fn copied(&self, octets: &[u8]) -> Result<Vec<u8>, AllocError>
+        ensures { IfOk result (λ copy. copy.items ≡ octets.now) }
+    {
+        Vec::from_slice(self.alloc, octets)
+    }
+
+    /// Takes an object with a short header at the front of the octets, with this for the octets of its
+    /// value, or the header of a constructed one. After it `level` objects are open.
+    pub(crate) fn take_short(
+        &mut self,
+        short: ShortHeader,
+        octets: &[u8],
+        value: Vec<u8>,
+        level: usize,
+    )
+        requires room { vec_len self.old.list < vec_capacity self.old.list }
+        requires value { value.items ≡ value_in octets.now short }
+        requires step { (b : List ℕ) × (k : Kept) × TakesShort b k octets.now short (grown_of self.old) }
+        ensures { (b : List ℕ) (k : Kept) → TakesShort b k octets.now short (grown_of self.old)
+            → length (after_short k short).rooms ≡ level
+            → HasGrown (b ++ take (taken_of short) octets.now) (after_short k short) (grown_of self.new) }
+    {
+        let header = short.object(octets);
+        match short.opens() {
+            Some(_) => self.open(header),
+            None => {
+                let node = self.whole(header, value);
+                self.add(node, level);
+            }
+        }
+    }
+
+    /// Opens a constructed object after the innermost list.
+    fn open(&mut self, header: ObjectHeader)
+        requires idle { self.old.value ≡ None }
+        requires room { vec_len self.old.list < vec_capacity self.old.list }
+        requires shallow { length self.old.opened.items < 16 }
+        ensures { grown_of self.new ≡ entering (grown_of self.old) header }
+    {
+        let before = mem::replace(&mut self.list, Vec::new(self.alloc));
+        self.opened.push_reserved(OpenObject { before, header });
+    }
+
+    /// An object that is whole: a primitive one with this value, or a constructed one that is empty.
+    fn whole(&self, header: ObjectHeader, value: Vec<u8>) -> Node
+        ensures { IsWholeNode header value.items result }
     {
         if header.tag.is_constructed() {
             Node::Constructed {
@@ -114,7 +159,7 @@ impl Partial {
             Node::Primitive {
                 tag: header.tag,
                 form: header.form,
-                value: Octets::of(Vec::new(self.alloc)),
+                value: Octets::of(value),
             }
         }
     }

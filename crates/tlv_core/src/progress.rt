@@ -172,6 +172,19 @@ impl Progress {
         ensures after { IfSome result (λ o. kept_of self.new ≡ after_short (kept_of self.old) o) }
         ensures none { IfNone result (self.new ≡ self.old) }
     {
+        let object = self.next_short(octets)?;
+        self.pass(object);
+        Some(object)
+    }
+
+    /// The header of the object that `take_short` would take, if there is one.
+    #[inline(always)]
+    pub(crate) fn next_short(&self, octets: &[u8]) -> Option<ShortHeader>
+        requires { self.now.value_left ≡ 0 }
+        ensures some { IfSome result (MayCome (kept_of self.now) octets.now) }
+        ensures nothing { IfSome result (λ _. self.now.header ≡ Nothing) }
+        ensures shallow { IfSome result (λ _. array_vec_len self.now.ends < 16) }
+    {
         if !self.header.is_nothing() || self.ends.len() >= DEEPEST {
             return None;
         }
@@ -179,18 +192,19 @@ impl Progress {
         if object.taken() > octets.len() || object.whole() > self.room() {
             return None;
         }
-        self.pass(object);
         Some(object)
     }
 
     /// Passes over an object with a short header, or enters it where it is constructed and not empty.
-    fn pass(&mut self, object: ShortHeader)
+    #[inline(always)]
+    pub(crate) fn pass(&mut self, object: ShortHeader)
         requires idle { self.old.value_left ≡ 0 }
         requires nothing { self.old.header ≡ Nothing }
         requires shallow { array_vec_len self.old.ends < 16 }
         requires fits { whole_of object ≤ room_of (self.old.max - self.old.count) (rooms_to self.old.count self.old.ends.items) }
         requires some { 0 < object.header }
-        ensures { kept_of self.new ≡ after_short (kept_of self.old) object }
+        ensures max { self.new.max ≡ self.old.max }
+        ensures after { kept_of self.new ≡ after_short (kept_of self.old) object }
     {
         self.count += object.taken();
         close(&mut self.ends, self.count);

@@ -107,8 +107,8 @@ impl ForestReader {
         })
     }
 
-    /// Takes octets: a run of the value under way, or one octet of a header. How many were taken, at
-    /// least one; or why none was.
+    /// Takes octets: a run of the value under way, an object that is here with a short header, or one
+    /// octet of a header. How many were taken, at least one; or why none was.
     fn advance(&mut self, octets: &[u8]) -> Result<usize, Refused<TlvReason>>
         requires { 0 < length octets.now }
         ensures limit { self.new.kept.max ≡ self.old.kept.max }
@@ -130,6 +130,13 @@ impl ForestReader {
         }
         if self.tree.reserve().is_err() {
             return Err(Refused::Memory);
+        }
+        if let Some(short) = self.progress.next_short(octets) {
+            let value = self.tree.copied(short.value(octets))?;
+            self.progress.pass(short);
+            self.tree
+                .take_short(short, octets, value, self.progress.level());
+            return Ok(short.taken());
         }
         match self.progress.take(octets[0]) {
             Ok(next) => {

@@ -2,7 +2,7 @@
 
 ghost use Rattle.std.specs.Prelude.{◌≡◌, ◌<◌, ◌≤◌, ◌+◌, [], ◌∷◌, take, length, IfSome, IfNone};
 ghost use Rattle.tlv_core.specs.Tag.{IsTag};
-ghost use Rattle.tlv_core.specs.Short.{IsShort, IsShortLength, opened, taken_of, whole_of};
+ghost use Rattle.tlv_core.specs.Short.{IsShort, IsShortLength, opened, taken_of, whole_of, value_in};
 
 use crate::form::Form;
 use crate::header::ObjectHeader;
@@ -62,6 +62,15 @@ impl ShortHeader {
         ensures { result ≡ whole_of self.now }
     {
         usize::from(self.header) + usize::from(self.len)
+    }
+
+    /// The octets of a primitive object's value, which follow its header at the front of these; none of a
+    /// constructed one.
+    pub(crate) fn value<'a>(&self, octets: &'a [u8]) -> &'a [u8]
+        requires { taken_of self.now ≤ length octets.now }
+        ensures { result.now ≡ value_in octets.now self.now }
+    {
+        &octets[usize::from(self.header)..self.taken()]
     }
 
     /// The same header, with its tag, which is at the front of these octets.

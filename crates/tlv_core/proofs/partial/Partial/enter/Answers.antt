@@ -1,29 +1,28 @@
-use Rattle.std.proofs.Common.{◌≡◌, ◌∙◌, ℕ, ◌+◌, Vec, Global, List, [], ◌∷◌, ◌++◌, length, refl, sym, ap, subst, arith, inl, inr}
+use Rattle.std.proofs.Common.{◌≡◌, ◌∙◌, ℕ, List, [], ◌∷◌, ◌++◌, length, refl, sym, ap, subst, arith, inl, inr}
 use Rattle.std.specs.Prelude.{Some}
 use Rattle.std.proofs.lemmas.Bool.{false≢true}
 use Rattle.std.proofs.lemmas.List.{length-map}
 use Rattle.tlv_core.specs.declared.header.Next.TheVariants as next
-use Rattle.tlv_core.specs.declared.node.Node.{Node}
 use Rattle.tlv_core.specs.Tag.{constructed_bit}
 use Rattle.tlv_core.specs.Nodes.{tree_of}
 use Rattle.tlv_core.specs.Reasons.{Kept}
 use Rattle.tlv_core.specs.Steps.{after_octet, after_next}
 use Rattle.tlv_core.specs.Grown.{HasGrown}
-use Rattle.tlv_core.specs.Read.{opened_of, grown_of}
+use Rattle.tlv_core.specs.Read.{opened_of, grown_of, IsWholeNode}
 use Rattle.tlv_core.proofs.Stands.{bit_cases}
 use Rattle.tlv_core.proofs.Growing.{open_length}
-use Rattle.tlv_core.proofs.Grows.{at_header, at_object, empty_grown, empty_kept, value_grown, open_grown, none_under}
-use Rattle.tlv_core.proofs.Closes.{item_done, empty_tree, open_done}
+use Rattle.tlv_core.proofs.Grows.{at_header, at_object, empty_grown, empty_kept, value_grown, open_grown}
+use Rattle.tlv_core.proofs.Closes.{item_done, whole_tree}
 use Rattle.tlv_core.proofs.partial.Partial.enter.Goals as goal
 
-pub push_reserved-requires : goal.push_reserved-requires
-push_reserved-requires c =
+pub open-requires-clause-shallow : goal.open-requires-clause-shallow
+open-requires-clause-shallow c =
     let old = c.args.self.now in
     let g = grown_of old in
     let k = c.requires.step.1 in
     let t = c.requires.step.3 in
     let at = at_object c.requires.step.0 k c.requires.step.2 c.args.header t.taken t.idle t.step in
-    omega (arith, at.deep, open_length g.opened k.rooms 1 _ c.requires.step.0 t.grown.opened, length-map old.opened.items opened_of, old.levels)
+    omega (arith, at.deep, open_length g.opened k.rooms 1 _ c.requires.step.0 t.grown.opened, length-map old.opened.items opened_of)
 
 pub returns-then-header-eq0 : goal.returns-then-header-eq0
 returns-then-header-eq0 c b k x t e =
@@ -31,10 +30,10 @@ returns-then-header-eq0 c b k x t e =
     let new = c.add.new.self in
     let h = c.args.header in
     let g = grown_of old in
-    let y = c.empty-node.result in
+    let y = c.whole-node.result in
     let none : h.len ≡ 0 = c.if-header-eq0.true in
     let kept = empty_kept k h none in
-    let some = empty_grown b k x h (tree_of (y ∷ [])) g.opened g.list t.taken t.idle t.step none (empty_tree h y c.empty-node.ensures) (at_header b k g t.grown t.idle) in
+    let some = empty_grown b k x h (tree_of (y ∷ [])) g.opened g.list t.taken t.idle t.step none (whole_tree h [] y (subst (λ (l : List ℕ). IsWholeNode h l y) c.new.ensures.items c.whole-node.ensures)) (at_header b k g t.grown t.idle) in
     subst (λ (l : Kept). HasGrown (b ++ x ∷ []) l (grown_of new)) kept
     (item_done (b ++ x ∷ []) (after_octet k []) old new y (tree_of (y ∷ [])) refl refl refl c.add.ensures.idle some (λ closed. c.add.ensures.closed (b ++ x ∷ []) (after_octet k []).rooms closed (ap (λ (l : Kept). length l.rooms) kept ∙ e)))
 
@@ -44,8 +43,7 @@ returns-then-is_constructed c b k x t e =
     let h = c.args.header in
     let g = grown_of old in
     let some = open_grown b k x h g.opened g.list t.taken t.idle t.step (omega (arith, c.if-header-eq0.false)) (c.is_constructed.ensures.0 c.if-is_constructed.true) (at_header b k g t.grown t.idle) in
-    open_done (b ++ x ∷ []) (after_next k (next.Object h)) old.opened.items c.push_reserved.new.self.items _ old.list.items c.replace-before.new.dest.items old.value c.push_reserved.ensures.items (ap (λ (v : Vec Node Global). v.items) c.replace-before.ensures.value) (ap (λ (v : Vec Node Global). v.items) c.replace-before.ensures.after ∙ c.new.ensures.items)
-    (none_under (1 + length k.rooms) g.value k.header k.value_left t.grown.under t.idle) some
+    subst (HasGrown (b ++ x ∷ []) (after_next k (next.Object h))) (sym c.open.ensures) some
 
 pub returns-else-is_constructed : goal.returns-else-is_constructed
 returns-else-is_constructed c b k x t e =

@@ -39,16 +39,16 @@ invariant_of-self-in_default c =
       shallow = λ h. absurd (h c.requires.nothing);
     }
 
-pub returns-in-Some : goal.returns-in-Some
-returns-in-Some c =
+pub returns-in-Some-clause-after : goal.returns-in-Some-clause-after
+returns-in-Some-clause-after c =
     let s = c.args.self.now in
     let o = c.args.object in
     let m = c.taken.result in
     was_nothing s.max (s.count + m) s.value_left (rooms_to (s.count + m) c.push.new.self.items) s.header c.requires.nothing c.requires.idle
     ∙ kept_opened s.max s.count m c.in-Some.len o.len o.is_constructed s.ends.items c.close.new.ends.items c.push.new.self.items c.close.ensures c.push.ensures.items c.in-Some.ensures.some.2 ∙ by_header s.max s.count m (rooms_to s.count s.ends.items) o c.taken.ensures
 
-pub returns-in_default : goal.returns-in_default
-returns-in_default c =
+pub returns-in_default-clause-after : goal.returns-in_default-clause-after
+returns-in_default-clause-after c =
     let s = c.args.self.now in
     let o = c.args.object in
     let m = c.taken.result in

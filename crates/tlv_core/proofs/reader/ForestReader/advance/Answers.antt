@@ -11,9 +11,11 @@ use Rattle.tlv_core.specs.Forest.{IsForest}
 use Rattle.tlv_core.specs.Progress.{kept_of}
 use Rattle.tlv_core.specs.Reasons.{Kept, IsReason}
 use Rattle.tlv_core.specs.Steps.{after_next, after_run}
-use Rattle.tlv_core.specs.Grown.{Grown}
+use Rattle.tlv_core.specs.Short.{taken_of, after_short}
+use Rattle.tlv_core.specs.Grown.{Grown, HasGrown}
 use Rattle.tlv_core.specs.Read.{Reading, reading_of, grown_of, HasBegun, HasRead}
 use Rattle.tlv_core.proofs.Ends.{take_one}
+use Rattle.tlv_core.proofs.Shorts.{short_taken}
 use Rattle.tlv_core.proofs.Reading.{part_begun, whole_begun, octet_begun, octet_refused, of_ok}
 use Rattle.tlv_core.proofs.reader.ForestReader.advance.Goals as goal
 
@@ -56,6 +58,26 @@ returns-then-run-left-clause-ok c b h = let o = subst (HasRead b) (sym c.self.vi
 
 pub returns-else-run-left-clause-ok : goal.returns-else-run-left-clause-ok
 returns-else-run-left-clause-ok c b h = let o = subst (HasRead b) (sym c.self.view_is) h in record { begun = under_way c b o.begun; none = o.none }
+
+-- ---- an object with a short header
+
+at_once : (c : goal.After-taken) (b : List ℕ) → HasBegun b (reading_of c.self.inside.progress c.self.inside.tree c.self.inside.refusal) → HasBegun (b ++ take c.taken.result c.args.octets.now) (reading_of c.pass.new.self c.take_short.new.self c.self.inside.refusal)
+at_once c b h =
+    let k = kept_of c.self.inside.progress in
+    let o = c.in-Some.short in
+    let may = c.in-Some.ensures.some in
+    let octets : AreOctets c.args.octets.now = λ i. omega (arith, c.type_inv.octets i) in
+    let level : length (after_short k o).rooms ≡ c.level-in-Some.result = ap (λ (l : Kept). length l.rooms) (sym c.pass.ensures.after) ∙ sym c.level-in-Some.ensures in
+    let grown = c.take_short.ensures b k (record { taken = h.taken; are = octets; may = may; grown = subst (HasGrown b k) (sym c.reserve.ensures.same) h.grown }) level in
+    subst (λ (m : ℕ). HasBegun (b ++ take m c.args.octets.now) (reading_of c.pass.new.self c.take_short.new.self c.self.inside.refusal)) (sym c.taken.ensures)
+    (subst (λ (l : Kept). HasBegun (b ++ take (taken_of o) c.args.octets.now) (record { kept = l; tree = grown_of c.take_short.new.self; refusal = c.self.inside.refusal })) (sym c.pass.ensures.after)
+    (record { taken = short_taken b c.args.octets.now k o may octets h.taken; grown = grown }))
+
+pub invariant_of-self-in-Some : goal.invariant_of-self-in-Some
+invariant_of-self-in-Some c = (c.self.invariant.0 ++ take c.taken.result c.args.octets.now, at_once c c.self.invariant.0 c.self.invariant.1)
+
+pub returns-in-Some-clause-ok : goal.returns-in-Some-clause-ok
+returns-in-Some-clause-ok c b h = let o = subst (HasRead b) (sym c.self.view_is) h in record { begun = at_once c b o.begun; none = o.none }
 
 -- ---- an octet of a header
 

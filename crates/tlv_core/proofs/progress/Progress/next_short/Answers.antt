@@ -1,6 +1,6 @@
 use Rattle.std.proofs.Common.{arith}
 use Rattle.tlv_core.proofs.Ends.{length-rooms}
-use Rattle.tlv_core.proofs.progress.Progress.take_short.Goals as goal
+use Rattle.tlv_core.proofs.progress.Progress.next_short.Goals as goal
 
 pub returns-clause-some : goal.returns-clause-some
 returns-clause-some c =
