@@ -22,8 +22,11 @@ abbrev read_as : Fault → Result Request Fault
 read_as fault = Err fault
 
 -- a request that asks for no file is answered without the reader
-pub told-at_once : (request : Request) (held : Option (List ℕ)) (count : ℕ) (text : List ℕ) (ended : Status) → (NeedsFile request → ⊥) → IsAnswerTo request (Ok []) text ended → IsRightTo request held held count count text ended
-told-at_once request held count text ended free answer = inl (record { file = Ok []; is_file = λ needs. absurd (free needs); is_answer = answer })
+pub told-at_once : (request : Request) (held : Option (List ℕ)) (count : ℕ) (text : List ℕ) (ended : Status)
+    → (NeedsFile request → ⊥) → IsAnswerTo request (Ok []) text ended
+    → IsRightTo request held held count count text ended
+told-at_once request held count text ended free answer =
+    inl (record { file = Ok []; is_file = λ needs. absurd (free needs); is_answer = answer })
 
 -- words that were read as a request ask for a file exactly where the request does
 asks : (words : List (List ℕ)) (request : Request) → IsRead words (Ok request) → AskForFile words → NeedsFile request
@@ -31,8 +34,10 @@ asks words request (taken free e) ask = MatchResult-at_ok NeedsFile (λ _. ⊥) 
 asks words request (called_for_help among help e) ask = absurd (subst (IsAmong DisplayHelp) ask.0 among)
 asks words request (not_taken other e) ask = cc e
 
-pub needs : (words : List (List ℕ)) (request : Request) → IsRead words (Ok request) → NeedsFile request → AskForFile words
-needs words request (taken free e) need = (free, subst (λ (r : Result Request Fault). MatchResult r NeedsFile (λ _. ⊥)) e need)
+pub needs : (words : List (List ℕ)) (request : Request) → IsRead words (Ok request) → NeedsFile request
+    → AskForFile words
+needs words request (taken free e) need =
+    (free, subst (λ (r : Result Request Fault). MatchResult r NeedsFile (λ _. ⊥)) e need)
 needs words request (called_for_help among help e) need =
     let is : request ≡ Help help = ap (λ (r : Result Request Fault). result_unwrap_or r request) e in
     absurd (subst NeedsFile is need)
@@ -40,12 +45,14 @@ needs words request (not_taken other e) need = cc e
 
 -- words that were refused ask for none
 pub asks-none : (words : List (List ℕ)) (fault : Fault) → IsRead words (Err fault) → AskForFile words → ⊥
-asks-none words fault (taken free e) ask = subst (λ (r : Result Request Fault). MatchResult r NeedsFile (λ _. ⊥)) (sym e) ask.1
+asks-none words fault (taken free e) ask =
+    subst (λ (r : Result Request Fault). MatchResult r NeedsFile (λ _. ⊥)) (sym e) ask.1
 asks-none words fault (called_for_help among help e) ask = cc e
 asks-none words fault (not_taken other e) ask = let bad = subst HasOther ask.0 other in bad.1
 
 module _ (words : List (List ℕ)) (held left : Option (List ℕ)) (before after : ℕ) where
-  pub right : (request : Request) (text : List ℕ) (ended : Status) → IsRead words (Ok request) → IsRightTo request held left before after text ended → IsRight words held left before after text ended
+  pub right : (request : Request) (text : List ℕ) (ended : Status) → IsRead words (Ok request)
+      → IsRightTo request held left before after text ended → IsRight words held left before after text ended
   right request text ended read (inl to) = inl (record {
     file = to.file;
     is_file = λ ask. to.is_file (asks words request read ask);
@@ -54,12 +61,15 @@ module _ (words : List (List ℕ)) (held left : Option (List ℕ)) (before after
   right request text ended read (inr wanting) = inr wanting
 
   -- what answers the request answers the words
-  pub answered-words : (request : Request) (r : Result Answer Fault) → IsRead words (Ok request) → AnswersTo request held left before after r → Answers words held left before after r
+  pub answered-words : (request : Request) (r : Result Answer Fault) → IsRead words (Ok request)
+      → AnswersTo request held left before after r → Answers words held left before after r
   answered-words request (Ok answer) read h = right request answer.text answer.status read h
   answered-words request (Err fault) read h = right request (fault_text fault) status.Fault read h
 
 -- the line of the fault of words that were refused, or of memory
-pub refused-words : (words : List (List ℕ)) (held : Option (List ℕ)) (count : ℕ) (fault : Fault) → (read_as fault ≡ Err Memory) ⊎ IsRead words (Err fault) → IsRight words held held count count (fault_text fault) status.Fault
+pub refused-words : (words : List (List ℕ)) (held : Option (List ℕ)) (count : ℕ) (fault : Fault)
+    → (read_as fault ≡ Err Memory) ⊎ IsRead words (Err fault)
+    → IsRight words held held count count (fault_text fault) status.Fault
 refused-words words held count fault (inl memory) =
     let same : fault ≡ Memory = cc memory in
     inr (ap fault_text same, refl, refl)
@@ -70,8 +80,10 @@ refused-words words held count fault (inr refused) = inl (record {
 })
 
 -- words ask for octets as they are read where the request does
-pub needs-octets : (words : List (List ℕ)) (request : Request) → IsRead words (Ok request) → NeedsOctets request → AskForOctets words
-needs-octets words request (taken free e) need = (free, subst (λ (r : Result Request Fault). MatchResult r NeedsOctets (λ _. ⊥)) e need)
+pub needs-octets : (words : List (List ℕ)) (request : Request) → IsRead words (Ok request) → NeedsOctets request
+    → AskForOctets words
+needs-octets words request (taken free e) need =
+    (free, subst (λ (r : Result Request Fault). MatchResult r NeedsOctets (λ _. ⊥)) e need)
 needs-octets words request (called_for_help among help e) need =
     let is : request ≡ Help help = ap (λ (r : Result Request Fault). result_unwrap_or r request) e in
     absurd (subst NeedsOctets is need)
@@ -80,9 +92,12 @@ needs-octets words request (not_taken other e) need = cc e
 -- ---- octets that are given
 
 -- a request that tells of the octets that are given
-module _ (request : Request) (given : Given) (Told : List ℕ → List ℕ → Status → Type 0) (held left : Option (List ℕ)) (before after : ℕ) (need : NeedsFile request → IsFromReader given)
-    (answers : (file : Result (List ℕ) Fault) (text : List ℕ) (ended : Status) → IsToldOf Told (octets_given given file) text ended → IsAnswerTo request file text ended) where
-  pub told-octets : (octets text : List ℕ) (ended : Status) → IsTaken given held left before after (Ok octets) → Told octets text ended → IsRightTo request held left before after text ended
+module _ (request : Request) (given : Given) (Told : List ℕ → List ℕ → Status → Type 0) (held left : Option (List ℕ))
+    (before after : ℕ) (need : NeedsFile request → IsFromReader given)
+    (answers : (file : Result (List ℕ) Fault) (text : List ℕ) (ended : Status)
+    → IsToldOf Told (octets_given given file) text ended → IsAnswerTo request file text ended) where
+  pub told-octets : (octets text : List ℕ) (ended : Status) → IsTaken given held left before after (Ok octets)
+      → Told octets text ended → IsRightTo request held left before after text ended
   told-octets octets text ended had told = inl (record {
     file = had.file;
     is_file = λ asked. had.is_file (need asked);
@@ -92,31 +107,45 @@ module _ (request : Request) (given : Given) (Told : List ℕ → List ℕ → S
     ]);
   })
 
-  pub told-fault : (fault : Fault) → IsTaken given held left before after (Err fault) → IsRightTo request held left before after (fault_text fault) status.Fault
+  pub told-fault : (fault : Fault) → IsTaken given held left before after (Err fault)
+      → IsRightTo request held left before after (fault_text fault) status.Fault
   told-fault fault had =
       elim had.is_taken [
         | inl is ↦
             inl (record {
               file = had.file;
               is_file = λ asked. had.is_file (need asked);
-              is_answer = answers had.file (fault_text fault) status.Fault (subst (λ (r : Result (List ℕ) Fault). IsToldOf Told r (fault_text fault) status.Fault) is (refl, refl));
+              is_answer = answers had.file (fault_text fault) status.Fault
+                  (subst (λ (r : Result (List ℕ) Fault). IsToldOf Told r (fault_text fault) status.Fault) is
+                  (refl, refl));
             })
         | inr memory ↦ let same : fault ≡ Memory = cc memory.0 in inr (ap fault_text same, refl, memory.1)
       ]
 
-  pub told-wanting : (octets : List ℕ) → IsTaken given held left before after (Ok octets) → IsRightTo request held left before after (fault_text Memory) status.Fault
+  pub told-wanting : (octets : List ℕ) → IsTaken given held left before after (Ok octets)
+      → IsRightTo request held left before after (fault_text Memory) status.Fault
   told-wanting octets had = inr (refl, refl, had.count)
 
 -- ---- a whole file
 
 -- a request that tells of what standard input has
 module _ (request : Request) (Told : List ℕ → List ℕ → Status → Type 0) (held left : Option (List ℕ)) (before after : ℕ)
-    (answers : (file : Result (List ℕ) Fault) (text : List ℕ) (ended : Status) → IsToldOf Told file text ended → IsAnswerTo request file text ended) where
-  pub file-told : (file text : List ℕ) (ended : Status) → ReadsWhole held left before after (Ok file) → Told file text ended → IsRightTo request held left before after text ended
-  file-told file text ended had told = inl (record { file = Ok file; is_file = λ asked. had; is_answer = answers (Ok file) text ended told })
+    (answers : (file : Result (List ℕ) Fault) (text : List ℕ) (ended : Status) → IsToldOf Told file text ended
+    → IsAnswerTo request file text ended) where
+  pub file-told : (file text : List ℕ) (ended : Status) → ReadsWhole held left before after (Ok file)
+      → Told file text ended → IsRightTo request held left before after text ended
+  file-told file text ended had told = inl
+      (record { file = Ok file; is_file = λ asked. had; is_answer = answers (Ok file) text ended told })
 
-  pub file-fault : (fault : Fault) → ReadsWhole held left before after (Err fault) → IsRightTo request held left before after (fault_text fault) status.Fault
-  file-fault fault had = inl (record { file = Err fault; is_file = λ asked. had; is_answer = answers (Err fault) (fault_text fault) status.Fault (refl, refl) })
+  pub file-fault : (fault : Fault) → ReadsWhole held left before after (Err fault)
+      → IsRightTo request held left before after (fault_text fault) status.Fault
+  file-fault fault had = inl (record {
+    file = Err fault;
+    is_file = λ asked. had;
+    is_answer =
+        answers (Err fault) (fault_text fault) status.Fault (refl, refl);
+  })
 
-  pub file-wanting : (file : List ℕ) → ReadsWhole held left before after (Ok file) → IsRightTo request held left before after (fault_text Memory) status.Fault
+  pub file-wanting : (file : List ℕ) → ReadsWhole held left before after (Ok file)
+      → IsRightTo request held left before after (fault_text Memory) status.Fault
   file-wanting file had = inr (refl, refl, had.count)

@@ -27,7 +27,8 @@ module _ (words : List (List ℕ)) where
   asked-lines expected (not_taken other e) = cc e
 
   -- words that ask for lines are read so
-  read-lines : (expected : Expected) (read : Result Request Fault) → AskForLines expected words → IsRead words read → read ≡ Ok (CheckLines expected)
+  read-lines : (expected : Expected) (read : Result Request Fault) → AskForLines expected words → IsRead words read
+      → read ≡ Ok (CheckLines expected)
   read-lines expected read ask (taken free e) = e ∙ ask.1
   read-lines expected read ask (called_for_help among help e) = absurd (subst (IsAmong DisplayHelp) ask.0 among)
   read-lines expected read ask (not_taken other e) = let bad = subst HasOther ask.0 other in absurd bad.1
@@ -37,28 +38,42 @@ module _ (words : List (List ℕ)) where
   expected-of otherwise read = otherwise
 
   -- what was read asks for lines
-  pub checked-lines : (read : Result Request Fault) (expected : Expected) → read ≡ Ok (CheckLines expected) → IsReadFrom words read → AskForLines expected words
-  checked-lines read expected e (inl memory) = absurd (let bad : read_as (CheckLines expected) ≡ Err Memory = sym e ∙ memory in cc)
+  pub checked-lines : (read : Result Request Fault) (expected : Expected) → read ≡ Ok (CheckLines expected)
+      → IsReadFrom words read → AskForLines expected words
+  checked-lines read expected e (inl memory) =
+      absurd (let bad : read_as (CheckLines expected) ≡ Err Memory = sym e ∙ memory in cc)
   checked-lines read expected e (inr is) = asked-lines expected (subst (IsRead words) e is)
 
   -- and for these alone
-  pub same-expected : (read : Result Request Fault) (expected asked : Expected) → read ≡ Ok (CheckLines expected) → IsReadFrom words read → AskForLines asked words → expected ≡ asked
-  same-expected read expected asked e (inl memory) ask = absurd (let bad : read_as (CheckLines expected) ≡ Err Memory = sym e ∙ memory in cc)
+  pub same-expected : (read : Result Request Fault) (expected asked : Expected) → read ≡ Ok (CheckLines expected)
+      → IsReadFrom words read → AskForLines asked words → expected ≡ asked
+  same-expected read expected asked e (inl memory) ask =
+      absurd (let bad : read_as (CheckLines expected) ≡ Err Memory = sym e ∙ memory in cc)
   same-expected read expected asked e (inr is) ask = ap (expected-of asked) (sym e ∙ read-lines asked read ask is)
 
   -- words that were read as what has one text, or not at all, ask for none
-  pub asked-none : (read : Result Request Fault) → IsReadFrom words read → (read ≡ Err Memory → ⊥) → IfOk read HasOneText → AskForNoLines words
+  pub asked-none : (read : Result Request Fault) → IsReadFrom words read → (read ≡ Err Memory → ⊥)
+      → IfOk read HasOneText → AskForNoLines words
   asked-none read (inl memory) not one expected ask = absurd (not memory)
-  asked-none read (inr is) not one expected ask = subst (λ (r : Result Request Fault). IfOk r HasOneText) (read-lines expected read ask is) one
+  asked-none read (inr is) not one expected ask =
+      subst (λ (r : Result Request Fault). IfOk r HasOneText) (read-lines expected read ask is) one
 
 -- ---- where memory ran out before the words were read
 
-module _ (held : Option (List ℕ)) (count : ℕ) (old new : Option (List ℕ)) (before after : ℕ) (ended : Status) (is : IsWritten (fault_text Memory) status.Fault old new before after ended) where
+module _ (held : Option (List ℕ)) (count : ℕ) (old new : Option (List ℕ)) (before after : ℕ) (ended : Status)
+    (is : IsWritten (fault_text Memory) status.Fault old new before after ended) where
   pub no-words : (words : List (List ℕ)) → Writes (IsRightWith words held held count count) old new before after ended
   no-words words = record {
     text = fault_text Memory;
     right = status.Fault;
-    is_right = record { text = fault_text Memory; note = []; is_right = inr (refl, refl, refl); is_whole = sym (append-nil (fault_text Memory)); unasked = λ _. refl };
+    is_right = record {
+      text = fault_text Memory;
+      note = [];
+      is_right = inr (refl, refl, refl);
+      is_whole =
+          sym (append-nil (fault_text Memory));
+      unasked = λ _. refl;
+    };
     is_written = is;
   }
 

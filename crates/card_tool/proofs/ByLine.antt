@@ -27,7 +27,8 @@ lines-append line [] b = refl
 lines-append line (x ∷ a) b = go (x == 10) refl (lines-append [] a b) (lines-append (line ++ (x ∷ [])) a b)
   where
     go : (t : Bool) → (x == 10) ≡ t → lines_after [] (a ++ b) ≡ lines_after [] a ++ lines_after (rest_after [] a) b
-        → lines_after (line ++ (x ∷ [])) (a ++ b) ≡ lines_after (line ++ (x ∷ [])) a ++ lines_after (rest_after (line ++ (x ∷ [])) a) b
+        → lines_after (line ++ (x ∷ [])) (a ++ b) ≡ lines_after (line ++ (x ∷ [])) a
+        ++ lines_after (rest_after (line ++ (x ∷ [])) a) b
         → lines_after line (x ∷ (a ++ b)) ≡ lines_after line (x ∷ a) ++ lines_after (rest_after line (x ∷ a)) b
     go true e ended more = rw e (ap (λ (l : List (List ℕ)). line ∷ l) ended)
     go false e ended more = rw e more
@@ -36,7 +37,8 @@ rest-append : (line a b : List ℕ) → rest_after line (a ++ b) ≡ rest_after 
 rest-append line [] b = refl
 rest-append line (x ∷ a) b = go (x == 10) refl (rest-append [] a b) (rest-append (line ++ (x ∷ [])) a b)
   where
-    go : (t : Bool) → (x == 10) ≡ t → rest_after [] (a ++ b) ≡ rest_after (rest_after [] a) b → rest_after (line ++ (x ∷ [])) (a ++ b) ≡ rest_after (rest_after (line ++ (x ∷ [])) a) b
+    go : (t : Bool) → (x == 10) ≡ t → rest_after [] (a ++ b) ≡ rest_after (rest_after [] a) b
+        → rest_after (line ++ (x ∷ [])) (a ++ b) ≡ rest_after (rest_after (line ++ (x ∷ [])) a) b
         → rest_after line (x ∷ (a ++ b)) ≡ rest_after (rest_after line (x ∷ a)) b
     go true e ended more = rw e ended
     go false e ended more = rw e more
@@ -60,7 +62,8 @@ worse-accepted status.Fault = refl
 -- ---- texts of lines
 
 module _ (expected : Expected) where
-  lines-joined : (xs ys : List (List ℕ)) (t u : List ℕ) (s q : Status) → AreLinesTold expected xs t s → AreLinesTold expected ys u q → AreLinesTold expected (xs ++ ys) (t ++ u) (worse s q)
+  lines-joined : (xs ys : List (List ℕ)) (t u : List ℕ) (s q : Status) → AreLinesTold expected xs t s
+      → AreLinesTold expected ys u q → AreLinesTold expected (xs ++ ys) (t ++ u) (worse s q)
   lines-joined [] ys t u s q h g = rw (h.0, h.1) g
   lines-joined (x ∷ xs) ys t u s q h g = record {
     first = h.first;
@@ -74,9 +77,20 @@ module _ (expected : Expected) where
   }
 
   one-line : (line u : List ℕ) (q : Status) → IsLineTold expected line u q → AreLinesTold expected (line ∷ []) u q
-  one-line line u q h = record { first = u; one = q; more = []; others = Accepted; is_first = h; is_more = (refl, refl); is_text = sym (append-nil u); is_ended = sym (worse-accepted q) }
+  one-line line u q h = record {
+    first = u;
+    one = q;
+    more = [];
+    others = Accepted;
+    is_first = h;
+    is_more =
+        (refl, refl);
+    is_text = sym (append-nil u);
+    is_ended = sym (worse-accepted q);
+  }
 
-  too-long : (octets : Result (List ℕ) Fault) (n : ℕ) → largest_file < n → (if nat_le n largest_file then octets else Err TooLarge) ≡ Err TooLarge
+  too-long : (octets : Result (List ℕ) Fault) (n : ℕ) → largest_file < n
+      → (if nat_le n largest_file then octets else Err TooLarge) ≡ Err TooLarge
   too-long octets n long = grind (arith, nat_tests)
 
   -- what is kept of a line says the same
@@ -85,20 +99,29 @@ module _ (expected : Expected) where
     | inl same ↦ ap line_octets (take_all (largest_file + 1) line (omega (arith, same)))
     | inr (inl small) ↦ ap line_octets (take_all (largest_file + 1) line (omega (arith, small)))
     | inr (inr long) ↦
-        let kept : largest_file < length (take (largest_file + 1) line) = omega (arith, long, length-take (largest_file + 1) line) in
-        too-long (loose_octets (take (largest_file + 1) line)) (length (take (largest_file + 1) line)) kept ∙ sym (too-long (loose_octets line) (length line) long)
+        let kept : largest_file < length (take (largest_file + 1) line) =
+        omega (arith, long, length-take (largest_file + 1) line) in
+        too-long (loose_octets (take (largest_file + 1) line)) (length (take (largest_file + 1) line)) kept
+        ∙ sym (too-long (loose_octets line) (length line) long)
   ]
 
-  kept-told : (line t : List ℕ) (s : Status) → IsLineTold expected (take (largest_file + 1) line) t s → IsLineTold expected line t s
-  kept-told line t s h = subst (λ (r : Result (List ℕ) Fault). IsToldOf (Checks expected.kind expected) r t s) (kept-octets line) h
+  kept-told : (line t : List ℕ) (s : Status) → IsLineTold expected (take (largest_file + 1) line) t s
+      → IsLineTold expected line t s
+  kept-told line t s h = subst (λ (r : Result (List ℕ) Fault). IsToldOf (Checks expected.kind expected) r t s)
+      (kept-octets line) h
 
   -- ---- one octet more
 
   -- it ends the line
-  pub line-ended : (read written line text more : List ℕ) (s q : Status) (x : ℕ) → x ≡ 10 → HasSaid expected read written line text s → IsLineTold expected line more q → HasSaid expected (read ++ (x ∷ [])) written [] (text ++ more) (worse s q)
+  pub line-ended : (read written line text more : List ℕ) (s q : Status) (x : ℕ) → x ≡ 10
+      → HasSaid expected read written line text s → IsLineTold expected line more q
+      → HasSaid expected (read ++ (x ∷ [])) written [] (text ++ more) (worse s q)
   line-ended read written line text more s q x is h says = rw is (record {
     is_told = rw (lines-append [] read (10 ∷ []), ← append_assoc written text more)
-        (lines-joined (ended_lines read) (rest_after [] read ∷ []) (written ++ text) more s q h.is_told (one-line (rest_after [] read) more q (kept-told (rest_after [] read) more q (subst (λ (l : List ℕ). IsLineTold expected l more q) h.is_line says))));
+        (lines-joined (ended_lines read) (rest_after [] read ∷ []) (written ++ text) more s q h.is_told
+        (one-line (rest_after [] read) more q
+        (kept-told (rest_after [] read) more q
+        (subst (λ (l : List ℕ). IsLineTold expected l more q) h.is_line says))));
     is_line = rw (rest-append [] read (10 ∷ [])) refl;
   })
 
@@ -112,21 +135,27 @@ module _ (expected : Expected) where
   same-rest read x h = rw (rest-append [] read (x ∷ []), other read x h) refl
 
   -- it is kept
-  pub octet-kept : (read written line text : List ℕ) (s : Status) (x : ℕ) → (x ≡ 10 → ⊥) → length line ≤ largest_file → HasSaid expected read written line text s → HasSaid expected (read ++ (x ∷ [])) written (line ++ (x ∷ [])) text s
+  pub octet-kept : (read written line text : List ℕ) (s : Status) (x : ℕ) → (x ≡ 10 → ⊥) → length line ≤ largest_file
+      → HasSaid expected read written line text s
+      → HasSaid expected (read ++ (x ∷ [])) written (line ++ (x ∷ [])) text s
   octet-kept read written line text s x not few h =
       let rest = rest_after [] read in
-      let short : length rest ≤ largest_file = omega (arith, few, ap length h.is_line, length-take (largest_file + 1) rest) in
+      let short : length rest ≤ largest_file =
+      omega (arith, few, ap length h.is_line, length-take (largest_file + 1) rest) in
       let whole_line : line ≡ rest = h.is_line ∙ take_all (largest_file + 1) rest (omega (arith, short)) in
       record {
         is_told = rw (same-lines read x not) h.is_told;
-        is_line = rw (same-rest read x not, whole_line) (sym (take_all (largest_file + 1) (rest ++ (x ∷ [])) (omega (arith, short, length-append rest (x ∷ [])))));
+        is_line = rw (same-rest read x not, whole_line)
+            (sym (take_all (largest_file + 1) (rest ++ (x ∷ [])) (omega (arith, short, length-append rest (x ∷ [])))));
       }
 
   -- the line is too long already
-  pub octet-left : (read written line text : List ℕ) (s : Status) (x : ℕ) → (x ≡ 10 → ⊥) → largest_file < length line → HasSaid expected read written line text s → HasSaid expected (read ++ (x ∷ [])) written line text s
+  pub octet-left : (read written line text : List ℕ) (s : Status) (x : ℕ) → (x ≡ 10 → ⊥) → largest_file < length line
+      → HasSaid expected read written line text s → HasSaid expected (read ++ (x ∷ [])) written line text s
   octet-left read written line text s x not many h =
       let rest = rest_after [] read in
-      let long : largest_file + 1 ≤ length rest = omega (arith, many, ap length h.is_line, length-take (largest_file + 1) rest) in
+      let long : largest_file + 1 ≤ length rest =
+      omega (arith, many, ap length h.is_line, length-take (largest_file + 1) rest) in
       record {
         is_told = rw (same-lines read x not) h.is_told;
         is_line = rw (same-rest read x not) (h.is_line ∙ sym (take-append-le (largest_file + 1) rest (x ∷ []) long));
@@ -135,17 +164,29 @@ module _ (expected : Expected) where
   -- ---- where it ends
 
   -- the lines of the first octets are the first lines
-  pub begun : (read more written line text : List ℕ) (s : Status) → HasSaid expected read written line text s → HasBegun expected (all_lines (read ++ more)) (written ++ text)
+  pub begun : (read more written line text : List ℕ) (s : Status) → HasSaid expected read written line text s
+      → HasBegun expected (all_lines (read ++ more)) (written ++ text)
   begun read more written line text s h = record {
     done = ended_lines read;
     more = lines_after (rest_after [] read) more ++ last_line (rest_after [] (read ++ more));
     so_far = s;
-    is_front = ap (λ (l : List (List ℕ)). l ++ last_line (rest_after [] (read ++ more))) (lines-append [] read more) ∙ append_assoc (ended_lines read) (lines_after (rest_after [] read) more) (last_line (rest_after [] (read ++ more)));
+    is_front = ap (λ (l : List (List ℕ)). l ++ last_line (rest_after [] (read ++ more))) (lines-append [] read more)
+        ∙ append_assoc (ended_lines read) (lines_after (rest_after [] read) more)
+        (last_line (rest_after [] (read ++ more)));
     is_told = h.is_told;
   }
 
-  pub begun-here : (read written line text : List ℕ) (s : Status) → HasSaid expected read written line text s → HasBegun expected (all_lines read) (written ++ text)
-  begun-here read written line text s h = record { done = ended_lines read; more = last_line (rest_after [] read); so_far = s; is_front = refl; is_told = h.is_told }
+  pub begun-here : (read written line text : List ℕ) (s : Status) → HasSaid expected read written line text s
+      → HasBegun expected (all_lines read) (written ++ text)
+  begun-here read written line text s h =
+      record {
+        done = ended_lines read;
+        more = last_line (rest_after [] read);
+        so_far = s;
+        is_front = refl;
+        is_told =
+            h.is_told;
+      }
 
   no-rest : (n : ℕ) (rest : List ℕ) → [] ≡ take (n + 1) rest → rest ≡ []
   no-rest n [] h = refl
@@ -156,15 +197,21 @@ module _ (expected : Expected) where
   some-rest (x ∷ rest) h = refl
 
   -- no octet comes after the last line end
-  pub all-ended : (read written line text : List ℕ) (s : Status) → line ≡ [] → HasSaid expected read written line text s → AreLinesTold expected (all_lines read) (written ++ text) s
-  all-ended read written line text s none h = rw (no-rest largest_file (rest_after [] read) (sym none ∙ h.is_line), append-nil (ended_lines read)) h.is_told
+  pub all-ended : (read written line text : List ℕ) (s : Status) → line ≡ [] → HasSaid expected read written line text s
+      → AreLinesTold expected (all_lines read) (written ++ text) s
+  all-ended read written line text s none h =
+      rw (no-rest largest_file (rest_after [] read) (sym none ∙ h.is_line), append-nil (ended_lines read)) h.is_told
 
   -- the last line is told too
-  pub last-told : (read written line text more : List ℕ) (s q : Status) → (line ≡ [] → ⊥) → HasSaid expected read written line text s → IsLineTold expected line more q → AreLinesTold expected (all_lines read) (written ++ (text ++ more)) (worse s q)
+  pub last-told : (read written line text more : List ℕ) (s q : Status) → (line ≡ [] → ⊥)
+      → HasSaid expected read written line text s → IsLineTold expected line more q
+      → AreLinesTold expected (all_lines read) (written ++ (text ++ more)) (worse s q)
   last-told read written line text more s q some h says =
       let rest = rest_after [] read in
       rw (some-rest rest (λ none. some (h.is_line ∙ none)), ← append_assoc written text more)
-      (lines-joined (ended_lines read) (rest ∷ []) (written ++ text) more s q h.is_told (one-line rest more q (kept-told rest more q (subst (λ (l : List ℕ). IsLineTold expected l more q) h.is_line says))))
+      (lines-joined (ended_lines read) (rest ∷ []) (written ++ text) more s q h.is_told
+      (one-line rest more q (kept-told rest more q
+      (subst (λ (l : List ℕ). IsLineTold expected l more q) h.is_line says))))
 
 -- ---- what is written
 
@@ -179,28 +226,45 @@ appends-none None = tt
 appends-none (Some a) = sym (append-nil a)
 
 -- a text is written after another
-pub written-then : (first text : List ℕ) (right : Status) (a b c : Option (List ℕ)) (before after : ℕ) (ended : Status) → Appends a b first → IsWritten text right b c before after ended → IsWritten (first ++ text) right a c before after ended
-written-then first text right a b c before after ended p (all q same is) = all (Appends-then a b c first text p q) same is
+pub written-then : (first text : List ℕ) (right : Status) (a b c : Option (List ℕ)) (before after : ℕ) (ended : Status)
+    → Appends a b first → IsWritten text right b c before after ended
+    → IsWritten (first ++ text) right a c before after ended
+written-then first text right a b c before after ended p (all q same is) =
+    all (Appends-then a b c first text p q) same is
 written-then first text right a b c before after ended p (cut count few q fails is) =
-    cut (length first + count) (omega (arith, few, length-append first text)) (rw (take-append-add first text count) (Appends-then a b c first (take count text) p q)) fails is
+    cut (length first + count) (omega (arith, few, length-append first text))
+    (rw (take-append-add first text count) (Appends-then a b c first (take count text) p q)) fails is
 
 -- with no failure in the first
-pub written-all : (first text : List ℕ) (right : Status) (a b c : Option (List ℕ)) (before middle after : ℕ) (ended : Status) → Appends a b first → middle ≡ before → IsWritten text right b c middle after ended → IsWritten (first ++ text) right a c before after ended
-written-all first text right a b c before middle after ended p same h = written-then first text right a b c before after ended p (subst (λ (n : ℕ). IsWritten text right b c n after ended) same h)
+pub written-all : (first text : List ℕ) (right : Status) (a b c : Option (List ℕ)) (before middle after : ℕ)
+    (ended : Status) → Appends a b first → middle ≡ before → IsWritten text right b c middle after ended
+    → IsWritten (first ++ text) right a c before after ended
+written-all first text right a b c before middle after ended p same h =
+    written-then first text right a b c before after ended p
+    (subst (λ (n : ℕ). IsWritten text right b c n after ended) same h)
 
 -- the writer failed in the first
-pub stopped-first : (first text : List ℕ) (right : Status) (a b : Option (List ℕ)) (before after : ℕ) (count : ℕ) → count < length first → Appends a b (take count first) → HasFailed before after → IsWritten (first ++ text) right a b before after status.Fault
+pub stopped-first : (first text : List ℕ) (right : Status) (a b : Option (List ℕ)) (before after : ℕ) (count : ℕ)
+    → count < length first → Appends a b (take count first) → HasFailed before after
+    → IsWritten (first ++ text) right a b before after status.Fault
 stopped-first first text right a b before after count few p fails =
-    cut count (omega (arith, few, length-append first text)) (subst (Appends a b) (sym (take-append-le count first text (omega (arith, few)))) p) fails refl
+    cut count (omega (arith, few, length-append first text))
+    (subst (Appends a b) (sym (take-append-le count first text (omega (arith, few)))) p) fails refl
 
 -- what a line's answer makes of what was said
-pub answered-said : (expected : Expected) (line text new : List ℕ) (s q : Status) (x : ℕ) → x ≡ 10 → (more : List ℕ) (u : Status) → IsLineTold expected line more u → new ≡ text ++ more → q ≡ worse s u
-    → (read written : List ℕ) → HasSaid expected read written line text s → HasSaid expected (read ++ (x ∷ [])) written [] new q
-answered-said expected line text new s q x is more u says e f read written h = rw (e, f) (line-ended expected read written line text more s u x is h says)
+pub answered-said : (expected : Expected) (line text new : List ℕ) (s q : Status) (x : ℕ) → x ≡ 10
+    → (more : List ℕ) (u : Status) → IsLineTold expected line more u → new ≡ text ++ more → q ≡ worse s u
+    → (read written : List ℕ) → HasSaid expected read written line text s
+    → HasSaid expected (read ++ (x ∷ [])) written [] new q
+answered-said expected line text new s q x is more u says e f read written h =
+    rw (e, f) (line-ended expected read written line text more s u x is h says)
 
-pub answered-last : (expected : Expected) (line text new : List ℕ) (s q : Status) → (line ≡ [] → ⊥) → (more : List ℕ) (u : Status) → IsLineTold expected line more u → new ≡ text ++ more → q ≡ worse s u
-    → (read written : List ℕ) → HasSaid expected read written line text s → AreLinesTold expected (all_lines read) (written ++ new) q
-answered-last expected line text new s q some more u says e f read written h = rw (e, f) (last-told expected read written line text more s u some h says)
+pub answered-last : (expected : Expected) (line text new : List ℕ) (s q : Status) → (line ≡ [] → ⊥)
+    → (more : List ℕ) (u : Status) → IsLineTold expected line more u → new ≡ text ++ more → q ≡ worse s u
+    → (read written : List ℕ) → HasSaid expected read written line text s
+    → AreLinesTold expected (all_lines read) (written ++ new) q
+answered-last expected line text new s q some more u says e f read written h =
+    rw (e, f) (last-told expected read written line text more s u some h says)
 
 pub if-ok : {A E : Type 0} (r : Result A E) {P Q : Type 0} → (P → Q) → OnOk r P → OnOk r Q
 if-ok (Ok a) f h = f h
@@ -215,29 +279,37 @@ if-err (Ok a) q = tt
 if-err (Err e) q = q
 
 -- memory ran out within a piece
-pub begun-within : (expected : Expected) (read written piece : List ℕ) (i : ℕ) (line text : List ℕ) (s : Status) → HasSaid expected (read ++ take i piece) written line text s → HasBegun expected (all_lines (read ++ piece)) (written ++ text)
+pub begun-within : (expected : Expected) (read written piece : List ℕ) (i : ℕ) (line text : List ℕ) (s : Status)
+    → HasSaid expected (read ++ take i piece) written line text s
+    → HasBegun expected (all_lines (read ++ piece)) (written ++ text)
 begun-within expected read written piece i line text s h =
-    let joined = append_assoc read (take i piece) (drop i piece) ∙ ap (λ (l : List ℕ). read ++ l) (take-append-drop i piece) in
-    subst (λ (l : List ℕ). HasBegun expected (all_lines l) (written ++ text)) joined (begun expected (read ++ take i piece) (drop i piece) written line text s h)
+    let joined = append_assoc read (take i piece) (drop i piece)
+    ∙ ap (λ (l : List ℕ). read ++ l) (take-append-drop i piece) in
+    subst (λ (l : List ℕ). HasBegun expected (all_lines l) (written ++ text)) joined
+    (begun expected (read ++ take i piece) (drop i piece) written line text s h)
 
 -- ---- turn by turn
 
 -- So many calls of the reader gave octets, whose lines are answered, and no call failed.
-pub record HasAnswered (expected : Expected) (held left : Option (List ℕ)) (before after : ℕ) (old new : Option (List ℕ)) (unwritten failures : ℕ) (line text : List ℕ) (ended : Status) (turns : ℕ) : Type 0 where
-  pub read : List ℕ
-  pub written : List ℕ
-  pub from : Consumes held left read
-  pub none_failed : after ≡ before
-  pub many : turns ≤ length read
-  pub put : Appends old new written
-  pub none_unwritten : failures ≡ unwritten
-  pub said : HasSaid expected read written line text ended
+pub record HasAnswered (expected : Expected) (held left : Option (List ℕ)) (before after : ℕ)
+    (old new : Option (List ℕ)) (unwritten failures : ℕ) (line text : List ℕ) (ended : Status) (turns : ℕ) : Type 0
+  where
+    pub read : List ℕ
+    pub written : List ℕ
+    pub from : Consumes held left read
+    pub none_failed : after ≡ before
+    pub many : turns ≤ length read
+    pub put : Appends old new written
+    pub none_unwritten : failures ≡ unwritten
+    pub said : HasSaid expected read written line text ended
 
 pub consumes-none : (a : Option (List ℕ)) → Consumes a a []
 consumes-none None = tt
 consumes-none (Some a) = refl
 
-pub none-answered : (expected : Expected) (held : Option (List ℕ)) (before : ℕ) (old : Option (List ℕ)) (unwritten : ℕ) (line text : List ℕ) → line ≡ [] → text ≡ [] → HasAnswered expected held held before before old old unwritten unwritten line text Accepted 0
+pub none-answered : (expected : Expected) (held : Option (List ℕ)) (before : ℕ) (old : Option (List ℕ)) (unwritten : ℕ)
+    (line text : List ℕ) → line ≡ [] → text ≡ []
+    → HasAnswered expected held held before before old old unwritten unwritten line text Accepted 0
 none-answered expected held before old unwritten line text fresh none = record {
   read = [];
   written = [];
@@ -249,9 +321,12 @@ none-answered expected held before old unwritten line text fresh none = record {
   said = record { is_told = (none, refl); is_line = fresh };
 }
 
-module _ (expected : Expected) (held left : Option (List ℕ)) (before after : ℕ) (old new : Option (List ℕ)) (unwritten failures : ℕ) (line text : List ℕ) (s : Status) (turns : ℕ) (h : HasAnswered expected held left before after old new unwritten failures line text s turns) where
+module _ (expected : Expected) (held left : Option (List ℕ)) (before after : ℕ) (old new : Option (List ℕ))
+    (unwritten failures : ℕ) (line text : List ℕ) (s : Status) (turns : ℕ)
+    (h : HasAnswered expected held left before after old new unwritten failures line text s turns) where
   -- what was left to be written is written
-  pub flushed : (put : Option (List ℕ)) (count : ℕ) (none : List ℕ) → none ≡ [] → Appends new put text → count ≡ failures → HasAnswered expected held left before after old put unwritten count line none s turns
+  pub flushed : (put : Option (List ℕ)) (count : ℕ) (none : List ℕ) → none ≡ [] → Appends new put text
+      → count ≡ failures → HasAnswered expected held left before after old put unwritten count line none s turns
   flushed put count none empty p same = record {
     read = h.read;
     written = h.written ++ text;
@@ -264,14 +339,20 @@ module _ (expected : Expected) (held left : Option (List ℕ)) (before after : �
   }
 
   -- the writer failed
-  pub stopped-here : (put : Option (List ℕ)) (unput count : ℕ) → count < length text → Appends new put (take count text) → HasFailed failures unput → WritesLines expected held left before after old put unwritten unput status.Fault
+  pub stopped-here : (put : Option (List ℕ)) (unput count : ℕ) → count < length text → Appends new put (take count text)
+      → HasFailed failures unput → WritesLines expected held left before after old put unwritten unput status.Fault
   stopped-here put unput count few p fails =
-      stopped h.read (h.written ++ text) s h.from h.none_failed h.said.is_told (length h.written + count) (omega (arith, few, length-append h.written text))
-      (rw (take-append-add h.written text count) (Appends-then old new put h.written (take count text) h.put p)) (subst (λ (n : ℕ). HasFailed n unput) h.none_unwritten fails) refl
+      stopped h.read (h.written ++ text) s h.from h.none_failed h.said.is_told (length h.written + count)
+      (omega (arith, few, length-append h.written text))
+      (rw (take-append-add h.written text count) (Appends-then old new put h.written (take count text) h.put p))
+      (subst (λ (n : ℕ). HasFailed n unput) h.none_unwritten fails) refl
 
   -- a piece was read
-  pub more-read : (there : Option (List ℕ)) (count : ℕ) (piece next more : List ℕ) (q : Status) → Consumes left there piece → count ≡ after → 0 < length piece
-      → ((read written : List ℕ) → HasSaid expected read written line text s → HasSaid expected (read ++ piece) written next more q) → HasAnswered expected held there before count old new unwritten failures next more q (turns + 1)
+  pub more-read : (there : Option (List ℕ)) (count : ℕ) (piece next more : List ℕ) (q : Status)
+      → Consumes left there piece → count ≡ after → 0 < length piece
+      → ((read written : List ℕ) → HasSaid expected read written line text s
+      → HasSaid expected (read ++ piece) written next more q)
+      → HasAnswered expected held there before count old new unwritten failures next more q (turns + 1)
   more-read there count piece next more q p same some says = record {
     read = h.read ++ piece;
     written = h.written;
@@ -285,50 +366,70 @@ module _ (expected : Expected) (held left : Option (List ℕ)) (before after : �
 
   module _ (put : Option (List ℕ)) (unput : ℕ) (ended : Status) where
     -- the rest is written
-    rest-written : (rest : List ℕ) (right : Status) → IsWritten rest right new put failures unput ended → IsWritten (h.written ++ rest) right old put unwritten unput ended
-    rest-written rest right is = written-all h.written rest right old new put unwritten failures unput ended h.put h.none_unwritten is
+    rest-written : (rest : List ℕ) (right : Status) → IsWritten rest right new put failures unput ended
+        → IsWritten (h.written ++ rest) right old put unwritten unput ended
+    rest-written rest right is = written-all h.written rest right old new put unwritten failures unput ended h.put
+        h.none_unwritten is
 
     -- a call of the reader failed
-    pub read-failed : (there : Option (List ℕ)) (count : ℕ) → Keeps left there → count ≡ next_count after → IsWritten (text ++ fault_text Read) status.Fault new put failures unput ended → WritesLines expected held there before count old put unwritten unput ended
+    pub read-failed : (there : Option (List ℕ)) (count : ℕ) → Keeps left there → count ≡ next_count after
+        → IsWritten (text ++ fault_text Read) status.Fault new put failures unput ended
+        → WritesLines expected held there before count old put unwritten unput ended
     read-failed there count kept fails is = answered (record {
       text = h.written ++ (text ++ fault_text Read);
       right = status.Fault;
-      is_right = failed h.read (h.written ++ text) s (Consumes-kept held left there h.read h.from kept) (fails ∙ ap next_count h.none_failed) h.said.is_told (sym (append_assoc h.written text (fault_text Read))) refl;
+      is_right = failed h.read (h.written ++ text) s (Consumes-kept held left there h.read h.from kept)
+          (fails ∙ ap next_count h.none_failed) h.said.is_told (sym (append_assoc h.written text (fault_text Read)))
+          refl;
       is_written = rest-written (text ++ fault_text Read) status.Fault is;
     })
 
     -- memory ran out
-    pub wanted : (there : Option (List ℕ)) (count : ℕ) (piece more : List ℕ) → Consumes left there piece → count ≡ after → ((read written : List ℕ) → HasSaid expected read written line text s → HasBegun expected (all_lines (read ++ piece)) (written ++ more))
-        → IsWritten (more ++ fault_text Memory) status.Fault new put failures unput ended → WritesLines expected held there before count old put unwritten unput ended
+    pub wanted : (there : Option (List ℕ)) (count : ℕ) (piece more : List ℕ) → Consumes left there piece → count ≡ after
+        → ((read written : List ℕ) → HasSaid expected read written line text s
+        → HasBegun expected (all_lines (read ++ piece)) (written ++ more))
+        → IsWritten (more ++ fault_text Memory) status.Fault new put failures unput ended
+        → WritesLines expected held there before count old put unwritten unput ended
     wanted there count piece more p same says is =
         let begun = says h.read h.written h.said in
         answered (record {
           text = h.written ++ (more ++ fault_text Memory);
           right = status.Fault;
-          is_right = wanting (h.read ++ piece) (h.written ++ more) begun.so_far begun.done begun.more (Consumes-then held left there h.read piece h.from p) (same ∙ h.none_failed) begun.is_front begun.is_told (sym (append_assoc h.written more (fault_text Memory))) refl;
+          is_right = wanting (h.read ++ piece) (h.written ++ more) begun.so_far begun.done begun.more
+              (Consumes-then held left there h.read piece h.from p) (same ∙ h.none_failed) begun.is_front begun.is_told
+              (sym (append_assoc h.written more (fault_text Memory))) refl;
           is_written = rest-written (more ++ fault_text Memory) status.Fault is;
         })
 
     -- the octets can't be counted
-    pub used-up : most_read ≤ turns → IsWritten (text ++ fault_text TooLarge) status.Fault new put failures unput ended → WritesLines expected held left before after old put unwritten unput ended
+    pub used-up : most_read ≤ turns → IsWritten (text ++ fault_text TooLarge) status.Fault new put failures unput ended
+        → WritesLines expected held left before after old put unwritten unput ended
     used-up most is = answered (record {
       text = h.written ++ (text ++ fault_text TooLarge);
       right = status.Fault;
-      is_right = endless h.read (h.written ++ text) s h.from h.none_failed (omega (arith, most, h.many)) h.said.is_told (sym (append_assoc h.written text (fault_text TooLarge))) refl;
+      is_right = endless h.read (h.written ++ text) s h.from h.none_failed (omega (arith, most, h.many)) h.said.is_told
+          (sym (append_assoc h.written text (fault_text TooLarge))) refl;
       is_written = rest-written (text ++ fault_text TooLarge) status.Fault is;
     })
 
-    rest-told : (there : Option (List ℕ)) (count : ℕ) (rest : List ℕ) (right : Status) → Consumes held there h.read → IsAtEnd there → count ≡ before → IsRest expected (all_lines h.read) h.written rest right → TellsLines expected held there before count (h.written ++ rest) right
+    rest-told : (there : Option (List ℕ)) (count : ℕ) (rest : List ℕ) (right : Status) → Consumes held there h.read
+        → IsAtEnd there → count ≡ before → IsRest expected (all_lines h.read) h.written rest right
+        → TellsLines expected held there before count (h.written ++ rest) right
     rest-told there count rest right p end same (all_told says) = whole h.read p end same says
     rest-told there count rest right p end same (first_told more begun is fault) =
-        wanting h.read (h.written ++ more) begun.so_far begun.done begun.more p same begun.is_front begun.is_told (ap (λ (l : List ℕ). h.written ++ l) is ∙ sym (append_assoc h.written more (fault_text Memory))) fault
+        wanting h.read (h.written ++ more) begun.so_far begun.done begun.more p same begun.is_front begun.is_told
+        (ap (λ (l : List ℕ). h.written ++ l) is ∙ sym (append_assoc h.written more (fault_text Memory))) fault
 
     -- the input ended
-    pub at-end : (there : Option (List ℕ)) (count : ℕ) (none : List ℕ) → none ≡ [] → Consumes left there none → IsAtEnd there → count ≡ after
-        → ((read written : List ℕ) → HasSaid expected read written line text s → Writes (IsRest expected (all_lines read) written) new put failures unput ended) → WritesLines expected held there before count old put unwritten unput ended
+    pub at-end : (there : Option (List ℕ)) (count : ℕ) (none : List ℕ) → none ≡ [] → Consumes left there none
+        → IsAtEnd there → count ≡ after
+        → ((read written : List ℕ) → HasSaid expected read written line text s
+        → Writes (IsRest expected (all_lines read) written) new put failures unput ended)
+        → WritesLines expected held there before count old put unwritten unput ended
     at-end there count none empty p end same says =
         let rest = says h.read h.written h.said in
-        let all_read = subst (Consumes held there) (ap (λ (l : List ℕ). h.read ++ l) empty ∙ append-nil h.read) (Consumes-then held left there h.read none h.from p) in
+        let all_read = subst (Consumes held there) (ap (λ (l : List ℕ). h.read ++ l) empty ∙ append-nil h.read)
+        (Consumes-then held left there h.read none h.from p) in
         answered (record {
           text = h.written ++ rest.text;
           right = rest.right;

@@ -22,7 +22,8 @@ next known n lt once = go (is_some (known_for x.tag (drop (n + 1) known))) refl
     x : Known
     x = get_or known n any
 
-    go : (again : Bool) → is_some (known_for x.tag (drop (n + 1) known)) ≡ again → HasDuplicate known ⊎ Once known (n + 1)
+    go : (again : Bool) → is_some (known_for x.tag (drop (n + 1) known)) ≡ again → HasDuplicate known
+        ⊎ Once known (n + 1)
     go true e = inl (twice known n x lt (get_or_default known n any x lt) e)
     go false e = inr (once_more known n x lt (get_or_default known n any x lt) e once)
 

@@ -34,19 +34,22 @@ chosen false r f a h = cc h
 words-octets : (words : List (List ℕ)) (atr : List ℕ) → atr_by words ≡ Ok atr → AreOctets atr
 words-octets [] atr h = cc h
 words-octets (word ∷ []) atr h = cc h
-words-octets (word ∷ octets ∷ []) atr h = (octets-sound octets atr (chosen (bytes_eq word (codes "atr")) (octets_said octets) _ atr h)).1
+words-octets (word ∷ octets ∷ []) atr h =
+    (octets-sound octets atr (chosen (bytes_eq word (codes "atr")) (octets_said octets) _ atr h)).1
 words-octets (word ∷ octets ∷ more ∷ words) atr h = cc h
 
 line-octets : (line atr : List ℕ) → at 2 (atr_said line) ≡ Ok atr → AreOctets atr
 line-octets line atr h =
     elim (cases (atr_by (words_of line))) [
       | inl said ↦
-          let same : said.0 ≡ atr = ap (λ (r : Result (List ℕ) ExchangeFault). result_unwrap_or r atr) (rw said.1 at h) in
+          let same : said.0 ≡ atr = ap (λ (r : Result (List ℕ) ExchangeFault). result_unwrap_or r atr) (rw said.1 at h)
+          in
           subst AreOctets same (words-octets (words_of line) said.0 said.1)
       | inr fault ↦ let bad = rw fault.1 at h in cc bad
     ]
 
-parts-octets : (version : Version) (parts : List (List ℕ)) (e : ExchangeParts) → parts_said version parts ≡ Ok e → AreOctets e.atr
+parts-octets : (version : Version) (parts : List (List ℕ)) (e : ExchangeParts) → parts_said version parts ≡ Ok e
+    → AreOctets e.atr
 parts-octets version [] e h = cc h
 parts-octets version (line ∷ []) e h = cc h
 parts-octets version (line ∷ next ∷ parts) e h =
@@ -81,30 +84,40 @@ abbrev given-at : Option (ℕ × List ℕ) → List ℕ
 given-at None = []
 given-at (Some difference) = difference.1
 
-same-here : (line place : ℕ) (gives given : List ℕ) → here line gives ≡ here place given → (line ≡ place) × (gives ≡ given)
+same-here : (line place : ℕ) (gives given : List ℕ) → here line gives ≡ here place given → (line ≡ place)
+    × (gives ≡ given)
 same-here line place gives given e = (ap place-of e, ap given-at e)
 
 module _ (e : ExchangeParts) (which : Side) where
   one-replayed : (t u : List ℕ) (s q : Status) → IsReplayed e which t s → IsReplayed e which u q → (t ≡ u) × (s ≡ q)
   one-replayed t u s q (agrees r text ended) (agrees x other different) = (text ∙ sym other, ended ∙ sym different)
-  one-replayed t u s q (agrees r text ended) (differs line gives x other different) = absurd (none-some line gives (one-replay one-accepted e.atr e.lines which _ _ r x))
-  one-replayed t u s q (differs line gives r text ended) (agrees x other different) = absurd (none-some line gives (one-replay one-accepted e.atr e.lines which _ _ x r))
+  one-replayed t u s q (agrees r text ended) (differs line gives x other different) =
+      absurd (none-some line gives (one-replay one-accepted e.atr e.lines which _ _ r x))
+  one-replayed t u s q (differs line gives r text ended) (agrees x other different) =
+      absurd (none-some line gives (one-replay one-accepted e.atr e.lines which _ _ x r))
   one-replayed t u s q (differs line gives r text ended) (differs place given x other different) =
-      let same = same-here line place gives given (one-replay one-accepted e.atr e.lines which _ _ r x) in
-      (text ∙ ap (λ (n : ℕ). differs_text n gives) same.0 ∙ ap (differs_text place) same.1 ∙ sym other, ended ∙ sym different)
+      let same = same-here line place gives given (one-replay one-accepted e.atr e.lines which _ _ r x) in (
+        text ∙ ap (λ (n : ℕ). differs_text n gives) same.0 ∙ ap (differs_text place) same.1 ∙ sym other,
+        ended
+            ∙ sym different,
+      )
 
-  replayed-by : (difference : Option (ℕ × List ℕ)) → replay.Replays e.atr e.lines which difference → (t : List ℕ) × (s : Status) × IsReplayed e which t s
+  replayed-by : (difference : Option (ℕ × List ℕ)) → replay.Replays e.atr e.lines which difference → (t : List ℕ)
+      × (s : Status) × IsReplayed e which t s
   replayed-by None r = (agrees_text e, status.Accepted, agrees r refl refl)
   replayed-by (Some (line, gives)) r = (differs_text line gives, status.Refused, differs line gives r refl refl)
 
   some-replayed : AreOctets e.atr → (t : List ℕ) × (s : Status) × IsReplayed e which t s
-  some-replayed octets = let r = some-replay one-accepted e.atr e.lines which (atr_goes.one-verdict e.atr octets) in replayed-by r.0 r.1
+  some-replayed octets = let r = some-replay one-accepted e.atr e.lines which (atr_goes.one-verdict e.atr octets) in
+      replayed-by r.0 r.1
 
 -- ---- files
 
 -- an exchange is told so, where it was said; else its text's fault
-told-said : (Told : ExchangeParts → List ℕ → Status → Type 0) (said : Result ExchangeParts ExchangeFault) → ((e : ExchangeParts) → said ≡ Ok e → OneText (Told e))
-    → OneText (λ text ended. MatchResult said (λ e. Told e text ended) (λ fault. (text ≡ file_fault_text fault) × (ended ≡ status.Fault)))
+told-said : (Told : ExchangeParts → List ℕ → Status → Type 0) (said : Result ExchangeParts ExchangeFault)
+    → ((e : ExchangeParts) → said ≡ Ok e → OneText (Told e))
+    → OneText (λ text ended. MatchResult said (λ e. Told e text ended)
+    (λ fault. (text ≡ file_fault_text fault) × (ended ≡ status.Fault)))
 told-said Told (Ok e) once = once e refl
 told-said Told (Err fault) once = ended-by (file_fault_text fault) status.Fault
 
@@ -116,4 +129,5 @@ replayed-once which file =
     })
 
 pub migrated-once : (file : List ℕ) → OneText (Migrates file)
-migrated-once file = told-said (λ e text ended. (text ≡ exchange_text (migrated e)) × (ended ≡ status.Accepted)) (exchange_said file) (λ e is. plain (exchange_text (migrated e)))
+migrated-once file = told-said (λ e text ended. (text ≡ exchange_text (migrated e)) × (ended ≡ status.Accepted))
+    (exchange_said file) (λ e is. plain (exchange_text (migrated e)))

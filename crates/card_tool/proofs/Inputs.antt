@@ -35,30 +35,48 @@ Consumes-none (Some a) = refl
 pub none-begun : (held : Option (List ℕ)) (most : ℕ) → IsBegun held held most
 none-begun held most = record { read = []; from = Consumes-none held; few = omega arith }
 
-pub none-held : (held : Option (List ℕ)) (count : ℕ) (items : List ℕ) → items ≡ [] → IsHeld held held count count items 0
-none-held held count items none = record { inside = omega arith; most = rw none (omega arith); from = Consumes-none held; count = refl }
+pub none-held : (held : Option (List ℕ)) (count : ℕ) (items : List ℕ) → items ≡ []
+    → IsHeld held held count count items 0
+none-held held count items none = record {
+  inside = omega arith;
+  most = rw none (omega arith);
+  from =
+      Consumes-none held;
+  count = refl;
+}
 
-module _ (held between left : Option (List ℕ)) (before middle after : ℕ) (old new : List ℕ) (filled : ℕ) (so_far : IsHeld held between before middle old filled) where
-  pub more-held : (count : ℕ) → IsMore between left middle after old new filled count → IsHeld held left before after new (filled + count)
+module _ (held between left : Option (List ℕ)) (before middle after : ℕ) (old new : List ℕ) (filled : ℕ)
+    (so_far : IsHeld held between before middle old filled) where
+  pub more-held : (count : ℕ) → IsMore between left middle after old new filled count
+      → IsHeld held left before after new (filled + count)
   more-held count more = record {
     inside = more.inside;
     most = more.most;
     from = subst (Consumes held left) (sym (take-add filled count new))
-        (Consumes-then held between left (take filled new) (take count (drop filled new)) (subst (Consumes held between) (sym more.kept) so_far.from) more.from);
+        (Consumes-then held between left (take filled new) (take count (drop filled new))
+        (subst (Consumes held between) (sym more.kept) so_far.from) more.from);
     count = more.none_failed ∙ so_far.count;
   }
 
   begun : filled ≤ largest_file → Keeps between left → IsBegun held left largest_file
-  begun few kept = record { read = take filled old; from = Consumes-kept held between left (take filled old) so_far.from kept; few = omega (arith, few, length-take filled old) }
+  begun few kept = record {
+    read = take filled old;
+    from =
+        Consumes-kept held between left (take filled old) so_far.from kept;
+    few =
+        omega (arith, few, length-take filled old);
+  }
 
-  pub fault-read : (fault : Fault) → filled ≤ largest_file → ReadsMore between left middle after old new filled (Err fault) → ReadsWhole held left before after (Err fault)
+  pub fault-read : (fault : Fault) → filled ≤ largest_file
+      → ReadsMore between left middle after old new filled (Err fault) → ReadsWhole held left before after (Err fault)
   fault-read Words few h = absurd h
   fault-read Hex few h = absurd h
   fault-read TooLarge few h = absurd h
   fault-read Read few h = (begun few h.0, h.1 ∙ ap next_count so_far.count)
   fault-read Memory few h = (begun few h.0, h.1 ∙ so_far.count)
 
-  pub whole-read : (count : ℕ) → count ≡ 0 → filled ≤ largest_file → IsMore between left middle after old new filled count → IsWhole held left before after (take filled new)
+  pub whole-read : (count : ℕ) → count ≡ 0 → filled ≤ largest_file
+      → IsMore between left middle after old new filled count → IsWhole held left before after (take filled new)
   whole-read count none few more = record {
     from = subst (λ (n : ℕ). Consumes held left (take n new)) (omega (arith, none)) (more-held count more).from;
     end = more.end none;
@@ -66,7 +84,8 @@ module _ (held between left : Option (List ℕ)) (before middle after : ℕ) (ol
     count = more.none_failed ∙ so_far.count;
   }
 
-pub too-large : (held left : Option (List ℕ)) (before after : ℕ) (items : List ℕ) (filled : ℕ) → IsHeld held left before after items filled → largest_file < filled → IsTooLarge held left before after
+pub too-large : (held left : Option (List ℕ)) (before after : ℕ) (items : List ℕ) (filled : ℕ)
+    → IsHeld held left before after items filled → largest_file < filled → IsTooLarge held left before after
 too-large held left before after items filled so_far many = record {
   read = take filled items;
   from = so_far.from;
@@ -75,27 +94,42 @@ too-large held left before after items filled so_far many = record {
 }
 
 -- no answer of reading leaves more behind than one octet past the largest file
-pub read-begun : (held left : Option (List ℕ)) (before after : ℕ) (r : Result (List ℕ) Fault) → ReadsWhole held left before after r → IsBegun held left 4194305
+pub read-begun : (held left : Option (List ℕ)) (before after : ℕ) (r : Result (List ℕ) Fault)
+    → ReadsWhole held left before after r → IsBegun held left 4194305
 read-begun held left before after (Ok file) h = record { read = file; from = h.from; few = omega (arith, h.fits) }
-read-begun held left before after (Err TooLarge) h = record { read = h.read; from = h.from; few = omega (arith, h.many) }
-read-begun held left before after (Err Read) h = record { read = h.0.read; from = h.0.from; few = omega (arith, h.0.few) }
-read-begun held left before after (Err Memory) h = record { read = h.0.read; from = h.0.from; few = omega (arith, h.0.few) }
+read-begun held left before after (Err TooLarge) h =
+    record { read = h.read; from = h.from; few = omega (arith, h.many) }
+read-begun held left before after (Err Read) h =
+    record { read = h.0.read; from = h.0.from; few = omega (arith, h.0.few) }
+read-begun held left before after (Err Memory) h =
+    record { read = h.0.read; from = h.0.from; few = omega (arith, h.0.few) }
 read-begun held left before after (Err Words) h = absurd h
 read-begun held left before after (Err Hex) h = absurd h
 
 -- ---- octets that are given
 
-pub word-taken : (octets : List ℕ) (held : Option (List ℕ)) (count : ℕ) → IsTaken (Word octets) held held count count (Ok octets)
-word-taken octets held count = record { file = Ok []; is_file = λ asked. absurd asked; is_taken = inl refl; count = refl }
+pub word-taken : (octets : List ℕ) (held : Option (List ℕ)) (count : ℕ)
+    → IsTaken (Word octets) held held count count (Ok octets)
+word-taken octets held count = record {
+  file = Ok [];
+  is_file = λ asked. absurd asked;
+  is_taken = inl refl;
+  count =
+      refl;
+}
 
-pub read-fault : (form : Form) (held left : Option (List ℕ)) (before after : ℕ) (fault : Fault) → ReadsWhole held left before after (Err fault) → IsTaken (given.Read form) held left before after (Err fault)
-read-fault form held left before after fault h = record { file = Err fault; is_file = λ asked. h; is_taken = inl refl; count = tt }
+pub read-fault : (form : Form) (held left : Option (List ℕ)) (before after : ℕ) (fault : Fault)
+    → ReadsWhole held left before after (Err fault) → IsTaken (given.Read form) held left before after (Err fault)
+read-fault form held left before after fault h =
+    record { file = Err fault; is_file = λ asked. h; is_taken = inl refl; count = tt }
 
 counted : (before after : ℕ) (taken : Result (List ℕ) Fault) → after ≡ before → IfOk taken (λ _. after ≡ before)
 counted before after (Ok octets) h = h
 counted before after (Err fault) h = tt
 
-pub read-taken : (form : Form) (held left : Option (List ℕ)) (before after : ℕ) (text : List ℕ) (taken : Result (List ℕ) Fault) → ReadsWhole held left before after (Ok text) → UnlessMemory taken (octets_in form text) → IsTaken (given.Read form) held left before after taken
+pub read-taken : (form : Form) (held left : Option (List ℕ)) (before after : ℕ) (text : List ℕ)
+    (taken : Result (List ℕ) Fault) → ReadsWhole held left before after (Ok text)
+    → UnlessMemory taken (octets_in form text) → IsTaken (given.Read form) held left before after taken
 read-taken form held left before after text taken h said = record {
   file = Ok text;
   is_file = λ asked. h;

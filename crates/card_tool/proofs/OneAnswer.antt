@@ -57,7 +57,8 @@ module _ {V R : Type 0} (c : Codec V R) (told : V → ℕ → List ℕ) (b : Lis
       (text ∙ ap (λ (x : V). told x n) value ∙ ap (told w) count ∙ sym other, ended ∙ sym different)
   one-told t u s q (accepted v n h text ended) (refused stop g other different) = absurd (verdict.not_both v n stop h g)
   one-told t u s q (refused stop h text ended) (accepted w m g other different) = absurd (verdict.not_both w m stop g h)
-  one-told t u s q (refused stop h text ended) (refused halt g other different) = (text ∙ ap (refused_text c.name) (verdict.one_refusal stop halt h g) ∙ sym other, ended ∙ sym different)
+  one-told t u s q (refused stop h text ended) (refused halt g other different) =
+      (text ∙ ap (refused_text c.name) (verdict.one_refusal stop halt h g) ∙ sym other, ended ∙ sym different)
 
   some-told : (t : List ℕ) × (s : Status) × Tells c told b t s
   some-told = elim verdict.some [
@@ -70,20 +71,26 @@ module _ {V R : Type 0} (c : Codec V R) (told : V → ℕ → List ℕ) (b : Lis
 
 -- ---- the kinds
 
-judged : (kind : Kind) (expected : Expected) (b : List ℕ) → expected.ifs ≤ 254 → AreOctets b → IsJudged (codec_of kind expected).codec b
+judged : (kind : Kind) (expected : Expected) (b : List ℕ) → expected.ifs ≤ 254 → AreOctets b
+    → IsJudged (codec_of kind expected).codec b
 judged Atr expected b small octets = atr_goes.one-verdict b octets
 judged Block expected b small octets = one-verdict expected.ifs b small octets
-judged Chain expected b small octets = chain_goes.one-verdict expected.ifs expected.number longest_message b small octets
+judged Chain expected b small octets = chain_goes.one-verdict expected.ifs expected.number longest_message b small
+    octets
 judged Command expected b small octets = command-one_verdict b octets
 judged Response expected b small octets = response-one_verdict b octets
 judged Tlv expected b small octets = forest_verdict largest b octets
 judged Dol expected b small octets = dol_verdict b octets
 
-checked : (kind : Kind) (expected : Expected) (b : List ℕ) → expected.ifs ≤ 254 → AreOctets b → OneText (Checks kind expected b)
-checked kind expected b small octets = told-once (codec_of kind expected).codec (λ v n. accepted_text n) b (judged kind expected b small octets)
+checked : (kind : Kind) (expected : Expected) (b : List ℕ) → expected.ifs ≤ 254 → AreOctets b
+    → OneText (Checks kind expected b)
+checked kind expected b small octets = told-once (codec_of kind expected).codec (λ v n. accepted_text n) b
+    (judged kind expected b small octets)
 
-shown : (kind : Kind) (expected : Expected) (b : List ℕ) → expected.ifs ≤ 254 → AreOctets b → OneText (Shows kind expected b)
-shown kind expected b small octets = told-once (codec_of kind expected).codec (λ v n. (codec_of kind expected).codec.lines v) b (judged kind expected b small octets)
+shown : (kind : Kind) (expected : Expected) (b : List ℕ) → expected.ifs ≤ 254 → AreOctets b
+    → OneText (Shows kind expected b)
+shown kind expected b small octets = told-once (codec_of kind expected).codec
+    (λ v n. (codec_of kind expected).codec.lines v) b (judged kind expected b small octets)
 
 tidied : (b : List ℕ) → AreOctets b → OneText (Tidies b)
 tidied b octets = told-once forest_codec (λ v n. tidied_text v) b (forest_verdict largest b octets)
@@ -99,19 +106,32 @@ values known v w k l = cc
 not-both : (known : Result (List Known) Fault) (f : Fault) (v : List Known) → known ≡ Err f → known ≡ Ok v → ⊥
 not-both known f v k l = cc
 
-one-filled_by : (known : Result (List Known) Fault) (entries : List (List ℕ × ℕ)) (t u : List ℕ) (s q : Status) → IsFilledBy known entries t s → IsFilledBy known entries u q → (t ≡ u) × (s ≡ q)
-one-filled_by known entries t u s q (unknown f k text ended) (unknown g l other different) = let same : f ≡ g = errors known f g k l in (text ∙ ap fault_text same ∙ sym other, ended ∙ sym different)
-one-filled_by known entries t u s q (unknown f k text ended) (duplicate w l d other different) = absurd (not-both known f w k l)
-one-filled_by known entries t u s q (unknown f k text ended) (full w l d other different) = absurd (not-both known f w k l)
-one-filled_by known entries t u s q (duplicate v k d text ended) (unknown g l other different) = absurd (not-both known g v l k)
-one-filled_by known entries t u s q (duplicate v k d text ended) (duplicate w l g other different) = (text ∙ sym other, ended ∙ sym different)
-one-filled_by known entries t u s q (duplicate v k d text ended) (full w l g other different) = absurd (g (subst HasDuplicate (values known v w k l) d))
-one-filled_by known entries t u s q (full v k d text ended) (unknown g l other different) = absurd (not-both known g v l k)
-one-filled_by known entries t u s q (full v k d text ended) (duplicate w l g other different) = absurd (d (subst HasDuplicate (values known w v l k) g))
-one-filled_by known entries t u s q (full v k d text ended) (full w l g other different) =
-    (text ∙ ap (λ (x : List Known). filled_text (filled x entries)) (values known v w k l) ∙ sym other, ended ∙ sym different)
+one-filled_by : (known : Result (List Known) Fault) (entries : List (List ℕ × ℕ)) (t u : List ℕ) (s q : Status)
+    → IsFilledBy known entries t s → IsFilledBy known entries u q → (t ≡ u) × (s ≡ q)
+one-filled_by known entries t u s q (unknown f k text ended) (unknown g l other different) = let same : f ≡ g =
+    errors known f g k l in (text ∙ ap fault_text same ∙ sym other, ended ∙ sym different)
+one-filled_by known entries t u s q (unknown f k text ended) (duplicate w l d other different) =
+    absurd (not-both known f w k l)
+one-filled_by known entries t u s q (unknown f k text ended) (full w l d other different) =
+    absurd (not-both known f w k l)
+one-filled_by known entries t u s q (duplicate v k d text ended) (unknown g l other different) =
+    absurd (not-both known g v l k)
+one-filled_by known entries t u s q (duplicate v k d text ended) (duplicate w l g other different) =
+    (text ∙ sym other, ended ∙ sym different)
+one-filled_by known entries t u s q (duplicate v k d text ended) (full w l g other different) =
+    absurd (g (subst HasDuplicate (values known v w k l) d))
+one-filled_by known entries t u s q (full v k d text ended) (unknown g l other different) =
+    absurd (not-both known g v l k)
+one-filled_by known entries t u s q (full v k d text ended) (duplicate w l g other different) =
+    absurd (d (subst HasDuplicate (values known w v l k) g))
+one-filled_by known entries t u s q (full v k d text ended) (full w l g other different) = (
+  text ∙ ap (λ (x : List Known). filled_text (filled x entries)) (values known v w k l) ∙ sym other,
+  ended
+      ∙ sym different,
+)
 
-some-filled_by : (known : Result (List Known) Fault) (entries : List (List ℕ × ℕ)) → (t : List ℕ) × (s : Status) × IsFilledBy known entries t s
+some-filled_by : (known : Result (List Known) Fault) (entries : List (List ℕ × ℕ)) → (t : List ℕ) × (s : Status)
+    × IsFilledBy known entries t s
 some-filled_by (Err fault) entries = (fault_text fault, status.Fault, unknown fault refl refl refl)
 some-filled_by (Ok values) entries =
     elim (duplicate-or-not values) [
@@ -124,10 +144,15 @@ module _ (b : List ℕ) (known : Result (List Known) Fault) (octets : AreOctets 
   one-filled t u s q (listed v h text) (listed w g other) =
       let same : v ≡ w = ((dol_verdict b octets).one_value v w (length b) (length b) (refl, h) (refl, g)).0 in
       one-filled_by known w t u s q (subst (λ (x : List (List ℕ × ℕ)). IsFilledBy known x t s) same text) other
-  one-filled t u s q (listed v h text) (no_list stop g other different) = absurd ((dol_verdict b octets).not_both v (length b) stop (refl, h) g)
-  one-filled t u s q (no_list stop g text ended) (listed w h other) = absurd ((dol_verdict b octets).not_both w (length b) stop (refl, h) g)
-  one-filled t u s q (no_list stop g text ended) (no_list halt h other different) =
-      (text ∙ ap (refused_text list_texts.reason_text) ((dol_verdict b octets).one_refusal stop halt g h) ∙ sym other, ended ∙ sym different)
+  one-filled t u s q (listed v h text) (no_list stop g other different) =
+      absurd ((dol_verdict b octets).not_both v (length b) stop (refl, h) g)
+  one-filled t u s q (no_list stop g text ended) (listed w h other) =
+      absurd ((dol_verdict b octets).not_both w (length b) stop (refl, h) g)
+  one-filled t u s q (no_list stop g text ended) (no_list halt h other different) = (
+    text ∙ ap (refused_text list_texts.reason_text) ((dol_verdict b octets).one_refusal stop halt g h)
+        ∙ sym other,
+    ended ∙ sym different,
+  )
 
   some-filled : (t : List ℕ) × (s : Status) × IsFilled b known t s
   some-filled = elim ((dol_verdict b octets).some) [
@@ -149,47 +174,73 @@ line-octets line = go (nat_le (length line) largest_file)
     go false = tt
 
 -- what octets come to, where any come to one text
-told-octets : (Told : List ℕ → List ℕ → Status → Type 0) → ((b : List ℕ) → AreOctets b → OneText (Told b)) → (r : Result (List ℕ) Fault) → IfOk r AreOctets → OneText (IsToldOf Told r)
+told-octets : (Told : List ℕ → List ℕ → Status → Type 0) → ((b : List ℕ) → AreOctets b → OneText (Told b))
+    → (r : Result (List ℕ) Fault) → IfOk r AreOctets → OneText (IsToldOf Told r)
 told-octets Told once (Ok b) octets = once b octets
 told-octets Told once (Err fault) octets = ended-by (fault_text fault) status.Fault
 
 -- what a file comes to, where each file comes to one text
-told-of : (Told : List ℕ → List ℕ → Status → Type 0) → ((octets : List ℕ) → OneText (Told octets)) → (file : Result (List ℕ) Fault) → OneText (IsToldOf Told file)
+told-of : (Told : List ℕ → List ℕ → Status → Type 0) → ((octets : List ℕ) → OneText (Told octets))
+    → (file : Result (List ℕ) Fault) → OneText (IsToldOf Told file)
 told-of Told once (Ok octets) = once octets
 told-of Told once (Err fault) = ended-by (fault_text fault) status.Fault
 
 -- a line's text
 line-once : (expected : Expected) → expected.ifs ≤ 254 → (line : List ℕ) → OneText (IsLineTold expected line)
-line-once expected small line = told-octets (Checks expected.kind expected) (λ b. checked expected.kind expected b small) (line_octets line) (line-octets line)
+line-once expected small line = told-octets (Checks expected.kind expected)
+    (λ b. checked expected.kind expected b small) (line_octets line) (line-octets line)
 
 module _ (Line : List ℕ → List ℕ → Status → Type 0) (once : (line : List ℕ) → OneText (Line line)) where
-  one-told-each : (lines : List (List ℕ)) (t u : List ℕ) (s q : Status) → AreTold Line lines t s → AreTold Line lines u q → (t ≡ u) × (s ≡ q)
+  one-told-each : (lines : List (List ℕ)) (t u : List ℕ) (s q : Status) → AreTold Line lines t s
+      → AreTold Line lines u q → (t ≡ u) × (s ≡ q)
   one-told-each [] t u s q h g = (h.0 ∙ sym g.0, h.1 ∙ sym g.1)
   one-told-each (line ∷ lines) t u s q h g =
       let first = (once line).one h.first g.first h.one g.one h.is_first g.is_first in
       let more = one-told-each lines h.more g.more h.others g.others h.is_more g.is_more in
-      let text : h.first ++ h.more ≡ g.first ++ g.more = ap (λ (l : List ℕ). l ++ h.more) first.0 ∙ ap (λ (l : List ℕ). g.first ++ l) more.0 in
-      let ended : worse h.one h.others ≡ worse g.one g.others = ap (λ (e : Status). worse e h.others) first.1 ∙ ap (λ (e : Status). worse g.one e) more.1 in
+      let text : h.first ++ h.more ≡ g.first ++ g.more =
+      ap (λ (l : List ℕ). l ++ h.more) first.0 ∙ ap (λ (l : List ℕ). g.first ++ l) more.0 in
+      let ended : worse h.one h.others ≡ worse g.one g.others =
+      ap (λ (e : Status). worse e h.others) first.1 ∙ ap (λ (e : Status). worse g.one e) more.1 in
       (h.is_text ∙ text ∙ sym g.is_text, h.is_ended ∙ ended ∙ sym g.is_ended)
 
   some-told-each : (lines : List (List ℕ)) → (t : List ℕ) × (s : Status) × AreTold Line lines t s
   some-told-each [] = ([], status.Accepted, (refl, refl))
   some-told-each (line ∷ lines) =
       let first = (once line).some in
-      let more = some-told-each lines in
-      (first.0 ++ more.0, worse first.1 more.1, record { first = first.0; one = first.1; more = more.0; others = more.1; is_first = first.2; is_more = more.2; is_text = refl; is_ended = refl })
+      let more = some-told-each lines in (
+        first.0 ++ more.0,
+        worse first.1 more.1,
+        record {
+          first = first.0;
+          one = first.1;
+          more = more.0;
+          others = more.1;
+          is_first = first.2;
+          is_more =
+              more.2;
+          is_text = refl;
+          is_ended = refl;
+        },
+      )
 
   told-each-once : (lines : List (List ℕ)) → OneText (AreTold Line lines)
   told-each-once lines = record { one = one-told-each lines; some = some-told-each lines }
 
-pub one-answer : (request : Request) (file : Result (List ℕ) Fault) → IsSized request → HasOctets request → (NeedsOctets request → IfOk file AreOctets) → OneText (IsAnswerTo request file)
+pub one-answer : (request : Request) (file : Result (List ℕ) Fault) → IsSized request → HasOctets request
+    → (NeedsOctets request → IfOk file AreOctets) → OneText (IsAnswerTo request file)
 one-answer (Check input) file sized octets as_read =
-    told-octets (Checks input.expected.kind input.expected) (λ b. checked input.expected.kind input.expected b sized.1) (octets_given input.given file) (octets-given input.given file octets as_read)
-one-answer (CheckLines expected) file sized octets as_read = told-of (λ b. AreLinesTold expected (all_lines b)) (λ b. told-each-once (IsLineTold expected) (line-once expected sized.1) (all_lines b)) file
+    told-octets (Checks input.expected.kind input.expected) (λ b. checked input.expected.kind input.expected b sized.1)
+    (octets_given input.given file) (octets-given input.given file octets as_read)
+one-answer (CheckLines expected) file sized octets as_read =
+    told-of (λ b. AreLinesTold expected (all_lines b))
+    (λ b. told-each-once (IsLineTold expected) (line-once expected sized.1) (all_lines b)) file
 one-answer (Show input) file sized octets as_read =
-    told-octets (Shows input.expected.kind input.expected) (λ b. shown input.expected.kind input.expected b sized.1) (octets_given input.given file) (octets-given input.given file octets as_read)
-one-answer (BuildChain ifs number message) file sized octets as_read = plain (blocks_text (links number (cut_of ifs message)))
-one-answer (BuildTidy given) file sized octets as_read = told-octets Tidies tidied (octets_given given file) (octets-given given file octets as_read)
+    told-octets (Shows input.expected.kind input.expected) (λ b. shown input.expected.kind input.expected b sized.1)
+    (octets_given input.given file) (octets-given input.given file octets as_read)
+one-answer (BuildChain ifs number message) file sized octets as_read =
+    plain (blocks_text (links number (cut_of ifs message)))
+one-answer (BuildTidy given) file sized octets as_read =
+    told-octets Tidies tidied (octets_given given file) (octets-given given file octets as_read)
 one-answer (BuildFill list known) file sized octets as_read = filled-once list known octets
 one-answer (Replay side) file sized octets as_read = told-of (Replays side) (replayed-once side) file
 one-answer Migrate file sized octets as_read = told-of Migrates migrated-once file

@@ -25,24 +25,32 @@ use Rattle.card_tool.proofs.OneAnswer.{one-answer}
 
 -- ---- words
 
-one-fault : (fault : Fault) (text other : List ℕ) (ended different : Status) → (text ≡ fault_text fault) × (ended ≡ status.Fault) → (other ≡ fault_text fault) × (different ≡ status.Fault) → (text ≡ other) × (ended ≡ different)
+one-fault : (fault : Fault) (text other : List ℕ) (ended different : Status) → (text ≡ fault_text fault)
+    × (ended ≡ status.Fault) → (other ≡ fault_text fault) × (different ≡ status.Fault) → (text ≡ other)
+    × (ended ≡ different)
 one-fault fault text other ended different h g = (h.0 ∙ sym g.0, h.1 ∙ sym g.1)
 
 -- the same words were read twice as this
-read-once : (words : List (List ℕ)) (read : Result Request Fault) → IsRead words read → (file : Result (List ℕ) Fault) → (AskForOctets words → IfOk file AreOctets) → (text other : List ℕ) (ended different : Status)
-    → MatchResult read (λ request. IsAnswerTo request file text ended) (λ fault. (text ≡ fault_text fault) × (ended ≡ status.Fault))
-    → MatchResult read (λ request. IsAnswerTo request file other different) (λ fault. (other ≡ fault_text fault) × (different ≡ status.Fault))
+read-once : (words : List (List ℕ)) (read : Result Request Fault) → IsRead words read → (file : Result (List ℕ) Fault)
+    → (AskForOctets words → IfOk file AreOctets) → (text other : List ℕ) (ended different : Status)
+    → MatchResult read (λ request. IsAnswerTo request file text ended)
+    (λ fault. (text ≡ fault_text fault) × (ended ≡ status.Fault))
+    → MatchResult read (λ request. IsAnswerTo request file other different)
+    (λ fault. (other ≡ fault_text fault) × (different ≡ status.Fault))
     → (text ≡ other) × (ended ≡ different)
 read-once words (Ok request) read file octets text other ended different h g =
     let proper = read-proper words request read in
-    (one-answer request file proper.0 proper.1 (λ need. octets (needs-octets words request read need))).one text other ended different h g
-read-once words (Err fault) read file octets text other ended different h g = one-fault fault text other ended different h g
+    (one-answer request file proper.0 proper.1 (λ need. octets (needs-octets words request read need))).one text other
+    ended different h g
+read-once words (Err fault) read file octets text other ended different h g =
+    one-fault fault text other ended different h g
 
 no-other : (kinds : Kinds) → kinds ≡ [] → HasOther kinds → ⊥
 no-other kinds none other = let among = subst (IsAmong other.0) none other.1 in among
 
 -- words are read in one way, but where a call for help is answered
-read-same : (words : List (List ℕ)) (read again : Result Request Fault) → IsRead words read → IsRead words again → IsAmong DisplayHelp (fault_of scard words) ⊎ (again ≡ read)
+read-same : (words : List (List ℕ)) (read again : Result Request Fault) → IsRead words read → IsRead words again
+    → IsAmong DisplayHelp (fault_of scard words) ⊎ (again ≡ read)
 read-same words read again (called_for_help among help e) h = inl among
 read-same words read again (taken free e) (called_for_help among help f) = inl among
 read-same words read again (not_taken other e) (called_for_help among help f) = inl among
@@ -51,14 +59,17 @@ read-same words read again (taken free e) (not_taken other f) = absurd (no-other
 read-same words read again (not_taken other e) (taken free f) = absurd (no-other _ free other)
 read-same words read again (not_taken other e) (not_taken another f) = inr (f ∙ sym e)
 
-pub one-text : (words : List (List ℕ)) (file : Result (List ℕ) Fault) (text other : List ℕ) (ended different : Status) → (AskForOctets words → IfOk file AreOctets) → IsAnswer words file text ended → IsAnswer words file other different
+pub one-text : (words : List (List ℕ)) (file : Result (List ℕ) Fault) (text other : List ℕ) (ended different : Status)
+    → (AskForOctets words → IfOk file AreOctets) → IsAnswer words file text ended → IsAnswer words file other different
     → IsAmong DisplayHelp (fault_of scard words) ⊎ ((text ≡ other) × (ended ≡ different))
 one-text words file text other ended different octets h g =
     elim (read-same words h.read g.read h.is_read g.is_read) [
       | inl help ↦ inl help
       | inr same ↦
           inr (read-once words h.read h.is_read file octets text other ended different h.is_answer
-          (subst (λ (r : Result Request Fault). MatchResult r (λ request. IsAnswerTo request file other different) (λ fault. (other ≡ fault_text fault) × (different ≡ status.Fault))) same g.is_answer))
+          (subst (λ (r : Result Request Fault).
+          MatchResult r (λ request. IsAnswerTo request file other different)
+          (λ fault. (other ≡ fault_text fault) × (different ≡ status.Fault))) same g.is_answer))
     ]
 
 -- an error of the parser of command lines is a call for help or not
@@ -66,7 +77,8 @@ help-or-not : (kind : ErrorKind) → (kind ≡ DisplayHelp) ⊎ (kind ≢ Displa
 help-or-not DisplayHelp = inl refl
 help-or-not kind = inr (λ e. cc)
 
-some-read : (words : List (List ℕ)) (kinds : Kinds) → fault_of scard words ≡ kinds → (read : Result Request Fault) × IsRead words read
+some-read : (words : List (List ℕ)) (kinds : Kinds) → fault_of scard words ≡ kinds → (read : Result Request Fault)
+    × IsRead words read
 some-read words [] free = (request_of (subcommand_of scard words), taken free refl)
 some-read words (kind ∷ kinds) is =
     elim (help-or-not kind) [
@@ -74,20 +86,28 @@ some-read words (kind ∷ kinds) is =
       | inr other ↦ (Err Words, not_taken (kind, subst (IsAmong kind) (sym is) (inl refl), other) refl)
     ]
 
-some-answer : (words : List (List ℕ)) (file : Result (List ℕ) Fault) → (AskForOctets words → IfOk file AreOctets) → (read : Result Request Fault) → IsRead words read → (text : List ℕ) × (ended : Status) × IsAnswer words file text ended
+some-answer : (words : List (List ℕ)) (file : Result (List ℕ) Fault) → (AskForOctets words → IfOk file AreOctets)
+    → (read : Result Request Fault) → IsRead words read → (text : List ℕ) × (ended : Status)
+    × IsAnswer words file text ended
 some-answer words file octets (Ok request) read =
     let proper = read-proper words request read in
-    let told = (one-answer request file proper.0 proper.1 (λ need. octets (needs-octets words request read need))).some in
+    let told = (one-answer request file proper.0 proper.1 (λ need. octets (needs-octets words request read need))).some
+    in
     (told.0, told.1, record { read = Ok request; is_read = read; is_answer = told.2 })
-some-answer words file octets (Err fault) read = (fault_text fault, status.Fault, record { read = Err fault; is_read = read; is_answer = (refl, refl) })
+some-answer words file octets (Err fault) read =
+    (fault_text fault, status.Fault, record { read = Err fault; is_read = read; is_answer = (refl, refl) })
 
-pub some-text : (words : List (List ℕ)) (file : Result (List ℕ) Fault) → (AskForOctets words → IfOk file AreOctets) → (text : List ℕ) × (ended : Status) × IsAnswer words file text ended
-some-text words file octets = let read = some-read words (fault_of scard words) refl in some-answer words file octets read.0 read.1
+pub some-text : (words : List (List ℕ)) (file : Result (List ℕ) Fault) → (AskForOctets words → IfOk file AreOctets)
+    → (text : List ℕ) × (ended : Status) × IsAnswer words file text ended
+some-text words file octets = let read = some-read words (fault_of scard words) refl in
+    some-answer words file octets read.0 read.1
 
 -- ---- files
 
 -- reading gives the octets, but for memory, where they are known and no call fails
-pub one-file : (b : List ℕ) (left : Option (List ℕ)) (before after : ℕ) (file : Result (List ℕ) Fault) → ReadsWhole (Some b) left before after file → after ≡ before → before < most_failures → (file ≡ Err Memory) ⊎ (file ≡ file_of b)
+pub one-file : (b : List ℕ) (left : Option (List ℕ)) (before after : ℕ) (file : Result (List ℕ) Fault)
+    → ReadsWhole (Some b) left before after file → after ≡ before → before < most_failures → (file ≡ Err Memory)
+    ⊎ (file ≡ file_of b)
 one-file b None before after (Ok file) h kept few = absurd h.from
 one-file b (Some left) before after (Ok file) h kept few =
     let is : b ≡ file = h.from ∙ ap (λ (l : List ℕ). file ++ l) h.end ∙ append-nil file in

@@ -31,7 +31,8 @@ pub if-ok : {A E : Type 0} (r : Result A E) {P Q : A → Type 0} → ((a : A) �
 if-ok (Ok a) f h = f a h
 if-ok (Err e) f h = tt
 
-pub if-both-ok : {A E : Type 0} (r : Result A E) {P Q S : A → Type 0} → ((a : A) → P a → Q a → S a) → IfOk r P → IfOk r Q → IfOk r S
+pub if-both-ok : {A E : Type 0} (r : Result A E) {P Q S : A → Type 0} → ((a : A) → P a → Q a → S a) → IfOk r P
+    → IfOk r Q → IfOk r S
 if-both-ok (Ok a) f h g = f a h g
 if-both-ok (Err e) f h g = tt
 
@@ -52,7 +53,8 @@ not-both ifsc name e = cc e
 
 module _ (s : Session) where
   same-size : (a b : ℕ) → IsFound s.atr (Ok a) → IsFound s.atr (Ok b) → a ≡ b
-  same-size a b f g = ap (λ (r : Result ℕ (List ℕ)). result_unwrap_or r a) (one-found one-accepted s.atr (Ok a) (Ok b) f g)
+  same-size a b f g = ap (λ (r : Result ℕ (List ℕ)). result_unwrap_or r a)
+      (one-found one-accepted s.atr (Ok a) (Ok b) f g)
 
   same-name : (a b : List ℕ) → IsFound s.atr (Err a) → IsFound s.atr (Err b) → a ≡ b
   same-name a b f g = ap name-of (one-found one-accepted s.atr (Err a) (Err b) f g)
@@ -60,10 +62,12 @@ module _ (s : Session) where
   apart : (ifsc : ℕ) (name : List ℕ) → IsFound s.atr (Ok ifsc) → IsFound s.atr (Err name) → ⊥
   apart ifsc name f g = not-both ifsc name (one-found one-accepted s.atr (Ok ifsc) (Err name) f g)
 
-  same-end : (a b : ℕ) (r q : Recording) → IsFound s.atr (Ok a) → IsFound s.atr (Ok b) → EndsAs s a r → EndsAs s b q → r ≡ q
+  same-end : (a b : ℕ) (r q : Recording) → IsFound s.atr (Ok a) → IsFound s.atr (Ok b) → EndsAs s a r → EndsAs s b q
+      → r ≡ q
   same-end a b r q f g h k = one-end s b r q (subst (λ (ifsc : ℕ). EndsAs s ifsc r) (same-size a b f g) h) k
 
-  too-long-for : (a b : ℕ) (r : Recording) → IsFound s.atr (Ok a) → IsFound s.atr (Ok b) → EndsAs s a r → length (text-of r) ≤ largest_file
+  too-long-for : (a b : ℕ) (r : Recording) → IsFound s.atr (Ok a) → IsFound s.atr (Ok b) → EndsAs s a r
+      → length (text-of r) ≤ largest_file
       → ((q : Recording) → EndsAs s b q → largest_file < length (text-of q)) → ⊥
   too-long-for a b r f g h small long =
       let big = long r (subst (λ (ifsc : ℕ). EndsAs s ifsc r) (same-size a b f g) h) in
@@ -79,25 +83,32 @@ module _ (s : Session) where
   one-simulated t u p q (whole a r f end small text ended) (unusable b g other different) = absurd (apart a b f g)
   one-simulated t u p q (whole a r f end small text ended) (whole b v g also little other different) =
       (text ∙ ap text-of (same-end a b r v f g end also) ∙ sym other, ended ∙ sym different)
-  one-simulated t u p q (whole a r f end small text ended) (too_large b g long other different) = absurd (too-long-for a b r f g end small long)
+  one-simulated t u p q (whole a r f end small text ended) (too_large b g long other different) =
+      absurd (too-long-for a b r f g end small long)
   one-simulated t u p q (too_large a f long text ended) (unusable b g other different) = absurd (apart a b f g)
-  one-simulated t u p q (too_large a f long text ended) (whole b r g end small other different) = absurd (too-long-for b a r g f end small long)
-  one-simulated t u p q (too_large a f long text ended) (too_large b g large other different) = (text ∙ sym other, ended ∙ sym different)
+  one-simulated t u p q (too_large a f long text ended) (whole b r g end small other different) =
+      absurd (too-long-for b a r g f end small long)
+  one-simulated t u p q (too_large a f long text ended) (too_large b g large other different) =
+      (text ∙ sym other, ended ∙ sym different)
 
   -- ---- some text
 
-  at-end : (ifsc : ℕ) (r : Recording) → IsFound s.atr (Ok ifsc) → EndsAs s ifsc r → (t : List ℕ) (p : Status) → IsFile (exchange_of r) t p → Simulates s t p
+  at-end : (ifsc : ℕ) (r : Recording) → IsFound s.atr (Ok ifsc) → EndsAs s ifsc r → (t : List ℕ) (p : Status)
+      → IsFile (exchange_of r) t p → Simulates s t p
   at-end ifsc r f end t p (fits small text ended) = whole ifsc r f end small text ended
   at-end ifsc r f end t p (over long text ended) =
-      too_large ifsc f (λ q also. subst (λ (x : Recording). largest_file < length (text-of x)) (one-end s ifsc r q end also) long) text ended
+      too_large ifsc f (λ q also. subst (λ (x : Recording). largest_file < length (text-of x))
+      (one-end s ifsc r q end also) long) text ended
 
-  some-file : (e : ExchangeParts) → (length (exchange_text e) ≡ largest_file) ⊎ ((length (exchange_text e) < largest_file) ⊎ (largest_file < length (exchange_text e)))
+  some-file : (e : ExchangeParts) → (length (exchange_text e) ≡ largest_file)
+      ⊎ ((length (exchange_text e) < largest_file) ⊎ (largest_file < length (exchange_text e)))
       → (t : List ℕ) × (p : Status) × IsFile e t p
   some-file e (inl same) = (exchange_text e, status.Accepted, fits (omega (arith, same)) refl refl)
   some-file e (inr (inl small)) = (exchange_text e, status.Accepted, fits (omega (arith, small)) refl refl)
   some-file e (inr (inr long)) = (fault_text TooLarge, status.Fault, over long refl refl)
 
-  some-ended : (ifsc : ℕ) → IsFound s.atr (Ok ifsc) → (o : Option Recording) → simulated largest_file s (start s) (new_recording s.atr ifsc) ≡ o
+  some-ended : (ifsc : ℕ) → IsFound s.atr (Ok ifsc) → (o : Option Recording)
+      → simulated largest_file s (start s) (new_recording s.atr ifsc) ≡ o
       → (t : List ℕ) × (p : Status) × Simulates s t p
   some-ended ifsc f None h =
       (fault_text TooLarge, status.Fault, too_large ifsc f (λ r end. too-long largest_file s ifsc r h end) refl refl)
@@ -112,11 +123,14 @@ module _ (s : Session) where
   pub simulated-once : AreOctets s.atr → OneText (Simulates s)
   simulated-once octets = record {
     one = one-simulated;
-    some = let found = verdict-found one-accepted s.atr ((atr_goes.one-verdict s.atr octets).some) in some-found found.0 found.1;
+    some = let found = verdict-found one-accepted s.atr ((atr_goes.one-verdict s.atr octets).some) in
+        some-found found.0 found.1;
   }
 
   -- ---- the program
 
   -- the text of an exchange that the session makes
-  pub told-file : (e : ExchangeParts) (t : List ℕ) (p : Status) → IsSimulated largest_file s (Ok e) → IsFile e t p → Simulates s t p
-  told-file e t p (ifsc, r, f, end, is) file = at-end ifsc r f end t p (subst (λ (x : ExchangeParts). IsFile x t p) is file)
+  pub told-file : (e : ExchangeParts) (t : List ℕ) (p : Status) → IsSimulated largest_file s (Ok e) → IsFile e t p
+      → Simulates s t p
+  told-file e t p (ifsc, r, f, end, is) file =
+      at-end ifsc r f end t p (subst (λ (x : ExchangeParts). IsFile x t p) is file)

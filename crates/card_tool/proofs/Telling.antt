@@ -15,21 +15,28 @@ use Rattle.card_tool.specs.declared.status.Status.{Status}
 use Rattle.card_tool.specs.declared.status.Status.TheVariants as status
 
 -- an answer with this text and status
-pub answered : {E : Type 0} (P : List ℕ → Status → Type 0) (r : Result Answer E) (text : List ℕ) (ended : Status) → P text ended → IfOk r (λ a. a.text ≡ text) → IfOk r (λ a. a.status ≡ ended)
+pub answered : {E : Type 0} (P : List ℕ → Status → Type 0) (r : Result Answer E) (text : List ℕ) (ended : Status)
+    → P text ended → IfOk r (λ a. a.text ≡ text) → IfOk r (λ a. a.status ≡ ended)
     → IfOk r (λ a. P a.text a.status)
 answered P (Ok a) text ended h e f = rw (e, f) h
 answered P (Err e) text ended h f g = tt
 
 module _ {E V R : Type 0} (c : Codec V R) (told : V → ℕ → List ℕ) (b : List ℕ) (r : Result Answer E) where
-  pub tells-accepted : (v : V) (n : ℕ) → Takes c b v n → IfOk r (λ a. a.text ≡ told v n) → IfOk r (λ a. a.status ≡ status.Accepted)
+  pub tells-accepted : (v : V) (n : ℕ) → Takes c b v n → IfOk r (λ a. a.text ≡ told v n)
+      → IfOk r (λ a. a.status ≡ status.Accepted)
       → IfOk r (λ a. Tells c told b a.text a.status)
-  tells-accepted v n h text ended = answered (Tells c told b) r (told v n) status.Accepted (accepted v n h refl refl) text ended
+  tells-accepted v n h text ended = answered (Tells c told b) r (told v n) status.Accepted (accepted v n h refl refl)
+      text ended
 
   -- where a call refused the octets, and its reasons have these names
-  pub tells-stopped : (name : R → List ℕ) (answer : Refused R) (stop : Stop R) → c.name ≡ name → answer ≡ refusal.Stop stop → StopsUnlessMemory c b answer
-      → IfOk r (λ a. a.text ≡ refused_text name stop) → IfOk r (λ a. a.status ≡ status.Refused) → IfOk r (λ a. Tells c told b a.text a.status)
+  pub tells-stopped : (name : R → List ℕ) (answer : Refused R) (stop : Stop R) → c.name ≡ name
+      → answer ≡ refusal.Stop stop → StopsUnlessMemory c b answer
+      → IfOk r (λ a. a.text ≡ refused_text name stop) → IfOk r (λ a. a.status ≡ status.Refused)
+      → IfOk r (λ a. Tells c told b a.text a.status)
   tells-stopped name answer stop named is h text ended =
-      answered (Tells c told b) r (refused_text name stop) status.Refused (refused stop (subst (StopsUnlessMemory c b) is h) (ap (λ (n : R → List ℕ). refused_text n stop) (sym named)) refl) text ended
+      answered (Tells c told b) r (refused_text name stop) status.Refused
+      (refused stop (subst (StopsUnlessMemory c b) is h) (ap (λ (n : R → List ℕ). refused_text n stop) (sym named))
+      refl) text ended
 
 -- ---- blocks
 

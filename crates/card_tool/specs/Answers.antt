@@ -41,7 +41,8 @@ use Rattle.card_words.specs.declared.request.Request.TheVariants.{BuildChain, Bu
 -- the text and the status that the verdict on octets has, where a value is told so
 pub data Tells {V R : Type 0} (c : Codec V R) (told : V → ℕ → List ℕ) (b text : List ℕ) (ended : Status) : Type 0 where
   accepted : (v : V) (n : ℕ) → Takes c b v n → text ≡ told v n → ended ≡ status.Accepted → Tells c told b text ended
-  refused : (stop : Stop R) → Stops c b stop → text ≡ refused_text c.name stop → ended ≡ status.Refused → Tells c told b text ended
+  refused : (stop : Stop R) → Stops c b stop → text ≡ refused_text c.name stop → ended ≡ status.Refused
+      → Tells c told b text ended
 
 -- a codec of some values and reasons
 pub record Row : Type 1 where
@@ -75,19 +76,26 @@ abbrev pub Tidies : List ℕ → List ℕ → Status → Type 0
 Tidies b = Tells forest_codec (λ v n. tidied_text v) b
 
 -- what a list asks for: a fault of what is known, then two known values with one tag, else the octets that fill it
-pub data IsFilledBy (known : Result (List Known) Fault) (entries : List (List ℕ × ℕ)) (text : List ℕ) (ended : Status) : Type 0 where
-  unknown : (fault : Fault) → known ≡ Err fault → text ≡ fault_text fault → ended ≡ status.Fault → IsFilledBy known entries text ended
-  duplicate : (values : List Known) → known ≡ Ok values → HasDuplicate values → text ≡ duplicate_text → ended ≡ status.Refused → IsFilledBy known entries text ended
-  full : (values : List Known) → known ≡ Ok values → (HasDuplicate values → ⊥) → text ≡ filled_text (filled values entries) → ended ≡ status.Accepted → IsFilledBy known entries text ended
+pub data IsFilledBy (known : Result (List Known) Fault) (entries : List (List ℕ × ℕ)) (text : List ℕ) (ended : Status) :
+    Type 0 where
+  unknown : (fault : Fault) → known ≡ Err fault → text ≡ fault_text fault → ended ≡ status.Fault
+      → IsFilledBy known entries text ended
+  duplicate : (values : List Known) → known ≡ Ok values → HasDuplicate values → text ≡ duplicate_text
+      → ended ≡ status.Refused → IsFilledBy known entries text ended
+  full : (values : List Known) → known ≡ Ok values → (HasDuplicate values → ⊥)
+      → text ≡ filled_text (filled values entries) → ended ≡ status.Accepted → IsFilledBy known entries text ended
 
 -- the same of its octets, which may be refused
 pub data IsFilled (b : List ℕ) (known : Result (List Known) Fault) (text : List ℕ) (ended : Status) : Type 0 where
-  listed : (entries : List (List ℕ × ℕ)) → IsDol entries b → IsFilledBy known entries text ended → IsFilled b known text ended
-  no_list : (stop : Stop DolReason) → Refuses whole IsDol IsDolReason b stop → text ≡ refused_text list_texts.reason_text stop → ended ≡ status.Refused → IsFilled b known text ended
+  listed : (entries : List (List ℕ × ℕ)) → IsDol entries b → IsFilledBy known entries text ended
+      → IsFilled b known text ended
+  no_list : (stop : Stop DolReason) → Refuses whole IsDol IsDolReason b stop
+      → text ≡ refused_text list_texts.reason_text stop → ended ≡ status.Refused → IsFilled b known text ended
 
 -- what octets come to, or the fault for which there are none
 abbrev pub IsToldOf : (List ℕ → List ℕ → Status → Type 0) → Result (List ℕ) Fault → List ℕ → Status → Type 0
-IsToldOf Told octets text ended = MatchResult octets (λ b. Told b text ended) (λ fault. (text ≡ fault_text fault) × (ended ≡ status.Fault))
+IsToldOf Told octets text ended = MatchResult octets (λ b. Told b text ended)
+    (λ fault. (text ≡ fault_text fault) × (ended ≡ status.Fault))
 
 -- the text and the status of one line
 abbrev pub IsLineTold : Expected → List ℕ → List ℕ → Status → Type 0
@@ -98,10 +106,13 @@ AreLinesTold expected lines text ended = AreTold (IsLineTold expected) lines tex
 
 -- the text and the status that a request has, with what reading standard input gave
 abbrev pub IsAnswerTo : Request → Result (List ℕ) Fault → List ℕ → Status → Type 0
-IsAnswerTo (Check input) file text ended = IsToldOf (Checks input.expected.kind input.expected) (octets_given input.given file) text ended
+IsAnswerTo (Check input) file text ended =
+    IsToldOf (Checks input.expected.kind input.expected) (octets_given input.given file) text ended
 IsAnswerTo (CheckLines expected) file text ended = IsToldOf (λ b. AreLinesTold expected (all_lines b)) file text ended
-IsAnswerTo (Show input) file text ended = IsToldOf (Shows input.expected.kind input.expected) (octets_given input.given file) text ended
-IsAnswerTo (BuildChain ifs number message) file text ended = (text ≡ blocks_text (links number (cut_of ifs message))) × (ended ≡ status.Accepted)
+IsAnswerTo (Show input) file text ended =
+    IsToldOf (Shows input.expected.kind input.expected) (octets_given input.given file) text ended
+IsAnswerTo (BuildChain ifs number message) file text ended =
+    (text ≡ blocks_text (links number (cut_of ifs message))) × (ended ≡ status.Accepted)
 IsAnswerTo (BuildTidy given) file text ended = IsToldOf Tidies (octets_given given file) text ended
 IsAnswerTo (BuildFill list known) file text ended = IsFilled list known text ended
 IsAnswerTo (Replay side) file text ended = IsToldOf (Replays side) file text ended
@@ -119,10 +130,12 @@ abbrev pub IsReadFrom : List (List ℕ) → Result Request Fault → Type 0
 IsReadFrom words read = (read ≡ Err Memory) ⊎ IsRead words read
 
 -- the text and the status that the words have: those of the request, or the fault's
-pub record IsAnswer (words : List (List ℕ)) (file : Result (List ℕ) Fault) (text : List ℕ) (ended : Status) : Type 0 where
-  pub read : Result Request Fault
-  pub is_read : IsRead words read
-  pub is_answer : MatchResult read (λ request. IsAnswerTo request file text ended) (λ fault. (text ≡ fault_text fault) × (ended ≡ status.Fault))
+pub record IsAnswer (words : List (List ℕ)) (file : Result (List ℕ) Fault) (text : List ℕ) (ended : Status) : Type 0
+  where
+    pub read : Result Request Fault
+    pub is_read : IsRead words read
+    pub is_answer : MatchResult read (λ request. IsAnswerTo request file text ended)
+        (λ fault. (text ≡ fault_text fault) × (ended ≡ status.Fault))
 
 -- ---- where a reader has the octets or the file
 --
@@ -134,33 +147,40 @@ abbrev pub IsWanting : ℕ → ℕ → List ℕ → Status → Type 0
 IsWanting before after text ended = (text ≡ fault_text Memory) × (ended ≡ status.Fault) × (after ≡ before)
 
 -- the text and the status that the words have, with what was read where they ask for it
-pub record IsAnswerFrom (words : List (List ℕ)) (held left : Option (List ℕ)) (before after : ℕ) (text : List ℕ) (ended : Status) : Type 0 where
+pub record IsAnswerFrom (words : List (List ℕ)) (held left : Option (List ℕ)) (before after : ℕ) (text : List ℕ)
+    (ended : Status) : Type 0 where
   pub file : Result (List ℕ) Fault
   pub is_file : AskForFile words → ReadsWhole held left before after file
   pub is_answer : IsAnswer words file text ended
 
 -- that, or memory was wanting
 abbrev pub IsRight : List (List ℕ) → Option (List ℕ) → Option (List ℕ) → ℕ → ℕ → List ℕ → Status → Type 0
-IsRight words held left before after text ended = IsAnswerFrom words held left before after text ended ⊎ IsWanting before after text ended
+IsRight words held left before after text ended =
+    IsAnswerFrom words held left before after text ended ⊎ IsWanting before after text ended
 
 -- the same for a request
-pub record IsAnswerToFrom (request : Request) (held left : Option (List ℕ)) (before after : ℕ) (text : List ℕ) (ended : Status) : Type 0 where
+pub record IsAnswerToFrom (request : Request) (held left : Option (List ℕ)) (before after : ℕ) (text : List ℕ)
+    (ended : Status) : Type 0 where
   pub file : Result (List ℕ) Fault
   pub is_file : NeedsFile request → ReadsWhole held left before after file
   pub is_answer : IsAnswerTo request file text ended
 
 abbrev pub IsRightTo : Request → Option (List ℕ) → Option (List ℕ) → ℕ → ℕ → List ℕ → Status → Type 0
-IsRightTo request held left before after text ended = IsAnswerToFrom request held left before after text ended ⊎ IsWanting before after text ended
+IsRightTo request held left before after text ended =
+    IsAnswerToFrom request held left before after text ended ⊎ IsWanting before after text ended
 
 -- how a text came to a writer, and how the program ended
-pub data IsWritten (text : List ℕ) (right : Status) (old new : Option (List ℕ)) (before after : ℕ) (ended : Status) : Type 0 where
+pub data IsWritten (text : List ℕ) (right : Status) (old new : Option (List ℕ)) (before after : ℕ) (ended : Status) :
+    Type 0 where
   -- it is written whole with no failure, and the program ends as is right
   all : Appends old new text → after ≡ before → ended ≡ right → IsWritten text right old new before after ended
   -- the writer failed, and a part of it is written
-  cut : (count : ℕ) → count < length text → Appends old new (take count text) → HasFailed before after → ended ≡ status.Fault → IsWritten text right old new before after ended
+  cut : (count : ℕ) → count < length text → Appends old new (take count text) → HasFailed before after
+      → ended ≡ status.Fault → IsWritten text right old new before after ended
 
 -- one text that is right is written
-pub record Writes (Right : List ℕ → Status → Type 0) (old new : Option (List ℕ)) (before after : ℕ) (ended : Status) : Type 0 where
+pub record Writes (Right : List ℕ → Status → Type 0) (old new : Option (List ℕ)) (before after : ℕ) (ended : Status) :
+    Type 0 where
   pub text : List ℕ
   pub right : Status
   pub is_right : Right text right

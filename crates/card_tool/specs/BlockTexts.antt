@@ -24,15 +24,27 @@ more_number false = 0
 more_number true = 1
 
 abbrev pub pcb_text : Pcb → List ℕ
-pcb_text (Info number more) = codes "I number " ++ (decimal (number_bit number 1) ++ (codes " more " ++ decimal (more_number more)))
-pcb_text (Ready number fault) = codes "R number " ++ (decimal (number_bit number 1) ++ (codes " error " ++ decimal (fault_code fault)))
+pcb_text (Info number more) = codes "I number "
+    ++ (decimal (number_bit number 1) ++ (codes " more " ++ decimal (more_number more)))
+pcb_text (Ready number fault) = codes "R number "
+    ++ (decimal (number_bit number 1) ++ (codes " error " ++ decimal (fault_code fault)))
 pcb_text (Request about) = codes "S request " ++ supervisory_text about
 pcb_text (Response about) = codes "S response " ++ supervisory_text about
 
 -- a block, line by line
 abbrev pub block_text : Parts → List ℕ
-block_text v = codes "nad " ++ (encode_upper (v.nad ∷ []) ++ (codes "\npcb " ++ (pcb_text v.pcb ++ (codes "\ninf " ++ (octets_text v.inf ++ (codes "\nlrc " ++ (encode_upper (xor_of (front_of v) ∷ []) ++ codes "\n")))))))
+block_text v = codes "nad " ++ (encode_upper (v.nad ∷ [])
+    ++ (codes "\npcb " ++ (pcb_text v.pcb
+    ++ (codes "\ninf " ++ (octets_text v.inf
+    ++ (codes "\nlrc " ++ (encode_upper (xor_of (front_of v) ∷ []) ++ codes "\n")))))))
 
 -- of an information size
 abbrev pub block_codec : ℕ → Codec Parts BlockReason
-block_codec ifs = record { ending = self_ended; Spells = IsBlock ifs; IsReason = IsReason ifs; name = reason_text; lines = block_text }
+block_codec ifs = record {
+  ending = self_ended;
+  Spells = IsBlock ifs;
+  IsReason = IsReason ifs;
+  name =
+      reason_text;
+  lines = block_text;
+}

@@ -22,7 +22,8 @@ blocks_text (b ∷ blocks) = encode_upper (spelling b) ++ (codes "\n" ++ blocks_
 
 -- a chain with these fields, line by line
 abbrev pub chain_text : List (List ℕ) → List ℕ
-chain_text fields = codes "blocks " ++ (decimal (length fields) ++ (codes "\nmessage " ++ (octets_text (message_of fields) ++ codes "\n")))
+chain_text fields = codes "blocks " ++ (decimal (length fields)
+    ++ (codes "\nmessage " ++ (octets_text (message_of fields) ++ codes "\n")))
 
 -- the receiver r has taken the chain with which the octets b begin, which takes n of them
 pub record IsReceived (ifs : ℕ) (number : Number) (b : List ℕ) (r : Reception) (n : ℕ) : Type 0 where
@@ -35,4 +36,11 @@ pub record IsReceived (ifs : ℕ) (number : Number) (b : List ℕ) (r : Receptio
 
 -- of an information size and the number of the first block
 abbrev pub chain_codec : ℕ → Number → Codec (List (List ℕ)) ChainReason
-chain_codec ifs number = record { ending = self_ended; Spells = IsChain ifs number longest_message; IsReason = IsReason ifs number longest_message; name = reason_text; lines = chain_text }
+chain_codec ifs number = record {
+  ending = self_ended;
+  Spells = IsChain ifs number longest_message;
+  IsReason =
+      IsReason ifs number longest_message;
+  name = reason_text;
+  lines = chain_text;
+}

@@ -27,7 +27,16 @@ le_text (Some le) = decimal le
 -- a command, line by line
 abbrev pub command_text : CommandParts → List ℕ
 command_text c =
-    shape_text (shape_of c.body) ++ (codes "\nheader " ++ (encode_upper c.header ++ (codes "\npart " ++ (octets_text (part_of c.body) ++ (codes "\nle " ++ (le_text (le_of c.body) ++ codes "\n"))))))
+    shape_text (shape_of c.body) ++ (codes "\nheader "
+    ++ (encode_upper c.header ++ (codes "\npart "
+    ++ (octets_text (part_of c.body) ++ (codes "\nle " ++ (le_text (le_of c.body) ++ codes "\n"))))))
 
 abbrev pub command_codec : Codec CommandParts CommandReason
-command_codec = record { ending = whole; Spells = IsCommand; IsReason = IsReason; name = reason_text; lines = command_text }
+command_codec = record {
+  ending = whole;
+  Spells = IsCommand;
+  IsReason = IsReason;
+  name = reason_text;
+  lines =
+      command_text;
+}

@@ -32,12 +32,15 @@ file_fault_text fault = codes "fault: " ++ (exchange_fault_text fault ++ codes "
 
 -- what replay comes to
 pub data IsReplayed (e : ExchangeParts) (which : Side) (text : List ℕ) (ended : Status) : Type 0 where
-  agrees : replay.Replays e.atr e.lines which None → text ≡ agrees_text e → ended ≡ status.Accepted → IsReplayed e which text ended
-  differs : (line : ℕ) (gives : List ℕ) → replay.Replays e.atr e.lines which (Some (line, gives)) → text ≡ differs_text line gives → ended ≡ status.Refused → IsReplayed e which text ended
+  agrees : replay.Replays e.atr e.lines which None → text ≡ agrees_text e → ended ≡ status.Accepted
+      → IsReplayed e which text ended
+  differs : (line : ℕ) (gives : List ℕ) → replay.Replays e.atr e.lines which (Some (line, gives))
+      → text ≡ differs_text line gives → ended ≡ status.Refused → IsReplayed e which text ended
 
 -- what a file's octets come to, where its exchange is told so; or their first fault
 abbrev pub Tells : (ExchangeParts → List ℕ → Status → Type 0) → List ℕ → List ℕ → Status → Type 0
-Tells Told file text ended = MatchResult (exchange_said file) (λ e. Told e text ended) (λ fault. (text ≡ file_fault_text fault) × (ended ≡ status.Fault))
+Tells Told file text ended = MatchResult (exchange_said file) (λ e. Told e text ended)
+    (λ fault. (text ≡ file_fault_text fault) × (ended ≡ status.Fault))
 
 abbrev pub Replays : End → List ℕ → List ℕ → Status → Type 0
 Replays which = Tells (λ e. IsReplayed e (side_of which))

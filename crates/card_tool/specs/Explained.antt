@@ -12,7 +12,8 @@ pub record IsExplained (Right : List ℕ → Status → Type 0) (whole : List �
   pub is_whole : whole ≡ text ++ note
 
 -- what is right of words: with an explanation only where they ask for one
-pub record IsRightWith (words : List (List ℕ)) (held left : Option (List ℕ)) (before after : ℕ) (whole : List ℕ) (ended : Status) : Type 0 where
+pub record IsRightWith (words : List (List ℕ)) (held left : Option (List ℕ)) (before after : ℕ) (whole : List ℕ)
+    (ended : Status) : Type 0 where
   pub text : List ℕ
   pub note : List ℕ
   pub is_right : IsRight words held left before after text ended

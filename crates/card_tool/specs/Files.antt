@@ -47,7 +47,8 @@ ReadsWhole held left before after (Err Memory) = IsBegun held left largest_file 
 ReadsWhole held left before after (Err _) = ⊥
 
 -- What taking the octets gives: those that the word gave, or that were read and have this form; or their fault; or that memory ran out, with no failed call.
-pub record IsTaken (given : Given) (held left : Option (List ℕ)) (before after : ℕ) (taken : Result (List ℕ) Fault) : Type 0 where
+pub record IsTaken (given : Given) (held left : Option (List ℕ)) (before after : ℕ) (taken : Result (List ℕ) Fault) :
+    Type 0 where
   pub file : Result (List ℕ) Fault
   pub is_file : IsFromReader given → ReadsWhole held left before after file
   pub is_taken : (taken ≡ octets_given given file) ⊎ ((taken ≡ Err Memory) × (after ≡ before))

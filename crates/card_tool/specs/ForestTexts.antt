@@ -24,7 +24,9 @@ value_text p = if constructed_bit p.tag == 1 then codes "constructed" else octet
 
 -- an object, behind two spaces for each depth above 1
 abbrev pub part_text : PartValue → List ℕ
-part_text p = repeat (p.depth - 1) (codes "  ") ++ (encode_upper p.tag ++ (codes " " ++ (encode_upper (length_field p.form (length p.value)) ++ (codes " " ++ (value_text p ++ codes "\n")))))
+part_text p = repeat (p.depth - 1) (codes "  ")
+    ++ (encode_upper p.tag ++ (codes " " ++
+    (encode_upper (length_field p.form (length p.value)) ++ (codes " " ++ (value_text p ++ codes "\n")))))
 
 abbrev pub lines_text : List PartValue → List ℕ
 lines_text [] = []
@@ -39,4 +41,11 @@ abbrev pub forest_text : Tree → List ℕ
 forest_text t = parts_text (parts_of 1 0 t)
 
 abbrev pub forest_codec : Codec Tree TlvReason
-forest_codec = record { ending = whole; Spells = IsForest largest; IsReason = IsReason largest; name = reason_text; lines = forest_text }
+forest_codec = record {
+  ending = whole;
+  Spells = IsForest largest;
+  IsReason = IsReason largest;
+  name =
+      reason_text;
+  lines = forest_text;
+}

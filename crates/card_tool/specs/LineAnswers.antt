@@ -26,26 +26,36 @@ abbrev pub most_read : ℕ
 most_read = 2 ^ 64 - 1
 
 -- What reading lines comes to.
-pub data TellsLines (expected : Expected) (held left : Option (List ℕ)) (before after : ℕ) (text : List ℕ) (ended : Status) : Type 0 where
+pub data TellsLines (expected : Expected) (held left : Option (List ℕ)) (before after : ℕ) (text : List ℕ)
+    (ended : Status) : Type 0 where
   -- all lines of the octets that the reader had
-  whole : (read : List ℕ) → Consumes held left read → IsAtEnd left → after ≡ before → AreLinesTold expected (all_lines read) text ended → TellsLines expected held left before after text ended
+  whole : (read : List ℕ) → Consumes held left read → IsAtEnd left → after ≡ before
+      → AreLinesTold expected (all_lines read) text ended → TellsLines expected held left before after text ended
   -- a call of the reader failed: the lines that ended before, and the line of that fault
-  failed : (read told : List ℕ) (so_far : Status) → Consumes held left read → after ≡ next_count before → AreLinesTold expected (ended_lines read) told so_far
+  failed : (read told : List ℕ) (so_far : Status) → Consumes held left read → after ≡ next_count before
+      → AreLinesTold expected (ended_lines read) told so_far
       → text ≡ told ++ fault_text Read → ended ≡ status.Fault → TellsLines expected held left before after text ended
   -- memory ran out: the first lines, and the line of that fault
-  wanting : (read told : List ℕ) (so_far : Status) (done more : List (List ℕ)) → Consumes held left read → after ≡ before → all_lines read ≡ done ++ more → AreLinesTold expected done told so_far
+  wanting : (read told : List ℕ) (so_far : Status) (done more : List (List ℕ)) → Consumes held left read
+      → after ≡ before → all_lines read ≡ done ++ more → AreLinesTold expected done told so_far
       → text ≡ told ++ fault_text Memory → ended ≡ status.Fault → TellsLines expected held left before after text ended
   -- so many octets came that they can't be counted
-  endless : (read told : List ℕ) (so_far : Status) → Consumes held left read → after ≡ before → most_read ≤ length read → AreLinesTold expected (ended_lines read) told so_far
-      → text ≡ told ++ fault_text TooLarge → ended ≡ status.Fault → TellsLines expected held left before after text ended
+  endless : (read told : List ℕ) (so_far : Status) → Consumes held left read → after ≡ before → most_read ≤ length read
+      → AreLinesTold expected (ended_lines read) told so_far
+      → text ≡ told ++ fault_text TooLarge → ended ≡ status.Fault
+      → TellsLines expected held left before after text ended
 
 -- What writing the answers to lines comes to.
-pub data WritesLines (expected : Expected) (held left : Option (List ℕ)) (before after : ℕ) (old new : Option (List ℕ)) (unwritten failures : ℕ) (ended : Status) : Type 0 where
+pub data WritesLines (expected : Expected) (held left : Option (List ℕ)) (before after : ℕ) (old new : Option (List ℕ))
+    (unwritten failures : ℕ) (ended : Status) : Type 0 where
   -- one such text is written, or the writer failed within it
-  answered : Writes (TellsLines expected held left before after) old new unwritten failures ended → WritesLines expected held left before after old new unwritten failures ended
+  answered : Writes (TellsLines expected held left before after) old new unwritten failures ended
+      → WritesLines expected held left before after old new unwritten failures ended
   -- the writer failed within the text of the lines that had ended, and nothing was read after that
-  stopped : (read text : List ℕ) (so_far : Status) → Consumes held left read → after ≡ before → AreLinesTold expected (ended_lines read) text so_far
-      → (count : ℕ) → count < length text → Appends old new (take count text) → HasFailed unwritten failures → ended ≡ status.Fault → WritesLines expected held left before after old new unwritten failures ended
+  stopped : (read text : List ℕ) (so_far : Status) → Consumes held left read → after ≡ before
+      → AreLinesTold expected (ended_lines read) text so_far
+      → (count : ℕ) → count < length text → Appends old new (take count text) → HasFailed unwritten failures
+      → ended ≡ status.Fault → WritesLines expected held left before after old new unwritten failures ended
 
 -- ---- the lines so far
 
@@ -65,4 +75,5 @@ pub record HasBegun (expected : Expected) (lines : List (List ℕ)) (text : List
 -- what is left to be written at the end of the input, where some is written
 pub data IsRest (expected : Expected) (lines : List (List ℕ)) (written text : List ℕ) (ended : Status) : Type 0 where
   all_told : AreLinesTold expected lines (written ++ text) ended → IsRest expected lines written text ended
-  first_told : (told : List ℕ) → HasBegun expected lines (written ++ told) → text ≡ told ++ fault_text Memory → ended ≡ status.Fault → IsRest expected lines written text ended
+  first_told : (told : List ℕ) → HasBegun expected lines (written ++ told) → text ≡ told ++ fault_text Memory
+      → ended ≡ status.Fault → IsRest expected lines written text ended

@@ -37,7 +37,16 @@ class_text sw1 sw2 = name_of (class_of sw1 sw2)
 -- a response, line by line
 abbrev pub response_text : ResponseParts → List ℕ
 response_text r =
-    codes "part " ++ (octets_text r.part ++ (codes "\nstatus " ++ (encode_upper (r.sw1 ∷ r.sw2 ∷ []) ++ (codes " " ++ (class_text r.sw1 r.sw2 ++ codes "\n")))))
+    codes "part " ++ (octets_text r.part ++
+    (codes "\nstatus " ++ (encode_upper (r.sw1 ∷ r.sw2 ∷ [])
+    ++ (codes " " ++ (class_text r.sw1 r.sw2 ++ codes "\n")))))
 
 abbrev pub response_codec : Codec ResponseParts ResponseReason
-response_codec = record { ending = whole; Spells = IsResponse; IsReason = IsReason; name = reason_text; lines = response_text }
+response_codec = record {
+  ending = whole;
+  Spells = IsResponse;
+  IsReason = IsReason;
+  name = reason_text;
+  lines =
+      response_text;
+}

@@ -46,7 +46,9 @@ fn received(
     requires least { 1 ≤ ifs }
     requires most { ifs ≤ 254 }
     ensures found { IfOk result (λ x. IsReceived ifs number octets.now x.0 x.1) }
-    ensures refused { IfErr result (RefusesUnlessMemory self_ended (IsChain ifs number longest_message) (IsReason ifs number longest_message) octets.now) }
+    ensures refused { IfErr result
+        (RefusesUnlessMemory self_ended (IsChain ifs number longest_message)
+        (IsReason ifs number longest_message) octets.now) }
 {
     let Ok(mut receiver) = Receiver::new(alloc, ifs, number, LONGEST_MESSAGE) else {
         return Err(Refused::Memory);
@@ -62,7 +64,10 @@ fn received(
 
 /// A chain, line by line: the count of its blocks and its message.
 fn lines(alloc: Global, receiver: &Receiver) -> Result<String, AllocError>
-    ensures { (fields : List (List ℕ)) → receiver.now.blocks ≡ length fields → receiver.now.joined ≡ message_of fields → receiver.now.done ≡ true → receiver.now.refusal ≡ None → IfOk result (λ text. string_bytes text ≡ chain_text fields) }
+    ensures { (fields : List (List ℕ)) → receiver.now.blocks ≡ length fields
+        → receiver.now.joined ≡ message_of fields → receiver.now.done ≡ true
+        → receiver.now.refusal ≡ None
+        → IfOk result (λ text. string_bytes text ≡ chain_text fields) }
 {
     let blocks = receiver.blocks();
     let message = octets_word(alloc, receiver.message().unwrap_or(&[]))?;
@@ -78,7 +83,8 @@ pub(crate) fn blocks(
 ) -> Result<String, AllocError>
     requires least { 1 ≤ ifs }
     requires most { ifs ≤ 254 }
-    ensures { IfOk result (λ text. string_bytes text ≡ blocks_text (links number (cut_of ifs message.now))) }
+    ensures { IfOk result (λ text.
+        string_bytes text ≡ blocks_text (links number (cut_of ifs message.now))) }
 {
     let mut lines = String::new(alloc);
     for block in cut(message, ifs, number) {

@@ -36,7 +36,8 @@ pub(crate) trait Codec {
     fn shown(alloc: Global, octets: &[u8], expected: Expected) -> Outcome<String, Self::Reason>
         requires least { 1 ≤ expected.ifs }
         requires most { expected.ifs ≤ 254 }
-        ensures found { IfOk result (λ text. (v : Value) × (n : ℕ) × Takes (codec expected) octets.now v n
+        ensures found { IfOk result
+            (λ text. (v : Value) × (n : ℕ) × Takes (codec expected) octets.now v n
             × (string_bytes text ≡ (codec expected).lines v)) }
         ensures refused { IfErr result (StopsUnlessMemory (codec expected) octets.now) };
 
@@ -52,7 +53,8 @@ pub(crate) fn check<C: Codec>(
 ) -> Result<Answer, AllocError>
     requires least { 1 ≤ expected.ifs }
     requires most { expected.ifs ≤ 254 }
-    ensures { IfOk result (λ answer. Tells (C.codec expected) (λ v n. accepted_text n) octets.now answer.text answer.status) }
+    ensures { IfOk result (λ answer.
+        Tells (C.codec expected) (λ v n. accepted_text n) octets.now answer.text answer.status) }
 {
     match C::taken(alloc, octets, expected) {
         Ok(taken) => Answer::accepted(alloc, taken),
@@ -69,7 +71,9 @@ pub(crate) fn show<C: Codec>(
 ) -> Result<Answer, AllocError>
     requires least { 1 ≤ expected.ifs }
     requires most { expected.ifs ≤ 254 }
-    ensures { IfOk result (λ answer. Tells (C.codec expected) (λ v n. (C.codec expected).lines v) octets.now answer.text answer.status) }
+    ensures { IfOk result (λ answer.
+        Tells (C.codec expected) (λ v n. (C.codec expected).lines v) octets.now answer.text
+        answer.status) }
 {
     match C::shown(alloc, octets, expected) {
         Ok(text) => Ok(Answer::told(text)),

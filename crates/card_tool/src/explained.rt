@@ -34,7 +34,9 @@ pub(crate) fn explained<R: Source>(
     requires read { IsReadFrom (texts words.now) read }
     requires sized { IfOk read IsSized }
     requires one { IfOk read HasOneText }
-    ensures told { Gives (IsExplained (IsRight (texts words.now) (R.remaining reader.old) (R.remaining reader.new) (R.failures reader.old) (R.failures reader.new))) result }
+    ensures told { Gives (IsExplained
+        (IsRight (texts words.now) (R.remaining reader.old) (R.remaining reader.new)
+        (R.failures reader.old) (R.failures reader.new))) result }
     ensures unread { (AskForFile (texts words.now) → ⊥) → reader.new ≡ reader.old }
     ensures few { IsBegun (R.remaining reader.old) (R.remaining reader.new) 4194305 }
 {
@@ -54,7 +56,9 @@ fn answered<R: Source>(
     requires read { IsReadFrom (texts words.now) read }
     requires sized { IfOk read IsSized }
     requires one { IfOk read HasOneText }
-    ensures told { Gives (IsExplained (IsRight (texts words.now) (R.remaining reader.old) (R.remaining reader.new) (R.failures reader.old) (R.failures reader.new))) result }
+    ensures told { Gives (IsExplained
+        (IsRight (texts words.now) (R.remaining reader.old) (R.remaining reader.new)
+        (R.failures reader.old) (R.failures reader.new))) result }
     ensures unread { (AskForFile (texts words.now) → ⊥) → reader.new ≡ reader.old }
     ensures few { IsBegun (R.remaining reader.old) (R.remaining reader.new) 4194305 }
 {
@@ -71,7 +75,9 @@ fn answered_to<R: Source>(
 ) -> Result<Answer, Fault>
     requires sized { IsSized request }
     requires one { HasOneText request }
-    ensures told { Gives (IsExplained (IsRightTo request (R.remaining reader.old) (R.remaining reader.new) (R.failures reader.old) (R.failures reader.new))) result }
+    ensures told { Gives (IsExplained
+        (IsRightTo request (R.remaining reader.old) (R.remaining reader.new) (R.failures reader.old)
+        (R.failures reader.new))) result }
     ensures unread { (NeedsFile request → ⊥) → reader.new ≡ reader.old }
     ensures few { IsBegun (R.remaining reader.old) (R.remaining reader.new) 4194305 }
 {
@@ -115,7 +121,9 @@ fn exchange_explained<R: Source>(
 ) -> Result<Answer, Fault>
     requires sized { IsSized request }
     requires one { HasOneText request }
-    ensures told { Gives (IsExplained (IsRightTo request (R.remaining reader.old) (R.remaining reader.new) (R.failures reader.old) (R.failures reader.new))) result }
+    ensures told { Gives (IsExplained
+        (IsRightTo request (R.remaining reader.old) (R.remaining reader.new) (R.failures reader.old)
+        (R.failures reader.new))) result }
     ensures unread { (NeedsFile request → ⊥) → reader.new ≡ reader.old }
     ensures few { IsBegun (R.remaining reader.old) (R.remaining reader.new) 4194305 }
 {
@@ -167,7 +175,9 @@ fn noted(answer: Answer, note: Result<String, AllocError>) -> Answer
 
 /// The line of a fault, with what is wrong with the words or too large.
 fn faulted(alloc: Global, words: &[String], fault: Fault) -> Result<Answer, Fault>
-    ensures { MatchResult result (λ answer. (note : List ℕ) × (answer.text ≡ fault_text fault ++ note) × (answer.status ≡ ended.Fault)) (λ same. same ≡ fault) }
+    ensures { MatchResult result (λ answer. (note : List ℕ)
+        × (answer.text ≡ fault_text fault ++ note) × (answer.status ≡ ended.Fault))
+        (λ same. same ≡ fault) }
 {
     let note = match fault {
         Fault::Words | Fault::Hex => words_note(alloc, words),

@@ -21,7 +21,8 @@ pub(crate) fn octets_given<R: Source>(
     given: Given,
     reader: &mut R,
 ) -> Result<Octets, Fault>
-    ensures taken { IsTaken given (R.remaining reader.old) (R.remaining reader.new) (R.failures reader.old) (R.failures reader.new) result }
+    ensures taken { IsTaken given (R.remaining reader.old) (R.remaining reader.new)
+        (R.failures reader.old) (R.failures reader.new) result }
     ensures unread { (IsFromReader given → ⊥) → reader.new ≡ reader.old }
     ensures few { IsBegun (R.remaining reader.old) (R.remaining reader.new) 4194305 }
 {
@@ -40,7 +41,8 @@ pub(crate) fn octets_given<R: Source>(
 /// tried again, an interruption neither, and `Memory` where a growth was refused. No octet is read past
 /// the first 4,194,305, from a reader without an end neither.
 pub fn read_whole<R: Source>(alloc: Global, reader: &mut R) -> Result<Octets, Fault>
-    ensures { ReadsWhole (R.remaining reader.old) (R.remaining reader.new) (R.failures reader.old) (R.failures reader.new) result }
+    ensures { ReadsWhole (R.remaining reader.old) (R.remaining reader.new) (R.failures reader.old)
+        (R.failures reader.new) result }
 {
     let mut held = Vec::new(alloc);
     let mut filled = 0;
@@ -61,7 +63,8 @@ fn read_more<R: Source>(reader: &mut R, held: &mut Vec<u8>, filled: usize) -> Re
     requires inside { filled ≤ length held.old.items }
     requires few { filled ≤ 4194304 }
     requires most { length held.old.items ≤ 4194305 }
-    ensures { ReadsMore (R.remaining reader.old) (R.remaining reader.new) (R.failures reader.old) (R.failures reader.new) held.old.items held.new.items filled result }
+    ensures { ReadsMore (R.remaining reader.old) (R.remaining reader.new) (R.failures reader.old)
+        (R.failures reader.new) held.old.items held.new.items filled result }
 {
     if filled == held.len() {
         grow(held)?;

@@ -39,7 +39,8 @@ impl Codec for Forest {
 
 /// The forest that the octets spell, in the shortest octets that say the same.
 pub(crate) fn tidy(alloc: Global, octets: &[u8]) -> Result<Answer, AllocError>
-    ensures { IfOk result (λ answer. Tells forest_codec (λ v n. tidied_text v) octets.now answer.text answer.status) }
+    ensures { IfOk result (λ answer.
+        Tells forest_codec (λ v n. tidied_text v) octets.now answer.text answer.status) }
 {
     match decode(alloc, octets, LARGEST_FOREST) {
         Ok(forest) => Ok(Answer::told(tidied(alloc, &forest)?)),
@@ -49,7 +50,8 @@ pub(crate) fn tidy(alloc: Global, octets: &[u8]) -> Result<Answer, AllocError>
 }
 
 fn verdict(octets: &[u8]) -> Result<(), Stop<TlvReason>>
-    ensures { MatchResult result (λ _. (t : Tree) × IsForest largest t octets.now) (Refuses whole (IsForest largest) (IsReason largest) octets.now) }
+    ensures { MatchResult result (λ _. (t : Tree) × IsForest largest t octets.now)
+        (Refuses whole (IsForest largest) (IsReason largest) octets.now) }
 {
     let mut check = ForestCheck::new(LARGEST_FOREST);
     check.feed(octets)?;

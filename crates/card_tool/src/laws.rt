@@ -17,8 +17,12 @@ ghost use Rattle.card_tool.specs.declared.status.Status.{Status as AnyStatus};
 /// Every request has one text and one status, and no other, with what reading standard input gave. What is
 /// taken as it was read has to be octets.
 pub fn one_answer()
-    ensures some { (request : AnyRequest) (file : Result (List ℕ) AnyFault) → IsSized request → HasOctets request → (NeedsOctets request → IfOk file AreOctets) → (text : List ℕ) × (ended : AnyStatus) × IsAnswerTo request file text ended }
-    ensures one { (request : AnyRequest) (file : Result (List ℕ) AnyFault) (text other : List ℕ) (ended different : AnyStatus) → IsSized request → HasOctets request → (NeedsOctets request → IfOk file AreOctets)
+    ensures some { (request : AnyRequest) (file : Result (List ℕ) AnyFault) → IsSized request
+        → HasOctets request → (NeedsOctets request → IfOk file AreOctets) → (text : List ℕ)
+        × (ended : AnyStatus) × IsAnswerTo request file text ended }
+    ensures one { (request : AnyRequest) (file : Result (List ℕ) AnyFault) (text other : List ℕ)
+        (ended different : AnyStatus) → IsSized request → HasOctets request
+        → (NeedsOctets request → IfOk file AreOctets)
         → IsAnswerTo request file text ended → IsAnswerTo request file other different → (text ≡ other) × (ended ≡ different) }
 {}
 
@@ -26,14 +30,18 @@ pub fn one_answer()
 /// the text of help is open, and where its word `help` is followed by others, help and `fault: words` both
 /// are right.
 pub fn one_text()
-    ensures some { (words : List (List ℕ)) (file : Result (List ℕ) AnyFault) → (AskForOctets words → IfOk file AreOctets) → (text : List ℕ) × (ended : AnyStatus) × IsAnswer words file text ended }
-    ensures one { (words : List (List ℕ)) (file : Result (List ℕ) AnyFault) (text other : List ℕ) (ended different : AnyStatus) → (AskForOctets words → IfOk file AreOctets)
+    ensures some { (words : List (List ℕ)) (file : Result (List ℕ) AnyFault)
+        → (AskForOctets words → IfOk file AreOctets) → (text : List ℕ) × (ended : AnyStatus)
+        × IsAnswer words file text ended }
+    ensures one { (words : List (List ℕ)) (file : Result (List ℕ) AnyFault) (text other : List ℕ)
+        (ended different : AnyStatus) → (AskForOctets words → IfOk file AreOctets)
         → IsAnswer words file text ended → IsAnswer words file other different → IsAmong DisplayHelp (fault_of scard words) ⊎ ((text ≡ other) × (ended ≡ different)) }
 {}
 
 /// Where the octets of a reader are known and no call of it fails, what is read as a file is those octets, or
 /// `TooLarge` where they are too many, but for memory.
 pub fn one_file()
-    ensures { (octets : List ℕ) (left : Option (List ℕ)) (before after : ℕ) (file : Result (List ℕ) AnyFault) → ReadsWhole (Some octets) left before after file
+    ensures { (octets : List ℕ) (left : Option (List ℕ)) (before after : ℕ)
+        (file : Result (List ℕ) AnyFault) → ReadsWhole (Some octets) left before after file
         → after ≡ before → before < most_failures → (file ≡ Err Memory) ⊎ (file ≡ file_of octets) }
 {}

@@ -40,7 +40,9 @@ pub(crate) fn check_lines<R: Source, W: Sink>(
 ) -> Status
     requires least { 1 ≤ expected.ifs }
     requires most { expected.ifs ≤ 254 }
-    ensures { WritesLines expected (R.remaining reader.old) (R.remaining reader.new) (R.failures reader.old) (R.failures reader.new) (W.contents writer.old) (W.contents writer.new) (W.failures writer.old) (W.failures writer.new) result }
+    ensures { WritesLines expected (R.remaining reader.old) (R.remaining reader.new)
+        (R.failures reader.old) (R.failures reader.new) (W.contents writer.old)
+        (W.contents writer.new) (W.failures writer.old) (W.failures writer.new) result }
 {
     let mut told = Told {
         expected,
@@ -72,8 +74,16 @@ impl Told {
         requires least { 1 ≤ self.old.expected.ifs }
         requires most { self.old.expected.ifs ≤ 254 }
         ensures expected { self.new.expected ≡ self.old.expected }
-        ensures said { OnOk result ((read written : List ℕ) → HasSaid self.old.expected read written self.old.line.items self.old.text.items self.old.status → HasSaid self.old.expected (read ++ piece.now) written self.new.line.items self.new.text.items self.new.status) }
-        ensures begun { OnErr result ((read written : List ℕ) → HasSaid self.old.expected read written self.old.line.items self.old.text.items self.old.status → HasBegun self.old.expected (all_lines (read ++ piece.now)) (written ++ self.new.text.items)) }
+        ensures said { OnOk result
+            ((read written : List ℕ)
+            → HasSaid self.old.expected read written self.old.line.items self.old.text.items
+            self.old.status → HasSaid self.old.expected (read ++ piece.now) written
+            self.new.line.items self.new.text.items self.new.status) }
+        ensures begun { OnErr result
+            ((read written : List ℕ)
+            → HasSaid self.old.expected read written self.old.line.items self.old.text.items
+            self.old.status → HasBegun self.old.expected (all_lines (read ++ piece.now))
+            (written ++ self.new.text.items)) }
     {
         for octet in piece {
             self.take(alloc, *octet)?;
@@ -86,7 +96,11 @@ impl Told {
         requires least { 1 ≤ self.old.expected.ifs }
         requires most { self.old.expected.ifs ≤ 254 }
         ensures expected { self.new.expected ≡ self.old.expected }
-        ensures said { OnOk result ((read written : List ℕ) → HasSaid self.old.expected read written self.old.line.items self.old.text.items self.old.status → HasSaid self.old.expected (read ++ (octet ∷ [])) written self.new.line.items self.new.text.items self.new.status) }
+        ensures said { OnOk result
+            ((read written : List ℕ)
+            → HasSaid self.old.expected read written self.old.line.items self.old.text.items
+            self.old.status → HasSaid self.old.expected (read ++ (octet ∷ [])) written
+            self.new.line.items self.new.text.items self.new.status) }
         ensures kept { OnErr result (self.new.text.items ≡ self.old.text.items) }
     {
         if octet == b'\n' {
@@ -103,7 +117,11 @@ impl Told {
         requires least { 1 ≤ self.old.expected.ifs }
         requires most { self.old.expected.ifs ≤ 254 }
         ensures expected { self.new.expected ≡ self.old.expected }
-        ensures told { OnOk result ((text : List ℕ) × (ended : AnyStatus) × IsLineTold self.old.expected self.old.line.items text ended × (self.new.text.items ≡ self.old.text.items ++ text) × (self.new.status ≡ worse self.old.status ended)) }
+        ensures told { OnOk result
+            ((text : List ℕ) × (ended : AnyStatus)
+            × IsLineTold self.old.expected self.old.line.items text ended
+            × (self.new.text.items ≡ self.old.text.items ++ text)
+            × (self.new.status ≡ worse self.old.status ended)) }
         ensures line { OnOk result (self.new.line.items ≡ []) }
         ensures kept { OnErr result (self.new.text.items ≡ self.old.text.items) }
     {
@@ -118,7 +136,11 @@ impl Told {
     fn last(&mut self, alloc: Global) -> Result<(), AllocError>
         requires least { 1 ≤ self.old.expected.ifs }
         requires most { self.old.expected.ifs ≤ 254 }
-        ensures told { OnOk result ((read written : List ℕ) → HasSaid self.old.expected read written self.old.line.items self.old.text.items self.old.status → AreLinesTold self.old.expected (all_lines read) (written ++ self.new.text.items) self.new.status) }
+        ensures told { OnOk result
+            ((read written : List ℕ)
+            → HasSaid self.old.expected read written self.old.line.items self.old.text.items
+            self.old.status → AreLinesTold self.old.expected (all_lines read)
+            (written ++ self.new.text.items) self.new.status) }
         ensures kept { OnErr result (self.new.text.items ≡ self.old.text.items) }
     {
         if self.line.is_empty() {
@@ -131,7 +153,10 @@ impl Told {
     fn ended<W: Sink>(mut self, alloc: Global, writer: &mut W) -> Status
         requires least { 1 ≤ self.expected.ifs }
         requires most { self.expected.ifs ≤ 254 }
-        ensures { (read written : List ℕ) → HasSaid self.expected read written self.line.items self.text.items self.status → Writes (IsRest self.expected (all_lines read) written) (W.contents writer.old) (W.contents writer.new) (W.failures writer.old) (W.failures writer.new) result }
+        ensures { (read written : List ℕ)
+            → HasSaid self.expected read written self.line.items self.text.items self.status
+            → Writes (IsRest self.expected (all_lines read) written) (W.contents writer.old)
+            (W.contents writer.new) (W.failures writer.old) (W.failures writer.new) result }
     {
         match self.last(alloc) {
             Ok(()) => write(self.text.as_slice(), self.status, writer),
@@ -141,7 +166,9 @@ impl Told {
 
     /// Writes what is left, and the line of a fault.
     fn faulted<W: Sink>(self, fault: Fault, writer: &mut W) -> Status
-        ensures { IsWritten (self.text.items ++ fault_text fault) ended.Fault (W.contents writer.old) (W.contents writer.new) (W.failures writer.old) (W.failures writer.new) result }
+        ensures { IsWritten (self.text.items ++ fault_text fault) ended.Fault
+            (W.contents writer.old) (W.contents writer.new) (W.failures writer.old)
+            (W.failures writer.new) result }
     {
         match write_octets(writer, self.text.as_slice()) {
             Ok(()) => report(fault, writer),

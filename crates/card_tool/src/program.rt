@@ -43,10 +43,18 @@ pub fn run<R: Source, W: Sink>(
     reader: &mut R,
     writer: &mut W,
 ) -> Status
-    ensures written { AskForNoLines (texts words.items) → Writes (IsRightWith (texts words.items) (R.remaining reader.old) (R.remaining reader.new) (R.failures reader.old) (R.failures reader.new)) (W.contents writer.old) (W.contents writer.new) (W.failures writer.old) (W.failures writer.new) result }
-    ensures lines { (expected : AnyExpected) → AskForLines expected (texts words.items) → WritesLines expected (R.remaining reader.old) (R.remaining reader.new) (R.failures reader.old) (R.failures reader.new) (W.contents writer.old) (W.contents writer.new) (W.failures writer.old) (W.failures writer.new) result }
-    ensures unread { AskForNoLines (texts words.items) → (AskForFile (texts words.items) → ⊥) → reader.new ≡ reader.old }
-    ensures few { AskForNoLines (texts words.items) → IsBegun (R.remaining reader.old) (R.remaining reader.new) 4194305 }
+    ensures written { AskForNoLines (texts words.items)
+        → Writes (IsRightWith (texts words.items) (R.remaining reader.old) (R.remaining reader.new)
+        (R.failures reader.old) (R.failures reader.new)) (W.contents writer.old)
+        (W.contents writer.new) (W.failures writer.old) (W.failures writer.new) result }
+    ensures lines { (expected : AnyExpected) → AskForLines expected (texts words.items)
+        → WritesLines expected (R.remaining reader.old) (R.remaining reader.new)
+        (R.failures reader.old) (R.failures reader.new) (W.contents writer.old)
+        (W.contents writer.new) (W.failures writer.old) (W.failures writer.new) result }
+    ensures unread { AskForNoLines (texts words.items) → (AskForFile (texts words.items) → ⊥)
+        → reader.new ≡ reader.old }
+    ensures few { AskForNoLines (texts words.items)
+        → IsBegun (R.remaining reader.old) (R.remaining reader.new) 4194305 }
 {
     let words = words.as_slice();
     match card_words::read(alloc, words) {
@@ -82,7 +90,10 @@ fn one_text<R: Source, W: Sink>(
     requires read { IsReadFrom (texts words.now) read }
     requires sized { IfOk read IsSized }
     requires one { IfOk read HasOneText }
-    ensures written { Writes (IsRightWith (texts words.now) (R.remaining reader.old) (R.remaining reader.new) (R.failures reader.old) (R.failures reader.new)) (W.contents writer.old) (W.contents writer.new) (W.failures writer.old) (W.failures writer.new) result }
+    ensures written { Writes (IsRightWith (texts words.now) (R.remaining reader.old)
+        (R.remaining reader.new) (R.failures reader.old) (R.failures reader.new))
+        (W.contents writer.old) (W.contents writer.new) (W.failures writer.old)
+        (W.failures writer.new) result }
     ensures unread { (AskForFile (texts words.now) → ⊥) → reader.new ≡ reader.old }
     ensures few { IsBegun (R.remaining reader.old) (R.remaining reader.new) 4194305 }
 {
@@ -94,14 +105,16 @@ fn one_text<R: Source, W: Sink>(
 
 /// Writes the line of a fault.
 pub fn report<W: Sink>(fault: Fault, writer: &mut W) -> Status
-    ensures { IsWritten (fault_text fault) ended.Fault (W.contents writer.old) (W.contents writer.new) (W.failures writer.old) (W.failures writer.new) result }
+    ensures { IsWritten (fault_text fault) ended.Fault (W.contents writer.old)
+        (W.contents writer.new) (W.failures writer.old) (W.failures writer.new) result }
 {
     write(fault.text().as_bytes(), Status::Fault, writer)
 }
 
 /// Writes a text: the status, unless the writer fails.
 pub(crate) fn write<W: Sink>(text: &[u8], status: Status, writer: &mut W) -> Status
-    ensures { IsWritten text.now status (W.contents writer.old) (W.contents writer.new) (W.failures writer.old) (W.failures writer.new) result }
+    ensures { IsWritten text.now status (W.contents writer.old) (W.contents writer.new)
+        (W.failures writer.old) (W.failures writer.new) result }
 {
     match write_octets(writer, text) {
         Ok(()) => status,
@@ -119,7 +132,8 @@ fn answer_as_asked<R: Source>(
     requires read { IsReadFrom (texts words.now) read }
     requires sized { IfOk read IsSized }
     requires one { IfOk read HasOneText }
-    ensures told { Gives (IsRightWith (texts words.now) (R.remaining reader.old) (R.remaining reader.new) (R.failures reader.old) (R.failures reader.new)) result }
+    ensures told { Gives (IsRightWith (texts words.now) (R.remaining reader.old)
+        (R.remaining reader.new) (R.failures reader.old) (R.failures reader.new)) result }
     ensures unread { (AskForFile (texts words.now) → ⊥) → reader.new ≡ reader.old }
     ensures few { IsBegun (R.remaining reader.old) (R.remaining reader.new) 4194305 }
 {
@@ -138,7 +152,8 @@ pub(crate) fn answer_to<R: Source>(
 ) -> Result<Answer, Fault>
     requires sized { IsSized request }
     requires one { HasOneText request }
-    ensures told { AnswersTo request (R.remaining reader.old) (R.remaining reader.new) (R.failures reader.old) (R.failures reader.new) result }
+    ensures told { AnswersTo request (R.remaining reader.old) (R.remaining reader.new)
+        (R.failures reader.old) (R.failures reader.new) result }
     ensures unread { (NeedsFile request → ⊥) → reader.new ≡ reader.old }
     ensures few { IsBegun (R.remaining reader.old) (R.remaining reader.new) 4194305 }
 {
@@ -182,7 +197,8 @@ pub(crate) fn answer_to<R: Source>(
 pub(crate) fn check(alloc: Global, expected: Expected, octets: &[u8]) -> Result<Answer, AllocError>
     requires least { 1 ≤ expected.ifs }
     requires most { expected.ifs ≤ 254 }
-    ensures { IfOk result (λ answer. Checks expected.kind expected octets.now answer.text answer.status) }
+    ensures { IfOk result (λ answer.
+        Checks expected.kind expected octets.now answer.text answer.status) }
 {
     match expected.kind {
         Kind::Atr => codec::check::<Atr>(alloc, octets, expected),
@@ -199,7 +215,8 @@ pub(crate) fn check(alloc: Global, expected: Expected, octets: &[u8]) -> Result<
 pub(crate) fn show(alloc: Global, expected: Expected, octets: &[u8]) -> Result<Answer, AllocError>
     requires least { 1 ≤ expected.ifs }
     requires most { expected.ifs ≤ 254 }
-    ensures { IfOk result (λ answer. Shows expected.kind expected octets.now answer.text answer.status) }
+    ensures { IfOk result (λ answer.
+        Shows expected.kind expected octets.now answer.text answer.status) }
 {
     match expected.kind {
         Kind::Atr => codec::show::<Atr>(alloc, octets, expected),

@@ -11,23 +11,30 @@ then values rest = rest >>= (λ more. Ok (values ++ more))
 abbrev done : {A : Type 0} → List A → Result (List A) Fault
 done values = Ok values
 
-pub then-one : {A : Type 0} (said : List ℕ → Result A Fault) (values : List A) (one : A) (word : List ℕ) (words : List (List ℕ)) → said word ≡ Ok one
+pub then-one : {A : Type 0} (said : List ℕ → Result A Fault) (values : List A) (one : A) (word : List ℕ)
+    (words : List (List ℕ)) → said word ≡ Ok one
     → then values (each said (word ∷ words)) ≡ then (values ++ one ∷ []) (each said words)
 then-one {A = A} said values one word words h = rw h (go (each said words))
   where
-    go : (rest : Result (List A) Fault) → then values (rest >>= (λ more. Ok (one ∷ more))) ≡ then (values ++ one ∷ []) rest
+    go : (rest : Result (List A) Fault) → then values (rest >>= (λ more. Ok (one ∷ more))) ≡ then (values ++ one ∷ [])
+        rest
     go (Ok more) = ap done (sym (append_assoc values (one ∷ []) more))
     go (Err fault) = refl
 
-pub then-fault : {A : Type 0} (said : List ℕ → Result A Fault) (values : List A) (fault : Fault) (word : List ℕ) (words : List (List ℕ)) → said word ≡ Err fault
+pub then-fault : {A : Type 0} (said : List ℕ → Result A Fault) (values : List A) (fault : Fault) (word : List ℕ)
+    (words : List (List ℕ)) → said word ≡ Err fault
     → then values (each said (word ∷ words)) ≡ Err fault
 then-fault said values fault word words h = rw h refl
 
 -- one more word is read
-pub next-one : {A : Type 0} (said : List ℕ → Result A Fault) (values after : List A) (one : A) (words : List (Bor (List ℕ))) (i : ℕ) (d : Bor (List ℕ)) (all : Result (List A) Fault) → i < length words
-    → UnlessMemory (Ok one) (said (get_or words i d).now) → after ≡ values ++ one ∷ [] → then values (each said (map (λ word. word.now) (drop i words))) ≡ all
+pub next-one : {A : Type 0} (said : List ℕ → Result A Fault) (values after : List A) (one : A)
+    (words : List (Bor (List ℕ))) (i : ℕ) (d : Bor (List ℕ)) (all : Result (List A) Fault) → i < length words
+    → UnlessMemory (Ok one) (said (get_or words i d).now) → after ≡ values ++ one ∷ []
+    → then values (each said (map (λ word. word.now) (drop i words))) ≡ all
     → then after (each said (map (λ word. word.now) (drop (i + 1) words))) ≡ all
 next-one said values after one words i d all inside (inl memory) is kept = absurd (cc)
 next-one said values after one words i d all inside (inr read) is kept =
-    rw is (sym (then-one said values one (get_or words i d).now (map (λ word. word.now) (drop (i + 1) words)) (sym read))
-    ∙ ap (λ (l : List (Bor (List ℕ))). then values (each said (map (λ word. word.now) l))) (sym (drop_more words i d inside)) ∙ kept)
+    rw is (sym (then-one said values one (get_or words i d).now (map (λ word. word.now) (drop (i + 1) words))
+    (sym read))
+    ∙ ap (λ (l : List (Bor (List ℕ))). then values (each said (map (λ word. word.now) l)))
+    (sym (drop_more words i d inside)) ∙ kept)

@@ -24,7 +24,8 @@ groups-octets (group ∷ groups) read h =
     let one = both-steps (group_octets group) _ read h in
     let more = both-steps (each group_octets groups) _ read one.2 in
     let first = (decode_of-ok (digits_of group) one.0 (read-hex (decode_of (digits_of group)) one.0 one.1)).3 in
-    subst (λ (r : List (List ℕ)). AreOctets (concat r)) (same _ read more.2) (octets-append one.0 (concat more.0) first (groups-octets groups more.0 more.1))
+    subst (λ (r : List (List ℕ)). AreOctets (concat r)) (same _ read more.2)
+    (octets-append one.0 (concat more.0) first (groups-octets groups more.0 more.1))
 
 loose-octets : (text octets : List ℕ) → loose_octets text ≡ Ok octets → AreOctets octets
 loose-octets text octets h =
@@ -35,7 +36,8 @@ loosely : (r : Result (List ℕ) Fault) → ((octets : List ℕ) → r ≡ Ok oc
 loosely (Ok octets) h = h octets refl
 loosely (Err fault) h = tt
 
-pub octets-given : (given : Given) (file : Result (List ℕ) Fault) → GivesOctets given → (IsAsRead given → IfOk file AreOctets) → IfOk (octets_given given file) AreOctets
+pub octets-given : (given : Given) (file : Result (List ℕ) Fault) → GivesOctets given
+    → (IsAsRead given → IfOk file AreOctets) → IfOk (octets_given given file) AreOctets
 octets-given (Word octets) file h as_read = h
 octets-given (Read form.Hex) (Ok text) h as_read = loosely (loose_octets text) (loose-octets text)
 octets-given (Read form.Octets) (Ok text) h as_read = as_read tt

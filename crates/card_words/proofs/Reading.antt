@@ -29,8 +29,10 @@ use Rattle.card_words.specs.declared.fault.Fault.{Fault}
 use Rattle.card_words.specs.declared.fault.Fault.TheVariants.{Words, Hex, Memory}
 
 -- what `u8` reads of a word, where it reads it
-pub byte-read : {E : Type 0} (otherwise : ℕ) (word : List ℕ) (r : Result ℕ E) → ParsesUnsigned 8 10 word r → result_unwrap_or r otherwise ≡ byte_or otherwise word
-byte-read otherwise word (Ok n) h = rw (Accepts-accepts false (parser.Unsigned 0 255) word (h.0.0, omega (arith, h.0.1), omega arith, omega (arith, h.0.1))) h.1
+pub byte-read : {E : Type 0} (otherwise : ℕ) (word : List ℕ) (r : Result ℕ E) → ParsesUnsigned 8 10 word r
+    → result_unwrap_or r otherwise ≡ byte_or otherwise word
+byte-read otherwise word (Ok n) h = rw (Accepts-accepts false (parser.Unsigned 0 255) word
+    (h.0.0, omega (arith, h.0.1), omega arith, omega (arith, h.0.1))) h.1
 byte-read otherwise word (Err e) h = go (is_unsigned_in 0 255 word) refl
   where
     go : (b : Bool) → is_unsigned_in 0 255 word ≡ b → otherwise ≡ byte_or otherwise word
@@ -48,9 +50,14 @@ refused (Ok octets) no_octets = absurd (no_octets octets refl)
 refused (Err f) no_octets = refl
 
 -- a fault of the hexadecimal text
-pub refused-word : (word : List ℕ) (fault : HexFault) → IsHexFault word fault → bytes_eq word (codes "none") ≡ false → UnlessMemory {X = List ℕ} (Err (fault_of_hex fault)) (octets_of_word word)
-refused-word word hex.Odd h other = inr (rw other (refused (decode_of word) (λ octets ok. let bad : hex.Odd ≡ hex.Memory = fault-refused word octets hex.Odd h ok in cc)))
-refused-word word (hex.Digit place) h other = inr (rw other (refused (decode_of word) (λ octets ok. let bad : hex.Digit place ≡ hex.Memory = fault-refused word octets (hex.Digit place) h ok in cc)))
+pub refused-word : (word : List ℕ) (fault : HexFault) → IsHexFault word fault → bytes_eq word (codes "none") ≡ false
+    → UnlessMemory {X = List ℕ} (Err (fault_of_hex fault)) (octets_of_word word)
+refused-word word hex.Odd h other = inr (rw other
+    (refused (decode_of word) (λ octets ok. let bad : hex.Odd ≡ hex.Memory =
+    fault-refused word octets hex.Odd h ok in cc)))
+refused-word word (hex.Digit place) h other =
+    inr (rw other (refused (decode_of word)
+    (λ octets ok. let bad : hex.Digit place ≡ hex.Memory = fault-refused word octets (hex.Digit place) h ok in cc)))
 refused-word word hex.Memory h other = inl refl
 
 -- ---- a parse
@@ -63,7 +70,8 @@ pub fails-err : {T : Type 0} (kinds : Kinds) (r : Result T Error) → FailsBy ki
 fails-err kinds (Ok x) h = tt
 fails-err kinds (Err e) h = h
 
-pub help-or-fault : (words : List (List ℕ)) (kind : ErrorKind) (read : Result Request Fault) → (kind ≡ OutOfMemory) ⊎ IsAmong kind (fault_of scard words) → IsHelpOrFault kind read → (read ≡ Err Memory) ⊎ IsRead words read
+pub help-or-fault : (words : List (List ℕ)) (kind : ErrorKind) (read : Result Request Fault) → (kind ≡ OutOfMemory)
+    ⊎ IsAmong kind (fault_of scard words) → IsHelpOrFault kind read → (read ≡ Err Memory) ⊎ IsRead words read
 help-or-fault words OutOfMemory read known h = inl h
 help-or-fault words DisplayHelp read (inl e) h = absurd (cc)
 help-or-fault words DisplayHelp read (inr among) h =
@@ -80,26 +88,34 @@ number-zero word n e z = rw (← e, z) refl
 pub number-one : (word : List ℕ) (n : ℕ) → n ≡ byte_or 2 word → n ≡ 1 → Ok One ≡ number_of_word word
 number-one word n e z = rw (← e, z) refl
 
-pub number-none : (word : List ℕ) (n : ℕ) → n ≡ byte_or 2 word → (n ≡ 0 → ⊥) → (n ≡ 1 → ⊥) → Err Words ≡ number_of_word word
+pub number-none : (word : List ℕ) (n : ℕ) → n ≡ byte_or 2 word → (n ≡ 0 → ⊥) → (n ≡ 1 → ⊥)
+    → Err Words ≡ number_of_word word
 number-none word n e nz other = rw (← e) (grind (arith, nat_tests))
 
 -- ---- chains
 
-pub chain-is : (words : List (Bor (List ℕ))) (d : Bor (List ℕ)) → length words ≡ 3 → chain_of (map (λ word. word.now) words) ≡ chain_by (get_or words 0 d).now (get_or words 1 d).now (get_or words 2 d).now
+pub chain-is : (words : List (Bor (List ℕ))) (d : Bor (List ℕ)) → length words ≡ 3
+    → chain_of (map (λ word. word.now) words) ≡ chain_by (get_or words 0 d).now (get_or words 1 d).now
+    (get_or words 2 d).now
 chain-is [] d e = absurd (omega arith)
 chain-is (a ∷ []) d e = absurd (omega arith)
 chain-is (a ∷ b ∷ []) d e = absurd (omega arith)
 chain-is (a ∷ b ∷ c ∷ []) d e = refl
 chain-is (a ∷ b ∷ c ∷ w ∷ words) d e = absurd (omega arith)
 
-pub chain-other : (words : List (Bor (List ℕ))) → (length words ≡ 3 → ⊥) → Err Words ≡ chain_of (map (λ word. word.now) words)
+pub chain-other : (words : List (Bor (List ℕ))) → (length words ≡ 3 → ⊥)
+    → Err Words ≡ chain_of (map (λ word. word.now) words)
 chain-other [] h = refl
 chain-other (a ∷ []) h = refl
 chain-other (a ∷ b ∷ []) h = refl
 chain-other (a ∷ b ∷ c ∷ []) h = absurd (h (omega arith))
 chain-other (a ∷ b ∷ c ∷ w ∷ words) h = refl
 
-pub chain-built : (size number_word hex : List ℕ) (ifs : ℕ) (number : Number) (message : List ℕ) (octets : Result (List ℕ) Fault) → size_of (Some size) ≡ Ok ifs → number_of_word number_word ≡ Ok number → octets ≡ Ok message → UnlessMemory octets (octets_of_word hex) → length message ≤ 131072
+pub chain-built : (size number_word hex : List ℕ) (ifs : ℕ) (number : Number) (message : List ℕ)
+    (octets : Result (List ℕ) Fault) → size_of (Some size) ≡ Ok ifs → number_of_word number_word ≡ Ok number
+    → octets ≡ Ok message → UnlessMemory octets (octets_of_word hex) → length message ≤ 131072
     → Ok (BuildChain ifs number message) ≡ chain_by size number_word hex
-chain-built size number_word hex ifs number message octets e f g (inl memory) small = absurd (let bad : Ok message ≡ Err Memory = sym g ∙ memory in cc)
-chain-built size number_word hex ifs number message octets e f g (inr read) small = rw (e, f, sym read ∙ g, le-leb (length message) 131072 small) refl
+chain-built size number_word hex ifs number message octets e f g (inl memory) small =
+    absurd (let bad : Ok message ≡ Err Memory = sym g ∙ memory in cc)
+chain-built size number_word hex ifs number message octets e f g (inr read) small =
+    rw (e, f, sym read ∙ g, le-leb (length message) 131072 small) refl

@@ -22,7 +22,8 @@ use Rattle.card_words.specs.declared.request.Input.{Input}
 use Rattle.card_words.specs.declared.request.Request.{Request}
 use Rattle.card_words.specs.declared.request.Request.TheVariants.{BuildTidy, CheckLines, Migrate, Help}
 
-pub both-steps : {A B : Type 0} (r : Result A Fault) (f : A → Result B Fault) (b : B) → r >>= f ≡ Ok b → (a : A) × (r ≡ Ok a) × (f a ≡ Ok b)
+pub both-steps : {A B : Type 0} (r : Result A Fault) (f : A → Result B Fault) (b : B) → r >>= f ≡ Ok b → (a : A)
+    × (r ≡ Ok a) × (f a ≡ Ok b)
 both-steps (Ok a) f b h = (a, refl, h)
 both-steps (Err e) f b h = cc h
 
@@ -49,20 +50,23 @@ word-octets word octets h =
       | inr hex ↦ (decode_of-ok word octets (read-hex (decode_of word) octets hex)).3
     ]
 
-sized-by : (n ifs : ℕ) (b : Bool) → nat_le 1 n && nat_le n 254 ≡ b → (if b then Ok n else Err Words) ≡ Ok ifs → (1 ≤ ifs) × (ifs ≤ 254)
+sized-by : (n ifs : ℕ) (b : Bool) → nat_le 1 n && nat_le n 254 ≡ b → (if b then Ok n else Err Words) ≡ Ok ifs
+    → (1 ≤ ifs) × (ifs ≤ 254)
 sized-by n ifs true t h = let e : n ≡ ifs = same n ifs h in grind (arith, nat_tests)
 sized-by n ifs false t h = cc h
 
 sized : (word : Option (List ℕ)) (ifs : ℕ) → size_of word ≡ Ok ifs → (1 ≤ ifs) × (ifs ≤ 254)
 sized None ifs h = let e : 254 ≡ ifs = same 254 ifs h in (omega arith, omega arith)
-sized (Some word) ifs h = sized-by (byte_or 0 word) ifs (nat_le 1 (byte_or 0 word) && nat_le (byte_or 0 word) 254) refl h
+sized (Some word) ifs h = sized-by (byte_or 0 word) ifs (nat_le 1 (byte_or 0 word) && nat_le (byte_or 0 word) 254) refl
+    h
 
 -- ---- requests
 
 abbrev IsProper : Request → Type 0
 IsProper request = IsSized request × HasOctets request
 
-expected-sized : (rows : List Row) (expected : Expected) → expected_of rows ≡ Ok expected → (1 ≤ expected.ifs) × (expected.ifs ≤ 254)
+expected-sized : (rows : List Row) (expected : Expected) → expected_of rows ≡ Ok expected → (1 ≤ expected.ifs)
+    × (expected.ifs ≤ 254)
 expected-sized rows expected h =
     let size = both-steps (size_of (first_of (codes "ifs") rows)) _ expected h in
     let number = both-steps (number_of (first_of (codes "number") rows)) _ expected size.2 in
@@ -82,15 +86,19 @@ given-octets None (Some word) given h =
 given-octets (Some hex) (Some word) given h = cc h
 given-octets None None given h = cc h
 
-input-proper : (rows : List Row) (input : Input) → input_of rows ≡ Ok input → (1 ≤ input.expected.ifs) × (input.expected.ifs ≤ 254) × GivesOctets input.given
+input-proper : (rows : List Row) (input : Input) → input_of rows ≡ Ok input → (1 ≤ input.expected.ifs)
+    × (input.expected.ifs ≤ 254) × GivesOctets input.given
 input-proper rows input h =
     let expected = both-steps (expected_of rows) _ input h in
-    let given = both-steps (given_of (first_of (codes "hex") rows) (first_of (codes "stdin") rows)) _ input expected.2 in
+    let given = both-steps (given_of (first_of (codes "hex") rows) (first_of (codes "stdin") rows)) _ input expected.2
+    in
     let small = expected-sized rows expected.0 expected.1 in
     let octets = given-octets (first_of (codes "hex") rows) (first_of (codes "stdin") rows) given.0 given.1 in
-    subst (λ (i : Input). (1 ≤ i.expected.ifs) × (i.expected.ifs ≤ 254) × GivesOctets i.given) (same _ input given.2) (small.0, small.1, octets)
+    subst (λ (i : Input). (1 ≤ i.expected.ifs) × (i.expected.ifs ≤ 254) × GivesOctets i.given) (same _ input given.2)
+    (small.0, small.1, octets)
 
-check-proper : (expected : Expected) (hex form : Option (List ℕ)) (request : Request) → (1 ≤ expected.ifs) × (expected.ifs ≤ 254) → check_by expected hex form ≡ Ok request → IsProper request
+check-proper : (expected : Expected) (hex form : Option (List ℕ)) (request : Request) → (1 ≤ expected.ifs)
+    × (expected.ifs ≤ 254) → check_by expected hex form ≡ Ok request → IsProper request
 check-proper expected hex form request small h =
     elim (one-of (asks_for_lines hex form) (Ok (CheckLines expected)) _ request h) [
       | inl lines ↦ subst IsProper (same _ request lines) (small, tt)
@@ -99,11 +107,14 @@ check-proper expected hex form request small h =
           subst IsProper (same _ request given.2) (small, given-octets hex form given.0 given.1)
     ]
 
-short-by : (b : List ℕ) (message : List ℕ) (t : Bool) → nat_le (length b) 131072 ≡ t → (if t then Ok b else Err Words) ≡ Ok message → (b ≡ message) × (length message ≤ 131072)
-short-by b message true t h = let e : b ≡ message = same b message h in (e, subst (λ (l : List ℕ). length l ≤ 131072) e (grind (arith, nat_tests)))
+short-by : (b : List ℕ) (message : List ℕ) (t : Bool) → nat_le (length b) 131072 ≡ t
+    → (if t then Ok b else Err Words) ≡ Ok message → (b ≡ message) × (length message ≤ 131072)
+short-by b message true t h = let e : b ≡ message =
+    same b message h in (e, subst (λ (l : List ℕ). length l ≤ 131072) e (grind (arith, nat_tests)))
 short-by b message false t h = cc h
 
-chain-proper : (size number_word hex : List ℕ) (request : Request) → chain_by size number_word hex ≡ Ok request → IsProper request
+chain-proper : (size number_word hex : List ℕ) (request : Request) → chain_by size number_word hex ≡ Ok request
+    → IsProper request
 chain-proper size number_word hex request h =
     let ifs = both-steps (size_of (Some size)) _ request h in
     let number = both-steps (number_of_word number_word) _ request ifs.2 in
@@ -111,7 +122,8 @@ chain-proper size number_word hex request h =
     let message = both-steps (short_message octets.0) _ request octets.2 in
     let small = sized (Some size) ifs.0 ifs.1 in
     let short = short-by octets.0 message.0 (nat_le (length octets.0) 131072) refl message.1 in
-    subst IsProper (same _ request message.2) ((small.0, small.1, short.1), subst AreOctets short.0 (word-octets hex octets.0 octets.1))
+    subst IsProper (same _ request message.2)
+    ((small.0, small.1, short.1), subst AreOctets short.0 (word-octets hex octets.0 octets.1))
 
 chains-proper : (words : List (List ℕ)) (request : Request) → chain_of words ≡ Ok request → IsProper request
 chains-proper [] request h = cc h
@@ -120,12 +132,14 @@ chains-proper (a ∷ b ∷ []) request h = cc h
 chains-proper (a ∷ b ∷ c ∷ []) request h = chain-proper a b c request h
 chains-proper (a ∷ b ∷ c ∷ d ∷ words) request h = cc h
 
-tidied-proper : (hex form : Option (List ℕ)) (request : Request) → given_of hex form >>= (λ given. Ok (BuildTidy given)) ≡ Ok request → IsProper request
+tidied-proper : (hex form : Option (List ℕ)) (request : Request)
+    → given_of hex form >>= (λ given. Ok (BuildTidy given)) ≡ Ok request → IsProper request
 tidied-proper hex form request h =
     let given = both-steps (given_of hex form) _ request h in
     subst IsProper (same _ request given.2) (tt, given-octets hex form given.0 given.1)
 
-tidy-proper : (words : List (List ℕ)) (form : Option (List ℕ)) (request : Request) → tidy_of words form ≡ Ok request → IsProper request
+tidy-proper : (words : List (List ℕ)) (form : Option (List ℕ)) (request : Request) → tidy_of words form ≡ Ok request
+    → IsProper request
 tidy-proper [] form request h = tidied-proper None form request h
 tidy-proper (hex ∷ []) form request h = tidied-proper (Some hex) form request h
 tidy-proper (a ∷ b ∷ words) form request h = cc h
@@ -136,7 +150,8 @@ fill-proper (hex ∷ words) request h =
     let octets = both-steps (octets_of_word hex) _ request h in
     subst IsProper (same _ request octets.2) (tt, word-octets hex octets.0 octets.1)
 
-words-proper : (what : List ℕ) (words : List (List ℕ)) (request : Request) → build_words what words ≡ Ok request → IsProper request
+words-proper : (what : List ℕ) (words : List (List ℕ)) (request : Request) → build_words what words ≡ Ok request
+    → IsProper request
 words-proper what words request h =
     elim (one-of (bytes_eq what (codes "chain")) (chain_of words) _ request h) [
       | inl chain ↦ chains-proper words request chain
@@ -178,7 +193,8 @@ pair-octets word pair h =
     let both = both-steps (parted word) _ pair h in
     let command = both-steps (octets_of_word both.0.0) _ pair both.2 in
     let reply = both-steps (octets_of_word both.0.1) _ pair command.2 in
-    subst (λ (p : Pair). AreOctets p.command × AreOctets p.reply) (same _ pair reply.2) (word-octets both.0.0 command.0 command.1, word-octets both.0.1 reply.0 reply.1)
+    subst (λ (p : Pair). AreOctets p.command × AreOctets p.reply) (same _ pair reply.2)
+    (word-octets both.0.0 command.0 command.1, word-octets both.0.1 reply.0 reply.1)
 
 pairs-octets : (words : List (List ℕ)) (pairs : List Pair) → pairs_of words ≡ Ok pairs → AreOctetPairs pairs
 pairs-octets [] pairs h = subst AreOctetPairs (same [] pairs h) tt
@@ -188,7 +204,8 @@ pairs-octets (word ∷ words) pairs h =
     let one = pair-octets word pair.0 pair.1 in
     subst AreOctetPairs (same _ pairs more.2) (one.0, one.1, pairs-octets words more.0 more.1)
 
-session-proper : (rows : List Row) (session : Session) → session_of rows ≡ Ok session → IsSize session.ifsd × AreOctets session.atr × AreOctetPairs session.pairs
+session-proper : (rows : List Row) (session : Session) → session_of rows ≡ Ok session → IsSize session.ifsd
+    × AreOctets session.atr × AreOctetPairs session.pairs
 session-proper rows session h =
     let ifsd = both-steps (asked_size (first_of (codes "ifsd") rows)) _ session h in
     let lost = both-steps (blocks_of (first_of (codes "lose") rows)) _ session ifsd.2 in
@@ -197,14 +214,20 @@ session-proper rows session h =
     let atr_word = both-steps (needed (first_of (codes "atr") rows)) _ session spoilt.2 in
     let atr = both-steps (octets_of_word atr_word.0) _ session atr_word.2 in
     let pairs = both-steps (pairs_of (all_or_none (all_of (codes "pairs") rows))) _ session atr.2 in
-    subst (λ (s : Session). IsSize s.ifsd × AreOctets s.atr × AreOctetPairs s.pairs) (same _ session pairs.2) (asked (first_of (codes "ifsd") rows) ifsd.0 ifsd.1, word-octets atr_word.0 atr.0 atr.1, pairs-octets (all_or_none (all_of (codes "pairs") rows)) pairs.0 pairs.1)
+    subst (λ (s : Session). IsSize s.ifsd × AreOctets s.atr × AreOctetPairs s.pairs) (same _ session pairs.2) (
+      asked (first_of (codes "ifsd") rows) ifsd.0 ifsd.1,
+      word-octets atr_word.0 atr.0 atr.1,
+      pairs-octets (all_or_none (all_of (codes "pairs") rows)) pairs.0 pairs.1,
+    )
 
-named-proper : (name : List ℕ) (rows : List Row) (request : Request) → request_by name rows ≡ Ok request → IsProper request
+named-proper : (name : List ℕ) (rows : List Row) (request : Request) → request_by name rows ≡ Ok request
+    → IsProper request
 named-proper name rows request h =
     elim (one-of (bytes_eq name (codes "check")) _ _ request h) [
       | inl check ↦
           let expected = both-steps (expected_of rows) _ request check in
-          check-proper expected.0 (first_of (codes "hex") rows) (first_of (codes "stdin") rows) request (expected-sized rows expected.0 expected.1) expected.2
+          check-proper expected.0 (first_of (codes "hex") rows) (first_of (codes "stdin") rows) request
+          (expected-sized rows expected.0 expected.1) expected.2
       | inr other ↦
           elim (one-of (bytes_eq name (codes "show")) _ _ request other) [
             | inl show ↦
@@ -234,12 +257,14 @@ named-proper name rows request h =
           ]
     ]
 
-pub request-proper : (entered : Option (List ℕ × List Row)) (request : Request) → request_of entered ≡ Ok request → IsSized request × HasOctets request
+pub request-proper : (entered : Option (List ℕ × List Row)) (request : Request) → request_of entered ≡ Ok request
+    → IsSized request × HasOctets request
 request-proper None request h = cc h
 request-proper (Some entered) request h = named-proper entered.0 entered.1 request h
 
 -- the same of what words are read as
-pub read-proper : (words : List (List ℕ)) (request : Request) → IsRead words (Ok request) → IsSized request × HasOctets request
+pub read-proper : (words : List (List ℕ)) (request : Request) → IsRead words (Ok request) → IsSized request
+    × HasOctets request
 read-proper words request (taken free e) = request-proper (subcommand_of scard words) request (sym e)
 read-proper words request (called_for_help among help e) = subst IsProper (sym (same request (Help help) e)) (tt, tt)
 read-proper words request (not_taken other e) = absurd (cc)
@@ -248,7 +273,8 @@ pub read-octets : (words : List (List ℕ)) (read : Result Request Fault) → Is
 read-octets words (Ok request) h = (read-proper words request h).1
 read-octets words (Err fault) h = tt
 
-pub request-octets : (entered : Option (List ℕ × List Row)) (result : Result Request Fault) → UnlessMemory result (request_of entered) → IfOk result HasOctets
+pub request-octets : (entered : Option (List ℕ × List Row)) (result : Result Request Fault)
+    → UnlessMemory result (request_of entered) → IfOk result HasOctets
 request-octets entered (Ok request) (inl memory) = absurd (cc)
 request-octets entered (Ok request) (inr is) = (request-proper entered request (sym is)).1
 request-octets entered (Err fault) h = tt

@@ -21,7 +21,8 @@ tested-tag : (b : List ℕ) → AreOctets b → is_tag b ≡ true → IsTag b
 tested-tag [] octets h = absurd (cc)
 tested-tag (x ∷ []) octets h = let o : x < 256 = octets 0 in grind (arith, nat_tests)
 tested-tag (x ∷ y ∷ []) octets h = let o : x < 256 = octets 0 in grind (arith, nat_tests)
-tested-tag (x ∷ y ∷ z ∷ []) octets h = let o : x < 256 = octets 0 in let p : y < 256 = octets 1 in grind (arith, nat_tests)
+tested-tag (x ∷ y ∷ z ∷ []) octets h = let o : x < 256 = octets 0 in let p : y < 256 =
+    octets 1 in grind (arith, nat_tests)
 tested-tag (x ∷ y ∷ z ∷ w ∷ more) octets h = absurd (cc)
 
 tag-tests : (b : List ℕ) → IsTag b → is_tag b ≡ true
@@ -32,7 +33,8 @@ tag-tests (x ∷ y ∷ z ∷ []) h = grind (arith, nat_tests)
 tag-tests (x ∷ y ∷ z ∷ w ∷ more) h = absurd h
 
 -- the tag of octets, where they are one
-pub tag-is : (b : List ℕ) (r : Option (List ℕ)) → AreOctets b → MatchOption r (IsTag b → ⊥) (λ tag. IsTag b × (tag ≡ b)) → ok_or r Words ≡ tag_of b
+pub tag-is : (b : List ℕ) (r : Option (List ℕ)) → AreOctets b → MatchOption r (IsTag b → ⊥) (λ tag. IsTag b × (tag ≡ b))
+    → ok_or r Words ≡ tag_of b
 tag-is b (Some tag) octets h = rw (tag-tests b h.0, h.1) refl
 tag-is b None octets h = go (is_tag b) refl
   where
@@ -40,12 +42,17 @@ tag-is b None octets h = go (is_tag b) refl
     go true e = absurd (h (tested-tag b octets e))
     go false e = rw e refl
 
-refused : (read : Result (List ℕ) FromHexError) → ((octets : List ℕ) → read ≡ Ok octets → ⊥) → Err Hex ≡ hex_octets read >>= tag_of
+refused : (read : Result (List ℕ) FromHexError) → ((octets : List ℕ) → read ≡ Ok octets → ⊥)
+    → Err Hex ≡ hex_octets read >>= tag_of
 refused (Ok octets) no_octets = absurd (no_octets octets refl)
 refused (Err f) no_octets = refl
 
 -- a fault of the hexadecimal text of a tag
-pub refused-tag : (word : List ℕ) (fault : HexFault) → IsHexFault word fault → UnlessMemory {X = List ℕ} (Err (fault_of_hex fault)) (tag_of_word word)
-refused-tag word hex.Odd h = inr (refused (decode_of word) (λ octets ok. let bad : hex.Odd ≡ hex.Memory = fault-refused word octets hex.Odd h ok in cc))
-refused-tag word (hex.Digit place) h = inr (refused (decode_of word) (λ octets ok. let bad : hex.Digit place ≡ hex.Memory = fault-refused word octets (hex.Digit place) h ok in cc))
+pub refused-tag : (word : List ℕ) (fault : HexFault) → IsHexFault word fault
+    → UnlessMemory {X = List ℕ} (Err (fault_of_hex fault)) (tag_of_word word)
+refused-tag word hex.Odd h = inr (refused (decode_of word)
+    (λ octets ok. let bad : hex.Odd ≡ hex.Memory = fault-refused word octets hex.Odd h ok in cc))
+refused-tag word (hex.Digit place) h = inr
+    (refused (decode_of word) (λ octets ok. let bad : hex.Digit place ≡ hex.Memory =
+    fault-refused word octets (hex.Digit place) h ok in cc))
 refused-tag word hex.Memory h = inl refl

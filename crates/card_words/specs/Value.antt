@@ -30,7 +30,8 @@ is_colon x = x == 58
 
 -- what is before the first colon of a word, and what is after it
 abbrev pub parted : List ℕ → Result (List ℕ × List ℕ) Fault
-parted word = if position_or_len is_colon word == length word then Err Words else Ok (before_first is_colon word, after_first is_colon word)
+parted word = if position_or_len is_colon word == length word then Err Words else Ok
+    (before_first is_colon word, after_first is_colon word)
 
 -- words that say a value each, from left to right
 abbrev pub each : {A : Type 0} → (List ℕ → Result A Fault) → List (List ℕ) → Result (List A) Fault

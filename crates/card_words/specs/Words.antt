@@ -53,10 +53,12 @@ abbrev pub stdin_rule : Rule
 stdin_rule = option_rule (codes "stdin")
 
 abbrev pub ifs_rule : Rule
-ifs_rule = record (new_rule (codes "ifs")) { long = Some (codes "ifs"); value_names = 1; parser = Some (parser.Signed (pos 1) (pos 254)) }
+ifs_rule = record (new_rule (codes "ifs"))
+    { long = Some (codes "ifs"); value_names = 1; parser = Some (parser.Signed (pos 1) (pos 254)) }
 
 abbrev pub number_rule : Rule
-number_rule = record (new_rule (codes "number")) { long = Some (codes "number"); value_names = 1; parser = Some (parser.Signed (pos 0) (pos 1)) }
+number_rule = record (new_rule (codes "number"))
+    { long = Some (codes "number"); value_names = 1; parser = Some (parser.Signed (pos 0) (pos 1)) }
 
 -- a subcommand that takes what octets are taken for: a kind, an information size and a first number
 abbrev pub expected_app : List ℕ → App
@@ -94,18 +96,22 @@ abbrev pub pairs_rule : Rule
 pairs_rule = record (new_rule (codes "pairs")) { value_names = 1; action = Some Append }
 
 abbrev pub ifsd_rule : Rule
-ifsd_rule = record (new_rule (codes "ifsd")) { long = Some (codes "ifsd"); value_names = 1; parser = Some (parser.Signed (pos 1) (pos 254)) }
+ifsd_rule = record (new_rule (codes "ifsd"))
+    { long = Some (codes "ifsd"); value_names = 1; parser = Some (parser.Signed (pos 1) (pos 254)) }
 
 -- the subcommand that records a session of both ends, first with its words and the size that is asked for
 abbrev pub session_app : App
 session_app = with_rule (with_rule (with_rule (begun_app (codes "simulate")) atr_rule) pairs_rule) ifsd_rule
 
 abbrev pub simulate_app : App
-simulate_app = with_rule (with_rule (with_rule session_app (option_rule (codes "lose"))) (option_rule (codes "damage"))) (option_rule (codes "spoil"))
+simulate_app = with_rule (with_rule (with_rule session_app (option_rule (codes "lose"))) (option_rule (codes "damage")))
+    (option_rule (codes "spoil"))
 
 -- the program as a command, first with what it says of octets
 abbrev pub octets_app : App
-octets_app = with_subcommand (with_subcommand (with_subcommand (new_app (codes "scard")) (input_app (codes "check")).top) (input_app (codes "show")).top) build_app.top
+octets_app = with_subcommand (with_subcommand
+    (with_subcommand (new_app (codes "scard")) (input_app (codes "check")).top) (input_app (codes "show")).top)
+    build_app.top
 
 unfoldable pub scard : App
 scard = with_subcommand (with_subcommand (with_subcommand octets_app replay_app.top) migrate_app.top) simulate_app.top
@@ -143,7 +149,8 @@ kind_of word =
 -- an information size as a word; the greatest where there is no word
 abbrev pub size_of : Option (List ℕ) → Result ℕ Fault
 size_of None = Ok 254
-size_of (Some word) = if nat_le 1 (byte_or 0 word) && nat_le (byte_or 0 word) 254 then Ok (byte_or 0 word) else Err Words
+size_of (Some word) = if nat_le 1 (byte_or 0 word) && nat_le (byte_or 0 word) 254 then Ok (byte_or 0 word) else Err
+    Words
 
 -- the number of the first block as a word; zero where there is no word
 abbrev pub number_of_word : List ℕ → Result Number Fault
@@ -176,7 +183,8 @@ check_by expected hex form =
     else given_of hex form >>= (λ given. Ok (Check (record { expected = expected; given = given })))
 
 abbrev pub check_of : List Row → Result Request Fault
-check_of rows = expected_of rows >>= (λ expected. check_by expected (first_of (codes "hex") rows) (first_of (codes "stdin") rows))
+check_of rows = expected_of rows >>= (λ expected.
+    check_by expected (first_of (codes "hex") rows) (first_of (codes "stdin") rows))
 
 -- a message that a chain can carry
 abbrev pub short_message : List ℕ → Result (List ℕ) Fault
@@ -323,7 +331,8 @@ AskForOctets = AskFor NeedsOctets
 
 -- words that ask for the lines of standard input to be checked
 abbrev pub AskForLines : Expected → List (List ℕ) → Type 0
-AskForLines expected words = (fault_of scard words ≡ []) × (request_of (subcommand_of scard words) ≡ Ok (CheckLines expected))
+AskForLines expected words = (fault_of scard words ≡ [])
+    × (request_of (subcommand_of scard words) ≡ Ok (CheckLines expected))
 
 abbrev pub HasOther : Kinds → Type 0
 HasOther kinds = (kind : ErrorKind) × IsAmong kind kinds × (kind ≢ DisplayHelp)
@@ -331,7 +340,8 @@ HasOther kinds = (kind : ErrorKind) × IsAmong kind kinds × (kind ≢ DisplayHe
 -- What words are read as: what they ask for, where the parser of command lines takes them; some text, where it answers a call for help; else a fault.
 pub data IsRead (words : List (List ℕ)) (read : Result Request Fault) : Type 0 where
   taken : fault_of scard words ≡ [] → read ≡ request_of (subcommand_of scard words) → IsRead words read
-  called_for_help : IsAmong DisplayHelp (fault_of scard words) → (help : List ℕ) → read ≡ Ok (Help help) → IsRead words read
+  called_for_help : IsAmong DisplayHelp (fault_of scard words) → (help : List ℕ) → read ≡ Ok (Help help)
+      → IsRead words read
   not_taken : HasOther (fault_of scard words) → read ≡ Err Words → IsRead words read
 
 -- what a parse that gave no matches comes to, by its kind

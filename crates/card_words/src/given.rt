@@ -47,7 +47,8 @@ pub(crate) fn read_given(
     hex: Option<&str>,
     form_word: Option<&str>,
 ) -> Result<Given, Fault>
-    ensures { UnlessMemory result (given_of (option_map (λ word. word.now) hex.entry) (option_map (λ word. word.now) form_word.entry)) }
+    ensures { UnlessMemory result (given_of (option_map (λ word. word.now) hex.entry)
+        (option_map (λ word. word.now) form_word.entry)) }
 {
     match (hex, form_word) {
         (Some(hex), None) => Ok(Given::Word(octets(alloc, hex)?)),
@@ -58,7 +59,8 @@ pub(crate) fn read_given(
 
 /// Whether lines of standard input are asked for, and no HEX word is beside that.
 pub(crate) fn asks_for_lines(hex: Option<&str>, form_word: Option<&str>) -> bool
-    ensures { result ≡ asks_for_lines (option_map (λ word. word.now) hex.entry) (option_map (λ word. word.now) form_word.entry) }
+    ensures { result ≡ asks_for_lines (option_map (λ word. word.now) hex.entry)
+        (option_map (λ word. word.now) form_word.entry) }
 {
     match (hex, form_word) {
         (None, Some(word)) => word == "lines",

@@ -55,7 +55,8 @@ impl PartialEq for Pairs {
     ghost use Rattle.std.proofs.Common.{rules};
     ghost use Rattle.std.specs.Cmp.Rules.{comparing};
 
-    ghost eq = { pointwise (eq_of_both (on (λ p. p.command) (pointwise ◌==◌)) (on (λ p. p.reply) (pointwise ◌==◌))) };
+    ghost eq = { pointwise (eq_of_both (on (λ p. p.command) (pointwise ◌==◌))
+        (on (λ p. p.reply) (pointwise ◌==◌))) };
 
     ghost laws = { Prim.search (comparing, rules) };
 

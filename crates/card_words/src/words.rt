@@ -54,7 +54,8 @@ fn request(alloc: Global, matches: &ArgMatches) -> Result<Request, Fault>
 
 /// The subcommand and its matches.
 fn entered<'a, 'b>(matches: &'b ArgMatches<'a>) -> Option<(&'a str, &'b ArgMatches<'a>)>
-    ensures { option_map (λ p. (p.0.now, rows_of (found_of p.1.now))) result ≡ subcommand_rows_of matches.now }
+    ensures { option_map (λ p. (p.0.now, rows_of (found_of p.1.now))) result ≡ subcommand_rows_of
+        matches.now }
 {
     matches.subcommand()
 }
@@ -158,7 +159,8 @@ fn session(alloc: Global, matches: &ArgMatches) -> Result<Session, Fault>
 
 /// A forest to be tidied.
 fn tidy(alloc: Global, words: &[&str], form: Option<&str>) -> Result<Request, Fault>
-    ensures read { UnlessMemory result (tidy_of (map (λ word. word.now) words.now) (option_map (λ word. word.now) form.entry)) }
+    ensures read { UnlessMemory result
+        (tidy_of (map (λ word. word.now) words.now) (option_map (λ word. word.now) form.entry)) }
     ensures sized { IfOk result IsSized }
 {
     let hex = match words {
@@ -208,14 +210,16 @@ fn chain(alloc: Global, words: &[&str]) -> Result<Request, Fault>
 
 /// All values of an argument.
 fn all_words<'a, 'b>(matches: &'b ArgMatches<'a>, id: &str) -> Option<&'b [&'a str]>
-    ensures { option_map (λ words. map (λ word. word.now) words.now) result ≡ all_of id.now (rows_of (found_of matches.now)) }
+    ensures { option_map (λ words. map (λ word. word.now) words.now) result ≡ all_of id.now
+        (rows_of (found_of matches.now)) }
 {
     matches.get_strs(id)
 }
 
 /// The first value of an argument.
 fn word<'a>(matches: &ArgMatches<'a>, id: &str) -> Option<&'a str>
-    ensures { option_map (λ word. word.now) result ≡ first_of id.now (rows_of (found_of matches.now)) }
+    ensures { option_map (λ word. word.now) result ≡ first_of id.now
+        (rows_of (found_of matches.now)) }
 {
     matches.get_str(id)
 }
@@ -309,7 +313,8 @@ fn help_or_fault(alloc: Global, error: &Error) -> Result<Request, Fault>
 
 pub(crate) fn matches_of<'a>(alloc: Global, words: &'a [String]) -> Result<ArgMatches<'a>, Error>
     ensures taken { IfOk result (λ m. fault_of scard (texts words.now) ≡ []) }
-    ensures entered { IfOk result (λ m. subcommand_rows_of m ≡ subcommand_of scard (texts words.now)) }
+    ensures entered { IfOk result (λ m.
+        subcommand_rows_of m ≡ subcommand_of scard (texts words.now)) }
     ensures kind { IfErr result (HasKind (fault_of scard (texts words.now))) }
 {
     let program = program(alloc)?;

@@ -20,13 +20,16 @@ mark_text place = repeat (place - first_shown place) (codes "  ") ++ codes "^^\n
 -- the octet at a place and what was expected there, the octets around it, and the mark
 abbrev pub refused_note : List ℕ → ℕ → List ℕ → List ℕ
 refused_note b place sentence =
-    codes "octet " ++ (decimal place ++ (codes " is " ++ (encode_upper (take 1 (drop place b)) ++ (codes ": " ++ (sentence ++ (codes "\noctets from place " ++ (decimal (first_shown place)
+    codes "octet " ++ (decimal place ++ (codes " is "
+    ++ (encode_upper (take 1 (drop place b))
+    ++ (codes ": " ++ (sentence ++ (codes "\noctets from place " ++ (decimal (first_shown place)
     ++ (codes ":\n" ++ (encode_upper (shown b place) ++ (codes "\n" ++ mark_text place))))))))))
 
 -- how many octets are there, and at least how many must come, where that is known
 abbrev pub short_note : ℕ → Option ℕ → List ℕ
 short_note count None = codes "octets there: " ++ (decimal count ++ codes "; more must come\n")
-short_note count (Some least) = codes "octets there: " ++ (decimal count ++ (codes "; still to come, at least: " ++ (decimal least ++ codes "\n")))
+short_note count (Some least) = codes "octets there: "
+    ++ (decimal count ++ (codes "; still to come, at least: " ++ (decimal least ++ codes "\n")))
 
 -- how many octets are left after a value that ends by itself
 abbrev pub left_note : ℕ → List ℕ
@@ -34,8 +37,10 @@ left_note count = if count == 0 then [] else (codes "octets left after it: " ++ 
 
 -- The note of a refusal. Which words the sentence has, and how many octets are known to be wanting, is open.
 pub data IsStopNote {R : Type 0} (b : List ℕ) (stop : Stop R) (note : List ℕ) : Type 0 where
-  refused : (place : ℕ) (reason : R) (sentence : List ℕ) → stop ≡ At place reason → note ≡ refused_note b place sentence → IsStopNote b stop note
-  short : (place : ℕ) (least : Option ℕ) → stop ≡ Short place → note ≡ short_note (length b) least → IsStopNote b stop note
+  refused : (place : ℕ) (reason : R) (sentence : List ℕ) → stop ≡ At place reason → note ≡ refused_note b place sentence
+      → IsStopNote b stop note
+  short : (place : ℕ) (least : Option ℕ) → stop ≡ Short place → note ≡ short_note (length b) least
+      → IsStopNote b stop note
 
 -- ---- words
 
@@ -45,16 +50,20 @@ word_note number what = codes "word " ++ (decimal number ++ (codes ": " ++ (what
 
 -- a character at a place of the word that is no hexadecimal digit
 abbrev pub digit_note : ℕ → ℕ → ℕ → List ℕ
-digit_note number character place = codes "word " ++ (decimal number ++ (codes ": digit " ++ (encode_utf8 character ++ (codes " at place " ++ (decimal place ++ codes "\n")))))
+digit_note number character place = codes "word "
+    ++ (decimal number ++ (codes ": digit "
+    ++ (encode_utf8 character ++ (codes " at place " ++ (decimal place ++ codes "\n")))))
 
 abbrev pub odd_note : ℕ → ℕ → List ℕ
-odd_note number count = codes "word " ++ (decimal number ++ (codes ": an odd number of digits, " ++ (decimal count ++ codes "\n")))
+odd_note number count = codes "word " ++ (decimal number
+    ++ (codes ": an odd number of digits, " ++ (decimal count ++ codes "\n")))
 
 -- ---- files
 
 -- a line of a file by its number, with its text, and what is to be said of it
 abbrev pub line_note : ℕ → List ℕ → List ℕ → List ℕ
-line_note number line what = codes "line " ++ (decimal number ++ (codes " of the file: " ++ (line ++ (codes "\n" ++ (what ++ codes "\n")))))
+line_note number line what = codes "line "
+    ++ (decimal number ++ (codes " of the file: " ++ (line ++ (codes "\n" ++ (what ++ codes "\n")))))
 
 -- how many octets standard input or a session's text may have
 abbrev pub large_note : ℕ → List ℕ

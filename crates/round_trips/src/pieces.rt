@@ -72,7 +72,8 @@ fn command_chain(
 ) -> Result<Vec<u8>, AllocError>
     requires least { 1 ≤ ifs }
     requires most { ifs ≤ 254 }
-    ensures { IfOk result (λ chain. (b : List ℕ) × IsCommand command.now b × (chain.items ≡ chain_of ifs number b)) }
+    ensures { IfOk result (λ chain. (b : List ℕ) × IsCommand command.now b
+        × (chain.items ≡ chain_of ifs number b)) }
 {
     let mut line = Counted::new(Vec::new(alloc));
     match send_command(alloc, &mut line, command, ifs, number) {
@@ -90,7 +91,8 @@ fn response_chain(
 ) -> Result<Vec<u8>, AllocError>
     requires least { 1 ≤ ifs }
     requires most { ifs ≤ 254 }
-    ensures { IfOk result (λ chain. (b : List ℕ) × IsResponse response.now b × (chain.items ≡ chain_of ifs number b)) }
+    ensures { IfOk result (λ chain. (b : List ℕ) × IsResponse response.now b
+        × (chain.items ≡ chain_of ifs number b)) }
 {
     let mut line = Counted::new(Vec::new(alloc));
     match send_response(alloc, &mut line, response, ifs, number) {
@@ -110,7 +112,9 @@ fn fed_in_two(
 ) -> Result<Receiver, AllocError>
     requires least { 1 ≤ ifs }
     requires most { ifs ≤ 254 }
-    ensures { IfOk result (λ r. (b : List ℕ) → AreOctets b → length b ≤ 65544 → chain.now ≡ chain_of ifs number b → (r.refusal ≡ None) × (r.done ≡ true) × (r.joined ≡ b)) }
+    ensures { IfOk result (λ r. (b : List ℕ) → AreOctets b → length b ≤ 65544
+        → chain.now ≡ chain_of ifs number b → (r.refusal ≡ None) × (r.done ≡ true)
+        × (r.joined ≡ b)) }
 {
     chain_core::laws::taken();
     chain_core::laws::one_spelled();

@@ -32,7 +32,8 @@ same-places spelled p q e f = cc
 pub held-by : (c : CTerminal) (command answer : List ℕ) (t : TerminalState) (p : TerminalPlaces)
     → terminal_of c ≡ Some p → IsTerminal c command answer t → t ≡ terminal_held p command answer
 held-by c command answer t p e is =
-    is.held ∙ ap (λ (q : TerminalPlaces). terminal_held q command answer) (same-places (terminal_of c) is.places p is.spelled e)
+    is.held ∙ ap (λ (q : TerminalPlaces). terminal_held q command answer)
+    (same-places (terminal_of c) is.places p is.spelled e)
 
 same-card : (spelled : Option CardPlaces) (p q : CardPlaces) → spelled ≡ Some p → spelled ≡ Some q → p ≡ q
 same-card spelled p q e f = cc
@@ -54,8 +55,10 @@ same-receiver : (spelled : Option ReceiverPlaces) (p q : ReceiverPlaces) → spe
 same-receiver spelled p q e f = cc
 
 -- the receiver that a state and a buffer are has the places that the state spells
-pub receiver-held-by : (c : CReceiver) (message : List ℕ) (r : Reception) (p : ReceiverPlaces) → receiver_of c ≡ Some p → IsReceiver c message r → r ≡ received_at p message
-receiver-held-by c message r p e is = is.held ∙ ap (λ (q : ReceiverPlaces). received_at q message) (same-receiver (receiver_of c) is.places p is.spelled e)
+pub receiver-held-by : (c : CReceiver) (message : List ℕ) (r : Reception) (p : ReceiverPlaces) → receiver_of c ≡ Some p
+    → IsReceiver c message r → r ≡ received_at p message
+receiver-held-by c message r p e is = is.held
+    ∙ ap (λ (q : ReceiverPlaces). received_at q message) (same-receiver (receiver_of c) is.places p is.spelled e)
 
 -- the first octets of a buffer, as the answer
 pub answer-at-front : (is_answered : Bool) (n : ℕ) (buffer : List ℕ) (lent : Option (Bor (List ℕ))) (v : Verdict)

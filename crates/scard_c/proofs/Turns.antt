@@ -17,7 +17,8 @@ use Rattle.scard_c.specs.declared.turn.CTurn.{CTurn}
 use Rattle.scard_c.specs.Ends.{Sends, IsTerminalTurn, IsCardTurn}
 use Rattle.scard_c.specs.Calls.{told_terminal, told_card}
 
-sent : (block : Parts) (old new : List ℕ) (count : ℕ) (turn : CTurn) → turn ≡ record { kind = 0; count = count } → IsPut block old new count → Sends block old new turn
+sent : (block : Parts) (old new : List ℕ) (count : ℕ) (turn : CTurn) → turn ≡ record { kind = 0; count = count }
+    → IsPut block old new count → Sends block old new turn
 sent block old new count turn is put = record {
   octets = put.octets;
   spells = put.spells;
@@ -25,8 +26,11 @@ sent block old new count turn is put = record {
   buffer = put.buffer ∙ ap (λ (n : ℕ). put.octets ++ drop n old) put.counted;
 }
 
-terminal-told : (given : Result TerminalTurn TerminalFault) (old new : List ℕ) (answer : Result TerminalPut TerminalFault) → IsTerminalPut given old new answer → IsTerminalTurn given old new (told_terminal answer)
-terminal-told (Ok (Send block)) old new answer (count, is, put) = sent block old new count (told_terminal answer) (ap told_terminal is) put
+terminal-told : (given : Result TerminalTurn TerminalFault) (old new : List ℕ)
+    (answer : Result TerminalPut TerminalFault) → IsTerminalPut given old new answer
+    → IsTerminalTurn given old new (told_terminal answer)
+terminal-told (Ok (Send block)) old new answer (count, is, put) =
+    sent block old new count (told_terminal answer) (ap told_terminal is) put
 terminal-told (Ok Answered) old new answer (is, same) = (ap told_terminal is, same)
 terminal-told (Ok IfsSet) old new answer (is, same) = (ap told_terminal is, same)
 terminal-told (Ok GivenUp) old new answer (is, same) = (ap told_terminal is, same)
@@ -37,15 +41,22 @@ terminal-told (Err fault.TooLong) old new answer (is, same) = (ap told_terminal 
 terminal-told (Err fault.Reserved) old new answer (is, same) = (ap told_terminal is, same)
 terminal-told (Err fault.Idle) old new answer (is, same) = (ap told_terminal is, same)
 
-card-told : (given : Result CardTurn CardFault) (old new : List ℕ) (answer : Result CardPut CardFault) → IsCardPut given old new answer → IsCardTurn given old new (told_card answer)
-card-told (Ok (card_turns.Send block)) old new answer (count, is, put) = sent block old new count (told_card answer) (ap told_card is) put
+card-told : (given : Result CardTurn CardFault) (old new : List ℕ) (answer : Result CardPut CardFault)
+    → IsCardPut given old new answer → IsCardTurn given old new (told_card answer)
+card-told (Ok (card_turns.Send block)) old new answer (count, is, put) =
+    sent block old new count (told_card answer) (ap told_card is) put
 card-told (Ok card_turns.Asked) old new answer (is, same) = (ap told_card is, same)
 card-told (Err card_fault.Order) old new answer (is, same) = (ap told_card is, same)
 card-told (Err card_fault.TooLong) old new answer (is, same) = (ap told_card is, same)
 card-told (Err card_fault.Reserved) old new answer (is, same) = (ap told_card is, same)
 
-pub terminal_told : (given : Result TerminalTurn TerminalFault) (old new : List ℕ) (answer : Result TerminalPut TerminalFault) (turn : CTurn) → IsTerminalPut given old new answer → turn ≡ told_terminal answer → IsTerminalTurn given old new turn
-terminal_told given old new answer turn put is = subst (λ (t : CTurn). IsTerminalTurn given old new t) (sym is) (terminal-told given old new answer put)
+pub terminal_told : (given : Result TerminalTurn TerminalFault) (old new : List ℕ)
+    (answer : Result TerminalPut TerminalFault) (turn : CTurn) → IsTerminalPut given old new answer
+    → turn ≡ told_terminal answer → IsTerminalTurn given old new turn
+terminal_told given old new answer turn put is =
+    subst (λ (t : CTurn). IsTerminalTurn given old new t) (sym is) (terminal-told given old new answer put)
 
-pub card_told : (given : Result CardTurn CardFault) (old new : List ℕ) (answer : Result CardPut CardFault) (turn : CTurn) → IsCardPut given old new answer → turn ≡ told_card answer → IsCardTurn given old new turn
-card_told given old new answer turn put is = subst (λ (t : CTurn). IsCardTurn given old new t) (sym is) (card-told given old new answer put)
+pub card_told : (given : Result CardTurn CardFault) (old new : List ℕ) (answer : Result CardPut CardFault)
+    (turn : CTurn) → IsCardPut given old new answer → turn ≡ told_card answer → IsCardTurn given old new turn
+card_told given old new answer turn put is =
+    subst (λ (t : CTurn). IsCardTurn given old new t) (sym is) (card-told given old new answer put)

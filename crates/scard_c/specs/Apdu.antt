@@ -67,7 +67,8 @@ response_seen r = record { sw1 = r.sw1; sw2 = r.sw2; data_len = length r.part }
 
 -- all the octets are the response that is seen
 abbrev pub IsDecodedResponse : List ℕ → CResponse → Type 0
-IsDecodedResponse octets out = (r : ResponseParts) × Accepts whole IsResponse octets r (length octets) × (out ≡ response_seen r)
+IsDecodedResponse octets out = (r : ResponseParts) × Accepts whole IsResponse octets r (length octets)
+    × (out ≡ response_seen r)
 
 abbrev pub class_number : StatusClass → ℕ
 class_number Normal = 1

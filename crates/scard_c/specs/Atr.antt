@@ -58,7 +58,8 @@ pub record IsDecoded (octets : List ℕ) (v : Verdict) (out : CAtr) : Type 0 whe
 
 -- what C is told of the parameters of T=1
 abbrev pub IsT1 : Result T1Values ParamFault → CT1 → CT1 → ℕ → Type 0
-IsT1 (Ok values) old new status = (status ≡ 0) × (new ≡ record { ifsc = values.ifsc; bwi = values.bwi; cwi = values.cwi })
+IsT1 (Ok values) old new status = (status ≡ 0)
+    × (new ≡ record { ifsc = values.ifsc; bwi = values.bwi; cwi = values.cwi })
 IsT1 (Err NoT1) old new status = (status ≡ 1) × (new ≡ old)
 IsT1 (Err ReservedIfsc) old new status = (status ≡ 2) × (new ≡ old)
 IsT1 (Err Crc) old new status = (status ≡ 3) × (new ≡ old)

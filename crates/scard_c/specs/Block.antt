@@ -21,7 +21,8 @@ block_seen v = record { nad = v.nad; pcb = pcb_octet v.pcb; inf_place = 3; inf_l
 
 -- the octets begin with the block that is seen
 abbrev pub IsDecoded : ℕ → List ℕ → Verdict → CBlock → Type 0
-IsDecoded ifs octets v out = (block : Parts) × Accepts self_ended (IsBlock ifs) octets block v.place × (out ≡ block_seen block)
+IsDecoded ifs octets v out = (block : Parts) × Accepts self_ended (IsBlock ifs) octets block v.place
+    × (out ≡ block_seen block)
 
 -- no block of a kind with this control octet can carry the field
 abbrev pub IsUnfit : ℕ → List ℕ → Type 0

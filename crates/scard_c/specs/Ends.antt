@@ -72,17 +72,20 @@ pub record IsNoEnd (engine now : Option Engine) (old new : List ℕ) (turn : CTu
   pub buffer : new ≡ old
 
 -- a call of a terminal: its turn, and its state after it, which `terminal_turn` gives
-pub record TakesTurn (t : TerminalState) (input : TerminalInput) (now : Option Engine) (old new : List ℕ) (turn : CTurn) : Type 0 where
+pub record TakesTurn (t : TerminalState) (input : TerminalInput) (now : Option Engine) (old new : List ℕ) (turn : CTurn)
+    : Type 0 where
   pub state : now ≡ Some (Terminal (state_after t (terminal_turn t input)))
   pub turn_is : IsTerminalTurn (turn_of (terminal_turn t input)) old new turn
 
 -- a call of a card: its turn, and its state after it, which `card_turn` gives
-pub record TakesCardTurn (c : CardState) (input : CardInput) (now : Option Engine) (old new : List ℕ) (turn : CTurn) : Type 0 where
+pub record TakesCardTurn (c : CardState) (input : CardInput) (now : Option Engine) (old new : List ℕ) (turn : CTurn) :
+    Type 0 where
   pub state : now ≡ Some (Card (card.state_after c (card.card_turn c input)))
   pub turn_is : IsCardTurn (card.turn_of (card.card_turn c input)) old new turn
 
 -- what a call of a terminal does with what a handle holds
-abbrev pub TerminalTakes : (TerminalState → TerminalInput) → Option Engine → Option Engine → List ℕ → List ℕ → CTurn → Type 0
+abbrev pub TerminalTakes : (TerminalState → TerminalInput) → Option Engine → Option Engine → List ℕ → List ℕ → CTurn
+    → Type 0
 TerminalTakes input None now old new turn = IsNoEnd None now old new turn
 TerminalTakes input (Some (Card c)) now old new turn = IsNoEnd (Some (Card c)) now old new turn
 TerminalTakes input (Some (InPieces r)) now old new turn = IsNoEnd (Some (InPieces r)) now old new turn

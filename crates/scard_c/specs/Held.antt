@@ -10,4 +10,5 @@ use Rattle.scard_c.specs.contracts.engine.Engine.{the_row}
 -- nothing, or a box of the engine, that the allocator of the program may free
 abbrev pub held : Bool → Ptr → Global → Option the_row.Denot → Fml
 held false p a engine = feq (Option the_row.Denot) engine None
-held true p a engine = fex the_row.Denot (λ x. fsep (feq (Option the_row.Denot) engine (Some x)) (box_owns (ghosts.dealloc_token a) the_row p x))
+held true p a engine = fex the_row.Denot (λ x.
+    fsep (feq (Option the_row.Denot) engine (Some x)) (box_owns (ghosts.dealloc_token a) the_row p x))

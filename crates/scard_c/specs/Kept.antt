@@ -35,7 +35,8 @@ terminal_wait_of kind size place =
     else (if kind == 5 then Some (terminal_wait.Resynch size)
     else (if kind == 6 then Some terminal_wait.Dead else None))))))
 
-abbrev pub terminal_from : CTerminal → Option Number → Option Number → Option TerminalWait → Option Bool → Option TerminalPlaces
+abbrev pub terminal_from : CTerminal → Option Number → Option Number → Option TerminalWait → Option Bool
+    → Option TerminalPlaces
 terminal_from c (Some number) (Some expected) (Some wait) (Some is_answered) = Some (record {
   number = number;
   expected = expected;
@@ -54,7 +55,8 @@ terminal_from c number expected wait is_answered = None
 
 -- the places that a state spells, if any
 abbrev pub terminal_of : CTerminal → Option TerminalPlaces
-terminal_of c = terminal_from c (number_of c.number) (number_of c.expected) (terminal_wait_of c.wait c.size c.place) (mark_of c.is_answered)
+terminal_of c = terminal_from c (number_of c.number) (number_of c.expected) (terminal_wait_of c.wait c.size c.place)
+    (mark_of c.is_answered)
 
 -- what a card waits in, by its number, a size or a multiple, and a place
 abbrev pub card_wait_of : ℕ → ℕ → ℕ → Option CardWait
@@ -89,7 +91,8 @@ card_from c number expected wait has_saved = None
 
 -- the places that a state spells, if any
 abbrev pub card_of : CCard → Option CardPlaces
-card_of c = card_from c (number_of c.number) (number_of c.expected) (card_wait_of c.wait c.size c.place) (mark_of c.has_saved)
+card_of c = card_from c (number_of c.number) (number_of c.expected) (card_wait_of c.wait c.size c.place)
+    (mark_of c.has_saved)
 
 -- A state and both buffers are this terminal. Where they are none, no terminal is it.
 pub record IsTerminal (c : CTerminal) (command answer : List ℕ) (t : TerminalState) : Type 0 where

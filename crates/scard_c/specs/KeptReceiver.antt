@@ -43,7 +43,8 @@ abbrev pub part_from : CReceiver → Option Bool → Option Part
 part_from c None = None
 part_from c (Some more) = part_of c.part more c.len
 
-abbrev pub receiver_from : CReceiver → Option Number → Option Part → Option Bool → Option (Option (Refusal ChainReason)) → Option ReceiverPlaces
+abbrev pub receiver_from : CReceiver → Option Number → Option Part → Option Bool → Option (Option (Refusal ChainReason))
+    → Option ReceiverPlaces
 receiver_from c (Some first) (Some part) (Some is_done) (Some refusal) = Some (record {
   ifs = c.ifs;
   first = first;
@@ -59,7 +60,8 @@ receiver_from c first part is_done refusal = None
 
 -- the places that a state spells, if any
 abbrev pub receiver_of : CReceiver → Option ReceiverPlaces
-receiver_of c = receiver_from c (number_of c.number) (part_from c (mark_of c.more)) (mark_of c.done) (refusal_from c.refused c.refused_at)
+receiver_of c = receiver_from c (number_of c.number) (part_from c (mark_of c.more)) (mark_of c.done)
+    (refusal_from c.refused c.refused_at)
 
 -- A state and a buffer are this receiver. Where they are none, no receiver is it.
 pub record IsReceiver (c : CReceiver) (message : List ℕ) (r : Reception) : Type 0 where

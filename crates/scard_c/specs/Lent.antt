@@ -27,26 +27,34 @@ pub record IsLeft {C : Type 0} (told : CTurn) (old new : Lent C) (out out_after 
   pub buffer : out_after ≡ out
 
 -- a call of a terminal: its turn, and the terminal after it, which `terminal_turn` gives
-pub record TurnsTerminal (t : TerminalState) (input : TerminalInput) (new : Lent CTerminal) (out out_after : List ℕ) (turn : CTurn) : Type 0 where
+pub record TurnsTerminal (t : TerminalState) (input : TerminalInput) (new : Lent CTerminal) (out out_after : List ℕ)
+    (turn : CTurn) : Type 0 where
   pub state : IsTerminal new.state new.command new.answer (state_after t (terminal_turn t input))
   pub turn_is : IsTerminalTurn (turn_of (terminal_turn t input)) out out_after turn
 
 -- A call of a terminal, by the room for a block and by what the state and the buffers are.
-pub record TerminalCalled (input : TerminalState → TerminalInput) (old new : Lent CTerminal) (out out_after : List ℕ) (turn : CTurn) : Type 0 where
+pub record TerminalCalled (input : TerminalState → TerminalInput) (old new : Lent CTerminal) (out out_after : List ℕ)
+    (turn : CTurn) : Type 0 where
   pub room : length out < 258 → IsLeft no_room old new out out_after turn
-  pub none : 258 ≤ length out → ((t : TerminalState) → IsTerminal old.state old.command old.answer t → ⊥) → IsLeft no_end old new out out_after turn
-  pub called : 258 ≤ length out → (t : TerminalState) → IsTerminal old.state old.command old.answer t → TurnsTerminal t (input t) new out out_after turn
+  pub none : 258 ≤ length out → ((t : TerminalState) → IsTerminal old.state old.command old.answer t → ⊥)
+      → IsLeft no_end old new out out_after turn
+  pub called : 258 ≤ length out → (t : TerminalState) → IsTerminal old.state old.command old.answer t
+      → TurnsTerminal t (input t) new out out_after turn
 
 -- a call of a card: its turn, and the card after it, which `card_turn` gives
-pub record TurnsCard (c : CardState) (input : CardInput) (new : Lent CCard) (out out_after : List ℕ) (turn : CTurn) : Type 0 where
+pub record TurnsCard (c : CardState) (input : CardInput) (new : Lent CCard) (out out_after : List ℕ) (turn : CTurn) :
+    Type 0 where
   pub state : IsCard new.state new.command new.answer (card.state_after c (card.card_turn c input))
   pub turn_is : IsCardTurn (card.turn_of (card.card_turn c input)) out out_after turn
 
 -- A call of a card, by the room for a block and by what the state and the buffers are.
-pub record CardCalled (input : CardState → CardInput) (old new : Lent CCard) (out out_after : List ℕ) (turn : CTurn) : Type 0 where
+pub record CardCalled (input : CardState → CardInput) (old new : Lent CCard) (out out_after : List ℕ) (turn : CTurn) :
+    Type 0 where
   pub room : length out < 258 → IsLeft no_room old new out out_after turn
-  pub none : 258 ≤ length out → ((c : CardState) → IsCard old.state old.command old.answer c → ⊥) → IsLeft no_end old new out out_after turn
-  pub called : 258 ≤ length out → (c : CardState) → IsCard old.state old.command old.answer c → TurnsCard c (input c) new out out_after turn
+  pub none : 258 ≤ length out → ((c : CardState) → IsCard old.state old.command old.answer c → ⊥)
+      → IsLeft no_end old new out out_after turn
+  pub called : 258 ≤ length out → (c : CardState) → IsCard old.state old.command old.answer c
+      → TurnsCard c (input c) new out out_after turn
 
 -- the first octets of a buffer are the message, where there is one
 abbrev pub IsAtFront : Option (List ℕ) → List ℕ → Verdict → Type 0

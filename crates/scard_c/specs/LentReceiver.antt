@@ -16,13 +16,15 @@ abbrev pub IsNoReceiver : CReceiver → List ℕ → Type 0
 IsNoReceiver c message = (r : Reception) → IsReceiver c message r → ⊥
 
 -- a receiver took a piece, or refused an octet of it, and the state and the buffer are what it is then
-pub record FeedsReceiver (old : Reception) (piece : List ℕ) (c : CReceiver) (message : List ℕ) (v : Verdict) : Type 0 where
-  pub new : Reception
-  pub is : IsReceiver c message new
-  pub fed : FeedsChain old new piece v
+pub record FeedsReceiver (old : Reception) (piece : List ℕ) (c : CReceiver) (message : List ℕ) (v : Verdict) : Type 0
+  where
+    pub new : Reception
+    pub is : IsReceiver c message new
+    pub fed : FeedsChain old new piece v
 
 -- A piece is given to a receiver, or to a state and a buffer that are none.
-pub record ReceiverFed (old : CReceiver) (message piece : List ℕ) (new : CReceiver) (after : List ℕ) (v : Verdict) : Type 0 where
+pub record ReceiverFed (old : CReceiver) (message piece : List ℕ) (new : CReceiver) (after : List ℕ) (v : Verdict) :
+    Type 0 where
   pub none : IsNoReceiver old message → (v ≡ wrong_argument 0) × (new ≡ old) × (after ≡ message)
   pub fed : (r : Reception) → IsReceiver old message r → FeedsReceiver r piece new after v
 

@@ -21,7 +21,15 @@ tag_shown tag = record { octets = padded tag; count = length tag }
 
 -- an object, with the number of octets of its length field
 abbrev pub part_shown : Placed → CPart
-part_shown p = record { depth = p.depth; is_constructed = constructed_bit p.tag; len_octets = 1 + further p.form; tag = tag_shown p.tag; place = p.place; len = p.len }
+part_shown p = record {
+  depth = p.depth;
+  is_constructed = constructed_bit p.tag;
+  len_octets = 1 + further p.form;
+  tag =
+      tag_shown p.tag;
+  place = p.place;
+  len = p.len;
+}
 
 -- the objects of a forest, each before those inside it
 abbrev pub parts_shown : Tree → List CPart
@@ -84,15 +92,26 @@ first_placed [] d at t = None
 first_placed (tag ∷ path) d at End = None
 first_placed (tag ∷ path) d at (Filler rest) = first_placed (tag ∷ path) d (at + 1) rest
 first_placed (tag ∷ []) d at (Primitive own form value rest) =
-    cond (bytes_eq tag own) (Some (record { depth = d; tag = own; form = form; place = value_place at own form (length value); len = length value }))
+    cond (bytes_eq tag own) (Some (record
+    { depth = d; tag = own; form = form; place = value_place at own form (length value); len = length value }))
     (first_placed (tag ∷ []) d (value_place at own form (length value) + length value) rest)
-first_placed (tag ∷ next ∷ path) d at (Primitive own form value rest) = first_placed (tag ∷ next ∷ path) d (value_place at own form (length value) + length value) rest
+first_placed (tag ∷ next ∷ path) d at (Primitive own form value rest) =
+    first_placed (tag ∷ next ∷ path) d (value_place at own form (length value) + length value) rest
 first_placed (tag ∷ []) d at (Constructed own form nodes rest) =
-    cond (bytes_eq tag own) (Some (record { depth = d; tag = own; form = form; place = value_place at own form (length (spelling nodes)); len = length (spelling nodes) }))
+    cond (bytes_eq tag own) (Some (record {
+      depth = d;
+      tag = own;
+      form = form;
+      place = value_place at own form (length (spelling nodes));
+      len =
+          length (spelling nodes);
+    }))
     (first_placed (tag ∷ []) d (value_place at own form (length (spelling nodes)) + length (spelling nodes)) rest)
 first_placed (tag ∷ next ∷ path) d at (Constructed own form nodes rest) =
-    or_placed (cond (bytes_eq tag own) (first_placed (next ∷ path) (d + 1) (value_place at own form (length (spelling nodes))) nodes) None)
-    (first_placed (tag ∷ next ∷ path) d (value_place at own form (length (spelling nodes)) + length (spelling nodes)) rest)
+    or_placed (cond (bytes_eq tag own) (first_placed (next ∷ path) (d + 1)
+    (value_place at own form (length (spelling nodes))) nodes) None)
+    (first_placed (tag ∷ next ∷ path) d (value_place at own form (length (spelling nodes)) + length (spelling nodes))
+    rest)
 
 abbrev pub first_shown : Option Placed → Option CPart
 first_shown None = None
@@ -105,7 +124,8 @@ IsSameObject None (Some p) = ⊥
 IsSameObject (Some n) None = ⊥
 IsSameObject (Some node.Filler) (Some p) = ⊥
 IsSameObject (Some (node.Primitive tag form value)) (Some p) = (p.tag ≡ tag) × (p.form ≡ form) × (p.len ≡ length value)
-IsSameObject (Some (node.Constructed tag form nodes)) (Some p) = (p.tag ≡ tag) × (p.form ≡ form) × (p.len ≡ length (spelling nodes))
+IsSameObject (Some (node.Constructed tag form nodes)) (Some p) =
+    (p.tag ≡ tag) × (p.form ≡ form) × (p.len ≡ length (spelling nodes))
 
 -- what is found in the parts of a forest on this path: nothing, or the part of the object that tlv_core's `first` finds
 pub record FindsFirst (path : List (List ℕ)) (t : Tree) (found : Option CPart) : Type 0 where

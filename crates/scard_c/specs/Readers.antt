@@ -48,7 +48,8 @@ pub record FeedsBlock (old new : Reading) (piece : List ℕ) (v : Verdict) : Typ
 
 pub record FeedsChain (old new : Reception) (piece : List ℕ) (v : Verdict) : Type 0 where
   pub answer : Result (ℕ × Bool) (Stop ChainReason)
-  pub fed : IsFed (IsChain old.ifs old.number old.max) (IsChainReason old.ifs old.number old.max) taken.HasTaken taken.refusal_of old new piece answer
+  pub fed : IsFed (IsChain old.ifs old.number old.max) (IsChainReason old.ifs old.number old.max) taken.HasTaken
+      taken.refusal_of old new piece answer
   pub kept : (new.ifs ≡ old.ifs) × (new.number ≡ old.number) × (new.max ≡ old.max)
   pub verdict : v ≡ told_fed chain_reason answer
 
@@ -61,7 +62,8 @@ pub record FeedsForest (old new : Checked) (piece : List ℕ) (v : Verdict) : Ty
   pub limit : new.kept.max ≡ old.kept.max
   pub repeats : OnSome old.refusal (new ≡ old)
   pub taken : (b : List ℕ) → HasChecked b old → OnOk (answer_of new.refusal) (HasChecked (b ++ piece) new)
-  pub refused : (b : List ℕ) → HasChecked b old → IfErr (answer_of new.refusal) (RefusesAt whole (IsForest old.kept.max) (IsReason old.kept.max) (b ++ piece))
+  pub refused : (b : List ℕ) → HasChecked b old
+      → IfErr (answer_of new.refusal) (RefusesAt whole (IsForest old.kept.max) (IsReason old.kept.max) (b ++ piece))
   pub verdict : v ≡ told_checked (length piece) (answer_of new.refusal)
 
 abbrev pub ReaderFeeds : Reader → List ℕ → Reader → Verdict → Type 0
@@ -94,13 +96,16 @@ pub record EndsBlock (s : Reading) (v : Verdict) : Type 0 where
 
 pub record EndsChain (s : Reception) (v : Verdict) : Type 0 where
   pub answer : Result (Unit {0}) (Stop ChainReason)
-  pub finished : IsFinished (IsChain s.ifs s.number s.max) (IsChainReason s.ifs s.number s.max) taken.HasTaken taken.refusal_of s answer
+  pub finished : IsFinished (IsChain s.ifs s.number s.max) (IsChainReason s.ifs s.number s.max) taken.HasTaken
+      taken.refusal_of s answer
   pub verdict : v ≡ told_end chain_reason answer
 
 pub record EndsCheck (s : Checked) (v : Verdict) : Type 0 where
   pub answer : Result (Unit {0}) (Stop TlvReason)
   pub repeats : OnSome s.refusal (answer ≡ answer_of s.refusal)
-  pub all : (b : List ℕ) → HasChecked b s → MatchResult answer (λ _. (t : Tree) × IsForest s.kept.max t b) (Refuses whole (IsForest s.kept.max) (IsReason s.kept.max) b)
+  pub all : (b : List ℕ) → HasChecked b s
+      → MatchResult answer (λ _. (t : Tree) × IsForest s.kept.max t b)
+      (Refuses whole (IsForest s.kept.max) (IsReason s.kept.max) b)
   pub verdict : v ≡ told_end tlv_reason answer
 
 pub record EndsForest (s : Checked) (v : Verdict) : Type 0 where
@@ -124,7 +129,8 @@ Ends (Some (InPieces r)) v = ReaderEnds r v
 -- the answer to reset that it has, once it is whole
 pub record GivesAtr (s : Taking) (old new : CAtr) (v : Verdict) : Type 0 where
   pub answer : (v ≡ ok_at 0) ⊎ (v ≡ wrong_argument 0)
-  pub value : v.status ≡ 0 → (t : List ℕ) → taking.HasTaken s t → IsAtr (atr_of new) t × (byte_of new.has_tck new.tck ≡ tck_of (atr_of new))
+  pub value : v.status ≡ 0 → (t : List ℕ) → taking.HasTaken s t → IsAtr (atr_of new) t
+      × (byte_of new.has_tck new.tck ≡ tck_of (atr_of new))
   pub none : v.status ≢ 0 → (new ≡ old) × ((t : List ℕ) → taking.HasTaken s t → (a : AtrParts) → IsAtr a t → ⊥)
   pub refused : IsSome (taking.refusal_kept s) → v ≡ wrong_argument 0
 
@@ -169,4 +175,5 @@ BlockOf (Some (InPieces (Forest s))) old new room out v = HasNeither old new roo
 
 -- a check of a forest of at most so many octets, which has taken nothing
 abbrev pub IsNewCheck : ℕ → Option Engine → Type 0
-IsNewCheck max engine = (s : Checked) × (engine ≡ Some (InPieces (Forest s))) × (s.kept.max ≡ max) × ((b : List ℕ) → HasChecked b s ↔ (b ≡ []))
+IsNewCheck max engine = (s : Checked) × (engine ≡ Some (InPieces (Forest s))) × (s.kept.max ≡ max)
+    × ((b : List ℕ) → HasChecked b s ↔ (b ≡ []))

@@ -57,7 +57,8 @@ Tells {R} number Refuses v = (stop : Stop R) × (v ≡ told number stop) × Refu
 
 -- what is answered where these octets, or parts, are put into a buffer
 abbrev pub put_verdict : {A : Type 0} → List A → List A → Verdict
-put_verdict given buffer = if nat_le (length given) (length buffer) then ok_at (length given) else wrong_argument (length given)
+put_verdict given buffer = if nat_le (length given) (length buffer) then ok_at (length given) else wrong_argument
+    (length given)
 
 -- the buffer after it: what was put in and what was after it, or as it was where it has too little room
 abbrev pub put_into : {A : Type 0} → List A → List A → List A

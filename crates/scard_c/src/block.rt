@@ -131,7 +131,8 @@ fn block_of(nad: u8, pcb: u8, inf: &[u8]) -> Option<BlockRef<'_>>
 
 /// Puts a block into a buffer, where there is one: straight into one with room for every block.
 pub(crate) fn put_block(block: Option<BlockRef<'_>>, out: &mut [u8]) -> Verdict
-    ensures written { IfSome block.entry (λ block. Puts (IsBlock 254 block) out.old out.new result) }
+    ensures written { IfSome block.entry
+        (λ block. Puts (IsBlock 254 block) out.old out.new result) }
     ensures none { IfNone block.entry (result ≡ wrong_argument 0) }
     ensures stays { result.status ≢ 0 → out.new ≡ out.old }
 {

@@ -53,8 +53,11 @@ impl<'a> TerminalCall<'a> {
         out: &mut [u8],
     ) -> Result<TerminalPut, TerminalFault>
         requires { 258 ≤ length out.old }
-        ensures turn { IsTerminalPut (turn_of (terminal_turn end.old (terminal_input self.entry end.old))) out.old out.new result }
-        ensures state { end.new ≡ state_after end.old (terminal_turn end.old (terminal_input self.entry end.old)) }
+        ensures turn { IsTerminalPut
+            (turn_of (terminal_turn end.old (terminal_input self.entry end.old))) out.old out.new
+            result }
+        ensures state { end.new ≡ state_after end.old
+            (terminal_turn end.old (terminal_input self.entry end.old)) }
     {
         match self {
             TerminalCall::Transmit(command) => end.transmit_into(command, out),
@@ -74,7 +77,8 @@ impl<'a> TerminalCall<'a> {
     ) -> Result<TerminalPut, TerminalFault>
         requires room { 258 ≤ length out.old }
         requires fit { AreTerminalPlaces end.old (length command.old) (length answer.old) }
-        ensures turn { IsTerminalPut (turn_of (terminal_turn (terminal_held end.old command.old answer.old)
+        ensures turn { IsTerminalPut
+            (turn_of (terminal_turn (terminal_held end.old command.old answer.old)
             (terminal_input self.entry (terminal_held end.old command.old answer.old)))) out.old out.new result }
         ensures fit { AreTerminalPlaces end.new (length command.new) (length answer.new) }
         ensures state { terminal_held end.new command.new answer.new ≡
@@ -95,8 +99,10 @@ impl<'a> CardCall<'a> {
     /// Makes the call, with the octets of the block that is sent in the buffer.
     pub(crate) fn make(self, end: &mut Card, out: &mut [u8]) -> Result<CardPut, CardFault>
         requires { 258 ≤ length out.old }
-        ensures turn { IsCardPut (card_turn_of (card_turn end.old (card_input self.entry end.old))) out.old out.new result }
-        ensures state { end.new ≡ card_after end.old (card_turn end.old (card_input self.entry end.old)) }
+        ensures turn { IsCardPut (card_turn_of (card_turn end.old (card_input self.entry end.old)))
+            out.old out.new result }
+        ensures state { end.new ≡ card_after end.old
+            (card_turn end.old (card_input self.entry end.old)) }
     {
         match self {
             CardCall::Received(octets) => end.received_into(octets, out),

@@ -107,7 +107,8 @@ fn put_chain(message: &[u8], ifs: u8, number: Number, out: &mut [u8])
 /// Puts octets at a place of a buffer.
 fn put_at(octets: &[u8], place: usize, out: &mut [u8])
     requires { place + length octets.now ≤ length out.old }
-    ensures { out.new ≡ take place out.old ++ (octets.now ++ drop (place + length octets.now) out.old) }
+    ensures { out.new ≡ take place out.old
+        ++ (octets.now ++ drop (place + length octets.now) out.old) }
 {
     out[place..place + octets.len()].copy_from_slice(octets);
 }

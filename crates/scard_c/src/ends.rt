@@ -35,7 +35,8 @@ pub extern "C" fn scard_terminal_open(
     ensures ok { result.status ≡ 0 →
         (result ≡ ok_at 0) × (handle.new.engine ≡ Some (TerminalEnd (new_terminal ifsc))) }
     ensures stays { result.status ≢ 0 → handle.new.engine ≡ handle.old.engine }
-    ensures argument { (IsUsable (record { ifsc = ifsc; bwi = bwi; cwi = cwi }) → ⊥) → result ≡ wrong_argument 0 }
+    ensures argument { (IsUsable (record { ifsc = ifsc; bwi = bwi; cwi = cwi }) → ⊥)
+        → result ≡ wrong_argument 0 }
     ensures memory { IsUsable (record { ifsc = ifsc; bwi = bwi; cwi = cwi }) →
         result.status ≢ 0 → result ≡ no_memory }
 {
@@ -62,7 +63,8 @@ pub extern "C" fn scard_card_open(
     ensures ok { result.status ≡ 0 →
         (result ≡ ok_at 0) × (handle.new.engine ≡ Some (CardEnd (new_card ifsc))) }
     ensures stays { result.status ≢ 0 → handle.new.engine ≡ handle.old.engine }
-    ensures argument { (IsUsable (record { ifsc = ifsc; bwi = bwi; cwi = cwi }) → ⊥) → result ≡ wrong_argument 0 }
+    ensures argument { (IsUsable (record { ifsc = ifsc; bwi = bwi; cwi = cwi }) → ⊥)
+        → result ≡ wrong_argument 0 }
     ensures memory { IsUsable (record { ifsc = ifsc; bwi = bwi; cwi = cwi }) →
         result.status ≢ 0 → result ≡ no_memory }
 {

@@ -34,7 +34,8 @@ impl Engine {
 
     fn terminal_called(&mut self, call: TerminalCall<'_>, out: &mut [u8]) -> CTurn
         requires { 258 ≤ length out.old }
-        ensures { TerminalTakes (terminal_input call.entry) (Some self.old) (Some self.new) out.old out.new result }
+        ensures { TerminalTakes (terminal_input call.entry) (Some self.old) (Some self.new) out.old
+            out.new result }
     {
         match self {
             Engine::Terminal(end) => CTurn::of_terminal(call.make(end, out)),
@@ -44,7 +45,8 @@ impl Engine {
 
     fn card_called(&mut self, call: CardCall<'_>, out: &mut [u8]) -> CTurn
         requires { 258 ≤ length out.old }
-        ensures { CardTakes (card_input call.entry) (Some self.old) (Some self.new) out.old out.new result }
+        ensures { CardTakes (card_input call.entry) (Some self.old) (Some self.new) out.old out.new
+            result }
     {
         match self {
             Engine::Card(end) => CTurn::of_card(call.make(end, out)),

@@ -38,7 +38,8 @@ pub extern "C" fn scard_dol_fill(
     known: &[CKnown<'_>],
     out: &mut [u8],
 ) -> Verdict
-    ensures filled { AreKnown known.now → (IsRefusal result → ⊥) → result.status ≢ 3 → result.status ≢ 5 →
+    ensures filled { AreKnown known.now → (IsRefusal result → ⊥) → result.status ≢ 3
+        → result.status ≢ 5 →
         Fills list.now (map known_seen known.now) out.old out.new result }
     ensures refused { IsRefusal result →
         Tells dol_reason (Refuses whole IsDol IsDolReason list.now) result }

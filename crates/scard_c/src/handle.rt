@@ -46,7 +46,8 @@ impl Handle {
     }
 
     fn open(self) -> Option<Loose<Engine, Global>>
-        ensures { MatchOption result (self.engine ≡ None) (λ loose. self.engine ≡ Some loose.value) }
+        ensures { MatchOption result (self.engine ≡ None)
+            (λ loose. self.engine ≡ Some loose.value) }
     {
         let Handle { at, is_full, alloc } = self;
         if is_full {
@@ -71,7 +72,8 @@ impl Handle {
 
     /// Takes the engine out.
     pub(crate) fn take(&mut self, alloc: Global) -> Option<Box<Engine>>
-        ensures found { MatchOption result (self.old.engine ≡ None) (λ engine. self.old.engine ≡ Some engine.value) }
+        ensures found { MatchOption result (self.old.engine ≡ None)
+            (λ engine. self.old.engine ≡ Some engine.value) }
         ensures left { self.new.engine ≡ None }
     {
         let old = mem::replace(self, Handle::empty(alloc));

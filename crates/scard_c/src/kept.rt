@@ -211,7 +211,8 @@ impl CTerminal {
     pub(crate) fn places(&self, command: usize, answer: usize) -> Option<TerminalPlaces>
         ensures some { IfSome result (λ places.
             (terminal_of self.now ≡ Some places) × AreTerminalPlaces places command answer) }
-        ensures none { IfNone result ((places : TerminalPlaces) → terminal_of self.now ≡ Some places →
+        ensures none { IfNone result
+            ((places : TerminalPlaces) → terminal_of self.now ≡ Some places →
             AreTerminalPlaces places command answer → ⊥) }
     {
         let places = self.spelled()?;

@@ -145,7 +145,8 @@ impl CHeader {
     /// The header that it spells, if any.
     fn spelled(&self) -> Option<Header>
         ensures some { IfSome result (λ header. header_of self.now ≡ Some header) }
-        ensures none { IfNone result ((header : Header) → header_of self.now ≡ Some header → IsWell header → ⊥) }
+        ensures none { IfNone result
+            ((header : Header) → header_of self.now ≡ Some header → IsWell header → ⊥) }
     {
         match self.kind {
             0 => Some(Header::Nothing),
@@ -181,7 +182,8 @@ impl CCheck {
 
     /// The places that it spells, where they are those of a check.
     pub(crate) fn places(&self) -> Option<CheckPlaces>
-        ensures some { IfSome result (λ places. (check_of self.now ≡ Some places) × AreCheckPlaces places) }
+        ensures some { IfSome result
+            (λ places. (check_of self.now ≡ Some places) × AreCheckPlaces places) }
         ensures none { IfNone result ((places : CheckPlaces) → check_of self.now ≡ Some places →
             AreCheckPlaces places → ⊥) }
     {

@@ -135,8 +135,10 @@ impl CReceiver {
 
     /// The places that it spells, where they are those of a receiver with a buffer of so many octets.
     pub(crate) fn places(&self, room: usize) -> Option<ReceiverPlaces>
-        ensures some { IfSome result (λ places. (receiver_of self.now ≡ Some places) × AreReceiverPlaces places room) }
-        ensures none { IfNone result ((places : ReceiverPlaces) → receiver_of self.now ≡ Some places →
+        ensures some { IfSome result
+            (λ places. (receiver_of self.now ≡ Some places) × AreReceiverPlaces places room) }
+        ensures none { IfNone result
+            ((places : ReceiverPlaces) → receiver_of self.now ≡ Some places →
             AreReceiverPlaces places room → ⊥) }
     {
         let places = self.spelled()?;

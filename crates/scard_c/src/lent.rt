@@ -71,7 +71,8 @@ pub extern "C" fn scard_lent_terminal_received(
     octets: &[u8],
     out: &mut [u8],
 ) -> CTurn
-    ensures { TerminalCalled (λ t. takes (class_of t.ifsd octets.now)) (lent state.old command.old answer.old)
+    ensures { TerminalCalled (λ t. takes (class_of t.ifsd octets.now))
+        (lent state.old command.old answer.old)
         (lent state.new command.new answer.new) out.old out.new result }
 {
     let call = TerminalCall::Received(octets);
@@ -182,7 +183,8 @@ pub extern "C" fn scard_lent_card_received(
     octets: &[u8],
     out: &mut [u8],
 ) -> CTurn
-    ensures { CardCalled (λ c. card_takes (class_of c.ifsc octets.now)) (lent state.old command.old reply.old)
+    ensures { CardCalled (λ c. card_takes (class_of c.ifsc octets.now))
+        (lent state.old command.old reply.old)
         (lent state.new command.new reply.new) out.old out.new result }
 {
     let call = CardCall::Received(octets);

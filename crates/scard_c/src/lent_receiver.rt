@@ -25,7 +25,8 @@ pub extern "C" fn scard_lent_receiver_begin(
     ns: u8,
     max: usize,
 ) -> Verdict
-    ensures ok { (IsReserved ifs → ⊥) → IfSome (number_of ns) (λ number. max ≤ 131072 → (result ≡ ok_at 0) ×
+    ensures ok { (IsReserved ifs → ⊥)
+        → IfSome (number_of ns) (λ number. max ≤ 131072 → (result ≡ ok_at 0) ×
         ((message : List ℕ) → max ≤ length message → IsReceiver state.new message (fresh ifs number max))) }
     ensures size { IsReserved ifs → result ≡ wrong_argument 0 }
     ensures number { IfNone (number_of ns) (result ≡ wrong_argument 0) }
@@ -77,8 +78,10 @@ pub extern "C" fn scard_lent_receiver_finish(state: &CReceiver, message: &[u8]) 
 /// How many octets at the front of the buffer are the message, once the chain is whole. `ARGUMENT` where it isn't.
 #[unsafe(no_mangle)]
 pub extern "C" fn scard_lent_receiver_message(state: &CReceiver, message: &[u8]) -> Verdict
-    ensures message { (r : Reception) → IsReceiver state.now message.now r → IsAtFront (joined_of r) message.now result }
-    ensures none { ((r : Reception) → IsReceiver state.now message.now r → ⊥) → result ≡ wrong_argument 0 }
+    ensures message { (r : Reception) → IsReceiver state.now message.now r
+        → IsAtFront (joined_of r) message.now result }
+    ensures none { ((r : Reception) → IsReceiver state.now message.now r → ⊥)
+        → result ≡ wrong_argument 0 }
 {
     let Some(places) = state.places(message.len()) else {
         return Verdict::argument();

@@ -43,7 +43,8 @@ next-few s at (Card (Sends block)) = omega arith
 next-few s at (Card Asked) = omega arith
 
 -- an event sends at most one block
-pub sent-few : (s : Session) (at after : Place) (last : LastTurn) (event : link.Event) → next s at last ≡ Some (event, after) → after.sent ≤ at.sent + 1
+pub sent-few : (s : Session) (at after : Place) (last : LastTurn) (event : link.Event)
+    → next s at last ≡ Some (event, after) → after.sent ≤ at.sent + 1
 sent-few s at after last event e = rw (ap (place-of at) e) at (next-few s at last)
 
 -- ---- events
@@ -70,7 +71,8 @@ pub ends : (most done : ℕ) (s : Session) (at : Place) (r : Recording) → done
 ends most done s at r lt n = one-event most done s at r lt ∙ ap (further (simulated (most - (done + 1)) s) r) n
 
 -- an event is refused
-pub stops : (most done : ℕ) (s : Session) (at after : Place) (r : Recording) (event : link.Event) (fault : EventFault) → done < most
+pub stops : (most done : ℕ) (s : Session) (at after : Place) (r : Recording) (event : link.Event) (fault : EventFault)
+    → done < most
     → next s at r.last ≡ Some (event, after) → recorded r event ≡ Err fault → simulated (most - done) s at r ≡ Some r
 stops most done s at after r event fault lt n e =
     one-event most done s at r lt
@@ -78,7 +80,8 @@ stops most done s at after r event fault lt n e =
     ∙ ap (onward (simulated (most - (done + 1)) s after) r) e
 
 -- no event more may happen
-pub runs-out : (most done : ℕ) (s : Session) (at : Place) (r : Recording) → most ≤ done → simulated (most - done) s at r ≡ None
+pub runs-out : (most done : ℕ) (s : Session) (at : Place) (r : Recording) → most ≤ done
+    → simulated (most - done) s at r ≡ None
 unfolding simulated
 runs-out most done s at r le =
     let e : most - done ≡ zero = omega arith in
@@ -105,17 +108,25 @@ new-is r atr (a, l, n) =
     ∙ ap (λ (x : List Line). record { atr = atr; ifsc = r.ifsc; lines = x; last = r.last }) l
     ∙ ap (λ (x : LastTurn). record { atr = atr; ifsc = r.ifsc; lines = []; last = x }) n
 
-module _ (most : ℕ) (s : Session) (atr : List ℕ) (same : atr ≡ s.atr) (r : Recording) (empty : Empty r atr) (found : IsFound atr (Ok r.ifsc)) where
+module _ (most : ℕ) (s : Session) (atr : List ℕ) (same : atr ≡ s.atr) (r : Recording) (empty : Empty r atr)
+    (found : IsFound atr (Ok r.ifsc)) where
   begun : r ≡ new_recording s.atr r.ifsc
   begun = new-is r atr empty ∙ ap (λ (x : List ℕ). new_recording x r.ifsc) same
 
   is-found : IsFound s.atr (Ok r.ifsc)
   is-found = subst (λ (x : List ℕ). IsFound x (Ok r.ifsc)) same found
 
-  pub made : (final : Recording) (e : ExchangeParts) → simulated most s (start s) r ≡ Some final → e ≡ exchange_of final → IsSimulated most s (Ok e)
+  pub made : (final : Recording) (e : ExchangeParts) → simulated most s (start s) r ≡ Some final → e ≡ exchange_of final
+      → IsSimulated most s (Ok e)
   made final e h is = (r.ifsc, final, is-found, (most, sym (ap (simulated most s (start s)) begun) ∙ h), is)
 
-  pub not-made : (fault : SimulationFault) → IfTooLarge fault (simulated most s (start s) r ≡ None) → IsSimulated most s (Err fault)
+  pub not-made : (fault : SimulationFault) → IfTooLarge fault (simulated most s (start s) r ≡ None)
+      → IsSimulated most s (Err fault)
   not-made (Refused name) h = absurd h
-  not-made TooLarge h = (r.ifsc, is-found, λ final ends. too-long most s r.ifsc final (sym (ap (simulated most s (start s)) begun) ∙ h) ends)
+  not-made TooLarge h = (
+    r.ifsc,
+    is-found,
+    λ final ends.
+        too-long most s r.ifsc final (sym (ap (simulated most s (start s)) begun) ∙ h) ends,
+  )
   not-made NoMemory h = tt

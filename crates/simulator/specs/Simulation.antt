@@ -106,9 +106,11 @@ exchange_of r = record { version = One; atr = r.atr; lines = closed r }
 
 -- What a session comes to: its exchange, or why there is none. It is too large only where its text has more than so many octets, if it ends at all.
 abbrev pub IsSimulated : ℕ → Session → Result ExchangeParts SimulationFault → Type 0
-IsSimulated largest s (Ok e) = (ifsc : ℕ) × (r : Recording) × IsFound s.atr (Ok ifsc) × EndsAs s ifsc r × (e ≡ exchange_of r)
+IsSimulated largest s (Ok e) = (ifsc : ℕ) × (r : Recording) × IsFound s.atr (Ok ifsc) × EndsAs s ifsc r
+    × (e ≡ exchange_of r)
 IsSimulated largest s (Err (Refused name)) = IsFound s.atr (Err name.now)
-IsSimulated largest s (Err TooLarge) = (ifsc : ℕ) × IsFound s.atr (Ok ifsc) × ((r : Recording) → EndsAs s ifsc r → largest < length (exchange_text (exchange_of r)))
+IsSimulated largest s (Err TooLarge) = (ifsc : ℕ) × IsFound s.atr (Ok ifsc)
+    × ((r : Recording) → EndsAs s ifsc r → largest < length (exchange_text (exchange_of r)))
 IsSimulated largest s (Err Memory) = Unit {0}
 
 -- ---- the lists as sets

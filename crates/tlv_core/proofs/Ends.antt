@@ -20,24 +20,31 @@ use Rattle.tlv_core.specs.Open.{AreEnds, rooms_to, open_after}
 use Rattle.tlv_core.proofs.Steps.{spent-more, spent-last}
 
 open-more : (count e : ℕ) (ends : List ℕ) → count < e → open_after count (e ∷ ends) ≡ e ∷ open_after count ends
-open-more count e ends lt = take_while-cons (λ end. nat_lt count end) e ends ∙ ap (λ (b : Bool). cond b (e ∷ open_after count ends) []) (lt-ltb count e lt)
+open-more count e ends lt = take_while-cons (λ end. nat_lt count end) e ends
+    ∙ ap (λ (b : Bool). cond b (e ∷ open_after count ends) []) (lt-ltb count e lt)
 
 open-last : (count e : ℕ) (ends : List ℕ) → e ≤ count → open_after count (e ∷ ends) ≡ []
-open-last count e ends le = take_while-cons (λ end. nat_lt count end) e ends ∙ ap (λ (b : Bool). cond b (e ∷ open_after count ends) []) (le-ltb count e le)
+open-last count e ends le = take_while-cons (λ end. nat_lt count end) e ends
+    ∙ ap (λ (b : Bool). cond b (e ∷ open_after count ends) []) (le-ltb count e le)
 
 -- the rooms of the objects that are open after m octets more
-pub rooms-open : (count m : ℕ) (ends : List ℕ) → rooms_to (count + m) (open_after (count + m) ends) ≡ spent m (rooms_to count ends)
+pub rooms-open : (count m : ℕ) (ends : List ℕ)
+    → rooms_to (count + m) (open_after (count + m) ends) ≡ spent m (rooms_to count ends)
 rooms-open count m [] = refl
 rooms-open count m (e ∷ ends) =
     elim (cases_lt (count + m) e) [
       | inl lt ↦
           let room : e - (count + m) ≡ (e - count) - m = omega arith in
-          ap (rooms_to (count + m)) (open-more (count + m) e ends lt) ∙ ap (λ (r : ℕ). r ∷ rooms_to (count + m) (open_after (count + m) ends)) room ∙ ap (λ (l : List ℕ). ((e - count) - m) ∷ l) (rooms-open count m ends)
+          ap (rooms_to (count + m)) (open-more (count + m) e ends lt)
+          ∙ ap (λ (r : ℕ). r ∷ rooms_to (count + m) (open_after (count + m) ends)) room
+          ∙ ap (λ (l : List ℕ). ((e - count) - m) ∷ l) (rooms-open count m ends)
           ∙ sym (spent-more m (e - count) (rooms_to count ends) (omega arith))
-      | inr le ↦ ap (rooms_to (count + m)) (open-last (count + m) e ends le) ∙ sym (spent-last m (e - count) (rooms_to count ends) (omega arith))
+      | inr le ↦ ap (rooms_to (count + m)) (open-last (count + m) e ends le)
+          ∙ sym (spent-last m (e - count) (rooms_to count ends) (omega arith))
     ]
 
-pub rooms-push : (count n : ℕ) (ends : List ℕ) → rooms_to count (ends ++ (count + n) ∷ []) ≡ rooms_to count ends ++ n ∷ []
+pub rooms-push : (count n : ℕ) (ends : List ℕ) → rooms_to count (ends ++ (count + n) ∷ []) ≡ rooms_to count ends
+    ++ n ∷ []
 rooms-push count n [] = let e : count + n - count ≡ n = omega arith in ap (λ (r : ℕ). r ∷ []) e
 rooms-push count n (e ∷ ends) = ap (λ (l : List ℕ). (e - count) ∷ l) (rooms-push count n ends)
 
@@ -46,7 +53,8 @@ length-rooms count [] = refl
 length-rooms count (e ∷ ends) = ap suc (length-rooms count ends)
 
 -- the room of the innermost object
-pub room-last : (left count e : ℕ) (ends : List ℕ) → slice_get ends (length ends - 1) ≡ Some e → room_of left (rooms_to count ends) ≡ e - count
+pub room-last : (left count e : ℕ) (ends : List ℕ) → slice_get ends (length ends - 1) ≡ Some e
+    → room_of left (rooms_to count ends) ≡ e - count
 room-last left count e [] h = cc
 room-last left count e (f ∷ []) h = let same : f ≡ e = cc in ap (λ (n : ℕ). n - count) same
 room-last left count e (f ∷ g ∷ ends) h =
@@ -64,24 +72,30 @@ ends-open max count now ends h i lt =
     let old = h i (omega (arith, prefix_len-le-length p ends)) in
     (omega (arith, same, ltb-true now (get_or ends i 0) passes), omega (arith, same, old.1))
 
-pub ends-push : (max count e : ℕ) (ends : List ℕ) → AreEnds max count ends → count < e → e ≤ max → AreEnds max count (ends ++ e ∷ [])
+pub ends-push : (max count e : ℕ) (ends : List ℕ) → AreEnds max count ends → count < e → e ≤ max
+    → AreEnds max count (ends ++ e ∷ [])
 ends-push max count e ends h lt le i inside =
     elim (cases_lt i (length ends)) [
-      | inl before ↦ let same = get_or_append_left ends (e ∷ []) 0 i before in let old = h i before in (omega (arith, same, old.0), omega (arith, same, old.1))
+      | inl before ↦ let same = get_or_append_left ends (e ∷ []) 0 i before in let old =
+          h i before in (omega (arith, same, old.0), omega (arith, same, old.1))
       | inr at ↦
           let last : length ends ≡ i = omega (arith, length-append ends (e ∷ [])) in
           let same = get_or_push ends e 0 i last in
           (omega arith, omega arith)
     ]
 
-inner_room : (max count e : ℕ) (ends : List ℕ) → AreEnds max count ends → e ≤ max → room_of (e - count) (rooms_to count ends) ≤ max - count
+inner_room : (max count e : ℕ) (ends : List ℕ) → AreEnds max count ends → e ≤ max
+    → room_of (e - count) (rooms_to count ends) ≤ max - count
 inner_room max count e [] h le = omega arith
-inner_room max count e (f ∷ ends) h le = inner_room max count f ends (λ i lt. h (suc i) (omega arith)) (h 0 (omega arith)).1
+inner_room max count e (f ∷ ends) h le = inner_room max count f ends (λ i lt. h (suc i) (omega arith))
+    (h 0 (omega arith)).1
 
 -- the room is within the limit
-pub room-within : (max count : ℕ) (ends : List ℕ) → AreEnds max count ends → count ≤ max → room_of (max - count) (rooms_to count ends) ≤ max - count
+pub room-within : (max count : ℕ) (ends : List ℕ) → AreEnds max count ends → count ≤ max
+    → room_of (max - count) (rooms_to count ends) ≤ max - count
 room-within max count [] h le = omega arith
-room-within max count (e ∷ ends) h le = let first = h 0 (omega arith) in omega (arith, first.1, inner_room max count e ends (λ i lt. h (suc i) (omega arith)) first.1)
+room-within max count (e ∷ ends) h le = let first =
+    h 0 (omega arith) in omega (arith, first.1, inner_room max count e ends (λ i lt. h (suc i) (omega arith)) first.1)
 
 -- ---- what is kept
 
@@ -91,14 +105,20 @@ kept max count rooms h left = record { max = max; count = count; rooms = rooms; 
 pub same_rooms : (max count left : ℕ) (h l m : List ℕ) → l ≡ m → kept max count l h left ≡ kept max count m h left
 same_rooms max count left h l m e = ap (λ (r : List ℕ). kept max count r h left) e
 
-pub same_left : (max count : ℕ) (rooms h : List ℕ) (left now : ℕ) → left ≡ now → kept max count rooms h left ≡ kept max count rooms h now
+pub same_left : (max count : ℕ) (rooms h : List ℕ) (left now : ℕ) → left ≡ now
+    → kept max count rooms h left ≡ kept max count rooms h now
 same_left max count rooms h left now e = ap (λ (n : ℕ). kept max count rooms h n) e
 
 -- after m octets more, with the ends of objects that are open yet
-pub same_open : (max count m left : ℕ) (h ends now : List ℕ) → now ≡ open_after (count + m) ends → kept max (count + m) (rooms_to (count + m) now) h left ≡ kept max (count + m) (spent m (rooms_to count ends)) h left
-same_open max count m left h ends now e = same_rooms max (count + m) left h (rooms_to (count + m) now) (spent m (rooms_to count ends)) (ap (rooms_to (count + m)) e ∙ rooms-open count m ends)
+pub same_open : (max count m left : ℕ) (h ends now : List ℕ) → now ≡ open_after (count + m) ends
+    → kept max (count + m) (rooms_to (count + m) now) h left ≡ kept max (count + m) (spent m (rooms_to count ends)) h
+    left
+same_open max count m left h ends now e =
+    same_rooms max (count + m) left h (rooms_to (count + m) now) (spent m (rooms_to count ends))
+    (ap (rooms_to (count + m)) e ∙ rooms-open count m ends)
 
-pub ends-now : (max count m : ℕ) (ends now : List ℕ) → AreEnds max count ends → now ≡ open_after (count + m) ends → AreEnds max (count + m) now
+pub ends-now : (max count m : ℕ) (ends now : List ℕ) → AreEnds max count ends → now ≡ open_after (count + m) ends
+    → AreEnds max (count + m) now
 ends-now max count m ends now h e = subst (AreEnds max (count + m)) (sym e) (ends-open max count (count + m) ends h)
 
 pub fewer-now : (now ends : List ℕ) (count : ℕ) → now ≡ open_after count ends → length now ≤ length ends
@@ -106,7 +126,9 @@ fewer-now now ends count e = omega (arith, ap length e, length-take (prefix_len 
 
 -- ---- an octet is allowed only where there is room for an object
 
-pub shallow_next : (before : Header) (x level : ℕ) (follow : Next) → IsWell before → (before ≢ header.Nothing → level < 16) → IsNext (header_octets before) x follow → (header_octets before ≡ [] → 16 ≤ level → x ≡ 0) → follow ≢ next.Filler → level < 16
+pub shallow_next : (before : Header) (x level : ℕ) (follow : Next) → IsWell before
+    → (before ≢ header.Nothing → level < 16) → IsNext (header_octets before) x follow
+    → (header_octets before ≡ [] → 16 ≤ level → x ≡ 0) → follow ≢ next.Filler → level < 16
 shallow_next before x level next.Filler well old is step some = absurd (some refl)
 shallow_next header.Nothing x level (next.Under longer) well old is step some =
     elim (cases_lt level 16) [
@@ -140,7 +162,8 @@ some_object next.Filler o e = cc
 some_object (next.Under longer) o e = cc
 some_object (next.Object p) o e = let same : p ≡ o = cc in ap next.Object same
 
-pub after-none : (k : Kept) (follow : Next) → ((o : ObjectHeader) → object_in follow ≡ Some o → ⊥) → after_next k follow ≡ after_octet k (header_octets (header_in follow))
+pub after-none : (k : Kept) (follow : Next) → ((o : ObjectHeader) → object_in follow ≡ Some o → ⊥)
+    → after_next k follow ≡ after_octet k (header_octets (header_in follow))
 after-none k next.Filler none = refl
 after-none k (next.Under longer) none = refl
 after-none k (next.Object o) none = absurd (none o refl)

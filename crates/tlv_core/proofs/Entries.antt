@@ -27,24 +27,34 @@ Entry = List ℕ × ℕ
 regroup_entry : (e : Entry) (a : List ℕ) → entry_octets e ++ a ≡ e.0 ++ e.1 ∷ a
 regroup_entry e a = append_assoc e.0 (e.1 ∷ []) a
 
-entry_one : (e f : Entry) (a b : List ℕ) → IsTag e.0 → IsTag f.0 → entry_octets e ++ a ≡ entry_octets f ++ b → (e ≡ f) × (a ≡ b)
+entry_one : (e f : Entry) (a b : List ℕ) → IsTag e.0 → IsTag f.0 → entry_octets e ++ a ≡ entry_octets f ++ b → (e ≡ f)
+    × (a ≡ b)
 entry_one e f a b h g q =
     let tags = tag_one e.0 f.0 (e.1 ∷ a) (f.1 ∷ b) h g (sym (regroup_entry e a) ∙ q ∙ regroup_entry f b) in
     let tag : e.0 ≡ f.0 = tags.0 in
     let len : e.1 ≡ f.1 = head_of tags.1 in
     (ap (λ (t : List ℕ). (t, e.1)) tag ∙ ap (λ (n : ℕ). (f.0, n)) len, tail_of tags.1)
 
-begun_not_entry : (h : List ℕ) (g : IsBegunEntry h) (e : Entry) (rest : List ℕ) → IsTag e.0 → h ≡ entry_octets e ++ rest → ⊥
+begun_not_entry : (h : List ℕ) (g : IsBegunEntry h) (e : Entry) (rest : List ℕ) → IsTag e.0 → h ≡ entry_octets e ++ rest
+    → ⊥
 begun_not_entry h g e rest tag q =
-    let one = entry_one e g.entry (rest ++ g.next ∷ g.more) [] tag g.is_tag (sym (append_assoc (entry_octets e) rest (g.next ∷ g.more)) ∙ ap (λ (l : List ℕ). l ++ g.next ∷ g.more) (sym q) ∙ g.is ∙ sym (append-nil (entry_octets g.entry))) in
+    let one = entry_one e g.entry (rest ++ g.next ∷ g.more) [] tag g.is_tag
+    (sym (append_assoc (entry_octets e) rest (g.next ∷ g.more)) ∙ ap (λ (l : List ℕ). l ++ g.next ∷ g.more) (sym q)
+    ∙ g.is ∙ sym (append-nil (entry_octets g.entry))) in
     omega (arith, ap length one.1, length-append rest (g.next ∷ g.more))
 
-same_entries : (es fs : List Entry) (h k : List ℕ) → AreEntries es → AreEntries fs → IsBegunEntry h → IsBegunEntry k → dol_spelling es ++ h ≡ dol_spelling fs ++ k → (es ≡ fs) × (h ≡ k)
+same_entries : (es fs : List Entry) (h k : List ℕ) → AreEntries es → AreEntries fs → IsBegunEntry h → IsBegunEntry k
+    → dol_spelling es ++ h ≡ dol_spelling fs ++ k → (es ≡ fs) × (h ≡ k)
 same_entries [] [] h k ae af bh bk q = (refl, q)
-same_entries [] (f ∷ fs) h k ae af bh bk q = absurd (begun_not_entry h bh f (dol_spelling fs ++ k) af.0 (q ∙ append_assoc (entry_octets f) (dol_spelling fs) k))
-same_entries (e ∷ es) [] h k ae af bh bk q = absurd (begun_not_entry k bk e (dol_spelling es ++ h) ae.0 (sym q ∙ append_assoc (entry_octets e) (dol_spelling es) h))
+same_entries [] (f ∷ fs) h k ae af bh bk q =
+    absurd (begun_not_entry h bh f (dol_spelling fs ++ k) af.0 (q ∙ append_assoc (entry_octets f) (dol_spelling fs) k))
+same_entries (e ∷ es) [] h k ae af bh bk q =
+    absurd (begun_not_entry k bk e (dol_spelling es ++ h) ae.0
+    (sym q ∙ append_assoc (entry_octets e) (dol_spelling es) h))
 same_entries (e ∷ es) (f ∷ fs) h k ae af bh bk q =
-    let one = entry_one e f (dol_spelling es ++ h) (dol_spelling fs ++ k) ae.0 af.0 (sym (append_assoc (entry_octets e) (dol_spelling es) h) ∙ q ∙ append_assoc (entry_octets f) (dol_spelling fs) k) in
+    let one = entry_one e f (dol_spelling es ++ h) (dol_spelling fs ++ k) ae.0 af.0
+    (sym (append_assoc (entry_octets e) (dol_spelling es) h) ∙ q
+    ∙ append_assoc (entry_octets f) (dol_spelling fs) k) in
     let r = same_entries es fs h k ae.2 af.2 bh bk one.1 in
     let first : e ≡ f = one.0 in
     let rest : es ≡ fs = r.0 in
@@ -54,7 +64,8 @@ begun_nil : IsBegunEntry []
 begun_nil = record { entry = (0x5A ∷ [], 0); next = 0x5A; more = 0 ∷ []; is_tag = search rules; is = refl }
 
 pub one_dol : (es fs : List Entry) (b : List ℕ) → IsDol es b → IsDol fs b → es ≡ fs
-one_dol es fs b h g = (same_entries es fs [] [] h.each g.each begun_nil begun_nil (append-nil (dol_spelling es) ∙ sym h.is ∙ g.is ∙ sym (append-nil (dol_spelling fs)))).0
+one_dol es fs b h g = (same_entries es fs [] [] h.each g.each begun_nil begun_nil
+    (append-nil (dol_spelling es) ∙ sym h.is ∙ g.is ∙ sym (append-nil (dol_spelling fs)))).0
 
 -- ---- refusals
 
@@ -62,24 +73,31 @@ abbrev lines : List DolReason
 lines = dol_reasons
 
 -- what is left of a list after one that its octets begin with
-skip : (es fs : List Entry) (rest : List ℕ) → AreEntries es → AreEntries fs → dol_spelling fs ≡ dol_spelling es ++ rest → (left : List Entry) × AreEntries left × (dol_spelling left ≡ rest)
+skip : (es fs : List Entry) (rest : List ℕ) → AreEntries es → AreEntries fs → dol_spelling fs ≡ dol_spelling es ++ rest
+    → (left : List Entry) × AreEntries left × (dol_spelling left ≡ rest)
 skip [] fs rest ae af q = (fs, af, q)
-skip (e ∷ es) [] rest ae af q = absurd (header_not_nil e.0 One e.1 (dol_spelling es ++ rest) ae.0 (sym (append_assoc (entry_octets e) (dol_spelling es) rest) ∙ sym q))
+skip (e ∷ es) [] rest ae af q = absurd (header_not_nil e.0 One e.1 (dol_spelling es ++ rest) ae.0
+    (sym (append_assoc (entry_octets e) (dol_spelling es) rest) ∙ sym q))
 skip (e ∷ es) (f ∷ fs) rest ae af q =
-    let one = entry_one f e (dol_spelling fs) (dol_spelling es ++ rest) af.0 ae.0 (q ∙ append_assoc (entry_octets e) (dol_spelling es) rest) in
+    let one = entry_one f e (dol_spelling fs) (dol_spelling es ++ rest) af.0 ae.0
+    (q ∙ append_assoc (entry_octets e) (dol_spelling es) rest) in
     skip es fs rest ae.2 af.2 one.1
 
-wrong_entry : (es : List Entry) (h more : List ℕ) (x : ℕ) (r : DolReason) → AreEntries es → dol_spelling es ≡ h ++ x ∷ more → IsWrongEntry h x r → ⊥
+wrong_entry : (es : List Entry) (h more : List ℕ) (x : ℕ) (r : DolReason) → AreEntries es → dol_spelling es ≡ h
+    ++ x ∷ more → IsWrongEntry h x r → ⊥
 wrong_entry [] [] more x r a q w = cc
 wrong_entry [] (y ∷ h) more x r a q w = cc
 wrong_entry (e ∷ es) h more x TagZero a q w =
-    header_not_zero e.0 One e.1 (dol_spelling es) more a.0 (q ∙ ap (λ (l : List ℕ). l ++ x ∷ more) w.0 ∙ ap (λ (y : ℕ). y ∷ more) w.1)
+    header_not_zero e.0 One e.1 (dol_spelling es) more a.0
+    (q ∙ ap (λ (l : List ℕ). l ++ x ∷ more) w.0 ∙ ap (λ (y : ℕ). y ∷ more) w.1)
 wrong_entry (e ∷ es) [] more x TagSecond a q w = w.0
-wrong_entry (e ∷ es) (y ∷ []) more x TagSecond a q w = second_header e.0 One e.1 y x (dol_spelling es) more a.0 w.0 w.1 (sym q)
+wrong_entry (e ∷ es) (y ∷ []) more x TagSecond a q w =
+    second_header e.0 One e.1 y x (dol_spelling es) more a.0 w.0 w.1 (sym q)
 wrong_entry (e ∷ es) (y ∷ z ∷ h) more x TagSecond a q w = w.0
 wrong_entry (e ∷ es) [] more x TagLong a q w = w.0
 wrong_entry (e ∷ es) (y ∷ []) more x TagLong a q w = w.0
-wrong_entry (e ∷ es) (y ∷ z ∷ []) more x TagLong a q w = third_header e.0 One e.1 y z x (dol_spelling es) more a.0 w.0.0 w.0.1 w.1 (sym q)
+wrong_entry (e ∷ es) (y ∷ z ∷ []) more x TagLong a q w =
+    third_header e.0 One e.1 y z x (dol_spelling es) more a.0 w.0.0 w.0.1 w.1 (sym q)
 wrong_entry (e ∷ es) (y ∷ z ∷ v ∷ h) more x TagLong a q w = w.0
 
 regroup_end : (a h : List ℕ) (x : ℕ) (c : List ℕ) → (a ++ (h ++ x ∷ [])) ++ c ≡ a ++ (h ++ x ∷ c)
@@ -88,7 +106,8 @@ regroup_end a h x c = simp append_assoc
 pub refused_entry : (b : List ℕ) (r : DolReason) → MeetsEntry b r → Begins IsDol b → ⊥
 refused_entry b r m h =
     let e = m.0 in
-    let is : dol_spelling h.0 ≡ dol_spelling e.done ++ (e.header ++ e.octet ∷ h.1) = sym h.2.is ∙ ap (λ (l : List ℕ). l ++ h.1) e.is ∙ regroup_end (dol_spelling e.done) e.header e.octet h.1 in
+    let is : dol_spelling h.0 ≡ dol_spelling e.done ++ (e.header ++ e.octet ∷ h.1) =
+    sym h.2.is ∙ ap (λ (l : List ℕ). l ++ h.1) e.is ∙ regroup_end (dol_spelling e.done) e.header e.octet h.1 in
     let left = skip e.done h.0 (e.header ++ e.octet ∷ h.1) e.each h.2.each is in
     wrong_entry left.0 e.header h.1 e.octet r left.1 left.2 m.1
 
@@ -96,10 +115,15 @@ pub one_entry_reason : (r s : DolReason) (b : List ℕ) → IsDolReason r b → 
 one_entry_reason r s b h g =
     let e = h.0 in
     let f = g.0 in
-    let ends = last_of (dol_spelling e.done ++ e.header) (dol_spelling f.done ++ f.header) e.octet f.octet (append_assoc (dol_spelling e.done) e.header (e.octet ∷ []) ∙ sym e.is ∙ f.is ∙ sym (append_assoc (dol_spelling f.done) f.header (f.octet ∷ []))) in
-    let headers : f.header ≡ e.header = sym (same_entries e.done f.done e.header f.header e.each f.each e.begun f.begun ends.0).1 in
+    let ends = last_of (dol_spelling e.done ++ e.header) (dol_spelling f.done ++ f.header) e.octet f.octet
+    (append_assoc (dol_spelling e.done) e.header (e.octet ∷ []) ∙ sym e.is ∙ f.is
+    ∙ sym (append_assoc (dol_spelling f.done) f.header (f.octet ∷ []))) in
+    let headers : f.header ≡ e.header = sym
+    (same_entries e.done f.done e.header f.header e.each f.each e.begun f.begun ends.0).1 in
     let octets : f.octet ≡ e.octet = sym ends.1 in
-    first_once lines (IsWrongEntry e.header e.octet) r s h.1 (subst (λ (k : List ℕ). IsFirst lines (IsWrongEntry k e.octet) s) headers (subst (λ (x : ℕ). IsFirst lines (IsWrongEntry f.header x) s) octets g.1))
+    first_once lines (IsWrongEntry e.header e.octet) r s h.1
+    (subst (λ (k : List ℕ). IsFirst lines (IsWrongEntry k e.octet) s) headers
+    (subst (λ (x : ℕ). IsFirst lines (IsWrongEntry f.header x) s) octets g.1))
 
 -- ---- some verdict
 
@@ -123,8 +147,22 @@ IsPart (Tagged tag) = IsTag tag
 
 part_begun : (p : Part) → IsPart p → IsBegunEntry (part_octets p)
 part_begun Nothing h = begun_nil
-part_begun (First x) h = record { entry = (x ∷ 1 ∷ [], 0); next = 1; more = 0 ∷ []; is_tag = (h.0, h.1, omega arith, omega arith); is = refl }
-part_begun (Second x y) h = record { entry = (x ∷ y ∷ 0 ∷ [], 0); next = 0; more = 0 ∷ []; is_tag = (h.0, h.1, h.2, h.3, omega arith); is = refl }
+part_begun (First x) h = record {
+  entry = (x ∷ 1 ∷ [], 0);
+  next = 1;
+  more = 0 ∷ [];
+  is_tag =
+      (h.0, h.1, omega arith, omega arith);
+  is = refl;
+}
+part_begun (Second x y) h = record {
+  entry = (x ∷ y ∷ 0 ∷ [], 0);
+  next = 0;
+  more = 0 ∷ [];
+  is_tag =
+      (h.0, h.1, h.2, h.3, omega arith);
+  is = refl;
+}
 part_begun (Tagged tag) h = record { entry = (tag, 0); next = 0; more = []; is_tag = h; is = refl }
 
 pub record Stands (b : List ℕ) : Type 0 where
@@ -140,28 +178,53 @@ entries_append (f ∷ es) e h tag lt = (h.0, h.1, entries_append es e h.2 tag lt
 
 pub spelling_append : (es : List Entry) (e : Entry) → dol_spelling (es ++ e ∷ []) ≡ dol_spelling es ++ entry_octets e
 spelling_append [] e = append-nil (entry_octets e)
-spelling_append (f ∷ es) e = ap (λ (l : List ℕ). entry_octets f ++ l) (spelling_append es e) ∙ sym (append_assoc (entry_octets f) (dol_spelling es) (entry_octets e))
+spelling_append (f ∷ es) e = ap (λ (l : List ℕ). entry_octets f ++ l) (spelling_append es e)
+    ∙ sym (append_assoc (entry_octets f) (dol_spelling es) (entry_octets e))
 
-begins_with : (b : List ℕ) (done : List Entry) (e : Entry) (h more : List ℕ) → AreEntries done → IsTag e.0 → e.1 < 256 → b ≡ dol_spelling done ++ h → h ++ more ≡ entry_octets e → Begins IsDol b
+begins_with : (b : List ℕ) (done : List Entry) (e : Entry) (h more : List ℕ) → AreEntries done → IsTag e.0 → e.1 < 256
+    → b ≡ dol_spelling done ++ h → h ++ more ≡ entry_octets e → Begins IsDol b
 begins_with b done e h more each tag lt is q = (
   done ++ e ∷ [],
   more,
-  record { each = entries_append done e each tag lt; is = ap (λ (l : List ℕ). l ++ more) is ∙ append_assoc (dol_spelling done) h more ∙ ap (λ (l : List ℕ). dol_spelling done ++ l) q ∙ sym (spelling_append done e) },
+  record {
+    each = entries_append done e each tag lt;
+    is =
+        ap (λ (l : List ℕ). l ++ more) is ∙ append_assoc (dol_spelling done) h more
+        ∙ ap (λ (l : List ℕ). dol_spelling done ++ l) q ∙ sym (spelling_append done e);
+  },
 )
 
-pub begins_of : (p : Part) (b : List ℕ) (done : List Entry) → AreEntries done → IsPart p → b ≡ dol_spelling done ++ part_octets p → Begins IsDol b
-begins_of Nothing b done each ok is = (done, [], record { each = each; is = append-nil b ∙ is ∙ append-nil (dol_spelling done) })
-begins_of (First x) b done each ok is = begins_with b done (x ∷ 1 ∷ [], 0) (x ∷ []) (1 ∷ 0 ∷ []) each (ok.0, ok.1, omega arith, omega arith) (omega arith) is refl
-begins_of (Second x y) b done each ok is = begins_with b done (x ∷ y ∷ 0 ∷ [], 0) (x ∷ y ∷ []) (0 ∷ 0 ∷ []) each (ok.0, ok.1, ok.2, ok.3, omega arith) (omega arith) is refl
+pub begins_of : (p : Part) (b : List ℕ) (done : List Entry) → AreEntries done → IsPart p → b ≡ dol_spelling done
+    ++ part_octets p → Begins IsDol b
+begins_of Nothing b done each ok is = (
+  done,
+  [],
+  record { each = each; is = append-nil b ∙ is ∙ append-nil (dol_spelling done) },
+)
+begins_of (First x) b done each ok is = begins_with b done (x ∷ 1 ∷ [], 0) (x ∷ []) (1 ∷ 0 ∷ []) each
+    (ok.0, ok.1, omega arith, omega arith) (omega arith) is refl
+begins_of (Second x y) b done each ok is =
+    begins_with b done (x ∷ y ∷ 0 ∷ [], 0) (x ∷ y ∷ []) (0 ∷ 0 ∷ []) each (ok.0, ok.1, ok.2, ok.3, omega arith)
+    (omega arith) is refl
 begins_of (Tagged tag) b done each ok is = begins_with b done (tag, 0) tag (0 ∷ []) each ok (omega arith) is refl
 
 pub stands_begins : (b : List ℕ) → Stands b → Begins IsDol b
 stands_begins b s = begins_of s.part b s.done s.each s.ok s.is
 
-goes_on : (b : List ℕ) (x : ℕ) (done : List Entry) (p q : Part) → AreEntries done → b ≡ dol_spelling done ++ part_octets p → IsPart q → part_octets q ≡ part_octets p ++ x ∷ [] → Stands (b ++ x ∷ [])
-goes_on b x done p q each is ok octets = record { done = done; each = each; part = q; ok = ok; is = ap (λ (l : List ℕ). l ++ x ∷ []) is ∙ append_assoc (dol_spelling done) (part_octets p) (x ∷ []) ∙ ap (λ (l : List ℕ). dol_spelling done ++ l) (sym octets) }
+goes_on : (b : List ℕ) (x : ℕ) (done : List Entry) (p q : Part) → AreEntries done → b ≡ dol_spelling done
+    ++ part_octets p → IsPart q → part_octets q ≡ part_octets p ++ x ∷ [] → Stands (b ++ x ∷ [])
+goes_on b x done p q each is ok octets = record {
+  done = done;
+  each = each;
+  part = q;
+  ok = ok;
+  is =
+      ap (λ (l : List ℕ). l ++ x ∷ []) is ∙ append_assoc (dol_spelling done) (part_octets p) (x ∷ [])
+      ∙ ap (λ (l : List ℕ). dol_spelling done ++ l) (sym octets);
+}
 
-step : (p : Part) (b : List ℕ) (x : ℕ) (done : List Entry) → AreEntries done → IsPart p → b ≡ dol_spelling done ++ part_octets p → x < 256 → ((r : DolReason) → IsWrongEntry (part_octets p) x r → ⊥) → Stands (b ++ x ∷ [])
+step : (p : Part) (b : List ℕ) (x : ℕ) (done : List Entry) → AreEntries done → IsPart p → b ≡ dol_spelling done
+    ++ part_octets p → x < 256 → ((r : DolReason) → IsWrongEntry (part_octets p) x r → ⊥) → Stands (b ++ x ∷ [])
 step Nothing b x done each ok is lt none =
     elim (cases_eq x 0) [
       | inl z ↦ absurd (none TagZero (refl, z))
@@ -187,7 +250,8 @@ step (Tagged tag) b x done each ok is lt none =
       each = entries_append done (tag, x) each ok lt;
       part = Nothing;
       ok = tt;
-      is = ap (λ (l : List ℕ). l ++ x ∷ []) is ∙ append_assoc (dol_spelling done) tag (x ∷ []) ∙ sym (spelling_append done (tag, x)) ∙ sym (append-nil (dol_spelling (done ++ (tag, x) ∷ [])));
+      is = ap (λ (l : List ℕ). l ++ x ∷ []) is ∙ append_assoc (dol_spelling done) tag (x ∷ [])
+          ∙ sym (spelling_append done (tag, x)) ∙ sym (append-nil (dol_spelling (done ++ (tag, x) ∷ [])));
     }
 
 line_dec : (h : List ℕ) (x : ℕ) (r : DolReason) → Dec (IsWrongEntry h x r)
@@ -201,14 +265,40 @@ is_line TagZero = inl (refl, refl)
 is_line TagSecond = inr (λ e. cc, inl (refl, refl))
 is_line TagLong = inr (λ e. cc, inr (λ e. cc, inl (refl, refl)))
 
-pub refuses_at : (n : ℕ) (b : List ℕ) (r : DolReason) → n < length b → (s : Stands (take n b)) → IsFirst lines (IsWrongEntry (part_octets s.part) (get_or b n 0)) r → Refuses whole IsDol IsDolReason b (At n r)
+pub refuses_at : (n : ℕ) (b : List ℕ) (r : DolReason) → n < length b → (s : Stands (take n b))
+    → IsFirst lines (IsWrongEntry (part_octets s.part) (get_or b n 0)) r → Refuses whole IsDol IsDolReason b (At n r)
 refuses_at n b r lt s first =
-    let more : take (n + 1) b ≡ dol_spelling s.done ++ (part_octets s.part ++ get_or b n 0 ∷ []) = take_more b n 0 lt ∙ ap (λ (l : List ℕ). l ++ get_or b n 0 ∷ []) s.is ∙ append_assoc (dol_spelling s.done) (part_octets s.part) (get_or b n 0 ∷ []) in
-    let reason : IsDolReason r (take (n + 1) b) = (record { done = s.done; each = s.each; header = part_octets s.part; begun = part_begun s.part s.ok; octet = get_or b n 0; is = more }, first) in
-    let stuck : Begins IsDol (take (n + 1) b) → ⊥ = refused_entry (take (n + 1) b) r (reason.0, first_holds lines (IsWrongEntry (part_octets s.part) (get_or b n 0)) r first) in
-    (record { none = λ v k a. stuck (begins_all IsDol (n + 1) b (v, [], subst (IsDol v) (sym (append-nil b)) a.1)); inside = lt; begun = stands_begins (take n b) s; stuck = stuck }, reason)
+    let more : take (n + 1) b ≡ dol_spelling s.done ++ (part_octets s.part ++ get_or b n 0 ∷ []) =
+    take_more b n 0 lt ∙ ap (λ (l : List ℕ). l ++ get_or b n 0 ∷ []) s.is
+    ∙ append_assoc (dol_spelling s.done) (part_octets s.part) (get_or b n 0 ∷ []) in
+    let reason : IsDolReason r (take (n + 1) b) = (
+      record {
+        done = s.done;
+        each = s.each;
+        header = part_octets s.part;
+        begun = part_begun s.part s.ok;
+        octet =
+            get_or b n 0;
+        is = more;
+      },
+      first,
+    ) in
+    let stuck : Begins IsDol (take (n + 1) b) → ⊥ =
+    refused_entry (take (n + 1) b) r (
+      reason.0,
+      first_holds lines (IsWrongEntry (part_octets s.part) (get_or b n 0)) r first,
+    ) in (
+      record {
+        none = λ v k a. stuck (begins_all IsDol (n + 1) b (v, [], subst (IsDol v) (sym (append-nil b)) a.1));
+        inside = lt;
+        begun = stands_begins (take n b) s;
+        stuck = stuck;
+      },
+      reason,
+    )
 
-scan : (n : ℕ) (b : List ℕ) → AreOctets b → n ≤ length b → Stands (take n b) ⊎ ((s : Stop DolReason) × Refuses whole IsDol IsDolReason b s)
+scan : (n : ℕ) (b : List ℕ) → AreOctets b → n ≤ length b → Stands (take n b)
+    ⊎ ((s : Stop DolReason) × Refuses whole IsDol IsDolReason b s)
 scan zero b octets le = inl (record { done = []; each = tt; part = Nothing; ok = tt; is = refl })
 scan (suc n) b octets le =
     elim (scan n b octets (omega arith)) [
@@ -219,20 +309,36 @@ scan (suc n) b octets le =
           elim (first_dec lines (IsWrongEntry (part_octets s.part) x) (line_dec (part_octets s.part) x)) [
             | inl first ↦ inr (At n first.0, refuses_at n b first.0 (omega arith) s first.1)
             | inr none ↦
-                let on : Stands (take n b ++ x ∷ []) = step s.part (take n b) x s.done s.each s.ok s.is (octets n) (λ r w. some_first lines (IsWrongEntry (part_octets s.part) x) (line_dec (part_octets s.part) x) r (is_line r) none w) in
+                let on : Stands (take n b ++ x ∷ []) =
+                step s.part (take n b) x s.done s.each s.ok s.is (octets n)
+                (λ r w. some_first lines (IsWrongEntry (part_octets s.part) x) (line_dec (part_octets s.part) x) r
+                (is_line r) none w) in
                 inl (subst Stands (sym (take_more b n 0 (omega arith)) ∙ ap (λ (k : ℕ). take k b) next) on)
           ]
     ]
 
-pub at_end : (b : List ℕ) → Stands b → ((v : List Entry) × (n : ℕ) × Accepts whole IsDol b v n) ⊎ ((s : Stop DolReason) × Refuses whole IsDol IsDolReason b s)
+pub at_end : (b : List ℕ) → Stands b → ((v : List Entry) × (n : ℕ) × Accepts whole IsDol b v n)
+    ⊎ ((s : Stop DolReason) × Refuses whole IsDol IsDolReason b s)
 at_end b s =
     elim (nil_dec (part_octets s.part)) [
-      | inl e ↦ inl (s.done, length b, (refl, record { each = s.each; is = s.is ∙ ap (λ (l : List ℕ). dol_spelling s.done ++ l) e ∙ append-nil (dol_spelling s.done) }))
+      | inl e ↦ inl (
+        s.done,
+        length b,
+        (
+          refl,
+          record {
+            each = s.each;
+            is = s.is ∙ ap (λ (l : List ℕ). dol_spelling s.done ++ l) e
+                ∙ append-nil (dol_spelling s.done);
+          },
+        ),
+      )
       | inr ne ↦
           inr (
             Short (length b),
             record {
-              none = λ v n a. ne (sym (same_entries v s.done [] (part_octets s.part) a.1.each s.each begun_nil (part_begun s.part s.ok) (append-nil (dol_spelling v) ∙ sym a.1.is ∙ s.is)).1);
+              none = λ v n a. ne (sym (same_entries v s.done [] (part_octets s.part) a.1.each s.each begun_nil
+                  (part_begun s.part s.ok) (append-nil (dol_spelling v) ∙ sym a.1.is ∙ s.is)).1);
               end = refl;
               begun = stands_begins b s;
             },
@@ -242,17 +348,20 @@ at_end b s =
 pub dol_verdict : (b : List ℕ) → AreOctets b → DolVerdict b
 dol_verdict b octets =
     record {
-      some = elim (scan (length b) b octets (omega arith)) [ inr stop ↦ inr stop | inl s ↦ at_end b (subst Stands (take_all (length b) b (omega arith)) s) ];
+      some = elim (scan (length b) b octets (omega arith))
+          [ inr stop ↦ inr stop | inl s ↦ at_end b (subst Stands (take_all (length b) b (omega arith)) s) ];
       one_value = λ v w n m p q. (one_dol v w b p.1 q.1, p.0 ∙ sym q.0);
       not_both = not_both whole IsDol IsDolReason b;
       one_refusal = one_refusal whole IsDol IsDolReason one_entry_reason b;
     }
 
 -- a list whose octets end within an entry is short
-pub short_entry : (b : List ℕ) (s : Stands b) → (part_octets s.part ≡ [] → ⊥) → Refuses whole IsDol IsDolReason b (Short (length b))
+pub short_entry : (b : List ℕ) (s : Stands b) → (part_octets s.part ≡ [] → ⊥)
+    → Refuses whole IsDol IsDolReason b (Short (length b))
 short_entry b s under =
     record {
-      none = λ v n a. under (sym (same_entries v s.done [] (part_octets s.part) a.1.each s.each begun_nil (part_begun s.part s.ok) (append-nil (dol_spelling v) ∙ sym a.1.is ∙ s.is)).1);
+      none = λ v n a. under (sym (same_entries v s.done [] (part_octets s.part) a.1.each s.each begun_nil
+          (part_begun s.part s.ok) (append-nil (dol_spelling v) ∙ sym a.1.is ∙ s.is)).1);
       end = refl;
       begun = stands_begins b s;
     }

@@ -29,10 +29,17 @@ pub record Grew (b : List ℕ) (k : Kept) (all : List Placed) : Type 0 where
   pub placed_is : placed tree ≡ all
 
 -- with an item after the innermost list, all is closed that can be
-pub closed_grew : (b : List ℕ) (k : Kept) (opened : List Opened) (list : Tree) (all : List Placed) → k.header ≡ [] → k.value_left ≡ 0 → ClosingSome b k.rooms opened list → placed_in 1 0 opened (placed_list list None) ≡ all → Grew b k all
+pub closed_grew : (b : List ℕ) (k : Kept) (opened : List Opened) (list : Tree) (all : List Placed) → k.header ≡ []
+    → k.value_left ≡ 0 → ClosingSome b k.rooms opened list → placed_in 1 0 opened (placed_list list None) ≡ all
+    → Grew b k all
 closed_grew b k opened list all none z h e =
     let c = all_closed h.closed b k.rooms opened list h.closing in
-    record { tree = record { opened = c.opened_now; list = c.list_now; value = None }; grown = closing_done b k c.opened_now c.list_now none z c.closing; placed_is = c.placed_same ∙ e }
+    record {
+      tree = record { opened = c.opened_now; list = c.list_now; value = None };
+      grown =
+          closing_done b k c.opened_now c.list_now none z c.closing;
+      placed_is = c.placed_same ∙ e;
+    }
 
 -- ---- an octet of a header
 
@@ -50,98 +57,154 @@ record Comes (b : List ℕ) (k : Kept) (x : ℕ) (next : Next) (opened : List Op
   pub at : AtHeader b k opened list
 
 -- the place after the header that is whole
-value_at : (b : List ℕ) (k : Kept) (x : ℕ) (o : ObjectHeader) (opened : List Opened) (list : Tree) → Comes b k x (next.Object o) opened list → value_place (inner_place 0 opened + length (spelling list)) o.tag o.form o.len ≡ k.count + 1
+value_at : (b : List ℕ) (k : Kept) (x : ℕ) (o : ObjectHeader) (opened : List Opened) (list : Tree)
+    → Comes b k x (next.Object o) opened list
+    → value_place (inner_place 0 opened + length (spelling list)) o.tag o.form o.len ≡ k.count + 1
 value_at b k x o opened list h =
-    omega (arith, inner_place-is opened k.rooms 1 0 (spelling list ++ k.header) b h.at.opened_yet, length-append (spelling list) k.header, ap length h.step.follows.2, length-append k.header (x ∷ []), h.taken.count)
+    omega (
+      arith,
+      inner_place-is opened k.rooms 1 0 (spelling list ++ k.header) b h.at.opened_yet,
+      length-append (spelling list) k.header,
+      ap length h.step.follows.2,
+      length-append k.header (x ∷ []),
+      h.taken.count,
+    )
 
 -- an object with this header, at the depth of the innermost list
-object_at : (b : List ℕ) (k : Kept) (x : ℕ) (o : ObjectHeader) (opened : List Opened) (list : Tree) → Comes b k x (next.Object o) opened list
-    → placed_at (1 + length opened) (inner_place 0 opened + length (spelling list)) o.tag o.form o.len ∷ [] ≡ placed_next (1 + length k.rooms) (k.count + 1) (next.Object o)
+object_at : (b : List ℕ) (k : Kept) (x : ℕ) (o : ObjectHeader) (opened : List Opened) (list : Tree)
+    → Comes b k x (next.Object o) opened list
+    → placed_at (1 + length opened) (inner_place 0 opened + length (spelling list)) o.tag o.form o.len ∷ [] ≡
+    placed_next (1 + length k.rooms) (k.count + 1) (next.Object o)
 object_at b k x o opened list h =
     let place = inner_place 0 opened + length (spelling list) in
-    ap (λ (d : ℕ). placed_at (1 + d) place o.tag o.form o.len ∷ []) (open_length opened k.rooms 1 (spelling list ++ k.header) b h.at.opened_yet)
-    ∙ ap (λ (p : ℕ). record { depth = 1 + length k.rooms; tag = o.tag; form = o.form; place = p; len = o.len } ∷ []) (value_at b k x o opened list h)
+    ap (λ (d : ℕ). placed_at (1 + d) place o.tag o.form o.len ∷ [])
+    (open_length opened k.rooms 1 (spelling list ++ k.header) b h.at.opened_yet)
+    ∙ ap (λ (p : ℕ). record { depth = 1 + length k.rooms; tag = o.tag; form = o.form; place = p; len = o.len } ∷ [])
+    (value_at b k x o opened list h)
 
 -- an empty object is placed after the list
-empty_placed : (o : ObjectHeader) (list item : Tree) (d place : ℕ) → ((constructed_bit o.tag ≡ 0) × (item ≡ Primitive o.tag o.form [] End)) ⊎ ((constructed_bit o.tag ≡ 1) × (item ≡ Constructed o.tag o.form End End)) → o.len ≡ 0
-    → placed_list (join list item) None d place ≡ placed_list list None d place ++ placed_at d (place + length (spelling list)) o.tag o.form o.len ∷ []
+empty_placed : (o : ObjectHeader) (list item : Tree) (d place : ℕ)
+    → ((constructed_bit o.tag ≡ 0) × (item ≡ Primitive o.tag o.form [] End))
+    ⊎ ((constructed_bit o.tag ≡ 1) × (item ≡ Constructed o.tag o.form End End)) → o.len ≡ 0
+    → placed_list (join list item) None d place ≡ placed_list list None d place
+    ++ placed_at d (place + length (spelling list)) o.tag o.form o.len ∷ []
 empty_placed o list item d place is e =
     let at = place + length (spelling list) in
-    let one : preorder d at item ≡ placed_at d at o.tag o.form 0 ∷ [] = elim is [ inl h ↦ ap (preorder d at) h.1 | inr h ↦ ap (preorder d at) h.1 ] in
-    append-nil (preorder d place (join list item)) ∙ preorder-join list item d place ∙ ap (λ (l : List Placed). preorder d place list ++ l) (one ∙ ap (λ (n : ℕ). placed_at d at o.tag o.form n ∷ []) (sym e))
+    let one : preorder d at item ≡ placed_at d at o.tag o.form 0 ∷ [] =
+    elim is [ inl h ↦ ap (preorder d at) h.1 | inr h ↦ ap (preorder d at) h.1 ] in
+    append-nil (preorder d place (join list item)) ∙ preorder-join list item d place
+    ∙ ap (λ (l : List Placed). preorder d place list ++ l)
+    (one ∙ ap (λ (n : ℕ). placed_at d at o.tag o.form n ∷ []) (sym e))
     ∙ ap (λ (l : List Placed). l ++ placed_at d at o.tag o.form o.len ∷ []) (sym (append-nil (preorder d place list)))
 
-filler_placed : (list : Tree) (d place : ℕ) → placed_list (join list (Filler End)) None d place ≡ placed_list list None d place
-filler_placed list d place = append-nil (preorder d place (join list (Filler End))) ∙ preorder-join list (Filler End) d place
+filler_placed : (list : Tree) (d place : ℕ)
+    → placed_list (join list (Filler End)) None d place ≡ placed_list list None d place
+filler_placed list d place = append-nil (preorder d place (join list (Filler End)))
+    ∙ preorder-join list (Filler End) d place
 
 -- so it is with each kind of object
 abbrev pub All : List Opened → Tree → List Placed
 All opened list = placed_in 1 0 opened (placed_list list None)
 
-empty_grew : (b : List ℕ) (k : Kept) (x : ℕ) (o : ObjectHeader) (item : Tree) (opened : List Opened) (list : Tree) → Comes b k x (next.Object o) opened list → o.len ≡ 0
-    → ((constructed_bit o.tag ≡ 0) × (item ≡ Primitive o.tag o.form [] End)) ⊎ ((constructed_bit o.tag ≡ 1) × (item ≡ Constructed o.tag o.form End End))
-    → Grew (b ++ x ∷ []) (after_next k (next.Object o)) (All opened list ++ placed_next (1 + length k.rooms) (k.count + 1) (next.Object o))
+empty_grew : (b : List ℕ) (k : Kept) (x : ℕ) (o : ObjectHeader) (item : Tree) (opened : List Opened) (list : Tree)
+    → Comes b k x (next.Object o) opened list → o.len ≡ 0
+    → ((constructed_bit o.tag ≡ 0) × (item ≡ Primitive o.tag o.form [] End))
+    ⊎ ((constructed_bit o.tag ≡ 1) × (item ≡ Constructed o.tag o.form End End))
+    → Grew (b ++ x ∷ []) (after_next k (next.Object o))
+    (All opened list ++ placed_next (1 + length k.rooms) (k.count + 1) (next.Object o))
 empty_grew b k x o item opened list h e is =
-    let all = placed-more opened 1 0 (placed_list (join list item) None) (placed_list list None) (placed_at (1 + length opened) (inner_place 0 opened + length (spelling list)) o.tag o.form o.len ∷ []) (empty_placed o list item (1 + length opened) (inner_place 0 opened) is e) in
-    subst (λ (l : Kept). Grew (b ++ x ∷ []) l (All opened list ++ placed_next (1 + length k.rooms) (k.count + 1) (next.Object o))) (empty_kept k o e)
-    (closed_grew (b ++ x ∷ []) (after_octet k []) opened (join list item) (All opened list ++ placed_next (1 + length k.rooms) (k.count + 1) (next.Object o)) refl refl (empty_grown b k x o item opened list h.taken h.zero_left h.step e is h.at)
+    let all = placed-more opened 1 0 (placed_list (join list item) None) (placed_list list None)
+    (placed_at (1 + length opened) (inner_place 0 opened + length (spelling list)) o.tag o.form o.len ∷ [])
+    (empty_placed o list item (1 + length opened) (inner_place 0 opened) is e) in
+    subst (λ (l : Kept). Grew (b ++ x ∷ []) l
+    (All opened list ++ placed_next (1 + length k.rooms) (k.count + 1) (next.Object o))) (empty_kept k o e)
+    (closed_grew (b ++ x ∷ []) (after_octet k []) opened (join list item)
+    (All opened list ++ placed_next (1 + length k.rooms) (k.count + 1) (next.Object o)) refl refl
+    (empty_grown b k x o item opened list h.taken h.zero_left h.step e is h.at)
     (all ∙ ap (λ (l : List Placed). All opened list ++ l) (object_at b k x o opened list h)))
 
-value_grew : (b : List ℕ) (k : Kept) (x : ℕ) (o : ObjectHeader) (opened : List Opened) (list : Tree) → Comes b k x (next.Object o) opened list → 0 < o.len → constructed_bit o.tag ≡ 0
-    → Grew (b ++ x ∷ []) (after_next k (next.Object o)) (All opened list ++ placed_next (1 + length k.rooms) (k.count + 1) (next.Object o))
+value_grew : (b : List ℕ) (k : Kept) (x : ℕ) (o : ObjectHeader) (opened : List Opened) (list : Tree)
+    → Comes b k x (next.Object o) opened list → 0 < o.len → constructed_bit o.tag ≡ 0
+    → Grew (b ++ x ∷ []) (after_next k (next.Object o))
+    (All opened list ++ placed_next (1 + length k.rooms) (k.count + 1) (next.Object o))
 value_grew b k x o opened list h some bit =
     let v : ValueSoFar = record { tag = o.tag; form = o.form; len = o.len; octets = [] } in
     let d = 1 + length opened in
     let place = inner_place 0 opened in
     let p = placed_at d (place + length (spelling list)) o.tag o.form o.len ∷ [] in
-    let all = placed-more opened 1 0 (placed_list list (Some v)) (placed_list list None) p (ap (λ (l : List Placed). l ++ p) (sym (append-nil (preorder d place list)))) in
+    let all = placed-more opened 1 0 (placed_list list (Some v)) (placed_list list None) p
+    (ap (λ (l : List Placed). l ++ p) (sym (append-nil (preorder d place list)))) in
     record {
       tree = record { opened = opened; list = list; value = Some v };
       grown = value_grown b k x o opened list h.taken h.zero_left h.step some bit h.at;
       placed_is = all ∙ ap (λ (l : List Placed). All opened list ++ l) (object_at b k x o opened list h);
     }
 
-open_grew : (b : List ℕ) (k : Kept) (x : ℕ) (o : ObjectHeader) (opened : List Opened) (list : Tree) → Comes b k x (next.Object o) opened list → 0 < o.len → constructed_bit o.tag ≡ 1
-    → Grew (b ++ x ∷ []) (after_next k (next.Object o)) (All opened list ++ placed_next (1 + length k.rooms) (k.count + 1) (next.Object o))
+open_grew : (b : List ℕ) (k : Kept) (x : ℕ) (o : ObjectHeader) (opened : List Opened) (list : Tree)
+    → Comes b k x (next.Object o) opened list → 0 < o.len → constructed_bit o.tag ≡ 1
+    → Grew (b ++ x ∷ []) (after_next k (next.Object o))
+    (All opened list ++ placed_next (1 + length k.rooms) (k.count + 1) (next.Object o))
 open_grew b k x o opened list h some bit =
     let q : Opened = record { before = list; tag = o.tag; form = o.form; len = o.len } in
     let d = 1 + length opened in
     let place = inner_place 0 opened in
     let p = placed_at d (place + length (spelling list)) o.tag o.form o.len ∷ [] in
-    let all = placed-more opened 1 0 (inside q (placed_list End None)) (placed_list list None) p (ap (λ (l : List Placed). l ++ p) (sym (append-nil (preorder d place list)))) in
+    let all = placed-more opened 1 0 (inside q (placed_list End None)) (placed_list list None) p
+    (ap (λ (l : List Placed). l ++ p) (sym (append-nil (preorder d place list)))) in
     record {
       tree = record { opened = opened ++ q ∷ []; list = End; value = None };
       grown = open_grown b k x o opened list h.taken h.zero_left h.step some bit h.at;
-      placed_is = placed-last opened 1 0 q (placed_list End None) ∙ all ∙ ap (λ (l : List Placed). All opened list ++ l) (object_at b k x o opened list h);
+      placed_is = placed-last opened 1 0 q (placed_list End None) ∙ all
+          ∙ ap (λ (l : List Placed). All opened list ++ l) (object_at b k x o opened list h);
     }
 
-next_grew : (b : List ℕ) (k : Kept) (x : ℕ) (next : Next) (opened : List Opened) (list : Tree) → Comes b k x next opened list → Grew (b ++ x ∷ []) (after_next k next) (All opened list ++ placed_next (1 + length k.rooms) (k.count + 1) next)
+next_grew : (b : List ℕ) (k : Kept) (x : ℕ) (next : Next) (opened : List Opened) (list : Tree)
+    → Comes b k x next opened list → Grew (b ++ x ∷ []) (after_next k next)
+    (All opened list ++ placed_next (1 + length k.rooms) (k.count + 1) next)
 next_grew b k x next.Filler opened list h =
-    closed_grew (b ++ x ∷ []) (after_next k next.Filler) opened (join list (Filler End)) (All opened list ++ []) refl refl (filler_grown b k x opened list h.taken h.zero_left h.step h.at)
-    (placed-same opened 1 0 (placed_list (join list (Filler End)) None) (placed_list list None) (filler_placed list (1 + length opened) (inner_place 0 opened)) ∙ sym (append-nil (All opened list)))
+    closed_grew (b ++ x ∷ []) (after_next k next.Filler) opened (join list (Filler End)) (All opened list ++ []) refl
+    refl (filler_grown b k x opened list h.taken h.zero_left h.step h.at)
+    (placed-same opened 1 0 (placed_list (join list (Filler End)) None) (placed_list list None)
+    (filler_placed list (1 + length opened) (inner_place 0 opened)) ∙ sym (append-nil (All opened list)))
 next_grew b k x (next.Under longer) opened list h =
-    record { tree = record { opened = opened; list = list; value = None }; grown = under_grown b k x longer opened list h.taken h.zero_left h.step h.at; placed_is = sym (append-nil (All opened list)) }
+    record {
+      tree = record { opened = opened; list = list; value = None };
+      grown =
+          under_grown b k x longer opened list h.taken h.zero_left h.step h.at;
+      placed_is =
+          sym (append-nil (All opened list));
+    }
 next_grew b k x (next.Object o) opened list h =
     elim (cases_lt 0 o.len) [
-      | inl some ↦ elim (bit_cases o.tag) [ inl bit ↦ value_grew b k x o opened list h some bit | inr bit ↦ open_grew b k x o opened list h some bit ]
+      | inl some ↦ elim (bit_cases o.tag)
+          [ inl bit ↦ value_grew b k x o opened list h some bit | inr bit ↦ open_grew b k x o opened list h some bit ]
       | inr none ↦
           elim (bit_cases o.tag) [
             | inl bit ↦ empty_grew b k x o (Primitive o.tag o.form [] End) opened list h (omega arith) (inl (bit, refl))
-            | inr bit ↦ empty_grew b k x o (Constructed o.tag o.form End End) opened list h (omega arith) (inr (bit, refl))
+            | inr bit ↦ empty_grew b k x o (Constructed o.tag o.form End End) opened list h (omega arith)
+                (inr (bit, refl))
           ]
     ]
 
-pub none_placed : (b : List ℕ) (k : Kept) (g : Grown) → HasGrown b k g → k.value_left ≡ 0 → placed g ≡ All g.opened g.list
-none_placed b k g h z = ap (λ (v : Option ValueSoFar). placed_in 1 0 g.opened (placed_list g.list v)) (none_under (1 + length k.rooms) g.value k.header k.value_left h.under z)
+pub none_placed : (b : List ℕ) (k : Kept) (g : Grown) → HasGrown b k g → k.value_left ≡ 0
+    → placed g ≡ All g.opened g.list
+none_placed b k g h z = ap (λ (v : Option ValueSoFar). placed_in 1 0 g.opened (placed_list g.list v))
+    (none_under (1 + length k.rooms) g.value k.header k.value_left h.under z)
 
-pub octet_grew : (b : List ℕ) (k : Kept) (x : ℕ) (next : Next) (g : Grown) → HasTaken b k → k.value_left ≡ 0 → IsStep k x next → HasGrown b k g → Grew (b ++ x ∷ []) (after_next k next) (placed g ++ placed_next (1 + length k.rooms) (k.count + 1) next)
+pub octet_grew : (b : List ℕ) (k : Kept) (x : ℕ) (next : Next) (g : Grown) → HasTaken b k → k.value_left ≡ 0
+    → IsStep k x next → HasGrown b k g → Grew (b ++ x ∷ []) (after_next k next)
+    (placed g ++ placed_next (1 + length k.rooms) (k.count + 1) next)
 octet_grew b k x next g taken z step h =
-    subst (λ (l : List Placed). Grew (b ++ x ∷ []) (after_next k next) (l ++ placed_next (1 + length k.rooms) (k.count + 1) next)) (sym (none_placed b k g h z))
-    (next_grew b k x next g.opened g.list (record { taken = taken; zero_left = z; step = step; at = at_header b k g h z }))
+    subst (λ (l : List Placed). Grew (b ++ x ∷ []) (after_next k next)
+    (l ++ placed_next (1 + length k.rooms) (k.count + 1) next)) (sym (none_placed b k g h z))
+    (next_grew b k x next g.opened g.list
+    (record { taken = taken; zero_left = z; step = step; at = at_header b k g h z }))
 
 -- ---- a run of a value
 
-run_of : (b : List ℕ) (k : Kept) (m : ℕ) (add : List ℕ) (opened : List Opened) (list : Tree) (value : Option ValueSoFar) → HasTaken b k → length add ≡ m → AreOctets add → 0 < m → m ≤ k.value_left → HasGrown b k (record { opened = opened; list = list; value = value })
+run_of : (b : List ℕ) (k : Kept) (m : ℕ) (add : List ℕ) (opened : List Opened) (list : Tree) (value : Option ValueSoFar)
+    → HasTaken b k → length add ≡ m → AreOctets add → 0 < m → m ≤ k.value_left
+    → HasGrown b k (record { opened = opened; list = list; value = value })
     → Grew (b ++ add) (after_run k m) (placed_in 1 0 opened (placed_list list value))
 run_of b k m add opened list None taken len octets some le h = absurd (omega (arith, h.under))
 run_of b k m add opened list (Some v) taken len octets some le h =
@@ -149,7 +212,12 @@ run_of b k m add opened list (Some v) taken len octets some le h =
     let now = v.octets ++ add in
     elim (cases_lt m k.value_left) [
       | inl lt ↦ record {
-        tree = record { opened = opened; list = list; value = Some (record { tag = v.tag; form = v.form; len = v.len; octets = now }) };
+        tree = record {
+          opened = opened;
+          list = list;
+          value =
+              Some (record { tag = v.tag; form = v.form; len = v.len; octets = now });
+        };
         grown = part_grown b k m add opened list v fits len octets lt h;
         placed_is = refl;
       }
@@ -159,10 +227,15 @@ run_of b k m add opened list (Some v) taken len octets some le h =
           let d = 1 + length opened in
           let place = inner_place 0 opened in
           let at = place + length (spelling list) in
-          let same : placed_list (join list item) None d place ≡ placed_list list (Some v) d place = append-nil (preorder d place (join list item)) ∙ preorder-join list item d place ∙ ap (λ (n : ℕ). preorder d place list ++ placed_at d at v.tag v.form n ∷ []) full in
-          closed_grew (b ++ add) (after_run k m) opened (join list item) (placed_in 1 0 opened (placed_list list (Some v))) h.under.0 (omega arith) (whole_grown b k m add opened list v fits len octets (omega arith) h)
+          let same : placed_list (join list item) None d place ≡ placed_list list (Some v) d place =
+          append-nil (preorder d place (join list item)) ∙ preorder-join list item d place
+          ∙ ap (λ (n : ℕ). preorder d place list ++ placed_at d at v.tag v.form n ∷ []) full in
+          closed_grew (b ++ add) (after_run k m) opened (join list item)
+          (placed_in 1 0 opened (placed_list list (Some v))) h.under.0 (omega arith)
+          (whole_grown b k m add opened list v fits len octets (omega arith) h)
           (placed-same opened 1 0 (placed_list (join list item) None) (placed_list list (Some v)) same)
     ]
 
-pub run_grew : (b : List ℕ) (k : Kept) (m : ℕ) (add : List ℕ) (g : Grown) → HasTaken b k → length add ≡ m → AreOctets add → 0 < m → m ≤ k.value_left → HasGrown b k g → Grew (b ++ add) (after_run k m) (placed g)
+pub run_grew : (b : List ℕ) (k : Kept) (m : ℕ) (add : List ℕ) (g : Grown) → HasTaken b k → length add ≡ m
+    → AreOctets add → 0 < m → m ≤ k.value_left → HasGrown b k g → Grew (b ++ add) (after_run k m) (placed g)
 run_grew b k m add g taken len octets some le h = run_of b k m add g.opened g.list g.value taken len octets some le h

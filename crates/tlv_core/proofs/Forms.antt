@@ -84,7 +84,8 @@ passed n f other le = ap (λ (b : Bool). cond b f other) (le-ltb n (capacity f) 
 abbrev IsBest : ℕ → Form → Form → Type 0
 IsBest n form f = (n < capacity f) × (further f ≤ further form)
 
-best_four : (form : Form) (n : ℕ) → n < capacity form → capacity Three ≤ n → IsBest n form (cond (ltb n (capacity Four)) Four Five)
+best_four : (form : Form) (n : ℕ) → n < capacity form → capacity Three ≤ n
+    → IsBest n form (cond (ltb n (capacity Four)) Four Five)
 best_four form n lt le =
     elim (cases_lt n (capacity Four)) [
       | inl h ↦ subst (IsBest n form) (sym (chosen n Four Five h)) (h, above Three form n le lt)
@@ -94,7 +95,8 @@ best_four form n lt le =
           subst (IsBest n form) (sym (passed n Four Five h)) (room, most)
     ]
 
-best_three : (form : Form) (n : ℕ) → n < capacity form → capacity Two ≤ n → IsBest n form (cond (ltb n (capacity Three)) Three (cond (ltb n (capacity Four)) Four Five))
+best_three : (form : Form) (n : ℕ) → n < capacity form → capacity Two ≤ n
+    → IsBest n form (cond (ltb n (capacity Three)) Three (cond (ltb n (capacity Four)) Four Five))
 best_three form n lt le =
     let other : Form = cond (ltb n (capacity Four)) Four Five in
     elim (cases_lt n (capacity Three)) [
@@ -102,7 +104,9 @@ best_three form n lt le =
       | inr h ↦ subst (IsBest n form) (sym (passed n Three other h)) (best_four form n lt h)
     ]
 
-best_two : (form : Form) (n : ℕ) → n < capacity form → capacity One ≤ n → IsBest n form (cond (ltb n (capacity Two)) Two (cond (ltb n (capacity Three)) Three (cond (ltb n (capacity Four)) Four Five)))
+best_two : (form : Form) (n : ℕ) → n < capacity form → capacity One ≤ n
+    → IsBest n form (cond (ltb n (capacity Two)) Two
+    (cond (ltb n (capacity Three)) Three (cond (ltb n (capacity Four)) Four Five)))
 best_two form n lt le =
     let other : Form = cond (ltb n (capacity Three)) Three (cond (ltb n (capacity Four)) Four Five) in
     elim (cases_lt n (capacity Two)) [
@@ -111,9 +115,11 @@ best_two form n lt le =
     ]
 
 -- the shortest form can say n, and no form that can has fewer octets
-pub best : (form : Form) (n : ℕ) → n < capacity form → (n < capacity (shortest n)) × (further (shortest n) ≤ further form)
+pub best : (form : Form) (n : ℕ) → n < capacity form → (n < capacity (shortest n))
+    × (further (shortest n) ≤ further form)
 best form n lt =
-    let other : Form = cond (ltb n (capacity Two)) Two (cond (ltb n (capacity Three)) Three (cond (ltb n (capacity Four)) Four Five)) in
+    let other : Form = cond (ltb n (capacity Two)) Two
+    (cond (ltb n (capacity Three)) Three (cond (ltb n (capacity Four)) Four Five)) in
     elim (cases_lt n (capacity One)) [
       | inl h ↦ subst (IsBest n form) (sym (chosen n One other h)) (h, omega arith)
       | inr h ↦ subst (IsBest n form) (sym (passed n One other h)) (best_two form n lt h)
@@ -128,5 +134,7 @@ octets-field form n lt =
     elim (form_cases form) [
       | inl one ↦ subst AreOctets (sym (field-one form n one)) (octets-one n (omega (arith, capacity-one form one)))
       | inr long ↦
-          subst AreOctets (sym (long.field n)) (octets-cons (128 + further form) (high_first (further form) n) (omega (arith, last_form form)) (octets-high_first (further form) n (omega (arith, long.capacity_is))))
+          subst AreOctets (sym (long.field n))
+          (octets-cons (128 + further form) (high_first (further form) n) (omega (arith, last_form form))
+          (octets-high_first (further form) n (omega (arith, long.capacity_is))))
     ]

@@ -11,17 +11,21 @@ use Rattle.tlv_core.specs.declared.form.Form.{Form}
 use Rattle.tlv_core.specs.declared.forest.Improper.{Improper}
 use Rattle.tlv_core.specs.declared.forest.Improper.TheVariants as improper
 
-none_some : (Is : ℕ → ℕ → List ℕ → Form → ℕ → Type 0) → ((d bit : ℕ) (tag : List ℕ) (form : Form) (n : ℕ) → IsObject d bit tag form n → Is d bit tag form n → ⊥) → (d : ℕ) (t : Tree) → IsProper d t → SomeObject Is d t → ⊥
+none_some : (Is : ℕ → ℕ → List ℕ → Form → ℕ → Type 0)
+    → ((d bit : ℕ) (tag : List ℕ) (form : Form) (n : ℕ) → IsObject d bit tag form n → Is d bit tag form n → ⊥)
+    → (d : ℕ) (t : Tree) → IsProper d t → SomeObject Is d t → ⊥
 none_some Is apart d End h s = s
 none_some Is apart d (Filler rest) h s = none_some Is apart d rest h s
-none_some Is apart d (Primitive tag form value rest) h s = elim s [ inl a ↦ apart d 0 tag form (length value) h.0 a | inr a ↦ none_some Is apart d rest h.2 a ]
+none_some Is apart d (Primitive tag form value rest) h s =
+    elim s [ inl a ↦ apart d 0 tag form (length value) h.0 a | inr a ↦ none_some Is apart d rest h.2 a ]
 none_some Is apart d (Constructed tag form nodes rest) h s =
     elim s [
       | inl a ↦ apart d 1 tag form (length (spelling nodes)) h.0 a
       | inr a ↦ elim a [ inl b ↦ none_some Is apart (d + 1) nodes h.1 b | inr b ↦ none_some Is apart d rest h.2 b ]
     ]
 
-object_of : (d bit : ℕ) (tag : List ℕ) (form : Form) (n : ℕ) → IsTag tag → (deepest < d → ⊥) → (constructed_bit tag ≢ bit → ⊥) → (capacity form ≤ n → ⊥) → IsObject d bit tag form n
+object_of : (d bit : ℕ) (tag : List ℕ) (form : Form) (n : ℕ) → IsTag tag → (deepest < d → ⊥)
+    → (constructed_bit tag ≢ bit → ⊥) → (capacity form ≤ n → ⊥) → IsObject d bit tag form n
 object_of d bit tag form n h deep other long =
     record {
       depth = elim (cases_lt deepest d) [ inl lt ↦ absurd (deep lt) | inr le ↦ le ];
@@ -30,7 +34,8 @@ object_of d bit tag form n h deep other long =
       fits = elim (cases_lt n (capacity form)) [ inl lt ↦ lt | inr le ↦ absurd (long le) ];
     }
 
-proper_of : (d : ℕ) (t : Tree) → AreObjects t → (SomeObject IsDeep d t → ⊥) → (SomeObject IsOtherKind d t → ⊥) → (SomeObject IsUnfit d t → ⊥) → IsProper d t
+proper_of : (d : ℕ) (t : Tree) → AreObjects t → (SomeObject IsDeep d t → ⊥) → (SomeObject IsOtherKind d t → ⊥)
+    → (SomeObject IsUnfit d t → ⊥) → IsProper d t
 proper_of d End h a b c = tt
 proper_of d (Filler rest) h a b c = proper_of d rest h a b c
 proper_of d (Primitive tag form value rest) h a b c = (
@@ -66,17 +71,21 @@ pub first_depth : (max : ℕ) (t : Tree) → SomeObject IsDeep 1 t → IsFirstIm
 unfolding IsFirst
 first_depth max t h = inl (h, refl)
 
-pub first_tag : (max : ℕ) (t : Tree) → (SomeObject IsDeep 1 t → ⊥) → SomeObject IsOtherKind 1 t → IsFirstImproper max t improper.Tag
+pub first_tag : (max : ℕ) (t : Tree) → (SomeObject IsDeep 1 t → ⊥) → SomeObject IsOtherKind 1 t
+    → IsFirstImproper max t improper.Tag
 unfolding IsFirst
 first_tag max t a h = inr (a, inl (h, refl))
 
-pub first_form : (max : ℕ) (t : Tree) → (SomeObject IsDeep 1 t → ⊥) → (SomeObject IsOtherKind 1 t → ⊥) → SomeObject IsUnfit 1 t → IsFirstImproper max t improper.Form
+pub first_form : (max : ℕ) (t : Tree) → (SomeObject IsDeep 1 t → ⊥) → (SomeObject IsOtherKind 1 t → ⊥)
+    → SomeObject IsUnfit 1 t → IsFirstImproper max t improper.Form
 unfolding IsFirst
 first_form max t a b h = inr (a, inr (b, inl (h, refl)))
 
-pub first_size : (max : ℕ) (t : Tree) → (SomeObject IsDeep 1 t → ⊥) → (SomeObject IsOtherKind 1 t → ⊥) → (SomeObject IsUnfit 1 t → ⊥) → max < length (spelling t) → IsFirstImproper max t improper.Size
+pub first_size : (max : ℕ) (t : Tree) → (SomeObject IsDeep 1 t → ⊥) → (SomeObject IsOtherKind 1 t → ⊥)
+    → (SomeObject IsUnfit 1 t → ⊥) → max < length (spelling t) → IsFirstImproper max t improper.Size
 unfolding IsFirst
 first_size max t a b c h = inr (a, inr (b, inr (c, inl (h, refl))))
 
-pub none_improper : (max : ℕ) (t : Tree) → AreObjects t → (SomeObject IsDeep 1 t → ⊥) → (SomeObject IsOtherKind 1 t → ⊥) → (SomeObject IsUnfit 1 t → ⊥) → length (spelling t) ≤ max → HasSpelling max t
+pub none_improper : (max : ℕ) (t : Tree) → AreObjects t → (SomeObject IsDeep 1 t → ⊥) → (SomeObject IsOtherKind 1 t → ⊥)
+    → (SomeObject IsUnfit 1 t → ⊥) → length (spelling t) ≤ max → HasSpelling max t
 none_improper max t h a b c le = record { proper = proper_of 1 t h a b c; is = refl; size = le }

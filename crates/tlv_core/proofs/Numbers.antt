@@ -34,14 +34,17 @@ length-high_first (suc k) n = ap suc (length-high_first k (n % 256 ^ k))
 pub number-high_first : (k n : ℕ) → n < 256 ^ k → number_of (high_first k n) ≡ n
 number-high_first zero n lt = omega arith
 number-high_first (suc k) n lt =
-    let rest : number_of (high_first k (n % 256 ^ k)) ≡ n % 256 ^ k = number-high_first k (n % 256 ^ k) (mod_below n (256 ^ k) (pow256 k)) in
+    let rest : number_of (high_first k (n % 256 ^ k)) ≡ n % 256 ^ k =
+    number-high_first k (n % 256 ^ k) (mod_below n (256 ^ k) (pow256 k)) in
     ap (λ (m : ℕ). n / 256 ^ k * 256 ^ m + number_of (high_first k (n % 256 ^ k))) (length-high_first k (n % 256 ^ k))
     ∙ ap (λ (m : ℕ). n / 256 ^ k * 256 ^ k + m) rest ∙ div-add-mod' n (256 ^ k)
 
 pub octets-high_first : (k n : ℕ) → n < 256 ^ k → AreOctets (high_first k n)
 octets-high_first zero n lt = octets_nil
 octets-high_first (suc k) n lt =
-    octets-cons (n / 256 ^ k) (high_first k (n % 256 ^ k)) (div_below n (256 ^ k) 256 (pow256 k) (omega (arith, pow_suc k))) (octets-high_first k (n % 256 ^ k) (mod_below n (256 ^ k) (pow256 k)))
+    octets-cons (n / 256 ^ k) (high_first k (n % 256 ^ k))
+    (div_below n (256 ^ k) 256 (pow256 k) (omega (arith, pow_suc k)))
+    (octets-high_first k (n % 256 ^ k) (mod_below n (256 ^ k) (pow256 k)))
 
 pub number_lt : (b : List ℕ) → AreOctets b → number_of b < 256 ^ length b
 number_lt [] h = omega arith
@@ -54,10 +57,13 @@ pub high_first-number : (b : List ℕ) → AreOctets b → high_first (length b)
 high_first-number [] h = refl
 high_first-number (x ∷ b) h =
     let rest : number_of b < 256 ^ length b = number_lt b (octets_tail x b h) in
-    let high : (x * 256 ^ length b + number_of b) / 256 ^ length b ≡ x = div-mul-add x (256 ^ length b) (number_of b) rest in
-    let low : (x * 256 ^ length b + number_of b) % 256 ^ length b ≡ number_of b = mod-mul-add x (256 ^ length b) (number_of b) rest in
+    let high : (x * 256 ^ length b + number_of b) / 256 ^ length b ≡ x =
+    div-mul-add x (256 ^ length b) (number_of b) rest in
+    let low : (x * 256 ^ length b + number_of b) % 256 ^ length b ≡ number_of b =
+    mod-mul-add x (256 ^ length b) (number_of b) rest in
     ap (λ (y : ℕ). y ∷ high_first (length b) ((x * 256 ^ length b + number_of b) % 256 ^ length b)) high
-    ∙ ap (λ (y : ℕ). x ∷ high_first (length b) y) low ∙ ap (λ (l : List ℕ). x ∷ l) (high_first-number b (octets_tail x b h))
+    ∙ ap (λ (y : ℕ). x ∷ high_first (length b) y) low
+    ∙ ap (λ (l : List ℕ). x ∷ l) (high_first-number b (octets_tail x b h))
 
 pub pow_up : (j k : ℕ) → j ≤ k → 256 ^ j ≤ 256 ^ k
 pow_up zero k le = omega (arith, pow256 k)

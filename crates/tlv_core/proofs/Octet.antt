@@ -20,7 +20,8 @@ pub first_second : (x y : ℕ) → IsLong x → y % 128 ≡ 0 → IsFirst octet_
 unfolding IsFirst
 first_second x y long zeros = inl ((long, zeros), refl)
 
-pub first_third : (x y z : ℕ) → IsLong x → 128 ≤ y → 128 ≤ z → IsFirst octet_reasons (IsWrong 0 0 (x ∷ y ∷ []) z) TagLong
+pub first_third : (x y z : ℕ) → IsLong x → 128 ≤ y → 128 ≤ z
+    → IsFirst octet_reasons (IsWrong 0 0 (x ∷ y ∷ []) z) TagLong
 unfolding IsFirst
 first_third x y z long more third = inr (λ w. w.0, inl (((long, more), third), refl))
 
@@ -36,9 +37,13 @@ tag_not_third (x ∷ []) h w = w
 tag_not_third (x ∷ y ∷ []) h w = omega (arith, h.3, w.1)
 tag_not_third (x ∷ y ∷ z ∷ tag) h w = w
 
-pub first_length : (tag : List ℕ) (x : ℕ) → IsTag tag → (BeginsLength x → ⊥) → IsFirst octet_reasons (IsWrong 0 0 tag x) LengthForm
+pub first_length : (tag : List ℕ) (x : ℕ) → IsTag tag → (BeginsLength x → ⊥)
+    → IsFirst octet_reasons (IsWrong 0 0 tag x) LengthForm
 unfolding IsFirst
-first_length tag x h none = inr (λ w. tag_not_second tag h w.0, inr (λ w. tag_not_third tag h w.0, inl ((h, none), refl)))
+first_length tag x h none = inr (
+  λ w. tag_not_second tag h w.0,
+  inr (λ w. tag_not_third tag h w.0, inl ((h, none), refl)),
+)
 
 -- ---- a length of several octets
 
@@ -51,11 +56,14 @@ mul-lt a b c h pos = grind arith
 
 -- one octet more
 pub number_next : (read number x : ℕ) → number < 256 ^ read → x < 256 → number * 256 + x < 256 ^ (read + 1)
-number_next read number x h lt = let e : read + 1 ≡ suc read = omega arith in omega (arith, pow_suc read, ap (λ (k : ℕ). 256 ^ k) e)
+number_next read number x h lt = let e : read + 1 ≡ suc read =
+    omega arith in omega (arith, pow_suc read, ap (λ (k : ℕ). 256 ^ k) e)
 
 -- the octets of a number, and one octet more
-high_first-suc : (read number x : ℕ) → number < 256 ^ read → x < 256 → high_first (suc read) (number * 256 + x) ≡ high_first read number ++ x ∷ []
-high_first-suc zero number x h lt = let none : number ≡ 0 = omega arith in let is : (number * 256 + x) / 1 ≡ x = omega arith in ap (λ (y : ℕ). y ∷ []) is
+high_first-suc : (read number x : ℕ) → number < 256 ^ read → x < 256
+    → high_first (suc read) (number * 256 + x) ≡ high_first read number ++ x ∷ []
+high_first-suc zero number x h lt = let none : number ≡ 0 = omega arith in let is : (number * 256 + x) / 1 ≡ x =
+    omega arith in ap (λ (y : ℕ). y ∷ []) is
 high_first-suc (suc k) number x h lt =
     let p = 256 ^ k in
     let q = number / p in
@@ -66,22 +74,31 @@ high_first-suc (suc k) number x h lt =
     let low : r * 256 + x < 256 ^ suc k = omega (arith, pow_suc k) in
     let scaled : q * 256 ^ suc k ≡ q * (p * 256) = ap (λ (z : ℕ). q * z) (pow_suc k) in
     let all : number * 256 + x ≡ q * 256 ^ suc k + (r * 256 + x) = omega (arith, scaled, parts) in
-    let high : (number * 256 + x) / 256 ^ suc k ≡ q = ap (λ (n : ℕ). n / 256 ^ suc k) all ∙ div-mul-add q (256 ^ suc k) (r * 256 + x) low in
-    let rest : (number * 256 + x) % 256 ^ suc k ≡ r * 256 + x = ap (λ (n : ℕ). n % 256 ^ suc k) all ∙ mod-mul-add q (256 ^ suc k) (r * 256 + x) low in
-    ap (λ (y : ℕ). y ∷ high_first (suc k) ((number * 256 + x) % 256 ^ suc k)) high ∙ ap (λ (n : ℕ). q ∷ high_first (suc k) n) rest ∙ ap (λ (l : List ℕ). q ∷ l) (high_first-suc k r x small lt)
+    let high : (number * 256 + x) / 256 ^ suc k ≡ q =
+    ap (λ (n : ℕ). n / 256 ^ suc k) all ∙ div-mul-add q (256 ^ suc k) (r * 256 + x) low in
+    let rest : (number * 256 + x) % 256 ^ suc k ≡ r * 256 + x =
+    ap (λ (n : ℕ). n % 256 ^ suc k) all ∙ mod-mul-add q (256 ^ suc k) (r * 256 + x) low in
+    ap (λ (y : ℕ). y ∷ high_first (suc k) ((number * 256 + x) % 256 ^ suc k)) high
+    ∙ ap (λ (n : ℕ). q ∷ high_first (suc k) n) rest ∙ ap (λ (l : List ℕ). q ∷ l) (high_first-suc k r x small lt)
 
-pub high_first-next : (read number x : ℕ) → number < 256 ^ read → x < 256 → high_first (read + 1) (number * 256 + x) ≡ high_first read number ++ x ∷ []
-high_first-next read number x h lt = let e : read + 1 ≡ suc read = omega arith in ap (λ (k : ℕ). high_first k (number * 256 + x)) e ∙ high_first-suc read number x h lt
+pub high_first-next : (read number x : ℕ) → number < 256 ^ read → x < 256
+    → high_first (read + 1) (number * 256 + x) ≡ high_first read number ++ x ∷ []
+high_first-next read number x h lt = let e : read + 1 ≡ suc read =
+    omega arith in ap (λ (k : ℕ). high_first k (number * 256 + x)) e ∙ high_first-suc read number x h lt
 
 -- a part of a length field, and one octet more
 pub field_next : (tag : List ℕ) (form : Form) (read number x : ℕ) → number < 256 ^ read → x < 256
-    → tag ++ (128 + further form) ∷ high_first (read + 1) (number * 256 + x) ≡ (tag ++ (128 + further form) ∷ high_first read number) ++ x ∷ []
+    → tag ++ (128 + further form) ∷ high_first (read + 1) (number * 256 + x) ≡
+    (tag ++ (128 + further form) ∷ high_first read number) ++ x ∷ []
 field_next tag form read number x h lt =
-    ap (λ (l : List ℕ). tag ++ (128 + further form) ∷ l) (high_first-next read number x h lt) ∙ sym (append_assoc tag ((128 + further form) ∷ high_first read number) (x ∷ []))
+    ap (λ (l : List ℕ). tag ++ (128 + further form) ∷ l) (high_first-next read number x h lt)
+    ∙ sym (append_assoc tag ((128 + further form) ∷ high_first read number) (x ∷ []))
 
 -- the last octet of a length field
-pub field_last : (tag : List ℕ) (form : Form) (read number x : ℕ) → read + 1 ≡ further form → number < 256 ^ read → x < 256
-    → (number * 256 + x < capacity form) × (header_of tag form (number * 256 + x) ≡ (tag ++ (128 + further form) ∷ high_first read number) ++ x ∷ [])
+pub field_last : (tag : List ℕ) (form : Form) (read number x : ℕ) → read + 1 ≡ further form → number < 256 ^ read
+    → x < 256
+    → (number * 256 + x < capacity form) ×
+    (header_of tag form (number * 256 + x) ≡ (tag ++ (128 + further form) ∷ high_first read number) ++ x ∷ [])
 field_last tag form read number x last h lt =
     elim (form_cases form) [
       | inl one ↦ absurd (omega (arith, ap further one))
@@ -89,7 +106,9 @@ field_last tag form read number x last h lt =
           let below : number * 256 + x < 256 ^ (read + 1) = number_next read number x h lt in
           let power : 256 ^ (read + 1) ≡ 256 ^ further form = ap (λ (k : ℕ). 256 ^ k) last in (
             omega (arith, below, power, long.capacity_is),
-            ap (λ (l : List ℕ). tag ++ l) (long.field (number * 256 + x)) ∙ ap (λ (k : ℕ). tag ++ (128 + further form) ∷ high_first k (number * 256 + x)) (sym last) ∙ field_next tag form read number x h lt,
+            ap (λ (l : List ℕ). tag ++ l) (long.field (number * 256 + x))
+                ∙ ap (λ (k : ℕ). tag ++ (128 + further form) ∷ high_first k (number * 256 + x)) (sym last)
+                ∙ field_next tag form read number x h lt,
           )
     ]
 

@@ -24,11 +24,13 @@ use Rattle.tlv_core.proofs.Stands.{need-tag, of_zeros, complete_under, under_oct
 use Rattle.tlv_core.proofs.Taking.{under_of, octets_under, well_under}
 use Rattle.tlv_core.proofs.Advances.{begun_of}
 
-pub first_deep : (level room : ℕ) (h : List ℕ) (x : ℕ) → IsWrong level room h x TooDeep → IsFirst tlv_reasons (IsWrong level room h x) TooDeep
+pub first_deep : (level room : ℕ) (h : List ℕ) (x : ℕ) → IsWrong level room h x TooDeep
+    → IsFirst tlv_reasons (IsWrong level room h x) TooDeep
 unfolding IsFirst
 first_deep level room h x w = inl (w, refl)
 
-pub first_octet : (level room : ℕ) (h : List ℕ) (x : ℕ) (r : TlvReason) → (IsWrong level room h x TooDeep → ⊥) → IsFirst octet_reasons (IsWrong 0 0 h x) r → IsFirst tlv_reasons (IsWrong level room h x) r
+pub first_octet : (level room : ℕ) (h : List ℕ) (x : ℕ) (r : TlvReason) → (IsWrong level room h x TooDeep → ⊥)
+    → IsFirst octet_reasons (IsWrong 0 0 h x) r → IsFirst tlv_reasons (IsWrong level room h x) r
 unfolding IsFirst
 first_octet level room h x r deep first =
     inr (
@@ -48,19 +50,44 @@ first_octet level room h x r deep first =
 -- ---- what makes a header meets none of the lines on octets
 
 -- a list begins with the octets up to this one
-bottom_of : (h : List ℕ) (x : ℕ) (next : Next) → IsNext h x next → (h ≡ [] → x ≡ 0 → ⊥) → (more : List ℕ) × Bottom 1 (1 + length more) h x more
+bottom_of : (h : List ℕ) (x : ℕ) (next : Next) → IsNext h x next → (h ≡ [] → x ≡ 0 → ⊥) → (more : List ℕ)
+    × Bottom 1 (1 + length more) h x more
 bottom_of h x next.Filler is some = absurd (some is.0 is.1)
 bottom_of h x (next.Under longer) is some =
     let c = complete_under 1 (under_of longer) (well_under longer 1 is.0 (omega arith)) in
     let more = repair (under_of longer) ++ zeros c.count in
     let spelled : spelling c.list ≡ h ++ x ∷ more =
-    c.is ∙ append_assoc (under_octets (under_of longer)) (repair (under_of longer)) (zeros c.count) ∙ ap (λ (l : List ℕ). l ++ more) (octets_under longer ∙ is.1) ∙ append_assoc h (x ∷ []) more in
-    (more, record { list = c.list; more = more; proper = c.proper; is = spelled; size = omega arith; after = []; all_is = sym (append-nil more) })
+    c.is ∙ append_assoc (under_octets (under_of longer)) (repair (under_of longer)) (zeros c.count)
+    ∙ ap (λ (l : List ℕ). l ++ more) (octets_under longer ∙ is.1) ∙ append_assoc h (x ∷ []) more in (
+      more,
+      record {
+        list = c.list;
+        more = more;
+        proper = c.proper;
+        is = spelled;
+        size = omega arith;
+        after =
+            [];
+        all_is = sym (append-nil more);
+      },
+    )
 bottom_of h x (next.Object o) is some =
     let z = of_zeros 1 o.tag o.form o.len (omega arith) is.0 is.1 in
     let more = zeros o.len in
-    let spelled : spelling z.list ≡ h ++ x ∷ more = z.is ∙ ap (λ (l : List ℕ). l ++ more) is.2 ∙ append_assoc h (x ∷ []) more in
-    (more, record { list = z.list; more = more; proper = z.proper; is = spelled; size = omega arith; after = []; all_is = sym (append-nil more) })
+    let spelled : spelling z.list ≡ h ++ x ∷ more =
+    z.is ∙ ap (λ (l : List ℕ). l ++ more) is.2 ∙ append_assoc h (x ∷ []) more in (
+      more,
+      record {
+        list = z.list;
+        more = more;
+        proper = z.proper;
+        is = spelled;
+        size = omega arith;
+        after =
+            [];
+        all_is = sym (append-nil more);
+      },
+    )
 
 pub record MeetsNoOctet (h : List ℕ) (x : ℕ) : Type 0 where
   pub second : IsWrong 0 0 h x TagSecond → ⊥
@@ -68,7 +95,12 @@ pub record MeetsNoOctet (h : List ℕ) (x : ℕ) : Type 0 where
   pub length_form : IsWrong 0 0 h x LengthForm → ⊥
 
 empty_none : (h : List ℕ) (x : ℕ) → h ≡ [] → MeetsNoOctet h x
-empty_none h x e = record { second = λ w. subst AwaitsSecond e w.0; third = λ w. subst AwaitsThird e w.0; length_form = λ w. subst IsTag e w.0 }
+empty_none h x e = record {
+  second = λ w. subst AwaitsSecond e w.0;
+  third = λ w. subst AwaitsThird e w.0;
+  length_form =
+      λ w. subst IsTag e w.0;
+}
 
 next_none : (h : List ℕ) (x : ℕ) (next : Next) → IsBegun h → IsNext h x next → (h ≡ [] → x ≡ 0 → ⊥) → MeetsNoOctet h x
 next_none h x next begun is some =
@@ -79,20 +111,31 @@ next_none h x next begun is some =
       length_form = wrong 1 0 (1 + length b.0) h x LengthForm refl b.1 begun;
     }
 
-pub next_right : (before : Header) (x : ℕ) (next : Next) → IsWell before → IsNext (header_octets before) x next → MeetsNoOctet (header_octets before) x
+pub next_right : (before : Header) (x : ℕ) (next : Next) → IsWell before → IsNext (header_octets before) x next
+    → MeetsNoOctet (header_octets before) x
 next_right before x next.Filler well is = empty_none (header_octets before) x is.0
 next_right header.Nothing x (next.Under longer) well is = empty_none [] x refl
 next_right header.Nothing x (next.Object o) well is = empty_none [] x refl
-next_right (header.First a) x (next.Under longer) well is = next_none (a ∷ []) x (next.Under longer) (begun_of (header.First a) well) is (λ e z. cc)
-next_right (header.First a) x (next.Object o) well is = next_none (a ∷ []) x (next.Object o) (begun_of (header.First a) well) is (λ e z. cc)
-next_right (header.Second a b) x (next.Under longer) well is = next_none (a ∷ b ∷ []) x (next.Under longer) (begun_of (header.Second a b) well) is (λ e z. cc)
-next_right (header.Second a b) x (next.Object o) well is = next_none (a ∷ b ∷ []) x (next.Object o) (begun_of (header.Second a b) well) is (λ e z. cc)
-next_right (header.Tagged g) x (next.Under longer) well is = next_none g x (next.Under longer) (begun_of (header.Tagged g) well) is (λ e z. subst IsTag e well)
-next_right (header.Tagged g) x (next.Object o) well is = next_none g x (next.Object o) (begun_of (header.Tagged g) well) is (λ e z. subst IsTag e well)
+next_right (header.First a) x (next.Under longer) well is =
+    next_none (a ∷ []) x (next.Under longer) (begun_of (header.First a) well) is (λ e z. cc)
+next_right (header.First a) x (next.Object o) well is =
+    next_none (a ∷ []) x (next.Object o) (begun_of (header.First a) well) is (λ e z. cc)
+next_right (header.Second a b) x (next.Under longer) well is =
+    next_none (a ∷ b ∷ []) x (next.Under longer) (begun_of (header.Second a b) well) is (λ e z. cc)
+next_right (header.Second a b) x (next.Object o) well is =
+    next_none (a ∷ b ∷ []) x (next.Object o) (begun_of (header.Second a b) well) is (λ e z. cc)
+next_right (header.Tagged g) x (next.Under longer) well is =
+    next_none g x (next.Under longer) (begun_of (header.Tagged g) well) is (λ e z. subst IsTag e well)
+next_right (header.Tagged g) x (next.Object o) well is =
+    next_none g x (next.Object o) (begun_of (header.Tagged g) well) is (λ e z. subst IsTag e well)
 next_right (header.Sized g f read number) x (next.Under longer) well is =
-    next_none (g ++ (128 + further f) ∷ high_first read number) x (next.Under longer) (begun_of (header.Sized g f read number) well) is (λ e z. absurd (omega (arith, ap length e, length-append g ((128 + further f) ∷ high_first read number))))
+    next_none (g ++ (128 + further f) ∷ high_first read number) x (next.Under longer)
+    (begun_of (header.Sized g f read number) well) is
+    (λ e z. absurd (omega (arith, ap length e, length-append g ((128 + further f) ∷ high_first read number))))
 next_right (header.Sized g f read number) x (next.Object o) well is =
-    next_none (g ++ (128 + further f) ∷ high_first read number) x (next.Object o) (begun_of (header.Sized g f read number) well) is (λ e z. absurd (omega (arith, ap length e, length-append g ((128 + further f) ∷ high_first read number))))
+    next_none (g ++ (128 + further f) ∷ high_first read number) x (next.Object o)
+    (begun_of (header.Sized g f read number) well) is
+    (λ e z. absurd (omega (arith, ap length e, length-append g ((128 + further f) ∷ high_first read number))))
 
 -- ---- what must still come
 
@@ -103,7 +146,8 @@ need_header (header.Second a b) well = need-long a (b ∷ []) well.1 ∙ need_af
 need_header (header.Tagged g) well = ap need (sym (append-nil g)) ∙ need-tag g [] well
 need_header (header.Sized g f read number) well =
     need-tag g ((128 + further f) ∷ high_first read number) well.0 ∙ need_in-more (further f) (high_first read number)
-    ∙ ap (λ (j : ℕ). (further f - j) + number_of (high_first read number) * 256 ^ (further f - j)) (length-high_first read number)
+    ∙ ap (λ (j : ℕ). (further f - j) + number_of (high_first read number) * 256 ^ (further f - j))
+    (length-high_first read number)
     ∙ ap (λ (n : ℕ). (further f - read) + n * 256 ^ (further f - read)) (number-high_first read number well.2)
 
 none_left : (n k : ℕ) → k ≡ 0 → k + n * 256 ^ k ≡ n
@@ -117,28 +161,48 @@ need_field form n lt =
       | inr long ↦
           let f = further form in
           let below : n < 256 ^ f = omega (arith, long.capacity_is) in
-          ap need_in_length (long.field n) ∙ need_in-more f (high_first f n) ∙ ap (λ (j : ℕ). (f - j) + number_of (high_first f n) * 256 ^ (f - j)) (length-high_first f n) ∙ ap (λ (m : ℕ). (f - f) + m * 256 ^ (f - f)) (number-high_first f n below)
+          ap need_in_length (long.field n) ∙ need_in-more f (high_first f n)
+          ∙ ap (λ (j : ℕ). (f - j) + number_of (high_first f n) * 256 ^ (f - j)) (length-high_first f n)
+          ∙ ap (λ (m : ℕ). (f - f) + m * 256 ^ (f - f)) (number-high_first f n below)
           ∙ none_left n (f - f) (omega arith)
     ]
 
 pub need_is : (h : List ℕ) (x : ℕ) (next : Next) → IsNext h x next → need (h ++ x ∷ []) ≡ next_need next
 need_is h x next.Filler is = ap need (ap (λ (l : List ℕ). l ++ x ∷ []) is.0 ∙ ap (λ (y : ℕ). y ∷ []) is.1)
 need_is h x (next.Under longer) is = ap need (sym is.1) ∙ need_header longer is.0
-need_is h x (next.Object o) is = ap need (sym is.2) ∙ need-tag o.tag (length_field o.form o.len) is.0 ∙ need_field o.form o.len is.1
+need_is h x (next.Object o) is = ap need (sym is.2) ∙ need-tag o.tag (length_field o.form o.len) is.0
+    ∙ need_field o.form o.len is.1
 
 -- ---- the lines on room
 
-pub first_overrun : (level room : ℕ) (h : List ℕ) (x : ℕ) → (IsWrong level room h x TooDeep → ⊥) → MeetsNoOctet h x → 0 < level → room ≤ need (h ++ x ∷ []) → IsFirst tlv_reasons (IsWrong level room h x) Overrun
+pub first_overrun : (level room : ℕ) (h : List ℕ) (x : ℕ) → (IsWrong level room h x TooDeep → ⊥) → MeetsNoOctet h x
+    → 0 < level → room ≤ need (h ++ x ∷ []) → IsFirst tlv_reasons (IsWrong level room h x) Overrun
 unfolding IsFirst
-first_overrun level room h x deep none some le = inr (deep, inr (none.second, inr (none.third, inr (none.length_form, inl ((some, omega arith), refl)))))
+first_overrun level room h x deep none some le =
+    inr (deep, inr (none.second, inr (none.third, inr (none.length_form, inl ((some, omega arith), refl)))))
 
-pub first_long : (level room : ℕ) (h : List ℕ) (x : ℕ) → (IsWrong level room h x TooDeep → ⊥) → MeetsNoOctet h x → level ≡ 0 → room ≤ need (h ++ x ∷ []) → IsFirst tlv_reasons (IsWrong level room h x) TooLong
+pub first_long : (level room : ℕ) (h : List ℕ) (x : ℕ) → (IsWrong level room h x TooDeep → ⊥) → MeetsNoOctet h x
+    → level ≡ 0 → room ≤ need (h ++ x ∷ []) → IsFirst tlv_reasons (IsWrong level room h x) TooLong
 unfolding IsFirst
-first_long level room h x deep none empty le = inr (deep, inr (none.second, inr (none.third, inr (none.length_form, inr (λ w. omega (arith, w.0), inl ((empty, omega arith), refl))))))
+first_long level room h x deep none empty le =
+    inr (
+      deep,
+      inr (
+        none.second,
+        inr (
+          none.third,
+          inr (none.length_form, inr (λ w. omega (arith, w.0), inl ((empty, omega arith), refl))),
+        ),
+      ),
+    )
 
-pub first_room : (ends level room : ℕ) (h : List ℕ) (x : ℕ) → level ≡ ends → (IsWrong level room h x TooDeep → ⊥) → MeetsNoOctet h x → room ≤ need (h ++ x ∷ []) → IsFirst tlv_reasons (IsWrong level room h x) (cond (eqb ends 0) TooLong Overrun)
+pub first_room : (ends level room : ℕ) (h : List ℕ) (x : ℕ) → level ≡ ends → (IsWrong level room h x TooDeep → ⊥)
+    → MeetsNoOctet h x → room ≤ need (h ++ x ∷ [])
+    → IsFirst tlv_reasons (IsWrong level room h x) (cond (eqb ends 0) TooLong Overrun)
 first_room ends level room h x same deep none le =
     elim (cases_eq ends 0) [
-      | inl empty ↦ subst (λ (b : Bool). IsFirst tlv_reasons (IsWrong level room h x) (cond b TooLong Overrun)) (sym (eq-eqb ends 0 empty)) (first_long level room h x deep none (omega arith) le)
-      | inr some ↦ subst (λ (b : Bool). IsFirst tlv_reasons (IsWrong level room h x) (cond b TooLong Overrun)) (sym (ne_eqb ends 0 some)) (first_overrun level room h x deep none (omega arith) le)
+      | inl empty ↦ subst (λ (b : Bool). IsFirst tlv_reasons (IsWrong level room h x) (cond b TooLong Overrun))
+          (sym (eq-eqb ends 0 empty)) (first_long level room h x deep none (omega arith) le)
+      | inr some ↦ subst (λ (b : Bool). IsFirst tlv_reasons (IsWrong level room h x) (cond b TooLong Overrun))
+          (sym (ne_eqb ends 0 some)) (first_overrun level room h x deep none (omega arith) le)
     ]

@@ -16,25 +16,61 @@ name = 0xA0 ∷ 0x00 ∷ 0x00 ∷ 0x00 ∷ 0x04 ∷ 0x10 ∷ 0x10 ∷ []
 
 -- the answer to the selection of an application: its name, and an object with one whose value is empty
 abbrev selected : Tree
-selected = Constructed (0x6F ∷ []) One (Primitive (0x84 ∷ []) One name (Constructed (0xA5 ∷ []) One (Constructed (0xBF ∷ 0x0C ∷ []) One (Primitive (0x50 ∷ []) One [] End) End) End)) End
+selected = Constructed (0x6F ∷ []) One (Primitive (0x84 ∷ []) One name
+    (Constructed (0xA5 ∷ []) One (Constructed (0xBF ∷ 0x0C ∷ []) One (Primitive (0x50 ∷ []) One [] End) End) End)) End
 
 -- 6F108407A0000000041010A505BF0C025000
 abbrev selected_octets : List ℕ
-selected_octets = 0x6F ∷ 0x10 ∷ 0x84 ∷ 0x07 ∷ 0xA0 ∷ 0x00 ∷ 0x00 ∷ 0x00 ∷ 0x04 ∷ 0x10 ∷ 0x10 ∷ 0xA5 ∷ 0x05 ∷ 0xBF ∷ 0x0C ∷ 0x02 ∷ 0x50 ∷ 0x00 ∷ []
+selected_octets = 0x6F ∷ 0x10 ∷ 0x84 ∷ 0x07 ∷ 0xA0 ∷ 0x00 ∷ 0x00 ∷ 0x00 ∷ 0x04 ∷ 0x10 ∷ 0x10 ∷ 0xA5 ∷ 0x05 ∷ 0xBF ∷ 0x0C
+    ∷ 0x02 ∷ 0x50 ∷ 0x00 ∷ []
 
 selected-is : IsForest 18 selected selected_octets
 selected-is =
     record {
       proper = (
-        record { depth = omega arith; is_tag = (omega arith, omega arith, omega arith); is_bit = refl; fits = omega arith },
+        record {
+          depth = omega arith;
+          is_tag = (omega arith, omega arith, omega arith);
+          is_bit = refl;
+          fits =
+              omega arith;
+        },
         (
-          record { depth = omega arith; is_tag = (omega arith, omega arith, omega arith); is_bit = refl; fits = omega arith },
+          record {
+            depth = omega arith;
+            is_tag = (omega arith, omega arith, omega arith);
+            is_bit = refl;
+            fits =
+                omega arith;
+          },
           octets_by name refl,
           (
-            record { depth = omega arith; is_tag = (omega arith, omega arith, omega arith); is_bit = refl; fits = omega arith },
+            record {
+              depth = omega arith;
+              is_tag = (omega arith, omega arith, omega arith);
+              is_bit = refl;
+              fits =
+                  omega arith;
+            },
             (
-              record { depth = omega arith; is_tag = (omega arith, refl, omega arith, omega arith); is_bit = refl; fits = omega arith },
-              (record { depth = omega arith; is_tag = (omega arith, omega arith, omega arith); is_bit = refl; fits = omega arith }, octets_by [] refl, tt),
+              record {
+                depth = omega arith;
+                is_tag = (omega arith, refl, omega arith, omega arith);
+                is_bit =
+                    refl;
+                fits = omega arith;
+              },
+              (
+                record {
+                  depth = omega arith;
+                  is_tag = (omega arith, omega arith, omega arith);
+                  is_bit = refl;
+                  fits =
+                      omega arith;
+                },
+                octets_by [] refl,
+                tt,
+              ),
               tt,
             ),
             tt,
@@ -48,25 +84,61 @@ selected-is =
 
 -- where its values stand
 selected-parts : preorder 1 0 selected
-    ≡ record { depth = 1; tag = 0x6F ∷ []; form = One; place = 2; len = 16 } ∷ record { depth = 2; tag = 0x84 ∷ []; form = One; place = 4; len = 7 } ∷ record { depth = 2; tag = 0xA5 ∷ []; form = One; place = 13; len = 5 }
-    ∷ record { depth = 3; tag = 0xBF ∷ 0x0C ∷ []; form = One; place = 16; len = 2 } ∷ record { depth = 4; tag = 0x50 ∷ []; form = One; place = 18; len = 0 } ∷ []
+    ≡ record { depth = 1; tag = 0x6F ∷ []; form = One; place = 2; len = 16 } ∷ record
+    { depth = 2; tag = 0x84 ∷ []; form = One; place = 4; len = 7 } ∷ record
+    { depth = 2; tag = 0xA5 ∷ []; form = One; place = 13; len = 5 }
+    ∷ record { depth = 3; tag = 0xBF ∷ 0x0C ∷ []; form = One; place = 16; len = 2 } ∷ record
+    { depth = 4; tag = 0x50 ∷ []; form = One; place = 18; len = 0 } ∷ []
 selected-parts = refl
 
 -- 00005A81011200: fillers, and a length field that is longer than it has to be
-padded-is : IsForest 7 (Filler (Filler (Primitive (0x5A ∷ []) Two (0x12 ∷ []) (Filler End)))) (0x00 ∷ 0x00 ∷ 0x5A ∷ 0x81 ∷ 0x01 ∷ 0x12 ∷ 0x00 ∷ [])
-padded-is = record { proper = (record { depth = omega arith; is_tag = (omega arith, omega arith, omega arith); is_bit = refl; fits = omega arith }, octets_by (0x12 ∷ []) refl, tt); is = refl; size = omega arith }
+padded-is : IsForest 7 (Filler (Filler (Primitive (0x5A ∷ []) Two (0x12 ∷ []) (Filler End))))
+    (0x00 ∷ 0x00 ∷ 0x5A ∷ 0x81 ∷ 0x01 ∷ 0x12 ∷ 0x00 ∷ [])
+padded-is = record {
+  proper = (
+    record {
+      depth = omega arith;
+      is_tag = (omega arith, omega arith, omega arith);
+      is_bit =
+          refl;
+      fits = omega arith;
+    },
+    octets_by (0x12 ∷ []) refl,
+    tt,
+  );
+  is = refl;
+  size = omega arith;
+}
 
 -- 5A820001125A83000001125A840000000112: length fields of three, four and five octets
-long_fields-is : IsForest 18 (Primitive (0x5A ∷ []) Three (0x12 ∷ []) (Primitive (0x5A ∷ []) Four (0x12 ∷ []) (Primitive (0x5A ∷ []) Five (0x12 ∷ []) End)))
-    (0x5A ∷ 0x82 ∷ 0x00 ∷ 0x01 ∷ 0x12 ∷ 0x5A ∷ 0x83 ∷ 0x00 ∷ 0x00 ∷ 0x01 ∷ 0x12 ∷ 0x5A ∷ 0x84 ∷ 0x00 ∷ 0x00 ∷ 0x00 ∷ 0x01 ∷ 0x12 ∷ [])
+long_fields-is : IsForest 18 (Primitive (0x5A ∷ []) Three (0x12 ∷ [])
+    (Primitive (0x5A ∷ []) Four (0x12 ∷ []) (Primitive (0x5A ∷ []) Five (0x12 ∷ []) End)))
+    (0x5A ∷ 0x82 ∷ 0x00 ∷ 0x01 ∷ 0x12 ∷ 0x5A ∷ 0x83 ∷ 0x00 ∷ 0x00 ∷ 0x01 ∷ 0x12 ∷ 0x5A ∷ 0x84 ∷ 0x00 ∷ 0x00 ∷ 0x00 ∷
+    0x01 ∷ 0x12 ∷ [])
 long_fields-is = record {
   proper = (
     record { depth = omega arith; is_tag = (omega arith, omega arith, omega arith); is_bit = refl; fits = omega arith },
     octets_by (0x12 ∷ []) refl,
     (
-      record { depth = omega arith; is_tag = (omega arith, omega arith, omega arith); is_bit = refl; fits = omega arith },
+      record {
+        depth = omega arith;
+        is_tag = (omega arith, omega arith, omega arith);
+        is_bit = refl;
+        fits =
+            omega arith;
+      },
       octets_by (0x12 ∷ []) refl,
-      (record { depth = omega arith; is_tag = (omega arith, omega arith, omega arith); is_bit = refl; fits = omega arith }, octets_by (0x12 ∷ []) refl, tt),
+      (
+        record {
+          depth = omega arith;
+          is_tag = (omega arith, omega arith, omega arith);
+          is_bit = refl;
+          fits =
+              omega arith;
+        },
+        octets_by (0x12 ∷ []) refl,
+        tt,
+      ),
     ),
   );
   is = refl;
@@ -84,7 +156,17 @@ tag_second = (
     header = 0x9F ∷ [];
     is = refl;
     opens = record { done = End; proper = tt; is = refl };
-    begun = record { tag = 0x9F ∷ 0x02 ∷ []; form = One; n = 0; next = 0x02; more = 0x00 ∷ []; is_tag = (omega arith, refl, omega arith, omega arith); fits = omega arith; is = refl };
+    begun = record {
+      tag = 0x9F ∷ 0x02 ∷ [];
+      form = One;
+      n = 0;
+      next = 0x02;
+      more = 0x00 ∷ [];
+      is_tag =
+          (omega arith, refl, omega arith, omega arith);
+      fits = omega arith;
+      is = refl;
+    };
   },
   inr (λ m. absurd (omega (arith, m.1)), inl ((refl, refl), refl)),
 )
@@ -125,9 +207,26 @@ length_form = (
     header = 0x5A ∷ [];
     is = refl;
     opens = record { done = End; proper = tt; is = refl };
-    begun = record { tag = 0x5A ∷ []; form = One; n = 0; next = 0x00; more = []; is_tag = (omega arith, omega arith, omega arith); fits = omega arith; is = refl };
+    begun = record {
+      tag = 0x5A ∷ [];
+      form = One;
+      n = 0;
+      next = 0x00;
+      more = [];
+      is_tag =
+          (omega arith, omega arith, omega arith);
+      fits = omega arith;
+      is = refl;
+    };
   },
-  inr (λ m. absurd (omega (arith, m.1)), inr (λ m. absurd (omega (arith, m.0)), inr (λ m. m.0, inl (((omega arith, omega arith, omega arith), not_begins 0x80 0 refl (inl refl)), refl)))),
+  inr (
+    λ m. absurd (omega (arith, m.1)),
+    inr (
+      λ m. absurd (omega (arith, m.0)),
+      inr
+          (λ m. m.0, inl (((omega arith, omega arith, omega arith), not_begins 0x80 0 refl (inl refl)), refl)),
+    ),
+  ),
 )
 
 -- 5A02 where three octets are allowed: the value would pass them
@@ -141,9 +240,31 @@ too_long = (
     header = 0x5A ∷ [];
     is = refl;
     opens = record { done = End; proper = tt; is = refl };
-    begun = record { tag = 0x5A ∷ []; form = One; n = 0; next = 0x00; more = []; is_tag = (omega arith, omega arith, omega arith); fits = omega arith; is = refl };
+    begun = record {
+      tag = 0x5A ∷ [];
+      form = One;
+      n = 0;
+      next = 0x00;
+      more = [];
+      is_tag =
+          (omega arith, omega arith, omega arith);
+      fits = omega arith;
+      is = refl;
+    };
   },
-  inr (λ m. absurd (omega (arith, m.1)), inr (λ m. absurd (omega (arith, m.0)), inr (λ m. m.0, inr (λ m. m.1 (One, 2, [], omega arith, refl), inr (λ m. absurd (omega (arith, m.0)), inl ((refl, omega arith), refl)))))),
+  inr (
+    λ m. absurd (omega (arith, m.1)),
+    inr (
+      λ m. absurd (omega (arith, m.0)),
+      inr (
+        λ m. m.0,
+        inr (
+          λ m. m.1 (One, 2, [], omega arith, refl),
+          inr (λ m. absurd (omega (arith, m.0)), inl ((refl, omega arith), refl)),
+        ),
+      ),
+    ),
+  ),
 )
 
 -- the headers of so many objects, each inside the one before, with two octets to come in the innermost
@@ -163,13 +284,30 @@ nested-opens : (n d : ℕ) → n + d ≤ 17 → Opens d (two_each n) [] (nested 
 nested-opens zero d le = record { done = End; proper = tt; is = refl }
 nested-opens (suc n) d le = (
   nested n,
-  record { done = End; proper = tt; tag = 0x70 ∷ []; form = One; object = record { depth = omega arith; is_tag = (omega arith, omega arith, omega arith); is_bit = refl; fits = omega (arith, nested-length n) }; open_yet = omega arith; is = refl },
+  record {
+    done = End;
+    proper = tt;
+    tag = 0x70 ∷ [];
+    form = One;
+    object =
+        record {
+          depth = omega arith;
+          is_tag = (omega arith, omega arith, omega arith);
+          is_bit = refl;
+          fits =
+              omega (arith, nested-length n);
+        };
+    open_yet = omega arith;
+    is = refl;
+  },
   nested-opens n (d + 1) (omega arith),
 )
 
 -- 7020701E701C701A70187016701470127010700E700C700A7008700670047002, and 70: an object inside the sixteenth
 too_deep : IsReason 100 TooDeep
-    (0x70 ∷ 0x20 ∷ 0x70 ∷ 0x1E ∷ 0x70 ∷ 0x1C ∷ 0x70 ∷ 0x1A ∷ 0x70 ∷ 0x18 ∷ 0x70 ∷ 0x16 ∷ 0x70 ∷ 0x14 ∷ 0x70 ∷ 0x12 ∷ 0x70 ∷ 0x10 ∷ 0x70 ∷ 0x0E ∷ 0x70 ∷ 0x0C ∷ 0x70 ∷ 0x0A ∷ 0x70 ∷ 0x08 ∷ 0x70 ∷ 0x06 ∷ 0x70 ∷ 0x04 ∷ 0x70 ∷ 0x02 ∷ 0x70 ∷ [])
+    (0x70 ∷ 0x20 ∷ 0x70 ∷ 0x1E ∷ 0x70 ∷ 0x1C ∷ 0x70 ∷ 0x1A ∷ 0x70 ∷ 0x18 ∷ 0x70 ∷ 0x16 ∷ 0x70 ∷ 0x14 ∷ 0x70 ∷ 0x12 ∷
+    0x70 ∷ 0x10 ∷ 0x70 ∷ 0x0E ∷ 0x70 ∷ 0x0C ∷ 0x70 ∷ 0x0A ∷ 0x70 ∷ 0x08 ∷ 0x70 ∷ 0x06 ∷ 0x70 ∷ 0x04 ∷ 0x70 ∷ 0x02 ∷
+    0x70 ∷ [])
 unfolding IsFirst
 too_deep = (
   record {
@@ -179,7 +317,17 @@ too_deep = (
     header = [];
     is = refl;
     opens = nested-opens 16 1 (omega arith);
-    begun = record { tag = 0x5A ∷ []; form = One; n = 0; next = 0x5A; more = 0x00 ∷ []; is_tag = (omega arith, omega arith, omega arith); fits = omega arith; is = refl };
+    begun = record {
+      tag = 0x5A ∷ [];
+      form = One;
+      n = 0;
+      next = 0x5A;
+      more = 0x00 ∷ [];
+      is_tag =
+          (omega arith, omega arith, omega arith);
+      fits = omega arith;
+      is = refl;
+    };
   },
   inl ((refl, refl, λ e. omega (arith, e)), refl),
 )
@@ -196,14 +344,58 @@ overrun = (
     is = refl;
     opens = (
       0x5A ∷ [],
-      record { done = End; proper = tt; tag = 0x70 ∷ []; form = One; object = record { depth = omega arith; is_tag = (omega arith, omega arith, omega arith); is_bit = refl; fits = omega arith }; open_yet = omega arith; is = refl },
+      record {
+        done = End;
+        proper = tt;
+        tag = 0x70 ∷ [];
+        form = One;
+        object =
+            record {
+              depth = omega arith;
+              is_tag = (omega arith, omega arith, omega arith);
+              is_bit = refl;
+              fits =
+                  omega arith;
+            };
+        open_yet = omega arith;
+        is = refl;
+      },
       record { done = End; proper = tt; is = refl },
     );
-    begun = record { tag = 0x5A ∷ []; form = One; n = 0; next = 0x00; more = []; is_tag = (omega arith, omega arith, omega arith); fits = omega arith; is = refl };
+    begun = record {
+      tag = 0x5A ∷ [];
+      form = One;
+      n = 0;
+      next = 0x00;
+      more = [];
+      is_tag =
+          (omega arith, omega arith, omega arith);
+      fits = omega arith;
+      is = refl;
+    };
   },
-  inr (λ m. absurd (omega (arith, m.1)), inr (λ m. absurd (omega (arith, m.0)), inr (λ m. m.0, inr (λ m. m.1 (One, 2, [], omega arith, refl), inl ((omega arith, omega arith), refl))))),
+  inr (
+    λ m. absurd (omega (arith, m.1)),
+    inr (
+      λ m. absurd (omega (arith, m.0)),
+      inr
+          (λ m. m.0, inr (λ m. m.1 (One, 2, [], omega arith, refl), inl ((omega arith, omega arith), refl))),
+    ),
+  ),
 )
 
 -- 9F02065F2A029A03
-amounts-is : IsDol ((0x9F ∷ 0x02 ∷ [], 6) ∷ (0x5F ∷ 0x2A ∷ [], 2) ∷ (0x9A ∷ [], 3) ∷ []) (0x9F ∷ 0x02 ∷ 0x06 ∷ 0x5F ∷ 0x2A ∷ 0x02 ∷ 0x9A ∷ 0x03 ∷ [])
-amounts-is = record { each = ((omega arith, refl, omega arith, omega arith), omega arith, ((omega arith, refl, omega arith, omega arith), omega arith, ((omega arith, omega arith, omega arith), omega arith, tt))); is = refl }
+amounts-is : IsDol ((0x9F ∷ 0x02 ∷ [], 6) ∷ (0x5F ∷ 0x2A ∷ [], 2) ∷ (0x9A ∷ [], 3) ∷ [])
+    (0x9F ∷ 0x02 ∷ 0x06 ∷ 0x5F ∷ 0x2A ∷ 0x02 ∷ 0x9A ∷ 0x03 ∷ [])
+amounts-is = record {
+  each = (
+    (omega arith, refl, omega arith, omega arith),
+    omega arith,
+    (
+      (omega arith, refl, omega arith, omega arith),
+      omega arith,
+      ((omega arith, omega arith, omega arith), omega arith, tt),
+    ),
+  );
+  is = refl;
+}

@@ -41,67 +41,104 @@ ready b k h empty z =
     record { held = s; none = sym under.header ∙ empty }
 
 -- the octets of a primitive object
-pub primitive_spelled : (octets : List ℕ) (m n : ℕ) (tag : List ℕ) (form : Form) → m + n ≤ length octets → take m octets ≡ header_of tag form n → take (m + n) octets ≡ spelling (Primitive tag form (take n (drop m octets)) End)
+pub primitive_spelled : (octets : List ℕ) (m n : ℕ) (tag : List ℕ) (form : Form) → m + n ≤ length octets
+    → take m octets ≡ header_of tag form n
+    → take (m + n) octets ≡ spelling (Primitive tag form (take n (drop m octets)) End)
 primitive_spelled octets m n tag form inside is =
     let value : List ℕ = take n (drop m octets) in
     let len : length value ≡ n = omega (arith, length-take n (drop m octets), length-drop m octets) in
-    take-add m n octets ∙ ap (λ (l : List ℕ). l ++ value) (is ∙ ap (header_of tag form) (sym len)) ∙ ap (λ (l : List ℕ). header_of tag form (length value) ++ l) (sym (append-nil value))
+    take-add m n octets ∙ ap (λ (l : List ℕ). l ++ value) (is ∙ ap (header_of tag form) (sym len))
+    ∙ ap (λ (l : List ℕ). header_of tag form (length value) ++ l) (sym (append-nil value))
 
-primitive_taken : (b octets : List ℕ) (k : Kept) (m n : ℕ) (tag : List ℕ) (form : Form) → Ready b k → AreOctets octets → 1 + length k.rooms ≤ deepest → IsTag tag → constructed_bit tag ≡ 0 → n < capacity form → m + n ≤ length octets → take m octets ≡ header_of tag form n
-    → m + n ≤ room_of (k.max - k.count) k.rooms → HasTaken (b ++ take (m + n) octets) (after k (m + n) (spent (m + n) k.rooms ++ []))
+primitive_taken : (b octets : List ℕ) (k : Kept) (m n : ℕ) (tag : List ℕ) (form : Form) → Ready b k → AreOctets octets
+    → 1 + length k.rooms ≤ deepest → IsTag tag → constructed_bit tag ≡ 0 → n < capacity form → m + n ≤ length octets
+    → take m octets ≡ header_of tag form n
+    → m + n ≤ room_of (k.max - k.count) k.rooms
+    → HasTaken (b ++ take (m + n) octets) (after k (m + n) (spent (m + n) k.rooms ++ []))
 primitive_taken b octets k m n tag form r are deep is_tag bit small inside is room =
     let value : List ℕ = take n (drop m octets) in
     let len : length value ≡ n = omega (arith, length-take n (drop m octets), length-drop m octets) in
-    let object : IsObject (1 + length k.rooms) 0 tag form n = record { depth = deep; is_tag = is_tag; is_bit = bit; fits = small } in
-    let whole : under_octets r.held.under ++ take (m + n) octets ≡ spelling (Primitive tag form value End) = ap (λ (l : List ℕ). l ++ take (m + n) octets) r.none ∙ primitive_spelled octets m n tag form inside is in
-    subst (λ (l : List ℕ). HasTaken (b ++ take (m + n) octets) (after k (m + n) l)) (sym (append-nil (spent (m + n) k.rooms)))
+    let object : IsObject (1 + length k.rooms) 0 tag form n =
+    record { depth = deep; is_tag = is_tag; is_bit = bit; fits = small } in
+    let whole : under_octets r.held.under ++ take (m + n) octets ≡ spelling (Primitive tag form value End) =
+    ap (λ (l : List ℕ). l ++ take (m + n) octets) r.none ∙ primitive_spelled octets m n tag form inside is in
+    subst (λ (l : List ℕ). HasTaken (b ++ take (m + n) octets) (after k (m + n) l))
+    (sym (append-nil (spent (m + n) k.rooms)))
     (
-    taken_item b k (m + n) (take (m + n) octets) r.held (Primitive tag form value End) (omega (arith, length-take (m + n) octets)) (subst (λ (c : ℕ). m + n ≤ room_of (k.max - c) k.rooms) (held_count b k r.held) room)
-    (subst (IsObject (1 + length k.rooms) 0 tag form) (sym len) object, octets-take n (drop m octets) (octets-drop m octets are), tt) whole
+    taken_item b k (m + n) (take (m + n) octets) r.held (Primitive tag form value End)
+    (omega (arith, length-take (m + n) octets))
+    (subst (λ (c : ℕ). m + n ≤ room_of (k.max - c) k.rooms) (held_count b k r.held) room) (
+      subst (IsObject (1 + length k.rooms) 0 tag form) (sym len) object,
+      octets-take n (drop m octets) (octets-drop m octets are),
+      tt,
+    ) whole
     )
 
-entered_taken : (b octets : List ℕ) (k : Kept) (m n : ℕ) (tag : List ℕ) (form : Form) → Ready b k → 1 + length k.rooms ≤ deepest → IsTag tag → constructed_bit tag ≡ 1 → n < capacity form → m ≤ length octets → take m octets ≡ header_of tag form n
-    → m + n ≤ room_of (k.max - k.count) k.rooms → HasTaken (b ++ take m octets) (after k m (spent m k.rooms ++ opened true n))
+entered_taken : (b octets : List ℕ) (k : Kept) (m n : ℕ) (tag : List ℕ) (form : Form) → Ready b k
+    → 1 + length k.rooms ≤ deepest → IsTag tag → constructed_bit tag ≡ 1 → n < capacity form → m ≤ length octets
+    → take m octets ≡ header_of tag form n
+    → m + n ≤ room_of (k.max - k.count) k.rooms
+    → HasTaken (b ++ take m octets) (after k m (spent m k.rooms ++ opened true n))
 entered_taken b octets k m zero tag form r deep is_tag bit small inside is room =
-    let object : IsObject (1 + length k.rooms) 1 tag form 0 = record { depth = deep; is_tag = is_tag; is_bit = bit; fits = small } in
-    let whole : under_octets r.held.under ++ take m octets ≡ spelling (Constructed tag form End End) = ap (λ (l : List ℕ). l ++ take m octets) r.none ∙ is ∙ sym (append-nil (header_of tag form 0)) in
+    let object : IsObject (1 + length k.rooms) 1 tag form 0 =
+    record { depth = deep; is_tag = is_tag; is_bit = bit; fits = small } in
+    let whole : under_octets r.held.under ++ take m octets ≡ spelling (Constructed tag form End End) =
+    ap (λ (l : List ℕ). l ++ take m octets) r.none ∙ is ∙ sym (append-nil (header_of tag form 0)) in
     subst (λ (l : List ℕ). HasTaken (b ++ take m octets) (after k m l)) (sym (append-nil (spent m k.rooms)))
     (
-    taken_item b k m (take m octets) r.held (Constructed tag form End End) (omega (arith, length-take m octets)) (omega (arith, subst (λ (c : ℕ). m + 0 ≤ room_of (k.max - c) k.rooms) (held_count b k r.held) room))
+    taken_item b k m (take m octets) r.held (Constructed tag form End End) (omega (arith, length-take m octets))
+    (omega (arith, subst (λ (c : ℕ). m + 0 ≤ room_of (k.max - c) k.rooms) (held_count b k r.held) room))
     (object, tt, tt) whole
     )
 entered_taken b octets k m (suc n) tag form r deep is_tag bit small inside is room =
-    let object : IsObject (1 + length k.rooms) 1 tag form (suc n) = record { depth = deep; is_tag = is_tag; is_bit = bit; fits = small } in
-    opens_object b k m (take m octets) r.held tag form (suc n) (omega (arith, length-take m octets)) (omega arith) (subst (λ (c : ℕ). m + suc n ≤ room_of (k.max - c) k.rooms) (held_count b k r.held) room) object
+    let object : IsObject (1 + length k.rooms) 1 tag form (suc n) =
+    record { depth = deep; is_tag = is_tag; is_bit = bit; fits = small } in
+    opens_object b k m (take m octets) r.held tag form (suc n) (omega (arith, length-take m octets)) (omega arith)
+    (subst (λ (c : ℕ). m + suc n ≤ room_of (k.max - c) k.rooms) (held_count b k r.held) room) object
     (ap (λ (l : List ℕ). l ++ take m octets) r.none ∙ is)
 
-by_kind : (b octets : List ℕ) (k : Kept) (m n : ℕ) (c : Bool) (tag : List ℕ) (form : Form) → Ready b k → AreOctets octets → 1 + length k.rooms ≤ deepest → IsTag tag → constructed_bit tag ≡ cond c 1 0 → n < capacity form → cond c m (m + n) ≤ length octets → take m octets ≡ header_of tag form n
-    → m + n ≤ room_of (k.max - k.count) k.rooms → HasTaken (b ++ take (cond c m (m + n)) octets) (after k (cond c m (m + n)) (spent (cond c m (m + n)) k.rooms ++ opened c n))
-by_kind b octets k m n true tag form r are deep is_tag bit small inside is room = entered_taken b octets k m n tag form r deep is_tag bit small inside is room
-by_kind b octets k m n false tag form r are deep is_tag bit small inside is room = primitive_taken b octets k m n tag form r are deep is_tag bit small inside is room
+by_kind : (b octets : List ℕ) (k : Kept) (m n : ℕ) (c : Bool) (tag : List ℕ) (form : Form) → Ready b k
+    → AreOctets octets → 1 + length k.rooms ≤ deepest → IsTag tag → constructed_bit tag ≡ cond c 1 0 → n < capacity form
+    → cond c m (m + n) ≤ length octets → take m octets ≡ header_of tag form n
+    → m + n ≤ room_of (k.max - k.count) k.rooms
+    → HasTaken (b ++ take (cond c m (m + n)) octets)
+    (after k (cond c m (m + n)) (spent (cond c m (m + n)) k.rooms ++ opened c n))
+by_kind b octets k m n true tag form r are deep is_tag bit small inside is room =
+    entered_taken b octets k m n tag form r deep is_tag bit small inside is room
+by_kind b octets k m n false tag form r are deep is_tag bit small inside is room =
+    primitive_taken b octets k m n tag form r are deep is_tag bit small inside is room
 
 -- an object with a short header is taken, whole or its header, where it fits
-pub short_taken : (b octets : List ℕ) (k : Kept) (o : ShortHeader) → MayCome k octets o → AreOctets octets → HasTaken b k → HasTaken (b ++ take (taken_of o) octets) (after_short k o)
+pub short_taken : (b octets : List ℕ) (k : Kept) (o : ShortHeader) → MayCome k octets o → AreOctets octets
+    → HasTaken b k → HasTaken (b ++ take (taken_of o) octets) (after_short k o)
 short_taken b octets k o may are h =
     let short = may.short in
-    by_kind b octets k o.header o.len o.is_constructed (take o.tag octets) o.form (ready b k h may.nothing may.idle) are (omega (arith, may.shallow)) short.is_tag short.bit short.fits may.here short.is may.room
+    by_kind b octets k o.header o.len o.is_constructed (take o.tag octets) o.form (ready b k h may.nothing may.idle) are
+    (omega (arith, may.shallow)) short.is_tag short.bit short.fits may.here short.is may.room
 
 -- ---- what is kept then
 
 -- after m octets, with one object more that is open
-pub kept_opened : (max count m n len : ℕ) (c : Bool) (ends now more : List ℕ) → now ≡ open_after (count + m) ends → more ≡ now ++ (count + m + n) ∷ [] → opened c len ≡ n ∷ [] → kept max (count + m) (rooms_to (count + m) more) [] 0 ≡ kept max (count + m) (spent m (rooms_to count ends) ++ opened c len) [] 0
+pub kept_opened : (max count m n len : ℕ) (c : Bool) (ends now more : List ℕ) → now ≡ open_after (count + m) ends
+    → more ≡ now ++ (count + m + n) ∷ [] → opened c len ≡ n ∷ []
+    → kept max (count + m) (rooms_to (count + m) more) [] 0 ≡ kept max (count + m)
+    (spent m (rooms_to count ends) ++ opened c len) [] 0
 kept_opened max count m n len c ends now more now_is more_is is =
     ap (λ (rooms : List ℕ). kept max (count + m) rooms [] 0)
     (
-    ap (rooms_to (count + m)) more_is ∙ rooms-push (count + m) n now ∙ ap (λ (l : List ℕ). l ++ n ∷ []) (ap (rooms_to (count + m)) now_is ∙ rooms-open count m ends)
+    ap (rooms_to (count + m)) more_is ∙ rooms-push (count + m) n now
+    ∙ ap (λ (l : List ℕ). l ++ n ∷ []) (ap (rooms_to (count + m)) now_is ∙ rooms-open count m ends)
     ∙ ap (λ (l : List ℕ). spent m (rooms_to count ends) ++ l) (sym is)
     )
 
 -- or with none
-pub kept_passed : (max count m n : ℕ) (c : Bool) (ends now : List ℕ) → now ≡ open_after (count + m) ends → opened c n ≡ [] → kept max (count + m) (rooms_to (count + m) now) [] 0 ≡ kept max (count + m) (spent m (rooms_to count ends) ++ opened c n) [] 0
+pub kept_passed : (max count m n : ℕ) (c : Bool) (ends now : List ℕ) → now ≡ open_after (count + m) ends
+    → opened c n ≡ [] → kept max (count + m) (rooms_to (count + m) now) [] 0 ≡ kept max (count + m)
+    (spent m (rooms_to count ends) ++ opened c n) [] 0
 kept_passed max count m n c ends now now_is none =
     ap (λ (rooms : List ℕ). kept max (count + m) rooms [] 0)
-    (ap (rooms_to (count + m)) now_is ∙ rooms-open count m ends ∙ sym (append-nil (spent m (rooms_to count ends))) ∙ ap (λ (l : List ℕ). spent m (rooms_to count ends) ++ l) (sym none))
+    (ap (rooms_to (count + m)) now_is ∙ rooms-open count m ends ∙ sym (append-nil (spent m (rooms_to count ends)))
+    ∙ ap (λ (l : List ℕ). spent m (rooms_to count ends) ++ l) (sym none))
 
 kind_within : (c : Bool) (h n : ℕ) → cond c h (h + n) ≤ h + n
 kind_within true h n = omega arith
@@ -120,17 +157,24 @@ pub taken_some : (octets : List ℕ) (o : ShortHeader) → IsShort octets o → 
 taken_some octets o short = kind_some o.is_constructed o.header o.len (omega (arith, short.longer))
 
 -- the same, with what was under way before: nothing
-pub was_nothing : (max count left : ℕ) (rooms : List ℕ) (h : Header) → h ≡ Nothing → left ≡ 0 → kept max count rooms (header_octets h) left ≡ kept max count rooms [] 0
-was_nothing max count left rooms h none empty = ap (λ (l : List ℕ). kept max count rooms l left) (ap header_octets none) ∙ ap (λ (n : ℕ). kept max count rooms [] n) empty
+pub was_nothing : (max count left : ℕ) (rooms : List ℕ) (h : Header) → h ≡ Nothing → left ≡ 0
+    → kept max count rooms (header_octets h) left ≡ kept max count rooms [] 0
+was_nothing max count left rooms h none empty =
+    ap (λ (l : List ℕ). kept max count rooms l left) (ap header_octets none)
+    ∙ ap (λ (n : ℕ). kept max count rooms [] n) empty
 
 -- the count as the header gives it
-pub by_header : (max count m : ℕ) (rooms : List ℕ) (o : ShortHeader) → m ≡ taken_of o → kept max (count + m) (spent m rooms ++ opened o.is_constructed o.len) [] 0 ≡ kept max (count + taken_of o) (spent (taken_of o) rooms ++ opened o.is_constructed o.len) [] 0
-by_header max count m rooms o e = ap (λ (n : ℕ). kept max (count + n) (spent n rooms ++ opened o.is_constructed o.len) [] 0) e
+pub by_header : (max count m : ℕ) (rooms : List ℕ) (o : ShortHeader) → m ≡ taken_of o
+    → kept max (count + m) (spent m rooms ++ opened o.is_constructed o.len) [] 0 ≡ kept max (count + taken_of o)
+    (spent (taken_of o) rooms ++ opened o.is_constructed o.len) [] 0
+by_header max count m rooms o e = ap (λ (n : ℕ).
+    kept max (count + n) (spent n rooms ++ opened o.is_constructed o.len) [] 0) e
 
 -- ---- the header at the front of octets
 
 -- bit 6 of the tag is that of the first octet
-bit_of : (octets : List ℕ) (t : ℕ) (c : Bool) → 0 < t → IsTag (take t octets) → IsTrue c ↔ (slice_index octets 0 / 32 % 2 ≡ 1) → constructed_bit (take t octets) ≡ cond c 1 0
+bit_of : (octets : List ℕ) (t : ℕ) (c : Bool) → 0 < t → IsTag (take t octets)
+    → IsTrue c ↔ (slice_index octets 0 / 32 % 2 ≡ 1) → constructed_bit (take t octets) ≡ cond c 1 0
 bit_of octets zero c some is_tag e = absurd (omega arith)
 bit_of [] (suc t) c some is_tag e = absurd is_tag
 bit_of (x ∷ octets) (suc t) true some is_tag e = e.0 refl
@@ -141,7 +185,8 @@ bit_of (x ∷ octets) (suc t) false some is_tag e =
     ]
 
 -- a tag and a length field are a header
-pub joined : (octets : List ℕ) (t : ℕ) (c : Bool) (l : ShortLength) → IsTag (take t octets) → 0 < t → t ≤ length octets → IsTrue c ↔ (slice_index octets 0 / 32 % 2 ≡ 1) → IsShortLength (drop t octets) l
+pub joined : (octets : List ℕ) (t : ℕ) (c : Bool) (l : ShortLength) → IsTag (take t octets) → 0 < t → t ≤ length octets
+    → IsTrue c ↔ (slice_index octets 0 / 32 % 2 ≡ 1) → IsShortLength (drop t octets) l
     → IsShort octets (record { tag = t; form = l.form; header = t + l.octets; is_constructed = c; len = l.len })
 joined octets t c l is_tag some inside e h =
     record {

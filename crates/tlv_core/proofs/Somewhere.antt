@@ -14,30 +14,44 @@ module _ (Is : ℕ → ℕ → List ℕ → Form → ℕ → Type 0) where
   some_join : (d : ℕ) (s t : Tree) → SomeObject Is d (join s t) → SomeObject Is d s ⊎ SomeObject Is d t
   some_join d End t h = inr h
   some_join d (Filler rest) t h = some_join d rest t h
-  some_join d (Primitive tag form value rest) t h = elim h [ inl a ↦ inl (inl a) | inr a ↦ elim (some_join d rest t a) [ inl b ↦ inl (inr b) | inr b ↦ inr b ] ]
+  some_join d (Primitive tag form value rest) t h =
+      elim h [ inl a ↦ inl (inl a) | inr a ↦ elim (some_join d rest t a) [ inl b ↦ inl (inr b) | inr b ↦ inr b ] ]
   some_join d (Constructed tag form nodes rest) t h =
       elim h [
         | inl a ↦ inl (inl a)
-        | inr a ↦ elim a [ inl b ↦ inl (inr (inl b)) | inr b ↦ elim (some_join d rest t b) [ inl e ↦ inl (inr (inr e)) | inr e ↦ inr e ] ]
+        | inr a ↦ elim a [
+          | inl b ↦ inl (inr (inl b))
+          | inr b ↦ elim (some_join d rest t b) [ inl e ↦ inl (inr (inr e)) | inr e ↦ inr e ]
+        ]
       ]
 
   -- a node of the list is so by itself, or has such an object inside
-  some_one : (d : ℕ) (x : Node) → SomeObject Is d (tree_of (x ∷ [])) → OwnIs Is d x ⊎ ((tag : List ℕ) × (form : Form) × (nodes : Tree) × (x ≡ node.Constructed tag form nodes) × SomeObject Is (d + 1) nodes)
+  some_one : (d : ℕ) (x : Node) → SomeObject Is d (tree_of (x ∷ [])) → OwnIs Is d x
+      ⊎ ((tag : List ℕ) × (form : Form) × (nodes : Tree) × (x ≡ node.Constructed tag form nodes)
+      × SomeObject Is (d + 1) nodes)
   some_one d node.Filler h = absurd h
   some_one d (node.Primitive tag form value) h = elim h [ inl a ↦ inl a | inr a ↦ absurd a ]
-  some_one d (node.Constructed tag form nodes) h = elim h [ inl a ↦ inl a | inr a ↦ elim a [ inl b ↦ inr (tag, form, nodes, λ _. node.Constructed tag form nodes, b) | inr b ↦ absurd b ] ]
+  some_one d (node.Constructed tag form nodes) h =
+      elim h [
+        | inl a ↦ inl a
+        | inr a ↦ elim a
+            [ inl b ↦ inr (tag, form, nodes, λ _. node.Constructed tag form nodes, b) | inr b ↦ absurd b ]
+      ]
 
-  some_head : (d : ℕ) (x : Node) (xs : List Node) → SomeObject Is d (tree_of (x ∷ [])) → SomeObject Is d (tree_of (x ∷ xs))
+  some_head : (d : ℕ) (x : Node) (xs : List Node) → SomeObject Is d (tree_of (x ∷ []))
+      → SomeObject Is d (tree_of (x ∷ xs))
   some_head d node.Filler xs h = absurd h
   some_head d (node.Primitive tag form value) xs h = elim h [ inl a ↦ inl a | inr a ↦ absurd a ]
-  some_head d (node.Constructed tag form nodes) xs h = elim h [ inl a ↦ inl a | inr a ↦ elim a [ inl b ↦ inr (inl b) | inr b ↦ absurd b ] ]
+  some_head d (node.Constructed tag form nodes) xs h =
+      elim h [ inl a ↦ inl a | inr a ↦ elim a [ inl b ↦ inr (inl b) | inr b ↦ absurd b ] ]
 
   some_tail : (d : ℕ) (x : Node) (xs : List Node) → SomeObject Is d (tree_of xs) → SomeObject Is d (tree_of (x ∷ xs))
   some_tail d node.Filler xs h = h
   some_tail d (node.Primitive tag form value) xs h = inr h
   some_tail d (node.Constructed tag form nodes) xs h = inr (inr h)
 
-  some_at : (d : ℕ) (xs : List Node) (i : ℕ) (x : Node) → i < length xs → x ≡ get_or xs i x → SomeObject Is d (tree_of (x ∷ [])) → SomeObject Is d (tree_of xs)
+  some_at : (d : ℕ) (xs : List Node) (i : ℕ) (x : Node) → i < length xs → x ≡ get_or xs i x
+      → SomeObject Is d (tree_of (x ∷ [])) → SomeObject Is d (tree_of xs)
   some_at d [] i x lt e h = absurd (omega arith)
   some_at d (y ∷ xs) zero x lt e h = some_head d y xs (subst (λ (z : Node). SomeObject Is d (tree_of (z ∷ []))) e h)
   some_at d (y ∷ xs) (suc i) x lt e h = some_tail d y xs (some_at d xs i x (omega arith) e h)
@@ -47,13 +61,20 @@ module _ (Is : ℕ → ℕ → List ℕ → Form → ℕ → Type 0) where
   own_one d (node.Primitive tag form value) h = inl h
   own_one d (node.Constructed tag form nodes) h = inl h
 
-  pub some_own : (d : ℕ) (xs : List Node) (i : ℕ) (x : Node) → i < length xs → x ≡ get_or xs i x → OwnIs Is d x → SomeObject Is d (tree_of xs)
+  pub some_own : (d : ℕ) (xs : List Node) (i : ℕ) (x : Node) → i < length xs → x ≡ get_or xs i x → OwnIs Is d x
+      → SomeObject Is d (tree_of xs)
   some_own d xs i x lt e h = some_at d xs i x lt e (own_one d x h)
 
-  pub some_inner : (d : ℕ) (xs : List Node) (i : ℕ) (x : Node) (tag : List ℕ) (form : Form) (nodes : Tree) → i < length xs → x ≡ get_or xs i x → x ≡ node.Constructed tag form nodes → SomeObject Is (d + 1) nodes → SomeObject Is d (tree_of xs)
-  some_inner d xs i x tag form nodes lt e is h = some_at d xs i x lt e (subst (λ (z : Node). SomeObject Is d (tree_of (z ∷ []))) (sym is) (inr (inl h)))
+  pub some_inner : (d : ℕ) (xs : List Node) (i : ℕ) (x : Node) (tag : List ℕ) (form : Form) (nodes : Tree)
+      → i < length xs → x ≡ get_or xs i x → x ≡ node.Constructed tag form nodes → SomeObject Is (d + 1) nodes
+      → SomeObject Is d (tree_of xs)
+  some_inner d xs i x tag form nodes lt e is h =
+      some_at d xs i x lt e (subst (λ (z : Node). SomeObject Is d (tree_of (z ∷ []))) (sym is) (inr (inl h)))
 
-  pub none_more : (d : ℕ) (xs : List Node) (i : ℕ) (x : Node) → i < length xs → x ≡ get_or xs i x → (SomeObject Is d (tree_of (take i xs)) → ⊥) → (OwnIs Is d x → ⊥) → ((tag : List ℕ) (form : Form) (nodes : Tree) → x ≡ node.Constructed tag form nodes → SomeObject Is (d + 1) nodes → ⊥)
+  pub none_more : (d : ℕ) (xs : List Node) (i : ℕ) (x : Node) → i < length xs → x ≡ get_or xs i x
+      → (SomeObject Is d (tree_of (take i xs)) → ⊥) → (OwnIs Is d x → ⊥)
+      → ((tag : List ℕ) (form : Form) (nodes : Tree) → x ≡ node.Constructed tag form nodes → SomeObject Is (d + 1) nodes
+      → ⊥)
       → SomeObject Is d (tree_of (take (i + 1) xs)) → ⊥
   none_more d xs i x lt e before own inner h =
       elim (some_join d (tree_of (take i xs)) (tree_of (x ∷ [])) (subst (SomeObject Is d) (tree_more xs i x lt e) h)) [
@@ -61,5 +82,6 @@ module _ (Is : ℕ → ℕ → List ℕ → Form → ℕ → Type 0) where
         | inr a ↦ elim (some_one d x a) [ inl b ↦ own b | inr b ↦ inner b.0 b.1 b.2 b.3 b.4 ]
       ]
 
-pub same_nodes : (tag tag' : List ℕ) (form form' : Form) (nodes nodes' : Tree) (x : Node) → x ≡ node.Constructed tag form nodes → x ≡ node.Constructed tag' form' nodes' → nodes ≡ nodes'
+pub same_nodes : (tag tag' : List ℕ) (form form' : Form) (nodes nodes' : Tree) (x : Node)
+    → x ≡ node.Constructed tag form nodes → x ≡ node.Constructed tag' form' nodes' → nodes ≡ nodes'
 same_nodes tag tag' form form' nodes nodes' x p q = cc

@@ -13,23 +13,36 @@ twice End = refl
 twice (Filler rest) = twice rest
 twice (Primitive tag form value rest) = ap (Primitive tag (shortest (length value)) value) (twice rest)
 twice (Constructed tag form nodes rest) =
-    ap (λ (n : Tree). Constructed tag (shortest (length (spelling n))) n (tidy (tidy rest))) (twice nodes) ∙ ap (Constructed tag (shortest (length (spelling (tidy nodes)))) (tidy nodes)) (twice rest)
+    ap (λ (n : Tree). Constructed tag (shortest (length (spelling n))) n (tidy (tidy rest))) (twice nodes)
+    ∙ ap (Constructed tag (shortest (length (spelling (tidy nodes)))) (tidy nodes)) (twice rest)
 
 stays : (d : ℕ) (t : Tree) → said d (tidy t) ≡ said d t
 stays d End = refl
 stays d (Filler rest) = stays d rest
-stays d (Primitive tag form value rest) = ap (λ (l : List Said). record { depth = d; tag = tag; value = Some value } ∷ l) (stays d rest)
+stays d (Primitive tag form value rest) =
+    ap (λ (l : List Said). record { depth = d; tag = tag; value = Some value } ∷ l) (stays d rest)
 stays d (Constructed tag form nodes rest) =
-    ap (λ (l : List Said). record { depth = d; tag = tag; value = None } ∷ (l ++ said d (tidy rest))) (stays (d + 1) nodes) ∙ ap (λ (l : List Said). record { depth = d; tag = tag; value = None } ∷ (said (d + 1) nodes ++ l)) (stays d rest)
+    ap (λ (l : List Said). record { depth = d; tag = tag; value = None } ∷ (l ++ said d (tidy rest)))
+    (stays (d + 1) nodes) ∙ ap (λ (l : List Said).
+    record { depth = d; tag = tag; value = None } ∷ (said (d + 1) nodes ++ l)) (stays d rest)
 
 -- fewer octets never need a longer form
-best_of : (form : Form) (m n : ℕ) → m ≤ n → n < capacity form → (m < capacity (shortest m)) × (further (shortest m) ≤ further form)
+best_of : (form : Form) (m n : ℕ) → m ≤ n → n < capacity form → (m < capacity (shortest m))
+    × (further (shortest m) ≤ further form)
 best_of form m n le lt = best form m (omega arith)
 
-size : (tag : List ℕ) (form : Form) (n : ℕ) (value rest : List ℕ) → length (header_of tag form n ++ (value ++ rest)) ≡ length tag + (1 + further form) + length value + length rest
-size tag form n value rest = omega (arith, length-append (header_of tag form n) (value ++ rest), length-append value rest, length-append tag (length_field form n), length-field form n)
+size : (tag : List ℕ) (form : Form) (n : ℕ) (value rest : List ℕ)
+    → length (header_of tag form n ++ (value ++ rest)) ≡ length tag + (1 + further form) + length value + length rest
+size tag form n value rest = omega (
+  arith,
+  length-append (header_of tag form n) (value ++ rest),
+  length-append value rest,
+  length-append tag (length_field form n),
+  length-field form n,
+)
 
-pub shorter : (d : ℕ) (t : Tree) → IsProper d t → IsProper d (tidy t) × (length (spelling (tidy t)) ≤ length (spelling t))
+pub shorter : (d : ℕ) (t : Tree) → IsProper d t → IsProper d (tidy t)
+    × (length (spelling (tidy t)) ≤ length (spelling t))
 shorter d End h = (tt, omega arith)
 shorter d (Filler rest) h = let r = shorter d rest h in (r.0, omega (arith, r.1))
 shorter d (Primitive tag form value rest) h =
@@ -54,7 +67,8 @@ shorter d (Constructed tag form nodes rest) h =
         r.1,
         i.1,
         b.1,
-        size tag (shortest (length (spelling (tidy nodes)))) (length (spelling (tidy nodes))) (spelling (tidy nodes)) (spelling (tidy rest)),
+        size tag (shortest (length (spelling (tidy nodes)))) (length (spelling (tidy nodes))) (spelling (tidy nodes))
+            (spelling (tidy rest)),
         size tag form (length (spelling nodes)) (spelling nodes) (spelling rest),
       ),
     )
@@ -78,7 +92,11 @@ said-from : (d : ℕ) (t : Tree) → AreFrom d (said d t)
 said-from d End = tt
 said-from d (Filler rest) = said-from d rest
 said-from d (Primitive tag form value rest) = (omega arith, said-from d rest)
-said-from d (Constructed tag form nodes rest) = (omega arith, from-append d (said (d + 1) nodes) (said d rest) (from-less d (d + 1) (said (d + 1) nodes) (omega arith) (said-from (d + 1) nodes)) (said-from d rest))
+said-from d (Constructed tag form nodes rest) = (
+  omega arith,
+  from-append d (said (d + 1) nodes) (said d rest)
+      (from-less d (d + 1) (said (d + 1) nodes) (omega arith) (said-from (d + 1) nodes)) (said-from d rest),
+)
 
 -- nothing, or an object at depth d first
 abbrev IsAtDepth : ℕ → List Said → Type 0
@@ -97,12 +115,15 @@ first_same e = cc
 rest_same : {x y : Said} {xs ys : List Said} → x ∷ xs ≡ y ∷ ys → xs ≡ ys
 rest_same e = cc
 
-parted : (d : ℕ) (xs ys zs ws : List Said) → AreFrom (d + 1) xs → AreFrom (d + 1) zs → IsAtDepth d ys → IsAtDepth d ws → xs ++ ys ≡ zs ++ ws → (xs ≡ zs) × (ys ≡ ws)
+parted : (d : ℕ) (xs ys zs ws : List Said) → AreFrom (d + 1) xs → AreFrom (d + 1) zs → IsAtDepth d ys → IsAtDepth d ws
+    → xs ++ ys ≡ zs ++ ws → (xs ≡ zs) × (ys ≡ ws)
 parted d [] ys [] ws hx hz hy hw e = (refl, e)
 parted d [] [] (z ∷ zs) ws hx hz hy hw e = cc
-parted d [] (y ∷ ys) (z ∷ zs) ws hx hz hy hw e = absurd (omega (arith, hz.0, hy, ap (λ (s : Said). s.depth) (first_same e)))
+parted d [] (y ∷ ys) (z ∷ zs) ws hx hz hy hw e =
+    absurd (omega (arith, hz.0, hy, ap (λ (s : Said). s.depth) (first_same e)))
 parted d (x ∷ xs) ys [] [] hx hz hy hw e = cc
-parted d (x ∷ xs) ys [] (w ∷ ws) hx hz hy hw e = absurd (omega (arith, hx.0, hw, ap (λ (s : Said). s.depth) (first_same e)))
+parted d (x ∷ xs) ys [] (w ∷ ws) hx hz hy hw e =
+    absurd (omega (arith, hx.0, hw, ap (λ (s : Said). s.depth) (first_same e)))
 parted d (x ∷ xs) ys (z ∷ zs) ws hx hz hy hw e =
     let r = parted d xs ys zs ws hx.1 hz.1 hy hw (rest_same e) in
     (ap (λ (s : Said). s ∷ xs) (first_same e) ∙ ap (λ (l : List Said). z ∷ l) r.0, r.1)
@@ -125,20 +146,27 @@ one_tidy (Primitive tag form value s) (Filler t) d e = one_tidy (Primitive tag f
 one_tidy (Primitive tag form value s) (Primitive tag' form' value' t) d e =
     let tags : tag ≡ tag' = ap (λ (x : Said). x.tag) (first_same e) in
     let values : value ≡ value' = some_same (value_same (first_same e)) in
-    ap (λ (g : List ℕ). Primitive g (shortest (length value)) value (tidy s)) tags ∙ ap (λ (v : List ℕ). Primitive tag' (shortest (length v)) v (tidy s)) values ∙ ap (Primitive tag' (shortest (length value')) value') (one_tidy s t d (rest_same e))
-one_tidy (Primitive tag form value s) (Constructed tag' form' nodes' t) d e = let none : Some value ≡ None = value_same (first_same e) in cc
+    ap (λ (g : List ℕ). Primitive g (shortest (length value)) value (tidy s)) tags
+    ∙ ap (λ (v : List ℕ). Primitive tag' (shortest (length v)) v (tidy s)) values
+    ∙ ap (Primitive tag' (shortest (length value')) value') (one_tidy s t d (rest_same e))
+one_tidy (Primitive tag form value s) (Constructed tag' form' nodes' t) d e = let none : Some value ≡ None =
+    value_same (first_same e) in cc
 one_tidy (Constructed tag form nodes s) End d e = cc
 one_tidy (Constructed tag form nodes s) (Filler t) d e = one_tidy (Constructed tag form nodes s) t d e
-one_tidy (Constructed tag form nodes s) (Primitive tag' form' value' t) d e = let none : None ≡ Some value' = value_same (first_same e) in cc
+one_tidy (Constructed tag form nodes s) (Primitive tag' form' value' t) d e = let none : None ≡ Some value' =
+    value_same (first_same e) in cc
 one_tidy (Constructed tag form nodes s) (Constructed tag' form' nodes' t) d e =
     let tags : tag ≡ tag' = ap (λ (x : Said). x.tag) (first_same e) in
-    let parts = parted d (said (d + 1) nodes) (said d s) (said (d + 1) nodes') (said d t) (said-from (d + 1) nodes) (said-from (d + 1) nodes') (said-first d s) (said-first d t) (rest_same e) in
+    let parts = parted d (said (d + 1) nodes) (said d s) (said (d + 1) nodes') (said d t) (said-from (d + 1) nodes)
+    (said-from (d + 1) nodes') (said-first d s) (said-first d t) (rest_same e) in
     let inner : tidy nodes ≡ tidy nodes' = one_tidy nodes nodes' (d + 1) parts.0 in
     let outer : tidy s ≡ tidy t = one_tidy s t d parts.1 in
-    ap (λ (g : List ℕ). Constructed g (shortest (length (spelling (tidy nodes)))) (tidy nodes) (tidy s)) tags ∙ ap (λ (n : Tree). Constructed tag' (shortest (length (spelling n))) n (tidy s)) inner
+    ap (λ (g : List ℕ). Constructed g (shortest (length (spelling (tidy nodes)))) (tidy nodes) (tidy s)) tags
+    ∙ ap (λ (n : Tree). Constructed tag' (shortest (length (spelling n))) n (tidy s)) inner
     ∙ ap (Constructed tag' (shortest (length (spelling (tidy nodes')))) (tidy nodes')) outer
 
-least : (d : ℕ) (s t : Tree) → IsProper d s → IsProper d t → said d s ≡ said d t → length (spelling (tidy t)) ≤ length (spelling s)
+least : (d : ℕ) (s t : Tree) → IsProper d s → IsProper d t → said d s ≡ said d t
+    → length (spelling (tidy t)) ≤ length (spelling s)
 least d s t hs ht e = omega (arith, (shorter d s hs).1, ap (λ (u : Tree). length (spelling u)) (one_tidy s t d e))
 
 pub tidy_laws : TidyLaws

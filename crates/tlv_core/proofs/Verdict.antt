@@ -45,16 +45,21 @@ IsPartial a = IsBegun a ⊎ IsOpenTail a
 pub partial_not_zero : (a l : List ℕ) → IsPartial a → a ≡ 0 ∷ l → ⊥
 partial_not_zero a l p e =
     elim p [
-      | inl h ↦ header_not_zero h.tag h.form h.n [] (l ++ h.next ∷ h.more) h.is_tag (append-nil (header_of h.tag h.form h.n) ∙ sym h.is ∙ ap (λ (k : List ℕ). k ++ h.next ∷ h.more) e)
+      | inl h ↦ header_not_zero h.tag h.form h.n [] (l ++ h.next ∷ h.more) h.is_tag
+          (append-nil (header_of h.tag h.form h.n) ∙ sym h.is ∙ ap (λ (k : List ℕ). k ++ h.next ∷ h.more) e)
       | inr o ↦ header_not_zero o.tag o.form o.n o.value l o.is_tag (sym o.is ∙ e)
     ]
 
-pub begun_not_object : (a : List ℕ) (h : IsBegun a) (tag : List ℕ) (form : Form) (n : ℕ) (rest : List ℕ) → IsTag tag → n < capacity form → a ≡ header_of tag form n ++ rest → ⊥
+pub begun_not_object : (a : List ℕ) (h : IsBegun a) (tag : List ℕ) (form : Form) (n : ℕ) (rest : List ℕ) → IsTag tag
+    → n < capacity form → a ≡ header_of tag form n ++ rest → ⊥
 begun_not_object a h tag form n rest is_tag fits e =
-    let same = header_one tag h.tag form h.form n h.n (rest ++ h.next ∷ h.more) [] is_tag h.is_tag fits h.fits (sym (append_assoc (header_of tag form n) rest (h.next ∷ h.more)) ∙ ap (λ (k : List ℕ). k ++ h.next ∷ h.more) (sym e) ∙ h.is ∙ sym (append-nil (header_of h.tag h.form h.n))) in
+    let same = header_one tag h.tag form h.form n h.n (rest ++ h.next ∷ h.more) [] is_tag h.is_tag fits h.fits
+    (sym (append_assoc (header_of tag form n) rest (h.next ∷ h.more))
+    ∙ ap (λ (k : List ℕ). k ++ h.next ∷ h.more) (sym e) ∙ h.is ∙ sym (append-nil (header_of h.tag h.form h.n))) in
     omega (arith, ap length same.rests, length-append rest (h.next ∷ h.more))
 
-partial_not_object : (a : List ℕ) (tag : List ℕ) (form : Form) (n : ℕ) (rest : List ℕ) → IsTag tag → n < capacity form → n ≤ length rest → IsPartial a → a ≡ header_of tag form n ++ rest → ⊥
+partial_not_object : (a : List ℕ) (tag : List ℕ) (form : Form) (n : ℕ) (rest : List ℕ) → IsTag tag → n < capacity form
+    → n ≤ length rest → IsPartial a → a ≡ header_of tag form n ++ rest → ⊥
 partial_not_object a tag form n rest is_tag fits le p e =
     elim p [
       | inl h ↦ begun_not_object a h tag form n rest is_tag fits e
@@ -63,81 +68,135 @@ partial_not_object a tag form n rest is_tag fits le p e =
           omega (arith, same.lengths, ap length same.rests, o.less)
     ]
 
-pub same_done : (s t : Tree) (d e : ℕ) (a b : List ℕ) → IsProper d s → IsProper e t → IsPartial a → IsPartial b → spelling s ++ a ≡ spelling t ++ b → (s ≡ t) × (a ≡ b)
+pub same_done : (s t : Tree) (d e : ℕ) (a b : List ℕ) → IsProper d s → IsProper e t → IsPartial a → IsPartial b
+    → spelling s ++ a ≡ spelling t ++ b → (s ≡ t) × (a ≡ b)
 same_done End End d e a b hs ht pa pb q = (refl, q)
 same_done End (Filler t) d e a b hs ht pa pb q = absurd (partial_not_zero a (spelling t ++ b) pa q)
 same_done End (Primitive tag form value t) d e a b hs ht pa pb q =
-    absurd (partial_not_object a tag form (length value) (value ++ (spelling t ++ b)) ht.0.is_tag ht.0.fits (omega (arith, length-append value (spelling t ++ b))) pa (q ∙ regroup (header_of tag form (length value)) value (spelling t) b))
+    absurd (partial_not_object a tag form (length value) (value ++ (spelling t ++ b)) ht.0.is_tag ht.0.fits
+    (omega (arith, length-append value (spelling t ++ b))) pa
+    (q ∙ regroup (header_of tag form (length value)) value (spelling t) b))
 same_done End (Constructed tag form nodes t) d e a b hs ht pa pb q =
     absurd
-    (partial_not_object a tag form (length (spelling nodes)) (spelling nodes ++ (spelling t ++ b)) ht.0.is_tag ht.0.fits (omega (arith, length-append (spelling nodes) (spelling t ++ b))) pa (q ∙ regroup (header_of tag form (length (spelling nodes))) (spelling nodes) (spelling t) b))
+    (partial_not_object a tag form (length (spelling nodes)) (spelling nodes ++ (spelling t ++ b)) ht.0.is_tag ht.0.fits
+    (omega (arith, length-append (spelling nodes) (spelling t ++ b))) pa
+    (q ∙ regroup (header_of tag form (length (spelling nodes))) (spelling nodes) (spelling t) b))
 same_done (Filler s) End d e a b hs ht pa pb q = absurd (partial_not_zero b (spelling s ++ a) pb (sym q))
-same_done (Filler s) (Filler t) d e a b hs ht pa pb q = let r = same_done s t d e a b hs ht pa pb (tail_of q) in (ap Filler r.0, r.1)
+same_done (Filler s) (Filler t) d e a b hs ht pa pb q = let r =
+    same_done s t d e a b hs ht pa pb (tail_of q) in (ap Filler r.0, r.1)
 same_done (Filler s) (Primitive tag form value t) d e a b hs ht pa pb q =
-    absurd (header_not_zero tag form (length value) (value ++ (spelling t ++ b)) (spelling s ++ a) ht.0.is_tag (sym (regroup (header_of tag form (length value)) value (spelling t) b) ∙ sym q))
+    absurd (header_not_zero tag form (length value) (value ++ (spelling t ++ b)) (spelling s ++ a) ht.0.is_tag
+    (sym (regroup (header_of tag form (length value)) value (spelling t) b) ∙ sym q))
 same_done (Filler s) (Constructed tag form nodes t) d e a b hs ht pa pb q =
-    absurd (header_not_zero tag form (length (spelling nodes)) (spelling nodes ++ (spelling t ++ b)) (spelling s ++ a) ht.0.is_tag (sym (regroup (header_of tag form (length (spelling nodes))) (spelling nodes) (spelling t) b) ∙ sym q))
+    absurd (header_not_zero tag form (length (spelling nodes)) (spelling nodes ++ (spelling t ++ b)) (spelling s ++ a)
+    ht.0.is_tag (sym (regroup (header_of tag form (length (spelling nodes))) (spelling nodes) (spelling t) b)
+    ∙ sym q))
 same_done (Primitive tag form value s) End d e a b hs ht pa pb q =
-    absurd (partial_not_object b tag form (length value) (value ++ (spelling s ++ a)) hs.0.is_tag hs.0.fits (omega (arith, length-append value (spelling s ++ a))) pb (sym q ∙ regroup (header_of tag form (length value)) value (spelling s) a))
+    absurd (partial_not_object b tag form (length value) (value ++ (spelling s ++ a)) hs.0.is_tag hs.0.fits
+    (omega (arith, length-append value (spelling s ++ a))) pb
+    (sym q ∙ regroup (header_of tag form (length value)) value (spelling s) a))
 same_done (Primitive tag form value s) (Filler t) d e a b hs ht pa pb q =
-    absurd (header_not_zero tag form (length value) (value ++ (spelling s ++ a)) (spelling t ++ b) hs.0.is_tag (sym (regroup (header_of tag form (length value)) value (spelling s) a) ∙ q))
+    absurd (header_not_zero tag form (length value) (value ++ (spelling s ++ a)) (spelling t ++ b) hs.0.is_tag
+    (sym (regroup (header_of tag form (length value)) value (spelling s) a) ∙ q))
 same_done (Primitive tag form value s) (Primitive tag' form' value' t) d e a b hs ht pa pb q =
-    let same = header_one tag tag' form form' (length value) (length value') (value ++ (spelling s ++ a)) (value' ++ (spelling t ++ b)) hs.0.is_tag ht.0.is_tag hs.0.fits ht.0.fits (sym (regroup (header_of tag form (length value)) value (spelling s) a) ∙ q ∙ regroup (header_of tag' form' (length value')) value' (spelling t) b) in
+    let same = header_one tag tag' form form' (length value) (length value') (value ++ (spelling s ++ a))
+    (value' ++ (spelling t ++ b)) hs.0.is_tag ht.0.is_tag hs.0.fits ht.0.fits
+    (sym (regroup (header_of tag form (length value)) value (spelling s) a) ∙ q
+    ∙ regroup (header_of tag' form' (length value')) value' (spelling t) b) in
     let parts = split value (spelling s ++ a) value' (spelling t ++ b) same.lengths same.rests in
     let r = same_done s t d e a b hs.2 ht.2 pa pb parts.1 in
     let rest : s ≡ t = r.0 in
     let values : value ≡ value' = parts.0 in
     let tags : tag ≡ tag' = same.tags in
-    let forms : form ≡ form' = same.forms in
-    (ap (λ (g : List ℕ). Primitive g form value s) tags ∙ ap (λ (f : Form). Primitive tag' f value s) forms ∙ ap (λ (v : List ℕ). Primitive tag' form' v s) values ∙ ap (Primitive tag' form' value') rest, r.1)
+    let forms : form ≡ form' = same.forms in (
+      ap (λ (g : List ℕ). Primitive g form value s) tags ∙ ap (λ (f : Form). Primitive tag' f value s) forms
+          ∙ ap (λ (v : List ℕ). Primitive tag' form' v s) values ∙ ap (Primitive tag' form' value') rest,
+      r.1,
+    )
 same_done (Primitive tag form value s) (Constructed tag' form' nodes t) d e a b hs ht pa pb q =
     let n = length (spelling nodes) in
-    let same = header_one tag tag' form form' (length value) n (value ++ (spelling s ++ a)) (spelling nodes ++ (spelling t ++ b)) hs.0.is_tag ht.0.is_tag hs.0.fits ht.0.fits (sym (regroup (header_of tag form (length value)) value (spelling s) a) ∙ q ∙ regroup (header_of tag' form' n) (spelling nodes) (spelling t) b) in
+    let same = header_one tag tag' form form' (length value) n (value ++ (spelling s ++ a))
+    (spelling nodes ++ (spelling t ++ b)) hs.0.is_tag ht.0.is_tag hs.0.fits ht.0.fits
+    (sym (regroup (header_of tag form (length value)) value (spelling s) a) ∙ q
+    ∙ regroup (header_of tag' form' n) (spelling nodes) (spelling t) b) in
     absurd (omega (arith, ap constructed_bit same.tags, hs.0.is_bit, ht.0.is_bit))
 same_done (Constructed tag form nodes s) End d e a b hs ht pa pb q =
     absurd
-    (partial_not_object b tag form (length (spelling nodes)) (spelling nodes ++ (spelling s ++ a)) hs.0.is_tag hs.0.fits (omega (arith, length-append (spelling nodes) (spelling s ++ a))) pb (sym q ∙ regroup (header_of tag form (length (spelling nodes))) (spelling nodes) (spelling s) a))
+    (partial_not_object b tag form (length (spelling nodes)) (spelling nodes ++ (spelling s ++ a)) hs.0.is_tag hs.0.fits
+    (omega (arith, length-append (spelling nodes) (spelling s ++ a))) pb
+    (sym q ∙ regroup (header_of tag form (length (spelling nodes))) (spelling nodes) (spelling s) a))
 same_done (Constructed tag form nodes s) (Filler t) d e a b hs ht pa pb q =
-    absurd (header_not_zero tag form (length (spelling nodes)) (spelling nodes ++ (spelling s ++ a)) (spelling t ++ b) hs.0.is_tag (sym (regroup (header_of tag form (length (spelling nodes))) (spelling nodes) (spelling s) a) ∙ q))
+    absurd (header_not_zero tag form (length (spelling nodes)) (spelling nodes ++ (spelling s ++ a)) (spelling t ++ b)
+    hs.0.is_tag (sym (regroup (header_of tag form (length (spelling nodes))) (spelling nodes) (spelling s) a) ∙ q))
 same_done (Constructed tag form nodes s) (Primitive tag' form' value t) d e a b hs ht pa pb q =
     let n = length (spelling nodes) in
-    let same = header_one tag tag' form form' n (length value) (spelling nodes ++ (spelling s ++ a)) (value ++ (spelling t ++ b)) hs.0.is_tag ht.0.is_tag hs.0.fits ht.0.fits (sym (regroup (header_of tag form n) (spelling nodes) (spelling s) a) ∙ q ∙ regroup (header_of tag' form' (length value)) value (spelling t) b) in
+    let same = header_one tag tag' form form' n (length value) (spelling nodes ++ (spelling s ++ a))
+    (value ++ (spelling t ++ b)) hs.0.is_tag ht.0.is_tag hs.0.fits ht.0.fits
+    (sym (regroup (header_of tag form n) (spelling nodes) (spelling s) a) ∙ q
+    ∙ regroup (header_of tag' form' (length value)) value (spelling t) b) in
     absurd (omega (arith, ap constructed_bit same.tags, hs.0.is_bit, ht.0.is_bit))
 same_done (Constructed tag form nodes s) (Constructed tag' form' nodes' t) d e a b hs ht pa pb q =
     let n = length (spelling nodes) in
     let n' = length (spelling nodes') in
-    let same = header_one tag tag' form form' n n' (spelling nodes ++ (spelling s ++ a)) (spelling nodes' ++ (spelling t ++ b)) hs.0.is_tag ht.0.is_tag hs.0.fits ht.0.fits (sym (regroup (header_of tag form n) (spelling nodes) (spelling s) a) ∙ q ∙ regroup (header_of tag' form' n') (spelling nodes') (spelling t) b) in
+    let same = header_one tag tag' form form' n n' (spelling nodes ++ (spelling s ++ a))
+    (spelling nodes' ++ (spelling t ++ b)) hs.0.is_tag ht.0.is_tag hs.0.fits ht.0.fits
+    (sym (regroup (header_of tag form n) (spelling nodes) (spelling s) a) ∙ q
+    ∙ regroup (header_of tag' form' n') (spelling nodes') (spelling t) b) in
     let parts = split (spelling nodes) (spelling s ++ a) (spelling nodes') (spelling t ++ b) same.lengths same.rests in
     let r = same_done s t d e a b hs.2 ht.2 pa pb parts.1 in
     let rest : s ≡ t = r.0 in
     let inner : nodes ≡ nodes' = one_list nodes' nodes (d + 1) (e + 1) ht.1 hs.1 parts.0 in
     let tags : tag ≡ tag' = same.tags in
-    let forms : form ≡ form' = same.forms in
-    (ap (λ (g : List ℕ). Constructed g form nodes s) tags ∙ ap (λ (f : Form). Constructed tag' f nodes s) forms ∙ ap (λ (v : Tree). Constructed tag' form' v s) inner ∙ ap (Constructed tag' form' nodes') rest, r.1)
+    let forms : form ≡ form' = same.forms in (
+      ap (λ (g : List ℕ). Constructed g form nodes s) tags ∙ ap (λ (f : Form). Constructed tag' f nodes s) forms
+          ∙ ap (λ (v : Tree). Constructed tag' form' v s) inner ∙ ap (Constructed tag' form' nodes') rest,
+      r.1,
+    )
 
-pub open_tail : (d room : ℕ) (value b : List ℕ) (o : OpensOne d room value b) → IsOpenTail (header_of o.tag o.form (length value + room) ++ value)
-open_tail d room value b o = record { tag = o.tag; form = o.form; n = length value + room; value = value; is_tag = o.object.is_tag; fits = o.object.fits; less = omega (arith, o.open_yet); is = refl }
+pub open_tail : (d room : ℕ) (value b : List ℕ) (o : OpensOne d room value b)
+    → IsOpenTail (header_of o.tag o.form (length value + room) ++ value)
+open_tail d room value b o = record {
+  tag = o.tag;
+  form = o.form;
+  n = length value + room;
+  value = value;
+  is_tag =
+      o.object.is_tag;
+  fits = o.object.fits;
+  less = omega (arith, o.open_yet);
+  is = refl;
+}
 
-pub one_opening : (rooms rooms' : List ℕ) (d : ℕ) (h h' b : List ℕ) → Opens d rooms h b → Opens d rooms' h' b → IsBegun h → IsBegun h' → (rooms ≡ rooms') × (h ≡ h')
-one_opening [] [] d h h' b o o' g g' = (refl, (same_done o.done o'.done d d h h' o.proper o'.proper (inl g) (inl g') (sym o.is ∙ o'.is)).1)
+pub one_opening : (rooms rooms' : List ℕ) (d : ℕ) (h h' b : List ℕ) → Opens d rooms h b → Opens d rooms' h' b
+    → IsBegun h → IsBegun h' → (rooms ≡ rooms') × (h ≡ h')
+one_opening [] [] d h h' b o o' g g' = (
+  refl,
+  (same_done o.done o'.done d d h h' o.proper o'.proper (inl g) (inl g') (sym o.is ∙ o'.is)).1,
+)
 one_opening [] (room ∷ rooms) d h h' b o o' g g' =
     let p = o'.1 in
     let tail = open_tail d room o'.0 b p in
-    let same = same_done o.done p.done d d h (header_of p.tag p.form (length o'.0 + room) ++ o'.0) o.proper p.proper (inl g) (inr tail) (sym o.is ∙ p.is) in
+    let same = same_done o.done p.done d d h (header_of p.tag p.form (length o'.0 + room) ++ o'.0) o.proper p.proper
+    (inl g) (inr tail) (sym o.is ∙ p.is) in
     absurd (begun_not_object h g p.tag p.form (length o'.0 + room) o'.0 p.object.is_tag p.object.fits same.1)
 one_opening (room ∷ rooms) [] d h h' b o o' g g' =
     let p = o.1 in
     let tail = open_tail d room o.0 b p in
-    let same = same_done o'.done p.done d d h' (header_of p.tag p.form (length o.0 + room) ++ o.0) o'.proper p.proper (inl g') (inr tail) (sym o'.is ∙ p.is) in
+    let same = same_done o'.done p.done d d h' (header_of p.tag p.form (length o.0 + room) ++ o.0) o'.proper p.proper
+    (inl g') (inr tail) (sym o'.is ∙ p.is) in
     absurd (begun_not_object h' g' p.tag p.form (length o.0 + room) o.0 p.object.is_tag p.object.fits same.1)
 one_opening (room ∷ rooms) (room' ∷ rooms') d h h' b o o' g g' =
     let p = o.1 in
     let p' = o'.1 in
-    let same = same_done p.done p'.done d d (header_of p.tag p.form (length o.0 + room) ++ o.0) (header_of p'.tag p'.form (length o'.0 + room') ++ o'.0) p.proper p'.proper (inr (open_tail d room o.0 b p)) (inr (open_tail d room' o'.0 b p')) (sym p.is ∙ p'.is) in
-    let one = header_one p.tag p'.tag p.form p'.form (length o.0 + room) (length o'.0 + room') o.0 o'.0 p.object.is_tag p'.object.is_tag p.object.fits p'.object.fits same.1 in
+    let same = same_done p.done p'.done d d (header_of p.tag p.form (length o.0 + room) ++ o.0)
+    (header_of p'.tag p'.form (length o'.0 + room') ++ o'.0) p.proper p'.proper (inr (open_tail d room o.0 b p))
+    (inr (open_tail d room' o'.0 b p')) (sym p.is ∙ p'.is) in
+    let one = header_one p.tag p'.tag p.form p'.form (length o.0 + room) (length o'.0 + room') o.0 o'.0 p.object.is_tag
+    p'.object.is_tag p.object.fits p'.object.fits same.1 in
     let values : o'.0 ≡ o.0 = sym one.rests in
     let room_is : room ≡ room' = omega (arith, one.lengths, ap length values) in
-    let inner = one_opening rooms rooms' (d + 1) h h' o.0 o.2 (subst (λ (v : List ℕ). Opens (d + 1) rooms' h' v) values o'.2) g g' in
+    let inner = one_opening rooms rooms' (d + 1) h h' o.0 o.2
+    (subst (λ (v : List ℕ). Opens (d + 1) rooms' h' v) values o'.2) g g' in
     let rooms_is : rooms ≡ rooms' = inner.0 in
     (ap (λ (r : ℕ). r ∷ rooms) room_is ∙ ap (λ (l : List ℕ). room' ∷ l) rooms_is, inner.1)
 
@@ -147,7 +206,11 @@ abbrev lines : List TlvReason
 lines = tlv_reasons
 
 pub reason_meets : (max : ℕ) (r : TlvReason) (b : List ℕ) → IsReason max r b → Meets max b r
-reason_meets max r b h = (h.0, first_holds lines (IsWrong (length h.0.rooms) (room_of (max - length h.0.before) h.0.rooms) h.0.header h.0.octet) r h.1)
+reason_meets max r b h = (
+  h.0,
+  first_holds lines
+      (IsWrong (length h.0.rooms) (room_of (max - length h.0.before) h.0.rooms) h.0.header h.0.octet) r h.1,
+)
 
 pub last_of : (a c : List ℕ) (x y : ℕ) → a ++ x ∷ [] ≡ c ++ y ∷ [] → (a ≡ c) × (x ≡ y)
 last_of a c x y e =
@@ -155,9 +218,13 @@ last_of a c x y e =
     let parts = split a (x ∷ []) c (y ∷ []) len e in
     (parts.0, head_of parts.1)
 
-same_lines : (level level' room room' : ℕ) (h h' : List ℕ) (x x' : ℕ) (r : TlvReason) → level ≡ level' → room ≡ room' → h ≡ h' → x ≡ x' → IsFirst lines (IsWrong level' room' h' x') r → IsFirst lines (IsWrong level room h x) r
+same_lines : (level level' room room' : ℕ) (h h' : List ℕ) (x x' : ℕ) (r : TlvReason) → level ≡ level' → room ≡ room'
+    → h ≡ h' → x ≡ x' → IsFirst lines (IsWrong level' room' h' x') r → IsFirst lines (IsWrong level room h x) r
 same_lines level level' room room' h h' x x' r a b c d w =
-    subst (λ (k : ℕ). IsFirst lines (IsWrong k room h x) r) (sym a) (subst (λ (k : ℕ). IsFirst lines (IsWrong level' k h x) r) (sym b) (subst (λ (l : List ℕ). IsFirst lines (IsWrong level' room' l x) r) (sym c) (subst (λ (k : ℕ). IsFirst lines (IsWrong level' room' h' k) r) (sym d) w)))
+    subst (λ (k : ℕ). IsFirst lines (IsWrong k room h x) r) (sym a)
+    (subst (λ (k : ℕ). IsFirst lines (IsWrong level' k h x) r) (sym b)
+    (subst (λ (l : List ℕ). IsFirst lines (IsWrong level' room' l x) r) (sym c)
+    (subst (λ (k : ℕ). IsFirst lines (IsWrong level' room' h' k) r) (sym d) w)))
 
 pub one_reason : (max : ℕ) (r s : TlvReason) (b : List ℕ) → IsReason max r b → IsReason max s b → r ≡ s
 one_reason max r s b h g =
@@ -165,9 +232,13 @@ one_reason max r s b h g =
     let f = g.0 in
     let ends = last_of e.before f.before e.octet f.octet (sym e.is ∙ f.is) in
     let before : f.before ≡ e.before = sym ends.0 in
-    let opening = one_opening e.rooms f.rooms 1 e.header f.header e.before e.opens (subst (λ (l : List ℕ). Opens 1 f.rooms f.header l) before f.opens) e.begun f.begun in
+    let opening = one_opening e.rooms f.rooms 1 e.header f.header e.before e.opens
+    (subst (λ (l : List ℕ). Opens 1 f.rooms f.header l) before f.opens) e.begun f.begun in
     let left : max - length e.before ≡ max - length f.before = ap (λ (l : List ℕ). max - length l) ends.0 in
-    first_once lines (IsWrong (length e.rooms) (room_of (max - length e.before) e.rooms) e.header e.octet) r s h.1 (same_lines (length e.rooms) (length f.rooms) (room_of (max - length e.before) e.rooms) (room_of (max - length f.before) f.rooms) e.header f.header e.octet f.octet s (ap length opening.0) (ap (room_of (max - length e.before)) opening.0 ∙ ap (λ (k : ℕ). room_of k f.rooms) left) opening.1 ends.1 g.1)
+    first_once lines (IsWrong (length e.rooms) (room_of (max - length e.before) e.rooms) e.header e.octet) r s h.1
+    (same_lines (length e.rooms) (length f.rooms) (room_of (max - length e.before) e.rooms)
+    (room_of (max - length f.before) f.rooms) e.header f.header e.octet f.octet s (ap length opening.0)
+    (ap (room_of (max - length e.before)) opening.0 ∙ ap (λ (k : ℕ). room_of k f.rooms) left) opening.1 ends.1 g.1)
 
 -- ---- some verdict
 
@@ -218,14 +289,31 @@ stands_begins max b le s =
     (c.0, repair s.under ++ zeros c.1, subst (IsForest max c.0) (append_assoc b (repair s.under) (zeros c.1)) c.2)
 
 -- where the octets before a place stand, and the one there meets a reason, that is the verdict
-pub refuses_at : (max n : ℕ) (b : List ℕ) (r : TlvReason) → n < length b → n ≤ max → (s : Stands 1 (max - n) (take n b)) → IsHeader s.under → IsFirst lines (IsWrong (length s.rooms) (room_of (max - n) s.rooms) (under_octets s.under) (get_or b n 0)) r
+pub refuses_at : (max n : ℕ) (b : List ℕ) (r : TlvReason) → n < length b → n ≤ max → (s : Stands 1 (max - n) (take n b))
+    → IsHeader s.under → IsFirst lines (IsWrong (length s.rooms) (room_of (max - n) s.rooms) (under_octets s.under)
+    (get_or b n 0)) r
     → Refuses whole (IsForest max) (IsReason max) b (At n r)
 refuses_at max n b r lt le s h first =
     let count : length (take n b) ≡ n = omega (arith, length-take n b) in
-    let reason : IsReason max r (take (n + 1) b) = (ends_in_header n max b lt s h, subst (λ (k : ℕ). IsFirst lines (IsWrong (length s.rooms) (room_of (max - k) s.rooms) (under_octets s.under) (get_or b n 0)) r) (sym count) first) in
-    let stuck : Begins (IsForest max) (take (n + 1) b) → ⊥ = refused max (take (n + 1) b) r (reason_meets max r (take (n + 1) b) reason) in
-    let begun : Begins (IsForest max) (take n b) = stands_begins max (take n b) (omega arith) (subst (λ (k : ℕ). Stands 1 (max - k) (take n b)) (sym count) s) in
-    (record { none = λ t k a. stuck (begins_all (IsForest max) (n + 1) b (t, [], subst (IsForest max t) (sym (append-nil b)) a.1)); inside = lt; begun = begun; stuck = stuck }, reason)
+    let reason : IsReason max r (take (n + 1) b) = (
+      ends_in_header n max b lt s h,
+      subst
+          (λ (k : ℕ). IsFirst lines (IsWrong (length s.rooms) (room_of (max - k) s.rooms) (under_octets s.under)
+          (get_or b n 0)) r) (sym count) first,
+    ) in
+    let stuck : Begins (IsForest max) (take (n + 1) b) → ⊥ =
+    refused max (take (n + 1) b) r (reason_meets max r (take (n + 1) b) reason) in
+    let begun : Begins (IsForest max) (take n b) =
+    stands_begins max (take n b) (omega arith) (subst (λ (k : ℕ). Stands 1 (max - k) (take n b)) (sym count) s) in (
+      record {
+        none = λ t k a. stuck (begins_all (IsForest max) (n + 1) b
+            (t, [], subst (IsForest max t) (sym (append-nil b)) a.1));
+        inside = lt;
+        begun = begun;
+        stuck = stuck;
+      },
+      reason,
+    )
 
 header_dec : (u : Under) → Dec (IsHeader u)
 header_dec Nothing = inl tt
@@ -236,8 +324,19 @@ header_dec (Sized tag form more) = inl tt
 header_dec (Valued tag form value left) = inr (λ e. e)
 
 -- the first octets stand somewhere, or one of them is refused
-scan : (n max : ℕ) (b : List ℕ) → AreOctets b → n ≤ length b → ((n ≤ max) × Stands 1 (max - n) (take n b)) ⊎ ((s : Stop TlvReason) × Refuses whole (IsForest max) (IsReason max) b s)
-scan zero max b octets le = inl (omega arith, record { rooms = []; under = Nothing; opens = record { done = End; proper = tt; is = refl }; ok = omega arith; fits = omega arith })
+scan : (n max : ℕ) (b : List ℕ) → AreOctets b → n ≤ length b → ((n ≤ max) × Stands 1 (max - n) (take n b))
+    ⊎ ((s : Stop TlvReason) × Refuses whole (IsForest max) (IsReason max) b s)
+scan zero max b octets le = inl (
+  omega arith,
+  record {
+    rooms = [];
+    under = Nothing;
+    opens = record { done = End; proper = tt; is = refl };
+    ok =
+        omega arith;
+    fits = omega arith;
+  },
+)
 scan (suc n) max b octets le =
     elim (scan n max b octets (omega arith)) [
       | inr stop ↦ inr stop
@@ -246,12 +345,18 @@ scan (suc n) max b octets le =
           let x = get_or b n 0 in
           elim (header_dec s.under) [
             | inr value ↦ inl (stands_more n max b octets (omega arith) before.0 s (λ h r w. value h))
-            | inl h ↦ elim (first_dec lines (IsWrong (length s.rooms) (room_of (max - n) s.rooms) (under_octets s.under) x) (line_dec (length s.rooms) (room_of (max - n) s.rooms) (under_octets s.under) x)) [
-              | inl first ↦ inr (At n first.0, refuses_at max n b first.0 (omega arith) before.0 s h first.1)
-              | inr none ↦ inl (
-                  stands_more n max b octets (omega arith) before.0 s (λ g r w. some_first lines (IsWrong (length s.rooms) (room_of (max - n) s.rooms) (under_octets s.under) x) (line_dec (length s.rooms) (room_of (max - n) s.rooms) (under_octets s.under) x) r (is_line r) none w)
-                  )
-            ]
+            | inl h ↦ elim (first_dec lines
+                (IsWrong (length s.rooms) (room_of (max - n) s.rooms) (under_octets s.under) x)
+                (line_dec (length s.rooms) (room_of (max - n) s.rooms) (under_octets s.under) x)) [
+                  | inl first ↦ inr (At n first.0, refuses_at max n b first.0 (omega arith) before.0 s h first.1)
+                  | inr none ↦ inl (
+                      stands_more n max b octets (omega arith) before.0 s
+                      (λ g r w. some_first lines
+                      (IsWrong (length s.rooms) (room_of (max - n) s.rooms) (under_octets s.under) x)
+                      (line_dec (length s.rooms) (room_of (max - n) s.rooms) (under_octets s.under) x) r (is_line r)
+                      none w)
+                      )
+                ]
           ]
     ]
 
@@ -264,7 +369,18 @@ under_partial (First x) d ok = inl (under_begun (First x) d ok tt)
 under_partial (Second x y) d ok = inl (under_begun (Second x y) d ok tt)
 under_partial (Tagged tag) d ok = inl (under_begun (Tagged tag) d ok tt)
 under_partial (Sized tag form more) d ok = inl (under_begun (Sized tag form more) d ok tt)
-under_partial (Valued tag form value left) d ok = inr (record { tag = tag; form = form; n = length value + left; value = value; is_tag = ok.0.is_tag; fits = ok.0.fits; less = omega (arith, ok.2); is = refl })
+under_partial (Valued tag form value left) d ok =
+    inr (record {
+      tag = tag;
+      form = form;
+      n = length value + left;
+      value = value;
+      is_tag = ok.0.is_tag;
+      fits =
+          ok.0.fits;
+      less = omega (arith, ok.2);
+      is = refl;
+    })
 
 -- something is under way
 under_empty : (u : Under) (d : ℕ) → IsUnder d u → under_octets u ≡ [] → (u ≡ Nothing → ⊥) → ⊥
@@ -277,33 +393,52 @@ under_empty (Sized (x ∷ tag) form more) d ok e idle = cc
 under_empty (Valued tag form value left) d ok e idle = header_not_nil tag form (length value + left) value ok.0.is_tag e
 
 -- octets that leave something under way are no forest
-pub busy : (rooms : List ℕ) (u : Under) (b : List ℕ) (t : Tree) → Opens 1 rooms (under_octets u) b → IsUnder (1 + length rooms) u → IsProper 1 t → b ≡ spelling t → (u ≡ Nothing → ⊥) → ⊥
-busy [] u b t o ok ht e idle = under_empty u (1 + 0) ok (sym (same_done t o.done 1 1 [] (under_octets u) ht o.proper (inl begun_nil) (under_partial u (1 + 0) ok) (append-nil (spelling t) ∙ sym e ∙ o.is)).1) idle
+pub busy : (rooms : List ℕ) (u : Under) (b : List ℕ) (t : Tree) → Opens 1 rooms (under_octets u) b
+    → IsUnder (1 + length rooms) u → IsProper 1 t → b ≡ spelling t → (u ≡ Nothing → ⊥) → ⊥
+busy [] u b t o ok ht e idle = under_empty u (1 + 0) ok
+    (sym (same_done t o.done 1 1 [] (under_octets u) ht o.proper (inl begun_nil) (under_partial u (1 + 0) ok)
+    (append-nil (spelling t) ∙ sym e ∙ o.is)).1) idle
 busy (room ∷ rooms) u b t o ok ht e idle =
     let p = o.1 in
     let header = header_of p.tag p.form (length o.0 + room) in
-    header_not_nil p.tag p.form (length o.0 + room) o.0 p.object.is_tag (sym (same_done t p.done 1 1 [] (header ++ o.0) ht p.proper (inl begun_nil) (inr (open_tail 1 room o.0 b p)) (append-nil (spelling t) ∙ sym e ∙ p.is)).1)
+    header_not_nil p.tag p.form (length o.0 + room) o.0 p.object.is_tag
+    (sym (same_done t p.done 1 1 [] (header ++ o.0) ht p.proper (inl begun_nil) (inr (open_tail 1 room o.0 b p))
+    (append-nil (spelling t) ∙ sym e ∙ p.is)).1)
 
-at_end : (rooms : List ℕ) (u : Under) (b : List ℕ) → Opens 1 rooms (under_octets u) b → IsUnder (1 + length rooms) u → ((done : Tree) × IsProper 1 done × (b ≡ spelling done)) ⊎ ((t : Tree) → IsProper 1 t → b ≡ spelling t → ⊥)
+at_end : (rooms : List ℕ) (u : Under) (b : List ℕ) → Opens 1 rooms (under_octets u) b → IsUnder (1 + length rooms) u
+    → ((done : Tree) × IsProper 1 done × (b ≡ spelling done)) ⊎ ((t : Tree) → IsProper 1 t → b ≡ spelling t → ⊥)
 at_end [] u b o ok =
     elim (nil_dec (under_octets u)) [
-      | inl e ↦ inl (o.done, o.proper, o.is ∙ ap (λ (l : List ℕ). spelling o.done ++ l) e ∙ append-nil (spelling o.done))
-      | inr ne ↦ inr (λ t ht e. ne (sym (same_done t o.done 1 1 [] (under_octets u) ht o.proper (inl begun_nil) (under_partial u (1 + 0) ok) (append-nil (spelling t) ∙ sym e ∙ o.is)).1))
+      | inl e ↦ inl (
+        o.done,
+        o.proper,
+        o.is ∙ ap (λ (l : List ℕ). spelling o.done ++ l) e
+            ∙ append-nil (spelling o.done),
+      )
+      | inr ne ↦ inr (λ t ht e. ne (sym (same_done t o.done 1 1 [] (under_octets u) ht o.proper (inl begun_nil)
+          (under_partial u (1 + 0) ok) (append-nil (spelling t) ∙ sym e ∙ o.is)).1))
     ]
 at_end (room ∷ rooms) u b o ok =
     let p = o.1 in
     let header = header_of p.tag p.form (length o.0 + room) in
-    inr (λ t ht e. header_not_nil p.tag p.form (length o.0 + room) o.0 p.object.is_tag (sym (same_done t p.done 1 1 [] (header ++ o.0) ht p.proper (inl begun_nil) (inr (open_tail 1 room o.0 b p)) (append-nil (spelling t) ∙ sym e ∙ p.is)).1))
+    inr (λ t ht e. header_not_nil p.tag p.form (length o.0 + room) o.0 p.object.is_tag
+    (sym (same_done t p.done 1 1 [] (header ++ o.0) ht p.proper (inl begun_nil) (inr (open_tail 1 room o.0 b p))
+    (append-nil (spelling t) ∙ sym e ∙ p.is)).1))
 
-pub some_verdict : (max : ℕ) (b : List ℕ) → AreOctets b → ((t : Tree) × IsForest max t b) ⊎ ((s : Stop TlvReason) × Refuses whole (IsForest max) (IsReason max) b s)
+pub some_verdict : (max : ℕ) (b : List ℕ) → AreOctets b → ((t : Tree) × IsForest max t b)
+    ⊎ ((s : Stop TlvReason) × Refuses whole (IsForest max) (IsReason max) b s)
 some_verdict max b octets =
     elim (scan (length b) max b octets (omega arith)) [
       | inr stop ↦ inr stop
       | inl found ↦
-          let s : Stands 1 (max - length b) b = subst (λ (l : List ℕ). Stands 1 (max - length b) l) (take_all (length b) b (omega arith)) found.1 in
+          let s : Stands 1 (max - length b) b =
+          subst (λ (l : List ℕ). Stands 1 (max - length b) l) (take_all (length b) b (omega arith)) found.1 in
           elim (at_end s.rooms s.under b s.opens s.ok) [
             | inl done ↦ inl (done.0, record { proper = done.1; is = done.2; size = found.0 })
-            | inr none ↦ inr (Short (length b), record { none = λ t n a. none t a.1.proper a.1.is; end = refl; begun = stands_begins max b found.0 s })
+            | inr none ↦ inr (
+              Short (length b),
+              record { none = λ t n a. none t a.1.proper a.1.is; end = refl; begun = stands_begins max b found.0 s },
+            )
           ]
     ]
 

@@ -29,22 +29,27 @@ use Rattle.tlv_core.proofs.Grows.{idle_grown, none_under}
 use Rattle.tlv_core.proofs.Flattening.{Grew, placed_next, octet_grew, run_grew}
 
 split_at : (b : List ℕ) (i : ℕ) → i < length b → b ≡ take i b ++ get_or b i 0 ∷ drop (i + 1) b
-split_at b i lt = sym (take-append-drop (i + 1) b) ∙ ap (λ (l : List ℕ). l ++ drop (i + 1) b) (take_more b i 0 lt) ∙ append_assoc (take i b) (get_or b i 0 ∷ []) (drop (i + 1) b)
+split_at b i lt = sym (take-append-drop (i + 1) b) ∙ ap (λ (l : List ℕ). l ++ drop (i + 1) b) (take_more b i 0 lt)
+    ∙ append_assoc (take i b) (get_or b i 0 ∷ []) (drop (i + 1) b)
 
 -- before the first octet
-pub flat_none : (max : ℕ) (k : Kept) (b : List ℕ) → k ≡ record { max = max; count = 0; rooms = []; header = []; value_left = 0 } → HasFlat b k []
+pub flat_none : (max : ℕ) (k : Kept) (b : List ℕ)
+    → k ≡ record { max = max; count = 0; rooms = []; header = []; value_left = 0 } → HasFlat b k []
 flat_none max k b is =
     subst (λ (l : Kept). HasFlat b l []) (sym is)
     (record {
       within = omega arith;
-      taken = taken_of max [] [] Nothing (omega arith) (record { done = End; proper = tt; is = refl }) (omega arith) (omega arith);
+      taken = taken_of max [] [] Nothing (omega arith) (record { done = End; proper = tt; is = refl }) (omega arith)
+          (omega arith);
       tree = record { opened = []; list = End; value = None };
       grown = record { opened = refl; proper = tt; under = refl };
       parts_are = refl;
     })
 
 -- what grew, with its parts
-pub flat_grew : (b : List ℕ) (k : Kept) (now : List ℕ) (all : List Placed) (parts : List Part) → k.count ≤ length b → now ≡ take k.count b → HasTaken now k → Grew now k all → map part_seen parts ≡ map (part_in b) all → HasFlat b k parts
+pub flat_grew : (b : List ℕ) (k : Kept) (now : List ℕ) (all : List Placed) (parts : List Part) → k.count ≤ length b
+    → now ≡ take k.count b → HasTaken now k → Grew now k all → map part_seen parts ≡ map (part_in b) all
+    → HasFlat b k parts
 flat_grew b k now all parts le is taken g e =
     record {
       within = le;
@@ -54,12 +59,14 @@ flat_grew b k now all parts le is taken g e =
       parts_are = e ∙ ap (map (part_in b)) (sym g.placed_is);
     }
 
-pub flat_run : (b : List ℕ) (k : Kept) (parts : List Part) (m : ℕ) → AreOctets b → 0 < m → m ≤ k.value_left → m ≤ length b - k.count → HasFlat b k parts → HasFlat b (after_run k m) parts
+pub flat_run : (b : List ℕ) (k : Kept) (parts : List Part) (m : ℕ) → AreOctets b → 0 < m → m ≤ k.value_left
+    → m ≤ length b - k.count → HasFlat b k parts → HasFlat b (after_run k m) parts
 flat_run b k parts m octets some le fits h =
     let add = take m (drop k.count b) in
     let len : length add ≡ m = omega (arith, length-take m (drop k.count b), length-drop k.count b) in
     let add_octets : AreOctets add = octets-take m (drop k.count b) (octets-drop k.count b octets) in
-    flat_grew b (after_run k m) (take k.count b ++ add) (placed h.tree) parts (omega (arith, h.within)) (take_taken_more k.count m b) (skip_taken (take k.count b) k m add len add_octets some le h.taken)
+    flat_grew b (after_run k m) (take k.count b ++ add) (placed h.tree) parts (omega (arith, h.within))
+    (take_taken_more k.count m b) (skip_taken (take k.count b) k m add len add_octets some le h.taken)
     (run_grew (take k.count b) k m add h.tree h.taken len add_octets some le h.grown) h.parts_are
 
 entered_count : (k : Kept) (n bit : ℕ) → (entered k n bit).count ≡ k.count
@@ -72,15 +79,21 @@ after_count k next.Filler = refl
 after_count k (next.Under longer) = refl
 after_count k (next.Object o) = entered_count (after_octet k []) o.len (constructed_bit o.tag)
 
-flat_octet : (b : List ℕ) (k : Kept) (old new : List Part) (next : Next) → k.count < length b → k.value_left ≡ 0 → IsStep k (get_or b k.count 0) next → map part_seen new ≡ map part_seen old ++ map (part_in b) (placed_next (1 + length k.rooms) (k.count + 1) next) → HasFlat b k old
+flat_octet : (b : List ℕ) (k : Kept) (old new : List Part) (next : Next) → k.count < length b → k.value_left ≡ 0
+    → IsStep k (get_or b k.count 0) next → map part_seen new ≡ map part_seen old
+    ++ map (part_in b) (placed_next (1 + length k.rooms) (k.count + 1) next) → HasFlat b k old
     → HasFlat b (after_next k next) new
 flat_octet b k old new next lt z step e h =
     let x = get_or b k.count 0 in
     let more = placed_next (1 + length k.rooms) (k.count + 1) next in
     let count = after_count k next in
-    let is : take k.count b ++ x ∷ [] ≡ take (after_next k next).count b = sym (take_more b k.count 0 lt) ∙ ap (λ (n : ℕ). take n b) (sym count) in
-    flat_grew b (after_next k next) (take k.count b ++ x ∷ []) (placed h.tree ++ more) new (omega arith) is (take_taken (take k.count b) k x next z step h.taken) (octet_grew (take k.count b) k x next h.tree h.taken z step h.grown)
-    (e ∙ ap (λ (l : List PartValue). l ++ map (part_in b) more) h.parts_are ∙ sym (map-append (part_in b) (placed h.tree) more))
+    let is : take k.count b ++ x ∷ [] ≡ take (after_next k next).count b =
+    sym (take_more b k.count 0 lt) ∙ ap (λ (n : ℕ). take n b) (sym count) in
+    flat_grew b (after_next k next) (take k.count b ++ x ∷ []) (placed h.tree ++ more) new (omega arith) is
+    (take_taken (take k.count b) k x next z step h.taken)
+    (octet_grew (take k.count b) k x next h.tree h.taken z step h.grown)
+    (e ∙ ap (λ (l : List PartValue). l ++ map (part_in b) more) h.parts_are
+    ∙ sym (map-append (part_in b) (placed h.tree) more))
 
 some_none : (o : ObjectHeader) → Some o ≡ None → ⊥
 some_none o e = cc
@@ -88,25 +101,39 @@ some_none o e = cc
 same_some : (p o : ObjectHeader) → Some p ≡ Some o → p ≡ o
 same_some p o e = cc
 
-pub flat_object : (b : List ℕ) (k : Kept) (old new : List Part) (next : Next) (o : ObjectHeader) → k.count < length b → k.value_left ≡ 0 → IsStep k (get_or b k.count 0) next → object_in next ≡ Some o
-    → IsKeptPart b (record { depth = 1 + length k.rooms; tag = o.tag; form = o.form; place = k.count + 1; len = o.len }) old new → HasFlat b k old → HasFlat b (after_next k next) new
+pub flat_object : (b : List ℕ) (k : Kept) (old new : List Part) (next : Next) (o : ObjectHeader) → k.count < length b
+    → k.value_left ≡ 0 → IsStep k (get_or b k.count 0) next → object_in next ≡ Some o
+    → IsKeptPart b (record { depth = 1 + length k.rooms; tag = o.tag; form = o.form; place = k.count + 1; len = o.len })
+    old new → HasFlat b k old → HasFlat b (after_next k next) new
 flat_object b k old new next.Filler o lt z step is e h = absurd (some_none o (sym is))
 flat_object b k old new (next.Under longer) o lt z step is e h = absurd (some_none o (sym is))
-flat_object b k old new (next.Object p) o lt z step is e h = flat_octet b k old new (next.Object p) lt z step (e ∙ ap (λ (q : ObjectHeader). map part_seen old ++ part_in b (record { depth = 1 + length k.rooms; tag = q.tag; form = q.form; place = k.count + 1; len = q.len }) ∷ []) (sym (same_some p o is))) h
+flat_object b k old new (next.Object p) o lt z step is e h =
+    flat_octet b k old new (next.Object p) lt z step
+    (e ∙ ap (λ (q : ObjectHeader). map part_seen old
+    ++ part_in b (record { depth = 1 + length k.rooms; tag = q.tag; form = q.form; place = k.count + 1; len = q.len }) ∷
+    []) (sym (same_some p o is))) h
 
-pub flat_other : (b : List ℕ) (k : Kept) (parts : List Part) (next : Next) → k.count < length b → k.value_left ≡ 0 → IsStep k (get_or b k.count 0) next → object_in next ≡ None → HasFlat b k parts → HasFlat b (after_next k next) parts
-flat_other b k parts next.Filler lt z step is h = flat_octet b k parts parts next.Filler lt z step (sym (append-nil (map part_seen parts))) h
-flat_other b k parts (next.Under longer) lt z step is h = flat_octet b k parts parts (next.Under longer) lt z step (sym (append-nil (map part_seen parts))) h
+pub flat_other : (b : List ℕ) (k : Kept) (parts : List Part) (next : Next) → k.count < length b → k.value_left ≡ 0
+    → IsStep k (get_or b k.count 0) next → object_in next ≡ None → HasFlat b k parts
+    → HasFlat b (after_next k next) parts
+flat_other b k parts next.Filler lt z step is h =
+    flat_octet b k parts parts next.Filler lt z step (sym (append-nil (map part_seen parts))) h
+flat_other b k parts (next.Under longer) lt z step is h =
+    flat_octet b k parts parts (next.Under longer) lt z step (sym (append-nil (map part_seen parts))) h
 flat_other b k parts (next.Object o) lt z step is h = absurd (some_none o is)
 
-pub flat_refused : (b : List ℕ) (k : Kept) (parts : List Part) (r : TlvReason) → k.count < length b → k.value_left ≡ 0 → IsFirst tlv_reasons (IsWrongAfter k (get_or b k.count 0)) r → HasFlat b k parts → Refuses whole (IsForest k.max) (IsReason k.max) b (At k.count r)
+pub flat_refused : (b : List ℕ) (k : Kept) (parts : List Part) (r : TlvReason) → k.count < length b → k.value_left ≡ 0
+    → IsFirst tlv_reasons (IsWrongAfter k (get_or b k.count 0)) r → HasFlat b k parts
+    → Refuses whole (IsForest k.max) (IsReason k.max) b (At k.count r)
 flat_refused b k parts r lt z first h =
     let x = get_or b k.count 0 in
-    subst (λ (l : List ℕ). Refuses whole (IsForest k.max) (IsReason k.max) l (At k.count r)) (sym (split_at b k.count lt)) (refuses_next (take k.count b) k x (drop (k.count + 1) b) r z first h.taken)
+    subst (λ (l : List ℕ). Refuses whole (IsForest k.max) (IsReason k.max) l (At k.count r))
+    (sym (split_at b k.count lt)) (refuses_next (take k.count b) k x (drop (k.count + 1) b) r z first h.taken)
 
 -- ---- the end
 
-none_open_of : (opened : List Opened) (rooms inner b : List ℕ) → AreOpen 1 opened rooms inner b → rooms ≡ [] → opened ≡ []
+none_open_of : (opened : List Opened) (rooms inner b : List ℕ) → AreOpen 1 opened rooms inner b → rooms ≡ []
+    → opened ≡ []
 none_open_of [] rooms inner b h e = refl
 none_open_of (o ∷ opened) [] inner b h e = absurd h
 none_open_of (o ∷ opened) (room ∷ rooms) inner b h e = absurd (omega (arith, ap length e))
@@ -117,19 +144,31 @@ pub record IsWholeFlat (b : List ℕ) (max : ℕ) (parts : List Part) : Type 0 w
   pub forest : IsForest max tree b
   pub parts_are : (t : Tree) → IsForest max t b → map part_seen parts ≡ parts_in b t
 
-pub flat_whole : (b : List ℕ) (k : Kept) (parts : List Part) → HasFlat b k parts → length b ≤ k.count → IsIdle k → IsWholeFlat b k.max parts
+pub flat_whole : (b : List ℕ) (k : Kept) (parts : List Part) → HasFlat b k parts → length b ≤ k.count → IsIdle k
+    → IsWholeFlat b k.max parts
 flat_whole b k parts h le idle =
     let g = h.tree in
     let all : take k.count b ≡ b = take_all k.count b le in
-    let forest : IsForest k.max g.list b = subst (IsForest k.max g.list) all (idle_grown (take k.count b) k g h.taken h.grown idle) in
+    let forest : IsForest k.max g.list b =
+    subst (IsForest k.max g.list) all (idle_grown (take k.count b) k g h.taken h.grown idle) in
     let none = none_open_of g.opened k.rooms _ (take k.count b) h.grown.opened idle.0 in
     let value = none_under (1 + length k.rooms) g.value k.header k.value_left h.grown.under idle.2 in
     let placed_is : placed g ≡ preorder 1 0 g.list =
-    ap (λ (l : List Opened). placed_in 1 0 l (placed_list g.list g.value)) none ∙ ap (λ (v : Option ValueSoFar). placed_list g.list v 1 0) value ∙ append-nil (preorder 1 0 g.list) in
-    record { tree = g.list; forest = forest; parts_are = λ t u. h.parts_are ∙ ap (map (part_in b)) placed_is ∙ ap (parts_in b) (one_forest k.max k.max g.list t b forest u) }
+    ap (λ (l : List Opened). placed_in 1 0 l (placed_list g.list g.value)) none
+    ∙ ap (λ (v : Option ValueSoFar). placed_list g.list v 1 0) value ∙ append-nil (preorder 1 0 g.list) in
+    record {
+      tree = g.list;
+      forest = forest;
+      parts_are =
+          λ t u. h.parts_are ∙ ap (map (part_in b)) placed_is
+          ∙ ap (parts_in b) (one_forest k.max k.max g.list t b forest u);
+    }
 
-pub flat_short : (b : List ℕ) (k : Kept) (parts : List Part) → HasFlat b k parts → length b ≤ k.count → (IsIdle k → ⊥) → IsShort whole (IsForest k.max) b k.count
-flat_short b k parts h le busy = let all : take k.count b ≡ b = take_all k.count b le in subst (λ (l : List ℕ). IsShort whole (IsForest k.max) l k.count) all (busy_end (take k.count b) k h.taken busy)
+pub flat_short : (b : List ℕ) (k : Kept) (parts : List Part) → HasFlat b k parts → length b ≤ k.count → (IsIdle k → ⊥)
+    → IsShort whole (IsForest k.max) b k.count
+flat_short b k parts h le busy = let all : take k.count b ≡ b =
+    take_all k.count b le in subst (λ (l : List ℕ). IsShort whole (IsForest k.max) l k.count) all
+    (busy_end (take k.count b) k h.taken busy)
 
 -- what follows at success
 pub on_ok : {A B P Q : Type 0} (r : Result A B) → (P → Q) → OnOk r P → OnOk r Q

@@ -32,7 +32,8 @@ filled known (e ∷ entries) = entry_part known e ++ filled known entries
 
 -- two known values have one tag
 abbrev pub HasDuplicate : List Known → Type 0
-HasDuplicate known = (i j : ℕ) × (i < j) × (j < length known) × (k l : Known) × (slice_get known i ≡ Some k) × (slice_get known j ≡ Some l) × (k.tag ≡ l.tag)
+HasDuplicate known = (i j : ℕ) × (i < j) × (j < length known) × (k l : Known) × (slice_get known i ≡ Some k)
+    × (slice_get known j ≡ Some l) × (k.tag ≡ l.tag)
 
 -- why a list isn't filled: two known values have one tag; else memory was wanted
 abbrev pub IsFillFault : List Known → FillFault → Type 0

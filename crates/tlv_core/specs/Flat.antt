@@ -18,7 +18,14 @@ pub record PartValue : Type 0 where
 
 -- the object that is placed so in the octets b
 abbrev pub part_in : List ℕ → Placed → PartValue
-part_in b p = record { depth = p.depth; tag = p.tag; form = p.form; place = p.place; value = take p.len (drop p.place b) }
+part_in b p = record {
+  depth = p.depth;
+  tag = p.tag;
+  form = p.form;
+  place = p.place;
+  value =
+      take p.len (drop p.place b);
+}
 
 -- the parts of the forest that the octets b spell
 abbrev pub parts_in : List ℕ → Tree → List PartValue
@@ -29,14 +36,30 @@ abbrev pub parts_of : ℕ → ℕ → Tree → List PartValue
 parts_of d at End = []
 parts_of d at (Filler rest) = parts_of d (at + 1) rest
 parts_of d at (Primitive tag form value rest) =
-    record { depth = d; tag = tag; form = form; place = value_place at tag form (length value); value = value } ∷ parts_of d (value_place at tag form (length value) + length value) rest
+    record { depth = d; tag = tag; form = form; place = value_place at tag form (length value); value = value } ∷
+    parts_of d (value_place at tag form (length value) + length value) rest
 parts_of d at (Constructed tag form nodes rest) =
-    record { depth = d; tag = tag; form = form; place = value_place at tag form (length (spelling nodes)); value = spelling nodes }
-    ∷ (parts_of (d + 1) (value_place at tag form (length (spelling nodes))) nodes ++ parts_of d (value_place at tag form (length (spelling nodes)) + length (spelling nodes)) rest)
+    record {
+      depth = d;
+      tag = tag;
+      form = form;
+      place = value_place at tag form (length (spelling nodes));
+      value =
+          spelling nodes;
+    }
+    ∷ (parts_of (d + 1) (value_place at tag form (length (spelling nodes))) nodes
+    ++ parts_of d (value_place at tag form (length (spelling nodes)) + length (spelling nodes)) rest)
 
 -- what contracts see of the parts that are lent
 abbrev pub part_seen : Part → PartValue
-part_seen part = record { depth = part.depth; tag = part.tag; form = part.form; place = part.place; value = part.value.now }
+part_seen part = record {
+  depth = part.depth;
+  tag = part.tag;
+  form = part.form;
+  place = part.place;
+  value =
+      part.value.now;
+}
 
 -- the part of this object comes after the others
 abbrev pub IsKeptPart : List ℕ → Placed → List Part → List Part → Type 0
@@ -46,7 +69,14 @@ IsKeptPart b p old new = map part_seen new ≡ map part_seen old ++ part_in b p 
 
 -- an object whose header begins at this place
 abbrev pub placed_at : ℕ → ℕ → List ℕ → Form → ℕ → Placed
-placed_at d place tag form n = record { depth = d; tag = tag; form = form; place = value_place place tag form n; len = n }
+placed_at d place tag form n = record {
+  depth = d;
+  tag = tag;
+  form = form;
+  place = value_place place tag form n;
+  len =
+      n;
+}
 
 abbrev pub placed_value : ℕ → ℕ → Option ValueSoFar → List Placed
 placed_value d place None = []
@@ -57,7 +87,8 @@ abbrev pub placed_in : ℕ → ℕ → List Opened → (ℕ → ℕ → List Pla
 placed_in d place [] inner = inner d place
 placed_in d place (o ∷ opened) inner =
     preorder d place o.before
-    ++ (placed_at d (place + length (spelling o.before)) o.tag o.form o.len ∷ placed_in (d + 1) (value_place (place + length (spelling o.before)) o.tag o.form o.len) opened inner)
+    ++ (placed_at d (place + length (spelling o.before)) o.tag o.form o.len ∷ placed_in (d + 1)
+    (value_place (place + length (spelling o.before)) o.tag o.form o.len) opened inner)
 
 -- a list, and the value that is under way after it
 abbrev pub placed_list : Tree → Option ValueSoFar → ℕ → ℕ → List Placed

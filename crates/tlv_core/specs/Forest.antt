@@ -12,7 +12,8 @@ abbrev pub spelling : Tree → List ℕ
 spelling End = []
 spelling (Filler rest) = 0 ∷ spelling rest
 spelling (Primitive tag form value rest) = header_of tag form (length value) ++ (value ++ spelling rest)
-spelling (Constructed tag form nodes rest) = header_of tag form (length (spelling nodes)) ++ (spelling nodes ++ spelling rest)
+spelling (Constructed tag form nodes rest) =
+    header_of tag form (length (spelling nodes)) ++ (spelling nodes ++ spelling rest)
 
 -- the greatest depth at which an object may stand
 abbrev pub deepest : ℕ
@@ -34,7 +35,8 @@ abbrev pub IsProper : ℕ → Tree → Type 0
 IsProper d End = Unit {0}
 IsProper d (Filler rest) = IsProper d rest
 IsProper d (Primitive tag form value rest) = IsObject d 0 tag form (length value) × AreOctets value × IsProper d rest
-IsProper d (Constructed tag form nodes rest) = IsObject d 1 tag form (length (spelling nodes)) × IsProper (d + 1) nodes × IsProper d rest
+IsProper d (Constructed tag form nodes rest) =
+    IsObject d 1 tag form (length (spelling nodes)) × IsProper (d + 1) nodes × IsProper d rest
 
 -- the octets b, at most max of them, spell the forest t, whose outermost objects stand at depth 1
 pub record IsForest (max : ℕ) (t : Tree) (b : List ℕ) : Type 0 where

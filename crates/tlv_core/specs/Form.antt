@@ -28,7 +28,8 @@ capacity form = 256 ^ further form
 -- the form of fewest octets that can say n
 abbrev pub shortest : ℕ → Form
 shortest n =
-    cond (nat_lt n (capacity One)) One (cond (nat_lt n (capacity Two)) Two (cond (nat_lt n (capacity Three)) Three (cond (nat_lt n (capacity Four)) Four Five)))
+    cond (nat_lt n (capacity One)) One (cond (nat_lt n (capacity Two)) Two
+    (cond (nat_lt n (capacity Three)) Three (cond (nat_lt n (capacity Four)) Four Five)))
 
 pub form_back : (form : Form) → form_of (further form) ≡ form
 form_back One = refl

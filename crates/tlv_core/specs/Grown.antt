@@ -41,7 +41,8 @@ abbrev pub AreOpen : ℕ → List Opened → List ℕ → List ℕ → List ℕ 
 AreOpen d [] [] inner b = b ≡ inner
 AreOpen d [] (room ∷ rooms) inner b = ⊥
 AreOpen d (o ∷ opened) [] inner b = ⊥
-AreOpen d (o ∷ opened) (room ∷ rooms) inner b = (value : List ℕ) × IsOpen d o room value b × AreOpen (d + 1) opened rooms inner value
+AreOpen d (o ∷ opened) (room ∷ rooms) inner b =
+    (value : List ℕ) × IsOpen d o room value b × AreOpen (d + 1) opened rooms inner value
 
 -- the octets after the innermost list: those of a header, or the header and the value that is under way
 abbrev pub under_way : Option ValueSoFar → List ℕ → List ℕ
@@ -51,7 +52,8 @@ under_way (Some v) header = header_of v.tag v.form v.len ++ v.octets
 -- a value is under way where so many octets of it are to come
 abbrev pub IsUnderWay : ℕ → Option ValueSoFar → List ℕ → ℕ → Type 0
 IsUnderWay d None header left = left ≡ 0
-IsUnderWay d (Some v) header left = (header ≡ []) × IsObject d 0 v.tag v.form v.len × AreOctets v.octets × (0 < left) × (length v.octets + left ≡ v.len)
+IsUnderWay d (Some v) header left = (header ≡ []) × IsObject d 0 v.tag v.form v.len × AreOctets v.octets × (0 < left)
+    × (length v.octets + left ≡ v.len)
 
 -- the octets b are what this tree spells with what is kept: the rooms of the open objects, the header and the value under way
 pub record HasGrown (b : List ℕ) (k : Kept) (g : Grown) : Type 0 where

@@ -16,7 +16,8 @@ abbrev pub SomeObject : (ℕ → ℕ → List ℕ → Form → ℕ → Type 0) �
 SomeObject Is d End = ⊥
 SomeObject Is d (Filler rest) = SomeObject Is d rest
 SomeObject Is d (Primitive tag form value rest) = Is d 0 tag form (length value) ⊎ SomeObject Is d rest
-SomeObject Is d (Constructed tag form nodes rest) = Is d 1 tag form (length (spelling nodes)) ⊎ (SomeObject Is (d + 1) nodes ⊎ SomeObject Is d rest)
+SomeObject Is d (Constructed tag form nodes rest) =
+    Is d 1 tag form (length (spelling nodes)) ⊎ (SomeObject Is (d + 1) nodes ⊎ SomeObject Is d rest)
 
 -- each tag is one, and each primitive value is octets
 abbrev pub AreObjects : Tree → Type 0
@@ -46,7 +47,8 @@ IsImproper max t improper.Size = max < length (spelling t)
 
 -- the first of these that holds anywhere
 abbrev pub IsFirstImproper : ℕ → Tree → Improper → Type 0
-IsFirstImproper max t r = IsFirst (improper.Depth ∷ improper.Tag ∷ improper.Form ∷ improper.Size ∷ []) (IsImproper max t) r
+IsFirstImproper max t r = IsFirst (improper.Depth ∷ improper.Tag ∷ improper.Form ∷ improper.Size ∷ [])
+    (IsImproper max t) r
 
 -- A list of objects has a spelling exactly where nothing is improper.
 abbrev pub ImproperLaw : ℕ → Tree → Type 0

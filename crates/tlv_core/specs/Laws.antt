@@ -32,7 +32,9 @@ IsCompletedBy max b middle = (t : Tree) × (count : ℕ) × IsForest max t ((b +
 -- A forest begins with b exactly where no octet of b meets a reason. Then zeros complete b, after one octet 01 where b
 -- ends in a first tag octet that others follow.
 abbrev pub Completion : ℕ → List ℕ → Type 0
-Completion max b = (Begins (IsForest max) b ↔ MeetsNone max b) × (Begins (IsForest max) b → (EndsInLong b → IsCompletedBy max b (1 ∷ [])) × ((EndsInLong b → ⊥) → IsCompletedBy max b []))
+Completion max b = (Begins (IsForest max) b ↔ MeetsNone max b)
+    × (Begins (IsForest max) b → (EndsInLong b → IsCompletedBy max b (1 ∷ []))
+    × ((EndsInLong b → ⊥) → IsCompletedBy max b []))
 
 -- every input is a forest or is refused, with one value, one place and one reason
 abbrev pub ForestVerdict : ℕ → List ℕ → Type 0

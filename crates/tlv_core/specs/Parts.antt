@@ -24,10 +24,19 @@ abbrev pub preorder : ℕ → ℕ → Tree → List Placed
 preorder d place End = []
 preorder d place (Filler rest) = preorder d (place + 1) rest
 preorder d place (Primitive tag form value rest) =
-    record { depth = d; tag = tag; form = form; place = value_place place tag form (length value); len = length value } ∷ preorder d (value_place place tag form (length value) + length value) rest
+    record { depth = d; tag = tag; form = form; place = value_place place tag form (length value); len = length value }
+    ∷ preorder d (value_place place tag form (length value) + length value) rest
 preorder d place (Constructed tag form nodes rest) =
-    record { depth = d; tag = tag; form = form; place = value_place place tag form (length (spelling nodes)); len = length (spelling nodes) }
-    ∷ (preorder (d + 1) (value_place place tag form (length (spelling nodes))) nodes ++ preorder d (value_place place tag form (length (spelling nodes)) + length (spelling nodes)) rest)
+    record {
+      depth = d;
+      tag = tag;
+      form = form;
+      place = value_place place tag form (length (spelling nodes));
+      len =
+          length (spelling nodes);
+    }
+    ∷ (preorder (d + 1) (value_place place tag form (length (spelling nodes))) nodes
+    ++ preorder d (value_place place tag form (length (spelling nodes)) + length (spelling nodes)) rest)
 
 -- the first that there is
 abbrev pub or_else : Option Node → Option Node → Option Node
@@ -40,9 +49,12 @@ abbrev pub first_on : List (List ℕ) → Tree → Option Node
 first_on [] t = None
 first_on (tag ∷ []) End = None
 first_on (tag ∷ []) (Filler rest) = first_on (tag ∷ []) rest
-first_on (tag ∷ []) (Primitive own form value rest) = cond (bytes_eq tag own) (Some (node.Primitive own form value)) (first_on (tag ∷ []) rest)
-first_on (tag ∷ []) (Constructed own form nodes rest) = cond (bytes_eq tag own) (Some (node.Constructed own form nodes)) (first_on (tag ∷ []) rest)
+first_on (tag ∷ []) (Primitive own form value rest) =
+    cond (bytes_eq tag own) (Some (node.Primitive own form value)) (first_on (tag ∷ []) rest)
+first_on (tag ∷ []) (Constructed own form nodes rest) =
+    cond (bytes_eq tag own) (Some (node.Constructed own form nodes)) (first_on (tag ∷ []) rest)
 first_on (tag ∷ next ∷ path) End = None
 first_on (tag ∷ next ∷ path) (Filler rest) = first_on (tag ∷ next ∷ path) rest
 first_on (tag ∷ next ∷ path) (Primitive own form value rest) = first_on (tag ∷ next ∷ path) rest
-first_on (tag ∷ next ∷ path) (Constructed own form nodes rest) = or_else (cond (bytes_eq tag own) (first_on (next ∷ path) nodes) None) (first_on (tag ∷ next ∷ path) rest)
+first_on (tag ∷ next ∷ path) (Constructed own form nodes rest) =
+    or_else (cond (bytes_eq tag own) (first_on (next ∷ path) nodes) None) (first_on (tag ∷ next ∷ path) rest)

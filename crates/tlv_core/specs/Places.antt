@@ -23,7 +23,14 @@ pub record AreCheckPlaces (p : CheckPlaces) : Type 0 where
 
 -- what they keep
 abbrev pub kept_at : CheckPlaces → Kept
-kept_at p = record { max = p.max; count = p.count; rooms = rooms_to p.count (ends_at p); header = header_octets p.header; value_left = p.value_left }
+kept_at p = record {
+  max = p.max;
+  count = p.count;
+  rooms = rooms_to p.count (ends_at p);
+  header =
+      header_octets p.header;
+  value_left = p.value_left;
+}
 
 -- and the check that they are
 abbrev pub checked_at : CheckPlaces → Checked

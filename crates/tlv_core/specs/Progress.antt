@@ -5,4 +5,11 @@ use Rattle.tlv_core.specs.Reasons.{Kept}
 use Rattle.tlv_core.specs.Open.{rooms_to}
 
 abbrev pub kept_of : Progress → Kept
-kept_of p = record { max = p.max; count = p.count; rooms = rooms_to p.count p.ends.items; header = header_octets p.header; value_left = p.value_left }
+kept_of p = record {
+  max = p.max;
+  count = p.count;
+  rooms = rooms_to p.count p.ends.items;
+  header =
+      header_octets p.header;
+  value_left = p.value_left;
+}

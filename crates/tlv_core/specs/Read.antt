@@ -34,7 +34,13 @@ opened_of o = record { before = tree_of o.before.items; tag = o.header.tag; form
 
 abbrev pub value_of : Option OpenValue → Option ValueSoFar
 value_of None = None
-value_of (Some v) = Some (record { tag = v.header.tag; form = v.header.form; len = v.header.len; octets = v.octets.items })
+value_of (Some v) = Some (record {
+  tag = v.header.tag;
+  form = v.header.form;
+  len = v.header.len;
+  octets =
+      v.octets.items;
+})
 
 abbrev pub grown_of : Partial → Grown
 grown_of p = record { opened = map opened_of p.opened.items; list = tree_of p.list.items; value = value_of p.value }
@@ -63,11 +69,17 @@ pub record TakesShort (b : List ℕ) (k : Kept) (octets : List ℕ) (o : ShortHe
 
 -- with one object more that is open, after the innermost list
 abbrev pub entering : Grown → ObjectHeader → Grown
-entering g o = record { opened = g.opened ++ record { before = g.list; tag = o.tag; form = o.form; len = o.len } ∷ []; list = End; value = None }
+entering g o = record {
+  opened = g.opened
+      ++ record { before = g.list; tag = o.tag; form = o.form; len = o.len } ∷ [];
+  list = End;
+  value = None;
+}
 
 -- an object with this header: a primitive one with this value, or a constructed one that is empty
 abbrev pub IsWholeNode : ObjectHeader → List ℕ → Node → Type 0
-IsWholeNode o value y = ((constructed_bit o.tag ≡ 0) × (y ≡ node.Primitive o.tag o.form value)) ⊎ ((constructed_bit o.tag ≡ 1) × (y ≡ node.Constructed o.tag o.form End))
+IsWholeNode o value y = ((constructed_bit o.tag ≡ 0) × (y ≡ node.Primitive o.tag o.form value))
+    ⊎ ((constructed_bit o.tag ≡ 1) × (y ≡ node.Constructed o.tag o.form End))
 
 -- ---- the reader
 
@@ -96,7 +108,8 @@ pub record HasRead (b : List ℕ) (r : Reading) : Type 0 where
 abbrev pub IsEndedFeed : ℕ → List ℕ → List ℕ → Reading → ℕ → Refused TlvReason → Type 0
 IsEndedFeed max b piece new n refused.Memory = (n ≤ length piece) × HasRead (b ++ take n piece) new
 IsEndedFeed max b piece new n (refused.Stop stop) =
-    (n ≤ length piece) × HasBegun (b ++ take n piece) new × RefusesAt whole (IsForest max) (IsReason max) (b ++ piece) stop
+    (n ≤ length piece) × HasBegun (b ++ take n piece) new
+    × RefusesAt whole (IsForest max) (IsReason max) (b ++ piece) stop
     × ((r : Refusal) × (new.refusal ≡ Some r) × (stop ≡ At r.place r.reason) × (r.place ≡ length b + n))
 
 -- what it answers once a refusal stands

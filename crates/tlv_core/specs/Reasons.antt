@@ -53,7 +53,8 @@ pub record IsBegun (h : List ℕ) : Type 0 where
 -- after these first octets of a length field
 abbrev pub need_in_length : List ℕ → ℕ
 need_in_length [] = 1
-need_in_length (x ∷ more) = cond (nat_lt x 128) x ((x - 128 - length more) + number_of more * 256 ^ (x - 128 - length more))
+need_in_length (x ∷ more) = cond (nat_lt x 128) x
+    ((x - 128 - length more) + number_of more * 256 ^ (x - 128 - length more))
 
 -- after a second tag octet with bit 8
 abbrev pub need_after_two : List ℕ → ℕ
@@ -124,11 +125,13 @@ pub record EndsInHeader (b : List ℕ) : Type 0 where
 
 -- the last octet of b meets this line of the table
 abbrev pub Meets : ℕ → List ℕ → TlvReason → Type 0
-Meets max b r = (e : EndsInHeader b) × IsWrong (length e.rooms) (room_of (max - length e.before) e.rooms) e.header e.octet r
+Meets max b r = (e : EndsInHeader b) × IsWrong (length e.rooms) (room_of (max - length e.before) e.rooms) e.header
+    e.octet r
 
 -- the reason of a refusal at the last octet of b: the first line of the table that it meets
 abbrev pub IsReason : ℕ → TlvReason → List ℕ → Type 0
-IsReason max r b = (e : EndsInHeader b) × IsFirst tlv_reasons (IsWrong (length e.rooms) (room_of (max - length e.before) e.rooms) e.header e.octet) r
+IsReason max r b = (e : EndsInHeader b) × IsFirst tlv_reasons
+    (IsWrong (length e.rooms) (room_of (max - length e.before) e.rooms) e.header e.octet) r
 
 -- ---- what a check of octets in pieces keeps
 

@@ -12,7 +12,9 @@ use Rattle.tlv_core.specs.Flat.{PartValue}
 
 -- an item is of the same kind, with the same tag, form and value
 abbrev pub same_item : Item → Item → Bool
-same_item = eq_of_both (on (λ i. i.0) ◌==◌) (eq_of_both (on (λ i. i.1.0) (pointwise ◌==◌)) (eq_of_both (on (λ i. further i.1.1.0) ◌==◌) (on (λ i. i.1.1.1) (pointwise ◌==◌))))
+same_item = eq_of_both (on (λ i. i.0) ◌==◌)
+    (eq_of_both (on (λ i. i.1.0) (pointwise ◌==◌))
+    (eq_of_both (on (λ i. further i.1.1.0) ◌==◌) (on (λ i. i.1.1.1) (pointwise ◌==◌))))
 
 -- the items are the same, in their order
 abbrev pub same_tree : Tree → Tree → Bool
@@ -24,12 +26,17 @@ same_node = on (λ node. tree_of (node ∷ [])) same_tree
 
 -- parts of the same depth, tag, form, place and value
 abbrev pub same_part : PartValue → PartValue → Bool
-same_part = eq_of_both (on (λ p. p.depth) ◌==◌) (eq_of_both (on (λ p. p.tag) (pointwise ◌==◌)) (eq_of_both (on (λ p. further p.form) ◌==◌) (eq_of_both (on (λ p. p.place) ◌==◌) (on (λ p. p.value) (pointwise ◌==◌)))))
+same_part = eq_of_both (on (λ p. p.depth) ◌==◌)
+    (eq_of_both (on (λ p. p.tag) (pointwise ◌==◌))
+    (eq_of_both (on (λ p. further p.form) ◌==◌)
+    (eq_of_both (on (λ p. p.place) ◌==◌) (on (λ p. p.value) (pointwise ◌==◌)))))
 
 -- ---- the laws of these comparisons
 
 items_equiv : IsEquivalence (pointwise same_item)
-items_equiv = lists_equiv (and_equiv (on_equiv (λ i. i.0) nat_eq_equiv) (and_equiv (on_equiv (λ i. i.1.0) nat_list_eq_equiv) (and_equiv (on_equiv (λ i. further i.1.1.0) nat_eq_equiv) (on_equiv (λ i. i.1.1.1) nat_list_eq_equiv))))
+items_equiv = lists_equiv (and_equiv (on_equiv (λ i. i.0) nat_eq_equiv)
+    (and_equiv (on_equiv (λ i. i.1.0) nat_list_eq_equiv)
+    (and_equiv (on_equiv (λ i. further i.1.1.0) nat_eq_equiv) (on_equiv (λ i. i.1.1.1) nat_list_eq_equiv))))
 
 pub tree_equiv : IsEquivalence same_tree
 tree_equiv = on_equiv items_of items_equiv
@@ -38,4 +45,7 @@ pub node_equiv : IsEquivalence same_node
 node_equiv = on_equiv (λ node. tree_of (node ∷ [])) tree_equiv
 
 pub parts_equiv : IsEquivalence (pointwise same_part)
-parts_equiv = lists_equiv (and_equiv (on_equiv (λ p. p.depth) nat_eq_equiv) (and_equiv (on_equiv (λ p. p.tag) nat_list_eq_equiv) (and_equiv (on_equiv (λ p. further p.form) nat_eq_equiv) (and_equiv (on_equiv (λ p. p.place) nat_eq_equiv) (on_equiv (λ p. p.value) nat_list_eq_equiv)))))
+parts_equiv = lists_equiv (and_equiv (on_equiv (λ p. p.depth) nat_eq_equiv)
+    (and_equiv (on_equiv (λ p. p.tag) nat_list_eq_equiv)
+    (and_equiv (on_equiv (λ p. further p.form) nat_eq_equiv)
+    (and_equiv (on_equiv (λ p. p.place) nat_eq_equiv) (on_equiv (λ p. p.value) nat_list_eq_equiv)))))

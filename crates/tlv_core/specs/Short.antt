@@ -45,7 +45,14 @@ opened true (suc n) = suc n ∷ []
 
 -- what is kept after such an object, or its header
 abbrev pub after_short : Kept → ShortHeader → Kept
-after_short k o = record { max = k.max; count = k.count + taken_of o; rooms = spent (taken_of o) k.rooms ++ opened o.is_constructed o.len; header = []; value_left = 0 }
+after_short k o = record {
+  max = k.max;
+  count = k.count + taken_of o;
+  rooms =
+      spent (taken_of o) k.rooms ++ opened o.is_constructed o.len;
+  header = [];
+  value_left = 0;
+}
 
 -- after what is kept these octets begin with this header, and what is taken at once of the object is here and fits
 pub record MayCome (k : Kept) (octets : List ℕ) (o : ShortHeader) : Type 0 where

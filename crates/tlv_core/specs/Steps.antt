@@ -23,7 +23,14 @@ after_octet k h = record { max = k.max; count = k.count + 1; rooms = spent 1 k.r
 abbrev pub entered : Kept → ℕ → ℕ → Kept
 entered k zero bit = k
 entered k (suc n) zero = record { max = k.max; count = k.count; rooms = k.rooms; header = k.header; value_left = suc n }
-entered k (suc n) (suc bit) = record { max = k.max; count = k.count; rooms = k.rooms ++ suc n ∷ []; header = k.header; value_left = k.value_left }
+entered k (suc n) (suc bit) = record {
+  max = k.max;
+  count = k.count;
+  rooms = k.rooms ++ suc n ∷ [];
+  header =
+      k.header;
+  value_left = k.value_left;
+}
 
 -- after an octet that makes this of the header
 abbrev pub after_next : Kept → Next → Kept
@@ -33,7 +40,14 @@ after_next k (next.Object o) = entered (after_octet k []) o.len (constructed_bit
 
 -- after m octets of a primitive value
 abbrev pub after_run : Kept → ℕ → Kept
-after_run k m = record { max = k.max; count = k.count + m; rooms = spent m k.rooms; header = k.header; value_left = k.value_left - m }
+after_run k m = record {
+  max = k.max;
+  count = k.count + m;
+  rooms = spent m k.rooms;
+  header = k.header;
+  value_left =
+      k.value_left - m;
+}
 
 -- what is wrong with the octet x after what is kept
 abbrev pub IsWrongAfter : Kept → ℕ → TlvReason → Type 0

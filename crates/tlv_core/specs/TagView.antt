@@ -21,4 +21,5 @@ abbrev pub tag_of_octets : List ℕ → Inside
 tag_of_octets b = record { octets = padded b; count = length b }
 
 pub tag_back : (a : Inside) → IsWholeTag a → tag_of_octets (octets_of_tag a) ≡ a
-tag_back a h = ap (λ (o : List ℕ). record { octets = o; count = length (octets_of_tag a) }) h.octets ∙ ap (λ (n : ℕ). record { octets = a.octets; count = n }) h.count
+tag_back a h = ap (λ (o : List ℕ). record { octets = o; count = length (octets_of_tag a) }) h.octets
+    ∙ ap (λ (n : ℕ). record { octets = a.octets; count = n }) h.count

@@ -58,15 +58,20 @@ trees-back End items = refl
 trees-back (Filler rest) items = ap (with_item 1 (1, ([], (One, [])))) (trees-back rest items)
 trees-back (Primitive tag form value rest) items = ap (with_item 2 (2, (tag, (form, value)))) (trees-back rest items)
 trees-back (Constructed tag form nodes rest) items =
-    ap (λ (is : List Item). with_item 3 (3, (tag, (form, []))) (trees_of is)) (append_assoc (items_of nodes) (items_of rest) items)
-    ∙ ap (with_item 3 (3, (tag, (form, [])))) (trees-back nodes (items_of rest ++ items) ∙ ap (λ (ts : List Tree). nodes ∷ ts) (trees-back rest items))
+    ap (λ (is : List Item). with_item 3 (3, (tag, (form, []))) (trees_of is))
+    (append_assoc (items_of nodes) (items_of rest) items)
+    ∙ ap (with_item 3 (3, (tag, (form, []))))
+    (trees-back nodes (items_of rest ++ items) ∙ ap (λ (ts : List Tree). nodes ∷ ts) (trees-back rest items))
 
 pub tree-back : (t : Tree) → first_tree (trees_of (items_of t)) ≡ t
-tree-back t = ap (λ (is : List Item). first_tree (trees_of is)) (sym (append-nil (items_of t))) ∙ ap first_tree (trees-back t [])
+tree-back t = ap (λ (is : List Item). first_tree (trees_of is)) (sym (append-nil (items_of t)))
+    ∙ ap first_tree (trees-back t [])
 
 -- lists with the same items are one
 pub one_tree : (s t : Tree) → items_of s ≡ items_of t → s ≡ t
 one_tree s t e = sym (tree-back s) ∙ ap (λ (is : List Item). first_tree (trees_of is)) e ∙ tree-back t
 
 abbrev pub tree_code : Coded Tree
-tree_code = code_by (List Item) (coded_list (coded× coded_ℕ (coded× (coded_list coded_ℕ) (coded× form_code (coded_list coded_ℕ))))) items_of (λ is. first_tree (trees_of is)) tree-back
+tree_code = code_by (List Item) (coded_list
+    (coded× coded_ℕ (coded× (coded_list coded_ℕ) (coded× form_code (coded_list coded_ℕ))))) items_of
+    (λ is. first_tree (trees_of is)) tree-back

@@ -61,7 +61,8 @@ impl ForestCheck {
         ensures limit { self.new.kept.max ≡ self.old.kept.max }
         ensures answer { result ≡ answer_of self.new.refusal }
         ensures repeats { OnSome self.old.refusal (self.new ≡ self.old) }
-        ensures taken { (b : List ℕ) → HasChecked b self.old → OnOk result (HasChecked (b ++ piece.now) self.new) }
+        ensures taken { (b : List ℕ) → HasChecked b self.old
+            → OnOk result (HasChecked (b ++ piece.now) self.new) }
         ensures refused { (b : List ℕ) → HasChecked b self.old →
             IfErr result (RefusesAt whole (IsForest self.old.kept.max) (IsReason self.old.kept.max) (b ++ piece.now)) }
     {
@@ -72,7 +73,8 @@ impl ForestCheck {
     /// on, and the refusal that is kept.
     pub fn finish(&self) -> Result<(), Stop<TlvReason>>
         ensures repeats { OnSome self.now.refusal (result ≡ answer_of self.now.refusal) }
-        ensures verdict { (b : List ℕ) → HasChecked b self.now → MatchResult result (λ _. (t : Tree) × IsForest self.now.kept.max t b)
+        ensures verdict { (b : List ℕ) → HasChecked b self.now
+            → MatchResult result (λ _. (t : Tree) × IsForest self.now.kept.max t b)
             (Refuses whole (IsForest self.now.kept.max) (IsReason self.now.kept.max) b) }
         // so what is said of every list that it may have taken is said of some
         ensures some_taken { self.now.refusal ≡ None → (b : List ℕ) × HasChecked b self.now }

@@ -27,10 +27,12 @@ impl Checking {
         ensures limit { (kept_of self.new.progress).max ≡ (kept_of self.old.progress).max }
         ensures answer { result ≡ answer_of (checked_of self.new).refusal }
         ensures repeats { OnSome self.old.refused (self.new ≡ self.old) }
-        ensures taken { (b : List ℕ) → HasChecked b (checked_of self.old) → OnOk result (HasChecked (b ++ piece.now) (checked_of self.new)) }
+        ensures taken { (b : List ℕ) → HasChecked b (checked_of self.old)
+            → OnOk result (HasChecked (b ++ piece.now) (checked_of self.new)) }
         ensures refused { (b : List ℕ) → HasChecked b (checked_of self.old) →
             IfErr result (RefusesAt whole (IsForest self.old.progress.max) (IsReason self.old.progress.max) (b ++ piece.now)) }
-        ensures some { (b : List ℕ) × HasTaken b (kept_of self.old.progress) → (b : List ℕ) × HasTaken b (kept_of self.new.progress) }
+        ensures some { (b : List ℕ) × HasTaken b (kept_of self.old.progress) → (b : List ℕ)
+            × HasTaken b (kept_of self.new.progress) }
     {
         if let Some(refusal) = self.refusal() {
             return Err(refusal.stop());
@@ -51,8 +53,10 @@ impl Checking {
     /// The verdict on all octets: `Ok` where they are a forest, `Short` at their end where one goes on, and
     /// the refusal that is kept.
     pub(crate) fn finish(&self) -> Result<(), Stop<TlvReason>>
-        ensures repeats { OnSome self.now.refused (result ≡ answer_of (checked_of self.now).refusal) }
-        ensures verdict { (b : List ℕ) → HasChecked b (checked_of self.now) → MatchResult result (λ _. (t : Tree) × IsForest self.now.progress.max t b)
+        ensures repeats { OnSome self.now.refused
+            (result ≡ answer_of (checked_of self.now).refusal) }
+        ensures verdict { (b : List ℕ) → HasChecked b (checked_of self.now)
+            → MatchResult result (λ _. (t : Tree) × IsForest self.now.progress.max t b)
             (Refuses whole (IsForest self.now.progress.max) (IsReason self.now.progress.max) b) }
     {
         if let Some(refusal) = self.refusal() {

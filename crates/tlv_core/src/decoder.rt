@@ -16,8 +16,10 @@ use std::alloc::Global;
 /// or lack of memory, which may come before either.
 pub fn decode(alloc: Global, octets: &[u8], max: usize) -> Result<Forest, Refused<TlvReason>>
     requires { max ≤ 1048576 }
-    ensures found { IfOk result (λ forest. Accepts whole (IsForest max) octets.now forest (length octets.now)) }
-    ensures refused { IfErr result (RefusesUnlessMemory whole (IsForest max) (IsReason max) octets.now) }
+    ensures found { IfOk result (λ forest.
+        Accepts whole (IsForest max) octets.now forest (length octets.now)) }
+    ensures refused { IfErr result
+        (RefusesUnlessMemory whole (IsForest max) (IsReason max) octets.now) }
 {
     let Ok(mut reader) = ForestReader::new(alloc, max) else {
         return Err(Refused::Memory);

@@ -47,7 +47,8 @@ impl Dol {
     /// The list that all the octets spell, or why they spell none: `Short` at their end where one goes
     /// on, `At` the first octet after which none does, or lack of memory.
     pub fn decode(alloc: Global, octets: &[u8]) -> Result<Self, Refused<DolReason>>
-        ensures found { IfOk result (λ dol. Accepts whole IsDol octets.now dol (length octets.now)) }
+        ensures found { IfOk result
+            (λ dol. Accepts whole IsDol octets.now dol (length octets.now)) }
         ensures refused { IfErr result (RefusesUnlessMemory whole IsDol IsDolReason octets.now) }
     {
         let mut entries = Vec::new(alloc);
@@ -123,7 +124,8 @@ fn append_entry(out: &mut Vec<u8>, tag: &Tag, length: u8) -> Result<(), AllocErr
 fn tag_next(header: Header, octet: u8) -> Result<Header, DolReason>
     requires part { IsTagPart header }
     requires open { (tag : List ℕ) → header ≡ Tagged tag → ⊥ }
-    ensures ok { IfOk result (λ longer. IsTagPart longer × (header_octets longer ≡ header_octets header ++ octet ∷ [])) }
+    ensures ok { IfOk result (λ longer. IsTagPart longer
+        × (header_octets longer ≡ header_octets header ++ octet ∷ [])) }
     ensures err { IfErr result (IsFirst dol_reasons (IsWrongEntry (header_octets header) octet)) }
 {
     match header {

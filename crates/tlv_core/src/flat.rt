@@ -47,10 +47,14 @@ impl<'a> FlatForest<'a> {
         max: usize,
     ) -> Result<FlatForest<'a>, Refused<TlvReason>>
         requires { max ≤ 1048576 }
-        ensures found { IfOk result (λ _. (t : Tree) × Accepts whole (IsForest max) octets.now t (length octets.now)) }
-        ensures places { IfOk result (λ flat. (t : Tree) → IsForest max t octets.now → flat ≡ parts_in octets.now t) }
-        ensures values { IfOk result (λ flat. (t : Tree) → IsForest max t octets.now → flat ≡ parts_of 1 0 t) }
-        ensures refused { IfErr result (RefusesUnlessMemory whole (IsForest max) (IsReason max) octets.now) }
+        ensures found { IfOk result
+            (λ _. (t : Tree) × Accepts whole (IsForest max) octets.now t (length octets.now)) }
+        ensures places { IfOk result
+            (λ flat. (t : Tree) → IsForest max t octets.now → flat ≡ parts_in octets.now t) }
+        ensures values { IfOk result
+            (λ flat. (t : Tree) → IsForest max t octets.now → flat ≡ parts_of 1 0 t) }
+        ensures refused { IfErr result
+            (RefusesUnlessMemory whole (IsForest max) (IsReason max) octets.now) }
     {
         let mut progress = Progress::new(max);
         let mut parts = Vec::new(alloc);
@@ -140,8 +144,11 @@ fn advance<'a>(
     requires { progress.old.count < length octets.now }
     ensures limit { progress.new.max ≡ progress.old.max }
     ensures more { OnOk result (progress.old.count < progress.new.count) }
-    ensures ok { OnOk result (HasFlat octets.now (kept_of progress.old) parts.old.items → HasFlat octets.now (kept_of progress.new) parts.new.items) }
-    ensures err { IfErr result (λ refused. HasFlat octets.now (kept_of progress.old) parts.old.items → RefusesUnlessMemory whole (IsForest progress.old.max) (IsReason progress.old.max) octets.now refused) }
+    ensures ok { OnOk result (HasFlat octets.now (kept_of progress.old) parts.old.items
+        → HasFlat octets.now (kept_of progress.new) parts.new.items) }
+    ensures err { IfErr result (λ refused. HasFlat octets.now (kept_of progress.old) parts.old.items
+        → RefusesUnlessMemory whole (IsForest progress.old.max) (IsReason progress.old.max)
+        octets.now refused) }
 {
     let left = progress.value_left();
     if left > 0 {
@@ -175,7 +182,15 @@ fn keep<'a>(
 ) -> Result<(), Refused<TlvReason>>
     requires place { place ≤ length octets.now }
     requires fits { object.len < capacity object.form }
-    ensures ok { OnOk result (IsKeptPart octets.now (record { depth = depth; tag = object.tag; form = object.form; place = place; len = object.len }) parts.old.items parts.new.items) }
+    ensures ok { OnOk result (IsKeptPart octets.now
+        (record {
+          depth = depth;
+          tag = object.tag;
+          form = object.form;
+          place = place;
+          len =
+              object.len;
+        }) parts.old.items parts.new.items) }
     ensures err { IfErr result (λ refused. refused ≡ Memory) }
 {
     let rest = &octets[place..];

@@ -103,7 +103,8 @@ impl Forest {
     /// it: `Depth`, `Tag`, `Form`, `Size`.
     pub fn new(nodes: Nodes) -> Result<Forest, (Nodes, Improper)>
         ensures forest { IfOk result (λ forest. (forest ≡ nodes) × HasSpelling largest forest) }
-        ensures refused { IfErr result (λ refused. (refused.0 ≡ nodes) × IsFirstImproper largest nodes refused.1) }
+        ensures refused { IfErr result
+            (λ refused. (refused.0 ≡ nodes) × IsFirstImproper largest nodes refused.1) }
     {
         if has_deep(&nodes, 1) {
             return Err((nodes, Improper::Depth));

@@ -43,7 +43,8 @@ impl Form {
     /// for 80, and from 85 on.
     pub(crate) fn begun_by(first: u8) -> Option<Form>
         requires { 128 ≤ first }
-        ensures { MatchOption result (BeginsLength first → ⊥) (λ form. (0 < further form) × (first ≡ 128 + further form)) }
+        ensures { MatchOption result (BeginsLength first → ⊥)
+            (λ form. (0 < further form) × (first ≡ 128 + further form)) }
     {
         match first {
             0x81 => Some(Form::Two),

@@ -89,7 +89,8 @@ impl Header {
     pub(crate) fn next(self, octet: u8) -> Result<Next, TlvReason>
         requires { IsWell self }
         ensures ok { IfOk result (IsNext (header_octets self) octet) }
-        ensures err { IfErr result (IsFirst octet_reasons (IsWrong 0 0 (header_octets self) octet)) }
+        ensures err { IfErr result
+            (IsFirst octet_reasons (IsWrong 0 0 (header_octets self) octet)) }
     {
         match self {
             Header::Nothing => Ok(after_nothing(octet)),
@@ -161,7 +162,8 @@ impl Next {
 
 /// The first octet of a tag, unless it is 00.
 pub(crate) fn tag_first(octet: u8) -> Option<Header>
-    ensures { MatchOption result (octet ≡ 0) (λ longer. IsTagPart longer × (header_octets longer ≡ octet ∷ [])) }
+    ensures { MatchOption result (octet ≡ 0)
+        (λ longer. IsTagPart longer × (header_octets longer ≡ octet ∷ [])) }
 {
     if octet == 0 {
         None
@@ -175,7 +177,8 @@ pub(crate) fn tag_first(octet: u8) -> Option<Header>
 /// The second octet of a tag, unless its low seven bits are all 0.
 pub(crate) fn tag_second(first: u8, octet: u8) -> Option<Header>
     requires { IsLong first }
-    ensures { MatchOption result (octet % 128 ≡ 0) (λ longer. IsTagPart longer × (header_octets longer ≡ first ∷ octet ∷ [])) }
+    ensures { MatchOption result (octet % 128 ≡ 0)
+        (λ longer. IsTagPart longer × (header_octets longer ≡ first ∷ octet ∷ [])) }
 {
     if octet % 0x80 == 0 {
         None
@@ -190,7 +193,8 @@ pub(crate) fn tag_second(first: u8, octet: u8) -> Option<Header>
 pub(crate) fn tag_third(first: u8, second: u8, octet: u8) -> Option<Header>
     requires long { IsLong first }
     requires more { 128 < second }
-    ensures { MatchOption result (128 ≤ octet) (λ longer. IsTagPart longer × (header_octets longer ≡ first ∷ second ∷ octet ∷ [])) }
+    ensures { MatchOption result (128 ≤ octet)
+        (λ longer. IsTagPart longer × (header_octets longer ≡ first ∷ second ∷ octet ∷ [])) }
 {
     if octet < 0x80 {
         Some(Header::Tagged(Tag::of(&[first, second, octet])))

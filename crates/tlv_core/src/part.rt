@@ -40,15 +40,18 @@ impl Part<'_> {
     ///
     /// 0 where `place` leaves no room for the header, as no part of a [`FlatForest`](crate::FlatForest) does.
     pub fn header_place(&self) -> usize
-        ensures before { result ≡ self.now.place - length (header_of self.now.tag self.now.form (length self.now.value.now)) }
-        ensures header { (at : ℕ) → self.now.place ≡ value_place at self.now.tag self.now.form (length self.now.value.now) → result ≡ at }
+        ensures before { result ≡ self.now.place - length
+            (header_of self.now.tag self.now.form (length self.now.value.now)) }
+        ensures header { (at : ℕ) → self.now.place ≡ value_place at self.now.tag self.now.form
+            (length self.now.value.now) → result ≡ at }
     {
         self.place.saturating_sub(self.header_len())
     }
 
     /// How many octets its header has: its tag and its length field.
     fn header_len(&self) -> usize
-        ensures { result ≡ length (header_of self.now.tag self.now.form (length self.now.value.now)) }
+        ensures { result ≡ length (header_of self.now.tag self.now.form
+            (length self.now.value.now)) }
     {
         self.tag.octets().len() + self.length_field().len()
     }

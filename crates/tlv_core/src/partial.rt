@@ -51,7 +51,8 @@ impl Partial {
 
     /// Before the first octet. It has the memory of its stack from then on.
     pub(crate) fn new(alloc: Global) -> Result<Self, AllocError>
-        ensures { IfOk result (λ tree. grown_of tree ≡ record { opened = []; list = End; value = None }) }
+        ensures { IfOk result (λ tree.
+            grown_of tree ≡ record { opened = []; list = End; value = None }) }
     {
         Ok(Partial {
             alloc,
@@ -72,8 +73,11 @@ impl Partial {
     /// Takes what an octet made of the header, after which `level` objects are open.
     pub(crate) fn take(&mut self, next: &Next, level: usize)
         requires room { vec_len self.old.list < vec_capacity self.old.list }
-        requires step { (b : List ℕ) × (k : Kept) × (x : ℕ) × TakesNext b k x next.now (grown_of self.old) }
-        ensures { (b : List ℕ) (k : Kept) (x : ℕ) → TakesNext b k x next.now (grown_of self.old) → length (after_next k next.now).rooms ≡ level → HasGrown (b ++ x ∷ []) (after_next k next.now) (grown_of self.new) }
+        requires step { (b : List ℕ) × (k : Kept) × (x : ℕ)
+            × TakesNext b k x next.now (grown_of self.old) }
+        ensures { (b : List ℕ) (k : Kept) (x : ℕ) → TakesNext b k x next.now (grown_of self.old)
+            → length (after_next k next.now).rooms ≡ level
+            → HasGrown (b ++ x ∷ []) (after_next k next.now) (grown_of self.new) }
     {
         match next {
             Next::Filler => self.add(Node::Filler, level),
@@ -85,8 +89,12 @@ impl Partial {
     /// Enters an object whose header is whole.
     fn enter(&mut self, header: ObjectHeader, level: usize)
         requires room { vec_len self.old.list < vec_capacity self.old.list }
-        requires step { (b : List ℕ) × (k : Kept) × (x : ℕ) × TakesNext b k x (next.Object header) (grown_of self.old) }
-        ensures { (b : List ℕ) (k : Kept) (x : ℕ) → TakesNext b k x (next.Object header) (grown_of self.old) → length (after_next k (next.Object header)).rooms ≡ level → HasGrown (b ++ x ∷ []) (after_next k (next.Object header)) (grown_of self.new) }
+        requires step { (b : List ℕ) × (k : Kept) × (x : ℕ)
+            × TakesNext b k x (next.Object header) (grown_of self.old) }
+        ensures { (b : List ℕ) (k : Kept) (x : ℕ)
+            → TakesNext b k x (next.Object header) (grown_of self.old)
+            → length (after_next k (next.Object header)).rooms ≡ level
+            → HasGrown (b ++ x ∷ []) (after_next k (next.Object header)) (grown_of self.new) }
     {
         if header.len == 0 {
             let node = self.whole(header, Vec::new(self.alloc));
@@ -119,7 +127,8 @@ impl Partial {
     )
         requires room { vec_len self.old.list < vec_capacity self.old.list }
         requires value { value.items ≡ value_in octets.now short }
-        requires step { (b : List ℕ) × (k : Kept) × TakesShort b k octets.now short (grown_of self.old) }
+        requires step { (b : List ℕ) × (k : Kept)
+            × TakesShort b k octets.now short (grown_of self.old) }
         ensures { (b : List ℕ) (k : Kept) → TakesShort b k octets.now short (grown_of self.old)
             → length (after_short k short).rooms ≡ level
             → HasGrown (b ++ take (taken_of short) octets.now) (after_short k short) (grown_of self.new) }
@@ -178,7 +187,8 @@ impl Partial {
     /// Ends the value under way, after which `level` objects are open.
     pub(crate) fn end_value(&mut self, level: usize)
         ensures idle { self.new.value ≡ None }
-        ensures closed { (value : OpenValue) (b rooms : List ℕ) (closed : ℕ) → self.old.value ≡ Some value → length rooms ≡ level
+        ensures closed { (value : OpenValue) (b rooms : List ℕ) (closed : ℕ)
+            → self.old.value ≡ Some value → length rooms ≡ level
             → Closing b rooms closed (map opened_of self.old.opened.items) (tree_of (self.old.list.items ++ node.Primitive value.header.tag value.header.form value.octets.items ∷ []))
             → Closing b rooms 0 (map opened_of self.new.opened.items) (tree_of self.new.list.items) }
     {

@@ -59,8 +59,10 @@ impl CheckPlaces {
         ensures fit { AreCheckPlaces self.new }
         ensures limit { self.new.max ≡ self.old.max }
         ensures answer { result ≡ answer_of (checked_at self.new).refusal }
-        ensures repeats { OnSome (checked_at self.old).refusal (checked_at self.new ≡ checked_at self.old) }
-        ensures taken { (b : List ℕ) → HasChecked b (checked_at self.old) → OnOk result (HasChecked (b ++ piece.now) (checked_at self.new)) }
+        ensures repeats { OnSome (checked_at self.old).refusal
+            (checked_at self.new ≡ checked_at self.old) }
+        ensures taken { (b : List ℕ) → HasChecked b (checked_at self.old)
+            → OnOk result (HasChecked (b ++ piece.now) (checked_at self.new)) }
         ensures refused { (b : List ℕ) → HasChecked b (checked_at self.old) →
             IfErr result (RefusesAt whole (IsForest self.old.max) (IsReason self.old.max) (b ++ piece.now)) }
     {
@@ -73,8 +75,10 @@ impl CheckPlaces {
     /// The verdict on all pieces fed, as `ForestCheck::finish`.
     pub fn finish(&self) -> Result<(), Stop<TlvReason>>
         requires { AreCheckPlaces self.now }
-        ensures repeats { OnSome (checked_at self.now).refusal (result ≡ answer_of (checked_at self.now).refusal) }
-        ensures verdict { (b : List ℕ) → HasChecked b (checked_at self.now) → MatchResult result (λ _. (t : Tree) × IsForest self.now.max t b)
+        ensures repeats { OnSome (checked_at self.now).refusal
+            (result ≡ answer_of (checked_at self.now).refusal) }
+        ensures verdict { (b : List ℕ) → HasChecked b (checked_at self.now)
+            → MatchResult result (λ _. (t : Tree) × IsForest self.now.max t b)
             (Refuses whole (IsForest self.now.max) (IsReason self.now.max) b) }
     {
         self.checking().finish()

@@ -54,7 +54,8 @@ impl Progress {
     /// Before the first octet of a forest of at most `max` octets.
     pub(crate) fn new(max: usize) -> Self
         requires { max ≤ 1048576 }
-        ensures { kept_of result ≡ record { max = max; count = 0; rooms = []; header = []; value_left = 0 } }
+        ensures { kept_of result ≡ record
+            { max = max; count = 0; rooms = []; header = []; value_left = 0 } }
     {
         Progress {
             max,
@@ -146,8 +147,11 @@ impl Progress {
         requires { 0 < length octets.now }
         ensures max { self.new.max ≡ self.old.max }
         ensures some { IfOk result (λ n. (0 < n) × (n ≤ length octets.now)) }
-        ensures ok { IfOk result (λ n. (b : List ℕ) → HasTaken b (kept_of self.old) → HasTaken (b ++ take n octets.now) (kept_of self.new)) }
-        ensures err { IfErr result (λ r. (self.new ≡ self.old) × (self.old.value_left ≡ 0) × IsFirst tlv_reasons (IsWrongAfter (kept_of self.old) (slice_index octets.now 0)) r) }
+        ensures ok { IfOk result (λ n. (b : List ℕ) → HasTaken b (kept_of self.old)
+            → HasTaken (b ++ take n octets.now) (kept_of self.new)) }
+        ensures err { IfErr result
+            (λ r. (self.new ≡ self.old) × (self.old.value_left ≡ 0)
+            × IsFirst tlv_reasons (IsWrongAfter (kept_of self.old) (slice_index octets.now 0)) r) }
     {
         if self.value_left > 0 {
             let run = self.value_left.min(octets.len());
@@ -201,7 +205,8 @@ impl Progress {
         requires idle { self.old.value_left ≡ 0 }
         requires nothing { self.old.header ≡ Nothing }
         requires shallow { array_vec_len self.old.ends < 16 }
-        requires fits { whole_of object ≤ room_of (self.old.max - self.old.count) (rooms_to self.old.count self.old.ends.items) }
+        requires fits { whole_of object ≤ room_of (self.old.max - self.old.count)
+            (rooms_to self.old.count self.old.ends.items) }
         requires some { 0 < object.header }
         ensures max { self.new.max ≡ self.old.max }
         ensures after { kept_of self.new ≡ after_short (kept_of self.old) object }
@@ -228,8 +233,11 @@ impl Progress {
     pub(crate) fn take(&mut self, octet: u8) -> Result<Next, TlvReason>
         requires { self.old.value_left ≡ 0 }
         ensures ok { IfOk result (IsStep (kept_of self.old) octet) }
-        ensures after { IfOk result (λ next. kept_of self.new ≡ after_next (kept_of self.old) next) }
-        ensures err { IfErr result (λ r. (self.new ≡ self.old) × IsFirst tlv_reasons (IsWrongAfter (kept_of self.old) octet) r) }
+        ensures after { IfOk result
+            (λ next. kept_of self.new ≡ after_next (kept_of self.old) next) }
+        ensures err { IfErr result
+            (λ r. (self.new ≡ self.old)
+            × IsFirst tlv_reasons (IsWrongAfter (kept_of self.old) octet) r) }
     {
         let next = self.next(octet)?;
         self.accept(&next);
@@ -240,7 +248,8 @@ impl Progress {
     fn accept(&mut self, next: &Next)
         requires idle { self.old.value_left ≡ 0 }
         requires well { IsWellNext next.now }
-        requires room { next_need next.now < room_of (self.old.max - self.old.count) (rooms_to self.old.count self.old.ends.items) }
+        requires room { next_need next.now < room_of (self.old.max - self.old.count)
+            (rooms_to self.old.count self.old.ends.items) }
         requires shallow { next.now ≢ Filler → array_vec_len self.old.ends < 16 }
         ensures { kept_of self.new ≡ after_next (kept_of self.old) next.now }
     {
@@ -290,7 +299,8 @@ impl Progress {
 
     /// The octets from the next one to the end of the innermost open object, or to the limit.
     fn room(&self) -> usize
-        ensures { result ≡ room_of (self.now.max - self.now.count) (rooms_to self.now.count self.now.ends.items) }
+        ensures { result ≡ room_of (self.now.max - self.now.count)
+            (rooms_to self.now.count self.now.ends.items) }
     {
         match self.ends.as_slice().last() {
             Some(end) => *end as usize - self.count,
@@ -304,7 +314,8 @@ impl Progress {
         requires idle { self.old.value_left ≡ 0 }
         requires whole { self.old.header ≡ Nothing }
         requires fits { self.old.count + object.len ≤ self.old.max }
-        ensures { kept_of self.new ≡ entered (kept_of self.old) object.len (constructed_bit object.tag) }
+        ensures { kept_of self.new ≡ entered (kept_of self.old) object.len
+            (constructed_bit object.tag) }
     {
         let len = object.len as usize;
         if len == 0 {

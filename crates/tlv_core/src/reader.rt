@@ -39,7 +39,8 @@ impl Model for ForestReader {
 
     ghost view = { λ reader. reading_of reader.progress reader.tree reader.refusal };
 
-    ghost invariant = { λ reader. (b : List ℕ) × HasBegun b (reading_of reader.progress reader.tree reader.refusal) };
+    ghost invariant = { λ reader. (b : List ℕ)
+        × HasBegun b (reading_of reader.progress reader.tree reader.refusal) };
 }
 
 impl ForestReader {
@@ -66,9 +67,13 @@ impl ForestReader {
     /// fed, and never `Short`; from then on each call takes no octet and answers the same.
     pub fn feed(&mut self, piece: &[u8]) -> Result<(), (usize, Refused<TlvReason>)>
         ensures limit { self.new.kept.max ≡ self.old.kept.max }
-        ensures repeats { (refusal : Refusal) → self.old.refusal ≡ Some refusal → (result ≡ Err (0, refused.Stop (stop_of refusal))) × (self.new ≡ self.old) }
-        ensures taken { (b : List ℕ) → HasRead b self.old → OnOk result (HasRead (b ++ piece.now) self.new) }
-        ensures ended { (b : List ℕ) → HasRead b self.old → IfErr result (λ ended. IsEndedFeed self.old.kept.max b piece.now self.new ended.0 ended.1) }
+        ensures repeats { (refusal : Refusal) → self.old.refusal ≡ Some refusal
+            → (result ≡ Err (0, refused.Stop (stop_of refusal))) × (self.new ≡ self.old) }
+        ensures taken { (b : List ℕ) → HasRead b self.old
+            → OnOk result (HasRead (b ++ piece.now) self.new) }
+        ensures ended { (b : List ℕ) → HasRead b self.old
+            → IfErr result (λ ended.
+            IsEndedFeed self.old.kept.max b piece.now self.new ended.0 ended.1) }
     {
         if let Some(refusal) = self.refusal {
             return Err((0, Refused::Stop(refusal.stop())));
@@ -86,8 +91,11 @@ impl ForestReader {
     /// That no more octets come: the forest that the octets taken spell, the refusal that is kept, or
     /// `Short` at their end.
     pub fn finish(self) -> Result<Forest, Stop<TlvReason>>
-        ensures repeats { (refusal : Refusal) → self.refusal ≡ Some refusal → result ≡ Err (stop_of refusal) }
-        ensures verdict { (b : List ℕ) → HasRead b self → MatchResult result (λ forest. IsForest self.kept.max forest b) (Refuses whole (IsForest self.kept.max) (IsReason self.kept.max) b) }
+        ensures repeats { (refusal : Refusal) → self.refusal ≡ Some refusal
+            → result ≡ Err (stop_of refusal) }
+        ensures verdict { (b : List ℕ) → HasRead b self
+            → MatchResult result (λ forest. IsForest self.kept.max forest b)
+            (Refuses whole (IsForest self.kept.max) (IsReason self.kept.max) b) }
         // so what is said of every list that it may have taken is said of some
         ensures some_taken { self.refusal ≡ None → (b : List ℕ) × HasRead b self }
     {
@@ -113,8 +121,10 @@ impl ForestReader {
         requires { 0 < length octets.now }
         ensures limit { self.new.kept.max ≡ self.old.kept.max }
         ensures some { IfOk result (λ n. (0 < n) × (n ≤ length octets.now)) }
-        ensures ok { (b : List ℕ) → HasRead b self.old → IfOk result (λ n. HasRead (b ++ take n octets.now) self.new) }
-        ensures err { (b : List ℕ) → HasRead b self.old → IfErr result (IsEndedFeed self.old.kept.max b octets.now self.new 0) }
+        ensures ok { (b : List ℕ) → HasRead b self.old
+            → IfOk result (λ n. HasRead (b ++ take n octets.now) self.new) }
+        ensures err { (b : List ℕ) → HasRead b self.old
+            → IfErr result (IsEndedFeed self.old.kept.max b octets.now self.new 0) }
     {
         let left = self.progress.value_left();
         if left > 0 {

@@ -46,7 +46,9 @@ impl ShortHeader {
 
     /// The length of the value, where the object is open once its header was taken.
     pub(crate) fn opens(&self) -> Option<usize>
-        ensures some { IfSome result (λ n. (0 < n) × (n ≡ self.now.len) × (opened self.now.is_constructed self.now.len ≡ n ∷ [])) }
+        ensures some { IfSome result
+            (λ n. (0 < n) × (n ≡ self.now.len)
+            × (opened self.now.is_constructed self.now.len ≡ n ∷ [])) }
         ensures taken { IfSome result (λ n. taken_of self.now + n ≡ whole_of self.now) }
         ensures none { IfNone result (opened self.now.is_constructed self.now.len ≡ []) }
     {
@@ -76,7 +78,12 @@ impl ShortHeader {
     /// The same header, with its tag, which is at the front of these octets.
     pub(crate) fn object(&self, octets: &[u8]) -> ObjectHeader
         requires { IsShort octets.now self.now }
-        ensures { result ≡ record { tag = take self.now.tag octets.now; form = self.now.form; len = self.now.len } }
+        ensures { result ≡ record {
+          tag = take self.now.tag octets.now;
+          form = self.now.form;
+          len =
+              self.now.len;
+        } }
     {
         ObjectHeader {
             tag: Tag::of(&octets[..usize::from(self.tag)]),

@@ -67,7 +67,8 @@ impl Tag {
     /// first is 00, a second one has its low seven bits all 0, octets are missing or left over, or a
     /// fourth would follow.
     pub fn new(octets: &[u8]) -> Option<Tag>
-        ensures { MatchOption result (IsTag octets.now → ⊥) (λ tag. IsTag octets.now × (tag ≡ octets.now)) }
+        ensures { MatchOption result (IsTag octets.now → ⊥)
+            (λ tag. IsTag octets.now × (tag ≡ octets.now)) }
     {
         if is_tag(octets) {
             Some(Tag::of(octets))

@@ -6,4 +6,5 @@ use Rattle.card_tool.proofs.chain.blocks.Given as goal
 
 -- the lines made so far and those of the blocks that are left make the whole
 abbrev pub invariant-loop-block : goal.invariant-loop-block
-invariant-loop-block l = string_bytes l.lines ++ blocks_text l.block-iterator ≡ blocks_text (links l.fn.number (cut_of l.ifs l.message))
+invariant-loop-block l = string_bytes l.lines
+    ++ blocks_text l.block-iterator ≡ blocks_text (links l.fn.number (cut_of l.ifs l.message))

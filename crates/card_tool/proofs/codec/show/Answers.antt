@@ -10,4 +10,6 @@ returns-in-Ok g c =
 
 pub returns-in-Err-Stop : goal.returns-in-Err-Stop
 returns-in-Err-Stop g c =
-    tells-stopped (g.C.Codec.codec c.args.expected) (λ v n. (g.C.Codec.codec c.args.expected).lines v) c.args.octets.now c.refused.result _ c.in-Err-Stop.field-0 c.in-Err-Stop.stop (g.met.C.Codec.named c.args.expected) c.in-Err-Stop.field-0-is c.in-Err-Stop.ensures.refused c.refused.ensures.text c.refused.ensures.status
+    tells-stopped (g.C.Codec.codec c.args.expected) (λ v n. (g.C.Codec.codec c.args.expected).lines v) c.args.octets.now
+    c.refused.result _ c.in-Err-Stop.field-0 c.in-Err-Stop.stop (g.met.C.Codec.named c.args.expected)
+    c.in-Err-Stop.field-0-is c.in-Err-Stop.ensures.refused c.refused.ensures.text c.refused.ensures.status

@@ -11,11 +11,18 @@ use Rattle.card_tool.proofs.explained.answered.Goals as goal
 pub returns-in_err-request-clause-told : goal.returns-in_err-request-clause-told
 returns-in_err-request-clause-told g c =
     let fault = err_from_is_err_and c.from_residual.result c.from_residual.ensures.1 in
-    rw (fault.1, fault.2) (plain (IsRight (texts c.args.words.now) (g.R.Source.remaining c.args.reader.now) (g.R.Source.remaining c.args.reader.now) (g.R.Source.failures c.args.reader.now) (g.R.Source.failures c.args.reader.now)) (fault_text c.in_err-request.field-0.0) status.Fault (refused-words (texts c.args.words.now) _ _ c.in_err-request.field-0.0 (rw c.in_err-request.was at c.requires.read)))
+    rw (fault.1, fault.2) (plain (IsRight (texts c.args.words.now) (g.R.Source.remaining c.args.reader.now)
+    (g.R.Source.remaining c.args.reader.now) (g.R.Source.failures c.args.reader.now)
+    (g.R.Source.failures c.args.reader.now)) (fault_text c.in_err-request.field-0.0) status.Fault
+    (refused-words (texts c.args.words.now) _ _ c.in_err-request.field-0.0
+    (rw c.in_err-request.was at c.requires.read)))
 
 pub returns-clause-told : goal.returns-clause-told
 returns-clause-told g c =
     elim (rw c.in_ok-request.was at c.requires.read) [
       | inl memory ↦ absurd (cc memory)
-      | inr read ↦ explained-words (texts c.args.words.now) (g.R.Source.remaining c.args.reader.now) (g.R.Source.remaining c.answered_to.new.reader) (g.R.Source.failures c.args.reader.now) (g.R.Source.failures c.answered_to.new.reader) c.in_ok-request.request c.answered_to.result read c.answered_to.ensures.told
+      | inr read ↦ explained-words (texts c.args.words.now) (g.R.Source.remaining c.args.reader.now)
+          (g.R.Source.remaining c.answered_to.new.reader) (g.R.Source.failures c.args.reader.now)
+          (g.R.Source.failures c.answered_to.new.reader) c.in_ok-request.request c.answered_to.result read
+          c.answered_to.ensures.told
     ]

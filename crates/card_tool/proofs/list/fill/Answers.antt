@@ -10,8 +10,13 @@ use Rattle.card_tool.proofs.Telling.{answered}
 use Rattle.card_tool.proofs.list.fill.Goals as goal
 
 pub returns-in-Ok : goal.returns-in-Ok
-returns-in-Ok c = IfOk-weaker c.fill_by.result _ _ (λ answer h. listed c.in-Ok.dol c.in-Ok.ensures.found.1 h) c.fill_by.ensures
+returns-in-Ok c = IfOk-weaker c.fill_by.result _ _ (λ answer h. listed c.in-Ok.dol c.in-Ok.ensures.found.1 h)
+    c.fill_by.ensures
 
 pub returns-in-Err-Stop : goal.returns-in-Err-Stop
 returns-in-Err-Stop c =
-    answered (IsFilled c.args.octets.now c.args.known.now) c.refused.result (refused_text reason_text c.in-Err-Stop.stop) status.Refused (no_list c.in-Err-Stop.stop (subst (RefusesUnlessMemory whole IsDol IsDolReason c.args.octets.now) c.in-Err-Stop.field-0-is c.in-Err-Stop.ensures.refused) refl refl) c.refused.ensures.text c.refused.ensures.status
+    answered (IsFilled c.args.octets.now c.args.known.now) c.refused.result
+    (refused_text reason_text c.in-Err-Stop.stop) status.Refused
+    (no_list c.in-Err-Stop.stop (subst (RefusesUnlessMemory whole IsDol IsDolReason c.args.octets.now)
+    c.in-Err-Stop.field-0-is c.in-Err-Stop.ensures.refused) refl refl) c.refused.ensures.text
+    c.refused.ensures.status

@@ -7,4 +7,5 @@ use Rattle.card_tool.proofs.list.fill_by.Goals as goal
 
 pub returns-in-Err : goal.returns-in-Err
 returns-in-Err c =
-    answered (IsFilledBy c.args.known.now c.args.dol.now) c.faulted.result (fault_text c.in-Err.fault) status.Fault (unknown c.in-Err.fault c.in-Err.is refl refl) c.faulted.ensures.text c.faulted.ensures.status
+    answered (IsFilledBy c.args.known.now c.args.dol.now) c.faulted.result (fault_text c.in-Err.fault) status.Fault
+    (unknown c.in-Err.fault c.in-Err.is refl refl) c.faulted.ensures.text c.faulted.ensures.status

@@ -8,11 +8,17 @@ use Rattle.card_tool.proofs.program.answer_as_asked.Goals as goal
 pub returns-in_err-request-clause-told : goal.returns-in_err-request-clause-told
 returns-in_err-request-clause-told g c =
     let fault = err_from_is_err_and c.from_residual.result c.from_residual.ensures.1 in
-    rw (fault.1, fault.2) (unasked-fault (texts c.args.words.now) _ _ _ _ c.in_err-request.field-0.0 (refused-words (texts c.args.words.now) _ _ c.in_err-request.field-0.0 (rw c.in_err-request.was at c.requires.read)))
+    rw (fault.1, fault.2) (unasked-fault (texts c.args.words.now) _ _ _ _ c.in_err-request.field-0.0
+    (refused-words (texts c.args.words.now) _ _ c.in_err-request.field-0.0
+    (rw c.in_err-request.was at c.requires.read)))
 
 pub returns-clause-told : goal.returns-clause-told
 returns-clause-told g c =
     elim (rw c.in_ok-request.was at c.requires.read) [
       | inl memory ↦ absurd (cc memory)
-      | inr read ↦ unasked (texts c.args.words.now) (g.R.Source.remaining c.args.reader.now) (g.R.Source.remaining c.answer_to.new.reader) (g.R.Source.failures c.args.reader.now) (g.R.Source.failures c.answer_to.new.reader) c.answer_to.result (answered-words (texts c.args.words.now) _ _ _ _ c.in_ok-request.request c.answer_to.result read c.answer_to.ensures.told)
+      | inr read ↦ unasked (texts c.args.words.now) (g.R.Source.remaining c.args.reader.now)
+          (g.R.Source.remaining c.answer_to.new.reader) (g.R.Source.failures c.args.reader.now)
+          (g.R.Source.failures c.answer_to.new.reader) c.answer_to.result
+          (answered-words (texts c.args.words.now) _ _ _ _ c.in_ok-request.request c.answer_to.result read
+          c.answer_to.ensures.told)
     ]

@@ -4,4 +4,6 @@ use Rattle.card_tool.specs.declared.status.Status.TheVariants as ended
 use Rattle.card_tool.proofs.program.report.Goals as goal
 
 pub returns : goal.returns
-returns g c = subst (λ (t : List ℕ). IsWritten t ended.Fault (g.W.Sink.contents c.args.writer.now) (g.W.Sink.contents c.write.new.writer) (g.W.Sink.failures c.args.writer.now) (g.W.Sink.failures c.write.new.writer) c.write.result) (c.as_bytes.ensures.value ∙ c.text.ensures) c.write.ensures
+returns g c = subst (λ (t : List ℕ). IsWritten t ended.Fault (g.W.Sink.contents c.args.writer.now)
+    (g.W.Sink.contents c.write.new.writer) (g.W.Sink.failures c.args.writer.now) (g.W.Sink.failures c.write.new.writer)
+    c.write.result) (c.as_bytes.ensures.value ∙ c.text.ensures) c.write.ensures

@@ -5,4 +5,5 @@ use Rattle.card_words.proofs.forms.replay_command.Goals as goal
 
 pub returns-clause-app : goal.returns-clause-app
 returns-clause-app c =
-    IfOk-weaker c.arg.result _ _ (λ command added. added.shape c.end_arg.ensures.local ∙ ap₂ with_rule c.in_ok-begun_command.ensures.app c.end_arg.ensures.rule) c.arg.ensures
+    IfOk-weaker c.arg.result _ _ (λ command added. added.shape c.end_arg.ensures.local
+    ∙ ap₂ with_rule c.in_ok-begun_command.ensures.app c.end_arg.ensures.rule) c.arg.ensures

@@ -6,4 +6,5 @@ use Rattle.card_words.proofs.loose.loose_octets.Given as goal
 
 -- the octets read so far and those of the groups that are left are those of the text
 abbrev pub invariant-loop-group : goal.invariant-loop-group
-invariant-loop-group l = after l.octets.items (drop (length l.yielded) (slice_split is_blank l.text)) ≡ loose_octets l.text
+invariant-loop-group l = after l.octets.items (drop (length l.yielded) (slice_split is_blank l.text)) ≡ loose_octets
+    l.text

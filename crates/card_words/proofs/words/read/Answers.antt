@@ -6,7 +6,9 @@ use Rattle.card_words.proofs.Requests.{request-octets}
 use Rattle.card_words.proofs.words.read.Goals as goal
 
 pub returns-in-Err-clause-read : goal.returns-in-Err-clause-read
-returns-in-Err-clause-read c = help-or-fault (texts c.args.words.now) (kind_of c.in-Err.error) c.help_or_fault.result c.in-Err.ensures.kind c.help_or_fault.ensures.read
+returns-in-Err-clause-read c = help-or-fault (texts c.args.words.now) (kind_of c.in-Err.error) c.help_or_fault.result
+    c.in-Err.ensures.kind c.help_or_fault.ensures.read
 
 pub returns-in-Ok-clause-octets : goal.returns-in-Ok-clause-octets
-returns-in-Ok-clause-octets c = request-octets (subcommand_rows_of c.in-Ok.matches) c.request.result c.request.ensures.read
+returns-in-Ok-clause-octets c = request-octets (subcommand_rows_of c.in-Ok.matches) c.request.result
+    c.request.ensures.read

@@ -8,4 +8,6 @@ pub unreachable-requires : goal.unreachable-requires
 unreachable-requires c =
     let b = c.as_slice.result.now in
     not-refused self_ended (IsBlock 254) (IsReason 254) b c.in-Err.field-0 c.args.block.now (length b)
-    (accepts-all (IsBlock 254) c.args.block.now b (subst (IsBlock 254 c.args.block.now) (sym c.as_slice.ensures.value) c.encode-octets.ensures)) c.in-Err.ensures.refused
+    (accepts-all (IsBlock 254) c.args.block.now b
+    (subst (IsBlock 254 c.args.block.now) (sym c.as_slice.ensures.value) c.encode-octets.ensures))
+    c.in-Err.ensures.refused

@@ -13,8 +13,14 @@ returns c = λ b octets few is.
     let v : List (List ℕ) = cut_of i b in
     let x : List ℕ = c.split_at.result.0.now in
     let y : List ℕ = c.split_at.result.1.now in
-    let parts : x ++ y ≡ c.args.chain.now = (λ j. c.split_at.ensures.front j ++ c.split_at.ensures.back j) ∙ take-append-drop c.min.result c.args.chain.now in
-    let chained : IsChain i k 65544 v (x ++ y) = subst (IsChain i k 65544 v) (sym (parts ∙ is)) (c.cut_is_a_chain.ensures.chain i i 65544 k b c.requires.least (omega arith) few (omega (arith, few)) octets) in
-    let all = arrived c.one_spelled.ensures c.taken.ensures.chain i k 65544 c.in_ok-receiver.receiver c.feed-front.new.self c.feed-back.new.self x y v c.feed-front.result c.feed-back.result c.in_ok-receiver.ensures
-    (c.taken.ensures.new i k 65544) chained c.feed-front.ensures.fed c.feed-front.ensures.kept c.feed-back.ensures.fed c.feed-back.ensures.kept in
+    let parts : x ++ y ≡ c.args.chain.now =
+    (λ j. c.split_at.ensures.front j ++ c.split_at.ensures.back j)
+    ∙ take-append-drop c.min.result c.args.chain.now in
+    let chained : IsChain i k 65544 v (x ++ y) =
+    subst (IsChain i k 65544 v) (sym (parts ∙ is))
+    (c.cut_is_a_chain.ensures.chain i i 65544 k b c.requires.least (omega arith) few (omega (arith, few)) octets) in
+    let all = arrived c.one_spelled.ensures c.taken.ensures.chain i k 65544 c.in_ok-receiver.receiver
+    c.feed-front.new.self c.feed-back.new.self x y v c.feed-front.result c.feed-back.result c.in_ok-receiver.ensures
+    (c.taken.ensures.new i k 65544) chained c.feed-front.ensures.fed c.feed-front.ensures.kept c.feed-back.ensures.fed
+    c.feed-back.ensures.kept in
     (all.0, all.1, all.2 ∙ c.cut_is_a_chain.ensures.message i b)

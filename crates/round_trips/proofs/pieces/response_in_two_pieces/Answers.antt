@@ -9,8 +9,12 @@ unreachable-requires c =
     let sent = c.in_ok-chain.ensures in
     let b : List ℕ = sent.0 in
     let m : List ℕ = c.unwrap.result.now in
-    let arrived = c.in_ok-receiver.ensures b sent.1.octets (omega (arith, (c.lengths.ensures.response c.args.response.now b sent.1).1)) (c.as_slice.ensures.value ∙ sent.2) in
+    let arrived = c.in_ok-receiver.ensures b sent.1.octets
+    (omega (arith, (c.lengths.ensures.response c.args.response.now b sent.1).1)) (c.as_slice.ensures.value ∙ sent.2)
+    in
     let message = rw c.unwrap.ensures at c.message.ensures.done in
     let is : m ≡ b = message.2 ∙ arrived.2 in
-    let refused = subst (RefusesUnlessMemory whole IsResponse IsReason m) c.in-Err-Stop.field-0-is c.in-Err-Stop.ensures.refused in
-    not-refused whole IsResponse IsReason m c.in-Err-Stop.field-0-0 c.args.response.now (length m) (refl, subst (IsResponse c.args.response.now) (sym is) sent.1) refused
+    let refused = subst (RefusesUnlessMemory whole IsResponse IsReason m) c.in-Err-Stop.field-0-is
+    c.in-Err-Stop.ensures.refused in
+    not-refused whole IsResponse IsReason m c.in-Err-Stop.field-0-0 c.args.response.now (length m)
+    (refl, subst (IsResponse c.args.response.now) (sym is) sent.1) refused

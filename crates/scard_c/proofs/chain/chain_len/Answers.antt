@@ -12,8 +12,14 @@ overflow_add-count c =
     let i : ℕ = c.loop-block.count in
     let p : List ℕ = c.encode-octets.result.items in
     let rest : List ℕ = octets_of c.next.new.self in
-    let left : drop i all ≡ p ++ rest = c.loop-block.invariant.left ∙ ap octets_of c.in-Some.ensures.steps ∙ ap (λ (l : List ℕ). l ++ rest) (sym c.encode-octets.ensures.is) in
-    omega (arith, part-inside all p rest i c.loop-block.invariant.inside left, length-cut-most c.args.number c.args.ifs c.args.message.now c.requires.limit, c.len-count.ensures.value)
+    let left : drop i all ≡ p ++ rest = c.loop-block.invariant.left ∙ ap octets_of c.in-Some.ensures.steps
+    ∙ ap (λ (l : List ℕ). l ++ rest) (sym c.encode-octets.ensures.is) in
+    omega (
+      arith,
+      part-inside all p rest i c.loop-block.invariant.inside left,
+      length-cut-most c.args.number c.args.ifs c.args.message.now c.requires.limit,
+      c.len-count.ensures.value,
+    )
 
 pub loop-block-preserved : goal.loop-block-preserved
 loop-block-preserved c =
@@ -21,7 +27,8 @@ loop-block-preserved c =
     let i : ℕ = c.loop-block.count in
     let p : List ℕ = c.encode-octets.result.items in
     let rest : List ℕ = octets_of c.next.new.self in
-    let left : drop i all ≡ p ++ rest = c.loop-block.invariant.left ∙ ap octets_of c.in-Some.ensures.steps ∙ ap (λ (l : List ℕ). l ++ rest) (sym c.encode-octets.ensures.is) in
+    let left : drop i all ≡ p ++ rest = c.loop-block.invariant.left ∙ ap octets_of c.in-Some.ensures.steps
+    ∙ ap (λ (l : List ℕ). l ++ rest) (sym c.encode-octets.ensures.is) in
     let count : c.len-count.result ≡ length p = c.len-count.ensures.value in
     rw count (record {
       inside = part-inside all p rest i c.loop-block.invariant.inside left;
@@ -33,5 +40,11 @@ returns c =
     let all : List ℕ = spelling c.args.number (cut_of c.args.ifs c.args.message.now) in
     let i : ℕ = c.loop-block.count in
     let e : octets_of c.loop-block.block-iterator ≡ [] = ap octets_of c.in-None.ensures.steps.0 in
-    let whole : i ≡ length all = omega (arith, length-drop i all, ap length c.loop-block.invariant.left, ap length e, c.loop-block.invariant.inside) in
+    let whole : i ≡ length all = omega (
+      arith,
+      length-drop i all,
+      ap length c.loop-block.invariant.left,
+      ap length e,
+      c.loop-block.invariant.inside,
+    ) in
     whole

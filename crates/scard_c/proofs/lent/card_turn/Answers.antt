@@ -20,7 +20,8 @@ returns c =
         held = refl;
       }));
       called = λ le t is.
-          subst (λ (s : CardState). TurnsCard s (card_input c.args.call s) (lent c.of-2.result c.lend-put.new.command c.lend-put.new.reply)
+          subst (λ (s : CardState). TurnsCard s (card_input c.args.call s)
+          (lent c.of-2.result c.lend-put.new.command c.lend-put.new.reply)
           c.args.out.now c.lend-put.new.out c.of_card.result)
           (sym (card-held-by c.args.state.now c.args.command.now c.args.reply.now t p c.in-Some.ensures.some.0 is))
           (record {

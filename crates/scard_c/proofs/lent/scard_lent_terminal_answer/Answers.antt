@@ -11,7 +11,8 @@ returns-in-Some-clause-answer c = λ t is.
     subst (λ (s : TerminalState). IsAtFront s.answered c.args.answer.now c.at_front.result)
     (sym (held-by c.args.state.now c.args.command.now c.args.answer.now t p c.in-Some.ensures.some.0 is))
     (answer-at-front p.is_answered p.joined_len c.args.answer.now c.answer.result c.at_front.result
-    c.in-Some.ensures.some.1.answer_held (c.answer.ensures c.args.command.now) c.at_front.ensures.some c.at_front.ensures.none)
+    c.in-Some.ensures.some.1.answer_held (c.answer.ensures c.args.command.now) c.at_front.ensures.some
+    c.at_front.ensures.none)
 
 pub returns-in-Some-clause-none : goal.returns-in-Some-clause-none
 returns-in-Some-clause-none c = λ none.

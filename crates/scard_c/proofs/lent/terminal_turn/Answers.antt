@@ -20,7 +20,8 @@ returns c =
         held = refl;
       }));
       called = λ le t is.
-          subst (λ (s : TerminalState). TurnsTerminal s (terminal_input c.args.call s) (lent c.of-2.result c.lend-put.new.command c.lend-put.new.answer)
+          subst (λ (s : TerminalState). TurnsTerminal s (terminal_input c.args.call s)
+          (lent c.of-2.result c.lend-put.new.command c.lend-put.new.answer)
           c.args.out.now c.lend-put.new.out c.of_terminal.result)
           (sym (held-by c.args.state.now c.args.command.now c.args.answer.now t p c.in-Some.ensures.some.0 is))
           (record {

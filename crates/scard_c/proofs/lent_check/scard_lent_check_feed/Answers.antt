@@ -30,13 +30,21 @@ returns c =
           (sym (check-held-by c.args.state.now k p c.in-Some.ensures.some.0 is))
           (record {
             new = new;
-            is = record { places = c.feed-answer.new.self; spelled = c.of.ensures; fit = c.feed-answer.ensures.fit; held = refl };
+            is = record {
+              places = c.feed-answer.new.self;
+              spelled = c.of.ensures;
+              fit =
+                  c.feed-answer.ensures.fit;
+              held = refl;
+            };
             fed = record {
               limit = c.feed-answer.ensures.limit;
               repeats = c.feed-answer.ensures.repeats;
-              taken = λ b h. subst (λ (r : Result (Unit {0}) (Stop TlvReason)). OnOk r (HasChecked (b ++ piece) new)) answer
+              taken = λ b h. subst (λ (r : Result (Unit {0}) (Stop TlvReason)). OnOk r (HasChecked (b ++ piece) new))
+                  answer
                   (c.feed-answer.ensures.taken b h);
-              refused = λ b h. subst (λ (r : Result (Unit {0}) (Stop TlvReason)). IfErr r (RefusesAt whole (IsForest old.kept.max) (IsReason old.kept.max) (b ++ piece)))
+              refused = λ b h. subst (λ (r : Result (Unit {0}) (Stop TlvReason)).
+                  IfErr r (RefusesAt whole (IsForest old.kept.max) (IsReason old.kept.max) (b ++ piece)))
                   answer (c.feed-answer.ensures.refused b h);
               verdict = c.checked.ensures ∙ ap (told_checked (length piece)) answer;
             };

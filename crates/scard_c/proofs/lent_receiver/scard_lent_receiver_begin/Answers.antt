@@ -7,7 +7,10 @@ use Rattle.scard_c.proofs.lent_receiver.scard_lent_receiver_begin.Goals as goal
 
 pub returns-clause-ok : goal.returns-clause-ok
 returns-clause-ok c = λ _.
-    subst (λ (o : Option Number). IfSome o (λ number. c.args.max ≤ 131072 → (c.ok.result ≡ ok_at 0) × ((message : List ℕ) → c.args.max ≤ length message → IsReceiver c.of.result message (fresh c.args.ifs number c.args.max))))
+    subst (λ (o : Option Number). IfSome o
+    (λ number. c.args.max ≤ 131072 → (c.ok.result ≡ ok_at 0)
+    × ((message : List ℕ) → c.args.max ≤ length message
+    → IsReceiver c.of.result message (fresh c.args.ifs number c.args.max))))
     (sym c.in-Some.is ∙ c.number_of.ensures)
     (λ few. (
       c.ok.ensures,

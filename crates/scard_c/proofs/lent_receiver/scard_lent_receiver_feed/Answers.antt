@@ -22,7 +22,19 @@ returns c =
           (sym (receiver-held-by c.args.state.now c.args.message.now r p c.in-Some.ensures.some.0 is))
           (record {
             new = received_at c.feed-answer.new.self after;
-            is = record { places = c.feed-answer.new.self; spelled = c.of.ensures; fit = c.feed-answer.ensures.fit; held = refl };
-            fed = record { answer = c.feed-answer.result; fed = c.feed-answer.ensures.fed; kept = c.feed-answer.ensures.kept; verdict = c.fed.ensures };
+            is = record {
+              places = c.feed-answer.new.self;
+              spelled = c.of.ensures;
+              fit =
+                  c.feed-answer.ensures.fit;
+              held = refl;
+            };
+            fed = record {
+              answer = c.feed-answer.result;
+              fed = c.feed-answer.ensures.fed;
+              kept =
+                  c.feed-answer.ensures.kept;
+              verdict = c.fed.ensures;
+            };
           });
     }

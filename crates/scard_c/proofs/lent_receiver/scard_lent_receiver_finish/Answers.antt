@@ -19,5 +19,10 @@ returns-in-Some c =
       ended = λ r is.
           subst (λ (s : Reception). EndsReceiver s c.ended.result)
           (sym (receiver-held-by c.args.state.now message r p c.in-Some.ensures.some.0 is))
-          (record { answer = c.finish.result; finished = c.finish.ensures message c.in-Some.ensures.some.1; verdict = c.ended.ensures });
+          (record {
+            answer = c.finish.result;
+            finished = c.finish.ensures message c.in-Some.ensures.some.1;
+            verdict =
+                c.ended.ensures;
+          });
     }

@@ -6,13 +6,15 @@ use Rattle.std.proofs.Common.{length}
 use Rattle.scard_c.proofs.octets.scard_hex_decode.Goals as goal
 
 pub unreachable-requires : goal.unreachable-requires
-unreachable-requires c = never-sized c.args.text.now (rw c.in-Err-InvalidStringLength.field-0-is at c.in-Err-InvalidStringLength.ensures.err)
+unreachable-requires c = never-sized c.args.text.now
+    (rw c.in-Err-InvalidStringLength.field-0-is at c.in-Err-InvalidStringLength.ensures.err)
 
 pub returns-in-Err-InvalidHexCharacter-clause-refused : goal.returns-in-Err-InvalidHexCharacter-clause-refused
 returns-in-Err-InvalidHexCharacter-clause-refused c = λ _. (
   At c.in-Err-InvalidHexCharacter.index Digit,
   c.stopped.ensures,
-  digit-fault c.args.text.now c.in-Err-InvalidHexCharacter.field-0-0 c.in-Err-InvalidHexCharacter.index (rw c.in-Err-InvalidHexCharacter.field-0-is at c.in-Err-InvalidHexCharacter.ensures.err),
+  digit-fault c.args.text.now c.in-Err-InvalidHexCharacter.field-0-0 c.in-Err-InvalidHexCharacter.index
+      (rw c.in-Err-InvalidHexCharacter.field-0-is at c.in-Err-InvalidHexCharacter.ensures.err),
 )
 
 pub returns-in-Err-OddLength-clause-refused : goal.returns-in-Err-OddLength-clause-refused

@@ -10,14 +10,17 @@ use Rattle.scard_c.proofs.parts.put_parts.Goals as goal
 pub returns-then-parts-out-clause-verdict : goal.returns-then-parts-out-clause-verdict
 returns-then-parts-out-clause-verdict c =
     let size = length-map c.args.parts.now part_put in
-    c.lacking.ensures ∙ ap wrong_argument (sym size) ∙ sym (verdict-lacks (map part_put c.args.parts.now) c.args.out.now (omega (arith, size, c.if-parts-out.true)))
+    c.lacking.ensures ∙ ap wrong_argument (sym size)
+    ∙ sym (verdict-lacks (map part_put c.args.parts.now) c.args.out.now (omega (arith, size, c.if-parts-out.true)))
 
 pub returns-then-parts-out-clause-array : goal.returns-then-parts-out-clause-array
 returns-then-parts-out-clause-array c =
-    sym (buffer-lacks (map part_put c.args.parts.now) c.args.out.now (omega (arith, length-map c.args.parts.now part_put, c.if-parts-out.true)))
+    sym (buffer-lacks (map part_put c.args.parts.now) c.args.out.now
+    (omega (arith, length-map c.args.parts.now part_put, c.if-parts-out.true)))
 
 pub shown-requires : goal.shown-requires
-shown-requires c = shallow-part c.args.parts.now c.loop-index.index c.index-parts-index.result c.requires c.loop-index-test.true c.index-parts-index.is
+shown-requires c = shallow-part c.args.parts.now c.loop-index.index c.index-parts-index.result c.requires
+    c.loop-index-test.true c.index-parts-index.is
 
 pub loop-index-preserved : goal.loop-index-preserved
 loop-index-preserved c =
@@ -27,20 +30,26 @@ loop-index-preserved c =
     let inside = c.loop-index-test.true in
     let all : List CPart = map part_put parts in
     let size = length-map parts part_put in
-    let shown : c.shown.result ≡ get_or all i c.shown.result = c.shown.ensures ∙ ap part_put c.index-parts-index.is ∙ sym (get_or-map part_put parts i x c.shown.result inside) in
+    let shown : c.shown.result ≡ get_or all i c.shown.result =
+    c.shown.ensures ∙ ap part_put c.index-parts-index.is
+    ∙ sym (get_or-map part_put parts i x c.shown.result inside) in
     let out = c.loop-index.out in
     let room : i < length out = omega (arith, inside, c.loop-index.invariant.size, c.if-parts-out.false) in
     record {
       size = length-set c.loop-index.out i c.shown.result ∙ c.loop-index.invariant.size;
-      done = take_more_set out i c.shown.result room ∙ ap (λ (l : List CPart). l ++ c.shown.result ∷ []) c.loop-index.invariant.done
-          ∙ ap (λ (y : CPart). take i all ++ y ∷ []) shown ∙ sym (take_more all i c.shown.result (omega (arith, size, inside)));
-      rest = drop-set-lt (i + 1) c.loop-index.out i c.shown.result (omega arith) ∙ sym (drop-drop 1 i c.loop-index.out) ∙ ap (drop 1) c.loop-index.invariant.rest ∙ drop-drop 1 i c.args.out.now;
+      done = take_more_set out i c.shown.result room
+          ∙ ap (λ (l : List CPart). l ++ c.shown.result ∷ []) c.loop-index.invariant.done
+          ∙ ap (λ (y : CPart). take i all ++ y ∷ []) shown
+          ∙ sym (take_more all i c.shown.result (omega (arith, size, inside)));
+      rest = drop-set-lt (i + 1) c.loop-index.out i c.shown.result (omega arith) ∙ sym (drop-drop 1 i c.loop-index.out)
+          ∙ ap (drop 1) c.loop-index.invariant.rest ∙ drop-drop 1 i c.args.out.now;
     }
 
 pub returns-clause-verdict : goal.returns-clause-verdict
 returns-clause-verdict c =
     let size = length-map c.args.parts.now part_put in
-    c.ok.ensures ∙ ap ok_at (sym size) ∙ sym (verdict-fits (map part_put c.args.parts.now) c.args.out.now (omega (arith, size, c.if-parts-out.false)))
+    c.ok.ensures ∙ ap ok_at (sym size) ∙ sym
+    (verdict-fits (map part_put c.args.parts.now) c.args.out.now (omega (arith, size, c.if-parts-out.false)))
 
 pub returns-clause-array : goal.returns-clause-array
 returns-clause-array c =

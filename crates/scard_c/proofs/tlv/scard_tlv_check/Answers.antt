@@ -8,8 +8,12 @@ use Rattle.scard_c.proofs.tlv.scard_tlv_check.Goals as goal
 pub returns-in-Err-clause-refused : goal.returns-in-Err-clause-refused
 returns-in-Err-clause-refused c = λ _ _.
     let nothing = (c.new-check.ensures.nothing []).1 refl in
-    let refused = rw c.new-check.ensures.limit at (c.in-Err.ensures.refused [] nothing) in
-    (c.in-Err.stop, c.stopped.ensures, refused_at whole (IsForest c.args.max) (IsReason c.args.max) c.args.octets.now c.in-Err.stop refused)
+    let refused = rw c.new-check.ensures.limit at (c.in-Err.ensures.refused [] nothing) in (
+      c.in-Err.stop,
+      c.stopped.ensures,
+      refused_at whole (IsForest c.args.max) (IsReason c.args.max) c.args.octets.now
+          c.in-Err.stop refused,
+    )
 
 pub returns-in-Ok-clause-ok : goal.returns-in-Ok-clause-ok
 returns-in-Ok-clause-ok c = λ _.
@@ -20,5 +24,8 @@ returns-in-Ok-clause-ok c = λ _.
 pub returns-in-Err-finish-clause-refused : goal.returns-in-Err-finish-clause-refused
 returns-in-Err-finish-clause-refused c = λ _ _.
     let nothing = (c.new-check.ensures.nothing []).1 refl in
-    let limit = c.in_default.ensures.limit ∙ c.new-check.ensures.limit in
-    (c.in-Err-finish.stop, c.stopped-in-Err-finish.ensures, rw limit at (c.in-Err-finish.ensures.verdict c.args.octets.now (c.in_default.ensures.taken [] nothing)))
+    let limit = c.in_default.ensures.limit ∙ c.new-check.ensures.limit in (
+      c.in-Err-finish.stop,
+      c.stopped-in-Err-finish.ensures,
+      rw limit at (c.in-Err-finish.ensures.verdict c.args.octets.now (c.in_default.ensures.taken [] nothing)),
+    )

@@ -5,4 +5,5 @@ use Rattle.tlv_core.specs.Fill.{known_for}
 use Rattle.tlv_core.proofs.filling.has_duplicate.Given as goal
 
 abbrev pub invariant-loop-place : goal.invariant-loop-place
-invariant-loop-place l = (i : ℕ) (k : Known) → i < l.place → slice_get l.known i ≡ Some k → known_for k.tag (drop (i + 1) l.known) ≡ None
+invariant-loop-place l = (i : ℕ) (k : Known) → i < l.place → slice_get l.known i ≡ Some k
+    → known_for k.tag (drop (i + 1) l.known) ≡ None

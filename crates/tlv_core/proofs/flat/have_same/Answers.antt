@@ -14,8 +14,12 @@ returns-then-not-is_same c =
     let i = c.loop-place.place in
     let lt = c.loop-place-test.true in
     let at = seen_at xs i x lt c.index-parts-place.is in
-    let at' = seen_at ys i y (omega (arith, lt, c.if-parts-others.false)) c.index-others-place.is in
-    (λ e. absurd (false≢true e), λ e. let same = one_at (map part_seen xs) (map part_seen ys) i (part_seen x) (part_seen y) (omega (arith, lt, length-map xs part_seen)) at at' e in search (rules, same))
+    let at' = seen_at ys i y (omega (arith, lt, c.if-parts-others.false)) c.index-others-place.is in (
+      λ e. absurd (false≢true e),
+      λ e. let same =
+          one_at (map part_seen xs) (map part_seen ys) i (part_seen x) (part_seen y)
+          (omega (arith, lt, length-map xs part_seen)) at at' e in search (rules, same),
+    )
 
 pub loop-place-preserved : goal.loop-place-preserved
 loop-place-preserved c =
@@ -26,12 +30,19 @@ loop-place-preserved c =
     let i = c.loop-place.place in
     let lt = c.loop-place-test.true in
     let lt' : i < length ys = omega (arith, lt, c.if-parts-others.false) in
-    more_alike (map part_seen xs) (map part_seen ys) i (part_seen x) (part_seen y) (omega (arith, lt, length-map xs part_seen)) (omega (arith, lt, c.if-parts-others.false, length-map ys part_seen))
-    (seen_at xs i x lt c.index-parts-place.is) (seen_at ys i y lt' c.index-others-place.is) (c.is_same.ensures.0 c.if-not-is_same.false) c.loop-place.invariant
+    more_alike (map part_seen xs) (map part_seen ys) i (part_seen x) (part_seen y)
+    (omega (arith, lt, length-map xs part_seen))
+    (omega (arith, lt, c.if-parts-others.false, length-map ys part_seen))
+    (seen_at xs i x lt c.index-parts-place.is) (seen_at ys i y lt' c.index-others-place.is)
+    (c.is_same.ensures.0 c.if-not-is_same.false) c.loop-place.invariant
 
 pub returns : goal.returns
 returns c =
     let xs = c.args.parts.now in
     let ys = c.args.others.now in
-    let le = c.loop-place-test.false in
-    (λ _. whole_alike (map part_seen xs) (map part_seen ys) c.loop-place.place (omega (arith, le, length-map xs part_seen)) (omega (arith, le, c.if-parts-others.false, length-map ys part_seen)) c.loop-place.invariant, λ e. refl)
+    let le = c.loop-place-test.false in (
+      λ _. whole_alike (map part_seen xs) (map part_seen ys) c.loop-place.place
+          (omega (arith, le, length-map xs part_seen))
+          (omega (arith, le, c.if-parts-others.false, length-map ys part_seen)) c.loop-place.invariant,
+      λ e. refl,
+    )

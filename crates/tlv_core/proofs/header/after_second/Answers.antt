@@ -6,4 +6,5 @@ pub returns-in-Some-clause-ok : goal.returns-in-Some-clause-ok
 returns-in-Some-clause-ok c = (part_well c.in-Some.longer c.in-Some.ensures.0, c.in-Some.ensures.1)
 
 pub returns-in-None-clause-err : goal.returns-in-None-clause-err
-returns-in-None-clause-err c = first_third c.args.first c.args.second c.args.octet c.requires.long (omega (arith, c.requires.more)) c.in-None.ensures
+returns-in-None-clause-err c = first_third c.args.first c.args.second c.args.octet c.requires.long
+    (omega (arith, c.requires.more)) c.in-None.ensures

@@ -3,4 +3,5 @@ use Rattle.tlv_core.proofs.Numbers.{power-of-few}
 use Rattle.tlv_core.proofs.header.is_part.Goals as goal
 
 pub pow-requires : goal.pow-requires
-pow-requires c = power-of-few c.from.result (omega (arith, c.from.ensures, c.if-read-further.false, c.further.ensures.most))
+pow-requires c = power-of-few c.from.result
+    (omega (arith, c.from.ensures, c.if-read-further.false, c.further.ensures.most))

@@ -7,4 +7,5 @@ abbrev pub decreases-first_in : goal.decreases-first_in
 decreases-first_in l = length l.path.now
 
 abbrev pub invariant-loop-node : goal.invariant-loop-node
-invariant-loop-node l = first_on l.path (tree_of (drop l.node-index l.node-items)) ≡ first_on l.path (tree_of l.node-items)
+invariant-loop-node l = first_on l.path (tree_of (drop l.node-index l.node-items)) ≡ first_on l.path
+    (tree_of l.node-items)

@@ -14,21 +14,24 @@ use Rattle.tlv_core.proofs.survey.+has_unfit.Goals.{in-Constructed+else-has_unfi
 pub returns-then-is_unfit : goal.returns-then-is_unfit
 returns-then-is_unfit t c d =
     let xs = c.get-node-items.result.now in
-    let some = some_own IsUnfit d xs c.loop-node.node-index c.node-item.result c.loop-node-test.true c.node-item.is ((c.is_unfit.ensures d).0 c.if-is_unfit.true) in
+    let some = some_own IsUnfit d xs c.loop-node.node-index c.node-item.result c.loop-node-test.true c.node-item.is
+    ((c.is_unfit.ensures d).0 c.if-is_unfit.true) in
     (λ _. subst (SomeObject IsUnfit d) c.get-node-items.ensures some, λ _. refl)
 
 pub has_unfit-requires : goal.has_unfit-requires
 has_unfit-requires t c =
     let xs = c.get-node-items.result.now in
     let p = c.in-Constructed in
-    let fewer = child_fewer xs c.loop-node.node-index p.tag p.form p.nodes c.node-item.result c.loop-node-test.true c.node-item.is p.is in
+    let fewer = child_fewer xs c.loop-node.node-index p.tag p.form p.nodes c.node-item.result c.loop-node-test.true
+    c.node-item.is p.is in
     (omega (arith, fewer, c.decreases, ap tree_size c.get-node-items.ensures), tt)
 
 pub returns-then-has_unfit : goal.returns-then-has_unfit
 returns-then-has_unfit t c d =
     let xs = c.get-node-items.result.now in
     let p = c.in-Constructed in
-    let some = some_inner IsUnfit d xs c.loop-node.node-index c.node-item.result p.tag p.form p.nodes c.loop-node-test.true c.node-item.is p.is ((c.has_unfit.ensures (d + 1)).0 c.if-has_unfit.true) in
+    let some = some_inner IsUnfit d xs c.loop-node.node-index c.node-item.result p.tag p.form p.nodes
+    c.loop-node-test.true c.node-item.is p.is ((c.has_unfit.ensures (d + 1)).0 c.if-has_unfit.true) in
     (λ _. subst (SomeObject IsUnfit d) c.get-node-items.ensures some, λ _. refl)
 
 pub loop-node-preserved : goal.loop-node-preserved
@@ -36,10 +39,16 @@ loop-node-preserved t c d =
     let xs = c.get-node-items.result.now in
     let x = c.node-item.result in
     let own : OwnIs IsUnfit d x → ⊥ = λ h. false≢true (sym c.if-is_unfit.false ∙ (c.is_unfit.ensures d).1 h) in
-    let rest : ((tag : List ℕ) (form : Form) (nodes : Tree) → x ≡ node.Constructed tag form nodes → SomeObject IsUnfit (d + 1) nodes → ⊥) → SomeObject IsUnfit d (tree_of (take (c.loop-node.node-index + 1) xs)) → ⊥ = λ inner. none_more IsUnfit d xs c.loop-node.node-index x c.loop-node-test.true c.node-item.is (c.loop-node.invariant d) own inner in
+    let rest : ((tag : List ℕ) (form : Form) (nodes : Tree) → x ≡ node.Constructed tag form nodes
+    → SomeObject IsUnfit (d + 1) nodes → ⊥) → SomeObject IsUnfit d (tree_of (take (c.loop-node.node-index + 1) xs))
+    → ⊥ = λ inner. none_more IsUnfit d xs c.loop-node.node-index x c.loop-node-test.true c.node-item.is
+    (c.loop-node.invariant d) own inner in
     elim c.match-node.branch [
       | in-Constructed+else-has_unfit w ↦
           let p = w.in-Constructed in
-          rest (λ tag form nodes is some. let same : nodes ≡ p.nodes = same_nodes tag p.tag form p.form nodes p.nodes x is p.is in false≢true (sym w.if-has_unfit.false ∙ (w.has_unfit.ensures (d + 1)).1 (subst (SomeObject IsUnfit (d + 1)) same some)))
+          rest (λ tag form nodes is some. let same : nodes ≡ p.nodes =
+          same_nodes tag p.tag form p.form nodes p.nodes x is p.is in
+          false≢true (sym w.if-has_unfit.false
+          ∙ (w.has_unfit.ensures (d + 1)).1 (subst (SomeObject IsUnfit (d + 1)) same some)))
       | in_default w ↦ rest (λ tag form nodes is some. w.in_default.not-Constructed tag form nodes is)
     ]

@@ -9,4 +9,5 @@ abbrev pub decreases-octets_of : goal.decreases-octets_of
 decreases-octets_of l = tree_size l.nodes.now
 
 abbrev pub invariant-loop-node : goal.invariant-loop-node
-invariant-loop-node l = (l.total ≡ min (length (spelling (tree_of (take l.node-index l.node-items)))) (2 ^ 64 - 1)) × AreObjects (tree_of (take l.node-index l.node-items))
+invariant-loop-node l = (l.total ≡ min (length (spelling (tree_of (take l.node-index l.node-items)))) (2 ^ 64 - 1))
+    × AreObjects (tree_of (take l.node-index l.node-items))

@@ -19,6 +19,11 @@ pub returns-in-Err : goal.returns-in-Err
 returns-in-Err g c read written h = record {
   text = c.args.self.text.items ++ fault_text Memory;
   right = ended.Fault;
-  is_right = first_told c.args.self.text.items (begun-here c.args.self.expected read written c.args.self.line.items c.args.self.text.items c.args.self.status h) refl refl;
-  is_written = subst (λ (t : List ℕ). IsWritten (t ++ fault_text Memory) ended.Fault (g.W.Sink.contents c.args.writer.now) (g.W.Sink.contents c.faulted.new.writer) (g.W.Sink.failures c.args.writer.now) (g.W.Sink.failures c.faulted.new.writer) c.faulted.result) c.in-Err.ensures.kept c.faulted.ensures;
+  is_right = first_told c.args.self.text.items
+      (begun-here c.args.self.expected read written c.args.self.line.items c.args.self.text.items c.args.self.status h)
+      refl refl;
+  is_written = subst (λ (t : List ℕ). IsWritten (t ++ fault_text Memory) ended.Fault
+      (g.W.Sink.contents c.args.writer.now) (g.W.Sink.contents c.faulted.new.writer)
+      (g.W.Sink.failures c.args.writer.now) (g.W.Sink.failures c.faulted.new.writer) c.faulted.result)
+      c.in-Err.ensures.kept c.faulted.ensures;
 }

@@ -12,8 +12,13 @@ use Rattle.tlv_core.proofs.checking.Checking.feed.Goals as goal
 pub loop-taken-preserved : goal.loop-taken-preserved
 loop-taken-preserved c =
     let l = c.loop-taken in
-    let piece = c.args.piece.now in
-    (fed_more (kept_of c.args.self.now.progress) (kept_of l.self.progress) (kept_of c.advance.new.self) piece (take (length piece - l.taken) (drop l.taken piece)) l.taken c.in-Ok.count l.invariant.0 (rest_of piece l.taken) c.in-Ok.ensures.some.1 c.in-Ok.ensures.max c.in-Ok.ensures.ok, l.invariant.1)
+    let piece = c.args.piece.now in (
+      fed_more (kept_of c.args.self.now.progress) (kept_of l.self.progress) (kept_of c.advance.new.self) piece
+          (take (length piece - l.taken) (drop l.taken piece)) l.taken c.in-Ok.count l.invariant.0
+          (rest_of piece l.taken)
+          c.in-Ok.ensures.some.1 c.in-Ok.ensures.max c.in-Ok.ensures.ok,
+      l.invariant.1,
+    )
 
 pub returns-in-Err-clause-refused : goal.returns-in-Err-clause-refused
 returns-in-Err-clause-refused c b h =
@@ -22,9 +27,11 @@ returns-in-Err-clause-refused c b h =
     let before = kept_of c.args.self.now.progress in
     let err = c.in-Err.ensures.err in
     let stop : At l.self.progress.count c.in-Err.reason ≡ c.stop-in-Err.result =
-    ap (λ (p : Progress). At p.count c.in-Err.reason) (sym err.0) ∙ ap (λ (r : Refusal). At r.place r.reason) (sym c.refusal-in-Err.ensures) ∙ sym c.stop-in-Err.ensures in
+    ap (λ (p : Progress). At p.count c.in-Err.reason) (sym err.0)
+    ∙ ap (λ (r : Refusal). At r.place r.reason) (sym c.refusal-in-Err.ensures) ∙ sym c.stop-in-Err.ensures in
     subst (RefusesAt whole (IsForest before.max) (IsReason before.max) (b ++ piece)) stop
-    (fed_refused before (kept_of l.self.progress) piece (take (length piece - l.taken) (drop l.taken piece)) l.taken c.in-Err.reason b l.invariant.0 c.loop-taken-test.true (rest_of piece l.taken) err.1 err.2 h.taken)
+    (fed_refused before (kept_of l.self.progress) piece (take (length piece - l.taken) (drop l.taken piece)) l.taken
+    c.in-Err.reason b l.invariant.0 c.loop-taken-test.true (rest_of piece l.taken) err.1 err.2 h.taken)
 
 pub returns-in-Err-clause-some : goal.returns-in-Err-clause-some
 returns-in-Err-clause-some c = λ some.
@@ -36,4 +43,5 @@ returns-in-Err-clause-some c = λ some.
 pub returns-clause-some : goal.returns-clause-some
 returns-clause-some c = λ some.
     let before = kept_of c.args.self.now.progress in
-    fed_some before (kept_of c.loop-taken.self.progress) c.args.piece.now c.loop-taken.taken before refl c.loop-taken.invariant.0 some
+    fed_some before (kept_of c.loop-taken.self.progress) c.args.piece.now c.loop-taken.taken before refl
+    c.loop-taken.invariant.0 some

@@ -7,7 +7,8 @@ use Rattle.tlv_core.proofs.Fed.{idle_end, busy_end}
 use Rattle.tlv_core.proofs.checking.Checking.finish.Goals as goal
 
 pub returns-then-is_idle-clause-verdict : goal.returns-then-is_idle-clause-verdict
-returns-then-is_idle-clause-verdict c b h = idle_end b (kept_of c.args.self.now.progress) h.taken (c.is_idle.ensures.0 c.if-is_idle.true)
+returns-then-is_idle-clause-verdict c b h =
+    idle_end b (kept_of c.args.self.now.progress) h.taken (c.is_idle.ensures.0 c.if-is_idle.true)
 
 pub returns-clause-verdict : goal.returns-clause-verdict
 returns-clause-verdict c b h =

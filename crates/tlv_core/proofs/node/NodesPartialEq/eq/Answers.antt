@@ -4,4 +4,5 @@ use Rattle.tlv_core.proofs.Alike.{tree_decides}
 use Rattle.tlv_core.proofs.node.NodesPartialEq.eq.Goals as goal
 
 pub returns : goal.returns
-returns c = one_answer c.are_same.result (same_tree c.args.self.now c.args.other.now) c.are_same.ensures (tree_decides c.args.self.now c.args.other.now)
+returns c = one_answer c.are_same.result (same_tree c.args.self.now c.args.other.now) c.are_same.ensures
+    (tree_decides c.args.self.now c.args.other.now)

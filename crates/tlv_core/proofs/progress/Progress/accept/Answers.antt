@@ -15,18 +15,36 @@ invariant_of-self c =
     let s = c.args.self.now in
     record {
       limit = s.limit;
-      within = omega (arith, s.within, c.requires.idle, c.requires.room, room-within s.max s.count s.ends.items s.ahead (omega (arith, s.within)));
+      within = omega (
+        arith,
+        s.within,
+        c.requires.idle,
+        c.requires.room,
+        room-within s.max s.count s.ends.items s.ahead (omega (arith, s.within)),
+      );
       ahead = ends-now s.max s.count 1 s.ends.items c.close.new.ends.items s.ahead c.close.ensures;
       well = subst IsWell (sym c.header-self.ensures) (well_header c.args.next.now c.requires.well);
       levels = omega (arith, s.levels, fewer-now c.close.new.ends.items s.ends.items (s.count + 1) c.close.ensures);
-      shallow = λ h. omega (arith, c.requires.shallow (some_header c.args.next.now (λ e. h (c.header-self.ensures ∙ e))), fewer-now c.close.new.ends.items s.ends.items (s.count + 1) c.close.ensures);
+      shallow = λ h. omega (
+        arith,
+        c.requires.shallow
+            (some_header c.args.next.now (λ e. h (c.header-self.ensures ∙ e))),
+        fewer-now c.close.new.ends.items s.ends.items (s.count + 1) c.close.ensures,
+      );
     }
 
 pub enter-requires-clause-fits : goal.enter-requires-clause-fits
 enter-requires-clause-fits c =
     let s = c.args.self.now in
-    let is : c.args.next.now ≡ next.Object c.in-Some.object = some_object c.args.next.now c.in-Some.object (sym c.object.ensures ∙ c.in-Some.is) in
-    omega (arith, ap next_need is, c.requires.room, s.within, room-within s.max s.count s.ends.items s.ahead (omega (arith, s.within)))
+    let is : c.args.next.now ≡ next.Object c.in-Some.object =
+    some_object c.args.next.now c.in-Some.object (sym c.object.ensures ∙ c.in-Some.is) in
+    omega (
+      arith,
+      ap next_need is,
+      c.requires.room,
+      s.within,
+      room-within s.max s.count s.ends.items s.ahead (omega (arith, s.within)),
+    )
 
 pub returns-in-Some : goal.returns-in-Some
 returns-in-Some c =
@@ -37,7 +55,9 @@ returns-in-Some c =
     let now = c.close.new.ends.items in
     c.enter.ensures
     ∙ ap (λ (k : Kept). entered k o.len (constructed_bit o.tag))
-    (ap (λ (l : List ℕ). kept s.max (s.count + 1) (rooms_to (s.count + 1) now) l s.value_left) none ∙ same_left s.max (s.count + 1) (rooms_to (s.count + 1) now) [] s.value_left 0 c.requires.idle ∙ same_open s.max s.count 1 0 [] s.ends.items now c.close.ensures)
+    (ap (λ (l : List ℕ). kept s.max (s.count + 1) (rooms_to (s.count + 1) now) l s.value_left) none
+    ∙ same_left s.max (s.count + 1) (rooms_to (s.count + 1) now) [] s.value_left 0 c.requires.idle
+    ∙ same_open s.max s.count 1 0 [] s.ends.items now c.close.ensures)
     ∙ ap (after_next (kept_of s)) (sym is)
 
 pub returns-in_default : goal.returns-in_default
@@ -45,5 +65,8 @@ returns-in_default c =
     let s = c.args.self.now in
     let h = header_octets (header_in c.args.next.now) in
     let now = c.close.new.ends.items in
-    ap (λ (j : Header). kept s.max (s.count + 1) (rooms_to (s.count + 1) now) (header_octets j) s.value_left) c.header-self.ensures ∙ same_left s.max (s.count + 1) (rooms_to (s.count + 1) now) h s.value_left 0 c.requires.idle
-    ∙ same_open s.max s.count 1 0 h s.ends.items now c.close.ensures ∙ sym (after-none (kept_of s) c.args.next.now (λ o e. c.in_default.not-Some o (c.object.ensures ∙ e)))
+    ap (λ (j : Header). kept s.max (s.count + 1) (rooms_to (s.count + 1) now) (header_octets j) s.value_left)
+    c.header-self.ensures ∙ same_left s.max (s.count + 1) (rooms_to (s.count + 1) now) h s.value_left 0
+    c.requires.idle
+    ∙ same_open s.max s.count 1 0 h s.ends.items now c.close.ensures
+    ∙ sym (after-none (kept_of s) c.args.next.now (λ o e. c.in_default.not-Some o (c.object.ensures ∙ e)))

@@ -22,12 +22,16 @@ returns-then-self-gt0-clause-ok c b h =
     let add = take run c.args.octets.now in
     let octets : AreOctets c.args.octets.now = λ i. omega (arith, c.type_inv.octets i) in
     subst (HasTaken (b ++ add)) (sym c.skip.ensures)
-    (skip_taken b k run add (omega (arith, length-take run c.args.octets.now, c.min-run.ensures)) (octets-take run c.args.octets.now octets) (omega (arith, c.min-run.ensures, c.requires)) (omega (arith, c.min-run.ensures)) h)
+    (skip_taken b k run add (omega (arith, length-take run c.args.octets.now, c.min-run.ensures))
+    (octets-take run c.args.octets.now octets) (omega (arith, c.min-run.ensures, c.requires))
+    (omega (arith, c.min-run.ensures)) h)
 
 pub returns-in-Some-clause-some : goal.returns-in-Some-clause-some
 returns-in-Some-clause-some c =
-    let may = c.in-Some.ensures.some in
-    (omega (arith, c.taken.ensures, taken_some c.args.octets.now c.in-Some.object may.short), omega (arith, c.taken.ensures, may.here))
+    let may = c.in-Some.ensures.some in (
+      omega (arith, c.taken.ensures, taken_some c.args.octets.now c.in-Some.object may.short),
+      omega (arith, c.taken.ensures, may.here),
+    )
 
 pub returns-in-Some-clause-ok : goal.returns-in-Some-clause-ok
 returns-in-Some-clause-ok c b h =
@@ -35,7 +39,9 @@ returns-in-Some-clause-ok c b h =
     let o = c.in-Some.object in
     let now = kept_of c.take_short.new.self in
     let octets : AreOctets c.args.octets.now = λ i. omega (arith, c.type_inv.octets i) in
-    let taken : HasTaken (b ++ take (taken_of o) c.args.octets.now) now = subst (HasTaken (b ++ take (taken_of o) c.args.octets.now)) (sym c.in-Some.ensures.after) (short_taken b c.args.octets.now k o c.in-Some.ensures.some octets h) in
+    let taken : HasTaken (b ++ take (taken_of o) c.args.octets.now) now =
+    subst (HasTaken (b ++ take (taken_of o) c.args.octets.now)) (sym c.in-Some.ensures.after)
+    (short_taken b c.args.octets.now k o c.in-Some.ensures.some octets h) in
     subst (λ (m : ℕ). HasTaken (b ++ take m c.args.octets.now) now) (sym c.taken.ensures) taken
 
 pub returns-clause-ok : goal.returns-clause-ok
@@ -44,17 +50,24 @@ returns-clause-ok c b h =
     let s = c.take_short.new.self in
     let same : s ≡ old = c.in_default.ensures.none in
     let x = get_or c.args.octets.now 0 0 in
-    let left : s.value_left ≡ 0 = subst (λ (p : Progress). p.value_left ≡ 0) (sym same) (omega (arith, c.if-self-gt0.false)) in
-    let taken : HasTaken (b ++ x ∷ []) (kept_of c.take.new.self) = subst (HasTaken (b ++ x ∷ [])) (sym c.in_ok-take.ensures.after) (take_taken b (kept_of s) x c.in_ok-take.field-0 left c.in_ok-take.ensures.ok (subst (λ (p : Progress). HasTaken b (kept_of p)) (sym same) h)) in
-    subst (λ (l : List ℕ). HasTaken (b ++ l) (kept_of c.take.new.self)) (sym (take_one c.args.octets.now c.requires)) taken
+    let left : s.value_left ≡ 0 = subst (λ (p : Progress). p.value_left ≡ 0) (sym same)
+    (omega (arith, c.if-self-gt0.false)) in
+    let taken : HasTaken (b ++ x ∷ []) (kept_of c.take.new.self) =
+    subst (HasTaken (b ++ x ∷ [])) (sym c.in_ok-take.ensures.after)
+    (take_taken b (kept_of s) x c.in_ok-take.field-0 left c.in_ok-take.ensures.ok
+    (subst (λ (p : Progress). HasTaken b (kept_of p)) (sym same) h)) in
+    subst (λ (l : List ℕ). HasTaken (b ++ l) (kept_of c.take.new.self)) (sym (take_one c.args.octets.now c.requires))
+    taken
 
 pub returns-in_err-take-clause-err : goal.returns-in_err-take-clause-err
 returns-in_err-take-clause-err c =
     let old = c.args.self.now in
     let s = c.take_short.new.self in
     let same : s ≡ old = c.in_default.ensures.none in
-    let left : s.value_left ≡ 0 = subst (λ (p : Progress). p.value_left ≡ 0) (sym same) (omega (arith, c.if-self-gt0.false)) in
+    let left : s.value_left ≡ 0 = subst (λ (p : Progress). p.value_left ≡ 0) (sym same)
+    (omega (arith, c.if-self-gt0.false)) in
     let x = slice_index c.args.octets.now 0 in
     let p = err_from_is_err_and c.from_residual.result c.from_residual.ensures.1 in
     let err = c.in_err-take.ensures.err in
-    rw (p.1, p.2) (subst (λ (q : Progress). (c.take.new.self ≡ q) × (q.value_left ≡ 0) × IsFirst tlv_reasons (IsWrongAfter (kept_of q) x) c.in_err-take.field-0.0) same (err.0, left, err.1))
+    rw (p.1, p.2) (subst (λ (q : Progress). (c.take.new.self ≡ q) × (q.value_left ≡ 0)
+    × IsFirst tlv_reasons (IsWrongAfter (kept_of q) x) c.in_err-take.field-0.0) same (err.0, left, err.1))

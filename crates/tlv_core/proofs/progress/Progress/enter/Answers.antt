@@ -9,7 +9,9 @@ invariant_of-self c =
     record {
       limit = s.limit;
       within = s.within;
-      ahead = subst (AreEnds s.max s.count) (sym c.push.ensures.items) (ends-push s.max s.count (s.count + c.args.object.len) s.ends.items s.ahead (omega (arith, c.if-len-eq0.false)) c.requires.fits);
+      ahead = subst (AreEnds s.max s.count) (sym c.push.ensures.items)
+          (ends-push s.max s.count (s.count + c.args.object.len) s.ends.items s.ahead
+          (omega (arith, c.if-len-eq0.false)) c.requires.fits);
       well = s.well;
       levels = omega (arith, c.requires.shallow, c.push.ensures.len);
       shallow = λ h. absurd (h c.requires.whole);

@@ -12,14 +12,17 @@ pub returns-then-is_too_deep-clause-err : goal.returns-then-is_too_deep-clause-e
 returns-then-is_too_deep-clause-err c =
     let s = c.args.self.now in
     let rooms = rooms_to s.count s.ends.items in
-    first_deep (length rooms) (room_of (s.max - s.count) rooms) (header_octets s.header) c.args.octet (c.is_too_deep.ensures.0 c.if-is_too_deep.true)
+    first_deep (length rooms) (room_of (s.max - s.count) rooms) (header_octets s.header) c.args.octet
+    (c.is_too_deep.ensures.0 c.if-is_too_deep.true)
 
 pub returns-in_err-next-clause-err : goal.returns-in_err-next-clause-err
 returns-in_err-next-clause-err c =
     let s = c.args.self.now in
     let rooms = rooms_to s.count s.ends.items in
     let p = err_from_is_err_and c.from_residual.result c.from_residual.ensures.1 in
-    rw (p.1, p.2) (first_octet (length rooms) (room_of (s.max - s.count) rooms) (header_octets s.header) c.args.octet c.in_err-next.field-0.0 (λ w. false≢true (sym c.if-is_too_deep.false ∙ c.is_too_deep.ensures.1 w)) c.in_err-next.ensures.err)
+    rw (p.1, p.2) (first_octet (length rooms) (room_of (s.max - s.count) rooms) (header_octets s.header) c.args.octet
+    c.in_err-next.field-0.0 (λ w. false≢true (sym c.if-is_too_deep.false ∙ c.is_too_deep.ensures.1 w))
+    c.in_err-next.ensures.err)
 
 pub returns-then-room-need-clause-err : goal.returns-then-room-need-clause-err
 returns-then-room-need-clause-err c =
@@ -28,5 +31,14 @@ returns-then-room-need-clause-err c =
     let room = room_of (s.max - s.count) rooms in
     let h = header_octets s.header in
     let follows = c.in_ok-next.ensures.ok in
-    let first = first_room (length s.ends.items) (length rooms) room h c.args.octet (length-rooms s.count s.ends.items) (λ w. false≢true (sym c.if-is_too_deep.false ∙ c.is_too_deep.ensures.1 w)) (next_right s.header c.args.octet c.in_ok-next.next s.well follows) (omega (arith, need_is h c.args.octet c.in_ok-next.next follows, c.if-room-need.true, c.room.ensures, c.need.ensures)) in
+    let first = first_room (length s.ends.items) (length rooms) room h c.args.octet (length-rooms s.count s.ends.items)
+    (λ w. false≢true (sym c.if-is_too_deep.false ∙ c.is_too_deep.ensures.1 w))
+    (next_right s.header c.args.octet c.in_ok-next.next s.well follows)
+    (omega (
+      arith,
+      need_is h c.args.octet c.in_ok-next.next follows,
+      c.if-room-need.true,
+      c.room.ensures,
+      c.need.ensures,
+    )) in
     rw c.overrun.ensures first

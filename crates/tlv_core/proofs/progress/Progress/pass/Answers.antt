@@ -17,11 +17,18 @@ invariant_of-self c =
       within = omega (arith, s.within, c.requires.idle, c.requires.fits, most, least, c.taken.ensures);
       ahead = subst (AreEnds s.max (s.count + c.taken.result)) (sym c.push.ensures.items)
           (
-          ends-push s.max (s.count + c.taken.result) (s.count + c.taken.result + n) c.close.new.ends.items (ends-now s.max s.count c.taken.result s.ends.items c.close.new.ends.items s.ahead c.close.ensures) (omega (arith, some.0))
+          ends-push s.max (s.count + c.taken.result) (s.count + c.taken.result + n) c.close.new.ends.items
+          (ends-now s.max s.count c.taken.result s.ends.items c.close.new.ends.items s.ahead c.close.ensures)
+          (omega (arith, some.0))
           (omega (arith, s.within, c.requires.fits, most, whole, c.taken.ensures))
           );
       well = s.well;
-      levels = omega (arith, c.requires.shallow, c.push.ensures.len, fewer-now c.close.new.ends.items s.ends.items (s.count + c.taken.result) c.close.ensures);
+      levels = omega (
+        arith,
+        c.requires.shallow,
+        c.push.ensures.len,
+        fewer-now c.close.new.ends.items s.ends.items (s.count + c.taken.result) c.close.ensures,
+      );
       shallow = λ h. absurd (h c.requires.nothing);
     }
 
@@ -35,7 +42,11 @@ invariant_of-self-in_default c =
       within = omega (arith, s.within, c.requires.idle, c.requires.fits, most, least, c.taken.ensures);
       ahead = ends-now s.max s.count c.taken.result s.ends.items c.close.new.ends.items s.ahead c.close.ensures;
       well = s.well;
-      levels = omega (arith, c.requires.shallow, fewer-now c.close.new.ends.items s.ends.items (s.count + c.taken.result) c.close.ensures);
+      levels = omega (
+        arith,
+        c.requires.shallow,
+        fewer-now c.close.new.ends.items s.ends.items (s.count + c.taken.result) c.close.ensures,
+      );
       shallow = λ h. absurd (h c.requires.nothing);
     }
 
@@ -44,13 +55,18 @@ returns-in-Some-clause-after c =
     let s = c.args.self.now in
     let o = c.args.object in
     let m = c.taken.result in
-    was_nothing s.max (s.count + m) s.value_left (rooms_to (s.count + m) c.push.new.self.items) s.header c.requires.nothing c.requires.idle
-    ∙ kept_opened s.max s.count m c.in-Some.len o.len o.is_constructed s.ends.items c.close.new.ends.items c.push.new.self.items c.close.ensures c.push.ensures.items c.in-Some.ensures.some.2 ∙ by_header s.max s.count m (rooms_to s.count s.ends.items) o c.taken.ensures
+    was_nothing s.max (s.count + m) s.value_left (rooms_to (s.count + m) c.push.new.self.items) s.header
+    c.requires.nothing c.requires.idle
+    ∙ kept_opened s.max s.count m c.in-Some.len o.len o.is_constructed s.ends.items c.close.new.ends.items
+    c.push.new.self.items c.close.ensures c.push.ensures.items c.in-Some.ensures.some.2
+    ∙ by_header s.max s.count m (rooms_to s.count s.ends.items) o c.taken.ensures
 
 pub returns-in_default-clause-after : goal.returns-in_default-clause-after
 returns-in_default-clause-after c =
     let s = c.args.self.now in
     let o = c.args.object in
     let m = c.taken.result in
-    was_nothing s.max (s.count + m) s.value_left (rooms_to (s.count + m) c.close.new.ends.items) s.header c.requires.nothing c.requires.idle
-    ∙ kept_passed s.max s.count m o.len o.is_constructed s.ends.items c.close.new.ends.items c.close.ensures c.in_default.ensures.none ∙ by_header s.max s.count m (rooms_to s.count s.ends.items) o c.taken.ensures
+    was_nothing s.max (s.count + m) s.value_left (rooms_to (s.count + m) c.close.new.ends.items) s.header
+    c.requires.nothing c.requires.idle
+    ∙ kept_passed s.max s.count m o.len o.is_constructed s.ends.items c.close.new.ends.items c.close.ensures
+    c.in_default.ensures.none ∙ by_header s.max s.count m (rooms_to s.count s.ends.items) o c.taken.ensures

@@ -18,4 +18,5 @@ invariant_of-self c =
 pub returns : goal.returns
 returns c =
     let s = c.args.self.now in
-    same_open s.max s.count c.args.run (s.value_left - c.args.run) (header_octets s.header) s.ends.items c.close.new.ends.items c.close.ensures
+    same_open s.max s.count c.args.run (s.value_left - c.args.run) (header_octets s.header) s.ends.items
+    c.close.new.ends.items c.close.ensures

@@ -6,4 +6,5 @@ pub accept-requires-clause-shallow : goal.accept-requires-clause-shallow
 accept-requires-clause-shallow c =
     let s = c.args.self.now in
     let step = c.in_ok-next.ensures.ok in
-    shallow_next s.header c.args.octet (length s.ends.items) c.in_ok-next.next s.well s.shallow step.follows (λ h full. step.shallow h (omega (arith, length-rooms s.count s.ends.items, s.levels, full)))
+    shallow_next s.header c.args.octet (length s.ends.items) c.in_ok-next.next s.well s.shallow step.follows
+    (λ h full. step.shallow h (omega (arith, length-rooms s.count s.ends.items, s.levels, full)))
