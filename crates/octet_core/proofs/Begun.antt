@@ -7,6 +7,7 @@ use Rattle.std.proofs.lemmas.Bool.{cases_lt}
 use Rattle.octet_core.proofs.Lists.{nil_of}
 use Rattle.octet_core.specs.Grammar.{Begins, Accepts, Ending, self_ended, IsStuck, IsShort, Verdict, accepted, short, refused}
 
+-- the first k of the first n octets are the first k
 pub take_take : (k n : ℕ) (b : List ℕ) → k ≤ n → take k (take n b) ≡ take k b
 take_take zero n b h = refl
 take_take (suc k) zero b h = absurd (omega arith)
@@ -14,19 +15,24 @@ take_take (suc k) (suc n) [] h = refl
 take_take (suc k) (suc n) (x ∷ b) h = ap (λ (l : List ℕ). x ∷ l) (take_take k n b (omega arith))
 
 module _ {V : Type 0} (S : V → List ℕ → Type 0) where
+  -- what is in front of octets that begin a spelling begins it too
   pub begins-front : (x y : List ℕ) → Begins S (x ++ y) → Begins S x
   begins-front x y h = (h.0, y ++ h.1, subst (S h.0) (append_assoc x y h.1) h.2)
 
+  -- fewer octets begin a spelling where more do
   pub begins-take : (k n : ℕ) (b : List ℕ) → k ≤ n → Begins S (take n b) → Begins S (take k b)
   begins-take k n b le h =
-      let parts : take n b ≡ take k b ++ drop k (take n b) = sym (take-append-drop k (take n b)) ∙ ap (λ (l : List ℕ). l ++ drop k (take n b)) (take_take k n b le) in
+      let parts : take n b ≡ take k b ++ drop k (take n b) =
+      sym (take-append-drop k (take n b)) ∙ ap (λ (l : List ℕ). l ++ drop k (take n b)) (take_take k n b le) in
       begins-front (take k b) (drop k (take n b)) (subst (Begins S) parts h)
 
+  -- a spelling begins itself
   pub spelled-begins : (v : V) (b : List ℕ) → S v b → Begins S b
   spelled-begins v b h = (v, [], subst (S v) (sym (append-nil b)) h)
 
   -- where no spelling goes on, a shorter one is all that could be accepted
-  pub none-stuck : (b : List ℕ) (p : ℕ) → (Begins S (take (p + 1) b) → ⊥) → ((v : V) (n : ℕ) → Accepts self_ended S b v n → p < n) → (v : V) (n : ℕ) → Accepts self_ended S b v n → ⊥
+  pub none-stuck : (b : List ℕ) (p : ℕ) → (Begins S (take (p + 1) b) → ⊥)
+      → ((v : V) (n : ℕ) → Accepts self_ended S b v n → p < n) → (v : V) (n : ℕ) → Accepts self_ended S b v n → ⊥
   none-stuck b p stuck long v n a =
       let lt : p < n = long v n a in
       stuck (begins-take (p + 1) n b (omega arith) (spelled-begins v (take n b) a.1))
@@ -36,10 +42,12 @@ module _ {V : Type 0} (S : V → List ℕ → Type 0) where
   spelled-accepted v b more h = (omega (arith, length-append b more), subst (S v) (sym (take-append_seam b more)) h)
 
 -- where what is accepted is one value and one length, no spelling is another's or begins it
-pub spelled-apart : {V : Type 0} (S T : V → List ℕ → Type 0) → ((b : List ℕ) (v w : V) (n m : ℕ) → Accepts self_ended S b v n → Accepts self_ended T b w m → (v ≡ w) × (n ≡ m))
+pub spelled-apart : {V : Type 0} (S T : V → List ℕ → Type 0)
+    → ((b : List ℕ) (v w : V) (n m : ℕ) → Accepts self_ended S b v n → Accepts self_ended T b w m → (v ≡ w) × (n ≡ m))
     → (v w : V) (b more : List ℕ) → S v b → T w (b ++ more) → (v ≡ w) × (more ≡ [])
 spelled-apart S T one v w b more h g =
-    let whole : Accepts self_ended T (b ++ more) w (length (b ++ more)) = (omega arith, subst (T w) (sym (take-length (b ++ more))) g) in
+    let whole : Accepts self_ended T (b ++ more) w (length (b ++ more)) =
+    (omega arith, subst (T w) (sym (take-length (b ++ more))) g) in
     let both = one (b ++ more) v w (length b) (length (b ++ more)) (spelled-accepted S v b more h) whole in
     (both.0, nil_of more (omega (arith, both.1, length-append b more)))
 
@@ -63,7 +71,8 @@ module _ {V : Type 0} (S : V → List ℕ → Type 0) where
 
   -- what is short is not refused at a place
   pub short-not-stuck : (e : Ending) (b : List ℕ) (p q : ℕ) → IsShort e S b p → IsStuck e S b q → ⊥
-  short-not-stuck e b p q h g = g.stuck (begins-take S (q + 1) (length b) b (omega (arith, g.inside)) (subst (Begins S) (sym (take-length b)) h.begun))
+  short-not-stuck e b p q h g = g.stuck (begins-take S (q + 1) (length b) b (omega (arith, g.inside))
+      (subst (Begins S) (sym (take-length b)) h.begun))
 
   -- a refused input stays refused, at the same place, whatever follows
   pub stuck-append : (b more : List ℕ) (p : ℕ) → IsStuck self_ended S b p → IsStuck self_ended S (b ++ more) p
@@ -71,7 +80,8 @@ module _ {V : Type 0} (S : V → List ℕ → Type 0) where
       let inside : p < length (b ++ more) = omega (arith, h.inside, length-append b more) in
       let front : (n : ℕ) → n ≤ length b → take n (b ++ more) ≡ take n b = λ n le. take-append-le n b more le in
       let begun : Begins S (take p (b ++ more)) = subst (Begins S) (sym (front p (omega (arith, h.inside)))) h.begun in
-      let stuck : Begins S (take (p + 1) (b ++ more)) → ⊥ = λ g. h.stuck (subst (Begins S) (front (p + 1) (omega (arith, h.inside))) g) in
+      let stuck : Begins S (take (p + 1) (b ++ more)) → ⊥ =
+      λ g. h.stuck (subst (Begins S) (front (p + 1) (omega (arith, h.inside))) g) in
       record {
         none = λ v n a. elim (cases_lt p n) [
           | inl lt ↦ stuck-more p n (b ++ more) lt (spelled-begins S v (take n (b ++ more)) a.1) stuck
@@ -85,17 +95,29 @@ module _ {V : Type 0} (S : V → List ℕ → Type 0) where
 -- ---- a verdict for each input
 
 -- where it can be told whether a spelling goes on, one input that begins none has a place at which it is refused
-pub stuck-place : {V : Type 0} (e : Ending) (S : V → List ℕ → Type 0) (b : List ℕ) (k : ℕ) → ((v : V) (n : ℕ) → Accepts e S b v n → ⊥) → k ≤ length b → Begins S []
-    → ((n : ℕ) → Begins S (take n b) ⊎ (Begins S (take n b) → ⊥)) → (Begins S (take k b) → ⊥) → (p : ℕ) × IsStuck e S b p
+pub stuck-place : {V : Type 0} (e : Ending) (S : V → List ℕ → Type 0) (b : List ℕ) (k : ℕ)
+    → ((v : V) (n : ℕ) → Accepts e S b v n → ⊥) → k ≤ length b → Begins S []
+    → ((n : ℕ) → Begins S (take n b) ⊎ (Begins S (take n b) → ⊥)) → (Begins S (take k b) → ⊥)
+    → (p : ℕ) × IsStuck e S b p
 stuck-place e S b zero none le nothing tell stuck = absurd (stuck nothing)
 stuck-place {V} e S b (suc p) none le nothing tell stuck =
     let next : suc p ≡ p + 1 = omega arith in
     elim (tell p) [
-      | inl begun ↦ (p, record { none = none; inside = omega arith; begun = begun; stuck = subst (λ (n : ℕ). Begins S (take n b) → ⊥) next stuck })
+      | inl begun ↦ (
+        p,
+        record {
+          none = none;
+          inside = omega arith;
+          begun = begun;
+          stuck = subst (λ (n : ℕ). Begins S (take n b) → ⊥) next stuck;
+        },
+      )
       | inr not_so ↦ stuck-place e S b p none (omega arith) nothing tell not_so
     ]
 
-pub verdict : {V : Type 0} (e : Ending) (S : V → List ℕ → Type 0) (b : List ℕ) → Begins S [] → ((n : ℕ) → Begins S (take n b) ⊎ (Begins S (take n b) → ⊥))
+-- where it can be told whether a spelling goes on, and whether one is accepted, there is a verdict
+pub verdict : {V : Type 0} (e : Ending) (S : V → List ℕ → Type 0) (b : List ℕ) → Begins S []
+    → ((n : ℕ) → Begins S (take n b) ⊎ (Begins S (take n b) → ⊥))
     → ((v : V) × (n : ℕ) × Accepts e S b v n) ⊎ ((v : V) (n : ℕ) → Accepts e S b v n → ⊥) → Verdict e S b
 verdict e S b nothing tell known =
     elim known [

@@ -21,11 +21,13 @@ digit c h = search (rules, h)
 is_digit : (c : ℕ) → IsInRange 48 57 c → is_ascii_digit c ≡ true
 is_digit c h = search (rules, h)
 
+-- where the conjunction of two tests is true, each is
 pub both : (a b : Bool) → a && b ≡ true → (a ≡ true) × (b ≡ true)
 both true true h = (refl, refl)
 both true false h = cc
 both false b h = cc
 
+-- and where each is true, so is their conjunction
 pub joined : (a b : Bool) → a ≡ true → b ≡ true → a && b ≡ true
 joined true true h k = refl
 joined true false h k = k
@@ -51,7 +53,8 @@ ascii (c ∷ ds) h (suc i) = ascii ds (both (is_ascii_digit c) (list_all is_asci
 
 are_digits : (ds : List ℕ) → AllDigits 10 ds → list_all is_ascii_digit ds ≡ true
 are_digits [] h = refl
-are_digits (c ∷ ds) h = joined (is_ascii_digit c) (list_all is_ascii_digit ds) (is_digit c (digit_from_value c h.0)) (are_digits ds h.1)
+are_digits (c ∷ ds) h = joined (is_ascii_digit c) (list_all is_ascii_digit ds) (is_digit c (digit_from_value c h.0))
+    (are_digits ds h.1)
 
 -- what a decimal text has
 pub record HasDigits (text : List ℕ) : Type 0 where
@@ -69,17 +72,25 @@ other_first c P h e = search (rules, h, e)
 few_by : (n : ℕ) → nat_le n 15 ≡ true → n ≤ 15
 few_by n h = search (rules, h)
 
+-- the test of a decimal text shows what it has
 pub has_digits : (text : List ℕ) → is_decimal text ≡ true → HasDigits text
 has_digits [] h = cc
 has_digits (c ∷ []) h = record { digits = one_digit c h; some = omega arith; few = omega arith; first = λ e. refl }
 has_digits (c ∷ d ∷ ds) h =
     let p = both (not (c == 48)) (nat_le (length (c ∷ d ∷ ds)) 15 && list_all is_ascii_digit (c ∷ d ∷ ds)) h in
     let q = both (nat_le (length (c ∷ d ∷ ds)) 15) (list_all is_ascii_digit (c ∷ d ∷ ds)) p.1 in
-    record { digits = q.1; some = omega arith; few = few_by (length (c ∷ d ∷ ds)) q.0; first = λ e. other_first c (length (c ∷ d ∷ ds) ≡ 1) p.0 e }
+    record {
+      digits = q.1;
+      some = omega arith;
+      few = few_by (length (c ∷ d ∷ ds)) q.0;
+      first = λ e. other_first c (length (c ∷ d ∷ ds) ≡ 1) p.0 e;
+    }
 
+-- the number of such a text has 15 digits at most
 pub value-most : (text : List ℕ) → is_decimal text ≡ true → digits_value 10 text < 1000000000000000
 value-most text h = let p = has_digits text h in digits_value_short own text 15 (digits text p.digits) p.few
 
+-- and the text is what that number is written as
 pub value-decimal : (text : List ℕ) → is_decimal text ≡ true → text ≡ decimal (digits_value 10 text)
 value-decimal text h =
     let p = has_digits text h in
@@ -107,27 +118,33 @@ first_not c d ds n lt e =
 few_test : (n : ℕ) → n ≤ 15 → nat_le n 15 ≡ true
 few_test n h = search (rules, h)
 
-is_decimal_by : (text : List ℕ) → list_all is_ascii_digit text ≡ true → 0 < length text → length text ≤ 15 → ((c d : ℕ) (ds : List ℕ) → text ≡ c ∷ d ∷ ds → not (c == 48) ≡ true) → is_decimal text ≡ true
+is_decimal_by : (text : List ℕ) → list_all is_ascii_digit text ≡ true → 0 < length text → length text ≤ 15
+    → ((c d : ℕ) (ds : List ℕ) → text ≡ c ∷ d ∷ ds → not (c == 48) ≡ true) → is_decimal text ≡ true
 is_decimal_by [] h some few first = absurd (omega arith)
 is_decimal_by (c ∷ []) h some few first = (both (is_ascii_digit c) true h).0
 is_decimal_by (c ∷ d ∷ ds) h some few first =
     joined (not (c == 48)) (nat_le (length (c ∷ d ∷ ds)) 15 && list_all is_ascii_digit (c ∷ d ∷ ds)) (first c d ds refl)
-    (joined (nat_le (length (c ∷ d ∷ ds)) 15) (list_all is_ascii_digit (c ∷ d ∷ ds)) (few_test (length (c ∷ d ∷ ds)) few) h)
+    (joined (nat_le (length (c ∷ d ∷ ds)) 15) (list_all is_ascii_digit (c ∷ d ∷ ds))
+    (few_test (length (c ∷ d ∷ ds)) few) h)
 
 -- the text of a number is one, and gives the number back
 pub decimal-is : (n : ℕ) → n < 1000000000000000 → is_decimal (decimal n) ≡ true
 decimal-is n lt =
     let h : n < 2 ^ 64 = omega (arith, lt) in
-    is_decimal_by (decimal n) (are_digits (decimal n) (decimal_is_IsNumeral n h).0.1) (decimal_nonempty n h) (length-decimal-le 15 n (omega arith) lt h) (λ c d ds e. first_not c d ds n h e)
+    is_decimal_by (decimal n) (are_digits (decimal n) (decimal_is_IsNumeral n h).0.1) (decimal_nonempty n h)
+    (length-decimal-le 15 n (omega arith) lt h) (λ c d ds e. first_not c d ds n h e)
 
+-- what stands under a test that is true is there
 pub number-by : (b : Bool) (n : ℕ) → b ≡ true → (if b then Some n else None) ≡ Some n
 number-by true n h = refl
 number-by false n h = cc
 
+-- the text of a number below 10 ^ 15 writes that number
 pub number-decimal : (n : ℕ) → n < 1000000000000000 → decimal_number (decimal n) ≡ Some n
 number-decimal n lt =
     let h : n < 2 ^ 64 = omega (arith, lt) in
-    number-by (is_decimal (decimal n)) (digits_value 10 (decimal n)) (decimal-is n lt) ∙ ap Some (decimal_is_IsNumeral n h).1
+    number-by (is_decimal (decimal n)) (digits_value 10 (decimal n)) (decimal-is n lt)
+    ∙ ap Some (decimal_is_IsNumeral n h).1
 
 -- other texts are the text of no number below 10 ^ 15
 pub none-decimal : (text : List ℕ) → is_decimal text ≡ false → (n : ℕ) → n < 1000000000000000 → text ≡ decimal n → ⊥
@@ -148,7 +165,8 @@ first_digit : (text : List ℕ) → HasDigits text → without_leading_plus text
 first_digit [] h = absurd (omega (arith, h.some))
 first_digit (c ∷ cs) h = no_plus c cs (both (is_ascii_digit c) (list_all is_ascii_digit cs) h.digits).0
 
-parse-same : {E : Type 0} (text : List ℕ) (r : Result ℕ E) → is_decimal text ≡ true → ParsesUnsigned 64 10 text r → result_ok r ≡ Some (digits_value 10 text)
+parse-same : {E : Type 0} (text : List ℕ) (r : Result ℕ E) → is_decimal text ≡ true → ParsesUnsigned 64 10 text r
+    → result_ok r ≡ Some (digits_value 10 text)
 parse-same text (Ok n) h p = ap Some (p.1 ∙ ap (digits_value 10) (first_digit text (has_digits text h)))
 parse-same text (Err e) h p =
     let d = has_digits text h in
@@ -156,5 +174,6 @@ parse-same text (Err e) h p =
     absurd (p (rw same (d.some, digits text d.digits), rw same (omega (arith, value-most text h))))
 
 -- what a parse of it gives
-pub parse-decimal : {E : Type 0} (text bs : List ℕ) (r : Result ℕ E) → bs ≡ text → is_decimal text ≡ true → ParsesUnsigned 64 10 bs r → result_ok r ≡ Some (digits_value 10 text)
+pub parse-decimal : {E : Type 0} (text bs : List ℕ) (r : Result ℕ E) → bs ≡ text → is_decimal text ≡ true
+    → ParsesUnsigned 64 10 bs r → result_ok r ≡ Some (digits_value 10 text)
 parse-decimal text bs r e h p = parse-same text r h (subst (λ (t : List ℕ). ParsesUnsigned 64 10 t r) e p)

@@ -15,19 +15,28 @@ same_place c d i j e = cc
 same_fault : (r : Result (List ℕ) FromHexError) (e f : FromHexError) → r ≡ Err e → r ≡ Err f → e ≡ f
 same_fault r e f h g = cc
 
-pub digit-fault : (text : List ℕ) (c place : ℕ) → (InvalidHexCharacter c place ≡ OutOfMemory) ⊎ (decode_of text ≡ Err (InvalidHexCharacter c place)) → IsHexFault text (Digit place)
+-- where the decoder names a place, that place has the first octet that is no digit, in a text of even length
+pub digit-fault : (text : List ℕ) (c place : ℕ)
+    → (InvalidHexCharacter c place ≡ OutOfMemory) ⊎ (decode_of text ≡ Err (InvalidHexCharacter c place))
+    → IsHexFault text (Digit place)
 digit-fault text c place (inl e) = absurd (cc)
 digit-fault text c place (inr e) =
     elim (cases_eq (length text % 2) 1) [
-      | inl odd ↦ absurd (let bad : OddLength ≡ InvalidHexCharacter c place = same_fault (decode_of text) OddLength (InvalidHexCharacter c place) (decode_of-odd text odd) e in cc)
+      | inl odd ↦ absurd (let bad : OddLength ≡ InvalidHexCharacter c place =
+          same_fault (decode_of text) OddLength (InvalidHexCharacter c place) (decode_of-odd text odd) e in cc)
       | inr even ↦ elim (decode_of-err text (InvalidHexCharacter c place) e) [
         | inl h ↦ absurd (omega (arith, h.0))
         | inr h ↦
-            let at : place ≡ h.0 = same_place c (get_or text h.0 0) place (0 + h.0) h.1 ∙ zero-add h.0 in
-            (omega arith, subst (λ (k : ℕ). k < length text) (sym at) h.2, subst (λ (k : ℕ). is_hex_digit (get_or text k 0) ≡ false) (sym at) h.3, rw at h.4)
+            let at : place ≡ h.0 = same_place c (get_or text h.0 0) place (0 + h.0) h.1 ∙ zero-add h.0 in (
+              omega arith,
+              subst (λ (k : ℕ). k < length text) (sym at) h.2,
+              subst (λ (k : ℕ). is_hex_digit (get_or text k 0) ≡ false) (sym at) h.3,
+              rw at h.4,
+            )
       ]
     ]
 
+-- where it says that the length is odd, it is
 pub odd-fault : (text : List ℕ) → (OddLength ≡ OutOfMemory) ⊎ (decode_of text ≡ Err OddLength) → length text % 2 ≡ 1
 odd-fault text (inl e) = absurd (cc)
 odd-fault text (inr e) =
@@ -36,6 +45,7 @@ odd-fault text (inr e) =
       | inr h ↦ absurd (let bad : OddLength ≡ InvalidHexCharacter (get_or text h.0 0) (0 + h.0) = h.1 in cc)
     ]
 
+-- it never says that the length is wrong in another way
 pub never-sized : (text : List ℕ) → (InvalidStringLength ≡ OutOfMemory) ⊎ (decode_of text ≡ Err InvalidStringLength) → ⊥
 never-sized text (inl e) = cc
 never-sized text (inr e) =
@@ -45,7 +55,8 @@ never-sized text (inr e) =
     ]
 
 -- a text that is refused is no octets, unless memory stood in the place of the refusal
-pub fault-refused : (text octets : List ℕ) (fault : HexFault) → IsHexFault text fault → decode_of text ≡ Ok octets → fault ≡ Memory
+pub fault-refused : (text octets : List ℕ) (fault : HexFault) → IsHexFault text fault
+    → decode_of text ≡ Ok octets → fault ≡ Memory
 fault-refused text octets Odd h ok = absurd (omega (arith, h, (decode_of-ok text octets ok).0))
 fault-refused text octets (Digit place) h ok =
     let digit : is_hex_digit (get_or text place 0) ≡ true = (decode_of-ok text octets ok).1 place 0 h.1 in

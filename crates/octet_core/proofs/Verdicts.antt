@@ -13,7 +13,9 @@ use Rattle.octet_core.proofs.Lists.{octets-take}
 -- ---- at most one
 
 -- where a place has one reason, an input has one refusal
-pub one_refusal : {V R : Type 0} (e : Ending) (S : V → List ℕ → Type 0) (Reason : R → List ℕ → Type 0) → ((r s : R) (c : List ℕ) → Reason r c → Reason s c → r ≡ s) → (b : List ℕ) (s t : Stop R) → Refuses e S Reason b s → Refuses e S Reason b t → s ≡ t
+pub one_refusal : {V R : Type 0} (e : Ending) (S : V → List ℕ → Type 0) (Reason : R → List ℕ → Type 0)
+    → ((r s : R) (c : List ℕ) → Reason r c → Reason s c → r ≡ s) → (b : List ℕ) (s t : Stop R) → Refuses e S Reason b s
+    → Refuses e S Reason b t → s ≡ t
 one_refusal e S Reason one b (Short p) (Short q) h g = ap Short (h.end ∙ sym g.end)
 one_refusal e S Reason one b (Short p) (At q r) h g = absurd (short-not-stuck S e b p q h g.0)
 one_refusal e S Reason one b (At p r) (Short q) h g = absurd (short-not-stuck S e b q p g h.0)
@@ -22,37 +24,45 @@ one_refusal e S Reason one b (At p r) (At q s) h g =
     let reason : r ≡ s = one r s (take (p + 1) b) h.1 (subst (λ (k : ℕ). Reason s (take (k + 1) b)) (sym place) g.1) in
     ap (λ (k : ℕ). At k r) place ∙ ap (At q) reason
 
-pub not_both : {V R : Type 0} (e : Ending) (S : V → List ℕ → Type 0) (Reason : R → List ℕ → Type 0) (b : List ℕ) (v : V) (n : ℕ) (s : Stop R) → Accepts e S b v n → Refuses e S Reason b s → ⊥
+-- no input is both accepted and refused
+pub not_both : {V R : Type 0} (e : Ending) (S : V → List ℕ → Type 0) (Reason : R → List ℕ → Type 0) (b : List ℕ) (v : V)
+    (n : ℕ) (s : Stop R) → Accepts e S b v n → Refuses e S Reason b s → ⊥
 not_both e S Reason b v n (Short p) h g = g.none v n h
 not_both e S Reason b v n (At p r) h g = g.0.none v n h
 
 -- a refusal at a place is a refusal
-pub refuses_at : {V R : Type 0} (e : Ending) (S : V → List ℕ → Type 0) (Reason : R → List ℕ → Type 0) (b : List ℕ) (s : Stop R) → RefusesAt e S Reason b s → Refuses e S Reason b s
+pub refuses_at : {V R : Type 0} (e : Ending) (S : V → List ℕ → Type 0) (Reason : R → List ℕ → Type 0) (b : List ℕ)
+    (s : Stop R) → RefusesAt e S Reason b s → Refuses e S Reason b s
 refuses_at e S Reason b (Short p) h = absurd h
 refuses_at e S Reason b (At p r) h = h
 
 -- ---- some, where the octets say where a value ends
 
--- what has to be known of a grammar whose octets say where a value ends: one value and one length; one reason, with which
--- nothing goes on; and of octets that spell nothing yet, but that y and more would complete, whether x can stand for y
+-- what has to be known of a grammar whose octets say where a value ends: one value and one length; one reason, with
+-- which nothing goes on; and of octets that spell nothing yet, but that y and more would complete, whether x can stand
+-- for y
 pub record Steps {V R : Type 0} (S : V → List ℕ → Type 0) (Reason : R → List ℕ → Type 0) : Type 0 where
-  pub one_value : (b : List ℕ) (v w : V) (n m : ℕ) → Accepts self_ended S b v n → Accepts self_ended S b w m → (v ≡ w) × (n ≡ m)
+  pub one_value : (b : List ℕ) (v w : V) (n m : ℕ) → Accepts self_ended S b v n
+      → Accepts self_ended S b w m → (v ≡ w) × (n ≡ m)
   pub one_reason : (r s : R) (c : List ℕ) → Reason r c → Reason s c → r ≡ s
   pub stops : (r : R) (c : List ℕ) → Reason r c → Begins S c → ⊥
   pub nothing : Begins S []
-  pub next : (c : List ℕ) (x : ℕ) → AreOctets (c ++ x ∷ []) → (w : V) (y : ℕ) (more : List ℕ) → S w (c ++ y ∷ more) → Begins S (c ++ x ∷ []) ⊎ ((r : R) × Reason r (c ++ x ∷ []))
+  pub next : (c : List ℕ) (x : ℕ) → AreOctets (c ++ x ∷ []) → (w : V) (y : ℕ) (more : List ℕ) → S w (c ++ y ∷ more)
+      → Begins S (c ++ x ∷ []) ⊎ ((r : R) × Reason r (c ++ x ∷ []))
 
 module _ {V R : Type 0} (S : V → List ℕ → Type 0) (Reason : R → List ℕ → Type 0) (steps : Steps S Reason) where
   -- no spelling begins another
   prefix_free : (v w : V) (b : List ℕ) (y : ℕ) (more : List ℕ) → S v b → S w (b ++ y ∷ more) → ⊥
   prefix_free v w b y more h g =
       let long : List ℕ = b ++ y ∷ more in
-      let p : Accepts self_ended S long v (length b) = (omega (arith, length-append b (y ∷ more)), subst (S v) (sym (take-append_seam b (y ∷ more))) h) in
+      let p : Accepts self_ended S long v (length b) =
+      (omega (arith, length-append b (y ∷ more)), subst (S v) (sym (take-append_seam b (y ∷ more))) h) in
       let q : Accepts self_ended S long w (length long) = (omega arith, subst (S w) (sym (take-length long)) g) in
       omega (arith, (steps.one_value long v w (length b) (length long) p q).1, length-append b (y ∷ more))
 
   -- from the first n octets on, where no fewer are accepted
-  walk : (b : List ℕ) (k n : ℕ) → AreOctets b → n + k ≡ length b → ((v : V) (m : ℕ) → m < n → S v (take m b) → ⊥) → Begins S (take n b)
+  walk : (b : List ℕ) (k n : ℕ) → AreOctets b → n + k ≡ length b
+      → ((v : V) (m : ℕ) → m < n → S v (take m b) → ⊥) → Begins S (take n b)
       → ((v : V) × (n : ℕ) × Accepts self_ended S b v n) ⊎ ((s : Stop R) × Refuses self_ended S Reason b s)
   walk b k n octets total before (w, [], h) = inl (w, n, (omega arith, subst (S w) (append-nil (take n b)) h))
   walk b zero n octets total before (w, y ∷ more, h) =

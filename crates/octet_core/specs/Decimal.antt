@@ -8,7 +8,8 @@ use Rattle.std.specs.Str.Parse.{digits_value}
 abbrev pub is_decimal : List ℕ → Bool
 is_decimal [] = false
 is_decimal (digit ∷ []) = is_ascii_digit digit
-is_decimal (first ∷ next ∷ digits) = not (first == 48) && (nat_le (length (first ∷ next ∷ digits)) 15 && list_all is_ascii_digit (first ∷ next ∷ digits))
+is_decimal (first ∷ next ∷ digits) = not (first == 48) &&
+    (nat_le (length (first ∷ next ∷ digits)) 15 && list_all is_ascii_digit (first ∷ next ∷ digits))
 
 -- the number that they write
 abbrev pub decimal_number : List ℕ → Option ℕ

@@ -45,23 +45,27 @@ unfoldable pub IsFirst : {R : Type 0} → List R → (R → Type 0) → R → Ty
 IsFirst [] Holds r = ⊥
 IsFirst (line ∷ lines) Holds r = (Holds line × (r ≡ line)) ⊎ ((Holds line → ⊥) × IsFirst lines Holds r)
 
--- The verdict on b as a refusal. Reason r front says that r is the reason on the octets up to and with the one at the place.
+-- The verdict on b as a refusal. Reason r front says that r is the reason on the octets up to and with the one at the
+-- place.
 abbrev pub Refuses : {V R : Type 0} → Ending → (V → List ℕ → Type 0) → (R → List ℕ → Type 0) → List ℕ → Stop R → Type 0
 Refuses e S Reason b (Short p) = IsShort e S b p
 Refuses e S Reason b (At p r) = IsStuck e S b p × Reason r (take (p + 1) b)
 
 -- A refusal at a place, for a reader that still takes octets: it never says that the input was short.
-abbrev pub RefusesAt : {V R : Type 0} → Ending → (V → List ℕ → Type 0) → (R → List ℕ → Type 0) → List ℕ → Stop R → Type 0
+abbrev pub RefusesAt : {V R : Type 0} → Ending → (V → List ℕ → Type 0) → (R → List ℕ → Type 0)
+    → List ℕ → Stop R → Type 0
 RefusesAt e S Reason b (Short p) = ⊥
 RefusesAt e S Reason b (At p r) = IsStuck e S b p × Reason r (take (p + 1) b)
 
 -- The same of a call that may want memory, of which nothing is said.
-abbrev pub RefusesUnlessMemory : {V R : Type 0} → Ending → (V → List ℕ → Type 0) → (R → List ℕ → Type 0) → List ℕ → Refused R → Type 0
+abbrev pub RefusesUnlessMemory : {V R : Type 0} → Ending → (V → List ℕ → Type 0) → (R → List ℕ → Type 0)
+    → List ℕ → Refused R → Type 0
 RefusesUnlessMemory e S Reason b (refusal.Stop s) = Refuses e S Reason b s
 RefusesUnlessMemory e S Reason b refusal.Memory = Unit {0}
 
 -- every input is accepted or refused, with one value, one number of octets, one place and one reason
-pub record OneVerdict {V R : Type 0} (e : Ending) (S : V → List ℕ → Type 0) (Reason : R → List ℕ → Type 0) (b : List ℕ) : Type 0 where
+pub record OneVerdict {V R : Type 0} (e : Ending) (S : V → List ℕ → Type 0) (Reason : R → List ℕ → Type 0) (b : List ℕ)
+    : Type 0 where
   pub some : ((v : V) × (n : ℕ) × Accepts e S b v n) ⊎ ((s : Stop R) × Refuses e S Reason b s)
   pub one_value : (v w : V) (n m : ℕ) → Accepts e S b v n → Accepts e S b w m → (v ≡ w) × (n ≡ m)
   pub not_both : (v : V) (n : ℕ) (s : Stop R) → Accepts e S b v n → Refuses e S Reason b s → ⊥

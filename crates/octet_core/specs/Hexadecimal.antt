@@ -8,5 +8,6 @@ use Rattle.octet_core.specs.declared.hexadecimal.HexFault.TheVariants.{Odd, Digi
 -- why a text is no octets; lack of memory may come before a fault of a digit
 abbrev pub IsHexFault : List ℕ → HexFault → Type 0
 IsHexFault text Odd = length text % 2 ≡ 1
-IsHexFault text (Digit place) = (length text % 2 ≡ 0) × (place < length text) × (is_hex_digit (slice_index text place) ≡ false) × AllPass is_hex_digit (take place text)
+IsHexFault text (Digit place) = (length text % 2 ≡ 0) × (place < length text)
+    × (is_hex_digit (slice_index text place) ≡ false) × AllPass is_hex_digit (take place text)
 IsHexFault text Memory = length text % 2 ≡ 0

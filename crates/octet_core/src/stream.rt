@@ -36,7 +36,8 @@ pub trait Sink {
     fn write(&mut self, octets: &[u8]) -> io::Result<usize>
         ensures bound { WritesAtMost result octets.now }
         ensures octets { WriteAppends (contents self.old) (contents self.new) result octets.now }
-        ensures counted { Counts (WriteFails octets.now result) (failures self.old) (failures self.new) };
+        ensures counted { Counts (WriteFails octets.now result) (failures self.old)
+            (failures self.new) };
 }
 
 /// The writer failed, or took no octet, after `written` octets.
@@ -49,7 +50,8 @@ pub struct WriteFault {
 impl Display for WriteFault {
     ghost use Rattle.std.specs.Prelude.{Some, ◌++◌, codes, decimal};
 
-    ghost output = { λ fault. Some (codes "Write after " ++ (decimal fault.written ++ codes " octets")) };
+    ghost output = { λ fault. Some
+        (codes "Write after " ++ (decimal fault.written ++ codes " octets")) };
 
     fn fmt<W: fmt::Write>(&self, f: &mut Formatter<W>) -> fmt::Result {
         let written = self.written;
@@ -63,7 +65,8 @@ impl Error for WriteFault {}
 fn write_some<W: Sink>(writer: &mut W, octets: &[u8]) -> Option<usize>
     requires { 0 < length octets.now }
     ensures some { IfSome result (λ n. (0 < n) × (n ≤ length octets.now)) }
-    ensures taken { IfSome result (λ n. Appends (W.contents writer.old) (W.contents writer.new) (take n octets.now)) }
+    ensures taken { IfSome result (λ n.
+        Appends (W.contents writer.old) (W.contents writer.new) (take n octets.now)) }
     ensures kept { IfSome result (λ n. W.failures writer.new ≡ W.failures writer.old) }
     ensures nothing { IfNone result (Keeps (W.contents writer.old) (W.contents writer.new)) }
     ensures failed { IfNone result (W.failures writer.new ≡ next_count (W.failures writer.old)) }
@@ -82,9 +85,12 @@ pub fn write_octets<W: Sink>(writer: &mut W, octets: &[u8]) -> Result<(), WriteF
     ensures none_failed { OnOk result (W.failures writer.new ≡ W.failures writer.old) }
 
     ensures fewer { IfErr result (λ fault. fault.written < length octets.now) }
-    ensures first { IfErr result (λ fault. Appends (W.contents writer.old) (W.contents writer.new) (take fault.written octets.now)) }
-    ensures failed { IfErr result (λ fault. HasFailed (W.failures writer.old) (W.failures writer.new)) }
-    ensures failed_once { IfErr result (λ fault. W.failures writer.new ≡ next_count (W.failures writer.old)) }
+    ensures first { IfErr result (λ fault.
+        Appends (W.contents writer.old) (W.contents writer.new) (take fault.written octets.now)) }
+    ensures failed { IfErr result (λ fault.
+        HasFailed (W.failures writer.old) (W.failures writer.new)) }
+    ensures failed_once { IfErr result
+        (λ fault. W.failures writer.new ≡ next_count (W.failures writer.old)) }
 {
     let mut written = 0;
     while written < octets.len() {
