@@ -81,7 +81,8 @@ told ifs a c l s w h =
       within = omega (arith, ap length field, length-append w.inf (sum ∷ []), len);
       sized = λ lt about.
           let size = size-of ifs w.pcb w.inf about h.proper.suits in
-          let first : get_or s 0 0 ≡ get_or w.inf 0 0 = ap (λ (t : List ℕ). get_or t 0 0) field ∙ get_or_append_left w.inf (sum ∷ []) 0 0 (omega (arith, size.0)) in
+          let first : get_or s 0 0 ≡ get_or w.inf 0 0 = ap (λ (t : List ℕ). get_or t 0 0) field
+          ∙ get_or_append_left w.inf (sum ∷ []) 0 0 (omega (arith, size.0)) in
           (omega (arith, first, size.1), omega (arith, first, size.2));
     }
 
@@ -91,7 +92,8 @@ abbrev Goes : ℕ → List ℕ → Type 0
 Goes ifs b = Begins (IsBlock ifs) b ⊎ ((r : BlockReason) × IsReason ifs r b)
 
 -- an octet of the field, or the check sum
-goes-field : (ifs : ℕ) (p : Pcb) (b : List ℕ) → AreOctets b → 4 ≤ length b → length b ≤ get_or b 2 0 + 4 → pcb_octet p ≡ get_or b 1 0 → FitsLen ifs p (get_or b 2 0)
+goes-field : (ifs : ℕ) (p : Pcb) (b : List ℕ) → AreOctets b → 4 ≤ length b → length b ≤ get_or b 2 0 + 4
+    → pcb_octet p ≡ get_or b 1 0 → FitsLen ifs p (get_or b 2 0)
     → (IsAboutIfs p → (1 ≤ get_or b 3 0) × (get_or b 3 0 ≤ 254)) → Goes ifs b
 goes-field ifs p b octets least most e fits size =
     elim (cases_lt (length b) (get_or b 2 0 + 4)) [
@@ -103,12 +105,18 @@ goes-field ifs p b octets least most e fits size =
             | inl zero_sum ↦
                 let inf : List ℕ = take (get_or b 2 0) (drop 3 b) in
                 let v : Parts = record { nad = get_or b 0 0; pcb = p; inf = inf } in
-                inl (spelled-begins (IsBlock ifs) v b (subst (IsBlock ifs v) all (found ifs (length b) p b inf octets full (omega arith) refl e fits size (ap xor_of all ∙ zero_sum))))
-            | inr bad ↦ inr (BadLrc, subst (IsReason ifs BadLrc) all (reason-lrc ifs (length b) b p full (omega arith) e fits (λ z. bad (ap xor_of (sym all) ∙ z))))
+                inl (spelled-begins (IsBlock ifs) v b (subst (IsBlock ifs v) all
+                (found ifs (length b) p b inf octets full (omega arith) refl e fits size (ap xor_of all ∙ zero_sum))))
+            | inr bad ↦ inr (
+              BadLrc,
+              subst (IsReason ifs BadLrc) all
+                  (reason-lrc ifs (length b) b p full (omega arith) e fits (λ z. bad (ap xor_of (sym all) ∙ z))),
+            )
           ]
     ]
 
-next : (ifs : ℕ) (c : List ℕ) (x : ℕ) → AreOctets (c ++ x ∷ []) → (w : Parts) (y : ℕ) (more : List ℕ) → IsBlock ifs w (c ++ y ∷ more) → Goes ifs (c ++ x ∷ [])
+next : (ifs : ℕ) (c : List ℕ) (x : ℕ) → AreOctets (c ++ x ∷ []) → (w : Parts) (y : ℕ) (more : List ℕ)
+    → IsBlock ifs w (c ++ y ∷ more) → Goes ifs (c ++ x ∷ [])
 next ifs [] x octets w y more h = inl (begun-lt2 ifs (x ∷ []) octets (omega arith))
 next ifs (a ∷ []) x octets w y more h =
     elim (pcb-known x) [
@@ -119,13 +127,15 @@ next ifs (a ∷ c ∷ []) x octets w y more h =
     let e : pcb_octet w.pcb ≡ c = sym (ap (λ (t : List ℕ). get_or t 1 0) h.is) in
     let b : List ℕ = a ∷ c ∷ x ∷ [] in
     elim (fits-or ifs w.pcb x) [
-      | inl fits ↦ inl (begun-from ifs 0 w.pcb b octets (omega arith) (omega arith) e fits (λ about pos. absurd (omega arith)))
+      | inl fits ↦ inl (begun-from ifs 0 w.pcb b octets (omega arith) (omega arith) e fits
+          (λ about pos. absurd (omega arith)))
       | inr fault ↦ inr (fault.0, reason-len ifs b w.pcb fault.0 (omega arith) e fault.1)
     ]
 next ifs (a ∷ c ∷ l ∷ []) x octets w y more h =
     let t : Told ifs a c l (y ∷ more) = told ifs a c l (y ∷ more) w h in
     let b : List ℕ = a ∷ c ∷ l ∷ x ∷ [] in
-    let sized : (IsAboutIfs t.kind → (1 ≤ x) × (x ≤ 254)) → Goes ifs b = λ size. goes-field ifs t.kind b octets (omega arith) (omega arith) t.octet t.fits size in
+    let sized : (IsAboutIfs t.kind → (1 ≤ x) × (x ≤ 254)) → Goes ifs b =
+    λ size. goes-field ifs t.kind b octets (omega arith) (omega arith) t.octet t.fits size in
     elim (about-told t.kind) [
       | inr not_so ↦ sized (λ about. absurd (not_so about))
       | inl about ↦ elim (same x 0) [
@@ -138,7 +148,8 @@ next ifs (a ∷ c ∷ l ∷ []) x octets w y more h =
     ]
 next ifs (a ∷ c ∷ l ∷ z ∷ s) x octets w y more h =
     let t : Told ifs a c l (z ∷ (s ++ y ∷ more)) = told ifs a c l (z ∷ (s ++ y ∷ more)) w h in
-    goes-field ifs t.kind (a ∷ c ∷ l ∷ z ∷ (s ++ x ∷ [])) octets (omega (arith, length-append s (x ∷ []))) (omega (arith, length-append s (x ∷ []), length-append s (y ∷ more), t.within)) t.octet t.fits
+    goes-field ifs t.kind (a ∷ c ∷ l ∷ z ∷ (s ++ x ∷ [])) octets (omega (arith, length-append s (x ∷ [])))
+    (omega (arith, length-append s (x ∷ []), length-append s (y ∷ more), t.within)) t.octet t.fits
     (λ about. t.sized (omega (arith, length-append s (y ∷ more))) about)
 
 -- ---- where a line of the table is met, no block goes on
@@ -153,8 +164,10 @@ bad-of (Request s) len info e = absurd info
 bad-of (Response s) len info e = absurd info
 
 pub meets-stuck : (ifs : ℕ) (b : List ℕ) (r : BlockReason) → ifs ≤ 254 → Meets ifs b r → Begins (IsBlock ifs) b → ⊥
-meets-stuck ifs b BadPcb small m h = stuck-pcb ifs b (omega (arith, m.0)) m.1 (subst (Begins (IsBlock ifs)) (all-of 2 b m.0) h)
-meets-stuck ifs b BadLen small m h = stuck-len ifs b m.1 BadLen small (omega (arith, m.0)) m.2 m.3 (subst (Begins (IsBlock ifs)) (all-of 3 b m.0) h)
+meets-stuck ifs b BadPcb small m h = stuck-pcb ifs b (omega (arith, m.0)) m.1
+    (subst (Begins (IsBlock ifs)) (all-of 2 b m.0) h)
+meets-stuck ifs b BadLen small m h = stuck-len ifs b m.1 BadLen small (omega (arith, m.0)) m.2 m.3
+    (subst (Begins (IsBlock ifs)) (all-of 3 b m.0) h)
 meets-stuck ifs b OverIfs small m h =
     let begun : Begins (IsBlock ifs) (take 3 b) = subst (Begins (IsBlock ifs)) (all-of 3 b m.0) h in
     elim (same (get_or b 2 0) 255) [
@@ -175,11 +188,13 @@ pub steps : (ifs : ℕ) → ifs ≤ 254 → Steps (IsBlock ifs) (IsReason ifs)
 steps ifs small = record {
   one_value = one-accepted ifs ifs;
   one_reason = λ r s c. first_once (BadPcb ∷ BadLen ∷ OverIfs ∷ BadIfs ∷ BadLrc ∷ []) (Meets ifs c) r s;
-  stops = λ r c reason. meets-stuck ifs c r small (first_holds (BadPcb ∷ BadLen ∷ OverIfs ∷ BadIfs ∷ BadLrc ∷ []) (Meets ifs c) r reason);
+  stops = λ r c reason. meets-stuck ifs c r small
+      (first_holds (BadPcb ∷ BadLen ∷ OverIfs ∷ BadIfs ∷ BadLrc ∷ []) (Meets ifs c) r reason);
   nothing = begun-lt2 ifs [] (λ i. omega arith) (omega arith);
   next = next ifs;
 }
 
 -- every input has one verdict
-pub one-verdict : (ifs : ℕ) (b : List ℕ) → ifs ≤ 254 → AreOctets b → OneVerdict self_ended (IsBlock ifs) (IsReason ifs) b
+pub one-verdict : (ifs : ℕ) (b : List ℕ) → ifs ≤ 254 → AreOctets b
+    → OneVerdict self_ended (IsBlock ifs) (IsReason ifs) b
 one-verdict ifs b small octets = one_verdict (IsBlock ifs) (IsReason ifs) (steps ifs small) b octets

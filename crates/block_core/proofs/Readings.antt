@@ -21,10 +21,6 @@ use Rattle.block_core.specs.declared.stage.Stage.{Stage}
 use Rattle.block_core.specs.declared.stage.Stage.TheVariants.{Front, Len, Size, Rest, Done, Refused}
 use Rattle.block_core.proofs.Blocks.{spelling-len, begun-lt2, begun-two, begun-all, one-accepted}
 
-bool_cases : (d : Bool) → (d ≡ true) ⊎ (d ≡ false)
-bool_cases true = inl refl
-bool_cases false = inr refl
-
 some_is : {A : Type 0} (x y : A) → Some x ≡ Some y → x ≡ y
 some_is x y e = cc
 
@@ -36,24 +32,32 @@ xor-from sum (x ∷ b) =
     xor-from (bit_xor sum x) b ∙ xor_assoc sum x (xor_of b)
     ∙ ap (bit_xor sum) (ap (λ (y : ℕ). bit_xor y (xor_of b)) (sym (xor_zero_l x)) ∙ sym (xor-from (bit_xor 0 x) b))
 
+-- the sum of joined lists is the exclusive-or of their sums
 pub xor-more : (sum more : ℕ) (a b : List ℕ) → sum ≡ xor_of a → more ≡ xor_of b → bit_xor sum more ≡ xor_of (a ++ b)
 xor-more sum more a b e f =
-    ap (λ (x : ℕ). bit_xor x more) e ∙ ap (bit_xor (xor_of a)) f ∙ sym (fold-append bit_xor 0 a b ∙ xor-from (xor_of a) b)
+    ap (λ (x : ℕ). bit_xor x more) e ∙ ap (bit_xor (xor_of a)) f
+    ∙ sym (fold-append bit_xor 0 a b ∙ xor-from (xor_of a) b)
 
 -- ---- generic: what a reader of a grammar answers
 
 -- a refusal stands, whatever follows
-pub refuses-append : {V R : Type 0} (S : V → List ℕ → Type 0) (Reason : R → List ℕ → Type 0) (b more : List ℕ) (p : ℕ) (r : R) → RefusesAt self_ended S Reason b (At p r) → RefusesAt self_ended S Reason (b ++ more) (At p r)
-refuses-append S Reason b more p r h =
-    (stuck-append S b more p h.0, subst (Reason r) (sym (take-append-le (p + 1) b more (omega (arith, h.0.inside)))) h.1)
+pub refuses-append : {V R : Type 0} (S : V → List ℕ → Type 0) (Reason : R → List ℕ → Type 0) (b more : List ℕ) (p : ℕ)
+    (r : R) → RefusesAt self_ended S Reason b (At p r) → RefusesAt self_ended S Reason (b ++ more) (At p r)
+refuses-append S Reason b more p r h = (
+  stuck-append S b more p h.0,
+  subst (Reason r) (sym (take-append-le (p + 1) b more (omega (arith, h.0.inside)))) h.1,
+)
 
 -- what begins a spelling and isn't one is short, where no spelling begins another
-pub short-of : {V : Type 0} (S : V → List ℕ → Type 0) → ((b : List ℕ) (v w : V) (n m : ℕ) → Accepts self_ended S b v n → Accepts self_ended S b w m → (v ≡ w) × (n ≡ m))
+pub short-of : {V : Type 0} (S : V → List ℕ → Type 0)
+    → ((b : List ℕ) (v w : V) (n m : ℕ) → Accepts self_ended S b v n → Accepts self_ended S b w m → (v ≡ w) × (n ≡ m))
     → (b : List ℕ) → Begins S b → ((v : V) → S v b → ⊥) → IsShort self_ended S b (length b)
 short-of S one b (w, more, h) not_yet = record {
   none = λ v n a.
-      let parts : take n b ++ (drop n b ++ more) ≡ b ++ more = sym (append_assoc (take n b) (drop n b) more) ∙ ap (λ (l : List ℕ). l ++ more) (take-append-drop n b) in
-      let none : drop n b ++ more ≡ [] = (spelled-apart S S one v w (take n b) (drop n b ++ more) a.1 (subst (S w) (sym parts) h)).1 in
+      let parts : take n b ++ (drop n b ++ more) ≡ b ++ more =
+      sym (append_assoc (take n b) (drop n b) more) ∙ ap (λ (l : List ℕ). l ++ more) (take-append-drop n b) in
+      let none : drop n b ++ more ≡ [] = (spelled-apart S S one v w (take n b) (drop n b ++ more) a.1
+      (subst (S w) (sym parts) h)).1 in
       let all : n ≡ length b = omega (arith, a.0, ap length none, length-append (drop n b) more, length-drop n b) in
       not_yet v (subst (S v) (ap (λ (k : ℕ). take k b) all ∙ take-length b) a.1);
   end = refl;
@@ -65,11 +69,15 @@ short-of S one b (w, more, h) not_yet = record {
 spelled-len : (ifs : ℕ) (v : Parts) (b : List ℕ) → IsBlock ifs v b → length b ≡ get_or b 2 0 + 4
 spelled-len ifs v b h = omega (arith, ap length h.is, spelling-len v, ap (λ (l : List ℕ). get_or l 2 0) h.is)
 
-pub at-begins : (ifs : ℕ) (stage : Stage) (b : List ℕ) → AreOctets b → IsAt ifs stage b → refusal_at stage ≡ None → Begins (IsBlock ifs) b
+pub at-begins : (ifs : ℕ) (stage : Stage) (b : List ℕ) → AreOctets b → IsAt ifs stage b → refusal_at stage ≡ None
+    → Begins (IsBlock ifs) b
 at-begins ifs Front b octets at none = begun-lt2 ifs b octets at
-at-begins ifs (Len p) b octets at none = subst (Begins (IsBlock ifs)) (ap (λ (k : ℕ). take k b) (sym at.0) ∙ take-length b) (begun-two ifs p b octets (omega arith) at.1)
-at-begins ifs (Size p) b octets at none = begun-all ifs p b octets (omega arith) (omega arith) at.1.kind at.1.fits (λ about lt. absurd (omega arith))
-at-begins ifs (Rest p end) b octets at none = begun-all ifs p b octets (omega arith) (omega arith) at.3.kind at.3.fits (λ about lt. at.5 about)
+at-begins ifs (Len p) b octets at none = subst (Begins (IsBlock ifs))
+    (ap (λ (k : ℕ). take k b) (sym at.0) ∙ take-length b) (begun-two ifs p b octets (omega arith) at.1)
+at-begins ifs (Size p) b octets at none =
+    begun-all ifs p b octets (omega arith) (omega arith) at.1.kind at.1.fits (λ about lt. absurd (omega arith))
+at-begins ifs (Rest p end) b octets at none =
+    begun-all ifs p b octets (omega arith) (omega arith) at.3.kind at.3.fits (λ about lt. at.5 about)
 at-begins ifs (Done block) b octets at none = spelled-begins (IsBlock ifs) block b at
 at-begins ifs (Refused refusal) b octets at none = absurd (cc)
 
@@ -77,7 +85,8 @@ at-begins ifs (Refused refusal) b octets at none = absurd (cc)
 abbrev IsUnderWay : Stage → Type 0
 IsUnderWay stage = answer_of stage ≡ Ok false
 
-under-way-open : (ifs : ℕ) (stage : Stage) (b : List ℕ) → IsAt ifs stage b → IsUnderWay stage → (v : Parts) → IsBlock ifs v b → ⊥
+under-way-open : (ifs : ℕ) (stage : Stage) (b : List ℕ) → IsAt ifs stage b → IsUnderWay stage
+    → (v : Parts) → IsBlock ifs v b → ⊥
 under-way-open ifs Front b at e v h = omega (arith, spelled-len ifs v b h)
 under-way-open ifs (Len p) b at e v h = omega (arith, spelled-len ifs v b h)
 under-way-open ifs (Size p) b at e v h = omega (arith, spelled-len ifs v b h)
@@ -94,18 +103,27 @@ under-way-free (Done block) e = refl
 under-way-free (Refused refusal) e = cc
 
 -- octets that leave a block under way are short at their end
-pub short-under-way : (ifs : ℕ) (stage : Stage) (b : List ℕ) → AreOctets b → IsAt ifs stage b → IsUnderWay stage → IsShort self_ended (IsBlock ifs) b (length b)
-short-under-way ifs stage b octets at way = short-of (IsBlock ifs) (one-accepted ifs ifs) b (at-begins ifs stage b octets at (under-way-free stage way)) (under-way-open ifs stage b at way)
+pub short-under-way : (ifs : ℕ) (stage : Stage) (b : List ℕ) → AreOctets b → IsAt ifs stage b → IsUnderWay stage
+    → IsShort self_ended (IsBlock ifs) b (length b)
+short-under-way ifs stage b octets at way =
+    short-of (IsBlock ifs) (one-accepted ifs ifs) b (at-begins ifs stage b octets at (under-way-free stage way))
+    (under-way-open ifs stage b at way)
 
 -- what a reader of a block under way says when no more octets come
-pub finished-short : (ifs : ℕ) (held : List ℕ) (stage : Stage) (r : Reading) → record { ifs = ifs; taken = held; refusal = refusal_at stage } ≡ r → AreOctets held → IsAt ifs stage held
-    → answer_of stage ≡ Ok false → IsFinished (IsBlock r.ifs) (IsReason r.ifs) HasTaken refusal_of r (Err (Short (length held)))
+pub finished-short : (ifs : ℕ) (held : List ℕ) (stage : Stage) (r : Reading)
+    → record { ifs = ifs; taken = held; refusal = refusal_at stage } ≡ r → AreOctets held → IsAt ifs stage held
+    → answer_of stage ≡ Ok false → IsFinished (IsBlock r.ifs) (IsReason r.ifs) HasTaken refusal_of r
+    (Err (Short (length held)))
 finished-short ifs held stage r is octets at way =
     let own : Reading = record { ifs = ifs; taken = held; refusal = refusal_at stage } in
     let free : own.refusal ≡ None = under-way-free stage way in
-    subst (λ (s : Reading). IsFinished (IsBlock s.ifs) (IsReason s.ifs) HasTaken refusal_of s (Err (Short (length held)))) is (record {
+    subst (λ (s : Reading). IsFinished (IsBlock s.ifs) (IsReason s.ifs) HasTaken refusal_of s
+    (Err (Short (length held)))) is (record {
       done = tt;
-      short = λ e t h. (ap Short (ap length h.is), λ v g. under-way-open ifs stage held at way v (subst (IsBlock ifs v) (sym h.is) g));
+      short = λ e t h. (
+        ap Short (ap length h.is),
+        λ v g. under-way-open ifs stage held at way v (subst (IsBlock ifs v) (sym h.is) g),
+      );
       repeated = λ refusal e. absurd (let bad : None ≡ Some refusal = sym free ∙ e in cc);
       some_taken = λ e. (held, record { kept = free; is = refl; begun = at-begins ifs stage held octets at free });
     })
@@ -127,26 +145,40 @@ pub record Fed (stage : Stage) (old new : Reading) (piece : List ℕ) (n : ℕ) 
   pub size : new.ifs ≡ old.ifs
 
 -- where it had a whole block, it stays as it was
-full-same : (stage : Stage) (old new : Reading) (piece : List ℕ) (n : ℕ) → Fed stage old new piece n → (t : List ℕ) (v : Parts) → HasTaken old t → IsBlock new.ifs v t → (new ≡ old) × (n ≡ 0)
-full-same stage old new piece n f t v h s = f.closed (inr (v, subst (IsBlock old.ifs v) (sym h.is) (subst (λ (ifs : ℕ). IsBlock ifs v t) f.size s)))
+full-same : (stage : Stage) (old new : Reading) (piece : List ℕ) (n : ℕ) → Fed stage old new piece n
+    → (t : List ℕ) (v : Parts) → HasTaken old t → IsBlock new.ifs v t → (new ≡ old) × (n ≡ 0)
+full-same stage old new piece n f t v h s =
+    f.closed (inr (v, subst (IsBlock old.ifs v) (sym h.is) (subst (λ (ifs : ℕ). IsBlock ifs v t) f.size s)))
 
-has-taken : (stage : Stage) (old new : Reading) (piece : List ℕ) (n : ℕ) → Fed stage old new piece n → refusal_at stage ≡ None → (t : List ℕ) → HasTaken old t → HasTaken new (t ++ take n piece)
+has-taken : (stage : Stage) (old new : Reading) (piece : List ℕ) (n : ℕ) → Fed stage old new piece n
+    → refusal_at stage ≡ None → (t : List ℕ) → HasTaken old t → HasTaken new (t ++ take n piece)
 has-taken stage old new piece n f none t h =
     let is : new.taken ≡ t ++ take n piece = f.taken ∙ ap (λ (l : List ℕ). l ++ take n piece) h.is in
-    record { kept = sym f.refusal ∙ none; is = is; begun = subst (Begins (IsBlock new.ifs)) is (at-begins new.ifs stage new.taken f.octets f.at none) }
+    record {
+      kept = sym f.refusal ∙ none;
+      is = is;
+      begun = subst (Begins (IsBlock new.ifs)) is (at-begins new.ifs stage new.taken f.octets f.at none);
+    }
 
 -- it kept no refusal, so it repeats none
-none-kept : {P : Type 0} (stage : Stage) (old new : Reading) (piece : List ℕ) (n : ℕ) → Fed stage old new piece n → refusal_at stage ≡ None → (r : Refusal BlockReason) → old.refusal ≡ Some r → P
+none-kept : {P : Type 0} (stage : Stage) (old new : Reading) (piece : List ℕ) (n : ℕ) → Fed stage old new piece n
+    → refusal_at stage ≡ None → (r : Refusal BlockReason) → old.refusal ≡ Some r → P
 none-kept stage old new piece n f none r e =
     let same = (f.closed (inl (rw e refl))).0 in
     absurd (let bad : None ≡ Some r = sym none ∙ f.refusal ∙ ap refusal_of same ∙ e in cc)
 
-fed-under_way : (stage : Stage) (old new : Reading) (piece : List ℕ) (n : ℕ) → Fed stage old new piece n → IsUnderWay stage → refusal_at stage ≡ None → IsFed (IsBlock new.ifs) (IsReason new.ifs) HasTaken refusal_of old new piece (Ok (n, false))
+fed-under_way : (stage : Stage) (old new : Reading) (piece : List ℕ) (n : ℕ) → Fed stage old new piece n
+    → IsUnderWay stage → refusal_at stage ≡ None
+    → IsFed (IsBlock new.ifs) (IsReason new.ifs) HasTaken refusal_of old new piece (Ok (n, false))
 fed-under_way stage old new piece n f way none =
     let not_yet = under-way-open new.ifs stage new.taken f.at way in
     record {
       taken = (f.inside, has-taken stage old new piece n f none);
-      done = λ t h. (λ e. never e, λ v. absurd (not_yet v.0 (subst (IsBlock new.ifs v.0) (sym (has-taken stage old new piece n f none t h).is) v.1)));
+      done = λ t h. (
+        λ e. never e,
+        λ v. absurd
+            (not_yet v.0 (subst (IsBlock new.ifs v.0) (sym (has-taken stage old new piece n f none t h).is) v.1)),
+      );
       whole = λ e. elim f.exit [
         | inl le ↦ omega (arith, f.inside)
         | inr closed ↦ elim closed [
@@ -162,7 +194,8 @@ fed-under_way stage old new piece n f way none =
       repeated = λ r e. none-kept stage old new piece n f none r e;
     }
 
-pub fed : (stage : Stage) (old new : Reading) (piece : List ℕ) (n : ℕ) → Fed stage old new piece n → IsFed (IsBlock new.ifs) (IsReason new.ifs) HasTaken refusal_of old new piece (with_count n (answer_of stage))
+pub fed : (stage : Stage) (old new : Reading) (piece : List ℕ) (n : ℕ) → Fed stage old new piece n
+    → IsFed (IsBlock new.ifs) (IsReason new.ifs) HasTaken refusal_of old new piece (with_count n (answer_of stage))
 fed Front old new piece n f = fed-under_way Front old new piece n f refl refl
 fed (Len p) old new piece n f = fed-under_way (Len p) old new piece n f refl refl
 fed (Size p) old new piece n f = fed-under_way (Size p) old new piece n f refl refl
@@ -170,11 +203,18 @@ fed (Rest p end) old new piece n f = fed-under_way (Rest p end) old new piece n 
 fed (Done block) old new piece n f =
     record {
       taken = (f.inside, has-taken (Done block) old new piece n f refl);
-      done = λ t h. (λ e. (block, subst (IsBlock new.ifs block) (has-taken (Done block) old new piece n f refl t h).is f.at), λ v. refl);
+      done = λ t h. (
+        λ e. (
+          block,
+          subst (IsBlock new.ifs block) (has-taken (Done block) old new piece n f refl t h).is f.at,
+        ),
+        λ v. refl,
+      );
       whole = λ e. absurd (cc);
       refused = tt;
       kept = tt;
-      full = λ t v h s. let same = full-same (Done block) old new piece n f t v h s in (ap (λ (k : ℕ). Ok (k, true)) same.1, same.0);
+      full = λ t v h s. let same = full-same (Done block) old new piece n f t v h s in
+          (ap (λ (k : ℕ). Ok (k, true)) same.1, same.0);
       repeated = λ r e. none-kept (Done block) old new piece n f refl r e;
     }
 fed (Refused refusal) old new piece n f =
@@ -183,9 +223,13 @@ fed (Refused refusal) old new piece n f =
       done = tt;
       whole = tt;
       refused = λ t h.
-          let parts : new.taken ++ drop n piece ≡ t ++ piece = ap (λ (l : List ℕ). l ++ drop n piece) (f.taken ∙ ap (λ (l : List ℕ). l ++ take n piece) h.is) ∙ append_assoc t (take n piece) (drop n piece) ∙ ap (λ (l : List ℕ). t ++ l) (take-append-drop n piece) in
-          subst (λ (b : List ℕ). RefusesAt self_ended (IsBlock new.ifs) (IsReason new.ifs) b (At refusal.place refusal.reason)) parts
-          (refuses-append (IsBlock new.ifs) (IsReason new.ifs) new.taken (drop n piece) refusal.place refusal.reason f.at);
+          let parts : new.taken ++ drop n piece ≡ t ++ piece =
+          ap (λ (l : List ℕ). l ++ drop n piece) (f.taken ∙ ap (λ (l : List ℕ). l ++ take n piece) h.is)
+          ∙ append_assoc t (take n piece) (drop n piece) ∙ ap (λ (l : List ℕ). t ++ l) (take-append-drop n piece) in
+          subst (λ (b : List ℕ). RefusesAt self_ended (IsBlock new.ifs) (IsReason new.ifs) b
+          (At refusal.place refusal.reason)) parts
+          (refuses-append (IsBlock new.ifs) (IsReason new.ifs) new.taken (drop n piece) refusal.place refusal.reason
+          f.at);
       kept = (refusal, sym f.refusal, refl);
       full = λ t v h s.
           let same = (full-same (Refused refusal) old new piece n f t v h s).0 in
@@ -204,8 +248,10 @@ open-not-closed r waits (inl some) = never (rw waits.0 at some)
 open-not-closed r waits (inr v) = waits.1 v.0 v.1
 
 -- what a feed knows, from the fields that it leaves
-pub fed-of : (ifs : ℕ) (held : List ℕ) (stage : Stage) (old new : Reading) (piece : List ℕ) (n : ℕ) → record { ifs = ifs; taken = held; refusal = refusal_at stage } ≡ new → AreOctets held → IsAt ifs stage held
-    → n ≤ length piece → new.taken ≡ old.taken ++ take n piece → (IsClosed old → (new ≡ old) × (n ≡ 0)) → (length piece ≤ n) ⊎ IsClosed new → new.ifs ≡ old.ifs → Fed stage old new piece n
+pub fed-of : (ifs : ℕ) (held : List ℕ) (stage : Stage) (old new : Reading) (piece : List ℕ) (n : ℕ)
+    → record { ifs = ifs; taken = held; refusal = refusal_at stage } ≡ new → AreOctets held → IsAt ifs stage held
+    → n ≤ length piece → new.taken ≡ old.taken ++ take n piece → (IsClosed old → (new ≡ old) × (n ≡ 0))
+    → (length piece ≤ n) ⊎ IsClosed new → new.ifs ≡ old.ifs → Fed stage old new piece n
 fed-of ifs held stage old new piece n is octets at inside taken closed exit size =
     record {
       octets = subst AreOctets (ap (λ (r : Reading). r.taken) is) octets;
@@ -218,12 +264,17 @@ fed-of ifs held stage old new piece n is octets at inside taken closed exit size
       size = size;
     }
 
-pub fed-answered : (stage : Stage) (old new : Reading) (piece : List ℕ) (n : ℕ) (answer : Result Bool (Stop BlockReason)) → Fed stage old new piece n → answer ≡ answer_of stage
+pub fed-answered : (stage : Stage) (old new : Reading) (piece : List ℕ) (n : ℕ)
+    (answer : Result Bool (Stop BlockReason)) → Fed stage old new piece n → answer ≡ answer_of stage
     → IsFed (IsBlock old.ifs) (IsReason old.ifs) HasTaken refusal_of old new piece (with_count n answer)
 fed-answered stage old new piece n answer f e =
-    subst (λ (ifs : ℕ). IsFed (IsBlock ifs) (IsReason ifs) HasTaken refusal_of old new piece (with_count n answer)) f.size
-    (subst (λ (a : Result Bool (Stop BlockReason)). IsFed (IsBlock new.ifs) (IsReason new.ifs) HasTaken refusal_of old new piece (with_count n a)) (sym e) (fed stage old new piece n f))
+    subst (λ (ifs : ℕ). IsFed (IsBlock ifs) (IsReason ifs) HasTaken refusal_of old new piece (with_count n answer))
+    f.size
+    (subst (λ (a : Result Bool (Stop BlockReason)).
+    IsFed (IsBlock new.ifs) (IsReason new.ifs) HasTaken refusal_of old new piece (with_count n a)) (sym e)
+    (fed stage old new piece n f))
 
+-- a new reader may have taken no octets
 pub fresh-taken : (ifs : ℕ) → HasTaken (fresh ifs) []
 fresh-taken ifs = record { kept = refl; is = refl; begun = begun-lt2 ifs [] (λ i. omega arith) (omega arith) }
 

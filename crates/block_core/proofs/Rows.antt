@@ -14,9 +14,13 @@ select : List ℕ
 select = 0x00 ∷ 0xA4 ∷ 0x04 ∷ 0x00 ∷ 0x00 ∷ []
 
 -- 00 00 05 00A4040000 A5
-select-is : IsBlock 254 (record { nad = 0; pcb = Info Zero false; inf = select }) (0x00 ∷ 0x00 ∷ 0x05 ∷ 0x00 ∷ 0xA4 ∷ 0x04 ∷ 0x00 ∷ 0x00 ∷ 0xA5 ∷ [])
+select-is : IsBlock 254 (record { nad = 0; pcb = Info Zero false; inf = select })
+    (0x00 ∷ 0x00 ∷ 0x05 ∷ 0x00 ∷ 0xA4 ∷ 0x04 ∷ 0x00 ∷ 0x00 ∷ 0xA5 ∷ [])
 unfolding select
-select-is = record { proper = record { nad = omega arith; octets = octets_by select refl; suits = omega arith }; is = refl }
+select-is = record {
+  proper = record { nad = omega arith; octets = octets_by select refl; suits = omega arith };
+  is = refl;
+}
 
 -- 00 82 00 82
 other-is : IsBlock 254 (record { nad = 0; pcb = Ready Zero Other; inf = [] }) (0x00 ∷ 0x82 ∷ 0x00 ∷ 0x82 ∷ [])
@@ -24,7 +28,14 @@ other-is = record { proper = record { nad = omega arith; octets = octets_by [] r
 
 -- 00 C1 01 FE 3E
 size-is : IsBlock 32 (record { nad = 0; pcb = Request Ifs; inf = 0xFE ∷ [] }) (0x00 ∷ 0xC1 ∷ 0x01 ∷ 0xFE ∷ 0x3E ∷ [])
-size-is = record { proper = record { nad = omega arith; octets = octets_by (0xFE ∷ []) refl; suits = (refl, (omega arith, omega arith)) }; is = refl }
+size-is = record {
+  proper = record {
+    nad = omega arith;
+    octets = octets_by (0xFE ∷ []) refl;
+    suits = (refl, (omega arith, omega arith));
+  };
+  is = refl;
+}
 
 -- the last octet of 00 00 05 00A4040000 A4 isn't the exclusive-or of those before it
 damaged : xor_of (0x00 ∷ 0x00 ∷ 0x05 ∷ 0x00 ∷ 0xA4 ∷ 0x04 ∷ 0x00 ∷ 0x00 ∷ 0xA4 ∷ []) ≡ 1

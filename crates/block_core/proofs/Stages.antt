@@ -18,29 +18,39 @@ all-of n b e = ap (λ (k : ℕ). take k b) (sym e) ∙ take-length b
 
 -- ---- refusals at the last of the octets
 
-at-last : (ifs place : ℕ) (b : List ℕ) (r : BlockReason) → length b ≡ place + 1 → IsRefusedAt ifs b place r → IsRefused ifs b r
+at-last : (ifs place : ℕ) (b : List ℕ) (r : BlockReason) → length b ≡ place + 1
+    → IsRefusedAt ifs b place r → IsRefused ifs b r
 at-last ifs place b r len refused =
     let last : place ≡ length b - 1 = omega arith in
     subst (λ (p : ℕ). IsRefusedAt ifs b p r) last refused
 
-pub refused-pcb : (ifs : ℕ) (b : List ℕ) → AreOctets b → length b ≡ 2 → ((p : Pcb) → pcb_octet p ≡ get_or b 1 0 → ⊥) → IsRefused ifs b BadPcb
+pub refused-pcb : (ifs : ℕ) (b : List ℕ) → AreOctets b → length b ≡ 2 → ((p : Pcb) → pcb_octet p ≡ get_or b 1 0 → ⊥)
+    → IsRefused ifs b BadPcb
 refused-pcb ifs b octets len unknown = at-last ifs 1 b BadPcb len (refused-at-pcb ifs b octets (omega arith) unknown)
 
-pub refused-len : (ifs : ℕ) (b : List ℕ) (p : Pcb) (r : BlockReason) → ifs ≤ 254 → AreOctets b → length b ≡ 3 → pcb_octet p ≡ get_or b 1 0 → IsLenFault ifs p (get_or b 2 0) r → IsRefused ifs b r
-refused-len ifs b p r small octets len kind fault = at-last ifs 2 b r len (refused-at-len ifs b p r small octets (omega arith) kind fault)
+pub refused-len : (ifs : ℕ) (b : List ℕ) (p : Pcb) (r : BlockReason) → ifs ≤ 254 → AreOctets b → length b ≡ 3
+    → pcb_octet p ≡ get_or b 1 0 → IsLenFault ifs p (get_or b 2 0) r → IsRefused ifs b r
+refused-len ifs b p r small octets len kind fault =
+    at-last ifs 2 b r len (refused-at-len ifs b p r small octets (omega arith) kind fault)
 
-pub refused-size : (ifs : ℕ) (b : List ℕ) (p : Pcb) → AreOctets b → length b ≡ 4 → IsHeaded ifs p b → IsAboutIfs p → (get_or b 3 0 ≡ 0) ⊎ (get_or b 3 0 ≡ 255) → IsRefused ifs b BadIfs
-refused-size ifs b p octets len head about bad = at-last ifs 3 b BadIfs len (refused-at-size ifs b p octets (omega arith) head about bad)
+pub refused-size : (ifs : ℕ) (b : List ℕ) (p : Pcb) → AreOctets b → length b ≡ 4 → IsHeaded ifs p b → IsAboutIfs p
+    → (get_or b 3 0 ≡ 0) ⊎ (get_or b 3 0 ≡ 255) → IsRefused ifs b BadIfs
+refused-size ifs b p octets len head about bad =
+    at-last ifs 3 b BadIfs len (refused-at-size ifs b p octets (omega arith) head about bad)
 
-pub refused-lrc : (ifs end : ℕ) (b : List ℕ) (p : Pcb) → AreOctets b → length b ≡ end + 1 → end ≡ 3 + get_or b 2 0 → IsHeaded ifs p b → IsSized p (get_or b 3 0) → xor_of b ≢ 0 → IsRefused ifs b BadLrc
+pub refused-lrc : (ifs end : ℕ) (b : List ℕ) (p : Pcb) → AreOctets b → length b ≡ end + 1 → end ≡ 3 + get_or b 2 0
+    → IsHeaded ifs p b → IsSized p (get_or b 3 0) → xor_of b ≢ 0 → IsRefused ifs b BadLrc
 refused-lrc ifs end b p octets len end-is head sized bad =
-    at-last ifs end b BadLrc len (refused-at-lrc ifs end b p octets (omega arith) end-is head sized (λ e. bad (ap xor_of (sym (all-of (end + 1) b len)) ∙ e)))
+    at-last ifs end b BadLrc len (refused-at-lrc ifs end b p octets (omega arith) end-is head sized
+    (λ e. bad (ap xor_of (sym (all-of (end + 1) b len)) ∙ e)))
 
-pub whole-is : (ifs end : ℕ) (b : List ℕ) (p : Pcb) → AreOctets b → length b ≡ end + 1 → end ≡ 3 + get_or b 2 0 → IsHeaded ifs p b → IsSized p (get_or b 3 0) → xor_of b ≡ 0
+pub whole-is : (ifs end : ℕ) (b : List ℕ) (p : Pcb) → AreOctets b → length b ≡ end + 1 → end ≡ 3 + get_or b 2 0
+    → IsHeaded ifs p b → IsSized p (get_or b 3 0) → xor_of b ≡ 0
     → IsBlock ifs (record { nad = get_or b 0 0; pcb = p; inf = take (end - 3) (drop 3 b) }) b
 whole-is ifs end b p octets len end-is head sized sum =
     let whole : take (end + 1) b ≡ b = all-of (end + 1) b len in
-    subst (IsBlock ifs (record { nad = get_or b 0 0; pcb = p; inf = take (end - 3) (drop 3 b) })) whole (begun-with ifs end b p octets (omega arith) end-is head sized (ap xor_of whole ∙ sum))
+    subst (IsBlock ifs (record { nad = get_or b 0 0; pcb = p; inf = take (end - 3) (drop 3 b) })) whole
+    (begun-with ifs end b p octets (omega arith) end-is head sized (ap xor_of whole ∙ sum))
 
 -- ---- more octets
 
@@ -50,11 +60,13 @@ headed-more ifs p b more le head = record {
   fits = subst (FitsLen ifs p) (sym (get_or_append_left b more 0 2 (omega arith))) head.fits;
 }
 
-sized-more : (p : Pcb) (b more : List ℕ) → (IsAboutIfs p → 3 < length b) → IsSized p (get_or b 3 0) → IsSized p (get_or (b ++ more) 3 0)
+sized-more : (p : Pcb) (b more : List ℕ) → (IsAboutIfs p → 3 < length b) → IsSized p (get_or b 3 0)
+    → IsSized p (get_or (b ++ more) 3 0)
 sized-more p b more long sized about = rw (get_or_append_left b more 0 3 (long about)) (sized about)
 
 -- fewer than are wanted for the next test
-pub at-more : (ifs : ℕ) (stage : Stage) (b more : List ℕ) → IsAt ifs stage b → 0 < length more → length b + length more < tested_len stage → IsAt ifs stage (b ++ more)
+pub at-more : (ifs : ℕ) (stage : Stage) (b more : List ℕ) → IsAt ifs stage b → 0 < length more
+    → length b + length more < tested_len stage → IsAt ifs stage (b ++ more)
 at-more ifs Front b more at some lt = omega (arith, length-append b more)
 at-more ifs (Len p) b more at some lt = absurd (omega arith)
 at-more ifs (Size p) b more at some lt = absurd (omega arith)
@@ -70,7 +82,8 @@ at-more ifs (Done block) b more at some lt = absurd (omega arith)
 at-more ifs (Refused refusal) b more at some lt = absurd (omega arith)
 
 -- a reader that is open waits for an octet
-pub open-wants : (ifs : ℕ) (stage : Stage) (b : List ℕ) → IsAt ifs stage b → IsOpen (record { ifs = ifs; taken = b; refusal = refusal_at stage }) → length b < tested_len stage
+pub open-wants : (ifs : ℕ) (stage : Stage) (b : List ℕ) → IsAt ifs stage b
+    → IsOpen (record { ifs = ifs; taken = b; refusal = refusal_at stage }) → length b < tested_len stage
 open-wants ifs Front b at waits = at
 open-wants ifs (Len p) b at waits = omega arith
 open-wants ifs (Size p) b at waits = omega arith

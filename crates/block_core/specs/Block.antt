@@ -131,7 +131,8 @@ abbrev pub Meets : ℕ → List ℕ → BlockReason → Type 0
 Meets ifs b BadPcb = (length b ≡ 2) × ((p : Pcb) → pcb_octet p ≡ slice_index b 1 → ⊥)
 Meets ifs b BadLen = (length b ≡ 3) × (p : Pcb) × (pcb_octet p ≡ slice_index b 1) × IsBadLen p (slice_index b 2)
 Meets ifs b OverIfs = (length b ≡ 3) × (p : Pcb) × (pcb_octet p ≡ slice_index b 1) × IsInfo p × (ifs < slice_index b 2)
-Meets ifs b BadIfs = (length b ≡ 4) × ((pcb_octet (Request Ifs) ≡ slice_index b 1) ⊎ (pcb_octet (Response Ifs) ≡ slice_index b 1)) × ((slice_index b 3 ≡ 0) ⊎ (slice_index b 3 ≡ 255))
+Meets ifs b BadIfs = (length b ≡ 4) × ((pcb_octet (Request Ifs) ≡ slice_index b 1)
+    ⊎ (pcb_octet (Response Ifs) ≡ slice_index b 1)) × ((slice_index b 3 ≡ 0) ⊎ (slice_index b 3 ≡ 255))
 Meets ifs b BadLrc = (length b ≡ slice_index b 2 + 4) × (xor_of b ≢ 0)
 
 -- the reason is the first line of the table that the octets up to and with the refused one meet

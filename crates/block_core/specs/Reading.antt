@@ -5,7 +5,8 @@ use Rattle.octet_core.specs.declared.stop.Refusal.{Refusal}
 use Rattle.block_core.specs.Block.{Parts, IsBlock}
 use Rattle.block_core.specs.declared.reason.BlockReason.{BlockReason}
 
--- what a reader keeps: the information size, the octets that it took, and the refusal that it repeats, which is of the last of them
+-- what a reader keeps: the information size, the octets that it took, and the refusal that it repeats, which is of the
+-- last of them
 pub record Reading : Type 0 where
   pub ifs : ℕ
   pub taken : List ℕ

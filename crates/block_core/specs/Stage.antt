@@ -50,16 +50,19 @@ abbrev pub IsAt : ℕ → Stage → List ℕ → Type 0
 IsAt ifs Front held = length held < 2
 IsAt ifs (Len pcb) held = (length held ≡ 2) × (pcb_octet pcb ≡ slice_index held 1)
 IsAt ifs (Size pcb) held = (length held ≡ 3) × IsHeaded ifs pcb held × IsAboutIfs pcb
-IsAt ifs (Rest pcb end) held = (3 ≤ length held) × (length held ≤ end) × (end ≡ 3 + slice_index held 2) × IsHeaded ifs pcb held × (IsAboutIfs pcb → 3 < length held) × IsSized pcb (slice_index held 3)
+IsAt ifs (Rest pcb end) held = (3 ≤ length held) × (length held ≤ end) × (end ≡ 3 + slice_index held 2)
+    × IsHeaded ifs pcb held × (IsAboutIfs pcb → 3 < length held) × IsSized pcb (slice_index held 3)
 IsAt ifs (Done block) held = IsBlock ifs block held
-IsAt ifs (Refused refusal) held = RefusesAt self_ended (IsBlock ifs) (IsReason ifs) held (At refusal.place refusal.reason)
+IsAt ifs (Refused refusal) held = RefusesAt self_ended (IsBlock ifs) (IsReason ifs) held
+    (At refusal.place refusal.reason)
 
 -- the last of these octets is the one that is tested
 abbrev pub IsTested : ℕ → Stage → List ℕ → Type 0
 IsTested ifs Front held = length held ≡ 2
 IsTested ifs (Len pcb) held = (length held ≡ 3) × (pcb_octet pcb ≡ slice_index held 1)
 IsTested ifs (Size pcb) held = (length held ≡ 4) × IsHeaded ifs pcb held × IsAboutIfs pcb
-IsTested ifs (Rest pcb end) held = (length held ≡ end + 1) × (end ≡ 3 + slice_index held 2) × IsHeaded ifs pcb held × IsSized pcb (slice_index held 3)
+IsTested ifs (Rest pcb end) held = (length held ≡ end + 1) × (end ≡ 3 + slice_index held 2) × IsHeaded ifs pcb held
+    × IsSized pcb (slice_index held 3)
 IsTested ifs (Done block) held = ⊥
 IsTested ifs (Refused refusal) held = ⊥
 

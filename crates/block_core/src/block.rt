@@ -35,7 +35,8 @@ impl Model for Block {
 
     ghost inverse = { λ d. record { nad = d.nad; pcb = d.pcb; inf = record { items = d.inf } } };
 
-    ghost invariant = { λ b. IsProper 254 (record { nad = b.nad; pcb = b.pcb; inf = b.inf.items }) };
+    ghost invariant = { λ b. IsProper 254
+        (record { nad = b.nad; pcb = b.pcb; inf = b.inf.items }) };
 }
 
 impl Block {
@@ -63,7 +64,8 @@ impl Block {
 
     /// An I-block, `None` where the field has more than 254 octets.
     pub fn info(nad: u8, number: Number, more: bool, inf: &[u8]) -> Option<Block>
-        ensures { SomeIff result (length inf.now ≤ 254) (record { nad = nad; pcb = Info number more; inf = inf.now }) }
+        ensures { SomeIff result (length inf.now ≤ 254)
+            (record { nad = nad; pcb = Info number more; inf = inf.now }) }
     {
         Block::made(nad, Pcb::Info { number, more }, inf)
     }
@@ -82,21 +84,24 @@ impl Block {
     /// An S-block that asks, `None` where the field isn't the one that it calls for: none for RESYNCH
     /// and ABORT, one octet from 01 to FE for IFS, any one octet for WTX.
     pub fn request(nad: u8, about: S, inf: &[u8]) -> Option<Block>
-        ensures { SomeIff result (Suits 254 (Request about) inf.now) (record { nad = nad; pcb = Request about; inf = inf.now }) }
+        ensures { SomeIff result (Suits 254 (Request about) inf.now)
+            (record { nad = nad; pcb = Request about; inf = inf.now }) }
     {
         Block::made(nad, Pcb::Request(about), inf)
     }
 
     /// An S-block that answers, `None` where the field isn't the one that the request calls for.
     pub fn response(nad: u8, about: S, inf: &[u8]) -> Option<Block>
-        ensures { SomeIff result (Suits 254 (Response about) inf.now) (record { nad = nad; pcb = Response about; inf = inf.now }) }
+        ensures { SomeIff result (Suits 254 (Response about) inf.now)
+            (record { nad = nad; pcb = Response about; inf = inf.now }) }
     {
         Block::made(nad, Pcb::Response(about), inf)
     }
 
     /// The block of these parts, `None` where the field doesn't suit the kind.
     pub(crate) fn made(nad: u8, pcb: Pcb, inf: &[u8]) -> Option<Block>
-        ensures { SomeIff result (Suits 254 pcb inf.now) (record { nad = nad; pcb = pcb; inf = inf.now }) }
+        ensures { SomeIff result (Suits 254 pcb inf.now)
+            (record { nad = nad; pcb = pcb; inf = inf.now }) }
     {
         if pcb.suits(inf) {
             Some(Block::of_parts(nad, pcb, inf))

@@ -44,7 +44,8 @@ impl<'a> BlockRef<'a> {
         requires least { 1 ≤ ifs }
         requires most { ifs ≤ 254 }
         ensures found { IfOk result (λ x. Accepts self_ended (IsBlock ifs) octets.now x.0 x.1) }
-        ensures refused { IfErr result (Refuses self_ended (IsBlock ifs) (IsReason ifs) octets.now) }
+        ensures refused { IfErr result
+            (Refuses self_ended (IsBlock ifs) (IsReason ifs) octets.now) }
     {
         let pcb = pcb_in(octets, ifs)?;
         let end = end_in(octets, pcb, ifs)?;
@@ -61,7 +62,8 @@ impl<'a> BlockRef<'a> {
     /// The block of these parts, `None` where the field doesn't suit the kind: at most 254 octets in an
     /// I-block, none in an R-block, in an S-block those that it calls for.
     pub fn new(nad: u8, pcb: Pcb, inf: &'a [u8]) -> Option<BlockRef<'a>>
-        ensures { SomeIff result (Suits 254 pcb inf.now) (record { nad = nad; pcb = pcb; inf = inf.now }) }
+        ensures { SomeIff result (Suits 254 pcb inf.now)
+            (record { nad = nad; pcb = pcb; inf = inf.now }) }
     {
         if pcb.suits(inf) {
             Some(BlockRef::of_parts(nad, pcb, inf))
@@ -171,7 +173,8 @@ fn end_in(octets: &[u8], pcb: Pcb, ifs: u8) -> Result<usize, Stop<BlockReason>>
 /// Writes the octets after the first `start` of the buffer.
 fn put(out: &mut [u8], start: usize, octets: &[u8])
     requires { start + length octets.now ≤ length out.old }
-    ensures { out.new ≡ take start out.old ++ (octets.now ++ drop (start + length octets.now) out.old) }
+    ensures { out.new ≡ take start out.old
+        ++ (octets.now ++ drop (start + length octets.now) out.old) }
 {
     out[start..start + octets.len()].copy_from_slice(octets);
 }

@@ -9,22 +9,26 @@ ghost use Rattle.block_core.specs.Reading.{Reading, HasTaken, fresh};
 /// Every input is accepted or refused under every information size, with one block, one length, one
 /// place and one reason, and never both.
 pub fn one_verdict()
-    ensures { (ifs : ℕ) (b : List ℕ) → ifs ≤ 254 → AreOctets b → OneVerdict self_ended (IsBlock ifs) (IsReason ifs) b }
+    ensures { (ifs : ℕ) (b : List ℕ) → ifs ≤ 254 → AreOctets b
+        → OneVerdict self_ended (IsBlock ifs) (IsReason ifs) b }
 {}
 
 /// What is accepted is one block and one length, whatever the information sizes.
 pub fn one_accepted()
-    ensures { (i j : ℕ) (b : List ℕ) (v w : Parts) (n m : ℕ) → Accepts self_ended (IsBlock i) b v n → Accepts self_ended (IsBlock j) b w m → (v ≡ w) × (n ≡ m) }
+    ensures { (i j : ℕ) (b : List ℕ) (v w : Parts) (n m : ℕ) → Accepts self_ended (IsBlock i) b v n
+        → Accepts self_ended (IsBlock j) b w m → (v ≡ w) × (n ≡ m) }
 {}
 
 /// Two blocks never share octets, and those of one never begin those of another.
 pub fn one_spelled()
-    ensures { (i j : ℕ) (v w : Parts) (b more : List ℕ) → IsBlock i v b → IsBlock j w (b ++ more) → (v ≡ w) × (more ≡ []) }
+    ensures { (i j : ℕ) (v w : Parts) (b more : List ℕ) → IsBlock i v b → IsBlock j w (b ++ more)
+        → (v ≡ w) × (more ≡ []) }
 {}
 
 /// The octets of a block are accepted as that block, whatever follows them.
 pub fn written_is_read()
-    ensures { (ifs : ℕ) (v : Parts) (b more : List ℕ) → IsBlock ifs v b → Accepts self_ended (IsBlock ifs) (b ++ more) v (length b) }
+    ensures { (ifs : ℕ) (v : Parts) (b more : List ℕ) → IsBlock ifs v b
+        → Accepts self_ended (IsBlock ifs) (b ++ more) v (length b) }
 {}
 
 /// The exclusive-or of the octets of a block is 00.

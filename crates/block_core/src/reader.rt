@@ -1,6 +1,6 @@
 //! A block that comes in pieces.
 
-ghost use Rattle.std.specs.Prelude.{◌≡◌, ◌+◌, ◌<◌, ◌≤◌, ◌++◌, ◌↔◌, ℕ, List, length, take, Option, IfSome, IfNone, IsTrue, MatchBool};
+ghost use Rattle.std.specs.Prelude.{◌≡◌, ◌+◌, ◌<◌, ◌≤◌, ◌++◌, length, take, Option, IfSome, IfNone, MatchBool};
 ghost use Rattle.octet_core.specs.Reader.{IsFed, IsFinished};
 ghost use Rattle.block_core.specs.Block.{Parts, IsBlock, IsReason};
 ghost use Rattle.block_core.specs.Reading.{HasTaken, IsOpen, IsClosed, fresh, refusal_of};
@@ -31,9 +31,14 @@ impl Model for BlockReader {
 
     ghost Value = { Reading };
 
-    ghost view = { λ r. record { ifs = r.ifs; taken = r.held.items; refusal = refusal_at r.stage } };
+    ghost view = { λ r. record {
+      ifs = r.ifs;
+      taken = r.held.items;
+      refusal = refusal_at r.stage;
+    } };
 
-    ghost invariant = { λ r. (1 ≤ r.ifs) × (r.ifs ≤ 254) × (r.sum ≡ xor_of r.held.items) × AreOctets r.held.items × IsAt r.ifs r.stage r.held.items };
+    ghost invariant = { λ r. (1 ≤ r.ifs) × (r.ifs ≤ 254) × (r.sum ≡ xor_of r.held.items)
+        × AreOctets r.held.items × IsAt r.ifs r.stage r.held.items };
 }
 
 impl BlockReader {
@@ -57,7 +62,8 @@ impl BlockReader {
     /// `At` gives the first octet after which no block goes on, counted from the first that was ever fed,
     /// and its reason. From then on it is answered again, and nothing is taken, until `reset`.
     pub fn feed(&mut self, piece: &[u8]) -> Result<(usize, bool), Stop<BlockReason>>
-        ensures fed { IsFed (IsBlock self.old.ifs) (IsReason self.old.ifs) HasTaken refusal_of self.old self.new piece.now result }
+        ensures fed { IsFed (IsBlock self.old.ifs) (IsReason self.old.ifs) HasTaken refusal_of
+            self.old self.new piece.now result }
         ensures size { self.new.ifs ≡ self.old.ifs }
     {
         let mut taken = 0;
@@ -70,8 +76,10 @@ impl BlockReader {
 
     /// The block, once it is whole.
     pub fn value(&self) -> Option<&Block>
-        ensures found { IfSome result (λ block. HasTaken self.now self.now.taken × IsBlock self.now.ifs block.now self.now.taken) }
-        ensures none { IfNone result ((v : Parts) → HasTaken self.now self.now.taken → IsBlock self.now.ifs v self.now.taken → ⊥) }
+        ensures found { IfSome result (λ block. HasTaken self.now self.now.taken
+            × IsBlock self.now.ifs block.now self.now.taken) }
+        ensures none { IfNone result ((v : Parts) → HasTaken self.now self.now.taken
+            → IsBlock self.now.ifs v self.now.taken → ⊥) }
     {
         match &self.stage {
             Stage::Done(whole) => Some(whole),
@@ -82,7 +90,8 @@ impl BlockReader {
     /// What there is to say when no more octets come: `Short` with the octets taken where the block isn't
     /// whole, or the refusal that is kept.
     pub fn finish(&self) -> Result<(), Stop<BlockReason>>
-        ensures { IsFinished (IsBlock self.now.ifs) (IsReason self.now.ifs) HasTaken refusal_of self.now result }
+        ensures { IsFinished (IsBlock self.now.ifs) (IsReason self.now.ifs) HasTaken refusal_of
+            self.now result }
     {
         if self.stage.answer()? {
             return Ok(());

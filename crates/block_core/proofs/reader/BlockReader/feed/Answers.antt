@@ -22,24 +22,39 @@ loop-taken-preserved c =
           ∙ append_assoc c.args.self.now.taken (take i piece) (take n (drop i piece))
           ∙ ap (λ (l : List ℕ). c.args.self.now.taken ++ l) (sym (take-add i n piece));
       size = c.take_run-taken.ensures.size ∙ c.loop-taken.invariant.size;
-      closed = λ closed. absurd (open-not-closed c.loop-taken.self waits (subst IsClosed (sym (c.loop-taken.invariant.closed closed).0) closed));
+      closed = λ closed. absurd (open-not-closed c.loop-taken.self waits
+          (subst IsClosed (sym (c.loop-taken.invariant.closed closed).0) closed));
     }
 
 pub returns-clause-fed : goal.returns-clause-fed
 returns-clause-fed c =
     let exit : (length c.args.piece.now ≤ c.loop-taken.taken) ⊎ IsClosed c.loop-taken.self =
-    elim c.loop-taken-test.branch [ then-loop-taken-test+else-is_open w ↦ inr (rw w.if-is_open.false at w.is_open.ensures) | else-loop-taken-test w ↦ inl (omega arith) ] in
+    elim c.loop-taken-test.branch [
+      | then-loop-taken-test+else-is_open w ↦
+          inr (rw w.if-is_open.false at w.is_open.ensures)
+      | else-loop-taken-test w ↦ inl (omega arith)
+    ] in
     let invariant = c.loop-taken.invariant in
     let f : Fed c.self-2.inside.stage c.args.self.now c.loop-taken.self c.args.piece.now c.loop-taken.taken =
-    fed-of (c.self-2.inside.ifs) c.self-2.inside.held.items c.self-2.inside.stage c.args.self.now c.loop-taken.self c.args.piece.now c.loop-taken.taken c.self-2.view_is c.self-2.invariant.3 c.self-2.invariant.4 invariant.inside invariant.so_far invariant.closed exit invariant.size in
-    fed-answered c.self-2.inside.stage c.args.self.now c.loop-taken.self c.args.piece.now c.loop-taken.taken (Ok c.in_ok-done.done) f c.in_ok-done.ensures
+    fed-of (c.self-2.inside.ifs) c.self-2.inside.held.items c.self-2.inside.stage c.args.self.now c.loop-taken.self
+    c.args.piece.now c.loop-taken.taken c.self-2.view_is c.self-2.invariant.3 c.self-2.invariant.4 invariant.inside
+    invariant.so_far invariant.closed exit invariant.size in
+    fed-answered c.self-2.inside.stage c.args.self.now c.loop-taken.self c.args.piece.now c.loop-taken.taken
+    (Ok c.in_ok-done.done) f c.in_ok-done.ensures
 
 pub returns-in_err-done-clause-fed : goal.returns-in_err-done-clause-fed
 returns-in_err-done-clause-fed c =
     let exit : (length c.args.piece.now ≤ c.loop-taken.taken) ⊎ IsClosed c.loop-taken.self =
-    elim c.loop-taken-test.branch [ then-loop-taken-test+else-is_open w ↦ inr (rw w.if-is_open.false at w.is_open.ensures) | else-loop-taken-test w ↦ inl (omega arith) ] in
+    elim c.loop-taken-test.branch [
+      | then-loop-taken-test+else-is_open w ↦
+          inr (rw w.if-is_open.false at w.is_open.ensures)
+      | else-loop-taken-test w ↦ inl (omega arith)
+    ] in
     let invariant = c.loop-taken.invariant in
     let f : Fed c.self-2.inside.stage c.args.self.now c.loop-taken.self c.args.piece.now c.loop-taken.taken =
-    fed-of (c.self-2.inside.ifs) c.self-2.inside.held.items c.self-2.inside.stage c.args.self.now c.loop-taken.self c.args.piece.now c.loop-taken.taken c.self-2.view_is c.self-2.invariant.3 c.self-2.invariant.4 invariant.inside invariant.so_far invariant.closed exit invariant.size in
+    fed-of (c.self-2.inside.ifs) c.self-2.inside.held.items c.self-2.inside.stage c.args.self.now c.loop-taken.self
+    c.args.piece.now c.loop-taken.taken c.self-2.view_is c.self-2.invariant.3 c.self-2.invariant.4 invariant.inside
+    invariant.so_far invariant.closed exit invariant.size in
     let p = err_from_is_err_and c.from_residual.result c.from_residual.ensures.1 in
-    rw (p.1, p.2) (fed-answered c.self-2.inside.stage c.args.self.now c.loop-taken.self c.args.piece.now c.loop-taken.taken (Err c.in_err-done.field-0.0) f c.in_err-done.ensures)
+    rw (p.1, p.2) (fed-answered c.self-2.inside.stage c.args.self.now c.loop-taken.self c.args.piece.now
+    c.loop-taken.taken (Err c.in_err-done.field-0.0) f c.in_err-done.ensures)
