@@ -18,12 +18,17 @@ use Rattle.apdu_core.specs.declared.receiving.ReceiveFault.{ReceiveFault}
 use Rattle.apdu_core.specs.declared.receiving.ReceiveFault.TheVariants.{Memory, Read, Chain, Apdu}
 
 -- what is refused isn't accepted
-not-accepted : {V R : Type 0} (e : Ending) (S : V → List ℕ → Type 0) (Reason : R → List ℕ → Type 0) (b : List ℕ) (stop : Stop R) → Refuses e S Reason b stop → (v : V) (n : ℕ) → Accepts e S b v n → ⊥
+not-accepted : {V R : Type 0} (e : Ending) (S : V → List ℕ → Type 0) (Reason : R → List ℕ → Type 0) (b : List ℕ)
+    (stop : Stop R) → Refuses e S Reason b stop → (v : V) (n : ℕ) → Accepts e S b v n → ⊥
 not-accepted e S Reason b (Short p) h v n a = h.none v n a
 not-accepted e S Reason b (At p r) h v n a = h.0.none v n a
 
-module _ {V R Reader : Type 0} (S : V → List ℕ → Type 0) (Reason : R → List ℕ → Type 0) (one : (v w : V) (b : List ℕ) → S v b → S w b → v ≡ w) (limit ifs : ℕ) (number : Number) (remaining : Reader → Option (List ℕ)) (failures : Reader → ℕ) (old new : Reader) (v : V) (sent : List (List ℕ)) (b more : List ℕ)
-    (chained : IsChain ifs number limit sent b) (spelled : S v (message_of sent)) (held : remaining old ≡ Some (b ++ more)) where
+module _ {V R Reader : Type 0} (S : V → List ℕ → Type 0) (Reason : R → List ℕ → Type 0)
+    (one : (v w : V) (b : List ℕ) → S v b → S w b → v ≡ w) (limit ifs : ℕ) (number : Number)
+    (remaining : Reader → Option (List ℕ)) (failures : Reader → ℕ) (old new : Reader) (v : V) (sent : List (List ℕ))
+    (b more : List ℕ)
+    (chained : IsChain ifs number limit sent b) (spelled : S v (message_of sent))
+    (held : remaining old ≡ Some (b ++ more)) where
   -- the chain is accepted, whatever follows it
   whole-chain : Accepts self_ended (IsChain ifs number limit) (b ++ more) sent (length b)
   whole-chain = spelled-accepted (IsChain ifs number limit) sent b more chained
@@ -37,37 +42,55 @@ module _ {V R Reader : Type 0} (S : V → List ℕ → Type 0) (Reason : R → L
   parts read (Some rest) h = (rest, refl, h)
   parts read None h = absurd h
 
-  whole-parts : (fields : List (List ℕ)) → ReadsWhole limit ifs number remaining failures old new fields → (fields ≡ sent) × (remaining new ≡ Some more)
+  whole-parts : (fields : List (List ℕ)) → ReadsWhole limit ifs number remaining failures old new fields
+      → (fields ≡ sent) × (remaining new ≡ Some more)
   unfolding Parts
   whole-parts fields w =
-      let p = parts w.read (remaining new) (subst (λ (h : Option (List ℕ)). Consumes h (remaining new) w.read) held w.from) in
-      let only = one-accepted ifs ifs limit limit number (b ++ more) fields sent (length w.read) (length b) (all-accepted ifs limit number [] (b ++ more) p.0 w.read fields p.2 w.chain) whole-chain in
-      let rest : p.0 ≡ more = sym (drop-append_seam w.read p.0) ∙ sym (ap (drop (length w.read)) p.2) ∙ ap (λ (n : ℕ). drop n (b ++ more)) only.1 ∙ drop-append_seam b more in
+      let p = parts w.read (remaining new)
+      (subst (λ (h : Option (List ℕ)). Consumes h (remaining new) w.read) held w.from) in
+      let only = one-accepted ifs ifs limit limit number (b ++ more) fields sent (length w.read) (length b)
+      (all-accepted ifs limit number [] (b ++ more) p.0 w.read fields p.2 w.chain) whole-chain in
+      let rest : p.0 ≡ more = sym (drop-append_seam w.read p.0) ∙ sym (ap (drop (length w.read)) p.2)
+      ∙ ap (λ (n : ℕ). drop n (b ++ more)) only.1 ∙ drop-append_seam b more in
       (only.0, p.1 ∙ ap Some rest)
 
-  ok-arrives : (w : V) → IsReceived S limit ifs number remaining failures old new w → (w ≡ v) × (remaining new ≡ Some more)
+  ok-arrives : (w : V) → IsReceived S limit ifs number remaining failures old new w
+      → (w ≡ v) × (remaining new ≡ Some more)
   ok-arrives w h =
-      let p = whole-parts h.fields h.all in
-      (one w v (message_of sent) (subst (λ (fields : List (List ℕ)). S w (message_of fields)) p.0 h.value.1) spelled, p.1)
+      let p = whole-parts h.fields h.all in (
+        one w v (message_of sent) (subst (λ (fields : List (List ℕ)). S w (message_of fields)) p.0 h.value.1) spelled,
+        p.1,
+      )
 
   no-apdu : (stop : Stop R) → IsNoApdu S Reason limit ifs number remaining failures old new stop → ⊥
   no-apdu stop h =
       let p = whole-parts h.fields h.all in
-      not-accepted whole S Reason (message_of sent) stop (subst (λ (fields : List (List ℕ)). Refuses whole S Reason (message_of fields) stop) p.0 h.refused) v (length (message_of sent)) (refl, spelled)
+      not-accepted whole S Reason (message_of sent) stop
+      (subst (λ (fields : List (List ℕ)). Refuses whole S Reason (message_of fields) stop) p.0 h.refused) v
+      (length (message_of sent)) (refl, spelled)
 
   no-chain : (stop : Stop ChainReason) → IsNoChain limit ifs number remaining failures old new stop → ⊥
   unfolding Parts
   no-chain (Short place) h =
-      let p = parts h.read (remaining new) (subst (λ (o : Option (List ℕ)). Consumes o (remaining new) h.read) held h.from) in
+      let p = parts h.read (remaining new)
+      (subst (λ (o : Option (List ℕ)). Consumes o (remaining new) h.read) held h.from) in
       let end : p.0 ≡ [] = subst IsAtEnd p.1 h.end in
-      not-accepted self_ended (IsChain ifs number limit) (chain.IsReason ifs number limit) (b ++ more) (Short place) (all-short ifs limit number [] (b ++ more) p.0 h.read (Short place) p.2 end h.refused) sent (length b) whole-chain
+      not-accepted self_ended (IsChain ifs number limit) (chain.IsReason ifs number limit) (b ++ more) (Short place)
+      (all-short ifs limit number [] (b ++ more) p.0 h.read (Short place) p.2 end h.refused) sent (length b) whole-chain
   no-chain (At place reason) h =
-      let p = parts h.read (remaining new) (subst (λ (o : Option (List ℕ)). Consumes o (remaining new) h.read) held h.from) in
-      let refused = refuses-append (IsChain ifs number limit) (chain.IsReason ifs number limit) h.read p.0 place reason h.refused in
-      not-accepted self_ended (IsChain ifs number limit) (chain.IsReason ifs number limit) (b ++ more) (At place reason) (subst (λ (l : List ℕ). Refuses self_ended (IsChain ifs number limit) (chain.IsReason ifs number limit) l (At place reason)) (sym p.2) refused)
+      let p = parts h.read (remaining new)
+      (subst (λ (o : Option (List ℕ)). Consumes o (remaining new) h.read) held h.from) in
+      let refused = refuses-append (IsChain ifs number limit) (chain.IsReason ifs number limit) h.read p.0 place reason
+      h.refused in
+      not-accepted self_ended (IsChain ifs number limit) (chain.IsReason ifs number limit) (b ++ more) (At place reason)
+      (subst (λ (l : List ℕ). Refuses self_ended (IsChain ifs number limit) (chain.IsReason ifs number limit) l
+      (At place reason)) (sym p.2) refused)
       sent (length b) whole-chain
 
-  pub arrives-only : (result : Result V (ReceiveFault R)) → IfOk result (IsReceived S limit ifs number remaining failures old new) → IfErr result (IsReceiveFault S Reason limit ifs number remaining failures old new) → ArrivesUnlessFault v more (remaining new) result
+  pub arrives-only : (result : Result V (ReceiveFault R))
+      → IfOk result (IsReceived S limit ifs number remaining failures old new)
+      → IfErr result (IsReceiveFault S Reason limit ifs number remaining failures old new)
+      → ArrivesUnlessFault v more (remaining new) result
   arrives-only (Ok w) h g = ok-arrives w h
   arrives-only (Err Memory) h g = tt
   arrives-only (Err (Read taken)) h g = tt

@@ -17,32 +17,55 @@ abbrev pub Trails : ℕ → ℕ → ℕ → Type 0
 Trails x lc n = ((x ≢ 0) × (x + 6 < n)) ⊎ ((x ≡ 0) × (lc ≡ 0) × (7 < n)) ⊎ ((x ≡ 0) × (lc ≢ 0) × (lc + 9 < n))
 
 none-trails : (body : Body) (x lc n : ℕ) → FitsFields body → n ≤ length (body_octets body) + 4
-    → (4 < n → x ≡ slice_index (body_octets body) 0) → (6 < n → lc ≡ slice_index (body_octets body) 1 * 256 + slice_index (body_octets body) 2) → Trails x lc n → ⊥
-none-trails Empty x lc n h le at two t = elim t [ inl u ↦ omega arith | inr u ↦ elim u [ inl w ↦ omega arith | inr w ↦ omega arith ] ]
-none-trails (ShortLe k) x lc n h le at two t = elim t [ inl u ↦ omega arith | inr u ↦ elim u [ inl w ↦ omega arith | inr w ↦ omega arith ] ]
+    → (4 < n → x ≡ slice_index (body_octets body) 0)
+    → (6 < n → lc ≡ slice_index (body_octets body) 1 * 256 + slice_index (body_octets body) 2) → Trails x lc n → ⊥
+none-trails Empty x lc n h le at two t =
+    elim t [ inl u ↦ omega arith | inr u ↦ elim u [ inl w ↦ omega arith | inr w ↦ omega arith ] ]
+none-trails (ShortLe k) x lc n h le at two t =
+    elim t [ inl u ↦ omega arith | inr u ↦ elim u [ inl w ↦ omega arith | inr w ↦ omega arith ] ]
 none-trails (ShortPart part) x lc n h le at two t =
-    elim t [ inl u ↦ omega (arith, at (omega arith)) | inr u ↦ elim u [ inl w ↦ omega (arith, h.0, at (omega arith)) | inr w ↦ omega (arith, h.0, at (omega arith)) ] ]
+    elim t [
+      | inl u ↦ omega (arith, at (omega arith))
+      | inr u ↦ elim u [
+        | inl w ↦ omega (arith, h.0, at (omega arith))
+        | inr w ↦ omega (arith, h.0, at (omega arith))
+      ]
+    ]
 none-trails (ShortBoth part k) x lc n h le at two t =
     let long : length (part ++ short_of k) ≡ length part + 1 = length-append part (short_of k) in
-    elim t [ inl u ↦ omega (arith, long, at (omega arith)) | inr u ↦ elim u [ inl w ↦ omega (arith, h.0.0, at (omega arith)) | inr w ↦ omega (arith, h.0.0, at (omega arith)) ] ]
-none-trails (LongLe k) x lc n h le at two t = elim t [ inl u ↦ omega arith | inr u ↦ elim u [ inl w ↦ omega arith | inr w ↦ omega arith ] ]
+    elim t [
+      | inl u ↦ omega (arith, long, at (omega arith))
+      | inr u ↦ elim u [
+        | inl w ↦ omega (arith, h.0.0, at (omega arith))
+        | inr w ↦ omega (arith, h.0.0, at (omega arith))
+      ]
+    ]
+none-trails (LongLe k) x lc n h le at two t =
+    elim t [ inl u ↦ omega arith | inr u ↦ elim u [ inl w ↦ omega arith | inr w ↦ omega arith ] ]
 none-trails (LongPart part) x lc n h le at two t =
     elim t [
       | inl u ↦ u.0 (at (omega arith))
-      | inr u ↦ elim u [ inl w ↦ omega (arith, h.0, h.1, long-same (length part) h.1, two (omega arith)) | inr w ↦ omega (arith, long-same (length part) h.1, two (omega arith)) ]
+      | inr u ↦ elim u [
+        | inl w ↦ omega (arith, h.0, h.1, long-same (length part) h.1, two (omega arith))
+        | inr w ↦ omega (arith, long-same (length part) h.1, two (omega arith))
+      ]
     ]
 none-trails (LongBoth part k) x lc n h le at two t =
     let long : length (part ++ long_of k) ≡ length part + 2 = length-append part (long_of k) in
     elim t [
       | inl u ↦ u.0 (at (omega arith))
-      | inr u ↦ elim u [ inl w ↦ omega (arith, h.0.0, long-same (length part) h.0.1, two (omega arith)) | inr w ↦ omega (arith, long, long-same (length part) h.0.1, two (omega arith)) ]
+      | inr u ↦ elim u [
+        | inl w ↦ omega (arith, h.0.0, long-same (length part) h.0.1, two (omega arith))
+        | inr w ↦ omega (arith, long, long-same (length part) h.0.1, two (omega arith))
+      ]
     ]
 
 -- an octet of what begins a list
 octet-at : (c more s : List ℕ) (k : ℕ) → k < length c → c ++ more ≡ s → slice_index c k ≡ slice_index s k
 octet-at c more s k lt e = sym (get_or_append_left c more 0 k lt) ∙ ap (λ (l : List ℕ). get_or l k 0) e
 
-trailing-by : (header : List ℕ) (body : Body) (b more : List ℕ) → length header ≡ 4 → FitsFields body → b ++ more ≡ header ++ body_octets body → IsTrailing b → ⊥
+trailing-by : (header : List ℕ) (body : Body) (b more : List ℕ) → length header ≡ 4 → FitsFields body
+    → b ++ more ≡ header ++ body_octets body → IsTrailing b → ⊥
 trailing-by [] body b more four h e t = omega arith
 trailing-by (p ∷ []) body b more four h e t = omega arith
 trailing-by (p ∷ q ∷ []) body b more four h e t = omega arith
@@ -69,7 +92,8 @@ zeros-octets zero i = omega arith
 zeros-octets (suc n) zero = omega arith
 zeros-octets (suc n) (suc i) = zeros-octets n i
 
-begins-by : (header : List ℕ) (body : Body) (b more : List ℕ) → length header ≡ 4 → FitsFields body → AreOctets b → AreOctets more → header ++ body_octets body ≡ b ++ more → Begins IsCommand b
+begins-by : (header : List ℕ) (body : Body) (b more : List ℕ) → length header ≡ 4 → FitsFields body → AreOctets b
+    → AreOctets more → header ++ body_octets body ≡ b ++ more → Begins IsCommand b
 begins-by header body b more four fits p q e = (
   record { header = header; body = body },
   more,
@@ -83,7 +107,9 @@ begins-by header body b more four fits p q e = (
 -- a Le whose octet is x
 short-some : (x : ℕ) → x < 256 → (n : ℕ) × (IsCount n 256) × (short_of n ≡ x ∷ [])
 short-some zero lt = (256, (omega arith, omega arith), refl)
-short-some (suc x) lt = let e : (suc x) % 256 ≡ suc x = omega arith in (suc x, (omega arith, omega arith), ap (λ (k : ℕ). k ∷ []) e)
+short-some (suc x) lt =
+    let e : (suc x) % 256 ≡ suc x = omega arith in
+    (suc x, (omega arith, omega arith), ap (λ (k : ℕ). k ∷ []) e)
 
 -- a Le whose octets are y and z
 long-some : (y z : ℕ) → y < 256 → z < 256 → (n : ℕ) × (IsCount n 65536) × (long_of n ≡ y ∷ z ∷ [])
@@ -102,51 +128,81 @@ long-some y z py pz =
 -- a data field of so many octets, and what is left, of at most that and a Le
 data Rest (lc most : ℕ) (rest : List ℕ) : Type 0 where
   within : length rest ≤ lc → Rest lc most rest
-  beyond : (part left : List ℕ) → rest ≡ part ++ left → length part ≡ lc → 0 < length left → length left ≤ most → Rest lc most rest
+  beyond : (part left : List ℕ) → rest ≡ part ++ left → length part ≡ lc → 0 < length left
+      → length left ≤ most → Rest lc most rest
 
 rest-of : (lc most : ℕ) (rest : List ℕ) → length rest ≤ lc + most → Rest lc most rest
 rest-of lc most rest le =
     elim (cases_lt lc (length rest)) [
-      | inl lt ↦ beyond (take lc rest) (drop lc rest) (sym (take-append-drop lc rest)) (omega (arith, length-take lc rest)) (omega (arith, length-drop lc rest)) (omega (arith, length-drop lc rest))
+      | inl lt ↦ beyond (take lc rest) (drop lc rest) (sym (take-append-drop lc rest))
+          (omega (arith, length-take lc rest)) (omega (arith, length-drop lc rest)) (omega (arith, length-drop lc rest))
       | inr ge ↦ within ge
     ]
 
-short-goes : (p q r s lc : ℕ) (rest : List ℕ) → 1 ≤ lc → lc ≤ 255 → AreOctets (p ∷ q ∷ r ∷ s ∷ lc ∷ rest) → Rest lc 1 rest → Begins IsCommand (p ∷ q ∷ r ∷ s ∷ lc ∷ rest)
+short-goes : (p q r s lc : ℕ) (rest : List ℕ) → 1 ≤ lc → lc ≤ 255 → AreOctets (p ∷ q ∷ r ∷ s ∷ lc ∷ rest)
+    → Rest lc 1 rest → Begins IsCommand (p ∷ q ∷ r ∷ s ∷ lc ∷ rest)
 short-goes p q r s lc rest some few octets (within le) =
     let part : List ℕ = rest ++ zeros (lc - length rest) in
-    let len : length part ≡ lc = omega (arith, length-append rest (zeros (lc - length rest)), length-replicate {A = ℕ} (lc - length rest) 0) in
-    begins-by (p ∷ q ∷ r ∷ s ∷ []) (ShortPart part) (p ∷ q ∷ r ∷ s ∷ lc ∷ rest) (zeros (lc - length rest)) refl (omega (arith, len), omega (arith, len)) octets (zeros-octets (lc - length rest))
+    let len : length part ≡ lc = omega (
+      arith,
+      length-append rest (zeros (lc - length rest)),
+      length-replicate {A = ℕ} (lc - length rest) 0,
+    ) in
+    begins-by (p ∷ q ∷ r ∷ s ∷ []) (ShortPart part) (p ∷ q ∷ r ∷ s ∷ lc ∷ rest) (zeros (lc - length rest)) refl
+    (omega (arith, len), omega (arith, len)) octets (zeros-octets (lc - length rest))
     (ap (λ (k : ℕ). p ∷ q ∷ r ∷ s ∷ k ∷ part) len)
 short-goes p q r s lc rest some few octets (beyond part [] is len pos le) = absurd (omega arith)
 short-goes p q r s lc rest some few octets (beyond part (x ∷ []) is len pos le) =
-    let small : x < 256 = subst (λ (n : ℕ). n < 256) (ap (λ (l : List ℕ). get_or l lc 0) is ∙ get_or-append_right part (x ∷ []) lc 0 (omega arith) ∙ ap (λ (k : ℕ). get_or (x ∷ []) k 0) (below_sub lc (length part) 0 (omega arith))) (octets (suc (suc (suc (suc (suc lc)))))) in
+    let small : x < 256 = subst (λ (n : ℕ). n < 256)
+    (ap (λ (l : List ℕ). get_or l lc 0) is ∙ get_or-append_right part (x ∷ []) lc 0 (omega arith)
+    ∙ ap (λ (k : ℕ). get_or (x ∷ []) k 0) (below_sub lc (length part) 0 (omega arith)))
+    (octets (suc (suc (suc (suc (suc lc)))))) in
     let n = short-some x small in
-    begins-by (p ∷ q ∷ r ∷ s ∷ []) (ShortBoth part n.0) (p ∷ q ∷ r ∷ s ∷ lc ∷ rest) [] refl ((omega arith, omega arith), n.1) octets (λ i. omega arith)
-    ((λ i. p ∷ q ∷ r ∷ s ∷ len i ∷ (part ++ n.2 i)) ∙ ap (λ (l : List ℕ). p ∷ q ∷ r ∷ s ∷ lc ∷ l) (sym is) ∙ sym (append-nil (p ∷ q ∷ r ∷ s ∷ lc ∷ rest)))
+    begins-by (p ∷ q ∷ r ∷ s ∷ []) (ShortBoth part n.0) (p ∷ q ∷ r ∷ s ∷ lc ∷ rest) [] refl
+    ((omega arith, omega arith), n.1) octets (λ i. omega arith)
+    ((λ i. p ∷ q ∷ r ∷ s ∷ len i ∷ (part ++ n.2 i)) ∙ ap (λ (l : List ℕ). p ∷ q ∷ r ∷ s ∷ lc ∷ l) (sym is)
+    ∙ sym (append-nil (p ∷ q ∷ r ∷ s ∷ lc ∷ rest)))
 short-goes p q r s lc rest some few octets (beyond part (x ∷ y ∷ left) is len pos le) = absurd (omega arith)
 
-left-octet : (p q r s h l lc k : ℕ) (rest part left : List ℕ) → AreOctets (p ∷ q ∷ r ∷ s ∷ 0 ∷ h ∷ l ∷ rest) → rest ≡ part ++ left → length part ≡ lc → slice_index left k < 256
+left-octet : (p q r s h l lc k : ℕ) (rest part left : List ℕ) → AreOctets (p ∷ q ∷ r ∷ s ∷ 0 ∷ h ∷ l ∷ rest)
+    → rest ≡ part ++ left → length part ≡ lc → slice_index left k < 256
 left-octet p q r s h l lc k rest part left octets is len =
     let place : lc + k - length part ≡ k = omega (arith, len) in
-    let same : slice_index rest (lc + k) ≡ slice_index left k = ap (λ (x : List ℕ). get_or x (lc + k) 0) is ∙ get_or-append_right part left (lc + k) 0 (omega (arith, len)) ∙ ap (λ (n : ℕ). get_or left n 0) place in
+    let same : slice_index rest (lc + k) ≡ slice_index left k =
+    ap (λ (x : List ℕ). get_or x (lc + k) 0) is ∙ get_or-append_right part left (lc + k) 0 (omega (arith, len))
+    ∙ ap (λ (n : ℕ). get_or left n 0) place in
     subst (λ (n : ℕ). n < 256) same (octets (suc (suc (suc (suc (suc (suc (suc (lc + k)))))))))
 
-long-goes : (p q r s h l lc : ℕ) (rest : List ℕ) → 1 ≤ lc → lc ≤ 65535 → long_of lc ≡ h ∷ l ∷ [] → AreOctets (p ∷ q ∷ r ∷ s ∷ 0 ∷ h ∷ l ∷ rest) → Rest lc 2 rest → Begins IsCommand (p ∷ q ∷ r ∷ s ∷ 0 ∷ h ∷ l ∷ rest)
+long-goes : (p q r s h l lc : ℕ) (rest : List ℕ) → 1 ≤ lc → lc ≤ 65535 → long_of lc ≡ h ∷ l ∷ []
+    → AreOctets (p ∷ q ∷ r ∷ s ∷ 0 ∷ h ∷ l ∷ rest) → Rest lc 2 rest
+    → Begins IsCommand (p ∷ q ∷ r ∷ s ∷ 0 ∷ h ∷ l ∷ rest)
 long-goes p q r s h l lc rest some few told octets (within le) =
     let part : List ℕ = rest ++ zeros (lc - length rest) in
-    let len : length part ≡ lc = omega (arith, length-append rest (zeros (lc - length rest)), length-replicate {A = ℕ} (lc - length rest) 0) in
-    begins-by (p ∷ q ∷ r ∷ s ∷ []) (LongPart part) (p ∷ q ∷ r ∷ s ∷ 0 ∷ h ∷ l ∷ rest) (zeros (lc - length rest)) refl (omega (arith, len), omega (arith, len)) octets (zeros-octets (lc - length rest))
-    (ap (λ (n : ℕ). p ∷ q ∷ r ∷ s ∷ 0 ∷ (long_of n ++ part)) len ∙ ap (λ (t : List ℕ). p ∷ q ∷ r ∷ s ∷ 0 ∷ (t ++ part)) told)
+    let len : length part ≡ lc = omega (
+      arith,
+      length-append rest (zeros (lc - length rest)),
+      length-replicate {A = ℕ} (lc - length rest) 0,
+    ) in
+    begins-by (p ∷ q ∷ r ∷ s ∷ []) (LongPart part) (p ∷ q ∷ r ∷ s ∷ 0 ∷ h ∷ l ∷ rest) (zeros (lc - length rest)) refl
+    (omega (arith, len), omega (arith, len)) octets (zeros-octets (lc - length rest))
+    (ap (λ (n : ℕ). p ∷ q ∷ r ∷ s ∷ 0 ∷ (long_of n ++ part)) len
+    ∙ ap (λ (t : List ℕ). p ∷ q ∷ r ∷ s ∷ 0 ∷ (t ++ part)) told)
 long-goes p q r s h l lc rest some few told octets (beyond part [] is len pos le) = absurd (omega arith)
 long-goes p q r s h l lc rest some few told octets (beyond part (x ∷ []) is len pos le) =
     let n = long-some x 0 (left-octet p q r s h l lc 0 rest part (x ∷ []) octets is len) (omega arith) in
-    begins-by (p ∷ q ∷ r ∷ s ∷ []) (LongBoth part n.0) (p ∷ q ∷ r ∷ s ∷ 0 ∷ h ∷ l ∷ rest) (0 ∷ []) refl ((omega arith, omega arith), n.1) octets (zeros-octets 1)
-    ((λ i. p ∷ q ∷ r ∷ s ∷ 0 ∷ ((long_of (len i) ++ part) ++ n.2 i)) ∙ ap (λ (t : List ℕ). p ∷ q ∷ r ∷ s ∷ 0 ∷ ((t ++ part) ++ x ∷ 0 ∷ [])) told
-    ∙ ap (λ (t : List ℕ). p ∷ q ∷ r ∷ s ∷ 0 ∷ h ∷ l ∷ t) (sym (append_assoc part (x ∷ []) (0 ∷ [])) ∙ ap (λ (t : List ℕ). t ++ 0 ∷ []) (sym is)))
+    begins-by (p ∷ q ∷ r ∷ s ∷ []) (LongBoth part n.0) (p ∷ q ∷ r ∷ s ∷ 0 ∷ h ∷ l ∷ rest) (0 ∷ []) refl
+    ((omega arith, omega arith), n.1) octets (zeros-octets 1)
+    ((λ i. p ∷ q ∷ r ∷ s ∷ 0 ∷ ((long_of (len i) ++ part) ++ n.2 i))
+    ∙ ap (λ (t : List ℕ). p ∷ q ∷ r ∷ s ∷ 0 ∷ ((t ++ part) ++ x ∷ 0 ∷ [])) told
+    ∙ ap (λ (t : List ℕ). p ∷ q ∷ r ∷ s ∷ 0 ∷ h ∷ l ∷ t)
+    (sym (append_assoc part (x ∷ []) (0 ∷ [])) ∙ ap (λ (t : List ℕ). t ++ 0 ∷ []) (sym is)))
 long-goes p q r s h l lc rest some few told octets (beyond part (x ∷ y ∷ []) is len pos le) =
-    let n = long-some x y (left-octet p q r s h l lc 0 rest part (x ∷ y ∷ []) octets is len) (left-octet p q r s h l lc 1 rest part (x ∷ y ∷ []) octets is len) in
-    begins-by (p ∷ q ∷ r ∷ s ∷ []) (LongBoth part n.0) (p ∷ q ∷ r ∷ s ∷ 0 ∷ h ∷ l ∷ rest) [] refl ((omega arith, omega arith), n.1) octets (zeros-octets 0)
-    ((λ i. p ∷ q ∷ r ∷ s ∷ 0 ∷ ((long_of (len i) ++ part) ++ n.2 i)) ∙ ap (λ (t : List ℕ). p ∷ q ∷ r ∷ s ∷ 0 ∷ ((t ++ part) ++ x ∷ y ∷ [])) told
+    let n = long-some x y (left-octet p q r s h l lc 0 rest part (x ∷ y ∷ []) octets is len)
+    (left-octet p q r s h l lc 1 rest part (x ∷ y ∷ []) octets is len) in
+    begins-by (p ∷ q ∷ r ∷ s ∷ []) (LongBoth part n.0) (p ∷ q ∷ r ∷ s ∷ 0 ∷ h ∷ l ∷ rest) [] refl
+    ((omega arith, omega arith), n.1) octets (zeros-octets 0)
+    ((λ i. p ∷ q ∷ r ∷ s ∷ 0 ∷ ((long_of (len i) ++ part) ++ n.2 i))
+    ∙ ap (λ (t : List ℕ). p ∷ q ∷ r ∷ s ∷ 0 ∷ ((t ++ part) ++ x ∷ y ∷ [])) told
     ∙ ap (λ (t : List ℕ). p ∷ q ∷ r ∷ s ∷ 0 ∷ h ∷ l ∷ t) (sym is) ∙ sym (append-nil (p ∷ q ∷ r ∷ s ∷ 0 ∷ h ∷ l ∷ rest)))
 long-goes p q r s h l lc rest some few told octets (beyond part (x ∷ y ∷ z ∷ left) is len pos le) = absurd (omega arith)
 
@@ -154,18 +210,24 @@ long-goes p q r s h l lc rest some few told octets (beyond part (x ∷ y ∷ z �
 pub begins-unless : (b : List ℕ) → AreOctets b → (IsTrailing b → ⊥) → Begins IsCommand b
 begins-unless [] o t = begins-by (zeros 4) Empty [] (zeros 4) refl tt o (zeros-octets 4) refl
 begins-unless (p ∷ []) o t = begins-by (p ∷ zeros 3) Empty (p ∷ []) (zeros 3) refl tt o (zeros-octets 3) refl
-begins-unless (p ∷ q ∷ []) o t = begins-by (p ∷ q ∷ zeros 2) Empty (p ∷ q ∷ []) (zeros 2) refl tt o (zeros-octets 2) refl
-begins-unless (p ∷ q ∷ r ∷ []) o t = begins-by (p ∷ q ∷ r ∷ zeros 1) Empty (p ∷ q ∷ r ∷ []) (zeros 1) refl tt o (zeros-octets 1) refl
-begins-unless (p ∷ q ∷ r ∷ s ∷ []) o t = begins-by (p ∷ q ∷ r ∷ s ∷ []) Empty (p ∷ q ∷ r ∷ s ∷ []) [] refl tt o (zeros-octets 0) refl
+begins-unless (p ∷ q ∷ []) o t = begins-by (p ∷ q ∷ zeros 2) Empty (p ∷ q ∷ []) (zeros 2) refl tt o (zeros-octets 2)
+    refl
+begins-unless (p ∷ q ∷ r ∷ []) o t = begins-by (p ∷ q ∷ r ∷ zeros 1) Empty (p ∷ q ∷ r ∷ []) (zeros 1) refl tt o
+    (zeros-octets 1) refl
+begins-unless (p ∷ q ∷ r ∷ s ∷ []) o t = begins-by (p ∷ q ∷ r ∷ s ∷ []) Empty (p ∷ q ∷ r ∷ s ∷ []) [] refl tt o
+    (zeros-octets 0) refl
 begins-unless (p ∷ q ∷ r ∷ s ∷ x ∷ []) o t =
     let n = short-some x (o 4) in
-    begins-by (p ∷ q ∷ r ∷ s ∷ []) (ShortLe n.0) (p ∷ q ∷ r ∷ s ∷ x ∷ []) [] refl n.1 o (zeros-octets 0) (ap (λ (l : List ℕ). p ∷ q ∷ r ∷ s ∷ l) n.2)
+    begins-by (p ∷ q ∷ r ∷ s ∷ []) (ShortLe n.0) (p ∷ q ∷ r ∷ s ∷ x ∷ []) [] refl n.1 o (zeros-octets 0)
+    (ap (λ (l : List ℕ). p ∷ q ∷ r ∷ s ∷ l) n.2)
 begins-unless (p ∷ q ∷ r ∷ s ∷ zero ∷ y ∷ []) o t =
     let n = long-some y 0 (o 5) (omega arith) in
-    begins-by (p ∷ q ∷ r ∷ s ∷ []) (LongLe n.0) (p ∷ q ∷ r ∷ s ∷ 0 ∷ y ∷ []) (0 ∷ []) refl n.1 o (zeros-octets 1) (ap (λ (l : List ℕ). p ∷ q ∷ r ∷ s ∷ 0 ∷ l) n.2)
+    begins-by (p ∷ q ∷ r ∷ s ∷ []) (LongLe n.0) (p ∷ q ∷ r ∷ s ∷ 0 ∷ y ∷ []) (0 ∷ []) refl n.1 o (zeros-octets 1)
+    (ap (λ (l : List ℕ). p ∷ q ∷ r ∷ s ∷ 0 ∷ l) n.2)
 begins-unless (p ∷ q ∷ r ∷ s ∷ zero ∷ y ∷ z ∷ []) o t =
     let n = long-some y z (o 5) (o 6) in
-    begins-by (p ∷ q ∷ r ∷ s ∷ []) (LongLe n.0) (p ∷ q ∷ r ∷ s ∷ 0 ∷ y ∷ z ∷ []) [] refl n.1 o (zeros-octets 0) (ap (λ (l : List ℕ). p ∷ q ∷ r ∷ s ∷ 0 ∷ l) n.2)
+    begins-by (p ∷ q ∷ r ∷ s ∷ []) (LongLe n.0) (p ∷ q ∷ r ∷ s ∷ 0 ∷ y ∷ z ∷ []) [] refl n.1 o (zeros-octets 0)
+    (ap (λ (l : List ℕ). p ∷ q ∷ r ∷ s ∷ 0 ∷ l) n.2)
 begins-unless (p ∷ q ∷ r ∷ s ∷ zero ∷ y ∷ z ∷ u ∷ rest) o t =
     let py : y < 256 = o 5 in
     let pz : z < 256 = o 6 in
@@ -175,14 +237,16 @@ begins-unless (p ∷ q ∷ r ∷ s ∷ zero ∷ y ∷ z ∷ u ∷ rest) o t =
         | inr le ↦
             let high : (y * 256 + z) / 256 % 256 ≡ y = omega arith in
             let low : (y * 256 + z) % 256 ≡ z = omega arith in
-            long-goes p q r s y z (y * 256 + z) (u ∷ rest) lt (omega arith) (λ i. high i ∷ low i ∷ []) o (rest-of (y * 256 + z) 2 (u ∷ rest) (omega arith))
+            long-goes p q r s y z (y * 256 + z) (u ∷ rest) lt (omega arith) (λ i. high i ∷ low i ∷ []) o
+            (rest-of (y * 256 + z) 2 (u ∷ rest) (omega arith))
       ]
       | inr le ↦ absurd (t (inr (inl (refl, omega arith, omega arith))))
     ]
 begins-unless (p ∷ q ∷ r ∷ s ∷ suc x ∷ u ∷ rest) o t =
     elim (cases_lt (suc x + 6) (length (p ∷ q ∷ r ∷ s ∷ suc x ∷ u ∷ rest))) [
       | inl more ↦ absurd (t (inl (λ e. omega (arith, e), more)))
-      | inr le ↦ short-goes p q r s (suc x) (u ∷ rest) (omega arith) (let small : suc x < 256 = o 4 in omega arith) o (rest-of (suc x) 1 (u ∷ rest) (omega arith))
+      | inr le ↦ short-goes p q r s (suc x) (u ∷ rest) (omega arith) (let small : suc x < 256 = o 4 in omega arith) o
+          (rest-of (suc x) 1 (u ∷ rest) (omega arith))
     ]
 
 -- ---- responses
@@ -203,7 +267,15 @@ long-stuck b lt h =
 pub response-begins : (b : List ℕ) → AreOctets b → length b ≤ 65538 → Begins IsResponse b
 response-begins b octets le =
     elim (cases_lt (length b) 2) [
-      | inl lt ↦ (record { part = b; sw1 = 0; sw2 = 0 }, zeros 2, record { proper = record { part = omega arith }; octets = octets-append b (zeros 2) octets (zeros-octets 2); is = refl })
+      | inl lt ↦ (
+        record { part = b; sw1 = 0; sw2 = 0 },
+        zeros 2,
+        record {
+          proper = record { part = omega arith };
+          octets = octets-append b (zeros 2) octets (zeros-octets 2);
+          is = refl;
+        },
+      )
       | inr more ↦
           let part : List ℕ = take (length b - 2) b in
           let left : List ℕ = drop (length b - 2) b in

@@ -11,7 +11,7 @@ use Rattle.apdu_core.specs.declared.command.Body.{Body}
 use Rattle.apdu_core.specs.declared.command.Body.TheVariants.{Empty, ShortLe, ShortPart, ShortBoth, LongLe, LongPart, LongBoth}
 use Rattle.apdu_core.specs.Command.{CommandParts, IsCommand, IsReason, spelling}
 use Rattle.apdu_core.specs.Response as response
-use Rattle.apdu_core.specs.Response.{ResponseParts, IsResponse}
+use Rattle.apdu_core.specs.Response.{IsResponse}
 use Rattle.apdu_core.specs.Status.{IsOfClass}
 
 abbrev with : List ℕ → Body → CommandParts
@@ -31,31 +31,88 @@ aid = 0xA0 ∷ 0x00 ∷ 0x00 ∷ 0x00 ∷ 0x04 ∷ 0x10 ∷ 0x10 ∷ []
 
 -- case 1
 pub case_1 : Accepts whole IsCommand (0x00 ∷ 0xA4 ∷ 0x04 ∷ 0x00 ∷ []) (with select Empty) 4
-case_1 = (refl, record { proper = record { header = refl; fits = tt }; octets = octets_by (spelling (with select Empty)) refl; is = refl })
+case_1 = (
+  refl,
+  record {
+    proper = record { header = refl; fits = tt };
+    octets = octets_by (spelling (with select Empty)) refl;
+    is = refl;
+  },
+)
 
 -- case 2 short, Le 00
 pub case_2_short : Accepts whole IsCommand (0x00 ∷ 0xB0 ∷ 0x00 ∷ 0x00 ∷ 0x00 ∷ []) (with read (ShortLe 256)) 5
-case_2_short = (refl, record { proper = record { header = refl; fits = (omega arith, omega arith) }; octets = octets_by (spelling (with read (ShortLe 256))) refl; is = refl })
+case_2_short = (
+  refl,
+  record {
+    proper = record { header = refl; fits = (omega arith, omega arith) };
+    octets = octets_by (spelling (with read (ShortLe 256))) refl;
+    is = refl;
+  },
+)
 
 -- case 2 extended, Le 0000
-pub case_2_extended : Accepts whole IsCommand (0x00 ∷ 0xB0 ∷ 0x00 ∷ 0x00 ∷ 0x00 ∷ 0x00 ∷ 0x00 ∷ []) (with read (LongLe 65536)) 7
-case_2_extended = (refl, record { proper = record { header = refl; fits = (omega arith, omega arith) }; octets = octets_by (spelling (with read (LongLe 65536))) refl; is = refl })
+pub case_2_extended : Accepts whole IsCommand (0x00 ∷ 0xB0 ∷ 0x00 ∷ 0x00 ∷ 0x00 ∷ 0x00 ∷ 0x00 ∷ [])
+    (with read (LongLe 65536)) 7
+case_2_extended = (
+  refl,
+  record {
+    proper = record { header = refl; fits = (omega arith, omega arith) };
+    octets = octets_by (spelling (with read (LongLe 65536))) refl;
+    is = refl;
+  },
+)
 
 -- case 4 short
-pub case_4_short : Accepts whole IsCommand (0x00 ∷ 0xA4 ∷ 0x04 ∷ 0x00 ∷ 0x07 ∷ 0xA0 ∷ 0x00 ∷ 0x00 ∷ 0x00 ∷ 0x04 ∷ 0x10 ∷ 0x10 ∷ 0x00 ∷ []) (with select (ShortBoth aid 256)) 13
-case_4_short = (refl, record { proper = record { header = refl; fits = ((omega arith, omega arith), (omega arith, omega arith)) }; octets = octets_by (spelling (with select (ShortBoth aid 256))) refl; is = refl })
+pub case_4_short : Accepts whole IsCommand
+    (0x00 ∷ 0xA4 ∷ 0x04 ∷ 0x00 ∷ 0x07 ∷ 0xA0 ∷ 0x00 ∷ 0x00 ∷ 0x00 ∷ 0x04 ∷ 0x10 ∷ 0x10 ∷ 0x00 ∷ [])
+    (with select (ShortBoth aid 256)) 13
+case_4_short = (
+  refl,
+  record {
+    proper = record { header = refl; fits = ((omega arith, omega arith), (omega arith, omega arith)) };
+    octets = octets_by (spelling (with select (ShortBoth aid 256))) refl;
+    is = refl;
+  },
+)
 
 -- case 3 short
-pub case_3_short : Accepts whole IsCommand (0x00 ∷ 0xA4 ∷ 0x04 ∷ 0x00 ∷ 0x08 ∷ 0xA0 ∷ 0x00 ∷ 0x00 ∷ 0x00 ∷ 0x04 ∷ 0x10 ∷ 0x10 ∷ 0x00 ∷ []) (with select (ShortPart (aid ++ 0 ∷ []))) 13
-case_3_short = (refl, record { proper = record { header = refl; fits = (omega arith, omega arith) }; octets = octets_by (spelling (with select (ShortPart (aid ++ 0 ∷ [])))) refl; is = refl })
+pub case_3_short : Accepts whole IsCommand
+    (0x00 ∷ 0xA4 ∷ 0x04 ∷ 0x00 ∷ 0x08 ∷ 0xA0 ∷ 0x00 ∷ 0x00 ∷ 0x00 ∷ 0x04 ∷ 0x10 ∷ 0x10 ∷ 0x00 ∷ [])
+    (with select (ShortPart (aid ++ 0 ∷ []))) 13
+case_3_short = (
+  refl,
+  record {
+    proper = record { header = refl; fits = (omega arith, omega arith) };
+    octets = octets_by (spelling (with select (ShortPart (aid ++ 0 ∷ [])))) refl;
+    is = refl;
+  },
+)
 
 -- case 3 extended
-pub case_3_extended : Accepts whole IsCommand (0x00 ∷ 0xD6 ∷ 0x00 ∷ 0x00 ∷ 0x00 ∷ 0x00 ∷ 0x02 ∷ 0x01 ∷ 0x02 ∷ []) (with update (LongPart (1 ∷ 2 ∷ []))) 9
-case_3_extended = (refl, record { proper = record { header = refl; fits = (omega arith, omega arith) }; octets = octets_by (spelling (with update (LongPart (1 ∷ 2 ∷ [])))) refl; is = refl })
+pub case_3_extended : Accepts whole IsCommand (0x00 ∷ 0xD6 ∷ 0x00 ∷ 0x00 ∷ 0x00 ∷ 0x00 ∷ 0x02 ∷ 0x01 ∷ 0x02 ∷ [])
+    (with update (LongPart (1 ∷ 2 ∷ []))) 9
+case_3_extended = (
+  refl,
+  record {
+    proper = record { header = refl; fits = (omega arith, omega arith) };
+    octets = octets_by (spelling (with update (LongPart (1 ∷ 2 ∷ [])))) refl;
+    is = refl;
+  },
+)
 
 -- case 4 extended
-pub case_4_extended : Accepts whole IsCommand (0x00 ∷ 0xD6 ∷ 0x00 ∷ 0x00 ∷ 0x00 ∷ 0x00 ∷ 0x02 ∷ 0x01 ∷ 0x02 ∷ 0x00 ∷ 0x00 ∷ []) (with update (LongBoth (1 ∷ 2 ∷ []) 65536)) 11
-case_4_extended = (refl, record { proper = record { header = refl; fits = ((omega arith, omega arith), (omega arith, omega arith)) }; octets = octets_by (spelling (with update (LongBoth (1 ∷ 2 ∷ []) 65536))) refl; is = refl })
+pub case_4_extended : Accepts whole IsCommand
+    (0x00 ∷ 0xD6 ∷ 0x00 ∷ 0x00 ∷ 0x00 ∷ 0x00 ∷ 0x02 ∷ 0x01 ∷ 0x02 ∷ 0x00 ∷ 0x00 ∷ [])
+    (with update (LongBoth (1 ∷ 2 ∷ []) 65536)) 11
+case_4_extended = (
+  refl,
+  record {
+    proper = record { header = refl; fits = ((omega arith, omega arith), (omega arith, omega arith)) };
+    octets = octets_by (spelling (with update (LongBoth (1 ∷ 2 ∷ []) 65536))) refl;
+    is = refl;
+  },
+)
 
 -- an octet after an extended Le, at place 7
 pub after_long_le : IsReason Trailing (0x00 ∷ 0xB0 ∷ 0x00 ∷ 0x00 ∷ 0x00 ∷ 0x00 ∷ 0x00 ∷ 0x00 ∷ [])
@@ -63,12 +120,14 @@ unfolding IsFirst
 after_long_le = inl (inr (inl (refl, refl, omega arith)), refl)
 
 -- an octet after a short Le, at place 13
-pub after_short_both : IsReason Trailing (0x00 ∷ 0xA4 ∷ 0x04 ∷ 0x00 ∷ 0x07 ∷ 0xA0 ∷ 0x00 ∷ 0x00 ∷ 0x00 ∷ 0x04 ∷ 0x10 ∷ 0x10 ∷ 0x00 ∷ 0x00 ∷ [])
+pub after_short_both : IsReason Trailing
+    (0x00 ∷ 0xA4 ∷ 0x04 ∷ 0x00 ∷ 0x07 ∷ 0xA0 ∷ 0x00 ∷ 0x00 ∷ 0x00 ∷ 0x04 ∷ 0x10 ∷ 0x10 ∷ 0x00 ∷ 0x00 ∷ [])
 unfolding IsFirst
 after_short_both = inl (inl (λ e. omega (arith, e), omega arith), refl)
 
 -- an octet after an extended Lc, its data and Le, at place 11
-pub after_long_both : IsReason Trailing (0x00 ∷ 0xD6 ∷ 0x00 ∷ 0x00 ∷ 0x00 ∷ 0x00 ∷ 0x02 ∷ 0x01 ∷ 0x02 ∷ 0x00 ∷ 0x00 ∷ 0x00 ∷ [])
+pub after_long_both : IsReason Trailing
+    (0x00 ∷ 0xD6 ∷ 0x00 ∷ 0x00 ∷ 0x00 ∷ 0x00 ∷ 0x02 ∷ 0x01 ∷ 0x02 ∷ 0x00 ∷ 0x00 ∷ 0x00 ∷ [])
 unfolding IsFirst
 after_long_both = inl (inr (inr (refl, λ e. omega (arith, e), omega arith)), refl)
 
@@ -108,8 +167,11 @@ class-7000 = inr (inl (omega arith, omega arith))
 
 -- ---- commands in chains
 
-pub select-chained : chain.spelling Zero (cut_of 2 (spelling (with select (ShortLe 256)))) ≡ 0x00 ∷ 0x20 ∷ 0x02 ∷ 0x00 ∷ 0xA4 ∷ 0x86 ∷ 0x00 ∷ 0x60 ∷ 0x02 ∷ 0x04 ∷ 0x00 ∷ 0x66 ∷ 0x00 ∷ 0x00 ∷ 0x01 ∷ 0x00 ∷ 0x01 ∷ []
+pub select-chained : chain.spelling Zero (cut_of 2 (spelling (with select (ShortLe 256))))
+    ≡ 0x00 ∷ 0x20 ∷ 0x02 ∷ 0x00 ∷ 0xA4 ∷ 0x86 ∷ 0x00 ∷ 0x60 ∷ 0x02 ∷ 0x04 ∷ 0x00 ∷ 0x66 ∷ 0x00 ∷ 0x00 ∷ 0x01 ∷ 0x00 ∷
+    0x01 ∷ []
 select-chained = refl
 
-pub done-chained : chain.spelling Zero (cut_of 254 (response.spelling (record { part = []; sw1 = 0x90; sw2 = 0x00 }))) ≡ 0x00 ∷ 0x00 ∷ 0x02 ∷ 0x90 ∷ 0x00 ∷ 0x92 ∷ []
+pub done-chained : chain.spelling Zero (cut_of 254 (response.spelling (record { part = []; sw1 = 0x90; sw2 = 0x00 })))
+    ≡ 0x00 ∷ 0x00 ∷ 0x02 ∷ 0x90 ∷ 0x00 ∷ 0x92 ∷ []
 done-chained = refl

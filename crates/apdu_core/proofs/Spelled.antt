@@ -21,14 +21,18 @@ octets-body : (body : Body) → FitsFields body → AreOctets (part_of body) →
 octets-body Empty h p = octets-nil
 octets-body (ShortLe le) h p = octets-short le
 octets-body (ShortPart part) h p = octets-cons (length part) part (omega (arith, h.1)) p
-octets-body (ShortBoth part le) h p = octets-cons (length part) (part ++ short_of le) (omega (arith, h.0.1)) (octets-append part (short_of le) p (octets-short le))
+octets-body (ShortBoth part le) h p = octets-cons (length part) (part ++ short_of le) (omega (arith, h.0.1))
+    (octets-append part (short_of le) p (octets-short le))
 octets-body (LongLe le) h p = octets-cons 0 (long_of le) (omega arith) (octets-long le)
-octets-body (LongPart part) h p = octets-cons 0 (long_of (length part) ++ part) (omega arith) (octets-append (long_of (length part)) part (octets-long (length part)) p)
+octets-body (LongPart part) h p = octets-cons 0 (long_of (length part) ++ part) (omega arith)
+    (octets-append (long_of (length part)) part (octets-long (length part)) p)
 octets-body (LongBoth part le) h p =
     octets-cons 0 (long_of (length part) ++ part ++ long_of le) (omega arith)
-    (octets-append (long_of (length part) ++ part) (long_of le) (octets-append (long_of (length part)) part (octets-long (length part)) p) (octets-long le))
+    (octets-append (long_of (length part) ++ part) (long_of le)
+    (octets-append (long_of (length part)) part (octets-long (length part)) p) (octets-long le))
 
-pub command-spelled : (header : List ℕ) (body : Body) → length header ≡ 4 → AreOctets header → FitsFields body → AreOctets (part_of body) → command.HasSpelling (record { header = header; body = body })
+pub command-spelled : (header : List ℕ) (body : Body) → length header ≡ 4 → AreOctets header → FitsFields body
+    → AreOctets (part_of body) → command.HasSpelling (record { header = header; body = body })
 command-spelled header body four octets fits part = (
   header ++ body_octets body,
   record {
@@ -38,12 +42,14 @@ command-spelled header body four octets fits part = (
   },
 )
 
-pub response-spelled : (part : List ℕ) (sw1 sw2 : ℕ) → length part ≤ 65536 → AreOctets part → sw1 < 256 → sw2 < 256 → response.HasSpelling (record { part = part; sw1 = sw1; sw2 = sw2 })
+pub response-spelled : (part : List ℕ) (sw1 sw2 : ℕ) → length part ≤ 65536 → AreOctets part → sw1 < 256 → sw2 < 256
+    → response.HasSpelling (record { part = part; sw1 = sw1; sw2 = sw2 })
 response-spelled part sw1 sw2 fits octets first second = (
   part ++ sw1 ∷ sw2 ∷ [],
   record {
     proper = record { part = fits };
-    octets = octets-append part (sw1 ∷ sw2 ∷ []) octets (octets-cons sw1 (sw2 ∷ []) first (octets-cons sw2 [] second octets-nil));
+    octets = octets-append part (sw1 ∷ sw2 ∷ []) octets
+        (octets-cons sw1 (sw2 ∷ []) first (octets-cons sw2 [] second octets-nil));
     is = refl;
   },
 )

@@ -21,10 +21,16 @@ le_of most (suc n) = suc n
 
 -- what follows an Lc
 short_with : ℕ → List ℕ → Body
-short_with lc rest = if length rest == lc then ShortPart rest else ShortBoth (take lc rest) (le_of 256 (slice_index rest lc))
+short_with lc rest =
+    if length rest == lc
+    then ShortPart rest
+    else ShortBoth (take lc rest) (le_of 256 (slice_index rest lc))
 
 long_with : ℕ → List ℕ → Body
-long_with lc rest = if length rest == lc then LongPart rest else LongBoth (take lc rest) (le_of 65536 (slice_index rest lc * 256 + slice_index rest (lc + 1)))
+long_with lc rest =
+    if length rest == lc
+    then LongPart rest
+    else LongBoth (take lc rest) (le_of 65536 (slice_index rest lc * 256 + slice_index rest (lc + 1)))
 
 pub read_body : List ℕ → Body
 read_body [] = Empty
@@ -57,7 +63,8 @@ short-back : (n : ℕ) → IsCount n 256 → le_of 256 (n % 256) ≡ n
 short-back n h = le_of-back 256 (n % 256) n h.0 h.1 (λ lt. omega (arith, lt)) (λ ge. omega (arith, ge, h.1))
 
 long-back : (n : ℕ) → IsCount n 65536 → le_of 65536 (n / 256 % 256 * 256 + n % 256) ≡ n
-long-back n h = le_of-back 65536 (n / 256 % 256 * 256 + n % 256) n h.0 h.1 (λ lt. omega (arith, lt)) (λ ge. omega (arith, ge, h.1))
+long-back n h = le_of-back 65536 (n / 256 % 256 * 256 + n % 256) n h.0 h.1 (λ lt. omega (arith, lt))
+    (λ ge. omega (arith, ge, h.1))
 
 pub long-same : (n : ℕ) → n ≤ 65535 → n / 256 % 256 * 256 + n % 256 ≡ n
 long-same n le = omega arith
@@ -70,31 +77,44 @@ if-other a b x y e = ap (λ t. cond t x y) (ne_eqb a b e)
 
 short_with-part : (lc : ℕ) (part : List ℕ) → length part ≡ lc → short_with lc part ≡ ShortPart part
 unfolding short_with
-short_with-part lc part e = if-same (length part) lc (ShortPart part) (ShortBoth (take lc part) (le_of 256 (slice_index part lc))) e
+short_with-part lc part e = if-same (length part) lc (ShortPart part)
+    (ShortBoth (take lc part) (le_of 256 (slice_index part lc))) e
 
 long_with-part : (lc : ℕ) (part : List ℕ) → length part ≡ lc → long_with lc part ≡ LongPart part
 unfolding long_with
-long_with-part lc part e = if-same (length part) lc (LongPart part) (LongBoth (take lc part) (le_of 65536 (slice_index part lc * 256 + slice_index part (lc + 1)))) e
+long_with-part lc part e = if-same (length part) lc (LongPart part)
+    (LongBoth (take lc part) (le_of 65536 (slice_index part lc * 256 + slice_index part (lc + 1)))) e
 
-short_with-both : (part : List ℕ) (le : ℕ) → IsCount le 256 → short_with (length part) (part ++ short_of le) ≡ ShortBoth part le
+short_with-both : (part : List ℕ) (le : ℕ) → IsCount le 256
+    → short_with (length part) (part ++ short_of le) ≡ ShortBoth part le
 unfolding short_with
 short_with-both part le h =
     let rest : List ℕ = part ++ short_of le in
-    let at : slice_index rest (length part) ≡ le % 256 = get_or-append_right part (short_of le) (length part) 0 (omega arith) ∙ ap (λ (k : ℕ). get_or (short_of le) k 0) (zero_sub (length part)) in
+    let at : slice_index rest (length part) ≡ le % 256 =
+    get_or-append_right part (short_of le) (length part) 0 (omega arith)
+    ∙ ap (λ (k : ℕ). get_or (short_of le) k 0) (zero_sub (length part)) in
     let number : le_of 256 (slice_index rest (length part)) ≡ le = ap (le_of 256) at ∙ short-back le h in
     let front : take (length part) rest ≡ part = take-append_seam part (short_of le) in
-    if-other (length rest) (length part) (ShortPart rest) (ShortBoth (take (length part) rest) (le_of 256 (slice_index rest (length part)))) (λ e. omega (arith, e, length-append part (short_of le)))
+    if-other (length rest) (length part) (ShortPart rest)
+    (ShortBoth (take (length part) rest) (le_of 256 (slice_index rest (length part))))
+    (λ e. omega (arith, e, length-append part (short_of le)))
     ∙ (λ i. ShortBoth (front i) (number i))
 
-long_with-both : (lc : ℕ) (part : List ℕ) (le : ℕ) → lc ≡ length part → IsCount le 65536 → long_with lc (part ++ long_of le) ≡ LongBoth part le
+long_with-both : (lc : ℕ) (part : List ℕ) (le : ℕ) → lc ≡ length part → IsCount le 65536
+    → long_with lc (part ++ long_of le) ≡ LongBoth part le
 unfolding long_with
 long_with-both lc part le is h =
     let rest : List ℕ = part ++ long_of le in
-    let high : slice_index rest lc ≡ le / 256 % 256 = get_or-append_right part (long_of le) lc 0 (omega arith) ∙ ap (λ (k : ℕ). get_or (long_of le) k 0) (below_sub lc (length part) 0 (omega arith)) in
-    let low : slice_index rest (lc + 1) ≡ le % 256 = get_or-append_right part (long_of le) (lc + 1) 0 (omega arith) ∙ ap (λ (k : ℕ). get_or (long_of le) k 0) (below_sub (lc + 1) (length part) 1 (omega arith)) in
-    let number : le_of 65536 (slice_index rest lc * 256 + slice_index rest (lc + 1)) ≡ le = (λ i. le_of 65536 (high i * 256 + low i)) ∙ long-back le h in
+    let high : slice_index rest lc ≡ le / 256 % 256 = get_or-append_right part (long_of le) lc 0 (omega arith)
+    ∙ ap (λ (k : ℕ). get_or (long_of le) k 0) (below_sub lc (length part) 0 (omega arith)) in
+    let low : slice_index rest (lc + 1) ≡ le % 256 = get_or-append_right part (long_of le) (lc + 1) 0 (omega arith)
+    ∙ ap (λ (k : ℕ). get_or (long_of le) k 0) (below_sub (lc + 1) (length part) 1 (omega arith)) in
+    let number : le_of 65536 (slice_index rest lc * 256 + slice_index rest (lc + 1)) ≡ le =
+    (λ i. le_of 65536 (high i * 256 + low i)) ∙ long-back le h in
     let front : take lc rest ≡ part = ap (λ (k : ℕ). take k rest) is ∙ take-append_seam part (long_of le) in
-    if-other (length rest) lc (LongPart rest) (LongBoth (take lc rest) (le_of 65536 (slice_index rest lc * 256 + slice_index rest (lc + 1)))) (λ e. omega (arith, e, is, length-append part (long_of le)))
+    if-other (length rest) lc (LongPart rest)
+    (LongBoth (take lc rest) (le_of 65536 (slice_index rest lc * 256 + slice_index rest (lc + 1))))
+    (λ e. omega (arith, e, is, length-append part (long_of le)))
     ∙ (λ i. LongBoth (front i) (number i))
 
 pub read-back : (body : Body) → FitsFields body → read_body (body_octets body) ≡ body
@@ -107,15 +127,19 @@ read-back (ShortBoth [] le) h = absurd (omega (arith, h.0.0))
 read-back (ShortBoth (x ∷ part) le) h = short_with-both (x ∷ part) le h.1
 read-back (LongLe le) h = ap LongLe (long-back le h)
 read-back (LongPart []) h = absurd (omega (arith, h.0))
-read-back (LongPart (x ∷ part)) h = long_with-part (length (x ∷ part) / 256 % 256 * 256 + length (x ∷ part) % 256) (x ∷ part) (sym (long-same (length (x ∷ part)) h.1))
+read-back (LongPart (x ∷ part)) h = long_with-part (length (x ∷ part) / 256 % 256 * 256 + length (x ∷ part) % 256)
+    (x ∷ part) (sym (long-same (length (x ∷ part)) h.1))
 read-back (LongBoth [] le) h = absurd (omega (arith, h.0.0))
-read-back (LongBoth (x ∷ part) le) h = long_with-both (length (x ∷ part) / 256 % 256 * 256 + length (x ∷ part) % 256) (x ∷ part) le (long-same (length (x ∷ part)) h.0.1) h.1
+read-back (LongBoth (x ∷ part) le) h = long_with-both (length (x ∷ part) / 256 % 256 * 256 + length (x ∷ part) % 256)
+    (x ∷ part) le (long-same (length (x ∷ part)) h.0.1) h.1
 
 -- no octets spell two commands
 pub one-command : (v w : CommandParts) (b : List ℕ) → IsCommand v b → IsCommand w b → v ≡ w
 one-command v w b p q =
-    let h = split_same v.header w.header (body_octets v.body) (body_octets w.body) (p.proper.header ∙ sym q.proper.header) (sym p.is ∙ q.is) in
-    let bodies : v.body ≡ w.body = sym (read-back v.body p.proper.fits) ∙ ap read_body h.1 ∙ read-back w.body q.proper.fits in
+    let h = split_same v.header w.header (body_octets v.body) (body_octets w.body)
+    (p.proper.header ∙ sym q.proper.header) (sym p.is ∙ q.is) in
+    let bodies : v.body ≡ w.body = sym (read-back v.body p.proper.fits) ∙ ap read_body h.1
+    ∙ read-back w.body q.proper.fits in
     λ i. record { header = h.0 i; body = bodies i }
 
 -- ---- responses
@@ -124,7 +148,12 @@ one-command v w b p q =
 pub one-response : (v w : ResponseParts) (b : List ℕ) → IsResponse v b → IsResponse w b → v ≡ w
 one-response v w b p q =
     let same : v.part ++ v.sw1 ∷ v.sw2 ∷ [] ≡ w.part ++ w.sw1 ∷ w.sw2 ∷ [] = sym p.is ∙ q.is in
-    let len : length v.part ≡ length w.part = omega (arith, ap length same, length-append v.part (v.sw1 ∷ v.sw2 ∷ []), length-append w.part (w.sw1 ∷ w.sw2 ∷ [])) in
+    let len : length v.part ≡ length w.part = omega (
+      arith,
+      ap length same,
+      length-append v.part (v.sw1 ∷ v.sw2 ∷ []),
+      length-append w.part (w.sw1 ∷ w.sw2 ∷ []),
+    ) in
     let h = split_same v.part w.part (v.sw1 ∷ v.sw2 ∷ []) (w.sw1 ∷ w.sw2 ∷ []) len same in
     let first : v.sw1 ≡ w.sw1 = head_is v.sw1 w.sw1 (v.sw2 ∷ []) (w.sw2 ∷ []) h.1 in
     let second : v.sw2 ≡ w.sw2 = head_is v.sw2 w.sw2 [] [] (tail_is v.sw1 w.sw1 (v.sw2 ∷ []) (w.sw2 ∷ []) h.1) in

@@ -25,5 +25,6 @@ send_fault_text (send.Write written) = codes "Write after " ++ (decimal written 
 abbrev pub receive_fault_text : {R : Type 0} → (R → Option (List ℕ)) → ReceiveFault R → Option (List ℕ)
 receive_fault_text output receive.Memory = Some (codes "memory")
 receive_fault_text output (receive.Read taken) = Some (codes "Read after " ++ (decimal taken ++ codes " octets"))
-receive_fault_text output (receive.Chain stop) = Some (codes "Chain: ") ++? stop_text (λ reason. Some (reason_name reason)) stop
+receive_fault_text output (receive.Chain stop) =
+    Some (codes "Chain: ") ++? stop_text (λ reason. Some (reason_name reason)) stop
 receive_fault_text output (receive.Apdu stop) = Some (codes "Apdu: ") ++? stop_text output stop

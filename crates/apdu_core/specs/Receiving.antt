@@ -1,4 +1,5 @@
--- What a call that receives an APDU as a chain answers, and what it leaves: remaining tells what a reader still holds, where it is known, failures how many of its calls failed.
+-- What a call that receives an APDU as a chain answers, and what it leaves: remaining tells what a reader still holds,
+-- where it is known, failures how many of its calls failed.
 use Rattle.std.specs.Prelude.{◌≡◌, ◌⊎◌, ℕ, List, length, Option, Some, Result, Ok, Err}
 use Rattle.std.specs.Io.KnownBytes.{Consumes, IsAtEnd}
 use Rattle.octet_core.specs.Failures.{HasFailed, next_count}
@@ -17,7 +18,8 @@ use Rattle.octet_core.specs.declared.stop.Refused.TheVariants as refusal
 use Rattle.apdu_core.specs.declared.receiving.ReceiveFault.{ReceiveFault}
 use Rattle.apdu_core.specs.declared.receiving.ReceiveFault.TheVariants.{Memory, Read, Chain, Apdu}
 
-module _ {Reader : Type 0} (limit ifs : ℕ) (number : Number) (remaining : Reader → Option (List ℕ)) (failures : Reader → ℕ) (old new : Reader) where
+module _ {Reader : Type 0} (limit ifs : ℕ) (number : Number) (remaining : Reader → Option (List ℕ))
+    (failures : Reader → ℕ) (old new : Reader) where
   -- a whole chain of these fields was read, and no more
   pub record ReadsWhole (fields : List (List ℕ)) : Type 0 where
     pub read : List ℕ
@@ -48,23 +50,32 @@ module _ {Reader : Type 0} (limit ifs : ℕ) (number : Number) (remaining : Read
     pub none_failed : failures new ≡ failures old
 
 -- a chain was read whose message spells v
-pub record IsReceived {V Reader : Type 0} (S : V → List ℕ → Type 0) (limit ifs : ℕ) (number : Number) (remaining : Reader → Option (List ℕ)) (failures : Reader → ℕ) (old new : Reader) (v : V) : Type 0 where
+pub record IsReceived {V Reader : Type 0} (S : V → List ℕ → Type 0) (limit ifs : ℕ) (number : Number)
+    (remaining : Reader → Option (List ℕ)) (failures : Reader → ℕ) (old new : Reader) (v : V) : Type 0 where
   pub fields : List (List ℕ)
   pub all : ReadsWhole limit ifs number remaining failures old new fields
   pub value : Accepts whole S (message_of fields) v (length (message_of fields))
 
 -- a chain was read whose message is refused
-pub record IsNoApdu {V R Reader : Type 0} (S : V → List ℕ → Type 0) (Reason : R → List ℕ → Type 0) (limit ifs : ℕ) (number : Number) (remaining : Reader → Option (List ℕ)) (failures : Reader → ℕ) (old new : Reader) (stop : Stop R) : Type 0 where
+pub record IsNoApdu {V R Reader : Type 0} (S : V → List ℕ → Type 0) (Reason : R → List ℕ → Type 0) (limit ifs : ℕ)
+    (number : Number) (remaining : Reader → Option (List ℕ)) (failures : Reader → ℕ) (old new : Reader) (stop : Stop R)
+    : Type 0 where
   pub fields : List (List ℕ)
   pub all : ReadsWhole limit ifs number remaining failures old new fields
   pub refused : Refuses whole S Reason (message_of fields) stop
 
 -- what each fault leaves; where memory was refused nothing was read, or a chain whose message spells something
-abbrev pub IsReceiveFault : {V R Reader : Type 0} (S : V → List ℕ → Type 0) (Reason : R → List ℕ → Type 0) (limit ifs : ℕ) (number : Number) (remaining : Reader → Option (List ℕ)) (failures : Reader → ℕ) (old new : Reader) → ReceiveFault R → Type 0
-IsReceiveFault {V} S Reason limit ifs number remaining failures old new Memory = (new ≡ old) ⊎ ((v : V) × IsReceived S limit ifs number remaining failures old new v)
-IsReceiveFault S Reason limit ifs number remaining failures old new (Read taken) = BreaksOff limit ifs number remaining failures old new taken
-IsReceiveFault S Reason limit ifs number remaining failures old new (Chain stop) = IsNoChain limit ifs number remaining failures old new stop
-IsReceiveFault S Reason limit ifs number remaining failures old new (Apdu stop) = IsNoApdu S Reason limit ifs number remaining failures old new stop
+abbrev pub IsReceiveFault : {V R Reader : Type 0} (S : V → List ℕ → Type 0) (Reason : R → List ℕ → Type 0)
+    (limit ifs : ℕ) (number : Number) (remaining : Reader → Option (List ℕ)) (failures : Reader → ℕ) (old new : Reader)
+    → ReceiveFault R → Type 0
+IsReceiveFault {V} S Reason limit ifs number remaining failures old new Memory =
+    (new ≡ old) ⊎ ((v : V) × IsReceived S limit ifs number remaining failures old new v)
+IsReceiveFault S Reason limit ifs number remaining failures old new (Read taken) =
+    BreaksOff limit ifs number remaining failures old new taken
+IsReceiveFault S Reason limit ifs number remaining failures old new (Chain stop) =
+    IsNoChain limit ifs number remaining failures old new stop
+IsReceiveFault S Reason limit ifs number remaining failures old new (Apdu stop) =
+    IsNoApdu S Reason limit ifs number remaining failures old new stop
 
 -- the fault that a refusal of read_chain becomes
 abbrev pub fault_of_chain : {R : Type 0} → ReadRefusal → ReceiveFault R
@@ -76,7 +87,8 @@ abbrev pub fault_of_apdu : {R : Type 0} → Refused R → ReceiveFault R
 fault_of_apdu (refusal.Stop stop) = Apdu stop
 fault_of_apdu refusal.Memory = Memory
 
--- What can come where the reader held a chain whose message spells v and then more octets: v, with those octets left; or a growth of memory or a call of the reader failed.
+-- What can come where the reader held a chain whose message spells v and then more octets: v, with those octets left;
+-- or a growth of memory or a call of the reader failed.
 abbrev pub ArrivesUnlessFault : {V R : Type 0} → V → List ℕ → Option (List ℕ) → Result V (ReceiveFault R) → Type 0
 ArrivesUnlessFault v more left (Ok w) = (w ≡ v) × (left ≡ Some more)
 ArrivesUnlessFault v more left (Err Memory) = Unit {0}

@@ -1,4 +1,5 @@
--- What a call that sends an APDU as a chain leaves: contents tells what a writer holds, where it is known, failures how many of its calls failed.
+-- What a call that sends an APDU as a chain leaves: contents tells what a writer holds, where it is known, failures how
+-- many of its calls failed.
 use Rattle.std.specs.Prelude.{◌≡◌, ℕ, ◌<◌, List, length, take, Option}
 use Rattle.std.specs.Io.KnownBytes.{Appends}
 use Rattle.octet_core.specs.Failures.{HasFailed, next_count}
@@ -13,14 +14,16 @@ abbrev pub chain_of : ℕ → Number → List ℕ → List ℕ
 chain_of ifs number octets = spelling number (cut_of ifs octets)
 
 -- the octets that spell v were written, as a chain
-pub record IsSent {V W : Type 0} (S : V → List ℕ → Type 0) (v : V) (ifs : ℕ) (number : Number) (contents : W → Option (List ℕ)) (failures : W → ℕ) (old new : W) : Type 0 where
+pub record IsSent {V W : Type 0} (S : V → List ℕ → Type 0) (v : V) (ifs : ℕ) (number : Number)
+    (contents : W → Option (List ℕ)) (failures : W → ℕ) (old new : W) : Type 0 where
   pub octets : List ℕ
   pub spelled : S v octets
   pub all : Appends (contents old) (contents new) (chain_of ifs number octets)
   pub none_failed : failures new ≡ failures old
 
 -- of that chain only so many octets were written, and then just one call of the writer failed
-pub record IsCutShort {V W : Type 0} (S : V → List ℕ → Type 0) (v : V) (ifs : ℕ) (number : Number) (contents : W → Option (List ℕ)) (failures : W → ℕ) (old new : W) (written : ℕ) : Type 0 where
+pub record IsCutShort {V W : Type 0} (S : V → List ℕ → Type 0) (v : V) (ifs : ℕ) (number : Number)
+    (contents : W → Option (List ℕ)) (failures : W → ℕ) (old new : W) (written : ℕ) : Type 0 where
   pub octets : List ℕ
   pub spelled : S v octets
   pub fewer : written < length (chain_of ifs number octets)
@@ -29,6 +32,8 @@ pub record IsCutShort {V W : Type 0} (S : V → List ℕ → Type 0) (v : V) (if
   pub failed_once : failures new ≡ next_count (failures old)
 
 -- what each fault leaves
-abbrev pub IsSendFault : {V W : Type 0} (S : V → List ℕ → Type 0) (v : V) (ifs : ℕ) (number : Number) (contents : W → Option (List ℕ)) (failures : W → ℕ) (old new : W) → SendFault → Type 0
+abbrev pub IsSendFault : {V W : Type 0} (S : V → List ℕ → Type 0) (v : V) (ifs : ℕ) (number : Number)
+    (contents : W → Option (List ℕ)) (failures : W → ℕ) (old new : W) → SendFault → Type 0
 IsSendFault S v ifs number contents failures old new Memory = new ≡ old
-IsSendFault S v ifs number contents failures old new (Write written) = IsCutShort S v ifs number contents failures old new written
+IsSendFault S v ifs number contents failures old new (Write written) =
+    IsCutShort S v ifs number contents failures old new written

@@ -7,7 +7,8 @@ use Rattle.apdu_core.specs.declared.status.StatusClass.TheVariants.{Normal, Warn
 abbrev pub IsWithin : ℕ → ℕ → ℕ → Type 0
 IsWithin least most x = (least ≤ x) × (x ≤ most)
 
--- what the status bytes tell: 90XX but 9000 and 91XX to 9FXX are left to the card, and what no card may answer is invalid
+-- what the status bytes tell: 90XX but 9000 and 91XX to 9FXX are left to the card, and what no card may answer is
+-- invalid
 abbrev pub IsOfClass : StatusClass → ℕ → ℕ → Type 0
 IsOfClass Normal sw1 sw2 = ((sw1 ≡ 0x90) × (sw2 ≡ 0)) ⊎ (sw1 ≡ 0x61)
 IsOfClass Warning sw1 sw2 = IsWithin 0x62 0x63 sw1

@@ -53,7 +53,8 @@ impl<'a> CommandRef<'a> {
     /// Octets with which a command could still go on are `Short` at their end. Else the first octet after
     /// the last that the length fields allow is refused, as `Trailing`.
     pub fn decode(octets: &'a [u8]) -> Result<CommandRef<'a>, Stop<CommandReason>>
-        ensures found { IfOk result (λ c. Accepts whole IsCommand octets.now c (length octets.now)) }
+        ensures found { IfOk result
+            (λ c. Accepts whole IsCommand octets.now c (length octets.now)) }
         ensures part { IfOk result (λ c. IsPlaced c.body octets.now) }
         ensures refused { IfErr result (Refuses whole IsCommand IsReason octets.now) }
     {

@@ -23,8 +23,10 @@ use std::alloc::Global;
 /// for the copy was refused; the octets are then a command.
 pub fn decode_command(alloc: Global, octets: &[u8]) -> Result<Command, Refused<CommandReason>>
     ensures found { IfOk result (λ c. Accepts whole IsCommand octets.now c (length octets.now)) }
-    ensures refused { IfErr result (RefusesUnlessMemory whole IsCommand command.IsReason octets.now) }
-    ensures memory { result ≡ Err refusal.Memory → (c : CommandParts) × Accepts whole IsCommand octets.now c (length octets.now) }
+    ensures refused { IfErr result
+        (RefusesUnlessMemory whole IsCommand command.IsReason octets.now) }
+    ensures memory { result ≡ Err refusal.Memory
+        → (c : CommandParts) × Accepts whole IsCommand octets.now c (length octets.now) }
 {
     match CommandRef::decode(octets) {
         Ok(lent) => lent.copied(alloc).map_err(|_| Refused::Memory),
@@ -39,8 +41,10 @@ pub fn decode_command(alloc: Global, octets: &[u8]) -> Result<Command, Refused<C
 /// then a response.
 pub fn decode_response(alloc: Global, octets: &[u8]) -> Result<Response, Refused<ResponseReason>>
     ensures found { IfOk result (λ r. Accepts whole IsResponse octets.now r (length octets.now)) }
-    ensures refused { IfErr result (RefusesUnlessMemory whole IsResponse response.IsReason octets.now) }
-    ensures memory { result ≡ Err refusal.Memory → (r : ResponseParts) × Accepts whole IsResponse octets.now r (length octets.now) }
+    ensures refused { IfErr result
+        (RefusesUnlessMemory whole IsResponse response.IsReason octets.now) }
+    ensures memory { result ≡ Err refusal.Memory
+        → (r : ResponseParts) × Accepts whole IsResponse octets.now r (length octets.now) }
 {
     match ResponseRef::decode(octets) {
         Ok(lent) => lent.copied(alloc).map_err(|_| Refused::Memory),

@@ -29,8 +29,10 @@ pub fn are_equal_responses(a: &Response, b: &Response) -> bool
 /// No octets spell two commands or two responses, and status bytes have one class.
 pub fn one_value()
     ensures command { (v w : CommandParts) (b : List ℕ) → IsCommand v b → IsCommand w b → v ≡ w }
-    ensures response { (v w : ResponseParts) (b : List ℕ) → IsResponse v b → IsResponse w b → v ≡ w }
-    ensures class { (c d : AnyClass) (sw1 sw2 : ℕ) → IsOfClass c sw1 sw2 → IsOfClass d sw1 sw2 → c ≡ d }
+    ensures response { (v w : ResponseParts) (b : List ℕ) → IsResponse v b
+        → IsResponse w b → v ≡ w }
+    ensures class { (c d : AnyClass) (sw1 sw2 : ℕ) → IsOfClass c sw1 sw2
+        → IsOfClass d sw1 sw2 → c ≡ d }
     ensures some_class { (sw1 sw2 : ℕ) → (c : AnyClass) × IsOfClass c sw1 sw2 }
 {}
 
@@ -44,14 +46,20 @@ pub fn goes_on()
 
 /// How many octets spell a command or a response.
 pub fn lengths()
-    ensures command { (c : CommandParts) (b : List ℕ) → IsCommand c b → (4 ≤ length b) × (length b ≤ 65544) }
-    ensures response { (r : ResponseParts) (b : List ℕ) → IsResponse r b → (2 ≤ length b) × (length b ≤ 65538) }
+    ensures command { (c : CommandParts) (b : List ℕ) → IsCommand c b
+        → (4 ≤ length b) × (length b ≤ 65544) }
+    ensures response { (r : ResponseParts) (b : List ℕ) → IsResponse r b
+        → (2 ≤ length b) × (length b ≤ 65538) }
 {}
 
 /// An APDU that is cut into a chain, under any sizes and whatever follows, arrives as that APDU.
 pub fn arrives()
-    ensures command { (c : CommandParts) (b : List ℕ) (size ifs max : ℕ) (number : Number) (more : List ℕ) → IsCommand c b → 1 ≤ size → size ≤ ifs → length b ≤ max → ArrivesAs IsCommand c b size ifs max number more }
-    ensures response { (r : ResponseParts) (b : List ℕ) (size ifs max : ℕ) (number : Number) (more : List ℕ) → IsResponse r b → 1 ≤ size → size ≤ ifs → length b ≤ max → ArrivesAs IsResponse r b size ifs max number more }
+    ensures command { (c : CommandParts) (b : List ℕ) (size ifs max : ℕ) (number : Number)
+        (more : List ℕ) → IsCommand c b → 1 ≤ size → size ≤ ifs → length b ≤ max
+        → ArrivesAs IsCommand c b size ifs max number more }
+    ensures response { (r : ResponseParts) (b : List ℕ) (size ifs max : ℕ) (number : Number)
+        (more : List ℕ) → IsResponse r b → 1 ≤ size → size ≤ ifs → length b ≤ max
+        → ArrivesAs IsResponse r b size ifs max number more }
 {}
 
 /// Every input is accepted or refused as a command, and as a response, with one value, one place and one reason.

@@ -116,9 +116,14 @@ pub fn receive_command<R: Source>(
 ) -> Result<Command, ReceiveFault<CommandReason>>
     requires least { 1 ≤ ifs }
     requires most { ifs ≤ 254 }
-    ensures received { IfOk result (IsReceived IsCommand 65544 ifs number R.remaining R.failures reader.old reader.new) }
-    ensures fault { IfErr result (IsReceiveFault IsCommand command.IsReason 65544 ifs number R.remaining R.failures reader.old reader.new) }
-    ensures arrives { (v : CommandParts) (sent : List (List ℕ)) (b more : List ℕ) → IsChain ifs number 65544 sent b → IsCommand v (message_of sent) → R.remaining reader.old ≡ Some (b ++ more) → ArrivesUnlessFault v more (R.remaining reader.new) result }
+    ensures received { IfOk result
+        (IsReceived IsCommand 65544 ifs number R.remaining R.failures reader.old reader.new) }
+    ensures fault { IfErr result (IsReceiveFault IsCommand command.IsReason 65544 ifs number
+        R.remaining R.failures reader.old reader.new) }
+    ensures arrives { (v : CommandParts) (sent : List (List ℕ)) (b more : List ℕ)
+        → IsChain ifs number 65544 sent b → IsCommand v (message_of sent)
+        → R.remaining reader.old ≡ Some (b ++ more)
+        → ArrivesUnlessFault v more (R.remaining reader.new) result }
 {
     read_command(alloc, reader, ifs, number)
 }
@@ -133,9 +138,14 @@ pub fn receive_response<R: Source>(
 ) -> Result<Response, ReceiveFault<ResponseReason>>
     requires least { 1 ≤ ifs }
     requires most { ifs ≤ 254 }
-    ensures received { IfOk result (IsReceived IsResponse 65538 ifs number R.remaining R.failures reader.old reader.new) }
-    ensures fault { IfErr result (IsReceiveFault IsResponse response.IsReason 65538 ifs number R.remaining R.failures reader.old reader.new) }
-    ensures arrives { (v : ResponseParts) (sent : List (List ℕ)) (b more : List ℕ) → IsChain ifs number 65538 sent b → IsResponse v (message_of sent) → R.remaining reader.old ≡ Some (b ++ more) → ArrivesUnlessFault v more (R.remaining reader.new) result }
+    ensures received { IfOk result
+        (IsReceived IsResponse 65538 ifs number R.remaining R.failures reader.old reader.new) }
+    ensures fault { IfErr result (IsReceiveFault IsResponse response.IsReason 65538 ifs number
+        R.remaining R.failures reader.old reader.new) }
+    ensures arrives { (v : ResponseParts) (sent : List (List ℕ)) (b more : List ℕ)
+        → IsChain ifs number 65538 sent b → IsResponse v (message_of sent)
+        → R.remaining reader.old ≡ Some (b ++ more)
+        → ArrivesUnlessFault v more (R.remaining reader.new) result }
 {
     read_response(alloc, reader, ifs, number)
 }
@@ -149,8 +159,10 @@ fn read_command<R: Source>(
 ) -> Result<Command, ReceiveFault<CommandReason>>
     requires least { 1 ≤ ifs }
     requires most { ifs ≤ 254 }
-    ensures received { IfOk result (IsReceived IsCommand 65544 ifs number R.remaining R.failures reader.old reader.new) }
-    ensures fault { IfErr result (IsReceiveFault IsCommand command.IsReason 65544 ifs number R.remaining R.failures reader.old reader.new) }
+    ensures received { IfOk result
+        (IsReceived IsCommand 65544 ifs number R.remaining R.failures reader.old reader.new) }
+    ensures fault { IfErr result (IsReceiveFault IsCommand command.IsReason 65544 ifs number
+        R.remaining R.failures reader.old reader.new) }
 {
     let mut receiver = Receiver::new(alloc, ifs, number, LONGEST_COMMAND)?;
     read_chain(reader, &mut receiver)?;
@@ -167,8 +179,10 @@ fn read_response<R: Source>(
 ) -> Result<Response, ReceiveFault<ResponseReason>>
     requires least { 1 ≤ ifs }
     requires most { ifs ≤ 254 }
-    ensures received { IfOk result (IsReceived IsResponse 65538 ifs number R.remaining R.failures reader.old reader.new) }
-    ensures fault { IfErr result (IsReceiveFault IsResponse response.IsReason 65538 ifs number R.remaining R.failures reader.old reader.new) }
+    ensures received { IfOk result
+        (IsReceived IsResponse 65538 ifs number R.remaining R.failures reader.old reader.new) }
+    ensures fault { IfErr result (IsReceiveFault IsResponse response.IsReason 65538 ifs number
+        R.remaining R.failures reader.old reader.new) }
 {
     let mut receiver = Receiver::new(alloc, ifs, number, LONGEST_RESPONSE)?;
     read_chain(reader, &mut receiver)?;

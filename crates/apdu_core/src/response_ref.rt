@@ -38,7 +38,8 @@ impl<'a> ResponseRef<'a> {
     /// Fewer than two octets are `Short` at their end; of more than 65,538 the one at place 65,538 is
     /// refused, as `TooLong`.
     pub fn decode(octets: &'a [u8]) -> Result<ResponseRef<'a>, Stop<ResponseReason>>
-        ensures found { IfOk result (λ r. Accepts whole IsResponse octets.now r (length octets.now)) }
+        ensures found { IfOk result
+            (λ r. Accepts whole IsResponse octets.now r (length octets.now)) }
         ensures part { IfOk result (λ r. r.part ≡ take (length octets.now - 2) octets.now) }
         ensures refused { IfErr result (Refuses whole IsResponse IsReason octets.now) }
     {

@@ -80,8 +80,10 @@ pub fn send_command<W: Sink>(
 ) -> Result<(), SendFault>
     requires least { 1 ≤ ifs }
     requires most { ifs ≤ 254 }
-    ensures sent { OnOk result (IsSent IsCommand command.now ifs number W.contents W.failures writer.old writer.new) }
-    ensures fault { IfErr result (IsSendFault IsCommand command.now ifs number W.contents W.failures writer.old writer.new) }
+    ensures sent { OnOk result (IsSent IsCommand command.now ifs number W.contents W.failures
+        writer.old writer.new) }
+    ensures fault { IfErr result (IsSendFault IsCommand command.now ifs number W.contents W.failures
+        writer.old writer.new) }
 {
     let octets = encode_command(alloc, command)?;
     write_chain(writer, octets.as_slice(), ifs, number)?;
@@ -99,8 +101,10 @@ pub fn send_response<W: Sink>(
 ) -> Result<(), SendFault>
     requires least { 1 ≤ ifs }
     requires most { ifs ≤ 254 }
-    ensures sent { OnOk result (IsSent IsResponse response.now ifs number W.contents W.failures writer.old writer.new) }
-    ensures fault { IfErr result (IsSendFault IsResponse response.now ifs number W.contents W.failures writer.old writer.new) }
+    ensures sent { OnOk result (IsSent IsResponse response.now ifs number W.contents W.failures
+        writer.old writer.new) }
+    ensures fault { IfErr result (IsSendFault IsResponse response.now ifs number W.contents
+        W.failures writer.old writer.new) }
 {
     let octets = encode_response(alloc, response)?;
     write_chain(writer, octets.as_slice(), ifs, number)?;

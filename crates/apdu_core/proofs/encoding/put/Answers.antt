@@ -9,5 +9,7 @@ returns c =
     let count : ℕ = c.args.start + length c.args.octets.now - c.args.start in
     let end : c.args.start + count ≡ c.args.start + length c.args.octets.now = omega arith in
     puts-at c.args.start c.args.octets.now old _ c.requires
-    (ap (λ (l : List ℕ). take c.args.start old ++ (l ++ drop count (drop c.args.start old))) c.copy_from_slice.ensures.after
-    ∙ ap (λ (l : List ℕ). take c.args.start old ++ (c.args.octets.now ++ l)) (drop-drop count c.args.start old ∙ ap (λ (k : ℕ). drop k old) end))
+    (ap (λ (l : List ℕ). take c.args.start old ++ (l ++ drop count (drop c.args.start old)))
+    c.copy_from_slice.ensures.after
+    ∙ ap (λ (l : List ℕ). take c.args.start old ++ (c.args.octets.now ++ l))
+    (drop-drop count c.args.start old ∙ ap (λ (k : ℕ). drop k old) end))

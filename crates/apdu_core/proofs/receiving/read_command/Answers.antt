@@ -7,18 +7,27 @@ use Rattle.apdu_core.proofs.receiving.read_command.Goals as goal
 pub returns-in_err-read_chain-clause-fault : goal.returns-in_err-read_chain-clause-fault
 returns-in_err-read_chain-clause-fault g c =
     let p = err_from_is_err_and c.from_residual-in_err-read_chain.result c.from_residual-in_err-read_chain.ensures.1 in
-    rw (p.1, p.2) (no-chain 65544 c.args.ifs c.args.number g.R.Source.remaining g.R.Source.failures c.args.reader.now c.read_chain.new.reader c.in_ok-receiver.receiver c.read_chain.new.receiver IsCommand IsReason c.in_err-read_chain.field-0.0
-    c.in_ok-receiver.ensures c.in_err-read_chain.ensures.reads c.in_err-read_chain.ensures.counted c.in_err-read_chain.ensures.kept)
+    rw (p.1, p.2) (no-chain 65544 c.args.ifs c.args.number g.R.Source.remaining g.R.Source.failures c.args.reader.now
+    c.read_chain.new.reader c.in_ok-receiver.receiver c.read_chain.new.receiver IsCommand IsReason
+    c.in_err-read_chain.field-0.0
+    c.in_ok-receiver.ensures c.in_err-read_chain.ensures.reads c.in_err-read_chain.ensures.counted
+    c.in_err-read_chain.ensures.kept)
 
 pub returns-in_err-command-clause-fault : goal.returns-in_err-command-clause-fault
 returns-in_err-command-clause-fault g c =
     let p = err_from_is_err_and c.from_residual-in_err-command.result c.from_residual-in_err-command.ensures.1 in
     let message = rw c.unwrap.ensures at c.message.ensures.done in
-    rw (p.1, p.2) (not-received 65544 c.args.ifs c.args.number g.R.Source.remaining g.R.Source.failures c.args.reader.now c.read_chain.new.reader c.in_ok-receiver.receiver c.read_chain.new.receiver IsCommand IsReason c.unwrap.result.now c.in_err-command.field-0.0
-    c.in_ok-receiver.ensures c.in_ok-read_chain.ensures.reads c.in_ok-read_chain.ensures.counted message.2 c.in_err-command.ensures.refused (λ e. c.in_err-command.ensures.memory (ap Err e)))
+    rw (p.1, p.2) (not-received 65544 c.args.ifs c.args.number g.R.Source.remaining g.R.Source.failures
+    c.args.reader.now c.read_chain.new.reader c.in_ok-receiver.receiver c.read_chain.new.receiver IsCommand IsReason
+    c.unwrap.result.now c.in_err-command.field-0.0
+    c.in_ok-receiver.ensures c.in_ok-read_chain.ensures.reads c.in_ok-read_chain.ensures.counted message.2
+    c.in_err-command.ensures.refused (λ e. c.in_err-command.ensures.memory (ap Err e)))
 
 pub returns-clause-received : goal.returns-clause-received
 returns-clause-received g c =
     let message = rw c.unwrap.ensures at c.message.ensures.done in
-    received 65544 c.args.ifs c.args.number g.R.Source.remaining g.R.Source.failures c.args.reader.now c.read_chain.new.reader c.in_ok-receiver.receiver c.read_chain.new.receiver IsCommand c.unwrap.result.now c.in_ok-command.command
-    c.in_ok-receiver.ensures c.in_ok-read_chain.ensures.reads c.in_ok-read_chain.ensures.counted message.2 c.in_ok-command.ensures.found
+    received 65544 c.args.ifs c.args.number g.R.Source.remaining g.R.Source.failures c.args.reader.now
+    c.read_chain.new.reader c.in_ok-receiver.receiver c.read_chain.new.receiver IsCommand c.unwrap.result.now
+    c.in_ok-command.command
+    c.in_ok-receiver.ensures c.in_ok-read_chain.ensures.reads c.in_ok-read_chain.ensures.counted message.2
+    c.in_ok-command.ensures.found

@@ -4,4 +4,5 @@ use Rattle.apdu_core.proofs.command.Command.new.Goals as goal
 
 pub returns-then-fits-clause-spelled : goal.returns-then-fits-clause-spelled
 returns-then-fits-clause-spelled c =
-    command-spelled c.args.header c.args.body (search rules) (search rules) (c.if-fits.ensures.fits.0 (search rules)) c.fits.ensures.octets
+    command-spelled c.args.header c.args.body (search rules) (search rules) (c.if-fits.ensures.fits.0 (search rules))
+    c.fits.ensures.octets

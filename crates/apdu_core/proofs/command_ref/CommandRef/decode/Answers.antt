@@ -9,4 +9,5 @@ pub returns-in_default-clause-refused : goal.returns-in_default-clause-refused
 returns-in_default-clause-refused c =
     let b : List ℕ = c.args.octets.now in
     let octets : AreOctets b = λ i. omega (arith, c.type_inv.octets i) in
-    subst (Refuses whole IsCommand IsReason b) (sym c.short.ensures) (short-header b octets (omega (arith, c.in_default.ensures.cases)))
+    subst (Refuses whole IsCommand IsReason b) (sym c.short.ensures)
+    (short-header b octets (omega (arith, c.in_default.ensures.cases)))
