@@ -24,7 +24,8 @@ use Rattle.t1_core.specs.Came.{Came, got, damaged, invalid, IsClass, class_of, c
 
 -- ---- the tests that the class computes
 
-by_test : (P : Came → Type 0) (test : Bool) (x y : Came) → (IsTrue test → P x) → ((IsTrue test → ⊥) → P y) → P (if test then x else y)
+by_test : (P : Came → Type 0) (test : Bool) (x y : Came) → (IsTrue test → P x) → ((IsTrue test → ⊥) → P y)
+    → P (if test then x else y)
 by_test P true x y then_so else_so = then_so refl
 by_test P false x y then_so else_so = else_so (λ h. never h)
 
@@ -53,7 +54,11 @@ among_octet : (ps : List Pcb) (x : ℕ) (p : Pcb) → pcb_among ps x ≡ Some p 
 among_octet [] x p e = cc
 among_octet (q ∷ ps) x p e =
     elim (eqb_tells (pcb_octet q) x) [
-      | inl h ↦ let this : Some q ≡ Some p = let t : pcb_among (q ∷ ps) x ≡ Some q = rw h.0 refl in sym t ∙ e in let is : q ≡ p = cc in ap pcb_octet (sym is) ∙ h.1
+      | inl h ↦
+          let t : pcb_among (q ∷ ps) x ≡ Some q = rw h.0 refl in
+          let this : Some q ≡ Some p = sym t ∙ e in
+          let is : q ≡ p = cc in
+          ap pcb_octet (sym is) ∙ h.1
       | inr h ↦ among_octet ps x p (let t : pcb_among (q ∷ ps) x ≡ pcb_among ps x = rw h.0 refl in sym t ∙ e)
     ]
 
@@ -78,13 +83,20 @@ eq_by a b h = search (rules, h)
 by_eq : (a b : ℕ) → a ≡ b → IsTrue (a == b)
 by_eq a b h = search (rules, h)
 
-about_true : (kind : S) (inf : List ℕ) → IsTrue (suits_about kind inf) → (length inf ≡ supervisory_len kind) × IsSize kind inf
+about_true : (kind : S) (inf : List ℕ) → IsTrue (suits_about kind inf)
+    → (length inf ≡ supervisory_len kind) × IsSize kind inf
 about_true Resynch [] h = (refl, tt)
 about_true Resynch (x ∷ inf) h = never h
 about_true Abort [] h = (refl, tt)
 about_true Abort (x ∷ inf) h = never h
 about_true Ifs [] h = never h
-about_true Ifs (x ∷ []) h = (refl, (le_by 1 x (both_left (nat_le 1 x) (nat_le x 254) h), le_by x 254 (both_right (nat_le 1 x) (nat_le x 254) h)))
+about_true Ifs (x ∷ []) h = (
+  refl,
+  (
+    le_by 1 x (both_left (nat_le 1 x) (nat_le x 254) h),
+    le_by x 254 (both_right (nat_le 1 x) (nat_le x 254) h),
+  ),
+)
 about_true Ifs (x ∷ y ∷ inf) h = never h
 about_true Wtx [] h = never h
 about_true Wtx (x ∷ []) h = (refl, tt)
@@ -94,7 +106,8 @@ both_of : (a b : Bool) → IsTrue a → IsTrue b → IsTrue (a && b)
 both_of true b p q = q
 both_of false b p q = p
 
-true_about : (kind : S) (inf : List ℕ) → (length inf ≡ supervisory_len kind) × IsSize kind inf → IsTrue (suits_about kind inf)
+true_about : (kind : S) (inf : List ℕ) → (length inf ≡ supervisory_len kind) × IsSize kind inf
+    → IsTrue (suits_about kind inf)
 true_about Resynch [] h = refl
 true_about Resynch (x ∷ inf) h = absurd (omega (arith, h.0))
 true_about Abort [] h = refl
@@ -125,44 +138,60 @@ field_is : (b : List ℕ) → 3 ≤ length b → drop 3 (take (get_or b 2 0 + 3)
 field_is [] le = absurd (omega arith)
 field_is (a ∷ []) le = absurd (omega arith)
 field_is (a ∷ c ∷ []) le = absurd (omega arith)
-field_is (a ∷ c ∷ l ∷ rest) le = let steps : l + 3 ≡ suc (suc (suc l)) = omega arith in ap (λ (k : ℕ). drop 3 (take k (a ∷ c ∷ l ∷ rest))) steps
+field_is (a ∷ c ∷ l ∷ rest) le =
+    let steps : l + 3 ≡ suc (suc (suc l)) = omega arith in
+    ap (λ (k : ℕ). drop 3 (take k (a ∷ c ∷ l ∷ rest))) steps
 
 -- what begins a block up to its check octet has the control octet and the field of that block
-begun-suits : (size n : ℕ) (b : List ℕ) (p : Pcb) → n ≡ get_or b 2 0 + 3 → n < length b → pcb_octet p ≡ get_or b 1 0 → Begins (IsBlock size) (take n b) → Suits size p (drop 3 (take n b))
+begun-suits : (size n : ℕ) (b : List ℕ) (p : Pcb) → n ≡ get_or b 2 0 + 3 → n < length b → pcb_octet p ≡ get_or b 1 0
+    → Begins (IsBlock size) (take n b) → Suits size p (drop 3 (take n b))
 begun-suits size n b p n-is lt e h =
     let v : Parts = h.0 in
-    let pcb-is : v.pcb ≡ p = pcb-back v.pcb p (octet_of b h.1 (spelling v) n 1 (omega arith) h.2.is (omega arith) ∙ sym e) in
+    let pcb-is : v.pcb ≡ p = pcb-back v.pcb p
+    (octet_of b h.1 (spelling v) n 1 (omega arith) h.2.is (omega arith) ∙ sym e) in
     let len-is : length v.inf ≡ get_or b 2 0 = octet_of b h.1 (spelling v) n 2 (omega arith) h.2.is (omega arith) in
     let front-len : length (take n b) ≡ length (front_of v) = omega (arith, length-take n b, len-is) in
     let front = split_same (take n b) (front_of v) h.1 (xor_of (front_of v) ∷ []) front-len h.2.is in
     let inf-is : drop 3 (take n b) ≡ v.inf = ap (λ (l : List ℕ). drop 3 l) front.0 in
     rw inf-is (subst (λ (q : Pcb). Suits size q v.inf) pcb-is h.2.proper.suits)
 
-begun-pcb : (size n : ℕ) (b : List ℕ) → 3 ≤ n → n < length b → Begins (IsBlock size) (take n b) → (p : Pcb) × (pcb_octet p ≡ get_or b 1 0)
+begun-pcb : (size n : ℕ) (b : List ℕ) → 3 ≤ n → n < length b → Begins (IsBlock size) (take n b)
+    → (p : Pcb) × (pcb_octet p ≡ get_or b 1 0)
 begun-pcb size n b least lt h = (h.0.pcb, octet_of b h.1 (spelling h.0) n 1 (omega arith) h.2.is (omega arith))
 
 -- ---- what is invalid
 
 -- where the octets before the check octet begin no block, no check octet is wrong
-not_damaged : (size n place : ℕ) (b : List ℕ) → n ≡ get_or b 2 0 + 3 → (n < length b → Begins (IsBlock size) (take n b) → ⊥) → Refuses self_ended (IsBlock size) (IsReason size) b (At place BadLrc) → ⊥
+not_damaged : (size n place : ℕ) (b : List ℕ) → n ≡ get_or b 2 0 + 3
+    → (n < length b → Begins (IsBlock size) (take n b) → ⊥)
+    → Refuses self_ended (IsBlock size) (IsReason size) b (At place BadLrc) → ⊥
 not_damaged size n place b n-is none h =
     let front : List ℕ = take (place + 1) b in
-    let meets : Meets size front BadLrc = first_holds (BadPcb ∷ BadLen ∷ OverIfs ∷ BadIfs ∷ BadLrc ∷ []) (Meets size front) BadLrc h.1 in
+    let meets : Meets size front BadLrc =
+    first_holds (BadPcb ∷ BadLen ∷ OverIfs ∷ BadIfs ∷ BadLrc ∷ []) (Meets size front) BadLrc h.1 in
     let len : length front ≡ place + 1 = omega (arith, length-take (place + 1) b, h.0.inside) in
     let two : get_or front 2 0 ≡ get_or b 2 0 = get_or-take (place + 1) b 2 0 (omega (arith, meets.0, len)) in
     let here : place ≡ n = omega (arith, meets.0, len, two, n-is) in
     none (omega (arith, here, h.0.inside)) (subst (λ (k : ℕ). Begins (IsBlock size) (take k b)) here h.0.begun)
 
-not_accepted : (size n : ℕ) (b : List ℕ) (v : Parts) (m : ℕ) → n ≡ get_or b 2 0 + 3 → (n < length b → Begins (IsBlock size) (take n b) → ⊥) → Accepts self_ended (IsBlock size) b v m → ⊥
+not_accepted : (size n : ℕ) (b : List ℕ) (v : Parts) (m : ℕ) → n ≡ get_or b 2 0 + 3
+    → (n < length b → Begins (IsBlock size) (take n b) → ⊥) → Accepts self_ended (IsBlock size) b v m → ⊥
 not_accepted size n b v m n-is none a =
     let m-is : m ≡ n + 1 = omega (arith, n-is, accepted-len size b v m a, accepted-inf size b v m a) in
-    none (omega (arith, m-is, a.0)) (begins-take (IsBlock size) n m b (omega (arith, m-is)) (spelled-begins (IsBlock size) v (take m b) a.1))
+    none (omega (arith, m-is, a.0)) (begins-take (IsBlock size) n m b (omega (arith, m-is))
+    (spelled-begins (IsBlock size) v (take m b) a.1))
 
-invalid_class : (size n : ℕ) (b : List ℕ) → size ≤ 254 → AreOctets b → n ≡ get_or b 2 0 + 3 → (n < length b → Begins (IsBlock size) (take n b) → ⊥) → IsClass size b invalid
+invalid_class : (size n : ℕ) (b : List ℕ) → size ≤ 254 → AreOctets b → n ≡ get_or b 2 0 + 3
+    → (n < length b → Begins (IsBlock size) (take n b) → ⊥) → IsClass size b invalid
 invalid_class size n b small octets n-is none =
     elim (one-verdict size b small octets).some [
       | inl a ↦ absurd (not_accepted size n b a.0 a.1 n-is none a.2)
-      | inr s ↦ inl (s.0, s.1, λ place e. not_damaged size n place b n-is none (subst (Refuses self_ended (IsBlock size) (IsReason size) b) e s.1))
+      | inr s ↦ inl (
+        s.0,
+        s.1,
+        λ place e.
+            not_damaged size n place b n-is none (subst (Refuses self_ended (IsBlock size) (IsReason size) b) e s.1),
+      )
     ]
 
 -- ---- where the octets before the check octet begin a block
@@ -182,12 +211,15 @@ field-len : (size n : ℕ) (b : List ℕ) (p : Pcb) → Suited size n b p → le
 field-len size n b p w = omega (arith, length-drop 3 (take n b), length-take n b, w.end, w.inside)
 
 fits : (size n : ℕ) (b : List ℕ) (p : Pcb) → Suited size n b p → FitsLen size p (get_or b 2 0)
-fits size n b p w = subst (λ (k : ℕ). FitsLen size p k) (field-len size n b p w) (fits-of size p (drop 3 (take n b)) w.suits)
+fits size n b p w = subst (λ (k : ℕ). FitsLen size p k) (field-len size n b p w)
+    (fits-of size p (drop 3 (take n b)) w.suits)
 
-sized : (size n : ℕ) (b : List ℕ) (p : Pcb) → Suited size n b p → IsAboutIfs p → (1 ≤ get_or b 3 0) × (get_or b 3 0 ≤ 254)
+sized : (size n : ℕ) (b : List ℕ) (p : Pcb) → Suited size n b p → IsAboutIfs p
+    → (1 ≤ get_or b 3 0) × (get_or b 3 0 ≤ 254)
 sized size n b p w about =
     let of = size-of size p (drop 3 (take n b)) about w.suits in
-    let first : get_or (drop 3 (take n b)) 0 0 ≡ get_or b 3 0 = get_or-drop 3 (take n b) 0 0 ∙ get_or-take n b 3 0 (omega (arith, w.end, field-len size n b p w, of.0)) in
+    let first : get_or (drop 3 (take n b)) 0 0 ≡ get_or b 3 0 =
+    get_or-drop 3 (take n b) 0 0 ∙ get_or-take n b 3 0 (omega (arith, w.end, field-len size n b p w, of.0)) in
     (omega (arith, first, of.1), omega (arith, first, of.2))
 
 -- with a right check octet they begin with this block
@@ -195,11 +227,13 @@ block-of : (size n : ℕ) (b : List ℕ) (p : Pcb) → Suited size n b p → xor
     → Accepts self_ended (IsBlock size) b (record { nad = get_or b 0 0; pcb = p; inf = drop 3 (take n b) }) (n + 1)
 block-of size n b p w sum = (
   omega (arith, w.inside),
-  found size (n + 1) p b (drop 3 (take n b)) w.octets (omega (arith, w.end)) (omega (arith, w.inside)) (field-of size n b p w) w.octet (fits size n b p w) (sized size n b p w) sum,
+  found size (n + 1) p b (drop 3 (take n b)) w.octets (omega (arith, w.end)) (omega (arith, w.inside))
+      (field-of size n b p w) w.octet (fits size n b p w) (sized size n b p w) sum,
 )
 
 -- with a wrong one it is refused
-damaged-of : (size n : ℕ) (b : List ℕ) (p : Pcb) → Suited size n b p → xor_of (take (n + 1) b) ≢ 0 → Refuses self_ended (IsBlock size) (IsReason size) b (At n BadLrc)
+damaged-of : (size n : ℕ) (b : List ℕ) (p : Pcb) → Suited size n b p → xor_of (take (n + 1) b) ≢ 0
+    → Refuses self_ended (IsBlock size) (IsReason size) b (At n BadLrc)
 damaged-of size n b p w bad =
     let end : n + 1 ≡ get_or b 2 0 + 4 = omega (arith, w.end) in
     let inside : n + 1 ≤ length b = omega (arith, w.inside) in
@@ -207,15 +241,18 @@ damaged-of size n b p w bad =
       record {
         none = none-last size (n + 1) b end stuck;
         inside = w.inside;
-        begun = begun-by size n p b w.octets (omega (arith, w.end)) (omega (arith, w.inside)) (omega (arith, w.end)) w.octet (fits size n b p w) (λ about lt. sized size n b p w about);
+        begun = begun-by size n p b w.octets (omega (arith, w.end)) (omega (arith, w.inside)) (omega (arith, w.end))
+            w.octet (fits size n b p w) (λ about lt. sized size n b p w about);
         stuck = stuck;
       },
       reason-lrc size (n + 1) b p end inside w.octet (fits size n b p w) bad,
     )
 
-got-of : (size n : ℕ) (b : List ℕ) (p : Pcb) (v : Parts) → n + 1 ≡ length b → v.nad ≡ 0 → Accepts self_ended (IsBlock size) b v (n + 1) → IsClass size b (got v.pcb v.inf)
+got-of : (size n : ℕ) (b : List ℕ) (p : Pcb) (v : Parts) → n + 1 ≡ length b → v.nad ≡ 0
+    → Accepts self_ended (IsBlock size) b v (n + 1) → IsClass size b (got v.pcb v.inf)
 got-of size n b p v all zero a =
-    subst (λ (k : ℕ). Accepts self_ended (IsBlock size) b (record { nad = k; pcb = v.pcb; inf = v.inf }) (length b)) zero
+    subst (λ (k : ℕ). Accepts self_ended (IsBlock size) b (record { nad = k; pcb = v.pcb; inf = v.inf }) (length b))
+    zero
     (subst (λ (k : ℕ). Accepts self_ended (IsBlock size) b v k) all a)
 
 whole-of : (size n : ℕ) (b : List ℕ) (p : Pcb) → Suited size n b p → xor_of (take (n + 1) b) ≡ 0
@@ -226,33 +263,45 @@ whole-of size n b p w sum =
     let all = length b == n + 1 in
     let zero_nad = slice_index b 0 == 0 in
     by_test (IsClass size b) (all && zero_nad) (got p (drop 3 (take n b))) invalid
-    (λ h. got-of size n b p v (sym (eq_by (length b) (n + 1) (both_left all zero_nad h))) (eq_by (slice_index b 0) 0 (both_right all zero_nad h)) a)
+    (λ h. got-of size n b p v (sym (eq_by (length b) (n + 1) (both_left all zero_nad h)))
+    (eq_by (slice_index b 0) 0 (both_right all zero_nad h)) a)
     (λ h. inr (
       v,
       n + 1,
       a,
       elim (same (slice_index b 0) 0) [
         | inr ne ↦ inl ne
-        | inl e ↦ inr (λ whole. h (both_of all zero_nad (by_eq (length b) (n + 1) (sym whole)) (by_eq (slice_index b 0) 0 e)))
+        | inl e ↦ inr (λ whole. h (both_of all zero_nad (by_eq (length b) (n + 1) (sym whole))
+            (by_eq (slice_index b 0) 0 e)))
       ],
     ))
 
 -- ---- the class
 
-with-pcb : (size n : ℕ) (b : List ℕ) → size ≤ 254 → AreOctets b → n ≡ get_or b 2 0 + 3 → (o : Option Pcb) → pcb_among all_pcbs (get_or b 1 0) ≡ o → IsClass size b (class_with size b n o)
+with-pcb : (size n : ℕ) (b : List ℕ) → size ≤ 254 → AreOctets b → n ≡ get_or b 2 0 + 3 → (o : Option Pcb)
+    → pcb_among all_pcbs (get_or b 1 0) ≡ o → IsClass size b (class_with size b n o)
 with-pcb size n b small octets end None e =
-    invalid_class size n b small octets end (λ lt begun. let p = begun-pcb size n b (omega (arith, end)) lt begun in among_none (get_or b 1 0) p.0 e p.1)
+    invalid_class size n b small octets end
+    (λ lt begun. let p = begun-pcb size n b (omega (arith, end)) lt begun in among_none (get_or b 1 0) p.0 e p.1)
 with-pcb size n b small octets end (Some p) e =
     let octet : pcb_octet p ≡ get_or b 1 0 = among_octet all_pcbs (get_or b 1 0) p e in
     let inside = nat_lt n (length b) in
     let suited = suits size p (drop 3 (take n b)) in
     by_test (IsClass size b) (inside && suited) _ invalid
     (λ h.
-    let w : Suited size n b p = record { octets = octets; end = end; inside = lt_by n (length b) (both_left inside suited h); octet = octet; suits = suits_true size p (drop 3 (take n b)) (both_right inside suited h) } in
+    let w : Suited size n b p = record {
+      octets = octets;
+      end = end;
+      inside = lt_by n (length b) (both_left inside suited h);
+      octet = octet;
+      suits = suits_true size p (drop 3 (take n b)) (both_right inside suited h);
+    } in
     by_test (IsClass size b) (xor_of (take (n + 1) b) == 0) _ damaged
     (λ sum. whole-of size n b p w (eq_by (xor_of (take (n + 1) b)) 0 sum))
     (λ bad. (n, damaged-of size n b p w (λ z. bad (by_eq (xor_of (take (n + 1) b)) 0 z)))))
-    (λ h. invalid_class size n b small octets end (λ lt begun. h (both_of inside suited (by_lt n (length b) lt) (true_suits size p (drop 3 (take n b)) (begun-suits size n b p end lt octet begun)))))
+    (λ h. invalid_class size n b small octets end (λ lt begun. h (both_of inside suited (by_lt n (length b) lt)
+    (true_suits size p (drop 3 (take n b)) (begun-suits size n b p end lt octet begun)))))
 
 pub computed : (size : ℕ) (b : List ℕ) → size ≤ 254 → AreOctets b → IsClass size b (class_of size b)
-computed size b small octets = with-pcb size (slice_index b 2 + 3) b small octets refl (pcb_among all_pcbs (slice_index b 1)) refl
+computed size b small octets = with-pcb size (slice_index b 2 + 3) b small octets refl
+    (pcb_among all_pcbs (slice_index b 1)) refl

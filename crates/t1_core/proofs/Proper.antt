@@ -19,7 +19,7 @@ use Rattle.t1_core.specs.declared.turns.CardTurn.TheVariants.{Send as Sends, Ask
 use Rattle.block_core.specs.Block.{other}
 use Rattle.t1_core.specs.Came.{Came, got, damaged, invalid, quiet, same, carried, info, ready, request, response}
 use Rattle.t1_core.specs.Terminal.{TerminalState, TerminalStep, fails, joins, sends_next, in_exchange, terminal_came, terminal_turn, transmit, ask_ifs, if_idle, is_reserved, is_more, Waits, idle, ack, answer, more, ifs, resynch, dead, waiting, most_repeats, most_resynchs}
-use Rattle.t1_core.specs.Card.{CardState, CardStep, Waits as CardWaits, command, host, reply, asking, CardRequest, size, time, request_block, saving, waiting as card_waiting, joins as card_joins, sends_next as card_sends_next, sends_saved, in_either, card_came, card_turn, if_host, replies, more_time, ask_ifs as card_ask_ifs}
+use Rattle.t1_core.specs.Card.{CardState, CardStep, Waits as CardWaits, command, host, reply, asking, size, time, saving, waiting as card_waiting, joins as card_joins, sends_next as card_sends_next, sends_saved, in_either, card_came, card_turn, if_host, replies, more_time, ask_ifs as card_ask_ifs}
 use Rattle.t1_core.specs.Link.{tables, Link, UnderWay, nothing, to_card, to_terminal, sent_by_terminal, sent_by_card, unanswered, with_reply, delivered, arrives, lost, Exchange, terminal_makes, card_makes, happens, run, link_with, Event, delivers, damages, spoils, loses, transmits, asks_ifsd, host_replies, host_asks_time, host_asks_ifsc}
 use Rattle.t1_core.specs.Promises.{HandsOctets, AllHandOctets, IsTaken, AlwaysTaken, Fits, FitsSize}
 use Rattle.t1_core.proofs.Classes.{whole-class}
@@ -96,7 +96,10 @@ waiting-sound field [] h k = h
 waiting-sound field (x ∷ rest) h k = (h, k)
 
 cutting : (t : TerminalState) (octets : List ℕ) → AreOctets octets → SoundStep (sends_next t octets)
-cutting t octets h = (info-sound t.number (is_more (drop t.ifsc octets)) (take t.ifsc octets) (octets-take t.ifsc octets h), waiting-sound (take t.ifsc octets) (drop t.ifsc octets) (octets-take t.ifsc octets h) (octets-drop t.ifsc octets h))
+cutting t octets h = (
+  info-sound t.number (is_more (drop t.ifsc octets)) (take t.ifsc octets) (octets-take t.ifsc octets h),
+  waiting-sound (take t.ifsc octets) (drop t.ifsc octets) (octets-take t.ifsc octets h) (octets-drop t.ifsc octets h),
+)
 
 joining : (t : TerminalState) (joined : List ℕ) (goes_on : Bool) → SoundStep (joins t joined goes_on)
 joining t joined true = (ready-sound (other t.expected) Free, tt)
@@ -114,20 +117,28 @@ exchanging t damaged w h = failing t _ w (ready-sound t.expected Redundancy)
 exchanging t invalid w h = failing t _ w (ready-sound t.expected Other)
 exchanging t quiet w h = failing t _ w (ready-sound t.expected Free)
 
-going : (t : TerminalState) (w : Waits) (came : Came) → SoundWaits t.waits → SoundWaits w → SoundCame came → SoundStep (terminal_came t w came)
+going : (t : TerminalState) (w : Waits) (came : Came) → SoundWaits t.waits → SoundWaits w → SoundCame came
+    → SoundStep (terminal_came t w came)
 going t idle came tw h k = tt
 going t dead came tw h k = tt
 going t (resynch asked) (got (Response Resynch) inf) tw h k = (tt, tt)
-going t (resynch asked) (got (Info number goes_on) inf) tw h k = either SoundStep (nat_lt asked most_resynchs) _ _ (resynch-sound, tt) (tt, tt)
-going t (resynch asked) (got (Ready number fault) inf) tw h k = either SoundStep (nat_lt asked most_resynchs) _ _ (resynch-sound, tt) (tt, tt)
-going t (resynch asked) (got (Request kind) inf) tw h k = either SoundStep (nat_lt asked most_resynchs) _ _ (resynch-sound, tt) (tt, tt)
-going t (resynch asked) (got (Response Ifs) inf) tw h k = either SoundStep (nat_lt asked most_resynchs) _ _ (resynch-sound, tt) (tt, tt)
-going t (resynch asked) (got (Response Abort) inf) tw h k = either SoundStep (nat_lt asked most_resynchs) _ _ (resynch-sound, tt) (tt, tt)
-going t (resynch asked) (got (Response Wtx) inf) tw h k = either SoundStep (nat_lt asked most_resynchs) _ _ (resynch-sound, tt) (tt, tt)
+going t (resynch asked) (got (Info number goes_on) inf) tw h k =
+    either SoundStep (nat_lt asked most_resynchs) _ _ (resynch-sound, tt) (tt, tt)
+going t (resynch asked) (got (Ready number fault) inf) tw h k =
+    either SoundStep (nat_lt asked most_resynchs) _ _ (resynch-sound, tt) (tt, tt)
+going t (resynch asked) (got (Request kind) inf) tw h k =
+    either SoundStep (nat_lt asked most_resynchs) _ _ (resynch-sound, tt) (tt, tt)
+going t (resynch asked) (got (Response Ifs) inf) tw h k =
+    either SoundStep (nat_lt asked most_resynchs) _ _ (resynch-sound, tt) (tt, tt)
+going t (resynch asked) (got (Response Abort) inf) tw h k =
+    either SoundStep (nat_lt asked most_resynchs) _ _ (resynch-sound, tt) (tt, tt)
+going t (resynch asked) (got (Response Wtx) inf) tw h k =
+    either SoundStep (nat_lt asked most_resynchs) _ _ (resynch-sound, tt) (tt, tt)
 going t (resynch asked) damaged tw h k = either SoundStep (nat_lt asked most_resynchs) _ _ (resynch-sound, tt) (tt, tt)
 going t (resynch asked) invalid tw h k = either SoundStep (nat_lt asked most_resynchs) _ _ (resynch-sound, tt) (tt, tt)
 going t (resynch asked) quiet tw h k = either SoundStep (nat_lt asked most_resynchs) _ _ (resynch-sound, tt) (tt, tt)
-going t (ifs n) (got (Response Ifs) inf) tw h k = either SoundStep (carried inf == n) _ _ (tt, tt) (failing t _ tw (size-sound n h.0 h.1))
+going t (ifs n) (got (Response Ifs) inf) tw h k =
+    either SoundStep (carried inf == n) _ _ (tt, tt) (failing t _ tw (size-sound n h.0 h.1))
 going t (ifs n) (got (Info number goes_on) inf) tw h k = failing t _ tw (size-sound n h.0 h.1)
 going t (ifs n) (got (Ready number fault) inf) tw h k = failing t _ tw (size-sound n h.0 h.1)
 going t (ifs n) (got (Request kind) inf) tw h k = failing t _ tw (size-sound n h.0 h.1)
@@ -137,22 +148,30 @@ going t (ifs n) (got (Response Wtx) inf) tw h k = failing t _ tw (size-sound n h
 going t (ifs n) damaged tw h k = failing t _ tw (size-sound n h.0 h.1)
 going t (ifs n) invalid tw h k = failing t _ tw (size-sound n h.0 h.1)
 going t (ifs n) quiet tw h k = failing t _ tw (size-sound n h.0 h.1)
-going t (ack field rest) (got (Ready number fault) inf) tw h k = either SoundStep (same number t.number) _ _ (failing t _ tw (info-sound t.number true field h.0)) (cutting (record t { failures = 0; number = other t.number }) rest h.1)
+going t (ack field rest) (got (Ready number fault) inf) tw h k =
+    either SoundStep (same number t.number) _ _ (failing t _ tw (info-sound t.number true field h.0))
+    (cutting (record t { failures = 0; number = other t.number }) rest h.1)
 going t (ack field rest) (got (Info number goes_on) inf) tw h k = exchanging t (got (Info number goes_on) inf) tw k
 going t (ack field rest) (got (Request kind) inf) tw h k = exchanging t (got (Request kind) inf) tw k
 going t (ack field rest) (got (Response kind) inf) tw h k = exchanging t (got (Response kind) inf) tw k
 going t (ack field rest) damaged tw h k = exchanging t damaged tw k
 going t (ack field rest) invalid tw h k = exchanging t invalid tw k
 going t (ack field rest) quiet tw h k = exchanging t quiet tw k
-going t (answer field) (got (Ready number fault) inf) tw h k = either SoundStep (same number t.number) _ _ (failing t _ tw (info-sound t.number false field h)) (failing t _ tw (ready-sound t.expected Free))
-going t (answer field) (got (Info number goes_on) inf) tw h k = either SoundStep (same number t.expected && nat_le (length inf) t.limits.answer) _ _ (joining (record t { number = other t.number }) inf goes_on) (exchanging t (got (Info number goes_on) inf) tw k)
+going t (answer field) (got (Ready number fault) inf) tw h k =
+    either SoundStep (same number t.number) _ _ (failing t _ tw (info-sound t.number false field h))
+    (failing t _ tw (ready-sound t.expected Free))
+going t (answer field) (got (Info number goes_on) inf) tw h k =
+    either SoundStep (same number t.expected && nat_le (length inf) t.limits.answer) _ _
+    (joining (record t { number = other t.number }) inf goes_on) (exchanging t (got (Info number goes_on) inf) tw k)
 going t (answer field) (got (Request kind) inf) tw h k = exchanging t (got (Request kind) inf) tw k
 going t (answer field) (got (Response kind) inf) tw h k = exchanging t (got (Response kind) inf) tw k
 going t (answer field) damaged tw h k = exchanging t damaged tw k
 going t (answer field) invalid tw h k = exchanging t invalid tw k
 going t (answer field) quiet tw h k = exchanging t quiet tw k
 going t (more joined) (got (Ready number fault) inf) tw h k = failing t _ tw (ready-sound t.expected Free)
-going t (more joined) (got (Info number goes_on) inf) tw h k = either SoundStep (same number t.expected && nat_le (length joined + length inf) t.limits.answer) _ _ (joining t (joined ++ inf) goes_on) (exchanging t (got (Info number goes_on) inf) tw k)
+going t (more joined) (got (Info number goes_on) inf) tw h k =
+    either SoundStep (same number t.expected && nat_le (length joined + length inf) t.limits.answer) _ _
+    (joining t (joined ++ inf) goes_on) (exchanging t (got (Info number goes_on) inf) tw k)
 going t (more joined) (got (Request kind) inf) tw h k = exchanging t (got (Request kind) inf) tw k
 going t (more joined) (got (Response kind) inf) tw h k = exchanging t (got (Response kind) inf) tw k
 going t (more joined) damaged tw h k = exchanging t damaged tw k
@@ -176,10 +195,12 @@ size_ok : (n : ℕ) → n < 256 → is_reserved n ≡ false → (1 ≤ n) × (n 
 size_ok n h e = (grind (arith, nat_tests), grind (arith, nat_tests))
 
 asking_size : (t : TerminalState) (n : ℕ) → n < 256 → SoundStep (terminal_turn t (ask_ifs n))
-asking_size t n h = if_idle-sound t.waits _ (with_test SoundStep (is_reserved n) _ _ tt (λ e. (size-sound n (size_ok n h e).0 (size_ok n h e).1, size_ok n h e)))
+asking_size t n h = if_idle-sound t.waits _ (with_test SoundStep (is_reserved n) _ _ tt
+    (λ e. (size-sound n (size_ok n h e).0 (size_ok n h e).1, size_ok n h e)))
 
 transmitting : (t : TerminalState) (m : List ℕ) → AreOctets m → SoundStep (terminal_turn t (transmit m))
-transmitting t m h = if_idle-sound t.waits _ (either SoundStep (nat_le (length m) t.limits.command) _ _ (cutting (record t { failures = 0; command = m; answered = None }) m h) tt)
+transmitting t m h = if_idle-sound t.waits _ (either SoundStep (nat_le (length m) t.limits.command) _ _
+    (cutting (record t { failures = 0; command = m; answered = None }) m h) tt)
 
 -- ---- the card
 
@@ -205,11 +226,8 @@ SoundCardStep (Err fault) = Unit {0}
 time-sound : (n : ℕ) → n < 256 → Sound (request Wtx (n ∷ []))
 time-sound n h = record { nad = refl; octets = octets-one n h; suits = (refl, tt) }
 
-asks-sound : (q : CardRequest) → SoundCardWaits (asking q) → Sound (request_block q)
-asks-sound (size n) h = size-sound n h.0 h.1
-asks-sound (time n) h = time-sound n h
-
-saving-sound : (saved : Option (List ℕ)) (field rest : List ℕ) → SoundSaved saved → AreOctets field → SoundSaved (saving saved field rest)
+saving-sound : (saved : Option (List ℕ)) (field rest : List ℕ) → SoundSaved saved → AreOctets field
+    → SoundSaved (saving saved field rest)
 saving-sound saved field [] h k = k
 saving-sound saved field (x ∷ rest) h k = h
 
@@ -217,23 +235,29 @@ card_waiting-sound : (field rest : List ℕ) → AreOctets field → AreOctets r
 card_waiting-sound field [] h k = tt
 card_waiting-sound field (x ∷ rest) h k = (h, k)
 
-card_cutting : (c : CardState) (octets : List ℕ) → AreOctets octets → SoundSaved c.saved → SoundCardStep (card_sends_next c octets)
+card_cutting : (c : CardState) (octets : List ℕ) → AreOctets octets → SoundSaved c.saved
+    → SoundCardStep (card_sends_next c octets)
 card_cutting c octets h k =
     let f = octets-take c.ifsd octets h in
-    let r = octets-drop c.ifsd octets h in
-    (info-sound c.number (is_more (drop c.ifsd octets)) (take c.ifsd octets) f, card_waiting-sound (take c.ifsd octets) (drop c.ifsd octets) f r, saving-sound c.saved (take c.ifsd octets) (drop c.ifsd octets) k f)
+    let r = octets-drop c.ifsd octets h in (
+      info-sound c.number (is_more (drop c.ifsd octets)) (take c.ifsd octets) f,
+      card_waiting-sound (take c.ifsd octets) (drop c.ifsd octets) f r,
+      saving-sound c.saved (take c.ifsd octets) (drop c.ifsd octets) k f,
+    )
 
 card_joining : (c : CardState) (joined : List ℕ) (goes_on : Bool) → SoundCardStep (card_joins c joined goes_on)
 card_joining c joined true = (ready-sound (other c.expected) Free, tt, tt)
 card_joining c joined false = (tt, tt, tt)
 
-saved-sound : (c : CardState) (saved : Option (List ℕ)) (x : Bool) → SoundSaved saved → SoundCardWaits c.waits → SoundSaved c.saved → SoundCardStep (sends_saved c saved x)
+saved-sound : (c : CardState) (saved : Option (List ℕ)) (x : Bool) → SoundSaved saved → SoundCardWaits c.waits
+    → SoundSaved c.saved → SoundCardStep (sends_saved c saved x)
 saved-sound c None true h w k = (ready-sound c.expected Free, w, k)
 saved-sound c None false h w k = (ready-sound c.expected Free, w, k)
 saved-sound c (Some field) true h w k = (info-sound c.number false field h, w, k)
 saved-sound c (Some field) false h w k = (ready-sound c.expected Free, w, k)
 
-either_way : (c : CardState) (came : Came) → SoundCardWaits c.waits → SoundSaved c.saved → SoundCame came → SoundCardStep (in_either c came)
+either_way : (c : CardState) (came : Came) → SoundCardWaits c.waits → SoundSaved c.saved → SoundCame came
+    → SoundCardStep (in_either c came)
 either_way c (got (Request Ifs) inf) w s h = (record { nad = refl; octets = h.0; suits = h.1 }, w, s)
 either_way c (got (Request Resynch) inf) w s h = (ready-sound c.expected Other, w, s)
 either_way c (got (Request Abort) inf) w s h = (ready-sound c.expected Other, w, s)
@@ -248,17 +272,26 @@ either_way c damaged w s h = (ready-sound c.expected Redundancy, w, s)
 resynch_answer : Sound (response Resynch [])
 resynch_answer = record { nad = refl; octets = octets-none; suits = (refl, tt) }
 
-card_going : (c : CardState) (w : CardWaits) (came : Came) → SoundCardWaits c.waits → SoundCardWaits w → SoundSaved c.saved → SoundCame came → SoundCardStep (card_came c w came)
+card_going : (c : CardState) (w : CardWaits) (came : Came) → SoundCardWaits c.waits → SoundCardWaits w
+    → SoundSaved c.saved → SoundCame came → SoundCardStep (card_came c w came)
 card_going c host came cw h s k = tt
 card_going c (command joined) (got (Request Resynch) inf) cw h s k = (resynch_answer, tt, tt)
 card_going c (reply field rest) (got (Request Resynch) inf) cw h s k = (resynch_answer, tt, tt)
 card_going c (asking q) (got (Request Resynch) inf) cw h s k = (resynch_answer, tt, tt)
-card_going c (command joined) (got (Info number goes_on) inf) cw h s k = either SoundCardStep (same number c.expected && nat_le (length joined + length inf) c.limits.command) _ _ (card_joining c (joined ++ inf) goes_on) (either_way c (got (Info number goes_on) inf) cw s k)
-card_going c (command joined) (got (Ready number fault) inf) cw h s k = saved-sound c c.saved (same number c.number) s cw s
-card_going c (reply field rest) (got (Ready number fault) inf) cw h s k = either SoundCardStep (same number c.number) _ _ (info-sound c.number true field h.0, cw, s) (card_cutting (record c { number = other c.number }) rest h.1 s)
-card_going c (reply field rest) (got (Info number goes_on) inf) cw h s k = either_way c (got (Info number goes_on) inf) cw s k
-card_going c (asking (size n)) (got (Response Ifs) inf) cw h s k = either SoundCardStep (carried inf == n) _ _ (tt, tt, s) (size-sound n h.0 h.1, cw, s)
-card_going c (asking (time n)) (got (Response Wtx) inf) cw h s k = either SoundCardStep (carried inf == n) _ _ (tt, tt, s) (time-sound n h, cw, s)
+card_going c (command joined) (got (Info number goes_on) inf) cw h s k =
+    either SoundCardStep (same number c.expected && nat_le (length joined + length inf) c.limits.command) _ _
+    (card_joining c (joined ++ inf) goes_on) (either_way c (got (Info number goes_on) inf) cw s k)
+card_going c (command joined) (got (Ready number fault) inf) cw h s k =
+    saved-sound c c.saved (same number c.number) s cw s
+card_going c (reply field rest) (got (Ready number fault) inf) cw h s k =
+    either SoundCardStep (same number c.number) _ _ (info-sound c.number true field h.0, cw, s)
+    (card_cutting (record c { number = other c.number }) rest h.1 s)
+card_going c (reply field rest) (got (Info number goes_on) inf) cw h s k =
+    either_way c (got (Info number goes_on) inf) cw s k
+card_going c (asking (size n)) (got (Response Ifs) inf) cw h s k =
+    either SoundCardStep (carried inf == n) _ _ (tt, tt, s) (size-sound n h.0 h.1, cw, s)
+card_going c (asking (time n)) (got (Response Wtx) inf) cw h s k =
+    either SoundCardStep (carried inf == n) _ _ (tt, tt, s) (time-sound n h, cw, s)
 card_going c (command joined) (got (Request Ifs) inf) cw h s k = either_way c (got (Request Ifs) inf) cw s k
 card_going c (command joined) (got (Request Abort) inf) cw h s k = either_way c (got (Request Abort) inf) cw s k
 card_going c (command joined) (got (Request Wtx) inf) cw h s k = either_way c (got (Request Wtx) inf) cw s k
@@ -302,14 +335,17 @@ if_host-sound (command joined) step h = tt
 if_host-sound (reply field rest) step h = tt
 if_host-sound (asking q) step h = tt
 
-replying_ : (c : CardState) (octets : List ℕ) → AreOctets octets → SoundSaved c.saved → SoundCardStep (card_turn c (replies octets))
-replying_ c octets h s = if_host-sound c.waits _ (either SoundCardStep (nat_le (length octets) c.limits.answer) _ _ (card_cutting c octets h s) tt)
+replying_ : (c : CardState) (octets : List ℕ) → AreOctets octets → SoundSaved c.saved
+    → SoundCardStep (card_turn c (replies octets))
+replying_ c octets h s = if_host-sound c.waits _
+    (either SoundCardStep (nat_le (length octets) c.limits.answer) _ _ (card_cutting c octets h s) tt)
 
 asking_time : (c : CardState) (n : ℕ) → n < 256 → SoundSaved c.saved → SoundCardStep (card_turn c (more_time n))
 asking_time c n h s = if_host-sound c.waits _ ((time-sound n h, h, s))
 
 card_asking_size : (c : CardState) (n : ℕ) → n < 256 → SoundSaved c.saved → SoundCardStep (card_turn c (card_ask_ifs n))
-card_asking_size c n h s = if_host-sound c.waits _ (with_test SoundCardStep (is_reserved n) _ _ tt (λ e. (size-sound n (size_ok n h e).0 (size_ok n h e).1, size_ok n h e, s)))
+card_asking_size c n h s = if_host-sound c.waits _ (with_test SoundCardStep (is_reserved n) _ _ tt
+    (λ e. (size-sound n (size_ok n h e).0 (size_ok n h e).1, size_ok n h e, s)))
 
 -- ---- the link
 
@@ -335,41 +371,57 @@ card_sent : (turn : CardTurn) → SoundCardTurn turn → SoundWay (sent_by_card 
 card_sent (Sends b) h = h
 card_sent Asked h = tt
 
-terminal_made : (before l : Link) (step : TerminalStep) → SoundLink before → SoundLink l → SoundStep step → SoundLink (terminal_makes before l step)
-terminal_made before l (Ok step) g k h = record { terminal = h.1; card = k.card; saved = k.saved; way = sent step.0 h.0 }
+terminal_made : (before l : Link) (step : TerminalStep) → SoundLink before → SoundLink l → SoundStep step
+    → SoundLink (terminal_makes before l step)
+terminal_made before l (Ok step) g k h = record
+    { terminal = h.1; card = k.card; saved = k.saved; way = sent step.0 h.0 }
 terminal_made before l (Err fault) g k h = g
 
-card_made : (before l : Link) (step : CardStep) → SoundLink before → SoundLink l → SoundCardStep step → SoundLink (card_makes before l step)
-card_made before l (Ok step) g k h = record { terminal = k.terminal; card = h.1; saved = h.2; way = card_sent step.0 h.0 }
+card_made : (before l : Link) (step : CardStep) → SoundLink before → SoundLink l → SoundCardStep step
+    → SoundLink (card_makes before l step)
+card_made before l (Ok step) g k h = record
+    { terminal = k.terminal; card = h.1; saved = h.2; way = card_sent step.0 h.0 }
 card_made before l (Err fault) g k h = g
 
 -- the same ends and the same block under way, with other histories
-other_counts : (l : Link) (es hs : List Exchange) (d f : ℕ) → SoundLink l → SoundLink (record l { exchanges = es; services = hs; disturbed = d; failed = f })
+other_counts : (l : Link) (es hs : List Exchange) (d f : ℕ) → SoundLink l
+    → SoundLink (record l { exchanges = es; services = hs; disturbed = d; failed = f })
 other_counts l es hs d f g = record { terminal = g.terminal; card = g.card; saved = g.saved; way = g.way }
 
 delivering : (l : Link) (u : UnderWay) → SoundWay u → SoundLink l → SoundLink (delivered tables l u)
 delivering l nothing h g = g
-delivering l (to_card b) h g = card_made l l _ g g (card_going l.card l.card.waits (got b.pcb b.inf) g.card g.card g.saved (h.octets, h.suits))
-delivering l (to_terminal b) h g = terminal_made l l _ g g (going l.terminal l.terminal.waits (got b.pcb b.inf) g.terminal g.terminal (h.octets, h.suits))
+delivering l (to_card b) h g = card_made l l _ g g
+    (card_going l.card l.card.waits (got b.pcb b.inf) g.card g.card g.saved (h.octets, h.suits))
+delivering l (to_terminal b) h g = terminal_made l l _ g g
+    (going l.terminal l.terminal.waits (got b.pcb b.inf) g.terminal g.terminal (h.octets, h.suits))
 
 arriving : (l : Link) (u : UnderWay) (came : Came) → SoundCame came → SoundLink l → SoundLink (arrives tables l u came)
 arriving l nothing came h g = g
-arriving l (to_card b) came h g = card_made l _ _ g (other_counts l l.exchanges l.services (l.disturbed + 1) l.failed g) (card_going l.card l.card.waits came g.card g.card g.saved h)
-arriving l (to_terminal b) came h g = terminal_made l _ _ g (other_counts l l.exchanges l.services (l.disturbed + 1) l.failed g) (going l.terminal l.terminal.waits came g.terminal g.terminal h)
+arriving l (to_card b) came h g = card_made l _ _ g (other_counts l l.exchanges l.services (l.disturbed + 1) l.failed g)
+    (card_going l.card l.card.waits came g.card g.card g.saved h)
+arriving l (to_terminal b) came h g = terminal_made l _ _ g
+    (other_counts l l.exchanges l.services (l.disturbed + 1) l.failed g)
+    (going l.terminal l.terminal.waits came g.terminal g.terminal h)
 
 losing : (l : Link) (u : UnderWay) → SoundLink l → SoundLink (lost tables l u)
 losing l nothing g = g
-losing l (to_card b) g = terminal_made l _ _ g (other_counts l l.exchanges l.services (l.disturbed + 1) l.failed g) (going l.terminal l.terminal.waits quiet g.terminal g.terminal tt)
-losing l (to_terminal b) g = terminal_made l _ _ g (other_counts l l.exchanges l.services (l.disturbed + 1) l.failed g) (going l.terminal l.terminal.waits quiet g.terminal g.terminal tt)
+losing l (to_card b) g = terminal_made l _ _ g (other_counts l l.exchanges l.services (l.disturbed + 1) l.failed g)
+    (going l.terminal l.terminal.waits quiet g.terminal g.terminal tt)
+losing l (to_terminal b) g = terminal_made l _ _ g (other_counts l l.exchanges l.services (l.disturbed + 1) l.failed g)
+    (going l.terminal l.terminal.waits quiet g.terminal g.terminal tt)
 
 kept_sound : (e : Event) (l : Link) → HandsOctets e → SoundLink l → SoundLink (happens tables l e)
 kept_sound delivers l h g = delivering l l.under_way g.way g
 kept_sound damages l h g = arriving l l.under_way damaged tt g
 kept_sound spoils l h g = arriving l l.under_way invalid tt g
 kept_sound loses l h g = losing l l.under_way g
-kept_sound (transmits m) l h g = terminal_made l _ _ g (other_counts l (unanswered m ∷ l.exchanges) l.services 0 0 g) (transmitting l.terminal m h)
-kept_sound (asks_ifsd n) l h g = terminal_made l _ _ g (other_counts l l.exchanges l.services 0 0 g) (asking_size l.terminal n h)
-kept_sound (host_replies octets) l h g = card_made l _ _ g (other_counts l l.exchanges (with_reply l.services octets) l.disturbed l.failed g) (replying_ l.card octets h g.saved)
+kept_sound (transmits m) l h g = terminal_made l _ _ g (other_counts l (unanswered m ∷ l.exchanges) l.services 0 0 g)
+    (transmitting l.terminal m h)
+kept_sound (asks_ifsd n) l h g = terminal_made l _ _ g (other_counts l l.exchanges l.services 0 0 g)
+    (asking_size l.terminal n h)
+kept_sound (host_replies octets) l h g = card_made l _ _ g
+    (other_counts l l.exchanges (with_reply l.services octets) l.disturbed l.failed g)
+    (replying_ l.card octets h g.saved)
 kept_sound (host_asks_time n) l h g = card_made l l _ g g (asking_time l.card n h g.saved)
 kept_sound (host_asks_ifsc n) l h g = card_made l l _ g g (card_asking_size l.card n h g.saved)
 

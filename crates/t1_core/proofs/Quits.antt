@@ -64,14 +64,18 @@ going t (ack field rest) damaged e = exchanging t damaged
 going t (ack field rest) invalid e = exchanging t invalid
 going t (ack field rest) quiet e = exchanging t quiet
 going t (answer field) (got (Ready number fault) inf) e = either (same number t.number) _ _ (failing t _) (failing t _)
-going t (answer field) (got (Info number goes_on) inf) e = either (same number t.expected && nat_le (length inf) t.limits.answer) _ _ (joining (record t { number = other t.number }) inf goes_on) (exchanging t (got (Info number goes_on) inf))
+going t (answer field) (got (Info number goes_on) inf) e =
+    either (same number t.expected && nat_le (length inf) t.limits.answer) _ _
+    (joining (record t { number = other t.number }) inf goes_on) (exchanging t (got (Info number goes_on) inf))
 going t (answer field) (got (Request kind) inf) e = exchanging t (got (Request kind) inf)
 going t (answer field) (got (Response kind) inf) e = exchanging t (got (Response kind) inf)
 going t (answer field) damaged e = exchanging t damaged
 going t (answer field) invalid e = exchanging t invalid
 going t (answer field) quiet e = exchanging t quiet
 going t (more joined) (got (Ready number fault) inf) e = failing t _
-going t (more joined) (got (Info number goes_on) inf) e = either (same number t.expected && nat_le (length joined + length inf) t.limits.answer) _ _ (joining t (joined ++ inf) goes_on) (exchanging t (got (Info number goes_on) inf))
+going t (more joined) (got (Info number goes_on) inf) e =
+    either (same number t.expected && nat_le (length joined + length inf) t.limits.answer) _ _
+    (joining t (joined ++ inf) goes_on) (exchanging t (got (Info number goes_on) inf))
 going t (more joined) (got (Request kind) inf) e = exchanging t (got (Request kind) inf)
 going t (more joined) (got (Response kind) inf) e = exchanging t (got (Response kind) inf)
 going t (more joined) damaged e = exchanging t damaged
@@ -106,5 +110,6 @@ turning t (transmit m) e = calling t.waits _ (either (nat_le (length m) t.limits
 turning t (ask_ifs n) e = calling t.waits _ (either (is_reserved n) _ _ refl refl)
 turning t (takes came) e = going t t.waits came e
 
-pub gives_up-resynch : (t : TerminalState) (input : TerminalInput) → turn_of (terminal_turn t input) ≡ Ok GivenUp → is_resynch t.waits ≡ true
+pub gives_up-resynch : (t : TerminalState) (input : TerminalInput) → turn_of (terminal_turn t input) ≡ Ok GivenUp
+    → is_resynch t.waits ≡ true
 gives_up-resynch t input e = by_test (is_resynch t.waits) (λ h. true≢false (sym (ap gives_up e) ∙ turning t input h))

@@ -24,12 +24,15 @@ with_ifsd size (Ok step) = Ok (step.0, record step.1 { ifsd = size })
 with_ifsd size (Err fault) = Err fault
 
 abbrev keeps_ifsd : CardState → CardInput → CardStep
-keeps_ifsd c (card_takes (got (Request Resynch) inf)) = with_ifsd c.ifsd (card_turn c (card_takes (got (Request Resynch) inf)))
+keeps_ifsd c (card_takes (got (Request Resynch) inf)) =
+    with_ifsd c.ifsd (card_turn c (card_takes (got (Request Resynch) inf)))
 keeps_ifsd c input = card_turn c input
 
 pub keeps_ifsd-refuted : InStepWhenIdle (record { terminal = terminal_turn; card = keeps_ifsd }) → ⊥
 keeps_ifsd-refuted h =
-    let e : ◌≡◌ {A = ℕ} first_ifsd 2 = (h longest longest 32 (asks_ifsd 2 ∷ delivers ∷ delivers ∷ transmits [] ∷ loses ∷ loses ∷ loses ∷ loses ∷ delivers ∷ delivers ∷ []) tt).ifsd in
+    let e : ◌≡◌ {A = ℕ} first_ifsd 2 = (h longest longest 32
+    (asks_ifsd 2 ∷ delivers ∷ delivers ∷ transmits [] ∷ loses ∷ loses ∷ loses ∷ loses ∷ delivers ∷ delivers ∷ [])
+    tt).ifsd in
     omega (arith, e)
 
 -- The terminal asks for RESYNCH at the first failure.
@@ -46,7 +49,8 @@ hasty t input = instead t (terminal_turn t input)
 
 pub hasty-refuted : AlwaysPatient (record { terminal = hasty; card = card_turn }) → ⊥
 hasty-refuted h =
-    let e : 2 ≤ 1 = (h longest longest 32 (transmits [] ∷ loses ∷ delivers ∷ []) ((λ fit. fit), (tt, (tt, tt)))).given_up (takes (got (Response Resynch) [])) refl in
+    let e : 2 ≤ 1 = (h longest longest 32 (transmits [] ∷ loses ∷ delivers ∷ [])
+    ((λ fit. fit), (tt, (tt, tt)))).given_up (takes (got (Response Resynch) [])) refl in
     omega (arith, e)
 
 -- The terminal is dead after one unanswered RESYNCH.
@@ -62,7 +66,9 @@ impatient t input = quits t.waits (terminal_turn t input)
 
 pub impatient-refuted : AlwaysPatient (record { terminal = impatient; card = card_turn }) → ⊥
 impatient-refuted h =
-    let e : 5 ≤ 3 = (h longest longest 32 (transmits [] ∷ loses ∷ delivers ∷ delivers ∷ loses ∷ delivers ∷ delivers ∷ loses ∷ []) ((λ fit. fit), (tt, (tt, (tt, (tt, (tt, (tt, (tt, tt))))))))).dead tt in
+    let e : 5 ≤ 3 = (h longest longest 32
+    (transmits [] ∷ loses ∷ delivers ∷ delivers ∷ loses ∷ delivers ∷ delivers ∷ loses ∷ [])
+    ((λ fit. fit), (tt, (tt, (tt, (tt, (tt, (tt, (tt, tt))))))))).dead tt in
     omega (arith, e)
 
 -- After RESYNCH in an exchange the terminal sends its command again by itself.
@@ -82,7 +88,9 @@ twice_for_one m a h (inl no_more) = no_more
 twice_for_one m a h (inr served) = served.1
 
 pub sends_again-refuted : AlwaysMatches (record { terminal = sends_again; card = card_turn }) → ⊥
-sends_again-refuted h = twice_for_one (7 ∷ []) (5 ∷ []) (unanswered (7 ∷ [])) (h longest longest 32 (transmits (7 ∷ []) ∷ delivers ∷ host_replies (5 ∷ []) ∷ loses ∷ loses ∷ loses ∷ loses ∷ delivers ∷ delivers ∷ delivers ∷ []))
+sends_again-refuted h = twice_for_one (7 ∷ []) (5 ∷ []) (unanswered (7 ∷ []))
+    (h longest longest 32 (transmits (7 ∷ []) ∷ delivers ∷ host_replies (5 ∷ []) ∷ loses ∷ loses ∷ loses ∷ loses ∷
+    delivers ∷ delivers ∷ delivers ∷ []))
 
 -- The card gives its host the same command again on an R-block with its answer's number.
 abbrev given_again : CardState → Option (List ℕ) → Bool → CardStep → CardStep
@@ -94,11 +102,13 @@ for_command c (command joined) number step = given_again c c.saved (same number 
 for_command c waits number step = step
 
 abbrev gives_again : CardState → CardInput → CardStep
-gives_again c (card_takes (got (Ready number fault) inf)) = for_command c c.waits number (card_turn c (card_takes (got (Ready number fault) inf)))
+gives_again c (card_takes (got (Ready number fault) inf)) =
+    for_command c c.waits number (card_turn c (card_takes (got (Ready number fault) inf)))
 gives_again c input = card_turn c input
 
 pub gives_again-refuted : AlwaysMatches (record { terminal = terminal_turn; card = gives_again }) → ⊥
-gives_again-refuted h = twice_for_one [] (5 ∷ []) (unanswered []) (h longest longest 32 (transmits [] ∷ delivers ∷ host_replies (5 ∷ []) ∷ loses ∷ delivers ∷ []))
+gives_again-refuted h = twice_for_one [] (5 ∷ []) (unanswered [])
+    (h longest longest 32 (transmits [] ∷ delivers ∷ host_replies (5 ∷ []) ∷ loses ∷ delivers ∷ []))
 
 -- So its host is given more commands than the terminal took.
 more_than_taken : (m a : List ℕ) (h : Exchange) → Serves (unanswered m ∷ []) (h ∷ answered m a ∷ []) → ⊥
@@ -107,7 +117,8 @@ more_than_taken m a h s =
     omega (arith, ap length s.commands.1, length-append s.commands.0 hosts)
 
 pub gives_again-out_of_order : ServesInOrder (record { terminal = terminal_turn; card = gives_again }) → ⊥
-gives_again-out_of_order h = more_than_taken [] (5 ∷ []) (unanswered []) (h longest longest 32 (transmits [] ∷ delivers ∷ host_replies (5 ∷ []) ∷ loses ∷ delivers ∷ []) tt)
+gives_again-out_of_order h = more_than_taken [] (5 ∷ []) (unanswered [])
+    (h longest longest 32 (transmits [] ∷ delivers ∷ host_replies (5 ∷ []) ∷ loses ∷ delivers ∷ []) tt)
 
 -- The terminal sends its command in the longest fields, whatever the card takes.
 abbrev longest_fields : TerminalState → TerminalInput → TerminalStep
@@ -121,7 +132,8 @@ longest_fields-refuted h =
 -- So the card takes its block for an invalid one.
 pub longest_fields-not_taken : AlwaysTaken (record { terminal = longest_fields; card = card_turn }) → ⊥
 longest_fields-not_taken h =
-    let octets = octets-cons 1 (2 ∷ 3 ∷ []) (omega arith) (octets-cons 2 (3 ∷ []) (omega arith) (octets-cons 3 [] (omega arith) (λ i. omega arith))) in
+    let octets = octets-cons 1 (2 ∷ 3 ∷ []) (omega arith)
+    (octets-cons 2 (3 ∷ []) (omega arith) (octets-cons 3 [] (omega arith) (λ i. omega arith))) in
     let e : 3 ≤ 2 = (h longest longest 2 (transmits (1 ∷ 2 ∷ 3 ∷ []) ∷ []) (octets, tt)).1.proper.suits in
     omega (arith, e)
 

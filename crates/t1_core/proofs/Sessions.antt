@@ -17,7 +17,8 @@ use Rattle.t1_core.specs.Link.{tables, Link, new_link, link_with, run, to_card, 
 abbrev select : List ℕ
 select = 0x00 ∷ 0xA4 ∷ 0x04 ∷ 0x00 ∷ 0x00 ∷ []
 
--- What four lists of octets are to a terminal: another node address, an octet left over, a wrong check octet, and an ABORT request.
+-- What four lists of octets are to a terminal: another node address, an octet left over, a wrong check octet, and an
+-- ABORT request.
 other_address : class_of first_ifsd (0x01 ∷ 0x00 ∷ 0x02 ∷ 0x90 ∷ 0x00 ∷ 0x93 ∷ []) ≡ invalid
 other_address = refl
 
@@ -101,27 +102,36 @@ same_command : (run tables (host_asks_ifsc 254 ∷ delivers ∷ delivers ∷ [])
 same_command = refl
 
 -- a command whose first block is damaged, and whose answer is lost once
-damaged_and_lost : (run tables (transmits select ∷ damages ∷ delivers ∷ delivers ∷ host_replies (0x90 ∷ 0x00 ∷ []) ∷ loses ∷ delivers ∷ delivers ∷ []) (new_link 32)).exchanges
+damaged_and_lost : (run tables (transmits select ∷ damages ∷ delivers ∷ delivers ∷ host_replies (0x90 ∷ 0x00 ∷ []) ∷
+    loses ∷ delivers ∷ delivers ∷ []) (new_link 32)).exchanges
     ≡ answered select (0x90 ∷ 0x00 ∷ []) ∷ []
 damaged_and_lost = refl
 
 -- a command that was acted on and given up
-gave_up : (run tables (transmits select ∷ delivers ∷ host_replies (0x90 ∷ 0x00 ∷ []) ∷ loses ∷ loses ∷ loses ∷ loses ∷ delivers ∷ delivers ∷ []) (new_link 32)).exchanges ≡ given_up select ∷ []
+gave_up : (run tables (transmits select ∷ delivers ∷ host_replies (0x90 ∷ 0x00 ∷ []) ∷ loses ∷ loses ∷ loses ∷ loses ∷
+    delivers ∷ delivers ∷ []) (new_link 32)).exchanges ≡ given_up select ∷ []
 gave_up = refl
 
-gave_up_acted : (run tables (transmits select ∷ delivers ∷ host_replies (0x90 ∷ 0x00 ∷ []) ∷ loses ∷ loses ∷ loses ∷ loses ∷ delivers ∷ delivers ∷ []) (new_link 32)).services ≡ answered select (0x90 ∷ 0x00 ∷ []) ∷ []
+gave_up_acted : (run tables (transmits select ∷ delivers ∷ host_replies (0x90 ∷ 0x00 ∷ []) ∷ loses ∷ loses ∷ loses ∷
+    loses ∷ delivers ∷ delivers ∷ []) (new_link 32)).services ≡ answered select (0x90 ∷ 0x00 ∷ []) ∷ []
 gave_up_acted = refl
 
 -- Both histories of a command that was acted on and given up, and came again.
-again_exchanges : (run tables (transmits select ∷ delivers ∷ host_replies (0x90 ∷ 0x00 ∷ []) ∷ loses ∷ delivers ∷ loses ∷ delivers ∷ loses ∷ delivers ∷ loses ∷ delivers ∷ delivers ∷ transmits select ∷ delivers ∷ []) (new_link 32)).exchanges ≡ unanswered select ∷ given_up select ∷ []
+again_exchanges : (run tables (transmits select ∷ delivers ∷ host_replies (0x90 ∷ 0x00 ∷ []) ∷ loses ∷ delivers ∷ loses
+    ∷ delivers ∷ loses ∷ delivers ∷ loses ∷ delivers ∷ delivers ∷ transmits select ∷ delivers ∷ [])
+    (new_link 32)).exchanges ≡ unanswered select ∷ given_up select ∷ []
 again_exchanges = refl
 
-again_services : (run tables (transmits select ∷ delivers ∷ host_replies (0x90 ∷ 0x00 ∷ []) ∷ loses ∷ delivers ∷ loses ∷ delivers ∷ loses ∷ delivers ∷ loses ∷ delivers ∷ delivers ∷ transmits select ∷ delivers ∷ []) (new_link 32)).services ≡ unanswered select ∷ answered select (0x90 ∷ 0x00 ∷ []) ∷ []
+again_services : (run tables (transmits select ∷ delivers ∷ host_replies (0x90 ∷ 0x00 ∷ []) ∷ loses ∷ delivers ∷ loses ∷
+    delivers ∷ loses ∷ delivers ∷ loses ∷ delivers ∷ delivers ∷ transmits select ∷ delivers ∷ [])
+    (new_link 32)).services ≡ unanswered select ∷ answered select (0x90 ∷ 0x00 ∷ []) ∷ []
 again_services = refl
 
--- A command of 5 octets for a card with room for 4, on a line without a fault: it is given up, and the card's host was not asked. So patience has its premise.
+-- A command of 5 octets for a card with room for 4, on a line without a fault: it is given up, and the card's host was
+-- not asked. So patience has its premise.
 abbrev too_long_for_the_card : Link
-too_long_for_the_card = run tables (transmits select ∷ delivers ∷ delivers ∷ delivers ∷ delivers ∷ delivers ∷ delivers ∷ delivers ∷ delivers ∷ delivers ∷ delivers ∷ []) (link_with longest (record { command = 4; answer = 4 }) 32)
+too_long_for_the_card = run tables (transmits select ∷ delivers ∷ delivers ∷ delivers ∷ delivers ∷ delivers ∷ delivers ∷
+    delivers ∷ delivers ∷ delivers ∷ delivers ∷ []) (link_with longest (record { command = 4; answer = 4 }) 32)
 
 gave_up_too_long : too_long_for_the_card.exchanges ≡ given_up select ∷ []
 gave_up_too_long = refl

@@ -66,15 +66,20 @@ going t (ack field rest) (got (Response kind) inf) = exchanging t (got (Response
 going t (ack field rest) damaged = exchanging t damaged
 going t (ack field rest) invalid = exchanging t invalid
 going t (ack field rest) quiet = exchanging t quiet
-going t (answer field) (got (Ready number fault) inf) = either Tell (same number t.number) _ _ (failing t _) (failing t _)
-going t (answer field) (got (Info number goes_on) inf) = either Tell (same number t.expected && nat_le (length inf) t.limits.answer) _ _ (joining (record t { number = other t.number }) inf goes_on) (exchanging t (got (Info number goes_on) inf))
+going t (answer field) (got (Ready number fault) inf) =
+    either Tell (same number t.number) _ _ (failing t _) (failing t _)
+going t (answer field) (got (Info number goes_on) inf) =
+    either Tell (same number t.expected && nat_le (length inf) t.limits.answer) _ _
+    (joining (record t { number = other t.number }) inf goes_on) (exchanging t (got (Info number goes_on) inf))
 going t (answer field) (got (Request kind) inf) = exchanging t (got (Request kind) inf)
 going t (answer field) (got (Response kind) inf) = exchanging t (got (Response kind) inf)
 going t (answer field) damaged = exchanging t damaged
 going t (answer field) invalid = exchanging t invalid
 going t (answer field) quiet = exchanging t quiet
 going t (more joined) (got (Ready number fault) inf) = failing t _
-going t (more joined) (got (Info number goes_on) inf) = either Tell (same number t.expected && nat_le (length joined + length inf) t.limits.answer) _ _ (joining t (joined ++ inf) goes_on) (exchanging t (got (Info number goes_on) inf))
+going t (more joined) (got (Info number goes_on) inf) =
+    either Tell (same number t.expected && nat_le (length joined + length inf) t.limits.answer) _ _
+    (joining t (joined ++ inf) goes_on) (exchanging t (got (Info number goes_on) inf))
 going t (more joined) (got (Request kind) inf) = exchanging t (got (Request kind) inf)
 going t (more joined) (got (Response kind) inf) = exchanging t (got (Response kind) inf)
 going t (more joined) damaged = exchanging t damaged
@@ -132,7 +137,9 @@ saved_again c (Some field) false = tt
 
 card_going : (c : CardState) (w : CardWaits) (came : Came) → CardTell (card_came c w came)
 card_going c host came = tt
-card_going c (command joined) (got (Info number goes_on) inf) = either CardTell (same number c.expected && nat_le (length joined + length inf) c.limits.command) _ _ (card_joining c (joined ++ inf) goes_on) tt
+card_going c (command joined) (got (Info number goes_on) inf) =
+    either CardTell (same number c.expected && nat_le (length joined + length inf) c.limits.command) _ _
+    (card_joining c (joined ++ inf) goes_on) tt
 card_going c (command joined) (got (Ready number fault) inf) = saved_again c c.saved (same number c.number)
 card_going c (command joined) (got (Request Resynch) inf) = tt
 card_going c (command joined) (got (Request Ifs) inf) = tt

@@ -16,19 +16,23 @@ use Rattle.block_core.specs.declared.pcb.Pcb.TheVariants.{Info, Ready, Request, 
 use Rattle.block_core.specs.declared.reason.BlockReason.{BlockReason}
 use Rattle.block_core.specs.declared.reason.BlockReason.TheVariants.{BadLrc}
 
--- What came: a whole block with node address 0; a block that only its check octet contradicts; another invalid block; or nothing within the waiting time, which the terminal alone notices (error handling, clause 11.6).
+-- What came: a whole block with node address 0; a block that only its check octet contradicts; another invalid block;
+-- or nothing within the waiting time, which the terminal alone notices (error handling, clause 11.6).
 pub data Came : Type 0 where
   got : (pcb : Pcb) (inf : List ℕ) → Came
   damaged : Came
   invalid : Came
   quiet : Came
 
--- The octets that the line delivered as one block are this to an end that takes information fields of at most size octets. It goes by the verdict on them as a block: what the check octet alone contradicts is damaged, whatever follows it; octets left over and another node address are invalid.
+-- The octets that the line delivered as one block are this to an end that takes information fields of at most size
+-- octets. It goes by the verdict on them as a block: what the check octet alone contradicts is damaged, whatever
+-- follows it; octets left over and another node address are invalid.
 abbrev pub IsClass : ℕ → List ℕ → Came → Type 0
 IsClass size b (got pcb inf) = Accepts self_ended (IsBlock size) b (record { nad = 0; pcb = pcb; inf = inf }) (length b)
 IsClass size b damaged = (place : ℕ) × Refuses self_ended (IsBlock size) (IsReason size) b (At place BadLrc)
 IsClass size b invalid =
-    ((stop : Stop BlockReason) × Refuses self_ended (IsBlock size) (IsReason size) b stop × ((place : ℕ) → stop ≢ At place BadLrc))
+    ((stop : Stop BlockReason) × Refuses self_ended (IsBlock size) (IsReason size) b stop
+    × ((place : ℕ) → stop ≢ At place BadLrc))
     ⊎ ((v : Parts) × (n : ℕ) × Accepts self_ended (IsBlock size) b v n × ((v.nad ≢ 0) ⊎ (n ≢ length b)))
 IsClass size b quiet = ⊥
 
@@ -60,8 +64,10 @@ response kind inf = record { nad = 0; pcb = Response kind; inf = inf }
 abbrev pub all_pcbs : List Pcb
 all_pcbs =
     Info Zero false ∷ Info Zero true ∷ Info One false ∷ Info One true
-    ∷ Ready Zero Free ∷ Ready Zero Redundancy ∷ Ready Zero Other ∷ Ready One Free ∷ Ready One Redundancy ∷ Ready One Other
-    ∷ Request Resynch ∷ Request Ifs ∷ Request Abort ∷ Request Wtx ∷ Response Resynch ∷ Response Ifs ∷ Response Abort ∷ Response Wtx ∷ []
+    ∷ Ready Zero Free ∷ Ready Zero Redundancy ∷ Ready Zero Other
+    ∷ Ready One Free ∷ Ready One Redundancy ∷ Ready One Other
+    ∷ Request Resynch ∷ Request Ifs ∷ Request Abort ∷ Request Wtx
+    ∷ Response Resynch ∷ Response Ifs ∷ Response Abort ∷ Response Wtx ∷ []
 
 -- the first of them with this octet
 abbrev pub pcb_among : List Pcb → ℕ → Option Pcb

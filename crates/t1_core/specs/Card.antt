@@ -1,4 +1,5 @@
--- The card of the T=1 protocol (ISO/IEC 7816-3, clause 11.6). It counts no failures, and what RESYNCH leaves is this project's profile.
+-- The card of the T=1 protocol (ISO/IEC 7816-3, clause 11.6). It counts no failures, and what RESYNCH leaves is this
+-- project's profile.
 use Rattle.std.specs.Prelude.{ℕ, ◌+◌, List, [], ◌∷◌, ◌++◌, length, take, drop, Bool, true, false, ◌&&◌, ◌==◌, nat_le, if◌then◌else◌, Option, Some, None, Result, Ok, Err}
 use Rattle.block_core.specs.Block.{Parts}
 use Rattle.block_core.specs.declared.pcb.Number.{Number}
@@ -49,7 +50,17 @@ pub record CardState : Type 0 where
 
 -- at the start, with room for messages of so many octets
 abbrev pub card_with : Limits → ℕ → CardState
-card_with limits ifsc = record { number = Zero; expected = Zero; saved = None; ifsc = ifsc; ifsd = first_ifsd; first_ifsc = ifsc; command = []; waits = command []; limits = limits }
+card_with limits ifsc = record {
+  number = Zero;
+  expected = Zero;
+  saved = None;
+  ifsc = ifsc;
+  ifsd = first_ifsd;
+  first_ifsc = ifsc;
+  command = [];
+  waits = command [];
+  limits = limits;
+}
 
 abbrev pub new_card : ℕ → CardState
 new_card ifsc = card_with longest ifsc
@@ -68,7 +79,10 @@ waiting field (octet ∷ rest) = reply field (octet ∷ rest)
 
 -- The next I-block of what is left of the reply, cut at the present IFSD.
 abbrev pub sends_info : CardState → List ℕ → List ℕ → CardStep
-sends_info c field rest = Ok (Send (info c.number (is_more rest) field), record c { saved = saving c.saved field rest; waits = waiting field rest })
+sends_info c field rest = Ok (
+  Send (info c.number (is_more rest) field),
+  record c { saved = saving c.saved field rest; waits = waiting field rest },
+)
 
 abbrev pub sends_next : CardState → List ℕ → CardStep
 sends_next c octets = sends_info c (take c.ifsd octets) (drop c.ifsd octets)
@@ -80,8 +94,26 @@ number_after (Some field) number = other number
 
 -- An I-block of the command that fits is joined.
 abbrev pub joins : CardState → List ℕ → Bool → CardStep
-joins c joined true = Ok (Send (ready (other c.expected) Free), record c { number = number_after c.saved c.number; saved = None; expected = other c.expected; command = []; waits = command joined })
-joins c joined false = Ok (Asked, record c { number = number_after c.saved c.number; saved = None; expected = other c.expected; command = joined; waits = host })
+joins c joined true = Ok (
+  Send (ready (other c.expected) Free),
+  record c {
+    number = number_after c.saved c.number;
+    saved = None;
+    expected = other c.expected;
+    command = [];
+    waits = command joined;
+  },
+)
+joins c joined false = Ok (
+  Asked,
+  record c {
+    number = number_after c.saved c.number;
+    saved = None;
+    expected = other c.expected;
+    command = joined;
+    waits = host;
+  },
+)
 
 -- an R-block with its own number: the saved block is sent again
 abbrev pub sends_saved : CardState → Option (List ℕ) → Bool → CardStep

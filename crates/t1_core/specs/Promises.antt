@@ -11,7 +11,8 @@ use Rattle.t1_core.specs.Terminal.{TerminalState, Mark, turn_of, TerminalInput, 
 use Rattle.t1_core.specs.Card.{CardState, CardInput, host}
 use Rattle.t1_core.specs.Link.{Tables, Link, UnderWay, nothing, to_card, to_terminal, Exchange, answered, unanswered, given_up, command_of, Event, transmits, asks_ifsd, host_replies, host_asks_time, host_asks_ifsc, run, link_with}
 
--- The card's host was given each command that was answered, once and in order, and gave that answer; a command without an answer was given to the host once or not at all. Newest first.
+-- The card's host was given each command that was answered, once and in order, and gave that answer; a command without
+-- an answer was given to the host once or not at all. Newest first.
 abbrev pub Matches : List Exchange → List Exchange → Type 0
 Matches [] [] = Unit {0}
 Matches [] (h ∷ hs) = ⊥
@@ -58,33 +59,48 @@ answered_only [] = []
 answered_only (answered m a ∷ es) = answered m a ∷ answered_only es
 answered_only (e ∷ es) = answered_only es
 
--- The commands that the host was given are the first of those that the terminal took, and the exchanges that were answered are the first of the host's services, with its replies. The lists have the newest first.
+-- The commands that the host was given are the first of those that the terminal took, and the exchanges that were
+-- answered are the first of the host's services, with its replies. The lists have the newest first.
 pub record Serves (es hs : List Exchange) : Type 0 where
   pub commands : (newer : List (List ℕ)) × (newer ++ map command_of hs ≡ map command_of es)
   pub answers : (newer : List Exchange) × (newer ++ answered_only es ≡ hs)
 
--- Whatever the limits of both ends, and whatever is lost or damaged, each answer is the reply to its command, and no command is acted on twice.
+-- Whatever the limits of both ends, and whatever is lost or damaged, each answer is the reply to its command, and no
+-- command is acted on twice.
 abbrev pub AlwaysMatches : Tables → Type 0
-AlwaysMatches by = (at_terminal at_card : Limits) (ifsc : ℕ) (events : List Event) → Matches (run by events (link_with at_terminal at_card ifsc)).exchanges (run by events (link_with at_terminal at_card ifsc)).services
+AlwaysMatches by = (at_terminal at_card : Limits) (ifsc : ℕ) (events : List Event)
+    → Matches (run by events (link_with at_terminal at_card ifsc)).exchanges
+    (run by events (link_with at_terminal at_card ifsc)).services
 
 -- Where no exchange was given up, the host was given the commands in their order, and each answer is its reply.
 abbrev pub ServesInOrder : Tables → Type 0
-ServesInOrder by = (at_terminal at_card : Limits) (ifsc : ℕ) (events : List Event) → NoneGivenUp (run by events (link_with at_terminal at_card ifsc)).exchanges → Serves (run by events (link_with at_terminal at_card ifsc)).exchanges (run by events (link_with at_terminal at_card ifsc)).services
+ServesInOrder by = (at_terminal at_card : Limits) (ifsc : ℕ) (events : List Event)
+    → NoneGivenUp (run by events (link_with at_terminal at_card ifsc)).exchanges
+    → Serves (run by events (link_with at_terminal at_card ifsc)).exchanges
+    (run by events (link_with at_terminal at_card ifsc)).services
 
 -- Whenever the terminal is idle, both ends are in step.
 abbrev pub InStepWhenIdle : Tables → Type 0
-InStepWhenIdle by = (at_terminal at_card : Limits) (ifsc : ℕ) (events : List Event) → IsIdle (run by events (link_with at_terminal at_card ifsc)).terminal.waits → InStep (run by events (link_with at_terminal at_card ifsc))
+InStepWhenIdle by = (at_terminal at_card : Limits) (ifsc : ℕ) (events : List Event)
+    → IsIdle (run by events (link_with at_terminal at_card ifsc)).terminal.waits
+    → InStep (run by events (link_with at_terminal at_card ifsc))
 
 -- At every moment the I-block under way fits the size that its receiver holds.
 abbrev pub AlwaysFits : Tables → Type 0
-AlwaysFits by = (at_terminal at_card : Limits) (ifsc : ℕ) (events : List Event) → Fits (run by events (link_with at_terminal at_card ifsc)) (run by events (link_with at_terminal at_card ifsc)).under_way
+AlwaysFits by = (at_terminal at_card : Limits) (ifsc : ℕ) (events : List Event)
+    → Fits (run by events (link_with at_terminal at_card ifsc))
+    (run by events (link_with at_terminal at_card ifsc)).under_way
 
--- The turn Answered leaves an answer, and Asked leaves the host its turn: so the histories miss no turn. This holds of every state.
+-- The turn Answered leaves an answer, and Asked leaves the host its turn: so the histories miss no turn. This holds of
+-- every state.
 pub record Tells (by : Tables) : Type 0 where
-  pub answer : (t next : TerminalState) (mark : Mark) (input : TerminalInput) → by.terminal t input ≡ Ok (Answered, next, mark) → (octets : List ℕ) × (next.answered ≡ Some octets)
+  pub answer : (t next : TerminalState) (mark : Mark) (input : TerminalInput)
+      → by.terminal t input ≡ Ok (Answered, next, mark) → (octets : List ℕ) × (next.answered ≡ Some octets)
   pub host : (c next : CardState) (input : CardInput) → by.card c input ≡ Ok (Asked, next) → next.waits ≡ host
 
--- The terminal gives up, whatever comes or is called, only where at least two blocks were lost or damaged since the exchange, or the question about a size, was begun; it is dead only where at least five were; and its failures since then are at most twice those blocks.
+-- The terminal gives up, whatever comes or is called, only where at least two blocks were lost or damaged since the
+-- exchange, or the question about a size, was begun; it is dead only where at least five were; and its failures since
+-- then are at most twice those blocks.
 pub record IsPatient (by : Tables) (l : Link) : Type 0 where
   pub given_up : (input : TerminalInput) → turn_of (by.terminal l.terminal input) ≡ Ok GivenUp → 2 ≤ l.disturbed
   pub dead : IsDead l.terminal.waits → 5 ≤ l.disturbed
@@ -93,20 +109,24 @@ pub record IsPatient (by : Tables) (l : Link) : Type 0 where
 -- A message that its sender takes fits the limit of its receiver.
 abbrev pub FitsReceiver : Limits → Limits → Event → Type 0
 FitsReceiver at_terminal at_card (transmits m) = length m ≤ at_terminal.command → length m ≤ at_card.command
-FitsReceiver at_terminal at_card (host_replies octets) = length octets ≤ at_card.answer → length octets ≤ at_terminal.answer
+FitsReceiver at_terminal at_card (host_replies octets) =
+    length octets ≤ at_card.answer → length octets ≤ at_terminal.answer
 FitsReceiver at_terminal at_card event = Unit {0}
 
 abbrev pub AllFit : Limits → Limits → List Event → Type 0
 AllFit at_terminal at_card [] = Unit {0}
 AllFit at_terminal at_card (e ∷ es) = FitsReceiver at_terminal at_card e × AllFit at_terminal at_card es
 
--- Where each message fits its receiver. Else the receiver takes its last blocks for an error, until the exchange is given up.
+-- Where each message fits its receiver. Else the receiver takes its last blocks for an error, until the exchange is
+-- given up.
 abbrev pub AlwaysPatient : Tables → Type 0
-AlwaysPatient by = (at_terminal at_card : Limits) (ifsc : ℕ) (events : List Event) → AllFit at_terminal at_card events → IsPatient by (run by events (link_with at_terminal at_card ifsc))
+AlwaysPatient by = (at_terminal at_card : Limits) (ifsc : ℕ) (events : List Event) → AllFit at_terminal at_card events
+    → IsPatient by (run by events (link_with at_terminal at_card ifsc))
 
 -- Between ends with the same limits each message does.
 abbrev pub PatientWhereAlike : Tables → Type 0
-PatientWhereAlike by = (limits : Limits) (ifsc : ℕ) (events : List Event) → IsPatient by (run by events (link_with limits limits ifsc))
+PatientWhereAlike by = (limits : Limits) (ifsc : ℕ) (events : List Event)
+    → IsPatient by (run by events (link_with limits limits ifsc))
 
 -- The calls of an event hand over octets.
 abbrev pub HandsOctets : Event → Type 0
@@ -121,11 +141,14 @@ abbrev pub AllHandOctets : List Event → Type 0
 AllHandOctets [] = Unit {0}
 AllHandOctets (e ∷ es) = HandsOctets e × AllHandOctets es
 
--- The octets of the block under way are that block to its receiver, so that what is delivered whole is never damaged or invalid.
+-- The octets of the block under way are that block to its receiver, so that what is delivered whole is never damaged or
+-- invalid.
 abbrev pub IsTaken : Link → UnderWay → Type 0
 IsTaken l nothing = Unit {0}
 IsTaken l (to_card block) = IsClass l.card.ifsc (spelling block) (got block.pcb block.inf)
 IsTaken l (to_terminal block) = IsClass l.terminal.ifsd (spelling block) (got block.pcb block.inf)
 
 abbrev pub AlwaysTaken : Tables → Type 0
-AlwaysTaken by = (at_terminal at_card : Limits) (ifsc : ℕ) (events : List Event) → AllHandOctets events → IsTaken (run by events (link_with at_terminal at_card ifsc)) (run by events (link_with at_terminal at_card ifsc)).under_way
+AlwaysTaken by = (at_terminal at_card : Limits) (ifsc : ℕ) (events : List Event) → AllHandOctets events
+    → IsTaken (run by events (link_with at_terminal at_card ifsc))
+    (run by events (link_with at_terminal at_card ifsc)).under_way

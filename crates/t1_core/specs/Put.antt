@@ -1,4 +1,5 @@
--- What a call answers that puts the octets of its block to the front of the caller's buffer; a call that sends none leaves the buffer.
+-- What a call answers that puts the octets of its block to the front of the caller's buffer; a call that sends none
+-- leaves the buffer.
 use Rattle.std.specs.Prelude.{◌≡◌, ◌≤◌, ℕ, List, Result, Ok, Err}
 use Rattle.block_core.specs.Block.{IsPut}
 use Rattle.t1_core.specs.declared.turns.TerminalTurn.{TerminalTurn}
@@ -13,8 +14,10 @@ use Rattle.t1_core.specs.declared.turns.CardPut.TheVariants as card_put
 use Rattle.t1_core.specs.declared.turns.CardFault.{CardFault}
 use Rattle.t1_core.specs.Waiting.{waiting_times}
 
-abbrev pub IsTerminalPut : Result TerminalTurn TerminalFault → List ℕ → List ℕ → Result TerminalPut TerminalFault → Type 0
-IsTerminalPut (Ok (Send block)) old new answer = (count : ℕ) × (answer ≡ Ok (put.Send count (waiting_times (Send block)))) × IsPut block old new count
+abbrev pub IsTerminalPut : Result TerminalTurn TerminalFault → List ℕ → List ℕ
+    → Result TerminalPut TerminalFault → Type 0
+IsTerminalPut (Ok (Send block)) old new answer =
+    (count : ℕ) × (answer ≡ Ok (put.Send count (waiting_times (Send block)))) × IsPut block old new count
 IsTerminalPut (Ok Answered) old new answer = (answer ≡ Ok put.Answered) × (new ≡ old)
 IsTerminalPut (Ok IfsSet) old new answer = (answer ≡ Ok put.IfsSet) × (new ≡ old)
 IsTerminalPut (Ok GivenUp) old new answer = (answer ≡ Ok put.GivenUp) × (new ≡ old)
@@ -22,7 +25,8 @@ IsTerminalPut (Ok Dead) old new answer = (answer ≡ Ok put.Dead) × (new ≡ ol
 IsTerminalPut (Err fault) old new answer = (answer ≡ Err fault) × (new ≡ old)
 
 abbrev pub IsCardPut : Result CardTurn CardFault → List ℕ → List ℕ → Result CardPut CardFault → Type 0
-IsCardPut (Ok (card_turns.Send block)) old new answer = (count : ℕ) × (answer ≡ Ok (card_put.Send count)) × IsPut block old new count
+IsCardPut (Ok (card_turns.Send block)) old new answer =
+    (count : ℕ) × (answer ≡ Ok (card_put.Send count)) × IsPut block old new count
 IsCardPut (Ok card_turns.Asked) old new answer = (answer ≡ Ok card_put.Asked) × (new ≡ old)
 IsCardPut (Err fault) old new answer = (answer ≡ Err fault) × (new ≡ old)
 

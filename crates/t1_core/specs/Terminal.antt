@@ -1,4 +1,5 @@
--- The terminal of the T=1 protocol (ISO/IEC 7816-3, clause 11.6). The counts of repeats, and what RESYNCH leaves, are this project's profile.
+-- The terminal of the T=1 protocol (ISO/IEC 7816-3, clause 11.6). The counts of repeats, and what RESYNCH leaves, are
+-- this project's profile.
 use Rattle.std.specs.Prelude.{ℕ, ◌+◌, List, [], ◌∷◌, ◌++◌, length, take, drop, Bool, true, false, ◌&&◌, ◌||◌, ◌==◌, nat_lt, nat_le, min, if◌then◌else◌, Option, Some, None, Result, Ok, Err}
 use Rattle.block_core.specs.Block.{Parts}
 use Rattle.block_core.specs.declared.pcb.Number.{Number}
@@ -82,12 +83,24 @@ pub record TerminalState : Type 0 where
 
 -- at the start, with room for messages of so many octets
 abbrev pub terminal_with : Limits → ℕ → TerminalState
-terminal_with limits ifsc = record { number = Zero; expected = Zero; failures = 0; ifsc = ifsc; ifsd = first_ifsd; first_ifsc = ifsc; command = []; waits = idle; answered = None; limits = limits }
+terminal_with limits ifsc = record {
+  number = Zero;
+  expected = Zero;
+  failures = 0;
+  ifsc = ifsc;
+  ifsd = first_ifsd;
+  first_ifsc = ifsc;
+  command = [];
+  waits = idle;
+  answered = None;
+  limits = limits;
+}
 
 abbrev pub new_terminal : ℕ → TerminalState
 new_terminal ifsc = terminal_with longest ifsc
 
--- Whether a step is a failure: the rows that repeat a block, or ask for RESYNCH in place of a fourth repeat, are marked.
+-- Whether a step is a failure: the rows that repeat a block, or ask for RESYNCH in place of a fourth repeat, are
+-- marked.
 pub data Mark : Type 0 where
   failure : Mark
   no_failure : Mark
@@ -107,7 +120,11 @@ waiting field (octet ∷ rest) = ack field (octet ∷ rest)
 
 -- The next I-block of what is left of the command, cut at the present IFSC (chaining, clause 11.6).
 abbrev pub sends_info : TerminalState → List ℕ → List ℕ → TerminalStep
-sends_info t field rest = Ok (Send (info t.number (is_more rest) field), record t { waits = waiting field rest }, no_failure)
+sends_info t field rest = Ok (
+  Send (info t.number (is_more rest) field),
+  record t { waits = waiting field rest },
+  no_failure,
+)
 
 abbrev pub sends_next : TerminalState → List ℕ → TerminalStep
 sends_next t octets = sends_info t (take t.ifsc octets) (drop t.ifsc octets)
@@ -121,10 +138,19 @@ fails t block =
 
 -- An I-block of the answer that fits is joined.
 abbrev pub joins : TerminalState → List ℕ → Bool → TerminalStep
-joins t joined true = Ok (Send (ready (other t.expected) Free), record t { failures = 0; expected = other t.expected; waits = more joined }, no_failure)
-joins t joined false = Ok (Answered, record t { failures = 0; expected = other t.expected; waits = idle; answered = Some joined }, no_failure)
+joins t joined true = Ok (
+  Send (ready (other t.expected) Free),
+  record t { failures = 0; expected = other t.expected; waits = more joined },
+  no_failure,
+)
+joins t joined false = Ok (
+  Answered,
+  record t { failures = 0; expected = other t.expected; waits = idle; answered = Some joined },
+  no_failure,
+)
 
--- In an exchange, what is taken alike whatever it waits for: the card's requests are answered with what they carry, all else is a failure.
+-- In an exchange, what is taken alike whatever it waits for: the card's requests are answered with what they carry, all
+-- else is a failure.
 abbrev pub in_exchange : TerminalState → Came → TerminalStep
 in_exchange t (got (Request Ifs) inf) = Ok (Send (response Ifs inf), record t { ifsc = carried inf }, no_failure)
 in_exchange t (got (Request Wtx) inf) = Ok (Send (response Wtx inf), t, no_failure)
@@ -172,7 +198,18 @@ in_ifs t size came = fails t (request Ifs (size ∷ []))
 -- RESYNCH was asked for.
 abbrev pub in_resynch : TerminalState → ℕ → Came → TerminalStep
 in_resynch t asked (got (Response Resynch) inf) =
-    Ok (GivenUp, record t { number = Zero; expected = Zero; failures = 0; ifsc = t.first_ifsc; ifsd = first_ifsd; waits = idle }, no_failure)
+    Ok (
+      GivenUp,
+      record t {
+        number = Zero;
+        expected = Zero;
+        failures = 0;
+        ifsc = t.first_ifsc;
+        ifsd = first_ifsd;
+        waits = idle;
+      },
+      no_failure,
+    )
 in_resynch t asked came =
     if nat_lt asked most_resynchs
     then Ok (Send (request Resynch []), record t { waits = resynch (asked + 1) }, no_failure)

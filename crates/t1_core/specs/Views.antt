@@ -60,7 +60,8 @@ IsInner cut octets = IsSize cut.size × (cut.place + cut.size < octets)
 abbrev pub IsLast : Cut → ℕ → Type 0
 IsLast cut octets = IsSize cut.size × (cut.place ≤ octets) × (octets ≤ cut.place + cut.size)
 
--- an exchange has no answer yet, and nothing is joined before the answer's first block: by how many octets the two messages have
+-- an exchange has no answer yet, and nothing is joined before the answer's first block: by how many octets the two
+-- messages have
 abbrev pub IsWait : TerminalWait → ℕ → ℕ → Bool → Type 0
 IsWait Idle command joined is_answered = Unit {0}
 IsWait (Ack cut) command joined is_answered = IsInner cut command × (joined ≡ 0) × (is_answered ≡ false)

@@ -111,8 +111,10 @@ impl Card {
     /// They are classed by `class_of` under the size that the card takes. Refused `Order` in the host's
     /// turn: what came is then dropped.
     pub fn received(&mut self, octets: &[u8]) -> Result<CardTurn, CardFault>
-        ensures turn { result ≡ turn_of (card_turn self.old (takes (class_of self.old.ifsc octets.now))) }
-        ensures state { self.new ≡ state_after self.old (card_turn self.old (takes (class_of self.old.ifsc octets.now))) }
+        ensures turn { result ≡ turn_of
+            (card_turn self.old (takes (class_of self.old.ifsc octets.now))) }
+        ensures state { self.new ≡ state_after self.old
+            (card_turn self.old (takes (class_of self.old.ifsc octets.now))) }
     {
         let acted = self
             .places

@@ -1,7 +1,7 @@
 //! Whether places are those of an end with buffers of these sizes: for places that were kept where anything
 //! may have written to them.
 
-ghost use Rattle.std.specs.Prelude.{◌≡◌, ◌≤◌, true};
+ghost use Rattle.std.specs.Prelude.{◌≡◌, true};
 ghost use Rattle.t1_core.specs.Views.{AreTerminalPlaces, IsSize, IsInner, IsLast, IsWait};
 ghost use Rattle.t1_core.specs.CardViews.{AreCardPlaces, IsSaved, IsCardWait};
 

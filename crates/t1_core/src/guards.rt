@@ -13,7 +13,8 @@ use crate::turns::{CardFault, CardWait, TerminalFault, TerminalWait};
 /// `Err` unless the terminal is idle: `Dead` of a dead one, else `Busy`.
 pub(crate) fn if_idle(wait: TerminalWait) -> Result<(), TerminalFault>
     ensures idle { OnOk result (wait ≡ TerminalWait.Idle) }
-    ensures refused { IfErr result (λ fault. (command joined : List ℕ) (step : TerminalStep) → if_idle (waits_of wait command joined) step ≡ Err fault) }
+    ensures refused { IfErr result (λ fault. (command joined : List ℕ) (step : TerminalStep)
+        → if_idle (waits_of wait command joined) step ≡ Err fault) }
 {
     match wait {
         TerminalWait::Idle => Ok(()),
@@ -29,7 +30,8 @@ pub(crate) fn if_idle(wait: TerminalWait) -> Result<(), TerminalFault>
 /// `Err` unless the card's host owes a reply: `Order`.
 pub(crate) fn if_host(wait: CardWait) -> Result<(), CardFault>
     ensures host { OnOk result (wait ≡ CardWait.Host) }
-    ensures refused { IfErr result (λ fault. (command reply : List ℕ) (step : CardStep) → if_host (card_waits_of wait command reply) step ≡ Err fault) }
+    ensures refused { IfErr result (λ fault. (command reply : List ℕ) (step : CardStep)
+        → if_host (card_waits_of wait command reply) step ≡ Err fault) }
 {
     match wait {
         CardWait::Host => Ok(()),

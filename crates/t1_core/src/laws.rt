@@ -54,7 +54,8 @@ pub fn taken()
 
 /// Octets are one class to an end, whatever its size.
 pub fn one_class()
-    ensures { (size : ℕ) (octets : List ℕ) (came also : Came) → IsClass size octets came → IsClass size octets also → came ≡ also }
+    ensures { (size : ℕ) (octets : List ℕ) (came also : Came) → IsClass size octets came
+        → IsClass size octets also → came ≡ also }
 {
     block_core::laws::one_accepted();
 }
@@ -62,7 +63,8 @@ pub fn one_class()
 /// The class that `class_of` computes is the class by the verdict on the octets as a block: both calls
 /// `received` cite it.
 pub fn class_is_computed()
-    ensures { (size : ℕ) (octets : List ℕ) → size ≤ 254 → AreOctets octets → (came : Came) → IsClass size octets came ↔ (came ≡ class_of size octets) }
+    ensures { (size : ℕ) (octets : List ℕ) → size ≤ 254 → AreOctets octets → (came : Came)
+        → IsClass size octets came ↔ (came ≡ class_of size octets) }
 {
     one_class();
 }

@@ -44,7 +44,8 @@ impl TerminalPlaces {
     ///
     /// It begins a session, or a further one over the buffers of an earlier one.
     pub fn begin(params: T1Params, held: &mut [u8], joined: &mut [u8]) -> TerminalPlaces
-        ensures state { terminal_held result held.new joined.new ≡ terminal_with (at_most (length held.old) (length joined.old)) params.ifsc }
+        ensures state { terminal_held result held.new joined.new
+            ≡ terminal_with (at_most (length held.old) (length joined.old)) params.ifsc }
         ensures fit { AreTerminalPlaces result (length held.new) (length joined.new) }
         ensures command { held.new ≡ replicate (length held.old) 0 }
         ensures answer { joined.new ≡ replicate (length joined.old) 0 }
@@ -60,7 +61,9 @@ impl TerminalPlaces {
 
     /// At the start, with empty buffers.
     pub(crate) fn new(params: T1Params, most_command: usize, most_answer: usize) -> TerminalPlaces
-        ensures seen { (command joined : List ℕ) → terminal_held result command joined ≡ terminal_with (record { command = most_command; answer = most_answer }) params.ifsc }
+        ensures seen { (command joined : List ℕ)
+            → terminal_held result command joined
+            ≡ terminal_with (record { command = most_command; answer = most_answer }) params.ifsc }
         ensures fit { AreTerminalPlaces result most_command most_answer }
     {
         TerminalPlaces {
@@ -105,7 +108,8 @@ impl CardPlaces {
     ///
     /// It begins a session, or a further one over the buffers of an earlier one.
     pub fn begin(params: T1Params, held: &mut [u8], answer: &mut [u8]) -> CardPlaces
-        ensures state { card_held result held.new answer.new ≡ card_with (at_most (length held.old) (length answer.old)) params.ifsc }
+        ensures state { card_held result held.new answer.new
+            ≡ card_with (at_most (length held.old) (length answer.old)) params.ifsc }
         ensures fit { AreCardPlaces result (length held.new) (length answer.new) }
         ensures command { held.new ≡ replicate (length held.old) 0 }
         ensures reply { answer.new ≡ replicate (length answer.old) 0 }
@@ -121,7 +125,8 @@ impl CardPlaces {
 
     /// At the start, with empty buffers.
     pub(crate) fn new(params: T1Params, most_command: usize, most_reply: usize) -> CardPlaces
-        ensures seen { (command reply : List ℕ) → card_held result command reply ≡ card_with (record { command = most_command; answer = most_reply }) params.ifsc }
+        ensures seen { (command reply : List ℕ) → card_held result command reply
+            ≡ card_with (record { command = most_command; answer = most_reply }) params.ifsc }
         ensures fit { AreCardPlaces result most_command most_reply }
     {
         CardPlaces {

@@ -35,10 +35,16 @@ pub(crate) fn acknowledged(saved: Option<Cut>, number: Number) -> Number
 pub(crate) fn next_block(reply: &[u8], place: usize, size: u8) -> Next
     requires size { IsSize size }
     requires place { place ≤ length reply.now }
-    ensures block { (number : AnyNumber) (buffer : List ℕ) → sent_by number (field_of (card_waits_of result.wait buffer reply.now)) (field_saved (saved_of result.saved reply.now)) result.sent ≡ info number (is_more (drop size (drop place reply.now))) (take size (drop place reply.now)) }
-    ensures waits { (buffer : List ℕ) → card_waits_of result.wait buffer reply.now ≡ waiting (take size (drop place reply.now)) (drop size (drop place reply.now)) }
+    ensures block { (number : AnyNumber) (buffer : List ℕ)
+        → sent_by number (field_of (card_waits_of result.wait buffer reply.now))
+        (field_saved (saved_of result.saved reply.now)) result.sent ≡ info number
+        (is_more (drop size (drop place reply.now))) (take size (drop place reply.now)) }
+    ensures waits { (buffer : List ℕ)
+        → card_waits_of result.wait buffer reply.now
+        ≡ waiting (take size (drop place reply.now)) (drop size (drop place reply.now)) }
     ensures command { (buffer : List ℕ) → command_in result.wait buffer ≡ buffer }
-    ensures saved { saved_of result.saved reply.now ≡ saving None (take size (drop place reply.now)) (drop size (drop place reply.now)) }
+    ensures saved { saved_of result.saved reply.now
+        ≡ saving None (take size (drop place reply.now)) (drop size (drop place reply.now)) }
     ensures wait_fits { IsCardWait result.wait result.saved (length reply.now) }
     ensures saved_fits { IsSaved result.saved (length reply.now) }
 {

@@ -1,6 +1,6 @@
 //! The terminal: the end that begins each exchange, and asks for RESYNCH where its repeats fail.
 
-ghost use Rattle.std.specs.Prelude.{◌≡◌, ◌≤◌, IfOk};
+ghost use Rattle.std.specs.Prelude.{◌≡◌, IfOk};
 ghost use Rattle.t1_core.specs.Came.{class_of, quiet};
 ghost use Rattle.t1_core.specs.Views.{IsSlice};
 ghost use Rattle.t1_core.specs.Terminal.{takes, transmit, ask_ifs, at_most, new_terminal, terminal_with, terminal_turn, turn_of, state_after};
@@ -89,7 +89,8 @@ impl Terminal {
         command: usize,
         answer: usize,
     ) -> Result<Terminal, AllocError>
-        ensures { IfOk result (λ terminal. terminal ≡ terminal_with (at_most command answer) params.ifsc) }
+        ensures { IfOk result (λ terminal.
+            terminal ≡ terminal_with (at_most command answer) params.ifsc) }
     {
         let most_command = command.min(LONGEST_COMMAND);
         let most_answer = answer.min(LONGEST_ANSWER);
@@ -126,7 +127,8 @@ impl Terminal {
     /// made by `new`.
     pub fn transmit(&mut self, command: &[u8]) -> Result<TerminalTurn, TerminalFault>
         ensures turn { result ≡ turn_of (terminal_turn self.old (transmit command.now)) }
-        ensures state { self.new ≡ state_after self.old (terminal_turn self.old (transmit command.now)) }
+        ensures state { self.new ≡ state_after self.old
+            (terminal_turn self.old (transmit command.now)) }
     {
         let acted = self.places.transmits(
             self.command.as_mut_slice(),
@@ -157,8 +159,10 @@ impl Terminal {
     /// They are classed by `class_of` under the size that the terminal takes. Refused `Dead` or `Idle`: what
     /// came is then dropped.
     pub fn received(&mut self, octets: &[u8]) -> Result<TerminalTurn, TerminalFault>
-        ensures turn { result ≡ turn_of (terminal_turn self.old (takes (class_of self.old.ifsd octets.now))) }
-        ensures state { self.new ≡ state_after self.old (terminal_turn self.old (takes (class_of self.old.ifsd octets.now))) }
+        ensures turn { result ≡ turn_of
+            (terminal_turn self.old (takes (class_of self.old.ifsd octets.now))) }
+        ensures state { self.new ≡ state_after self.old
+            (terminal_turn self.old (takes (class_of self.old.ifsd octets.now))) }
     {
         let acted = self.places.takes(self.command.as_slice(), self.joined.as_mut_slice(), octets);
         self.places

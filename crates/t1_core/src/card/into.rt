@@ -19,9 +19,12 @@ impl Card {
     /// What is sent for these octets of the line, as `received`.
     pub fn received_into(&mut self, octets: &[u8], out: &mut [u8]) -> Result<CardPut, CardFault>
         requires room { 258 ≤ length out.old }
-        ensures turn { IsCardPut (turn_of (card_turn self.old (takes (class_of self.old.ifsc octets.now)))) out.old out.new result }
+        ensures turn { IsCardPut (turn_of
+            (card_turn self.old (takes (class_of self.old.ifsc octets.now)))) out.old out.new
+            result }
         ensures fits { IfOk result FitsCardPut }
-        ensures state { self.new ≡ state_after self.old (card_turn self.old (takes (class_of self.old.ifsc octets.now))) }
+        ensures state { self.new ≡ state_after self.old
+            (card_turn self.old (takes (class_of self.old.ifsc octets.now))) }
     {
         self.places.received_into(
             self.command.as_mut_slice(),
@@ -34,7 +37,8 @@ impl Card {
     /// The first I-block of a reply, as `reply`.
     pub fn reply_into(&mut self, octets: &[u8], out: &mut [u8]) -> Result<CardPut, CardFault>
         requires room { 258 ≤ length out.old }
-        ensures turn { IsCardPut (turn_of (card_turn self.old (replies octets.now))) out.old out.new result }
+        ensures turn { IsCardPut (turn_of (card_turn self.old (replies octets.now))) out.old out.new
+            result }
         ensures fits { IfOk result FitsCardPut }
         ensures state { self.new ≡ state_after self.old (card_turn self.old (replies octets.now)) }
     {
@@ -49,7 +53,8 @@ impl Card {
     /// The question for more waiting time, as `more_time`.
     pub fn more_time_into(&mut self, multiple: u8, out: &mut [u8]) -> Result<CardPut, CardFault>
         requires room { 258 ≤ length out.old }
-        ensures turn { IsCardPut (turn_of (card_turn self.old (more_time multiple))) out.old out.new result }
+        ensures turn { IsCardPut (turn_of (card_turn self.old (more_time multiple))) out.old out.new
+            result }
         ensures fits { IfOk result FitsCardPut }
         ensures state { self.new ≡ state_after self.old (card_turn self.old (more_time multiple)) }
     {
@@ -64,7 +69,8 @@ impl Card {
     /// The question about a size, as `ask_ifs`.
     pub fn ask_ifs_into(&mut self, size: u8, out: &mut [u8]) -> Result<CardPut, CardFault>
         requires room { 258 ≤ length out.old }
-        ensures turn { IsCardPut (turn_of (card_turn self.old (ask_ifs size))) out.old out.new result }
+        ensures turn { IsCardPut (turn_of (card_turn self.old (ask_ifs size))) out.old out.new
+            result }
         ensures fits { IfOk result FitsCardPut }
         ensures state { self.new ≡ state_after self.old (card_turn self.old (ask_ifs size)) }
     {
@@ -86,10 +92,15 @@ impl CardPlaces {
     ) -> Result<CardPut, CardFault>
         requires room { 258 ≤ length out.old }
         requires fit { AreCardPlaces self.old (length held.old) (length answer.now) }
-        ensures turn { IsCardPut (turn_of (card_turn (card_held self.old held.old answer.now) (takes (class_of (card_held self.old held.old answer.now).ifsc octets.now)))) out.old out.new result }
+        ensures turn { IsCardPut (turn_of (card_turn (card_held self.old held.old answer.now)
+            (takes (class_of (card_held self.old held.old answer.now).ifsc octets.now)))) out.old
+            out.new result }
         ensures fits { IfOk result FitsCardPut }
         ensures fit { AreCardPlaces self.new (length held.new) (length answer.now) }
-        ensures state { card_held self.new held.new answer.now ≡ state_after (card_held self.old held.old answer.now) (card_turn (card_held self.old held.old answer.now) (takes (class_of (card_held self.old held.old answer.now).ifsc octets.now))) }
+        ensures state { card_held self.new held.new answer.now
+            ≡ state_after (card_held self.old held.old answer.now)
+            (card_turn (card_held self.old held.old answer.now)
+            (takes (class_of (card_held self.old held.old answer.now).ifsc octets.now))) }
     {
         let acted = self.takes(held, answer, octets);
         self.put(held, answer, acted, out)
@@ -105,10 +116,14 @@ impl CardPlaces {
     ) -> Result<CardPut, CardFault>
         requires room { 258 ≤ length out.old }
         requires fit { AreCardPlaces self.old (length held.now) (length answer.old) }
-        ensures turn { IsCardPut (turn_of (card_turn (card_held self.old held.now answer.old) (replies octets.now))) out.old out.new result }
+        ensures turn { IsCardPut (turn_of
+            (card_turn (card_held self.old held.now answer.old) (replies octets.now))) out.old
+            out.new result }
         ensures fits { IfOk result FitsCardPut }
         ensures fit { AreCardPlaces self.new (length held.now) (length answer.new) }
-        ensures state { card_held self.new held.now answer.new ≡ state_after (card_held self.old held.now answer.old) (card_turn (card_held self.old held.now answer.old) (replies octets.now)) }
+        ensures state { card_held self.new held.now answer.new
+            ≡ state_after (card_held self.old held.now answer.old)
+            (card_turn (card_held self.old held.now answer.old) (replies octets.now)) }
     {
         let acted = self.replies(held, answer, octets);
         self.put(held, answer, acted, out)
@@ -124,10 +139,14 @@ impl CardPlaces {
     ) -> Result<CardPut, CardFault>
         requires room { 258 ≤ length out.old }
         requires fit { AreCardPlaces self.old (length held.now) (length answer.now) }
-        ensures turn { IsCardPut (turn_of (card_turn (card_held self.old held.now answer.now) (more_time multiple))) out.old out.new result }
+        ensures turn { IsCardPut (turn_of
+            (card_turn (card_held self.old held.now answer.now) (more_time multiple))) out.old
+            out.new result }
         ensures fits { IfOk result FitsCardPut }
         ensures fit { AreCardPlaces self.new (length held.now) (length answer.now) }
-        ensures state { card_held self.new held.now answer.now ≡ state_after (card_held self.old held.now answer.now) (card_turn (card_held self.old held.now answer.now) (more_time multiple)) }
+        ensures state { card_held self.new held.now answer.now
+            ≡ state_after (card_held self.old held.now answer.now)
+            (card_turn (card_held self.old held.now answer.now) (more_time multiple)) }
     {
         let acted = self.asks_time(held, answer, multiple);
         self.put(held, answer, acted, out)
@@ -143,10 +162,14 @@ impl CardPlaces {
     ) -> Result<CardPut, CardFault>
         requires room { 258 ≤ length out.old }
         requires fit { AreCardPlaces self.old (length held.now) (length answer.now) }
-        ensures turn { IsCardPut (turn_of (card_turn (card_held self.old held.now answer.now) (ask_ifs size))) out.old out.new result }
+        ensures turn { IsCardPut (turn_of
+            (card_turn (card_held self.old held.now answer.now) (ask_ifs size))) out.old out.new
+            result }
         ensures fits { IfOk result FitsCardPut }
         ensures fit { AreCardPlaces self.new (length held.now) (length answer.now) }
-        ensures state { card_held self.new held.now answer.now ≡ state_after (card_held self.old held.now answer.now) (card_turn (card_held self.old held.now answer.now) (ask_ifs size)) }
+        ensures state { card_held self.new held.now answer.now
+            ≡ state_after (card_held self.old held.now answer.now)
+            (card_turn (card_held self.old held.now answer.now) (ask_ifs size)) }
     {
         let acted = self.asks_ifs(held, answer, size);
         self.put(held, answer, acted, out)
@@ -162,7 +185,8 @@ impl CardPlaces {
     ) -> Result<CardPut, CardFault>
         requires room { 258 ≤ length out.old }
         requires fit { AreCardPlaces self.now (length held.now) (length answer.now) }
-        ensures put { IsCardPut (card_answers (card_held self.now held.now answer.now) acted) out.old out.new result }
+        ensures put { IsCardPut (card_answers (card_held self.now held.now answer.now) acted)
+            out.old out.new result }
         ensures fits { IfOk result FitsCardPut }
     {
         match acted {

@@ -49,7 +49,8 @@ impl Card {
 impl CardPlaces {
     /// What the card waits for.
     pub fn awaits(&self) -> CardAwaits
-        ensures { (command reply : List ℕ) → result ≡ awaited_by_card (card_held self.now command reply).waits }
+        ensures { (command reply : List ℕ)
+            → result ≡ awaited_by_card (card_held self.now command reply).waits }
     {
         match self.wait {
             CardWait::Command | CardWait::Joining => CardAwaits::Command,
@@ -62,7 +63,8 @@ impl CardPlaces {
 
     /// Whether a block is awaited, as [`Card::awaits_block`].
     pub fn awaits_block(&self) -> bool
-        ensures { (command reply : List ℕ) → result ≡ card_awaits_block (card_held self.now command reply).waits }
+        ensures { (command reply : List ℕ)
+            → result ≡ card_awaits_block (card_held self.now command reply).waits }
     {
         match self.wait {
             CardWait::Host => false,
@@ -74,7 +76,8 @@ impl CardPlaces {
     /// The command, as [`Card::command`], in the command's buffer.
     pub fn command<'a>(&self, held: &'a [u8]) -> Option<&'a [u8]>
         requires { self.now.command_len ≤ length held.now }
-        ensures { (reply : List ℕ) → IsSlice result (owed (card_held self.now held.now reply) (card_held self.now held.now reply).waits) }
+        ensures { (reply : List ℕ) → IsSlice result (owed (card_held self.now held.now reply)
+            (card_held self.now held.now reply).waits) }
     {
         match self.wait {
             CardWait::Host | CardWait::Asking(_) => Some(&held[..self.command_len]),

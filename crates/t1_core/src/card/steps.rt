@@ -1,13 +1,13 @@
 //! What the card does at each call, and the block that it then sends by what it keeps.
 
-ghost use Rattle.std.specs.Prelude.{◌≡◌, ◌≤◌, ◌+◌, ◌++◌, length, drop, []};
+ghost use Rattle.std.specs.Prelude.{◌≡◌, ◌≤◌, ◌+◌, ◌++◌, length, []};
 ghost use Rattle.block_core.specs.declared.pcb.Fault.TheVariants.{Free};
 ghost use Rattle.block_core.specs.declared.pcb.Pcb.TheVariants.{Ready};
 ghost use Rattle.t1_core.specs.Came.{class_of, got, info};
 ghost use Rattle.t1_core.specs.Views.{came_of};
 ghost use Rattle.t1_core.specs.CardViews.{card_held, AreCardPlaces, field_of, rest_of, taken_of, request_of, IsTaking, IsRequest};
 ghost use Rattle.t1_core.specs.Sending.{field_saved, card_sends, card_does, card_answers};
-ghost use Rattle.t1_core.specs.Card.{command, reply, asking, takes, replies, more_time, ask_ifs, card_turn, card_came, in_either, in_reply, joins, sends_next, sends_saved, resynched, request_block, turn_of, state_after};
+ghost use Rattle.t1_core.specs.Card.{command, reply, asking, takes, replies, more_time, ask_ifs, card_turn, card_came, in_either, in_reply, joins, sends_saved, resynched, request_block, turn_of, state_after};
 
 use crate::buffers::append;
 use crate::class::{Arrived, classify};
@@ -30,8 +30,13 @@ impl CardPlaces {
     ) -> Result<CardAct, CardFault>
         requires fit { AreCardPlaces self.old (length held.old) (length answer.now) }
         ensures fit { AreCardPlaces self.new (length held.new) (length answer.now) }
-        ensures turn { card_answers (card_held self.new held.new answer.now) result ≡ turn_of (card_turn (card_held self.old held.old answer.now) (takes (class_of (card_held self.old held.old answer.now).ifsc octets.now))) }
-        ensures state { card_held self.new held.new answer.now ≡ state_after (card_held self.old held.old answer.now) (card_turn (card_held self.old held.old answer.now) (takes (class_of (card_held self.old held.old answer.now).ifsc octets.now))) }
+        ensures turn { card_answers (card_held self.new held.new answer.now) result
+            ≡ turn_of (card_turn (card_held self.old held.old answer.now)
+            (takes (class_of (card_held self.old held.old answer.now).ifsc octets.now))) }
+        ensures state { card_held self.new held.new answer.now
+            ≡ state_after (card_held self.old held.old answer.now)
+            (card_turn (card_held self.old held.old answer.now)
+            (takes (class_of (card_held self.old held.old answer.now).ifsc octets.now))) }
     {
         let arrived = classify(octets, self.ifsc);
         match self.wait {
@@ -51,8 +56,11 @@ impl CardPlaces {
     ) -> Result<CardAct, CardFault>
         requires fit { AreCardPlaces self.old (length held.now) (length answer.old) }
         ensures fit { AreCardPlaces self.new (length held.now) (length answer.new) }
-        ensures turn { card_answers (card_held self.new held.now answer.new) result ≡ turn_of (card_turn (card_held self.old held.now answer.old) (replies octets.now)) }
-        ensures state { card_held self.new held.now answer.new ≡ state_after (card_held self.old held.now answer.old) (card_turn (card_held self.old held.now answer.old) (replies octets.now)) }
+        ensures turn { card_answers (card_held self.new held.now answer.new) result
+            ≡ turn_of (card_turn (card_held self.old held.now answer.old) (replies octets.now)) }
+        ensures state { card_held self.new held.now answer.new
+            ≡ state_after (card_held self.old held.now answer.old)
+            (card_turn (card_held self.old held.now answer.old) (replies octets.now)) }
     {
         if_host(self.wait)?;
         if octets.len() > self.most_reply {
@@ -74,8 +82,11 @@ impl CardPlaces {
     ) -> Result<CardAct, CardFault>
         requires fit { AreCardPlaces self.old (length held.now) (length answer.now) }
         ensures fit { AreCardPlaces self.new (length held.now) (length answer.now) }
-        ensures turn { card_answers (card_held self.new held.now answer.now) result ≡ turn_of (card_turn (card_held self.old held.now answer.now) (more_time multiple)) }
-        ensures state { card_held self.new held.now answer.now ≡ state_after (card_held self.old held.now answer.now) (card_turn (card_held self.old held.now answer.now) (more_time multiple)) }
+        ensures turn { card_answers (card_held self.new held.now answer.now) result
+            ≡ turn_of (card_turn (card_held self.old held.now answer.now) (more_time multiple)) }
+        ensures state { card_held self.new held.now answer.now
+            ≡ state_after (card_held self.old held.now answer.now)
+            (card_turn (card_held self.old held.now answer.now) (more_time multiple)) }
     {
         if_host(self.wait)?;
         let request = Request::Time(multiple);
@@ -92,8 +103,11 @@ impl CardPlaces {
     ) -> Result<CardAct, CardFault>
         requires fit { AreCardPlaces self.old (length held.now) (length answer.now) }
         ensures fit { AreCardPlaces self.new (length held.now) (length answer.now) }
-        ensures turn { card_answers (card_held self.new held.now answer.now) result ≡ turn_of (card_turn (card_held self.old held.now answer.now) (ask_ifs size)) }
-        ensures state { card_held self.new held.now answer.now ≡ state_after (card_held self.old held.now answer.now) (card_turn (card_held self.old held.now answer.now) (ask_ifs size)) }
+        ensures turn { card_answers (card_held self.new held.now answer.now) result
+            ≡ turn_of (card_turn (card_held self.old held.now answer.now) (ask_ifs size)) }
+        ensures state { card_held self.new held.now answer.now
+            ≡ state_after (card_held self.old held.now answer.now)
+            (card_turn (card_held self.old held.now answer.now) (ask_ifs size)) }
     {
         if_host(self.wait)?;
         if is_reserved(size) {
@@ -107,10 +121,18 @@ impl CardPlaces {
     /// It waits for a block of a command.
     fn command_took(&mut self, held: &mut [u8], answer: &[u8], arrived: &Arrived) -> CardAct
         requires fit { AreCardPlaces self.old (length held.old) (length answer.now) }
-        requires waits { (card_held self.old held.old answer.now).waits ≡ command (taken_of (card_held self.old held.old answer.now).waits) }
+        requires waits { (card_held self.old held.old answer.now).waits
+            ≡ command (taken_of (card_held self.old held.old answer.now).waits) }
         ensures fit { AreCardPlaces self.new (length held.new) (length answer.now) }
-        ensures turn { turn_of (card_came (card_held self.old held.old answer.now) (command (taken_of (card_held self.old held.old answer.now).waits)) (came_of arrived.now)) ≡ Ok (card_does (card_held self.new held.new answer.now) result) }
-        ensures state { card_held self.new held.new answer.now ≡ state_after (card_held self.old held.old answer.now) (card_came (card_held self.old held.old answer.now) (command (taken_of (card_held self.old held.old answer.now).waits)) (came_of arrived.now)) }
+        ensures turn { turn_of (card_came (card_held self.old held.old answer.now)
+            (command (taken_of (card_held self.old held.old answer.now).waits))
+            (came_of arrived.now))
+            ≡ Ok (card_does (card_held self.new held.new answer.now) result) }
+        ensures state { card_held self.new held.new answer.now
+            ≡ state_after (card_held self.old held.old answer.now)
+            (card_came (card_held self.old held.old answer.now)
+            (command (taken_of (card_held self.old held.old answer.now).waits))
+            (came_of arrived.now)) }
     {
         match arrived {
             Arrived::Damaged | Arrived::Invalid => self.either_took(held, answer, arrived),
@@ -140,10 +162,19 @@ impl CardPlaces {
     /// An I-block of the reply that isn't its last is under way.
     fn reply_took(&mut self, held: &[u8], answer: &[u8], arrived: &Arrived) -> CardAct
         requires fit { AreCardPlaces self.old (length held.now) (length answer.now) }
-        requires waits { (card_held self.old held.now answer.now).waits ≡ reply (field_of (card_held self.old held.now answer.now).waits) (rest_of (card_held self.old held.now answer.now).waits) }
+        requires waits { (card_held self.old held.now answer.now).waits
+            ≡ reply (field_of (card_held self.old held.now answer.now).waits)
+            (rest_of (card_held self.old held.now answer.now).waits) }
         ensures fit { AreCardPlaces self.new (length held.now) (length answer.now) }
-        ensures turn { turn_of (card_came (card_held self.old held.now answer.now) (reply (field_of (card_held self.old held.now answer.now).waits) (rest_of (card_held self.old held.now answer.now).waits)) (came_of arrived.now)) ≡ Ok (card_does (card_held self.new held.now answer.now) result) }
-        ensures state { card_held self.new held.now answer.now ≡ state_after (card_held self.old held.now answer.now) (card_came (card_held self.old held.now answer.now) (reply (field_of (card_held self.old held.now answer.now).waits) (rest_of (card_held self.old held.now answer.now).waits)) (came_of arrived.now)) }
+        ensures turn { turn_of (card_came (card_held self.old held.now answer.now)
+            (reply (field_of (card_held self.old held.now answer.now).waits)
+            (rest_of (card_held self.old held.now answer.now).waits)) (came_of arrived.now))
+            ≡ Ok (card_does (card_held self.new held.now answer.now) result) }
+        ensures state { card_held self.new held.now answer.now
+            ≡ state_after (card_held self.old held.now answer.now)
+            (card_came (card_held self.old held.now answer.now)
+            (reply (field_of (card_held self.old held.now answer.now).waits)
+            (rest_of (card_held self.old held.now answer.now).waits)) (came_of arrived.now)) }
     {
         match arrived {
             Arrived::Damaged | Arrived::Invalid => self.either_took(held, answer, arrived),
@@ -160,10 +191,19 @@ impl CardPlaces {
     /// with the other one the next block.
     fn reply_asked(&mut self, held: &[u8], answer: &[u8], number: Number) -> CardAct
         requires fit { AreCardPlaces self.old (length held.now) (length answer.now) }
-        requires waits { (card_held self.old held.now answer.now).waits ≡ reply (field_of (card_held self.old held.now answer.now).waits) (rest_of (card_held self.old held.now answer.now).waits) }
+        requires waits { (card_held self.old held.now answer.now).waits
+            ≡ reply (field_of (card_held self.old held.now answer.now).waits)
+            (rest_of (card_held self.old held.now answer.now).waits) }
         ensures fit { AreCardPlaces self.new (length held.now) (length answer.now) }
-        ensures turn { turn_of (in_reply (card_held self.old held.now answer.now) (field_of (card_held self.old held.now answer.now).waits) (rest_of (card_held self.old held.now answer.now).waits) (got (Ready number Free) [])) ≡ Ok (card_does (card_held self.new held.now answer.now) result) }
-        ensures state { card_held self.new held.now answer.now ≡ state_after (card_held self.old held.now answer.now) (in_reply (card_held self.old held.now answer.now) (field_of (card_held self.old held.now answer.now).waits) (rest_of (card_held self.old held.now answer.now).waits) (got (Ready number Free) [])) }
+        ensures turn { turn_of (in_reply (card_held self.old held.now answer.now)
+            (field_of (card_held self.old held.now answer.now).waits)
+            (rest_of (card_held self.old held.now answer.now).waits) (got (Ready number Free) []))
+            ≡ Ok (card_does (card_held self.new held.now answer.now) result) }
+        ensures state { card_held self.new held.now answer.now
+            ≡ state_after (card_held self.old held.now answer.now)
+            (in_reply (card_held self.old held.now answer.now)
+            (field_of (card_held self.old held.now answer.now).waits)
+            (rest_of (card_held self.old held.now answer.now).waits) (got (Ready number Free) [])) }
     {
         let CardWait::Reply(cut) = self.wait else {
             unreachable!()
@@ -191,11 +231,17 @@ impl CardPlaces {
         arrived: &Arrived,
     ) -> CardAct
         requires fit { AreCardPlaces self.old (length held.now) (length answer.now) }
-        requires waits { (card_held self.old held.now answer.now).waits ≡ asking (request_of request) }
+        requires waits { (card_held self.old held.now answer.now).waits
+            ≡ asking (request_of request) }
         requires request { IsRequest request }
         ensures fit { AreCardPlaces self.new (length held.now) (length answer.now) }
-        ensures turn { turn_of (card_came (card_held self.old held.now answer.now) (asking (request_of request)) (came_of arrived.now)) ≡ Ok (card_does (card_held self.new held.now answer.now) result) }
-        ensures state { card_held self.new held.now answer.now ≡ state_after (card_held self.old held.now answer.now) (card_came (card_held self.old held.now answer.now) (asking (request_of request)) (came_of arrived.now)) }
+        ensures turn { turn_of (card_came (card_held self.old held.now answer.now)
+            (asking (request_of request)) (came_of arrived.now))
+            ≡ Ok (card_does (card_held self.new held.now answer.now) result) }
+        ensures state { card_held self.new held.now answer.now
+            ≡ state_after (card_held self.old held.now answer.now)
+            (card_came (card_held self.old held.now answer.now) (asking (request_of request))
+            (came_of arrived.now)) }
     {
         match arrived {
             Arrived::Damaged | Arrived::Invalid => CardAct::Send(Sent::Other(request.block())),
@@ -219,8 +265,12 @@ impl CardPlaces {
     fn either_took(&mut self, held: &[u8], answer: &[u8], arrived: &Arrived) -> CardAct
         requires fit { AreCardPlaces self.old (length held.now) (length answer.now) }
         ensures fit { AreCardPlaces self.new (length held.now) (length answer.now) }
-        ensures turn { turn_of (in_either (card_held self.old held.now answer.now) (came_of arrived.now)) ≡ Ok (card_does (card_held self.new held.now answer.now) result) }
-        ensures state { card_held self.new held.now answer.now ≡ state_after (card_held self.old held.now answer.now) (in_either (card_held self.old held.now answer.now) (came_of arrived.now)) }
+        ensures turn { turn_of (in_either (card_held self.old held.now answer.now)
+            (came_of arrived.now))
+            ≡ Ok (card_does (card_held self.new held.now answer.now) result) }
+        ensures state { card_held self.new held.now answer.now
+            ≡ state_after (card_held self.old held.now answer.now)
+            (in_either (card_held self.old held.now answer.now) (came_of arrived.now)) }
     {
         let fault = match arrived {
             Arrived::Damaged => Fault::Redundancy,
@@ -240,10 +290,16 @@ impl CardPlaces {
     fn joins(&mut self, held: &mut [u8], answer: &[u8], inf: &[u8], more: bool) -> CardAct
         requires fit { AreCardPlaces self.old (length held.old) (length answer.now) }
         requires taking { IsTaking (card_held self.old held.old answer.now).waits }
-        requires fits { length (taken_of (card_held self.old held.old answer.now).waits) + length inf.now ≤ self.old.most_command }
+        requires fits { length (taken_of (card_held self.old held.old answer.now).waits)
+            + length inf.now ≤ self.old.most_command }
         ensures fit { AreCardPlaces self.new (length held.new) (length answer.now) }
-        ensures turn { turn_of (joins (card_held self.old held.old answer.now) (taken_of (card_held self.old held.old answer.now).waits ++ inf.now) more) ≡ Ok (card_does (card_held self.new held.new answer.now) result) }
-        ensures state { card_held self.new held.new answer.now ≡ state_after (card_held self.old held.old answer.now) (joins (card_held self.old held.old answer.now) (taken_of (card_held self.old held.old answer.now).waits ++ inf.now) more) }
+        ensures turn { turn_of (joins (card_held self.old held.old answer.now)
+            (taken_of (card_held self.old held.old answer.now).waits ++ inf.now) more)
+            ≡ Ok (card_does (card_held self.new held.new answer.now) result) }
+        ensures state { card_held self.new held.new answer.now
+            ≡ state_after (card_held self.old held.old answer.now)
+            (joins (card_held self.old held.old answer.now)
+            (taken_of (card_held self.old held.old answer.now).waits ++ inf.now) more) }
     {
         self.command_len = append(held, self.taken_len(held, answer), inf);
         self.number = acknowledged(self.saved, self.number);
@@ -273,8 +329,13 @@ impl CardPlaces {
     fn sends_saved(&mut self, held: &[u8], answer: &[u8], is_own: bool) -> CardAct
         requires fit { AreCardPlaces self.old (length held.now) (length answer.now) }
         ensures fit { AreCardPlaces self.new (length held.now) (length answer.now) }
-        ensures turn { turn_of (sends_saved (card_held self.old held.now answer.now) (card_held self.old held.now answer.now).saved is_own) ≡ Ok (card_does (card_held self.new held.now answer.now) result) }
-        ensures state { card_held self.new held.now answer.now ≡ state_after (card_held self.old held.now answer.now) (sends_saved (card_held self.old held.now answer.now) (card_held self.old held.now answer.now).saved is_own) }
+        ensures turn { turn_of (sends_saved (card_held self.old held.now answer.now)
+            (card_held self.old held.now answer.now).saved is_own)
+            ≡ Ok (card_does (card_held self.new held.now answer.now) result) }
+        ensures state { card_held self.new held.now answer.now
+            ≡ state_after (card_held self.old held.now answer.now)
+            (sends_saved (card_held self.old held.now answer.now)
+            (card_held self.old held.now answer.now).saved is_own) }
     {
         match self.saved {
             Some(_) if is_own => CardAct::Send(Sent::Last),
@@ -286,8 +347,11 @@ impl CardPlaces {
     fn resynched(&mut self, held: &[u8], answer: &[u8]) -> CardAct
         requires fit { AreCardPlaces self.old (length held.now) (length answer.now) }
         ensures fit { AreCardPlaces self.new (length held.now) (length answer.now) }
-        ensures turn { turn_of (resynched (card_held self.old held.now answer.now)) ≡ Ok (card_does (card_held self.new held.now answer.now) result) }
-        ensures state { card_held self.new held.now answer.now ≡ state_after (card_held self.old held.now answer.now) (resynched (card_held self.old held.now answer.now)) }
+        ensures turn { turn_of (resynched (card_held self.old held.now answer.now))
+            ≡ Ok (card_does (card_held self.new held.now answer.now) result) }
+        ensures state { card_held self.new held.now answer.now
+            ≡ state_after (card_held self.old held.now answer.now)
+            (resynched (card_held self.old held.now answer.now)) }
     {
         self.number = Number::Zero;
         self.expected = Number::Zero;

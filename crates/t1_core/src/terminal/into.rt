@@ -23,9 +23,11 @@ impl Terminal {
         out: &mut [u8],
     ) -> Result<TerminalPut, TerminalFault>
         requires room { 258 ≤ length out.old }
-        ensures turn { IsTerminalPut (turn_of (terminal_turn self.old (transmit command.now))) out.old out.new result }
+        ensures turn { IsTerminalPut (turn_of (terminal_turn self.old (transmit command.now)))
+            out.old out.new result }
         ensures fits { IfOk result FitsTerminalPut }
-        ensures state { self.new ≡ state_after self.old (terminal_turn self.old (transmit command.now)) }
+        ensures state { self.new ≡ state_after self.old
+            (terminal_turn self.old (transmit command.now)) }
     {
         self.places.transmit_into(
             self.command.as_mut_slice(),
@@ -38,7 +40,8 @@ impl Terminal {
     /// The question about a size, as `ask_ifs`.
     pub fn ask_ifs_into(&mut self, size: u8, out: &mut [u8]) -> Result<TerminalPut, TerminalFault>
         requires room { 258 ≤ length out.old }
-        ensures turn { IsTerminalPut (turn_of (terminal_turn self.old (ask_ifs size))) out.old out.new result }
+        ensures turn { IsTerminalPut (turn_of (terminal_turn self.old (ask_ifs size))) out.old
+            out.new result }
         ensures fits { IfOk result FitsTerminalPut }
         ensures state { self.new ≡ state_after self.old (terminal_turn self.old (ask_ifs size)) }
     {
@@ -53,9 +56,12 @@ impl Terminal {
         out: &mut [u8],
     ) -> Result<TerminalPut, TerminalFault>
         requires room { 258 ≤ length out.old }
-        ensures turn { IsTerminalPut (turn_of (terminal_turn self.old (takes (class_of self.old.ifsd octets.now)))) out.old out.new result }
+        ensures turn { IsTerminalPut
+            (turn_of (terminal_turn self.old (takes (class_of self.old.ifsd octets.now)))) out.old
+            out.new result }
         ensures fits { IfOk result FitsTerminalPut }
-        ensures state { self.new ≡ state_after self.old (terminal_turn self.old (takes (class_of self.old.ifsd octets.now))) }
+        ensures state { self.new ≡ state_after self.old
+            (terminal_turn self.old (takes (class_of self.old.ifsd octets.now))) }
     {
         self.places.received_into(
             self.command.as_slice(),
@@ -68,7 +74,8 @@ impl Terminal {
     /// What is sent where nothing came, as `quiet`.
     pub fn quiet_into(&mut self, out: &mut [u8]) -> Result<TerminalPut, TerminalFault>
         requires room { 258 ≤ length out.old }
-        ensures turn { IsTerminalPut (turn_of (terminal_turn self.old (takes quiet))) out.old out.new result }
+        ensures turn { IsTerminalPut (turn_of (terminal_turn self.old (takes quiet))) out.old
+            out.new result }
         ensures fits { IfOk result FitsTerminalPut }
         ensures state { self.new ≡ state_after self.old (terminal_turn self.old (takes quiet)) }
     {
@@ -90,10 +97,14 @@ impl TerminalPlaces {
     ) -> Result<TerminalPut, TerminalFault>
         requires room { 258 ≤ length out.old }
         requires fit { AreTerminalPlaces self.old (length held.old) (length joined.now) }
-        ensures turn { IsTerminalPut (turn_of (terminal_turn (terminal_held self.old held.old joined.now) (transmit command.now))) out.old out.new result }
+        ensures turn { IsTerminalPut
+            (turn_of (terminal_turn (terminal_held self.old held.old joined.now)
+            (transmit command.now))) out.old out.new result }
         ensures fits { IfOk result FitsTerminalPut }
         ensures fit { AreTerminalPlaces self.new (length held.new) (length joined.now) }
-        ensures state { terminal_held self.new held.new joined.now ≡ state_after (terminal_held self.old held.old joined.now) (terminal_turn (terminal_held self.old held.old joined.now) (transmit command.now)) }
+        ensures state { terminal_held self.new held.new joined.now
+            ≡ state_after (terminal_held self.old held.old joined.now)
+            (terminal_turn (terminal_held self.old held.old joined.now) (transmit command.now)) }
     {
         let acted = self.transmits(held, joined, command);
         self.put(held, joined, acted, out)
@@ -109,10 +120,14 @@ impl TerminalPlaces {
     ) -> Result<TerminalPut, TerminalFault>
         requires room { 258 ≤ length out.old }
         requires fit { AreTerminalPlaces self.old (length held.now) (length joined.now) }
-        ensures turn { IsTerminalPut (turn_of (terminal_turn (terminal_held self.old held.now joined.now) (ask_ifs size))) out.old out.new result }
+        ensures turn { IsTerminalPut
+            (turn_of (terminal_turn (terminal_held self.old held.now joined.now) (ask_ifs size)))
+            out.old out.new result }
         ensures fits { IfOk result FitsTerminalPut }
         ensures fit { AreTerminalPlaces self.new (length held.now) (length joined.now) }
-        ensures state { terminal_held self.new held.now joined.now ≡ state_after (terminal_held self.old held.now joined.now) (terminal_turn (terminal_held self.old held.now joined.now) (ask_ifs size)) }
+        ensures state { terminal_held self.new held.now joined.now
+            ≡ state_after (terminal_held self.old held.now joined.now)
+            (terminal_turn (terminal_held self.old held.now joined.now) (ask_ifs size)) }
     {
         let acted = self.asks_ifs(held, joined, size);
         self.put(held, joined, acted, out)
@@ -128,10 +143,16 @@ impl TerminalPlaces {
     ) -> Result<TerminalPut, TerminalFault>
         requires room { 258 ≤ length out.old }
         requires fit { AreTerminalPlaces self.old (length held.now) (length joined.old) }
-        ensures turn { IsTerminalPut (turn_of (terminal_turn (terminal_held self.old held.now joined.old) (takes (class_of (terminal_held self.old held.now joined.old).ifsd octets.now)))) out.old out.new result }
+        ensures turn { IsTerminalPut
+            (turn_of (terminal_turn (terminal_held self.old held.now joined.old)
+            (takes (class_of (terminal_held self.old held.now joined.old).ifsd octets.now))))
+            out.old out.new result }
         ensures fits { IfOk result FitsTerminalPut }
         ensures fit { AreTerminalPlaces self.new (length held.now) (length joined.new) }
-        ensures state { terminal_held self.new held.now joined.new ≡ state_after (terminal_held self.old held.now joined.old) (terminal_turn (terminal_held self.old held.now joined.old) (takes (class_of (terminal_held self.old held.now joined.old).ifsd octets.now))) }
+        ensures state { terminal_held self.new held.now joined.new
+            ≡ state_after (terminal_held self.old held.now joined.old)
+            (terminal_turn (terminal_held self.old held.now joined.old)
+            (takes (class_of (terminal_held self.old held.now joined.old).ifsd octets.now))) }
     {
         let acted = self.takes(held, joined, octets);
         self.put(held, joined, acted, out)
@@ -146,10 +167,14 @@ impl TerminalPlaces {
     ) -> Result<TerminalPut, TerminalFault>
         requires room { 258 ≤ length out.old }
         requires fit { AreTerminalPlaces self.old (length held.now) (length joined.now) }
-        ensures turn { IsTerminalPut (turn_of (terminal_turn (terminal_held self.old held.now joined.now) (takes quiet))) out.old out.new result }
+        ensures turn { IsTerminalPut
+            (turn_of (terminal_turn (terminal_held self.old held.now joined.now) (takes quiet)))
+            out.old out.new result }
         ensures fits { IfOk result FitsTerminalPut }
         ensures fit { AreTerminalPlaces self.new (length held.now) (length joined.now) }
-        ensures state { terminal_held self.new held.now joined.now ≡ state_after (terminal_held self.old held.now joined.now) (terminal_turn (terminal_held self.old held.now joined.now) (takes quiet)) }
+        ensures state { terminal_held self.new held.now joined.now
+            ≡ state_after (terminal_held self.old held.now joined.now)
+            (terminal_turn (terminal_held self.old held.now joined.now) (takes quiet)) }
     {
         let acted = self.hears_nothing(held, joined);
         self.put(held, joined, acted, out)
@@ -165,7 +190,9 @@ impl TerminalPlaces {
     ) -> Result<TerminalPut, TerminalFault>
         requires room { 258 ≤ length out.old }
         requires fit { AreTerminalPlaces self.now (length held.now) (length joined.now) }
-        ensures put { IsTerminalPut (terminal_answers (terminal_held self.now held.now joined.now) acted) out.old out.new result }
+        ensures put { IsTerminalPut
+            (terminal_answers (terminal_held self.now held.now joined.now) acted) out.old out.new
+            result }
         ensures fits { IfOk result FitsTerminalPut }
     {
         match acted {

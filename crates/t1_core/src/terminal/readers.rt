@@ -61,7 +61,8 @@ impl Terminal {
 impl TerminalPlaces {
     /// What the terminal waits for.
     pub fn awaits(&self) -> TerminalAwaits
-        ensures { (command joined : List ℕ) → result ≡ awaited_by_terminal (terminal_held self.now command joined).waits }
+        ensures { (command joined : List ℕ)
+            → result ≡ awaited_by_terminal (terminal_held self.now command joined).waits }
     {
         match self.wait {
             TerminalWait::Idle => TerminalAwaits::Call,
@@ -76,7 +77,8 @@ impl TerminalPlaces {
 
     /// Whether a block is awaited, as [`Terminal::awaits_block`].
     pub fn awaits_block(&self) -> bool
-        ensures { (command joined : List ℕ) → result ≡ terminal_awaits_block (terminal_held self.now command joined).waits }
+        ensures { (command joined : List ℕ)
+            → result ≡ terminal_awaits_block (terminal_held self.now command joined).waits }
     {
         match self.wait {
             TerminalWait::Idle | TerminalWait::Dead => false,
@@ -90,7 +92,8 @@ impl TerminalPlaces {
 
     /// Whether the card was found dead.
     pub fn is_dead(&self) -> bool
-        ensures { (command joined : List ℕ) → result ≡ is_dead (terminal_held self.now command joined).waits }
+        ensures { (command joined : List ℕ)
+            → result ≡ is_dead (terminal_held self.now command joined).waits }
     {
         matches!(self.wait, TerminalWait::Dead)
     }
@@ -98,7 +101,8 @@ impl TerminalPlaces {
     /// The answer, as [`Terminal::answer`], in the answer's buffer.
     pub fn answer<'a>(&self, joined: &'a [u8]) -> Option<&'a [u8]>
         requires { self.now.joined_len ≤ length joined.now }
-        ensures { (command : List ℕ) → IsSlice result (terminal_held self.now command joined.now).answered }
+        ensures { (command : List ℕ)
+            → IsSlice result (terminal_held self.now command joined.now).answered }
     {
         if self.is_answered {
             Some(&joined[..self.joined_len])

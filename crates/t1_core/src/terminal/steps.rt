@@ -26,8 +26,12 @@ impl TerminalPlaces {
     ) -> Result<TerminalAct, TerminalFault>
         requires fit { AreTerminalPlaces self.old (length held.old) (length joined.now) }
         ensures fit { AreTerminalPlaces self.new (length held.new) (length joined.now) }
-        ensures turn { terminal_answers (terminal_held self.new held.new joined.now) result ≡ turn_of (terminal_turn (terminal_held self.old held.old joined.now) (transmit command.now)) }
-        ensures state { terminal_held self.new held.new joined.now ≡ state_after (terminal_held self.old held.old joined.now) (terminal_turn (terminal_held self.old held.old joined.now) (transmit command.now)) }
+        ensures turn { terminal_answers (terminal_held self.new held.new joined.now) result
+            ≡ turn_of (terminal_turn (terminal_held self.old held.old joined.now)
+            (transmit command.now)) }
+        ensures state { terminal_held self.new held.new joined.now
+            ≡ state_after (terminal_held self.old held.old joined.now)
+            (terminal_turn (terminal_held self.old held.old joined.now) (transmit command.now)) }
     {
         if_idle(self.wait)?;
         if command.len() > self.most_command {
@@ -48,8 +52,11 @@ impl TerminalPlaces {
     ) -> Result<TerminalAct, TerminalFault>
         requires fit { AreTerminalPlaces self.old (length held.now) (length joined.now) }
         ensures fit { AreTerminalPlaces self.new (length held.now) (length joined.now) }
-        ensures turn { terminal_answers (terminal_held self.new held.now joined.now) result ≡ turn_of (terminal_turn (terminal_held self.old held.now joined.now) (ask_ifs size)) }
-        ensures state { terminal_held self.new held.now joined.now ≡ state_after (terminal_held self.old held.now joined.now) (terminal_turn (terminal_held self.old held.now joined.now) (ask_ifs size)) }
+        ensures turn { terminal_answers (terminal_held self.new held.now joined.now) result
+            ≡ turn_of (terminal_turn (terminal_held self.old held.now joined.now) (ask_ifs size)) }
+        ensures state { terminal_held self.new held.now joined.now
+            ≡ state_after (terminal_held self.old held.now joined.now)
+            (terminal_turn (terminal_held self.old held.now joined.now) (ask_ifs size)) }
     {
         if_idle(self.wait)?;
         if is_reserved(size) {
@@ -69,8 +76,13 @@ impl TerminalPlaces {
     ) -> Result<TerminalAct, TerminalFault>
         requires fit { AreTerminalPlaces self.old (length held.now) (length joined.old) }
         ensures fit { AreTerminalPlaces self.new (length held.now) (length joined.new) }
-        ensures turn { terminal_answers (terminal_held self.new held.now joined.new) result ≡ turn_of (terminal_turn (terminal_held self.old held.now joined.old) (takes (class_of (terminal_held self.old held.now joined.old).ifsd octets.now))) }
-        ensures state { terminal_held self.new held.now joined.new ≡ state_after (terminal_held self.old held.now joined.old) (terminal_turn (terminal_held self.old held.now joined.old) (takes (class_of (terminal_held self.old held.now joined.old).ifsd octets.now))) }
+        ensures turn { terminal_answers (terminal_held self.new held.now joined.new) result
+            ≡ turn_of (terminal_turn (terminal_held self.old held.now joined.old)
+            (takes (class_of (terminal_held self.old held.now joined.old).ifsd octets.now))) }
+        ensures state { terminal_held self.new held.now joined.new
+            ≡ state_after (terminal_held self.old held.now joined.old)
+            (terminal_turn (terminal_held self.old held.now joined.old)
+            (takes (class_of (terminal_held self.old held.now joined.old).ifsd octets.now))) }
     {
         let arrived = classify(octets, self.ifsd);
         match self.wait {
@@ -92,8 +104,11 @@ impl TerminalPlaces {
     ) -> Result<TerminalAct, TerminalFault>
         requires fit { AreTerminalPlaces self.old (length held.now) (length joined.now) }
         ensures fit { AreTerminalPlaces self.new (length held.now) (length joined.now) }
-        ensures turn { terminal_answers (terminal_held self.new held.now joined.now) result ≡ turn_of (terminal_turn (terminal_held self.old held.now joined.now) (takes quiet)) }
-        ensures state { terminal_held self.new held.now joined.now ≡ state_after (terminal_held self.old held.now joined.now) (terminal_turn (terminal_held self.old held.now joined.now) (takes quiet)) }
+        ensures turn { terminal_answers (terminal_held self.new held.now joined.now) result
+            ≡ turn_of (terminal_turn (terminal_held self.old held.now joined.now) (takes quiet)) }
+        ensures state { terminal_held self.new held.now joined.now
+            ≡ state_after (terminal_held self.old held.now joined.now)
+            (terminal_turn (terminal_held self.old held.now joined.now) (takes quiet)) }
     {
         match self.wait {
             TerminalWait::Idle => Err(TerminalFault::Idle),
@@ -112,11 +127,22 @@ impl TerminalPlaces {
     fn ack_took(&mut self, held: &[u8], joined: &[u8], cut: Cut, arrived: &Arrived) -> TerminalAct
         requires fit { AreTerminalPlaces self.old (length held.now) (length joined.now) }
         requires inner { IsInner cut self.old.command_len }
-        requires waits { (terminal_held self.old held.now joined.now).waits ≡ ack (field_at cut (terminal_held self.old held.now joined.now).command) (rest_at cut (terminal_held self.old held.now joined.now).command) }
+        requires waits { (terminal_held self.old held.now joined.now).waits
+            ≡ ack (field_at cut (terminal_held self.old held.now joined.now).command)
+            (rest_at cut (terminal_held self.old held.now joined.now).command) }
         requires unanswered { self.old.is_answered ≡ false }
         ensures fit { AreTerminalPlaces self.new (length held.now) (length joined.now) }
-        ensures turn { turn_of (in_ack (terminal_held self.old held.now joined.now) (field_at cut (terminal_held self.old held.now joined.now).command) (rest_at cut (terminal_held self.old held.now joined.now).command) (came_of arrived.now)) ≡ Ok (terminal_does (terminal_held self.new held.now joined.now) result) }
-        ensures state { terminal_held self.new held.now joined.now ≡ state_after (terminal_held self.old held.now joined.now) (in_ack (terminal_held self.old held.now joined.now) (field_at cut (terminal_held self.old held.now joined.now).command) (rest_at cut (terminal_held self.old held.now joined.now).command) (came_of arrived.now)) }
+        ensures turn { turn_of (in_ack (terminal_held self.old held.now joined.now)
+            (field_at cut (terminal_held self.old held.now joined.now).command)
+            (rest_at cut (terminal_held self.old held.now joined.now).command)
+            (came_of arrived.now))
+            ≡ Ok (terminal_does (terminal_held self.new held.now joined.now) result) }
+        ensures state { terminal_held self.new held.now joined.now
+            ≡ state_after (terminal_held self.old held.now joined.now)
+            (in_ack (terminal_held self.old held.now joined.now)
+            (field_at cut (terminal_held self.old held.now joined.now).command)
+            (rest_at cut (terminal_held self.old held.now joined.now).command)
+            (came_of arrived.now)) }
     {
         match arrived {
             Arrived::Damaged | Arrived::Invalid => self.exchange_took(held, joined, arrived),
@@ -146,10 +172,18 @@ impl TerminalPlaces {
     ) -> TerminalAct
         requires fit { AreTerminalPlaces self.old (length held.now) (length joined.old) }
         requires last { IsLast cut self.old.command_len }
-        requires waits { (terminal_held self.old held.now joined.old).waits ≡ answer (field_at cut (terminal_held self.old held.now joined.old).command) }
+        requires waits { (terminal_held self.old held.now joined.old).waits
+            ≡ answer (field_at cut (terminal_held self.old held.now joined.old).command) }
         ensures fit { AreTerminalPlaces self.new (length held.now) (length joined.new) }
-        ensures turn { turn_of (in_answer (terminal_held self.old held.now joined.old) (field_at cut (terminal_held self.old held.now joined.old).command) (came_of arrived.now)) ≡ Ok (terminal_does (terminal_held self.new held.now joined.new) result) }
-        ensures state { terminal_held self.new held.now joined.new ≡ state_after (terminal_held self.old held.now joined.old) (in_answer (terminal_held self.old held.now joined.old) (field_at cut (terminal_held self.old held.now joined.old).command) (came_of arrived.now)) }
+        ensures turn { turn_of (in_answer (terminal_held self.old held.now joined.old)
+            (field_at cut (terminal_held self.old held.now joined.old).command)
+            (came_of arrived.now))
+            ≡ Ok (terminal_does (terminal_held self.new held.now joined.new) result) }
+        ensures state { terminal_held self.new held.now joined.new
+            ≡ state_after (terminal_held self.old held.now joined.old)
+            (in_answer (terminal_held self.old held.now joined.old)
+            (field_at cut (terminal_held self.old held.now joined.old).command)
+            (came_of arrived.now)) }
     {
         match arrived {
             Arrived::Damaged | Arrived::Invalid => self.exchange_took(held, joined, arrived),
@@ -177,10 +211,16 @@ impl TerminalPlaces {
     /// The answer goes on.
     fn more_took(&mut self, held: &[u8], joined: &mut [u8], arrived: &Arrived) -> TerminalAct
         requires fit { AreTerminalPlaces self.old (length held.now) (length joined.old) }
-        requires waits { (terminal_held self.old held.now joined.old).waits ≡ more (joined_of (terminal_held self.old held.now joined.old).waits) }
+        requires waits { (terminal_held self.old held.now joined.old).waits
+            ≡ more (joined_of (terminal_held self.old held.now joined.old).waits) }
         ensures fit { AreTerminalPlaces self.new (length held.now) (length joined.new) }
-        ensures turn { turn_of (in_more (terminal_held self.old held.now joined.old) (joined_of (terminal_held self.old held.now joined.old).waits) (came_of arrived.now)) ≡ Ok (terminal_does (terminal_held self.new held.now joined.new) result) }
-        ensures state { terminal_held self.new held.now joined.new ≡ state_after (terminal_held self.old held.now joined.old) (in_more (terminal_held self.old held.now joined.old) (joined_of (terminal_held self.old held.now joined.old).waits) (came_of arrived.now)) }
+        ensures turn { turn_of (in_more (terminal_held self.old held.now joined.old)
+            (joined_of (terminal_held self.old held.now joined.old).waits) (came_of arrived.now))
+            ≡ Ok (terminal_does (terminal_held self.new held.now joined.new) result) }
+        ensures state { terminal_held self.new held.now joined.new
+            ≡ state_after (terminal_held self.old held.now joined.old)
+            (in_more (terminal_held self.old held.now joined.old)
+            (joined_of (terminal_held self.old held.now joined.old).waits) (came_of arrived.now)) }
     {
         match arrived {
             Arrived::Damaged | Arrived::Invalid => self.exchange_took(held, joined, arrived),
@@ -204,8 +244,12 @@ impl TerminalPlaces {
         requires fit { AreTerminalPlaces self.old (length held.now) (length joined.now) }
         requires size { IsSize size }
         ensures fit { AreTerminalPlaces self.new (length held.now) (length joined.now) }
-        ensures turn { turn_of (in_ifs (terminal_held self.old held.now joined.now) size (came_of arrived.now)) ≡ Ok (terminal_does (terminal_held self.new held.now joined.now) result) }
-        ensures state { terminal_held self.new held.now joined.now ≡ state_after (terminal_held self.old held.now joined.now) (in_ifs (terminal_held self.old held.now joined.now) size (came_of arrived.now)) }
+        ensures turn { turn_of (in_ifs (terminal_held self.old held.now joined.now) size
+            (came_of arrived.now))
+            ≡ Ok (terminal_does (terminal_held self.new held.now joined.now) result) }
+        ensures state { terminal_held self.new held.now joined.now
+            ≡ state_after (terminal_held self.old held.now joined.now)
+            (in_ifs (terminal_held self.old held.now joined.now) size (came_of arrived.now)) }
     {
         if arrived.responds_with(size) {
             self.failures = 0;
@@ -227,8 +271,12 @@ impl TerminalPlaces {
         requires fit { AreTerminalPlaces self.old (length held.now) (length joined.now) }
         requires asked { asked ≤ most_resynchs }
         ensures fit { AreTerminalPlaces self.new (length held.now) (length joined.now) }
-        ensures turn { turn_of (in_resynch (terminal_held self.old held.now joined.now) asked (came_of arrived.now)) ≡ Ok (terminal_does (terminal_held self.new held.now joined.now) result) }
-        ensures state { terminal_held self.new held.now joined.now ≡ state_after (terminal_held self.old held.now joined.now) (in_resynch (terminal_held self.old held.now joined.now) asked (came_of arrived.now)) }
+        ensures turn { turn_of (in_resynch (terminal_held self.old held.now joined.now) asked
+            (came_of arrived.now))
+            ≡ Ok (terminal_does (terminal_held self.new held.now joined.now) result) }
+        ensures state { terminal_held self.new held.now joined.now
+            ≡ state_after (terminal_held self.old held.now joined.now)
+            (in_resynch (terminal_held self.old held.now joined.now) asked (came_of arrived.now)) }
     {
         match arrived {
             Arrived::Damaged | Arrived::Invalid => self.resynch_again(held, joined, asked),
@@ -255,8 +303,11 @@ impl TerminalPlaces {
         requires fit { AreTerminalPlaces self.old (length held.now) (length joined.now) }
         requires asked { asked ≤ most_resynchs }
         ensures fit { AreTerminalPlaces self.new (length held.now) (length joined.now) }
-        ensures turn { turn_of (in_resynch (terminal_held self.old held.now joined.now) asked quiet) ≡ Ok (terminal_does (terminal_held self.new held.now joined.now) result) }
-        ensures state { terminal_held self.new held.now joined.now ≡ state_after (terminal_held self.old held.now joined.now) (in_resynch (terminal_held self.old held.now joined.now) asked quiet) }
+        ensures turn { turn_of (in_resynch (terminal_held self.old held.now joined.now) asked quiet)
+            ≡ Ok (terminal_does (terminal_held self.new held.now joined.now) result) }
+        ensures state { terminal_held self.new held.now joined.now
+            ≡ state_after (terminal_held self.old held.now joined.now)
+            (in_resynch (terminal_held self.old held.now joined.now) asked quiet) }
     {
         if asked < MOST_RESYNCHS {
             self.wait = TerminalWait::Resynch(asked + 1);
@@ -273,8 +324,13 @@ impl TerminalPlaces {
         requires place { place ≤ self.old.command_len }
         requires unanswered { self.old.is_answered ≡ false }
         ensures fit { AreTerminalPlaces self.new (length held.now) (length joined.now) }
-        ensures turn { turn_of (sends_next (terminal_held self.old held.now joined.now) (drop place (terminal_held self.old held.now joined.now).command)) ≡ Ok (terminal_does (terminal_held self.new held.now joined.now) result) }
-        ensures state { terminal_held self.new held.now joined.now ≡ state_after (terminal_held self.old held.now joined.now) (sends_next (terminal_held self.old held.now joined.now) (drop place (terminal_held self.old held.now joined.now).command)) }
+        ensures turn { turn_of (sends_next (terminal_held self.old held.now joined.now)
+            (drop place (terminal_held self.old held.now joined.now).command))
+            ≡ Ok (terminal_does (terminal_held self.new held.now joined.now) result) }
+        ensures state { terminal_held self.new held.now joined.now
+            ≡ state_after (terminal_held self.old held.now joined.now)
+            (sends_next (terminal_held self.old held.now joined.now)
+            (drop place (terminal_held self.old held.now joined.now).command)) }
     {
         let cut = Cut {
             place,
@@ -295,10 +351,16 @@ impl TerminalPlaces {
     fn joins(&mut self, held: &[u8], joined: &mut [u8], inf: &[u8], more: bool) -> TerminalAct
         requires fit { AreTerminalPlaces self.old (length held.now) (length joined.old) }
         requires joining { IsJoining (terminal_held self.old held.now joined.old).waits }
-        requires fits { length (joined_of (terminal_held self.old held.now joined.old).waits) + length inf.now ≤ self.old.most_answer }
+        requires fits { length (joined_of (terminal_held self.old held.now joined.old).waits)
+            + length inf.now ≤ self.old.most_answer }
         ensures fit { AreTerminalPlaces self.new (length held.now) (length joined.new) }
-        ensures turn { turn_of (joins (terminal_held self.old held.now joined.old) (joined_of (terminal_held self.old held.now joined.old).waits ++ inf.now) more) ≡ Ok (terminal_does (terminal_held self.new held.now joined.new) result) }
-        ensures state { terminal_held self.new held.now joined.new ≡ state_after (terminal_held self.old held.now joined.old) (joins (terminal_held self.old held.now joined.old) (joined_of (terminal_held self.old held.now joined.old).waits ++ inf.now) more) }
+        ensures turn { turn_of (joins (terminal_held self.old held.now joined.old)
+            (joined_of (terminal_held self.old held.now joined.old).waits ++ inf.now) more)
+            ≡ Ok (terminal_does (terminal_held self.new held.now joined.new) result) }
+        ensures state { terminal_held self.new held.now joined.new
+            ≡ state_after (terminal_held self.old held.now joined.old)
+            (joins (terminal_held self.old held.now joined.old)
+            (joined_of (terminal_held self.old held.now joined.old).waits ++ inf.now) more) }
     {
         self.joined_len = append(joined, self.joined_len, inf);
         self.failures = 0;
@@ -317,8 +379,13 @@ impl TerminalPlaces {
     fn fails(&mut self, held: &[u8], joined: &[u8], sent: Sent) -> TerminalAct
         requires fit { AreTerminalPlaces self.old (length held.now) (length joined.now) }
         ensures fit { AreTerminalPlaces self.new (length held.now) (length joined.now) }
-        ensures turn { turn_of (fails (terminal_held self.old held.now joined.now) (terminal_sends (terminal_held self.old held.now joined.now) sent)) ≡ Ok (terminal_does (terminal_held self.new held.now joined.now) result) }
-        ensures state { terminal_held self.new held.now joined.now ≡ state_after (terminal_held self.old held.now joined.now) (fails (terminal_held self.old held.now joined.now) (terminal_sends (terminal_held self.old held.now joined.now) sent)) }
+        ensures turn { turn_of (fails (terminal_held self.old held.now joined.now)
+            (terminal_sends (terminal_held self.old held.now joined.now) sent))
+            ≡ Ok (terminal_does (terminal_held self.new held.now joined.now) result) }
+        ensures state { terminal_held self.new held.now joined.now
+            ≡ state_after (terminal_held self.old held.now joined.now)
+            (fails (terminal_held self.old held.now joined.now)
+            (terminal_sends (terminal_held self.old held.now joined.now) sent)) }
     {
         if self.failures < MOST_REPEATS {
             self.failures += 1;
@@ -332,8 +399,13 @@ impl TerminalPlaces {
     fn fails_with(&mut self, held: &[u8], joined: &[u8], fault: Fault) -> TerminalAct
         requires fit { AreTerminalPlaces self.old (length held.now) (length joined.now) }
         ensures fit { AreTerminalPlaces self.new (length held.now) (length joined.now) }
-        ensures turn { turn_of (fails (terminal_held self.old held.now joined.now) (ready (terminal_held self.old held.now joined.now).expected fault)) ≡ Ok (terminal_does (terminal_held self.new held.now joined.now) result) }
-        ensures state { terminal_held self.new held.now joined.now ≡ state_after (terminal_held self.old held.now joined.now) (fails (terminal_held self.old held.now joined.now) (ready (terminal_held self.old held.now joined.now).expected fault)) }
+        ensures turn { turn_of (fails (terminal_held self.old held.now joined.now)
+            (ready (terminal_held self.old held.now joined.now).expected fault))
+            ≡ Ok (terminal_does (terminal_held self.new held.now joined.now) result) }
+        ensures state { terminal_held self.new held.now joined.now
+            ≡ state_after (terminal_held self.old held.now joined.now)
+            (fails (terminal_held self.old held.now joined.now)
+            (ready (terminal_held self.old held.now joined.now).expected fault)) }
     {
         self.fails(
             held,
@@ -346,8 +418,12 @@ impl TerminalPlaces {
     fn exchange_took(&mut self, held: &[u8], joined: &[u8], arrived: &Arrived) -> TerminalAct
         requires fit { AreTerminalPlaces self.old (length held.now) (length joined.now) }
         ensures fit { AreTerminalPlaces self.new (length held.now) (length joined.now) }
-        ensures turn { turn_of (in_exchange (terminal_held self.old held.now joined.now) (came_of arrived.now)) ≡ Ok (terminal_does (terminal_held self.new held.now joined.now) result) }
-        ensures state { terminal_held self.new held.now joined.now ≡ state_after (terminal_held self.old held.now joined.now) (in_exchange (terminal_held self.old held.now joined.now) (came_of arrived.now)) }
+        ensures turn { turn_of (in_exchange (terminal_held self.old held.now joined.now)
+            (came_of arrived.now))
+            ≡ Ok (terminal_does (terminal_held self.new held.now joined.now) result) }
+        ensures state { terminal_held self.new held.now joined.now
+            ≡ state_after (terminal_held self.old held.now joined.now)
+            (in_exchange (terminal_held self.old held.now joined.now) (came_of arrived.now)) }
     {
         let fault = match arrived {
             Arrived::Damaged => Fault::Redundancy,
@@ -381,7 +457,8 @@ impl TerminalPlaces {
     /// The I-block under way.
     fn info<'a>(&self, held: &'a [u8], joined: &[u8], more: bool) -> BlockRef<'a>
         requires fit { AreTerminalPlaces self.now (length held.now) (length joined.now) }
-        ensures { result ≡ info (terminal_held self.now held.now joined.now).number more (field_sent (terminal_held self.now held.now joined.now).waits) }
+        ensures { result ≡ info (terminal_held self.now held.now joined.now).number more
+            (field_sent (terminal_held self.now held.now joined.now).waits) }
     {
         let pcb = Pcb::Info {
             number: self.number,
@@ -393,7 +470,8 @@ impl TerminalPlaces {
     /// The field of the I-block under way.
     fn field<'a>(&self, held: &'a [u8], joined: &[u8]) -> &'a [u8]
         requires fit { AreTerminalPlaces self.now (length held.now) (length joined.now) }
-        ensures octets { result.now ≡ field_sent (terminal_held self.now held.now joined.now).waits }
+        ensures octets { result.now ≡ field_sent
+            (terminal_held self.now held.now joined.now).waits }
         ensures most { length result.now ≤ 254 }
     {
         match self.wait {

@@ -10,11 +10,15 @@ pub returns-then-command-place-clause-turn : goal.returns-then-command-place-cla
 returns-then-command-place-clause-turn c =
     let message : List ℕ = take c.args.self.now.command_len c.args.held.now in
     let left : List ℕ = drop c.args.place message in
-    ap (λ more. Ok (Send (info c.args.self.now.number more (take c.args.self.now.ifsc left)))) (more_follows c.args.self.now.ifsc left (omega (arith, length-drop c.args.place message, c.if-command-place.true)))
+    ap (λ more. Ok (Send (info c.args.self.now.number more (take c.args.self.now.ifsc left))))
+    (more_follows c.args.self.now.ifsc left (omega (arith, length-drop c.args.place message, c.if-command-place.true)))
 
 pub returns-then-command-place-clause-state : goal.returns-then-command-place-clause-state
 returns-then-command-place-clause-state c =
     let message : List ℕ = take c.args.self.now.command_len c.args.held.now in
     let left : List ℕ = drop c.args.place message in
     let size : ℕ = c.args.self.now.ifsc in
-    rw c.requires.unanswered (ap (λ waits. record (terminal_held c.args.self.now c.args.held.now c.args.joined.now) { waits = waits; answered = None }) (command-goes-on (take size left) (drop size left) (omega (arith, length-drop c.args.place message, length-drop size left, c.if-command-place.true))))
+    rw c.requires.unanswered (ap (λ waits.
+    record (terminal_held c.args.self.now c.args.held.now c.args.joined.now) { waits = waits; answered = None })
+    (command-goes-on (take size left) (drop size left)
+    (omega (arith, length-drop c.args.place message, length-drop size left, c.if-command-place.true))))
