@@ -19,12 +19,15 @@ IsGiven turn out (Err inner) = turn ≡ Err inner
 front : (parts : Parts) (old new : List ℕ) (count : ℕ) → IsPut parts old new count → take count new ≡ spelling parts
 front parts old new count is = grind (arith, common_steps, is.counted, is.buffer, is.spells.is)
 
-pub given : (turn : Result CardTurn CardFault) (old new : List ℕ) (answer : Result CardPut CardFault) → IsCardPut turn old new answer → IsGiven turn new answer
+pub given : (turn : Result CardTurn CardFault) (old new : List ℕ) (answer : Result CardPut CardFault)
+    → IsCardPut turn old new answer → IsGiven turn new answer
 given (Ok (Send parts)) old new answer (count, is, placed) = rw is (parts, refl, front parts old new count placed)
 given (Ok Asked) old new answer (is, kept) = rw is refl
 given (Err inner) old new answer (is, kept) = rw is refl
 
 -- The turn Asked is about a command that the host owes the reply to.
-pub waits-for-host : (c : CardState) (step : CardStep) → ((next : CardState) → step ≡ Ok (Asked, next) → next.waits ≡ host) → turn_of step ≡ Ok Asked → (state_after c step).waits ≡ host
+pub waits-for-host : (c : CardState) (step : CardStep)
+    → ((next : CardState) → step ≡ Ok (Asked, next) → next.waits ≡ host) → turn_of step ≡ Ok Asked
+    → (state_after c step).waits ≡ host
 waits-for-host c (Ok (turn, next)) law e = let k : turn ≡ Asked = cc in law next (rw k refl)
 waits-for-host c (Err inner) law e = cc

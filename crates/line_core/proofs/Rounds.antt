@@ -31,119 +31,206 @@ pub none-happen : {A : Type 0} (first : A → List Event → Type 0) → Happens
 none-happen first = λ once before h. rw append-nil h
 
 -- events after events
-after : {A : Type 0} (first second third : A → List Event → Type 0) (a b : List Event) → Happens first second a → Happens second third b → Happens first third (a ++ b)
+after : {A : Type 0} (first second third : A → List Event → Type 0) (a b : List Event) → Happens first second a
+    → Happens second third b → Happens first third (a ++ b)
 after first second third a b f g = λ once before h. rw (← append_assoc) (g once (before ++ a) (f once before h))
 
 -- A block's answer, and the round of a block, with what happened on the line and at the host.
-abbrev pub Answers : {B : Type 0} → (B → List Event → Type 0) → (B → List Event → Type 0) → Doing → CardState → List ℕ → Result ℕ ServeFault → CardState → Type 0
-Answers h0 h1 doing c out result c' = (events : List Event) × (on_line events ≡ []) × Happens h0 h1 (at_host events) × IsAnswer doing c events out result c'
+abbrev pub Answers : {B : Type 0} → (B → List Event → Type 0) → (B → List Event → Type 0) → Doing → CardState → List ℕ
+    → Result ℕ ServeFault → CardState → Type 0
+Answers h0 h1 doing c out result c' = (events : List Event) × (on_line events ≡ []) × Happens h0 h1 (at_host events)
+    × IsAnswer doing c events out result c'
 
-abbrev pub Rounds : {A B : Type 0} → (A → List Event → Type 0) → (A → List Event → Type 0) → (B → List Event → Type 0) → (B → List Event → Type 0) → CardState → Result Bool ServeFault → CardState → Type 0
-Rounds l0 l1 h0 h1 c result c' = (events : List Event) × Happens l0 l1 (on_line events) × Happens h0 h1 (at_host events) × IsRound c events result c'
+abbrev pub Rounds : {A B : Type 0} → (A → List Event → Type 0) → (A → List Event → Type 0) → (B → List Event → Type 0)
+    → (B → List Event → Type 0) → CardState → Result Bool ServeFault → CardState → Type 0
+Rounds l0 l1 h0 h1 c result c' = (events : List Event) × Happens l0 l1 (on_line events) × Happens h0 h1 (at_host events)
+    × IsRound c events result c'
 
-on-both : {A : Type 0} (l0 l1 l2 : A → List Event → Type 0) (events : List Event) (arrival : Arrival) (last : Event) → on_line events ≡ [] → on_line (last ∷ []) ≡ last ∷ [] → Happens l0 l1 (came arrival ∷ []) → Happens l1 l2 (last ∷ []) → Happens l0 l2 (on_line (came arrival ∷ (events ++ last ∷ [])))
+on-both : {A : Type 0} (l0 l1 l2 : A → List Event → Type 0) (events : List Event) (arrival : Arrival) (last : Event)
+    → on_line events ≡ [] → on_line (last ∷ []) ≡ last ∷ [] → Happens l0 l1 (came arrival ∷ [])
+    → Happens l1 l2 (last ∷ []) → Happens l0 l2 (on_line (came arrival ∷ (events ++ last ∷ [])))
 on-both l0 l1 l2 events arrival last none is heard said =
     rw (on_line-append events (last ∷ []), none, is) (after l0 l1 l2 (came arrival ∷ []) (last ∷ []) heard said)
 
-host-alone : {B : Type 0} (h0 h1 : B → List Event → Type 0) (events : List Event) (last : Event) → at_host (last ∷ []) ≡ [] → Happens h0 h1 (at_host events) → Happens h0 h1 (at_host (events ++ last ∷ []))
+host-alone : {B : Type 0} (h0 h1 : B → List Event → Type 0) (events : List Event) (last : Event)
+    → at_host (last ∷ []) ≡ [] → Happens h0 h1 (at_host events) → Happens h0 h1 (at_host (events ++ last ∷ []))
 host-alone h0 h1 events last is served = rw (at_host-append events (last ∷ []), is, append-nil) served
 
-pub answers-block : {A B : Type 0} (l0 l1 l2 : A → List Event → Type 0) (h0 h1 : B → List Event → Type 0) (c c' : CardState) (octets out : List ℕ) (count : ℕ) → Happens l0 l1 (came (block octets) ∷ []) → Happens l1 l2 (sent (take count out) ∷ []) → Answers h0 h1 (doing_after c (block octets)) (left_after c (block octets)) out (Ok count) c' → Rounds l0 l2 h0 h1 c (Ok true) c'
+pub answers-block : {A B : Type 0} (l0 l1 l2 : A → List Event → Type 0) (h0 h1 : B → List Event → Type 0)
+    (c c' : CardState) (octets out : List ℕ) (count : ℕ) → Happens l0 l1 (came (block octets) ∷ [])
+    → Happens l1 l2 (sent (take count out) ∷ [])
+    → Answers h0 h1 (doing_after c (block octets)) (left_after c (block octets)) out (Ok count) c'
+    → Rounds l0 l2 h0 h1 c (Ok true) c'
 answers-block l0 l1 l2 h0 h1 c c' octets out count heard said (events, none, served, (parts, spells, on)) = (
   came (block octets) ∷ (events ++ sent (take count out) ∷ []),
   on-both l0 l1 l2 events (block octets) (sent (take count out)) none refl heard said,
   host-alone h0 h1 events (sent (take count out)) refl served,
-  λ most more ending left some run. (some, rw append_assoc (on (most - 1) (sent (take count out) ∷ more) ending left (spells, run))),
+  λ most more ending left some run. (
+    some,
+    rw append_assoc (on (most - 1) (sent (take count out) ∷ more) ending left (spells, run)),
+  ),
 )
 
-pub fails-to-say : {A B : Type 0} (l0 l1 l2 : A → List Event → Type 0) (h0 h1 : B → List Event → Type 0) (c c' : CardState) (octets out : List ℕ) (count : ℕ) (fault : ServeFault) → ending_of {A = Bool} (Err fault) ≡ line_failed → Happens l0 l1 (came (block octets) ∷ []) → Happens l1 l2 (unsent (take count out) ∷ []) → Answers h0 h1 (doing_after c (block octets)) (left_after c (block octets)) out (Ok count) c' → Rounds l0 l2 h0 h1 c (Err fault) c'
+pub fails-to-say : {A B : Type 0} (l0 l1 l2 : A → List Event → Type 0) (h0 h1 : B → List Event → Type 0)
+    (c c' : CardState) (octets out : List ℕ) (count : ℕ) (fault : ServeFault)
+    → ending_of {A = Bool} (Err fault) ≡ line_failed → Happens l0 l1 (came (block octets) ∷ [])
+    → Happens l1 l2 (unsent (take count out) ∷ [])
+    → Answers h0 h1 (doing_after c (block octets)) (left_after c (block octets)) out (Ok count) c'
+    → Rounds l0 l2 h0 h1 c (Err fault) c'
 fails-to-say l0 l1 l2 h0 h1 c c' octets out count fault is heard said (events, none, served, (parts, spells, on)) = (
   came (block octets) ∷ (events ++ unsent (take count out) ∷ []),
   on-both l0 l1 l2 events (block octets) (unsent (take count out)) none refl heard said,
   host-alone h0 h1 events (unsent (take count out)) refl served,
-  λ most some. (some, on (most - 1) (unsent (take count out) ∷ []) (ending_of {A = Bool} (Err fault)) c' (spells, is, refl)),
+  λ most some. (
+    some,
+    on (most - 1) (unsent (take count out) ∷ []) (ending_of {A = Bool} (Err fault)) c' (spells, is, refl),
+  ),
 )
 
-pub refuses : {A B : Type 0} (l0 l1 : A → List Event → Type 0) (h0 h1 : B → List Event → Type 0) (c c' : CardState) (octets out : List ℕ) (fault : ServeFault) → Happens l0 l1 (came (block octets) ∷ []) → Answers h0 h1 (doing_after c (block octets)) (left_after c (block octets)) out (Err fault) c' → Rounds l0 l1 h0 h1 c (Err fault) c'
+pub refuses : {A B : Type 0} (l0 l1 : A → List Event → Type 0) (h0 h1 : B → List Event → Type 0) (c c' : CardState)
+    (octets out : List ℕ) (fault : ServeFault) → Happens l0 l1 (came (block octets) ∷ [])
+    → Answers h0 h1 (doing_after c (block octets)) (left_after c (block octets)) out (Err fault) c'
+    → Rounds l0 l1 h0 h1 c (Err fault) c'
 refuses l0 l1 h0 h1 c c' octets out fault heard (events, none, served, on) =
     (came (block octets) ∷ events, rw none heard, served, λ most some. (some, on (most - 1)))
 
 -- Events happened, and serving from here on makes serving from the start on.
-pub record Serving {A B : Type 0} (l0 l : A → List Event → Type 0) (h0 h : B → List Event → Type 0) (most left : ℕ) (start c : CardState) : Type 0 where
+pub record Serving {A B : Type 0} (l0 l : A → List Event → Type 0) (h0 h : B → List Event → Type 0) (most left : ℕ)
+    (start c : CardState) : Type 0 where
   pub events : List Event
   pub line : Happens l0 l (on_line events)
   pub hosts : Happens h0 h (at_host events)
-  pub serves : (more : List Event) (ending : Ending) (state : CardState) → Serves left hears c more ending state → Serves most hears start (events ++ more) ending state
+  pub serves : (more : List Event) (ending : Ending) (state : CardState) → Serves left hears c more ending state
+      → Serves most hears start (events ++ more) ending state
 
-abbrev pub HasServed : {A B : Type 0} → (A → List Event → Type 0) → (A → List Event → Type 0) → (B → List Event → Type 0) → (B → List Event → Type 0) → ℕ → CardState → Ending → CardState → Type 0
-HasServed l0 l h0 h most start ending c = (events : List Event) × Happens l0 l (on_line events) × Happens h0 h (at_host events) × Serves most hears start events ending c
+abbrev pub HasServed : {A B : Type 0} → (A → List Event → Type 0) → (A → List Event → Type 0)
+    → (B → List Event → Type 0) → (B → List Event → Type 0) → ℕ → CardState → Ending → CardState → Type 0
+HasServed l0 l h0 h most start ending c =
+    (events : List Event) × Happens l0 l (on_line events) × Happens h0 h (at_host events)
+    × Serves most hears start events ending c
 
-pub begins : {A B : Type 0} (l : A → List Event → Type 0) (h : B → List Event → Type 0) (most : ℕ) (c : CardState) → Serving l l h h most most c c
-begins l h most c = record { events = []; line = none-happen l; hosts = none-happen h; serves = λ more ending state s. s }
-
-lines-on : {A : Type 0} (l0 l l' : A → List Event → Type 0) (a b : List Event) → Happens l0 l (on_line a) → Happens l l' (on_line b) → Happens l0 l' (on_line (a ++ b))
+lines-on : {A : Type 0} (l0 l l' : A → List Event → Type 0) (a b : List Event) → Happens l0 l (on_line a)
+    → Happens l l' (on_line b) → Happens l0 l' (on_line (a ++ b))
 lines-on l0 l l' a b f g = rw on_line-append (after l0 l l' (on_line a) (on_line b) f g)
 
-hosts-on : {A : Type 0} (l0 l l' : A → List Event → Type 0) (a b : List Event) → Happens l0 l (at_host a) → Happens l l' (at_host b) → Happens l0 l' (at_host (a ++ b))
+hosts-on : {A : Type 0} (l0 l l' : A → List Event → Type 0) (a b : List Event) → Happens l0 l (at_host a)
+    → Happens l l' (at_host b) → Happens l0 l' (at_host (a ++ b))
 hosts-on l0 l l' a b f g = rw at_host-append (after l0 l l' (at_host a) (at_host b) f g)
 
-pub goes-on : {A B : Type 0} (l0 l l' : A → List Event → Type 0) (h0 h h' : B → List Event → Type 0) (most left : ℕ) (start c c' : CardState) → 1 ≤ left → Rounds l l' h h' c (Ok true) c' → Serving l0 l h0 h most left start c → Serving l0 l' h0 h' most (left - 1) start c'
+pub goes-on : {A B : Type 0} (l0 l l' : A → List Event → Type 0) (h0 h h' : B → List Event → Type 0) (most left : ℕ)
+    (start c c' : CardState) → 1 ≤ left → Rounds l l' h h' c (Ok true) c' → Serving l0 l h0 h most left start c
+    → Serving l0 l' h0 h' most (left - 1) start c'
 goes-on l0 l l' h0 h h' most left start c c' some (events, line, hosts, round) s = record {
   events = s.events ++ events;
   line = lines-on l0 l l' s.events events s.line line;
   hosts = hosts-on h0 h h' s.events events s.hosts hosts;
-  serves = λ more ending state run. rw append_assoc (s.serves (events ++ more) ending state (round left more ending state some run));
+  serves = λ more ending state run. rw append_assoc
+      (s.serves (events ++ more) ending state (round left more ending state some run));
 }
 
-closes : {A B : Type 0} (l0 l l' : A → List Event → Type 0) (h0 h h' : B → List Event → Type 0) (most left : ℕ) (start c c' : CardState) (ending : Ending) (events : List Event) → Happens l l' (on_line events) → Happens h h' (at_host events) → Serves left hears c events ending c' → Serving l0 l h0 h most left start c → HasServed l0 l' h0 h' most start ending c'
-closes l0 l l' h0 h h' most left start c c' ending events line hosts run s =
-    (s.events ++ events, lines-on l0 l l' s.events events s.line line, hosts-on h0 h h' s.events events s.hosts hosts, s.serves events ending c' run)
+closes : {A B : Type 0} (l0 l l' : A → List Event → Type 0) (h0 h h' : B → List Event → Type 0) (most left : ℕ)
+    (start c c' : CardState) (ending : Ending) (events : List Event) → Happens l l' (on_line events)
+    → Happens h h' (at_host events) → Serves left hears c events ending c' → Serving l0 l h0 h most left start c
+    → HasServed l0 l' h0 h' most start ending c'
+closes l0 l l' h0 h h' most left start c c' ending events line hosts run s = (
+  s.events ++ events,
+  lines-on l0 l l' s.events events s.line line,
+  hosts-on h0 h h' s.events events s.hosts hosts,
+  s.serves events ending c' run,
+)
 
-pub is-over : {A B : Type 0} (l0 l l' : A → List Event → Type 0) (h0 h h' : B → List Event → Type 0) (most left : ℕ) (start c c' : CardState) → 1 ≤ left → Rounds l l' h h' c (Ok false) c' → Serving l0 l h0 h most left start c → HasServed l0 l' h0 h' most start over c'
-is-over l0 l l' h0 h h' most left start c c' some (events, line, hosts, round) s = closes l0 l l' h0 h h' most left start c c' over events line hosts (round left some) s
+pub is-over : {A B : Type 0} (l0 l l' : A → List Event → Type 0) (h0 h h' : B → List Event → Type 0) (most left : ℕ)
+    (start c c' : CardState) → 1 ≤ left → Rounds l l' h h' c (Ok false) c' → Serving l0 l h0 h most left start c
+    → HasServed l0 l' h0 h' most start over c'
+is-over l0 l l' h0 h h' most left start c c' some (events, line, hosts, round) s =
+    closes l0 l l' h0 h h' most left start c c' over events line hosts (round left some) s
 
-pub stops : {A B : Type 0} (l0 l l' : A → List Event → Type 0) (h0 h h' : B → List Event → Type 0) (most left : ℕ) (start c c' : CardState) (fault : ServeFault) → 1 ≤ left → Rounds l l' h h' c (Err fault) c' → Serving l0 l h0 h most left start c → HasServed l0 l' h0 h' most start (ending_of {A = Bool} (Err fault)) c'
-stops l0 l l' h0 h h' most left start c c' fault some (events, line, hosts, round) s = closes l0 l l' h0 h h' most left start c c' _ events line hosts (round left some) s
+pub stops : {A B : Type 0} (l0 l l' : A → List Event → Type 0) (h0 h h' : B → List Event → Type 0) (most left : ℕ)
+    (start c c' : CardState) (fault : ServeFault) → 1 ≤ left → Rounds l l' h h' c (Err fault) c'
+    → Serving l0 l h0 h most left start c → HasServed l0 l' h0 h' most start (ending_of {A = Bool} (Err fault)) c'
+stops l0 l l' h0 h h' most left start c c' fault some (events, line, hosts, round) s =
+    closes l0 l l' h0 h h' most left start c c' _ events line hosts (round left some) s
 
-pub runs-out : {A B : Type 0} (l0 l : A → List Event → Type 0) (h0 h : B → List Event → Type 0) (most left : ℕ) (start c : CardState) → left ≡ 0 → Serving l0 l h0 h most left start c → HasServed l0 l h0 h most start used_up c
-runs-out l0 l h0 h most left start c none s = closes l0 l l h0 h h most left start c c used_up [] (none-happen l) (none-happen h) (none, refl, refl) s
+pub runs-out : {A B : Type 0} (l0 l : A → List Event → Type 0) (h0 h : B → List Event → Type 0) (most left : ℕ)
+    (start c : CardState) → left ≡ 0 → Serving l0 l h0 h most left start c → HasServed l0 l h0 h most start used_up c
+runs-out l0 l h0 h most left start c none s =
+    closes l0 l l h0 h h most left start c c used_up [] (none-happen l) (none-happen h) (none, refl, refl) s
 
 -- ---- the answer to a block
 
-pub answers-refused : {B : Type 0} (h : B → List Event → Type 0) (turn : Result CardTurn CardFault) (c c' : CardState) (out : List ℕ) (inner : CardFault) → IsGiven turn out (Err inner) → c' ≡ c → Answers h h (doing_of turn) c out (Err (Refused inner)) c'
+pub answers-refused : {B : Type 0} (h : B → List Event → Type 0) (turn : Result CardTurn CardFault) (c c' : CardState)
+    (out : List ℕ) (inner : CardFault) → IsGiven turn out (Err inner) → c' ≡ c
+    → Answers h h (doing_of turn) c out (Err (Refused inner)) c'
 answers-refused h turn c c' out inner is e = ([], refl, none-happen h, λ most. rw is (refl, e))
 
-pub answers-sent : {B : Type 0} (h : B → List Event → Type 0) (turn : Result CardTurn CardFault) (c c' : CardState) (out : List ℕ) (count : ℕ) → IsGiven turn out (Ok (put.Send count)) → c' ≡ c → Answers h h (doing_of turn) c out (Ok count) c'
-answers-sent h turn c c' out count (parts, is, spells) e = ([], refl, none-happen h, (parts, spells, λ most more ending left run. rw (is, ← e) run))
+pub answers-sent : {B : Type 0} (h : B → List Event → Type 0) (turn : Result CardTurn CardFault) (c c' : CardState)
+    (out : List ℕ) (count : ℕ) → IsGiven turn out (Ok (put.Send count)) → c' ≡ c
+    → Answers h h (doing_of turn) c out (Ok count) c'
+answers-sent h turn c c' out count (parts, is, spells) e =
+    ([], refl, none-happen h, (parts, spells, λ most more ending left run. rw (is, ← e) run))
 
-sent-on : (step : CardStep) (c c' : CardState) (parts : Parts) (most : ℕ) (more : List Event) (ending : Ending) (left : CardState) → turn_of step ≡ Ok (Send parts) → c' ≡ state_after c step → Serves most (says parts) c' more ending left → Serves most (doing_of (turn_of step)) (state_after c step) more ending left
+sent-on : (step : CardStep) (c c' : CardState) (parts : Parts) (most : ℕ) (more : List Event) (ending : Ending)
+    (left : CardState) → turn_of step ≡ Ok (Send parts) → c' ≡ state_after c step
+    → Serves most (says parts) c' more ending left
+    → Serves most (doing_of (turn_of step)) (state_after c step) more ending left
 sent-on step c c' parts most more ending left is e run = rw (is, ← e) run
 
-refused-on : (step : CardStep) (c c' : CardState) (inner : CardFault) (most : ℕ) → turn_of step ≡ Err inner → c' ≡ state_after c step → Serves most (doing_of (turn_of step)) (state_after c step) [] (refused inner) c'
+refused-on : (step : CardStep) (c c' : CardState) (inner : CardFault) (most : ℕ) → turn_of step ≡ Err inner
+    → c' ≡ state_after c step → Serves most (doing_of (turn_of step)) (state_after c step) [] (refused inner) c'
 refused-on step c c' inner most is e = rw is (refl, e)
 
 -- what the host's reply comes to
-abbrev pub Replied : {B : Type 0} → (B → List Event → Type 0) → (B → List Event → Type 0) → CardState → List ℕ → Result ℕ CardFault → CardState → Type 0
-Replied h h' c out result c' = (reply : List ℕ) × Happens h h' (asked c.command reply ∷ []) × IsReply (turn_of (card_turn c (replies reply))) out result × (c' ≡ state_after c (card_turn c (replies reply)))
+abbrev pub Replied : {B : Type 0} → (B → List Event → Type 0) → (B → List Event → Type 0) → CardState → List ℕ
+    → Result ℕ CardFault → CardState → Type 0
+Replied h h' c out result c' = (reply : List ℕ) × Happens h h' (asked c.command reply ∷ [])
+    × IsReply (turn_of (card_turn c (replies reply))) out result × (c' ≡ state_after c (card_turn c (replies reply)))
 
-replied-here : {B : Type 0} (h h' : B → List Event → Type 0) (turn : Result CardTurn CardFault) (c c' : CardState) (out : List ℕ) (count : ℕ) → turn ≡ Ok Asked → Replied h h' c out (Ok count) c' → Answers h h' (doing_of turn) c out (Ok count) c'
-replied-here h h' turn c c' out count is (reply, served, (parts, sends, spells), e) =
-    (asked c.command reply ∷ [], refl, served, (parts, spells, λ most more ending left run. rw is (refl, sent-on (card_turn c (replies reply)) c c' parts most more ending left sends e run)))
+replied-here : {B : Type 0} (h h' : B → List Event → Type 0) (turn : Result CardTurn CardFault) (c c' : CardState)
+    (out : List ℕ) (count : ℕ) → turn ≡ Ok Asked → Replied h h' c out (Ok count) c'
+    → Answers h h' (doing_of turn) c out (Ok count) c'
+replied-here h h' turn c c' out count is (reply, served, (parts, sends, spells), e) = (
+  asked c.command reply ∷ [],
+  refl,
+  served,
+  (
+    parts,
+    spells,
+    λ most more ending left run.
+        rw is (refl, sent-on (card_turn c (replies reply)) c c' parts most more ending left sends e run),
+  ),
+)
 
-pub answers-replied : {B : Type 0} (h h' : B → List Event → Type 0) (turn : Result CardTurn CardFault) (c here c' : CardState) (out : List ℕ) (count : ℕ) → turn ≡ Ok Asked → here ≡ c → Replied h h' here out (Ok count) c' → Answers h h' (doing_of turn) c out (Ok count) c'
-answers-replied h h' turn c here c' out count is e replied = let P : CardState → Type 0 = λ s. Answers h h' (doing_of turn) s out (Ok count) c' in subst P e (replied-here h h' turn here c' out count is replied)
+pub answers-replied : {B : Type 0} (h h' : B → List Event → Type 0) (turn : Result CardTurn CardFault)
+    (c here c' : CardState) (out : List ℕ) (count : ℕ) → turn ≡ Ok Asked → here ≡ c
+    → Replied h h' here out (Ok count) c' → Answers h h' (doing_of turn) c out (Ok count) c'
+answers-replied h h' turn c here c' out count is e replied =
+    let P : CardState → Type 0 = λ s. Answers h h' (doing_of turn) s out (Ok count) c' in
+    subst P e (replied-here h h' turn here c' out count is replied)
 
-refused-here : {B : Type 0} (h h' : B → List Event → Type 0) (turn : Result CardTurn CardFault) (c c' : CardState) (out : List ℕ) (inner : CardFault) → turn ≡ Ok Asked → Replied h h' c out (Err inner) c' → Answers h h' (doing_of turn) c out (Err (Refused inner)) c'
-refused-here h h' turn c c' out inner is (reply, served, refuses-it, e) =
-    (asked c.command reply ∷ [], refl, served, λ most. rw is (refl, refused-on (card_turn c (replies reply)) c c' inner most refuses-it e))
+refused-here : {B : Type 0} (h h' : B → List Event → Type 0) (turn : Result CardTurn CardFault) (c c' : CardState)
+    (out : List ℕ) (inner : CardFault) → turn ≡ Ok Asked → Replied h h' c out (Err inner) c'
+    → Answers h h' (doing_of turn) c out (Err (Refused inner)) c'
+refused-here h h' turn c c' out inner is (reply, served, refuses-it, e) = (
+  asked c.command reply ∷ [],
+  refl,
+  served,
+  λ most. rw is (refl, refused-on (card_turn c (replies reply)) c c' inner most refuses-it e),
+)
 
-pub answers-refused-reply : {B : Type 0} (h h' : B → List Event → Type 0) (turn : Result CardTurn CardFault) (c here c' : CardState) (out : List ℕ) (inner : CardFault) → turn ≡ Ok Asked → here ≡ c → Replied h h' here out (Err inner) c' → Answers h h' (doing_of turn) c out (Err (Refused inner)) c'
-answers-refused-reply h h' turn c here c' out inner is e replied = let P : CardState → Type 0 = λ s. Answers h h' (doing_of turn) s out (Err (Refused inner)) c' in subst P e (refused-here h h' turn here c' out inner is replied)
+pub answers-refused-reply : {B : Type 0} (h h' : B → List Event → Type 0) (turn : Result CardTurn CardFault)
+    (c here c' : CardState) (out : List ℕ) (inner : CardFault) → turn ≡ Ok Asked → here ≡ c
+    → Replied h h' here out (Err inner) c' → Answers h h' (doing_of turn) c out (Err (Refused inner)) c'
+answers-refused-reply h h' turn c here c' out inner is e replied =
+    let P : CardState → Type 0 = λ s. Answers h h' (doing_of turn) s out (Err (Refused inner)) c' in
+    subst P e (refused-here h h' turn here c' out inner is replied)
 
 -- ---- a round that ends
 
-pub hears-nothing : {A B : Type 0} (l0 l1 : A → List Event → Type 0) (h : B → List Event → Type 0) (c : CardState) → Happens l0 l1 (came nothing ∷ []) → Rounds l0 l1 h h c (Ok false) c
+pub hears-nothing : {A B : Type 0} (l0 l1 : A → List Event → Type 0) (h : B → List Event → Type 0) (c : CardState)
+    → Happens l0 l1 (came nothing ∷ []) → Rounds l0 l1 h h c (Ok false) c
 hears-nothing l0 l1 h c heard = (came nothing ∷ [], heard, none-happen h, λ most some. (some, (refl, refl)))
 
-pub fails-to-hear : {A B : Type 0} (l0 l1 : A → List Event → Type 0) (h : B → List Event → Type 0) (c : CardState) (fault : ServeFault) → ending_of {A = Bool} (Err fault) ≡ line_failed → Happens l0 l1 (came failure ∷ []) → Rounds l0 l1 h h c (Err fault) c
+pub fails-to-hear : {A B : Type 0} (l0 l1 : A → List Event → Type 0) (h : B → List Event → Type 0) (c : CardState)
+    (fault : ServeFault) → ending_of {A = Bool} (Err fault) ≡ line_failed → Happens l0 l1 (came failure ∷ [])
+    → Rounds l0 l1 h h c (Err fault) c
 fails-to-hear l0 l1 h c fault is heard = (came failure ∷ [], heard, none-happen h, λ most some. (some, (is, refl)))

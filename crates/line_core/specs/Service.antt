@@ -10,7 +10,8 @@ use Rattle.line_core.specs.declared.serving.ServeFault.{ServeFault}
 use Rattle.line_core.specs.declared.serving.ServeFault.TheVariants.{Line, UsedUp, Refused}
 use Rattle.line_core.specs.Line.{Arrival, block, nothing, failure}
 
--- What happens at the card: what came, or the line's word that nothing comes any more; a command that the host was given, with its reply; a block that was sent, or that the line failed to send.
+-- What happens at the card: what came, or the line's word that nothing comes any more; a command that the host was
+-- given, with its reply; a block that was sent, or that the line failed to send.
 pub data Event : Type 0 where
   came : (arrival : Arrival) → Event
   asked : (command reply : List ℕ) → Event
@@ -41,7 +42,8 @@ sending octets (Err fault) = unsent octets
 abbrev pub Happens : {A : Type 0} → (A → List Event → Type 0) → (A → List Event → Type 0) → List Event → Type 0
 Happens {A} old new events = (first : A) (before : List Event) → old first before → new first (before ++ events)
 
--- How serving ends: nothing comes any more, the line failed, as many blocks came as the caller allows, or the card refused what came or the reply.
+-- How serving ends: nothing comes any more, the line failed, as many blocks came as the caller allows, or the card
+-- refused what came or the reply.
 pub data Ending : Type 0 where
   over : Ending
   line_failed : Ending
@@ -76,13 +78,19 @@ left_after c (block octets) = state_after c (card_turn c (takes (class_of c.ifsc
 left_after c nothing = c
 left_after c failure = c
 
--- The card is in state c and about to do this, and at most so many blocks may come: then these events happen, so serving ends, and the card is left in this state.
+-- The card is in state c and about to do this, and at most so many blocks may come: then these events happen, so
+-- serving ends, and the card is left in this state.
 abbrev pub Serves : ℕ → Doing → CardState → List Event → Ending → CardState → Type 0
-Serves most hears c (came arrival ∷ events) ending left = (1 ≤ most) × Serves (most - 1) (doing_after c arrival) (left_after c arrival) events ending left
+Serves most hears c (came arrival ∷ events) ending left =
+    (1 ≤ most) × Serves (most - 1) (doing_after c arrival) (left_after c arrival) events ending left
 Serves most hears c [] ending left = (most ≡ 0) × (ending ≡ used_up) × (left ≡ c)
-Serves most asks c (asked command reply ∷ events) ending left = (command ≡ c.command) × Serves most (doing_of (turn_of (card_turn c (replies reply)))) (state_after c (card_turn c (replies reply))) events ending left
-Serves most (says parts) c (sent octets ∷ events) ending left = (octets ≡ spelling parts) × Serves most hears c events ending left
-Serves most (says parts) c (unsent octets ∷ []) ending left = (octets ≡ spelling parts) × (ending ≡ line_failed) × (left ≡ c)
+Serves most asks c (asked command reply ∷ events) ending left =
+    (command ≡ c.command) × Serves most (doing_of (turn_of (card_turn c (replies reply))))
+    (state_after c (card_turn c (replies reply))) events ending left
+Serves most (says parts) c (sent octets ∷ events) ending left =
+    (octets ≡ spelling parts) × Serves most hears c events ending left
+Serves most (says parts) c (unsent octets ∷ []) ending left =
+    (octets ≡ spelling parts) × (ending ≡ line_failed) × (left ≡ c)
 Serves most (ends how) c [] ending left = (ending ≡ how) × (left ≡ c)
 Serves most doing c events ending left = ⊥
 
@@ -93,11 +101,15 @@ IsReply turn out (Err inner) = turn ≡ Err inner
 
 -- These events answer a block: what follows them from the new state follows it from the old one.
 abbrev pub IsAnswer : Doing → CardState → List Event → List ℕ → Result ℕ ServeFault → CardState → Type 0
-IsAnswer doing c events out (Ok count) c' = (parts : Parts) × (take count out ≡ spelling parts) × ((most : ℕ) (more : List Event) (ending : Ending) (left : CardState) → Serves most (says parts) c' more ending left → Serves most doing c (events ++ more) ending left)
+IsAnswer doing c events out (Ok count) c' = (parts : Parts) × (take count out ≡ spelling parts)
+    × ((most : ℕ) (more : List Event) (ending : Ending) (left : CardState)
+    → Serves most (says parts) c' more ending left → Serves most doing c (events ++ more) ending left)
 IsAnswer doing c events out (Err inner) c' = (most : ℕ) → Serves most doing c events (ending_of {A = ℕ} (Err inner)) c'
 
 -- The same of a block that came, or of one that didn't.
 abbrev pub IsRound : CardState → List Event → Result Bool ServeFault → CardState → Type 0
-IsRound c events (Ok true) c' = (most : ℕ) (more : List Event) (ending : Ending) (left : CardState) → 1 ≤ most → Serves (most - 1) hears c' more ending left → Serves most hears c (events ++ more) ending left
+IsRound c events (Ok true) c' = (most : ℕ) (more : List Event) (ending : Ending) (left : CardState) → 1 ≤ most
+    → Serves (most - 1) hears c' more ending left → Serves most hears c (events ++ more) ending left
 IsRound c events (Ok false) c' = (most : ℕ) → 1 ≤ most → Serves most hears c events over c'
-IsRound c events (Err inner) c' = (most : ℕ) → 1 ≤ most → Serves most hears c events (ending_of {A = Bool} (Err inner)) c'
+IsRound c events (Err inner) c' = (most : ℕ) → 1 ≤ most
+    → Serves most hears c events (ending_of {A = Bool} (Err inner)) c'

@@ -43,11 +43,14 @@ abbrev pub HasCarried : Wire → List Talk → Wire → Type 0
 HasCarried first [] now = first ≡ now
 HasCarried first (talk ∷ talks) now = (next : Wire) × Carries first talk next × HasCarried next talks now
 
--- One event on the line of a card: what came is read and ends with its block, if not before; what is sent is written, all unless the line failed; and nothing else is touched.
+-- One event on the line of a card: what came is read and ends with its block, if not before; what is sent is written,
+-- all unless the line failed; and nothing else is touched.
 abbrev pub Moves : Wire → Event → Wire → Type 0
-Moves old (at_card.came arrival) new = Consumes old.left new.left (came_of arrival) × IsFramed (came_of arrival) × (new.written ≡ old.written)
+Moves old (at_card.came arrival) new = Consumes old.left new.left (came_of arrival) × IsFramed (came_of arrival)
+    × (new.written ≡ old.written)
 Moves old (at_card.sent octets) new = (new.left ≡ old.left) × Appends old.written new.written octets
-Moves old (at_card.unsent octets) new = (new.left ≡ old.left) × ((count : ℕ) × (count < length octets) × Appends old.written new.written (take count octets))
+Moves old (at_card.unsent octets) new = (new.left ≡ old.left)
+    × ((count : ℕ) × (count < length octets) × Appends old.written new.written (take count octets))
 Moves old (at_card.asked command reply) new = ⊥
 
 -- the same of one event after another
@@ -64,4 +67,7 @@ module _ {R W : Type 0} where
 
 -- One call of the source, where so many octets were at the front of the buffer before it.
 abbrev pub MovesOn : {E : Type 0} → Option (List ℕ) → Option (List ℕ) → List ℕ → List ℕ → ℕ → Result ℕ E → Type 0
-MovesOn held left old new count result = IfOk result (λ more. (piece : List ℕ) × (length piece ≡ more) × (take (count + more) new ≡ take count old ++ piece) × Consumes held left piece) × IfErr result (λ _. (take count new ≡ take count old) × Consumes held left [])
+MovesOn held left old new count result =
+    IfOk result (λ more. (piece : List ℕ) × (length piece ≡ more) × (take (count + more) new ≡ take count old ++ piece)
+    × Consumes held left piece)
+    × IfErr result (λ _. (take count new ≡ take count old) × Consumes held left [])

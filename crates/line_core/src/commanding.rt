@@ -27,7 +27,8 @@ pub fn exchange_command<L: Line>(
     most_blocks: usize,
 ) -> Result<(), ExchangeFault>
     requires room { length (spelling command.now) ≤ length buffer.old }
-    ensures run { HasRun (L.said line.old) (L.said line.new) most_blocks terminal.old (transmit (spelling command.now)) (ending_of result) terminal.new }
+    ensures run { HasRun (L.said line.old) (L.said line.new) most_blocks terminal.old
+        (transmit (spelling command.now)) (ending_of result) terminal.new }
     ensures answered { OnOk result (IsSome terminal.new.answered) }
 {
     let count = encode_command_into(command, buffer);

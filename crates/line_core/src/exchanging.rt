@@ -1,14 +1,14 @@
 //! One exchange in one call.
 
-ghost use Rattle.std.specs.Prelude.{◌≡◌, ◌≤◌, ℕ, List, [], ◌∷◌, length, take, Some, Ok, IfOk, OnOk, IsSome};
+ghost use Rattle.std.specs.Prelude.{◌≡◌, ◌≤◌, List, [], ◌∷◌, length, take, Some, Ok, IfOk, OnOk, IsSome};
 ghost use Rattle.std.specs.Borrow.{sem};
 ghost use Rattle.std.specs.Io.BufRead.{Rests};
 ghost use Rattle.t1_core.specs.contracts.terminal.Terminal.{the_row};
 ghost use Rattle.t1_core.specs.Came.{quiet};
-ghost use Rattle.t1_core.specs.Terminal.{takes, transmit, ask_ifs, terminal_turn, turn_of, state_after};
-ghost use Rattle.t1_core.specs.Put.{IsTerminalPut, FitsTerminalPut};
+ghost use Rattle.t1_core.specs.Terminal.{takes, transmit, ask_ifs};
+ghost use Rattle.t1_core.specs.Put.{FitsTerminalPut};
 ghost use Rattle.line_core.specs.Line.{Arrival, Talk, Adds};
-ghost use Rattle.line_core.specs.Exchange.{Next, Runs, HasRun, IsAnswer, IsReady, ending_of, next_of, next_after, left_after};
+ghost use Rattle.line_core.specs.Exchange.{Next, Runs, HasRun, IsAnswer, IsReady, ending_of, next_after, left_after};
 
 use crate::fault::ExchangeFault;
 use crate::line::{Heard, Line};
@@ -35,7 +35,9 @@ pub fn exchange<'a, L: Line>(
     command: &[u8],
     most_blocks: usize,
 ) -> Result<&'a [u8], ExchangeFault>
-    ensures* run { sem 𝓛 (Rests the_row terminal.entry (λ left. HasRun (L.said line.old) (L.said line.new) most_blocks terminal.old (transmit command.now) (ending_of result) left × IsAnswer left result)) }
+    ensures* run { sem 𝓛 (Rests the_row terminal.entry
+        (λ left. HasRun (L.said line.old) (L.said line.new) most_blocks terminal.old
+        (transmit command.now) (ending_of result) left × IsAnswer left result)) }
 {
     send_command(terminal, line, command, most_blocks)?;
     Ok(answer_of(terminal))
@@ -59,7 +61,8 @@ pub fn ask_ifs<L: Line>(
     size: u8,
     most_blocks: usize,
 ) -> Result<(), ExchangeFault>
-    ensures { HasRun (L.said line.old) (L.said line.new) most_blocks terminal.old (ask_ifs size) (ending_of result) terminal.new }
+    ensures { HasRun (L.said line.old) (L.said line.new) most_blocks terminal.old (ask_ifs size)
+        (ending_of result) terminal.new }
 {
     let mut out = [0; LONGEST_BLOCK];
     let first = terminal.ask_ifs_into(size, &mut out)?;
@@ -78,7 +81,8 @@ pub fn resume<L: Line>(
     line: &mut L,
     most_blocks: usize,
 ) -> Result<(), ExchangeFault>
-    ensures { HasRun (L.said line.old) (L.said line.new) most_blocks terminal.old (takes quiet) (ending_of result) terminal.new }
+    ensures { HasRun (L.said line.old) (L.said line.new) most_blocks terminal.old (takes quiet)
+        (ending_of result) terminal.new }
 {
     let mut out = [0; LONGEST_BLOCK];
     let first = terminal.quiet_into(&mut out)?;
@@ -92,7 +96,8 @@ pub(crate) fn send_command<L: Line>(
     command: &[u8],
     most_blocks: usize,
 ) -> Result<(), ExchangeFault>
-    ensures run { HasRun (L.said line.old) (L.said line.new) most_blocks terminal.old (transmit command.now) (ending_of result) terminal.new }
+    ensures run { HasRun (L.said line.old) (L.said line.new) most_blocks terminal.old
+        (transmit command.now) (ending_of result) terminal.new }
     ensures answered { OnOk result (IsSome terminal.new.answered) }
 {
     let mut out = [0; LONGEST_BLOCK];
@@ -110,7 +115,9 @@ fn run<L: Line>(
 ) -> Result<(), ExchangeFault>
     requires room { 258 ≤ length out.old }
     requires fits { FitsTerminalPut first }
-    ensures { (next : Next) → IsReady next out.old (Ok first) → (talks : List Talk) × Adds (L.said line.old) (L.said line.new) talks × Runs most_blocks next terminal.old talks (ending_of result) terminal.new }
+    ensures { (next : Next) → IsReady next out.old (Ok first)
+        → (talks : List Talk) × Adds (L.said line.old) (L.said line.new) talks
+        × Runs most_blocks next terminal.old talks (ending_of result) terminal.new }
 {
     let mut room = [0; LONGEST_ARRIVAL];
     let mut put = first;
@@ -143,7 +150,10 @@ fn talked<L: Line>(
     requires count { count ≤ length out.old }
     requires heard { 259 ≤ length room.old }
     ensures fits { IfOk result FitsTerminalPut }
-    ensures talk { (arrival : Arrival) × Adds (L.said line.old) (L.said line.new) (record { sent = take count out.old; waiting = waiting; arrival = arrival } ∷ []) × IsReady (next_after terminal.old arrival) out.new result × (terminal.new ≡ left_after terminal.old arrival) }
+    ensures talk { (arrival : Arrival) × Adds (L.said line.old) (L.said line.new)
+        (record { sent = take count out.old; waiting = waiting; arrival = arrival } ∷ [])
+        × IsReady (next_after terminal.old arrival) out.new result
+        × (terminal.new ≡ left_after terminal.old arrival) }
 {
     match line.talk(&out[..count], waiting, room) {
         Ok(Heard::Octets(count)) => Ok(terminal.received_into(&room[..count], out)?),

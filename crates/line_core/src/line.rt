@@ -1,6 +1,6 @@
 //! What carries the blocks of a terminal.
 
-ghost use Rattle.std.specs.Prelude.{◌≤◌, length, ◌++◌, List, [], ◌∷◌, IfOk};
+ghost use Rattle.std.specs.Prelude.{◌≤◌, length, List, [], ◌∷◌, IfOk};
 ghost use Rattle.line_core.specs.Line.{Talk, Adds, FitsRoom, arrival_of};
 
 use std::io;
@@ -35,5 +35,7 @@ pub trait Line {
     fn talk(&mut self, block: &[u8], waiting: u8, room: &mut [u8]) -> io::Result<Heard>
         requires { 259 ≤ length room.old }
         ensures fits { IfOk result (λ heard. FitsRoom heard room.new) }
-        ensures said { Adds (said self.old) (said self.new) (record { sent = block.now; waiting = waiting; arrival = arrival_of result room.new } ∷ []) };
+        ensures said { Adds (said self.old) (said self.new)
+            (record { sent = block.now; waiting = waiting; arrival = arrival_of result room.new }
+            ∷ []) };
 }

@@ -1,6 +1,6 @@
 //! A card that serves what comes over a line.
 
-ghost use Rattle.std.specs.Prelude.{◌≡◌, ◌≤◌, ◌++◌, ℕ, List, [], ◌∷◌, length, IfOk};
+ghost use Rattle.std.specs.Prelude.{◌≡◌, ◌≤◌, ℕ, List, [], ◌∷◌, length, IfOk};
 ghost use Rattle.t1_core.specs.Came.{class_of};
 ghost use Rattle.t1_core.specs.Card.{takes, replies, host as owes, card_turn, turn_of, state_after};
 ghost use Rattle.line_core.specs.declared.serving.ServeFault.TheVariants.{Refused};
@@ -29,7 +29,8 @@ pub trait CardLine {
     fn hear(&mut self, room: &mut [u8]) -> io::Result<Heard>
         requires { 259 ≤ length room.old }
         ensures fits { IfOk result (λ heard. FitsRoom heard room.new) }
-        ensures said { Happens (said self.old) (said self.new) (came (arrival_of result room.new) ∷ []) };
+        ensures said { Happens (said self.old) (said self.new)
+            (came (arrival_of result room.new) ∷ []) };
 
     /// Sends the octets of a block, 4 to 258.
     fn say(&mut self, block: &[u8]) -> io::Result<()>
@@ -49,7 +50,8 @@ pub trait Host {
 
     /// Acts on a command.
     fn act(&mut self, command: &[u8])
-        ensures { Happens (served self.old) (served self.new) (asked command.now (reply self.new) ∷ []) };
+        ensures { Happens (served self.old) (served self.new)
+            (asked command.now (reply self.new) ∷ []) };
 
     /// The reply to the last command, with its status bytes: at most 65,538 octets.
     fn reply(&self) -> &[u8]
@@ -105,7 +107,9 @@ pub fn serve<L: CardLine, H: Host>(
     host: &mut H,
     most_blocks: usize,
 ) -> Result<(), ServeFault>
-    ensures { (events : List Event) × Happens (L.said line.old) (L.said line.new) (on_line events) × Happens (H.served host.old) (H.served host.new) (at_host events) × Serves most_blocks hears card.old events (ending_of result) card.new }
+    ensures { (events : List Event) × Happens (L.said line.old) (L.said line.new) (on_line events)
+        × Happens (H.served host.old) (H.served host.new) (at_host events)
+        × Serves most_blocks hears card.old events (ending_of result) card.new }
 {
     let mut room = [0; LONGEST_ARRIVAL];
     let mut out = [0; LONGEST_BLOCK];
@@ -129,7 +133,9 @@ fn serve_block<L: CardLine, H: Host>(
 ) -> Result<bool, ServeFault>
     requires room { 259 ≤ length room.old }
     requires out { 258 ≤ length out.old }
-    ensures { (events : List Event) × Happens (L.said line.old) (L.said line.new) (on_line events) × Happens (H.served host.old) (H.served host.new) (at_host events) × IsRound card.old events result card.new }
+    ensures { (events : List Event) × Happens (L.said line.old) (L.said line.new) (on_line events)
+        × Happens (H.served host.old) (H.served host.new) (at_host events)
+        × IsRound card.old events result card.new }
 {
     match line.hear(room) {
         Ok(Heard::Octets(count)) => {
@@ -153,7 +159,12 @@ fn answer_block<H: Host>(
 ) -> Result<usize, ServeFault>
     requires { 258 ≤ length out.old }
     ensures fits { IfOk result (λ count. count ≤ 258) }
-    ensures answer { (events : List Event) × (on_line events ≡ []) × Happens (H.served host.old) (H.served host.new) (at_host events) × IsAnswer (doing_of (turn_of (card_turn card.old (takes (class_of card.old.ifsc octets.now))))) (state_after card.old (card_turn card.old (takes (class_of card.old.ifsc octets.now)))) events out.new result card.new }
+    ensures answer { (events : List Event) × (on_line events ≡ [])
+        × Happens (H.served host.old) (H.served host.new) (at_host events)
+        × IsAnswer (doing_of (turn_of
+        (card_turn card.old (takes (class_of card.old.ifsc octets.now)))))
+        (state_after card.old (card_turn card.old (takes (class_of card.old.ifsc octets.now))))
+        events out.new result card.new }
 {
     told();
     match card.received_into(octets, out)? {
@@ -167,7 +178,10 @@ fn reply_to<H: Host>(card: &mut Card, host: &mut H, out: &mut [u8]) -> Result<us
     requires out { 258 ≤ length out.old }
     requires waits { card.old.waits ≡ owes }
     ensures fits { IfOk result (λ count. count ≤ 258) }
-    ensures reply { (reply : List ℕ) × Happens (H.served host.old) (H.served host.new) (asked card.old.command reply ∷ []) × IsReply (turn_of (card_turn card.old (replies reply))) out.new result × (card.new ≡ state_after card.old (card_turn card.old (replies reply))) }
+    ensures reply { (reply : List ℕ)
+        × Happens (H.served host.old) (H.served host.new) (asked card.old.command reply ∷ [])
+        × IsReply (turn_of (card_turn card.old (replies reply))) out.new result
+        × (card.new ≡ state_after card.old (card_turn card.old (replies reply))) }
 {
     host.act(card.command().unwrap_or(&[]));
     match card.reply_into(host.reply(), out)? {

@@ -50,13 +50,25 @@ impl<R, W> StreamLine<R, W> {
 }
 
 impl<R: Source, W: Sink> Line for StreamLine<R, W> {
-    ghost said = { λ line first talks. HasCarried (wire_of (R.remaining (source_of first)) (W.contents (sink_of first))) talks (wire_of (R.remaining (source_of line)) (W.contents (sink_of line))) };
+    ghost said = { λ line first talks.
+        HasCarried (wire_of (R.remaining (source_of first)) (W.contents (sink_of first))) talks
+        (wire_of (R.remaining (source_of line)) (W.contents (sink_of line))) };
 
     fn talk(&mut self, block: &[u8], _waiting: u8, room: &mut [u8]) -> io::Result<Heard>
         requires { 259 ≤ length room.old }
         ensures fits { IfOk result (λ heard. FitsRoom heard room.new) }
-        ensures said { Adds (λ first talks. HasCarried (wire_of (R.remaining (source_of first)) (W.contents (sink_of first))) talks (wire_of (R.remaining (source_of self.old)) (W.contents (sink_of self.old)))) (λ first talks. HasCarried (wire_of (R.remaining (source_of first)) (W.contents (sink_of first))) talks (wire_of (R.remaining (source_of self.new)) (W.contents (sink_of self.new)))) (record { sent = block.now; waiting = _waiting; arrival = arrival_of result room.new } ∷ []) }
-        ensures carried { Carries (wire_of (R.remaining (source_of self.old)) (W.contents (sink_of self.old))) (record { sent = block.now; waiting = _waiting; arrival = arrival_of result room.new }) (wire_of (R.remaining (source_of self.new)) (W.contents (sink_of self.new))) }
+        ensures said { Adds (λ first talks.
+            HasCarried (wire_of (R.remaining (source_of first)) (W.contents (sink_of first))) talks
+            (wire_of (R.remaining (source_of self.old)) (W.contents (sink_of self.old))))
+            (λ first talks. HasCarried
+            (wire_of (R.remaining (source_of first)) (W.contents (sink_of first))) talks
+            (wire_of (R.remaining (source_of self.new)) (W.contents (sink_of self.new))))
+            (record { sent = block.now; waiting = _waiting; arrival = arrival_of result room.new }
+            ∷ []) }
+        ensures carried { Carries (wire_of (R.remaining (source_of self.old))
+            (W.contents (sink_of self.old)))
+            (record { sent = block.now; waiting = _waiting; arrival = arrival_of result room.new })
+            (wire_of (R.remaining (source_of self.new)) (W.contents (sink_of self.new))) }
     {
         match write_block(&mut self.sink, block) {
             Ok(()) => read_block(&mut self.source, room),
@@ -66,21 +78,39 @@ impl<R: Source, W: Sink> Line for StreamLine<R, W> {
 }
 
 impl<R: Source, W: Sink> CardLine for StreamLine<R, W> {
-    ghost said = { λ line first events. HasServed (wire_of (R.remaining (source_of first)) (W.contents (sink_of first))) events (wire_of (R.remaining (source_of line)) (W.contents (sink_of line))) };
+    ghost said = { λ line first events.
+        HasServed (wire_of (R.remaining (source_of first)) (W.contents (sink_of first))) events
+        (wire_of (R.remaining (source_of line)) (W.contents (sink_of line))) };
 
     fn hear(&mut self, room: &mut [u8]) -> io::Result<Heard>
         requires { 259 ≤ length room.old }
         ensures fits { IfOk result (λ heard. FitsRoom heard room.new) }
-        ensures said { Happens (λ first events. HasServed (wire_of (R.remaining (source_of first)) (W.contents (sink_of first))) events (wire_of (R.remaining (source_of self.old)) (W.contents (sink_of self.old)))) (λ first events. HasServed (wire_of (R.remaining (source_of first)) (W.contents (sink_of first))) events (wire_of (R.remaining (source_of self.new)) (W.contents (sink_of self.new)))) (came (arrival_of result room.new) ∷ []) }
-        ensures moved { Moves (wire_of (R.remaining (source_of self.old)) (W.contents (sink_of self.old))) (came (arrival_of result room.new)) (wire_of (R.remaining (source_of self.new)) (W.contents (sink_of self.new))) }
+        ensures said { Happens (λ first events.
+            HasServed (wire_of (R.remaining (source_of first)) (W.contents (sink_of first))) events
+            (wire_of (R.remaining (source_of self.old)) (W.contents (sink_of self.old))))
+            (λ first events. HasServed
+            (wire_of (R.remaining (source_of first)) (W.contents (sink_of first))) events
+            (wire_of (R.remaining (source_of self.new)) (W.contents (sink_of self.new))))
+            (came (arrival_of result room.new) ∷ []) }
+        ensures moved { Moves (wire_of (R.remaining (source_of self.old))
+            (W.contents (sink_of self.old))) (came (arrival_of result room.new))
+            (wire_of (R.remaining (source_of self.new)) (W.contents (sink_of self.new))) }
         ensures failed { IfErr result (λ fault. error_kind fault ≢ ErrorKind.UnexpectedEof) }
     {
         over_at_end(read_block(&mut self.source, room))
     }
 
     fn say(&mut self, block: &[u8]) -> io::Result<()>
-        ensures said { Happens (λ first events. HasServed (wire_of (R.remaining (source_of first)) (W.contents (sink_of first))) events (wire_of (R.remaining (source_of self.old)) (W.contents (sink_of self.old)))) (λ first events. HasServed (wire_of (R.remaining (source_of first)) (W.contents (sink_of first))) events (wire_of (R.remaining (source_of self.new)) (W.contents (sink_of self.new)))) (sending block.now result ∷ []) }
-        ensures moved { Moves (wire_of (R.remaining (source_of self.old)) (W.contents (sink_of self.old))) (sending block.now result) (wire_of (R.remaining (source_of self.new)) (W.contents (sink_of self.new))) }
+        ensures said { Happens (λ first events.
+            HasServed (wire_of (R.remaining (source_of first)) (W.contents (sink_of first))) events
+            (wire_of (R.remaining (source_of self.old)) (W.contents (sink_of self.old))))
+            (λ first events. HasServed
+            (wire_of (R.remaining (source_of first)) (W.contents (sink_of first))) events
+            (wire_of (R.remaining (source_of self.new)) (W.contents (sink_of self.new))))
+            (sending block.now result ∷ []) }
+        ensures moved { Moves (wire_of (R.remaining (source_of self.old))
+            (W.contents (sink_of self.old))) (sending block.now result)
+            (wire_of (R.remaining (source_of self.new)) (W.contents (sink_of self.new))) }
         ensures failed { IfErr result (λ fault. error_kind fault ≡ ErrorKind.WriteZero) }
     {
         write_block(&mut self.sink, block)
@@ -90,7 +120,8 @@ impl<R: Source, W: Sink> CardLine for StreamLine<R, W> {
 /// Writes a block whole: `WriteZero` where the writer fails before its last octet.
 fn write_block<W: Sink>(sink: &mut W, block: &[u8]) -> io::Result<()>
     ensures all { OnOk result (Appends (W.contents sink.old) (W.contents sink.new) block.now) }
-    ensures part { IfErr result (λ _. (count : ℕ) × (count < length block.now) × Appends (W.contents sink.old) (W.contents sink.new) (take count block.now)) }
+    ensures part { IfErr result (λ _. (count : ℕ) × (count < length block.now)
+        × Appends (W.contents sink.old) (W.contents sink.new) (take count block.now)) }
     ensures failed { IfErr result (λ fault. error_kind fault ≡ ErrorKind.WriteZero) }
 {
     match write_octets(sink, block) {
@@ -101,11 +132,15 @@ fn write_block<W: Sink>(sink: &mut W, block: &[u8]) -> io::Result<()>
 
 /// What a card hears where this was read: of a reader that ended before the first octet, that no more comes.
 fn over_at_end(read: io::Result<Heard>) -> io::Result<Heard>
-    ensures fits { (room : List ℕ) → IfOk read (λ heard. FitsRoom heard room) → IfOk result (λ heard. FitsRoom heard room) }
-    ensures came { (room : List ℕ) → came_of (arrival_of result room) ≡ came_of (arrival_of read room) }
+    ensures fits { (room : List ℕ) → IfOk read (λ heard. FitsRoom heard room)
+        → IfOk result (λ heard. FitsRoom heard room) }
+    ensures came { (room : List ℕ)
+        → came_of (arrival_of result room) ≡ came_of (arrival_of read room) }
     ensures heard { IfOk read (λ heard. result ≡ Ok heard) }
-    ensures over { IfErr read (λ fault. error_kind fault ≡ ErrorKind.UnexpectedEof → result ≡ Ok Heard.Nothing) }
-    ensures failed { IfErr result (λ fault. (read ≡ Err fault) × (error_kind fault ≢ ErrorKind.UnexpectedEof)) }
+    ensures over { IfErr read (λ fault. error_kind fault ≡ ErrorKind.UnexpectedEof
+        → result ≡ Ok Heard.Nothing) }
+    ensures failed { IfErr result (λ fault. (read ≡ Err fault)
+        × (error_kind fault ≢ ErrorKind.UnexpectedEof)) }
 {
     match read {
         Ok(heard) => Ok(heard),
@@ -120,7 +155,8 @@ fn over_at_end(read: io::Result<Heard>) -> io::Result<Heard>
 fn read_block<R: Source>(source: &mut R, room: &mut [u8]) -> io::Result<Heard>
     requires { 259 ≤ length room.old }
     ensures fits { IfOk result (λ heard. FitsRoom heard room.new) }
-    ensures came { Consumes (R.remaining source.old) (R.remaining source.new) (came_of (arrival_of result room.new)) }
+    ensures came { Consumes (R.remaining source.old) (R.remaining source.new)
+        (came_of (arrival_of result room.new)) }
     ensures framed { IsFramed (came_of (arrival_of result room.new)) }
 {
     let mut count = 0;
@@ -141,7 +177,8 @@ fn read_more<R: Source>(source: &mut R, room: &mut [u8], count: usize) -> io::Re
     requires framed { IsFramed (take count room.old) }
     ensures long { length room.new ≡ length room.old }
     ensures most { IfOk result (λ more. count + more ≤ 259) }
-    ensures moved { MovesOn (R.remaining source.old) (R.remaining source.new) room.old room.new count result }
+    ensures moved { MovesOn (R.remaining source.old) (R.remaining source.new) room.old room.new
+        count result }
     ensures framed { IfOk result (λ more. IsFramed (take (count + more) room.new)) }
 {
     let end = end_of(&room[..count]);
@@ -150,7 +187,8 @@ fn read_more<R: Source>(source: &mut R, room: &mut [u8], count: usize) -> io::Re
 
 /// What is heard of a block of which no more octets come.
 fn broken_off(count: usize, fault: io::Error) -> io::Result<Heard>
-    ensures fits { (room : List ℕ) → count ≤ length room → IfOk result (λ heard. FitsRoom heard room) }
+    ensures fits { (room : List ℕ) → count ≤ length room
+        → IfOk result (λ heard. FitsRoom heard room) }
     ensures came { (room : List ℕ) → came_of (arrival_of result room) ≡ take count room }
 {
     if count > 0 {

@@ -8,7 +8,9 @@ abbrev pub invariant-loop-put : goal.invariant-loop-put
 invariant-loop-put g l = record {
   room : 258 ≤ length l.out;
   fits : FitsTerminalPut l.put;
-  goes : (next : Next) → IsReady next l.fn.out (Ok l.fn.first) → Holds (g.L.Line.said l.fn.line) (g.L.Line.said l.line) l.most_blocks l.left next l.fn.terminal l.terminal l.out (Ok l.put);
+  goes : (next : Next) → IsReady next l.fn.out (Ok l.fn.first)
+      → Holds (g.L.Line.said l.fn.line) (g.L.Line.said l.line) l.most_blocks l.left next l.fn.terminal l.terminal l.out
+      (Ok l.put);
 }
 
 abbrev pub decreases-loop-put : goal.decreases-loop-put

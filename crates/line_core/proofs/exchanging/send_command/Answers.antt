@@ -5,5 +5,10 @@ use Rattle.line_core.proofs.exchanging.send_command.Goals as goal
 
 pub returns : goal.returns
 returns g c =
-    let run = rw c.transmit_into.ensures.state at (c.run.ensures _ (ready _ _ _ (Ok c.in_ok-first.first) c.in_ok-first.ensures.turn)) in
-    record { run = run; answered = answered (g.L.Line.said c.args.line.now) (g.L.Line.said c.run.new.line) c.args.most_blocks c.args.terminal.now c.run.new.terminal c.args.command.now c.run.result run }
+    let run = rw c.transmit_into.ensures.state at
+    (c.run.ensures _ (ready _ _ _ (Ok c.in_ok-first.first) c.in_ok-first.ensures.turn)) in
+    record {
+      run = run;
+      answered = answered (g.L.Line.said c.args.line.now) (g.L.Line.said c.run.new.line)
+          c.args.most_blocks c.args.terminal.now c.run.new.terminal c.args.command.now c.run.result run;
+    }

@@ -2,13 +2,16 @@ use Rattle.line_core.proofs.Carrying.{carries-all, carries-part, carried-on}
 use Rattle.line_core.proofs.streaming.StreamLineLine.talk.Goals as goal
 
 pub returns-in-Ok-clause-carried : goal.returns-in-Ok-clause-carried
-returns-in-Ok-clause-carried g c = carries-all _ _ _ c.in-Ok.ensures.all c.read_block.ensures.came c.read_block.ensures.framed
+returns-in-Ok-clause-carried g c = carries-all _ _ _ c.in-Ok.ensures.all c.read_block.ensures.came
+    c.read_block.ensures.framed
 
 pub returns-in-Ok-clause-said : goal.returns-in-Ok-clause-said
 returns-in-Ok-clause-said g c = λ first before held. carried-on _ _ _ before _ held (returns-in-Ok-clause-carried g c)
 
 pub returns-in-Err-clause-carried : goal.returns-in-Err-clause-carried
-returns-in-Err-clause-carried g c = let part = c.in-Err.ensures.part in carries-part _ _ _ c.args.block.now c.args._waiting part.0 part.1 part.2
+returns-in-Err-clause-carried g c =
+    let part = c.in-Err.ensures.part in
+    carries-part _ _ _ c.args.block.now c.args._waiting part.0 part.1 part.2
 
 pub returns-in-Err-clause-said : goal.returns-in-Err-clause-said
 returns-in-Err-clause-said g c = λ first before held. carried-on _ _ _ before _ held (returns-in-Err-clause-carried g c)
