@@ -16,7 +16,8 @@ use Rattle.exchange_core.specs.Recording.{terminal_input, card_input, IsCardCall
 use Rattle.exchange_core.specs.Given.{way_of}
 
 -- what a call of the terminal is to it
-pub terminal-role : (t : TerminalState) (line : Line) → way_of (terminal_role t line) ≡ In → terminal_role t line ≡ calls (terminal_gives (terminal_turn t (terminal_input t line)))
+pub terminal-role : (t : TerminalState) (line : Line) → way_of (terminal_role t line) ≡ In
+    → terminal_role t line ≡ calls (terminal_gives (terminal_turn t (terminal_input t line)))
 terminal-role t (Command octets) is_call = refl
 terminal-role t (Ifsd size) is_call = refl
 terminal-role t Quiet is_call = refl

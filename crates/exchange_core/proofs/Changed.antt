@@ -55,7 +55,8 @@ both_of : (a b : Bool) → a ≡ true → b ≡ true → (a && b) ≡ true
 both_of true b p q = q
 both_of false b p q = p
 
-true_about : (kind : S) (inf : List ℕ) → (length inf ≡ supervisory_len kind) × IsSize kind inf → suits_about kind inf ≡ true
+true_about : (kind : S) (inf : List ℕ) → (length inf ≡ supervisory_len kind) × IsSize kind inf
+    → suits_about kind inf ≡ true
 true_about Resynch [] h = refl
 true_about Resynch (x ∷ inf) h = absurd (omega (arith, h.0))
 true_about Abort [] h = refl
@@ -83,26 +84,37 @@ octets nad p inf last = front nad p inf ++ last ∷ []
 
 -- what the tests of the class give
 classed : (fits is_sum ends is_own : Bool) (p : Pcb) (field inf : List ℕ) → fits ≡ true → ends ≡ true → field ≡ inf
-    → (if fits then (if is_sum then (if ends && is_own then got p field else invalid) else damaged) else invalid) ≡ (if is_sum then (if is_own then got p inf else invalid) else damaged)
+    → (if fits then (if is_sum then (if ends && is_own then got p field else invalid) else damaged) else invalid)
+    ≡ (if is_sum then (if is_own then got p inf else invalid) else damaged)
 classed true is_sum true is_own p field inf e f g = rw g refl
 classed true is_sum false is_own p field inf e f g = cc
 classed false is_sum ends is_own p field inf e f g = cc
 
 class-front : (size nad last : ℕ) (p : Pcb) (inf : List ℕ) → Suits size p inf
-    → class_of size (octets nad p inf last) ≡ (if xor_of (octets nad p inf last) == 0 then (if nad == 0 then got p inf else invalid) else damaged)
+    → class_of size (octets nad p inf last)
+    ≡ (if xor_of (octets nad p inf last) == 0 then (if nad == 0 then got p inf else invalid) else damaged)
 class-front size nad last p inf h =
     let b : List ℕ = octets nad p inf last in
     let len : length b ≡ length inf + 4 = omega (arith, length-append inf (last ∷ [])) in
     let n-is : length inf + 3 ≡ length (front nad p inf) = omega arith in
-    let field : drop 3 (take (length inf + 3) b) ≡ inf = ap (λ (k : ℕ). drop 3 (take k b)) n-is ∙ ap (λ (l : List ℕ). drop 3 l) (take-append_seam (front nad p inf) (last ∷ [])) in
+    let field : drop 3 (take (length inf + 3) b) ≡ inf = ap (λ (k : ℕ). drop 3 (take k b)) n-is
+    ∙ ap (λ (l : List ℕ). drop 3 l) (take-append_seam (front nad p inf) (last ∷ [])) in
     let all-is : length inf + 3 + 1 ≡ length b = omega (arith, len) in
     let all : take (length inf + 3 + 1) b ≡ b = ap (λ (k : ℕ). take k b) all-is ∙ take-length b in
     let longer : nat_lt (length inf + 3) (length b) ≡ true = by_lt (length inf + 3) (length b) (omega (arith, len)) in
-    let suited : suits size p (drop 3 (take (length inf + 3) b)) ≡ true = ap (λ (l : List ℕ). suits size p l) field ∙ true_suits size p inf h in
+    let suited : suits size p (drop 3 (take (length inf + 3) b)) ≡ true =
+    ap (λ (l : List ℕ). suits size p l) field ∙ true_suits size p inf h in
     ap (λ x. class_with size b (length inf + 3) x) (back p)
-    ∙ ap (λ (l : List ℕ). if nat_lt (length inf + 3) (length b) && suits size p (drop 3 (take (length inf + 3) b)) then (if xor_of l == 0 then (if (length b == length inf + 3 + 1) && (nad == 0) then got p (drop 3 (take (length inf + 3) b)) else invalid) else damaged) else invalid) all
-    ∙ classed (nat_lt (length inf + 3) (length b) && suits size p (drop 3 (take (length inf + 3) b))) (xor_of b == 0) (length b == length inf + 3 + 1) (nad == 0) p (drop 3 (take (length inf + 3) b)) inf
-    (both_of (nat_lt (length inf + 3) (length b)) (suits size p (drop 3 (take (length inf + 3) b))) longer suited) (by_eq (length b) (length inf + 3 + 1) (omega (arith, len))) field
+    ∙ ap (λ (l : List ℕ).
+    if nat_lt (length inf + 3) (length b) && suits size p (drop 3 (take (length inf + 3) b))
+    then (if xor_of l == 0
+    then (if (length b == length inf + 3 + 1) && (nad == 0) then got p (drop 3 (take (length inf + 3) b)) else invalid)
+    else damaged)
+    else invalid) all
+    ∙ classed (nat_lt (length inf + 3) (length b) && suits size p (drop 3 (take (length inf + 3) b))) (xor_of b == 0)
+    (length b == length inf + 3 + 1) (nad == 0) p (drop 3 (take (length inf + 3) b)) inf
+    (both_of (nat_lt (length inf + 3) (length b)) (suits size p (drop 3 (take (length inf + 3) b))) longer suited)
+    (by_eq (length b) (length inf + 3 + 1) (omega (arith, len))) field
 
 pick : (sum nad : ℕ) (x y z : Came) → sum ≡ 0 → nad ≡ 0 → (if sum == 0 then (if nad == 0 then x else y) else z) ≡ x
 pick sum nad x y z e f = rw (e, f) refl
@@ -137,7 +149,8 @@ came size v Kept h =
     ∙ pick (xor_of (spelling v)) v.nad (got v.pcb v.inf) invalid damaged (spelling-xor v) (taken-nad size v h)
 came size v Damaged h =
     class-front size v.nad (bit_xor (xor_of (front_of v)) 1) v.pcb v.inf h.1.proper.suits
-    ∙ pick-last (xor_of (damaged_octets v)) (if v.nad == 0 then got v.pcb v.inf else invalid) damaged (damaged-sum (front_of v))
+    ∙ pick-last (xor_of (damaged_octets v)) (if v.nad == 0 then got v.pcb v.inf else invalid) damaged
+    (damaged-sum (front_of v))
 came size v Spoilt h =
     let w : Parts = record { nad = 1; pcb = v.pcb; inf = v.inf } in
     class-front size 1 (xor_of (front_of w)) v.pcb v.inf h.1.proper.suits
@@ -147,7 +160,8 @@ came size v Spoilt h =
 own : (nad : ℕ) (x y : Event) → nad ≡ 0 → (if nad == 0 then x else y) ≡ x
 own nad x y e = rw e refl
 
-pub told-change : (size : ℕ) (v : Parts) (change : Change) → IsClass size (spelling v) (got v.pcb v.inf) → arrival_event (arrival_of change v) ≡ change_event change
+pub told-change : (size : ℕ) (v : Parts) (change : Change) → IsClass size (spelling v) (got v.pcb v.inf)
+    → arrival_event (arrival_of change v) ≡ change_event change
 told-change size v Kept h = refl
 told-change size v Damaged h = own v.nad damages spoils (taken-nad size v h)
 told-change size v Spoilt h = refl
@@ -155,11 +169,17 @@ told-change size v Spoilt h = refl
 -- ---- the octets of a damaged block
 
 -- all octets but the last, and the last one changed
-pub damaged-is : (v : Parts) (b : List ℕ) → b ≡ spelling v → take (length b - 1) b ++ bit_xor (get_or b (length b - 1) 0) 1 ∷ [] ≡ damaged_octets v
+pub damaged-is : (v : Parts) (b : List ℕ) → b ≡ spelling v
+    → take (length b - 1) b ++ bit_xor (get_or b (length b - 1) 0) 1 ∷ [] ≡ damaged_octets v
 damaged-is v b e =
     let sum : ℕ = xor_of (front_of v) in
     let same-length : length b ≡ length (spelling v) = ap (λ (l : List ℕ). length l) e in
     let len : length b - 1 ≡ length (front_of v) = omega (arith, same-length, length-append v.inf (sum ∷ [])) in
-    let before : take (length b - 1) b ≡ front_of v = ap (λ (k : ℕ). take k b) len ∙ ap (λ (l : List ℕ). take (length (front_of v)) l) e ∙ take-append_seam (front_of v) (sum ∷ []) in
-    let last : get_or b (length b - 1) 0 ≡ sum = ap (λ (k : ℕ). get_or b k 0) len ∙ ap (λ (l : List ℕ). get_or l (length (front_of v)) 0) e ∙ get_or-append_seam (front_of v) sum [] 0 in
-    ap (λ (l : List ℕ). l ++ bit_xor (get_or b (length b - 1) 0) 1 ∷ []) before ∙ ap (λ (x : ℕ). front_of v ++ bit_xor x 1 ∷ []) last
+    let before : take (length b - 1) b ≡ front_of v =
+    ap (λ (k : ℕ). take k b) len ∙ ap (λ (l : List ℕ). take (length (front_of v)) l) e
+    ∙ take-append_seam (front_of v) (sum ∷ []) in
+    let last : get_or b (length b - 1) 0 ≡ sum =
+    ap (λ (k : ℕ). get_or b k 0) len ∙ ap (λ (l : List ℕ). get_or l (length (front_of v)) 0) e
+    ∙ get_or-append_seam (front_of v) sum [] 0 in
+    ap (λ (l : List ℕ). l ++ bit_xor (get_or b (length b - 1) 0) 1 ∷ []) before
+    ∙ ap (λ (x : ℕ). front_of v ++ bit_xor x 1 ∷ []) last

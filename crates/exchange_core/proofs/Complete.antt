@@ -79,13 +79,17 @@ arrived sent Lost h k =
     ∙ ap (λ (r : Result (List ℕ) LineFault). r >>= (λ s. Ok (s, Lost))) (octets-back sent h)
 arrived sent (Changed octets) h k =
     ap block_said (next-word (octets_text sent) (codes "as " ++ octets_text octets) (word-octets sent h))
-    ∙ ap (λ (r : Result (List ℕ) LineFault). r >>= (λ o. Ok (Changed o)) >>= (λ arrival. octets_said (octets_text sent) >>= (λ s. Ok (s, arrival)))) (the-octets octets k)
+    ∙ ap (λ (r : Result (List ℕ) LineFault).
+    r >>= (λ o. Ok (Changed o)) >>= (λ arrival. octets_said (octets_text sent) >>= (λ s. Ok (s, arrival))))
+    (the-octets octets k)
     ∙ ap (λ (r : Result (List ℕ) LineFault). r >>= (λ s. Ok (s, Changed octets))) (octets-back sent h)
 
 with-block : (f : List ℕ → Arrival → Line) (sent : List ℕ) (arrival : Arrival) → AreOctets sent
     → ArriveAsOctets arrival
-    → (block_said (slice_split is_space (octets_text sent ++ arrival_text arrival)) >>= (λ b. Ok (f b.0 b.1))) ≡ Ok (f sent arrival)
-with-block f sent arrival h k = ap (λ (r : Result (List ℕ × Arrival) LineFault). r >>= (λ b. Ok (f b.0 b.1))) (arrived sent arrival h k)
+    → (block_said (slice_split is_space (octets_text sent ++ arrival_text arrival)) >>= (λ b. Ok (f b.0 b.1)))
+    ≡ Ok (f sent arrival)
+with-block f sent arrival h k = ap (λ (r : Result (List ℕ × Arrival) LineFault). r >>= (λ b. Ok (f b.0 b.1)))
+    (arrived sent arrival h k)
 
 moment-by : (m : ℕ) → nat_le m latest_moment ≡ true → m < 1000000000000000
 moment-by m h = let le : m ≤ latest_moment = search (rules, h) in omega (arith, le)
@@ -118,8 +122,11 @@ line-back version least (Time multiple) h k = named version name.Time (octet_tex
 line-back version least (Ifsc size) h k = named version name.Ifsc (octet_text size) ∙ with-octet Ifsc size k
 line-back version least (Asked octets) h k = named version name.Asked (octets_text octets)
     ∙ with-octets Asked octets k
-line-back version least (FromTerminal sent arrival) h k = named version name.FromTerminal (octets_text sent ++ arrival_text arrival) ∙ with-block FromTerminal sent arrival k.0 k.1
-line-back version least (FromCard sent arrival) h k = named version name.FromCard (octets_text sent ++ arrival_text arrival) ∙ with-block FromCard sent arrival k.0 k.1
+line-back version least (FromTerminal sent arrival) h k =
+    named version name.FromTerminal (octets_text sent ++ arrival_text arrival)
+    ∙ with-block FromTerminal sent arrival k.0 k.1
+line-back version least (FromCard sent arrival) h k =
+    named version name.FromCard (octets_text sent ++ arrival_text arrival) ∙ with-block FromCard sent arrival k.0 k.1
 line-back One least (Moment m) h k = cc
 line-back Two least (Moment m) h k = named Two name.Moment (decimal m)
     ∙ with-moment m (moment-by m (both (nat_le least m) (nat_le m latest_moment) h).1)
@@ -142,7 +149,8 @@ plain-arrival (Changed octets) h = plain-octets octets h
 
 plain-block : (sent : List ℕ) (arrival : Arrival) → AreOctets sent → ArriveAsOctets arrival
     → list_all no_feed (octets_text sent ++ arrival_text arrival) ≡ true
-plain-block sent arrival h k = appended no_feed (octets_text sent) (arrival_text arrival) (plain-octets sent h) (plain-arrival arrival k)
+plain-block sent arrival h k = appended no_feed (octets_text sent) (arrival_text arrival) (plain-octets sent h)
+    (plain-arrival arrival k)
 
 printed : (c : ℕ) → is_printable c ≡ true → no_feed c ≡ true
 printed c h = search (rules, h)
@@ -163,7 +171,8 @@ one-line version least (Asked octets) h k = plain-octets octets k
 one-line version least (FromTerminal sent arrival) h k = plain-block sent arrival k.0 k.1
 one-line version least (FromCard sent arrival) h k = plain-block sent arrival k.0 k.1
 one-line One least (Moment m) h k = cc
-one-line Two least (Moment m) h k = feedless (decimal m) (word-decimal m (moment-by m (both (nat_le least m) (nat_le m latest_moment) h).1))
+one-line Two least (Moment m) h k = feedless (decimal m)
+    (word-decimal m (moment-by m (both (nat_le least m) (nat_le m latest_moment) h).1))
 one-line One least (Note text) h k = cc
 one-line Two least (Note text) h k = weaker is_printable no_feed printed text (printable text h)
 
@@ -216,13 +225,15 @@ lines-back version number least [] h k = refl
 lines-back version number least (x ∷ xs) h k =
     let p = both (may_follow version least x) (are_proper version (moment_after least x) xs) h in
     ap (lines_said version number least) (feed-part (line_text x) (lines_text xs) (one-line version least x p.0 k.0))
-    ∙ one-more version number least (line_text x) (slice_split is_line_feed (lines_text xs)) x xs (some-words is_line_feed (lines_text xs)) (line-at-back version number least x p.0 k.0)
+    ∙ one-more version number least (line_text x) (slice_split is_line_feed (lines_text xs)) x xs
+    (some-words is_line_feed (lines_text xs)) (line-at-back version number least x p.0 k.0)
     (lines-back version (number + 1) (moment_after least x) xs p.1 k.1)
 
 -- ---- exchanges
 
 atr-back : (octets : List ℕ) → AreOctets octets → atr_said (codes "atr " ++ octets_text octets) ≡ Ok octets
-atr-back octets h = ap (λ (words : List (List ℕ)). atr_by (codes "atr" ∷ words)) (one-word (octets_text octets) (word-octets octets h)) ∙ octets-back octets h
+atr-back octets h = ap (λ (words : List (List ℕ)). atr_by (codes "atr" ∷ words))
+    (one-word (octets_text octets) (word-octets octets h)) ∙ octets-back octets h
 
 plain-header : (version : Version) → list_all no_feed (header_text version) ≡ true
 plain-header One = refl
@@ -247,12 +258,15 @@ exchange-back e h =
     let parts = slice_split is_line_feed rest in
     ap exchange_by (feed-part (header_text e.version) (atr ++ (codes "\n" ++ rest)) (plain-header e.version)
     ∙ ap (◌∷◌ (header_text e.version)) (feed-part atr rest (plain-octets e.atr h.atr)))
-    ∙ ap (λ (r : Result Version ExchangeFault). r >>= (λ version. parts_said version (atr ∷ parts))) (version-back e.version)
-    ∙ parts-back e.version atr e.atr parts e.lines (some-words is_line_feed rest) (atr-back e.atr h.atr) (lines-back e.version 3 0 e.lines h.proper h.octets)
+    ∙ ap (λ (r : Result Version ExchangeFault). r >>= (λ version. parts_said version (atr ∷ parts)))
+    (version-back e.version)
+    ∙ parts-back e.version atr e.atr parts e.lines (some-words is_line_feed rest) (atr-back e.atr h.atr)
+    (lines-back e.version 3 0 e.lines h.proper h.octets)
 
 same-value : {A E : Type 0} (x y : A) (r : Result A E) → r ≡ Ok x → r ≡ Ok y → x ≡ y
 same-value x y r e f = let s : r ≡ r = refl in cc
 
 -- no two exchanges have one text
 pub one-exchange : (e f : ExchangeParts) → IsExchange e → IsExchange f → exchange_text e ≡ exchange_text f → e ≡ f
-one-exchange e f h k same = same-value e f (exchange_said (exchange_text e)) (exchange-back e h) (ap exchange_said same ∙ exchange-back f k)
+one-exchange e f h k same = same-value e f (exchange_said (exchange_text e)) (exchange-back e h)
+    (ap exchange_said same ∙ exchange-back f k)

@@ -26,7 +26,8 @@ module _ (t : ℕ → Bool) where
 
   pub is-cut : (xs : List ℕ) (place : ℕ) → position_from t 0 xs ≡ Some place → IsCut t xs place
   is-cut xs place e =
-      let p = placed (nat_lt (position_or_len t xs) (length xs)) (position_or_len t xs) place (position_from-zero t xs ∙ e) in
+      let p = placed (nat_lt (position_or_len t xs) (length xs)) (position_or_len t xs) place
+      (position_from-zero t xs ∙ e) in
       let inside : position_or_len t xs < length xs = search (rules, p.0) in
       rw (sym p.1) (record { parts = slice_split_first t xs 0 inside; after = refl })
 
@@ -40,7 +41,10 @@ module _ (t : ℕ → Bool) where
   none-cut xs e = more 0 xs e
 
   pub some-words : (xs : List ℕ) → slice_split t xs ≡ [] → ⊥
-  some-words xs e = let l = length-slice_split t xs in let n : length (slice_split t xs) ≡ 0 = ap length e in omega arith
+  some-words xs e =
+      let l = length-slice_split t xs in
+      let n : length (slice_split t xs) ≡ 0 = ap length e in
+      omega arith
 
 not-one : (word : List ℕ) (words : List (List ℕ)) → (words ≡ [] → ⊥) → only_word (word ∷ words) ≡ Err Word
 not-one word [] h = absurd (h refl)
@@ -58,14 +62,19 @@ pub all-of : {X : Type 0} (n : ℕ) (xs : List X) → take (length xs - n) (drop
 all-of n xs = take_all (length xs - n) (drop n xs) (omega (arith, length-drop n xs))
 
 -- a line of two words or more isn't one word
-pub two-words : (rest after word : List ℕ) → slice_split is_space rest ≡ word ∷ slice_split is_space after → only_word (slice_split is_space rest) ≡ Err Word
+pub two-words : (rest after word : List ℕ) → slice_split is_space rest ≡ word ∷ slice_split is_space after
+    → only_word (slice_split is_space rest) ≡ Err Word
 two-words rest after word e = ap only_word e ∙ not-one word (slice_split is_space after) (some-words is_space after)
 
-noted : (version : Version) (text : List ℕ) (words : List (List ℕ)) → (words ≡ [] → ⊥) → note_by version text words ≡ note_said version text
+noted : (version : Version) (text : List ℕ) (words : List (List ℕ)) → (words ≡ [] → ⊥)
+    → note_by version text words ≡ note_said version text
 noted version text [] h = absurd (h refl)
 noted version text (word ∷ words) h = refl
 
 -- a line whose first word names a note
-pub note-line : (version : Version) (line word text : List ℕ) → slice_split is_space line ≡ word ∷ slice_split is_space text → text ≡ after_first is_space line → name_of word ≡ Some name.Note → note_said version text ≡ line_said version line
+pub note-line : (version : Version) (line word text : List ℕ)
+    → slice_split is_space line ≡ word ∷ slice_split is_space text → text ≡ after_first is_space line
+    → name_of word ≡ Some name.Note → note_said version text ≡ line_said version line
 note-line version line word text parts after named =
-    rw parts (rw named (rw (sym after) (sym (noted version text (slice_split is_space text) (some-words is_space text)))))
+    rw parts (rw named (rw (sym after) (sym
+    (noted version text (slice_split is_space text) (some-words is_space text)))))

@@ -17,14 +17,20 @@ below-all : (p : ℕ → Bool) (n c : ℕ) → all_below p n ≡ true → c < n 
 below-all p zero c h lt = absurd (omega arith)
 below-all p (suc n) c h lt =
     let k = both (p n) (all_below p n) h in
-    elim (cases_lt c n) [ inl less ↦ below-all p n c k.1 less | inr more ↦ let e : c ≡ n = omega arith in subst (λ (x : ℕ). p x ≡ true) (sym e) k.0 ]
+    elim (cases_lt c n) [
+      | inl less ↦ below-all p n c k.1 less
+      | inr more ↦ let e : c ≡ n = omega arith in subst (λ (x : ℕ). p x ≡ true) (sym e) k.0
+    ]
 
 -- neither a space nor a line feed
 abbrev pub is_plain : ℕ → Bool
 is_plain c = not (is_space c) && not (is_line_feed c)
 
 abbrev good : ℕ → Bool
-good c = not (is_upper_digit c) || ((nat_lt (unwrap_or (hex_digit_value c) 16) 16 && slice_index upper_digits (unwrap_or (hex_digit_value c) 16) == c) && is_plain c)
+good c = not (is_upper_digit c)
+    || ((nat_lt (unwrap_or (hex_digit_value c) 16) 16
+    && slice_index upper_digits (unwrap_or (hex_digit_value c) 16) == c)
+    && is_plain c)
 
 all-good : all_below good 128 ≡ true
 all-good = refl
@@ -51,13 +57,15 @@ same-by a b h = search (rules, h)
 is-digit : (c : ℕ) → is_upper_digit c ≡ true → IsDigit c
 is-digit c h =
     let v = unwrap_or (hex_digit_value c) 16 in
-    let g = either (is_upper_digit c) ((nat_lt v 16 && slice_index upper_digits v == c) && is_plain c) h (below-all good 128 c all-good (low c h)) in
+    let g = either (is_upper_digit c) ((nat_lt v 16 && slice_index upper_digits v == c) && is_plain c) h
+    (below-all good 128 c all-good (low c h)) in
     let p = both (nat_lt v 16 && slice_index upper_digits v == c) (is_plain c) g in
     let q = both (nat_lt v 16) (slice_index upper_digits v == c) p.0 in
     record { small = small-by v q.0; back = same-by (slice_index upper_digits v) c q.1; plain = p.1 }
 
 -- the ? of hexadecimal, taken apart
-bind : {A B : Type 0} (r : Result A FromHexError) (f : A → Result B FromHexError) (x : B) → (r >>= f) ≡ Ok x → (a : A) × (r ≡ Ok a) × (f a ≡ Ok x)
+bind : {A B : Type 0} (r : Result A FromHexError) (f : A → Result B FromHexError) (x : B) → (r >>= f) ≡ Ok x
+    → (a : A) × (r ≡ Ok a) × (f a ≡ Ok x)
 bind (Ok a) f x e = (a, refl, e)
 bind (Err e') f x e = cc
 
@@ -74,7 +82,8 @@ lower h l p q = omega arith
 ok-same : {A E : Type 0} (x y : A) (r : Result A E) → r ≡ Ok x → r ≡ Ok y → x ≡ y
 ok-same x y r e f = let s : r ≡ r = refl in cc
 
-pair-back : (a b i byte : ℕ) → IsDigit a → IsDigit b → pair_value a b i ≡ Ok byte → (slice_index upper_digits (byte / 16) ≡ a) × (slice_index upper_digits (byte % 16) ≡ b)
+pair-back : (a b i byte : ℕ) → IsDigit a → IsDigit b → pair_value a b i ≡ Ok byte
+    → (slice_index upper_digits (byte / 16) ≡ a) × (slice_index upper_digits (byte % 16) ≡ b)
 pair-back a b i byte da db e =
     let p0 = bind (value_at a i) (λ h. value_at b (i + 1) >>= (λ l. Ok (h * 16 + l))) byte e in
     let p1 = bind (value_at b (i + 1)) (λ l. Ok (p0.0 * 16 + l)) byte p0.2 in
@@ -85,9 +94,13 @@ pair-back a b i byte da db e =
     let sb = rw vb at db.small in
     let ba = rw va at da.back in
     let bb = rw vb at db.back in
-    rw (sym sum) (ap (slice_index upper_digits) (high p0.0 p1.0 sa sb) ∙ ba, ap (slice_index upper_digits) (lower p0.0 p1.0 sa sb) ∙ bb)
+    rw (sym sum) (
+      ap (slice_index upper_digits) (high p0.0 p1.0 sa sb) ∙ ba,
+      ap (slice_index upper_digits) (lower p0.0 p1.0 sa sb) ∙ bb,
+    )
 
-pairs-back : (i : ℕ) (s o : List ℕ) → list_all is_upper_digit s ≡ true → decode_pairs i s ≡ Ok o → encode_with upper_digits o ≡ s
+pairs-back : (i : ℕ) (s o : List ℕ) → list_all is_upper_digit s ≡ true → decode_pairs i s ≡ Ok o
+    → encode_with upper_digits o ≡ s
 unfolding decode_pairs encode_with
 pairs-back i [] o h e = let n : [] ≡ o = ok-same [] o (decode_pairs i []) refl e in rw (sym n) refl
 pairs-back i (a ∷ []) o h e = cc

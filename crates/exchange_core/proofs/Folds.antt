@@ -22,9 +22,11 @@ use Rattle.exchange_core.specs.declared.event.LastTurn.TheVariants.{Nothing, Ter
 
 -- ---- any end
 
-runs-step : {S T : Type 0} (end : End S T) (lines more : List Line) (step : Result (S × Option T) (List ℕ)) (after : S × Option T)
+runs-step : {S T : Type 0} (end : End S T) (lines more : List Line) (step : Result (S × Option T) (List ℕ))
+    (after : S × Option T)
     → ((at : S × Option T) → runs end lines at ≡ Ok after → runs end (lines ++ more) at ≡ runs end more after)
-    → onward (λ at. runs end lines at) step ≡ Ok after → onward (λ at. runs end (lines ++ more) at) step ≡ runs end more after
+    → onward (λ at. runs end lines at) step ≡ Ok after
+    → onward (λ at. runs end (lines ++ more) at) step ≡ runs end more after
 runs-step end lines more (Ok at) after h e = h at e
 runs-step end lines more (Err text) after h e = cc
 
@@ -33,9 +35,11 @@ pub runs-on : {S T : Type 0} (end : End S T) (lines more : List Line) (at after 
     → runs end lines at ≡ Ok after → runs end (lines ++ more) at ≡ runs end more after
 runs-on end [] more at after e = let same : at ≡ after = cc in ap (λ x. runs end more x) same
 runs-on end (line ∷ lines) more at after e =
-    runs-step end lines more (by_role end at.0 at.1 line (end.role at.0 line)) after (λ x. runs-on end lines more x after) e
+    runs-step end lines more (by_role end at.0 at.1 line (end.role at.0 line)) after
+    (λ x. runs-on end lines more x after) e
 
-replays-step : {S T : Type 0} (end : End S T) (lines : List Line) (number : ℕ) (step : Result (S × Option T) (List ℕ)) (s : S)
+replays-step : {S T : Type 0} (end : End S T) (lines : List Line) (number : ℕ) (step : Result (S × Option T) (List ℕ))
+    (s : S)
     → ((at : S × Option T) → runs end lines at ≡ Ok (s, None) → replay_lines end lines (number + 1) at.0 at.1 ≡ None)
     → onward (λ at. runs end lines at) step ≡ Ok (s, None)
     → goes_on (λ after. replay_lines end lines (number + 1) after.0 after.1) number step ≡ None
@@ -47,7 +51,8 @@ pub replays-none : {S T : Type 0} (end : End S T) (lines : List Line) (number : 
     → runs end lines at ≡ Ok (s, None) → replay_lines end lines number at.0 at.1 ≡ None
 replays-none end [] number at s e = let same : at ≡ (s, None) = cc in rw same refl
 replays-none end (line ∷ lines) number at s e =
-    replays-step end lines number (by_role end at.0 at.1 line (end.role at.0 line)) s (λ x. replays-none end lines (number + 1) x s) e
+    replays-step end lines number (by_role end at.0 at.1 line (end.role at.0 line)) s
+    (λ x. replays-none end lines (number + 1) x s) e
 
 -- ---- the line of the last turn
 
@@ -58,21 +63,26 @@ met : {A : Type 0} (test : Bool) (x y : Result A (List ℕ)) → test ≡ true �
 met true x y e = refl
 met false x y e = cc
 
-pub meets : {S T : Type 0} (at : S × Option T) (b text : List ℕ) → onward {A = S × Option T} (λ x. Ok x) (if bytes_eq b b then Ok at else Err text) ≡ Ok at
-meets {S} {T} at b text = ap (λ x. onward {A = S × Option T} (λ y. Ok y) x) (met {A = S × Option T} (bytes_eq b b) (Ok at) (Err text) (equal-octets b))
+pub meets : {S T : Type 0} (at : S × Option T) (b text : List ℕ)
+    → onward {A = S × Option T} (λ x. Ok x) (if bytes_eq b b then Ok at else Err text) ≡ Ok at
+meets {S} {T} at b text = ap (λ x. onward {A = S × Option T} (λ y. Ok y) x)
+    (met {A = S × Option T} (bytes_eq b b) (Ok at) (Err text) (equal-octets b))
 
 -- it is met at the end whose turn it was, and passes the other one
-pub tells-terminal : (t : TerminalState) (c : CardState) (last : LastTurn) → runs terminal_end (telling t c last) (t, terminal_pending last) ≡ Ok (t, None)
+pub tells-terminal : (t : TerminalState) (c : CardState) (last : LastTurn)
+    → runs terminal_end (telling t c last) (t, terminal_pending last) ≡ Ok (t, None)
 tells-terminal t c Nothing = refl
 tells-terminal t c (Terminal (Send block)) = meets (t, None) (spelling block) (line_text (terminal_line t (Send block)))
-tells-terminal t c (Terminal Answered) = meets (t, None) (unwrap_or t.answered []) (line_text (terminal_line t Answered))
+tells-terminal t c (Terminal Answered) = meets (t, None) (unwrap_or t.answered [])
+    (line_text (terminal_line t Answered))
 tells-terminal t c (Terminal SetIfs) = refl
 tells-terminal t c (Terminal GaveUp) = refl
 tells-terminal t c (Terminal Died) = refl
 tells-terminal t c (Card (Sends block)) = refl
 tells-terminal t c (Card AskedHost) = refl
 
-pub tells-card : (t : TerminalState) (c : CardState) (last : LastTurn) → runs card_end (telling t c last) (c, card_pending last) ≡ Ok (c, None)
+pub tells-card : (t : TerminalState) (c : CardState) (last : LastTurn)
+    → runs card_end (telling t c last) (c, card_pending last) ≡ Ok (c, None)
 tells-card t c Nothing = refl
 tells-card t c (Terminal (Send block)) = refl
 tells-card t c (Terminal Answered) = refl
@@ -83,7 +93,8 @@ tells-card t c (Card (Sends block)) = meets (c, None) (spelling block) (line_tex
 tells-card t c (Card AskedHost) = meets (c, None) (unwrap_or (owed c c.waits) []) (line_text (card_line c AskedHost))
 
 -- it tells an event where it has a block
-pub rests : (t : TerminalState) (c : CardState) (last : LastTurn) → under_way_of last ≡ nothing → events_of (telling t c last) ≡ []
+pub rests : (t : TerminalState) (c : CardState) (last : LastTurn) → under_way_of last ≡ nothing
+    → events_of (telling t c last) ≡ []
 rests t c Nothing e = refl
 rests t c (Terminal (Send block)) e = cc
 rests t c (Terminal Answered) e = refl
@@ -93,7 +104,8 @@ rests t c (Terminal Died) e = refl
 rests t c (Card (Sends block)) e = cc
 rests t c (Card AskedHost) e = refl
 
-pub loss : (t : TerminalState) (c : CardState) (last : LastTurn) → IsSent (under_way_of last) → events_of (telling t c last) ≡ loses ∷ []
+pub loss : (t : TerminalState) (c : CardState) (last : LastTurn) → IsSent (under_way_of last)
+    → events_of (telling t c last) ≡ loses ∷ []
 loss t c Nothing h = absurd h
 loss t c (Terminal (Send block)) h = refl
 loss t c (Terminal Answered) h = absurd h
@@ -115,7 +127,8 @@ proper-told t c (Card AskedHost) = refl
 
 -- ---- lines after lines
 
-pub proper-on : (lines more : List Line) → are_proper One 0 lines ≡ true → are_proper One 0 more ≡ true → are_proper One 0 (lines ++ more) ≡ true
+pub proper-on : (lines more : List Line) → are_proper One 0 lines ≡ true → are_proper One 0 more ≡ true
+    → are_proper One 0 (lines ++ more) ≡ true
 proper-on [] more h k = k
 proper-on (Moment moment ∷ lines) more h k = cc
 proper-on (Note text ∷ lines) more h k = cc
@@ -123,7 +136,8 @@ proper-on (line ∷ lines) more h k = proper-on lines more h k
 
 pub events-on : (lines more : List Line) → events_of (lines ++ more) ≡ events_of lines ++ events_of more
 events-on [] more = refl
-events-on (line ∷ lines) more = ap (λ x. line_events line ++ x) (events-on lines more) ∙ sym (append_assoc (line_events line) (events_of lines) (events_of more))
+events-on (line ∷ lines) more = ap (λ x. line_events line ++ x) (events-on lines more)
+    ∙ sym (append_assoc (line_events line) (events_of lines) (events_of more))
 
 pub run-on : (es more : List Event) (l : Link) → run tables (es ++ more) l ≡ run tables more (run tables es l)
 run-on [] more l = refl

@@ -35,6 +35,7 @@ longer-found atr v n one accepted left =
 
 -- ---- one thing is found
 
+-- what an ATR gives for a replay is one thing
 pub one-found : OneAccepted → (atr : List ℕ) (x y : Result ℕ (List ℕ)) → IsFound atr x → IsFound atr y → x ≡ y
 one-found one atr x y (inl (a, is, e)) (inl (b, also, f)) =
     let whole = accepted-whole atr in
@@ -44,6 +45,7 @@ one-found one atr x y (inl (a, is, e)) (inr (none, f)) = absurd (none a is)
 one-found one atr x y (inr (none, e)) (inl (b, also, f)) = absurd (none b also)
 one-found one atr x y (inr (none, e)) (inr (also, f)) = e ∙ sym f
 
+-- so a replay has one outcome
 pub one-replay : OneAccepted → (atr : List ℕ) (lines : List Line) (side : Side) (a b : Option (ℕ × List ℕ))
     → Replays atr lines side a → Replays atr lines side b → a ≡ b
 one-replay one atr lines side a b x y =
@@ -60,6 +62,7 @@ accepted-found one atr v n accepted (inr (inl shorter)) =
 accepted-found one atr v n accepted (inr (inr longer)) =
     (Err (codes "BadAtr"), longer-found atr v n one accepted (omega arith))
 
+-- whatever the verdict on an ATR, it gives something for a replay
 pub verdict-found : OneAccepted → (atr : List ℕ)
     → ((v : AtrParts) × (n : ℕ) × Accepts self_ended IsAtr atr v n)
     ⊎ ((stop : Stop AtrReason) × Refuses self_ended IsAtr IsReason atr stop)
@@ -67,6 +70,7 @@ pub verdict-found : OneAccepted → (atr : List ℕ)
 verdict-found one atr (inl (v, n, accepted)) = accepted-found one atr v n accepted (cases_order n (length atr))
 verdict-found one atr (inr (stop, refuses)) = (Err (codes "BadAtr"), refused-found atr stop refuses)
 
+-- so a replay has an outcome
 pub some-replay : OneAccepted → (atr : List ℕ) (lines : List Line) (side : Side)
     → OneVerdict self_ended IsAtr IsReason atr
     → (difference : Option (ℕ × List ℕ)) × Replays atr lines side difference

@@ -16,14 +16,17 @@ joined true true h k = refl
 joined true false h k = k
 joined false b h k = h
 
-follows-two : (version : Version) (least : ℕ) (line : Line) → may_follow version least line ≡ true → may_follow Two least line ≡ true
+follows-two : (version : Version) (least : ℕ) (line : Line) → may_follow version least line ≡ true
+    → may_follow Two least line ≡ true
 follows-two One least (Moment moment) h = cc
 follows-two One least (Note text) h = cc
 follows-two One least line h = refl
 follows-two Two least line h = h
 
-pub proper-two : (version : Version) (least : ℕ) (lines : List Line) → are_proper version least lines ≡ true → are_proper Two least lines ≡ true
+pub proper-two : (version : Version) (least : ℕ) (lines : List Line) → are_proper version least lines ≡ true
+    → are_proper Two least lines ≡ true
 proper-two version least [] h = refl
 proper-two version least (line ∷ lines) h =
     let p = both (may_follow version least line) (are_proper version (moment_after least line) lines) h in
-    joined (may_follow Two least line) (are_proper Two (moment_after least line) lines) (follows-two version least line p.0) (proper-two version (moment_after least line) lines p.1)
+    joined (may_follow Two least line) (are_proper Two (moment_after least line) lines)
+    (follows-two version least line p.0) (proper-two version (moment_after least line) lines p.1)

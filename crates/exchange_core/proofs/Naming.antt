@@ -3,40 +3,23 @@ use Rattle.std.proofs.Common.{◌≡◌, ℕ, List, Bool, true, false, Option, S
 use Rattle.std.specs.Str.{bytes_eq}
 use Rattle.exchange_core.specs.Names.{names, named_in, name_of, name_text}
 use Rattle.exchange_core.specs.declared.name.Name.{Name}
-use Rattle.exchange_core.specs.declared.name.Name.TheVariants.{Command, Ifsd, Quiet, Answer, IfsSet, GivenUp, Dead, Reply, Time, Ifsc, Asked, FromTerminal, FromCard, Moment, Note}
 
 pub same-bytes : (a b : List ℕ) → bytes_eq a b ≡ true → a ≡ b
 same-bytes a b e = search (rules, e)
 
-named : (w : List ℕ) (n m : Name) (b : Bool) → (b ≡ true → w ≡ name_text n) → (rest : Option Name) → (rest ≡ Some m → w ≡ name_text m) → (if b then Some n else rest) ≡ Some m → w ≡ name_text m
+named : (w : List ℕ) (n m : Name) (b : Bool) → (b ≡ true → w ≡ name_text n) → (rest : Option Name)
+    → (rest ≡ Some m → w ≡ name_text m) → (if b then Some n else rest) ≡ Some m → w ≡ name_text m
 named w n m true h rest k e = let same : n ≡ m = cc in h refl ∙ ap name_text same
 named w n m false h rest k e = k e
 
 -- a word is what it names
 named-in : (names : List Name) (w : List ℕ) (m : Name) → named_in names w ≡ Some m → w ≡ name_text m
 named-in [] w m e = cc
-named-in (n ∷ names) w m e = named w n m (bytes_eq w (name_text n)) (same-bytes w (name_text n)) (named_in names w) (named-in names w m) e
+named-in (n ∷ names) w m e = named w n m (bytes_eq w (name_text n)) (same-bytes w (name_text n)) (named_in names w)
+    (named-in names w m) e
 
 pub name-text : (w : List ℕ) (m : Name) → name_of w ≡ Some m → w ≡ name_text m
 name-text w m e = named-in names w m e
-
--- and the word of a name names it
-pub text-name : (m : Name) → name_of (name_text m) ≡ Some m
-text-name Command = refl
-text-name Ifsd = refl
-text-name Quiet = refl
-text-name Answer = refl
-text-name IfsSet = refl
-text-name GivenUp = refl
-text-name Dead = refl
-text-name Reply = refl
-text-name Time = refl
-text-name Ifsc = refl
-text-name Asked = refl
-text-name FromTerminal = refl
-text-name FromCard = refl
-text-name Moment = refl
-text-name Note = refl
 
 pub both : (a b : Bool) → a && b ≡ true → (a ≡ true) × (b ≡ true)
 both true true h = (refl, refl)

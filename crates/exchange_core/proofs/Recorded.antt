@@ -26,7 +26,8 @@ abbrev taken : Recording → List Line → LastTurn → Result Recording EventFa
 taken r more last = Ok (further r more last)
 
 -- What an event does: the lines that tell it, and where it leaves both ends.
-pub record Acts (r : Recording) (t : TerminalState) (c : CardState) (more : List Line) (event : Event) (last : LastTurn) (t' : TerminalState) (c' : CardState) : Type 0 where
+pub record Acts (r : Recording) (t : TerminalState) (c : CardState) (more : List Line) (event : Event) (last : LastTurn)
+    (t' : TerminalState) (c' : CardState) : Type 0 where
   pub events : events_of more ≡ event ∷ []
   pub octets : HandsOctets event
   pub terminal : (happens tables (link_of r) event).terminal ≡ t'
@@ -39,17 +40,21 @@ pub record Acts (r : Recording) (t : TerminalState) (c : CardState) (more : List
   pub writes : added r event ≡ more
 
 -- the link after the lines
-links : (r : Recording) (more : List Line) (last : LastTurn) (event : Event) → events_of more ≡ event ∷ [] → link_of (further r more last) ≡ happens tables (link_of r) event
+links : (r : Recording) (more : List Line) (last : LastTurn) (event : Event) → events_of more ≡ event ∷ []
+    → link_of (further r more last) ≡ happens tables (link_of r) event
 links r more last event e =
-    ap (λ (es : List Event). run tables es (new_link r.ifsc)) (events-on r.lines more ∙ ap (λ (es : List Event). events_of r.lines ++ es) e)
+    ap (λ (es : List Event). run tables es (new_link r.ifsc))
+    (events-on r.lines more ∙ ap (λ (es : List Event). events_of r.lines ++ es) e)
     ∙ run-on (events_of r.lines) (event ∷ []) (new_link r.ifsc)
 
-pub keeps : {r : Recording} {t t' : TerminalState} {c c' : CardState} {more : List Line} {event : Event} {last : LastTurn}
+pub keeps : {r : Recording} {t t' : TerminalState} {c c' : CardState} {more : List Line} {event : Event}
+    {last : LastTurn}
     → IsRecording r t c → Acts r t c more event last t' c' → IsRecording (further r more last) t' c'
 keeps {r} {t} {t'} {c} {c'} {more} {event} {last} h a =
     let link : link_of (further r more last) ≡ happens tables (link_of r) event = links r more last event a.events in
     record {
-      octets = subst AllHandOctets (sym (events-on r.lines more)) (octets-on (events_of r.lines) (events_of more) h.octets (subst AllHandOctets (sym a.events) (a.octets, tt)));
+      octets = subst AllHandOctets (sym (events-on r.lines more))
+          (octets-on (events_of r.lines) (events_of more) h.octets (subst AllHandOctets (sym a.events) (a.octets, tt)));
       terminal = ap (λ (l : Link). l.terminal) link ∙ a.terminal;
       card = ap (λ (l : Link). l.card) link ∙ a.card;
       under_way = ap (λ (l : Link). l.under_way) link ∙ a.under_way;
@@ -60,11 +65,13 @@ keeps {r} {t} {t'} {c} {c'} {more} {event} {last} h a =
     }
 
 -- the link steps, and the recorder with it
-pub has-stepped : {r : Recording} {t t' : TerminalState} {c c' : CardState} {more : List Line} {event : Event} {last : LastTurn}
+pub has-stepped : {r : Recording} {t t' : TerminalState} {c c' : CardState} {more : List Line} {event : Event}
+    {last : LastTurn}
     → Acts r t c more event last t' c' → link_of (further r more last) ≡ happens tables (link_of r) event
 has-stepped {r} {t} {t'} {c} {c'} {more} {event} {last} a = links r more last event a.events
 
-pub has-recorded : {r : Recording} {t t' : TerminalState} {c c' : CardState} {more : List Line} {event : Event} {last : LastTurn}
+pub has-recorded : {r : Recording} {t t' : TerminalState} {c c' : CardState} {more : List Line} {event : Event}
+    {last : LastTurn}
     → Acts r t c more event last t' c' → recorded r event ≡ Ok (further r more last)
 has-recorded {r} {t} {t'} {c} {c'} {more} {event} {last} a =
     ap (λ (outcome : Result LastTurn EventFault). with_outcome r event outcome) a.outcome
@@ -72,71 +79,97 @@ has-recorded {r} {t} {t'} {c} {c'} {more} {event} {last} a =
 
 -- ---- what a refusal leaves
 
-terminal-stays : (before l : Link) (step : TerminalStep) (fault : EventFault) → terminal_outcome step ≡ Err fault → terminal_makes before l step ≡ before
+terminal-stays : (before l : Link) (step : TerminalStep) (fault : EventFault) → terminal_outcome step ≡ Err fault
+    → terminal_makes before l step ≡ before
 terminal-stays before l (Ok step) fault e = cc
 terminal-stays before l (Err own) fault e = refl
 
-card-stays : (before l : Link) (step : CardStep) (fault : EventFault) → card_outcome step ≡ Err fault → card_makes before l step ≡ before
+card-stays : (before l : Link) (step : CardStep) (fault : EventFault) → card_outcome step ≡ Err fault
+    → card_makes before l step ≡ before
 card-stays before l (Ok step) fault e = cc
 card-stays before l (Err own) fault e = refl
 
-arrival-stays : (l : Link) (w : UnderWay) (x : Came) (fault : EventFault) → arrival_outcome l w x ≡ Err fault → arrives tables l w x ≡ l
+arrival-stays : (l : Link) (w : UnderWay) (x : Came) (fault : EventFault) → arrival_outcome l w x ≡ Err fault
+    → arrives tables l w x ≡ l
 arrival-stays l nothing x fault e = refl
-arrival-stays l (to_card block) x fault e = card-stays l (record l { disturbed = l.disturbed + 1 }) (card_turn l.card (card_takes x)) fault e
-arrival-stays l (to_terminal block) x fault e = terminal-stays l (record l { disturbed = l.disturbed + 1 }) (terminal_turn l.terminal (takes x)) fault e
+arrival-stays l (to_card block) x fault e =
+    card-stays l (record l { disturbed = l.disturbed + 1 }) (card_turn l.card (card_takes x)) fault e
+arrival-stays l (to_terminal block) x fault e =
+    terminal-stays l (record l { disturbed = l.disturbed + 1 }) (terminal_turn l.terminal (takes x)) fault e
 
-delivery-stays : (l : Link) (w : UnderWay) (fault : EventFault) → arrival_outcome l w (whole w) ≡ Err fault → delivered tables l w ≡ l
+delivery-stays : (l : Link) (w : UnderWay) (fault : EventFault) → arrival_outcome l w (whole w) ≡ Err fault
+    → delivered tables l w ≡ l
 delivery-stays l nothing fault e = refl
-delivery-stays l (to_card block) fault e = card-stays l l (card_turn l.card (card_takes (got block.pcb block.inf))) fault e
-delivery-stays l (to_terminal block) fault e = terminal-stays l l (terminal_turn l.terminal (takes (got block.pcb block.inf))) fault e
+delivery-stays l (to_card block) fault e =
+    card-stays l l (card_turn l.card (card_takes (got block.pcb block.inf))) fault e
+delivery-stays l (to_terminal block) fault e =
+    terminal-stays l l (terminal_turn l.terminal (takes (got block.pcb block.inf))) fault e
 
 loss-stays : (l : Link) (w : UnderWay) (fault : EventFault) → loss_outcome l w ≡ Err fault → lost tables l w ≡ l
 loss-stays l nothing fault e = refl
-loss-stays l (to_card block) fault e = terminal-stays l (record l { disturbed = l.disturbed + 1 }) (terminal_turn l.terminal (takes quiet)) fault e
-loss-stays l (to_terminal block) fault e = terminal-stays l (record l { disturbed = l.disturbed + 1 }) (terminal_turn l.terminal (takes quiet)) fault e
+loss-stays l (to_card block) fault e = terminal-stays l (record l { disturbed = l.disturbed + 1 })
+    (terminal_turn l.terminal (takes quiet)) fault e
+loss-stays l (to_terminal block) fault e =
+    terminal-stays l (record l { disturbed = l.disturbed + 1 }) (terminal_turn l.terminal (takes quiet)) fault e
 
 stays : (l : Link) (event : Event) (fault : EventFault) → outcome_of l event ≡ Err fault → happens tables l event ≡ l
 stays l delivers fault e = delivery-stays l l.under_way fault e
 stays l damages fault e = arrival-stays l l.under_way damaged fault e
 stays l spoils fault e = arrival-stays l l.under_way invalid fault e
 stays l loses fault e = loss-stays l l.under_way fault e
-stays l (transmits m) fault e = terminal-stays l (record l { exchanges = unanswered m ∷ l.exchanges; disturbed = 0; failed = 0 }) (terminal_turn l.terminal (transmit m)) fault e
-stays l (asks_ifsd n) fault e = terminal-stays l (record l { disturbed = 0; failed = 0 }) (terminal_turn l.terminal (ask_ifs n)) fault e
-stays l (host_replies m) fault e = card-stays l (record l { services = with_reply l.services m }) (card_turn l.card (replies m)) fault e
+stays l (transmits m) fault e = terminal-stays l
+    (record l { exchanges = unanswered m ∷ l.exchanges; disturbed = 0; failed = 0 })
+    (terminal_turn l.terminal (transmit m)) fault e
+stays l (asks_ifsd n) fault e = terminal-stays l (record l { disturbed = 0; failed = 0 })
+    (terminal_turn l.terminal (ask_ifs n)) fault e
+stays l (host_replies m) fault e = card-stays l (record l { services = with_reply l.services m })
+    (card_turn l.card (replies m)) fault e
 stays l (host_asks_time n) fault e = card-stays l l (card_turn l.card (more_time n)) fault e
 stays l (host_asks_ifsc n) fault e = card-stays l l (card_turn l.card (ask_ifsc n)) fault e
 
-refused-outcome : (r : Recording) (event : Event) (outcome : Result LastTurn EventFault) (fault : EventFault) → with_outcome r event outcome ≡ Err fault → outcome ≡ Err fault
+refused-outcome : (r : Recording) (event : Event) (outcome : Result LastTurn EventFault) (fault : EventFault)
+    → with_outcome r event outcome ≡ Err fault → outcome ≡ Err fault
 refused-outcome r event (Ok last) fault e = cc
 refused-outcome r event (Err own) fault e = cc
 
-pub refused-stays : (r : Recording) (event : Event) (fault : EventFault) → recorded r event ≡ Err fault → happens tables (link_of r) event ≡ link_of r
-refused-stays r event fault e = stays (link_of r) event fault (refused-outcome r event (outcome_of (link_of r) event) fault e)
+pub refused-stays : (r : Recording) (event : Event) (fault : EventFault) → recorded r event ≡ Err fault
+    → happens tables (link_of r) event ≡ link_of r
+refused-stays r event fault e = stays (link_of r) event fault
+    (refused-outcome r event (outcome_of (link_of r) event) fault e)
 
-pub refused : (r : Recording) (event : Event) (fault : EventFault) → outcome_of (link_of r) event ≡ Err fault → recorded r event ≡ Err fault
+pub refused : (r : Recording) (event : Event) (fault : EventFault) → outcome_of (link_of r) event ≡ Err fault
+    → recorded r event ≡ Err fault
 refused r event fault e = ap (λ (outcome : Result LastTurn EventFault). with_outcome r event outcome) e
 
 -- ---- what a step leaves
 
-pub terminal-made : (before l : Link) (step : TerminalStep) (turn : TerminalTurn) (next : TerminalState) (mark : Mark) → step ≡ Ok (turn, next, mark)
-    → ((terminal_makes before l step).terminal ≡ next) × ((terminal_makes before l step).card ≡ l.card) × ((terminal_makes before l step).under_way ≡ sent_by_terminal turn)
+pub terminal-made : (before l : Link) (step : TerminalStep) (turn : TerminalTurn) (next : TerminalState) (mark : Mark)
+    → step ≡ Ok (turn, next, mark)
+    → ((terminal_makes before l step).terminal ≡ next) × ((terminal_makes before l step).card ≡ l.card)
+    × ((terminal_makes before l step).under_way ≡ sent_by_terminal turn)
 terminal-made before l step turn next mark e = rw e (refl, refl, refl)
 
 pub card-made : (before l : Link) (step : CardStep) (turn : CardTurn) (next : CardState) → step ≡ Ok (turn, next)
-    → ((card_makes before l step).terminal ≡ l.terminal) × ((card_makes before l step).card ≡ next) × ((card_makes before l step).under_way ≡ sent_by_card turn)
+    → ((card_makes before l step).terminal ≡ l.terminal) × ((card_makes before l step).card ≡ next)
+    × ((card_makes before l step).under_way ≡ sent_by_card turn)
 card-made before l step turn next e = rw e (refl, refl, refl)
 
-pub terminal-taken : (step : TerminalStep) (turn : TerminalTurn) (next : TerminalState) (mark : Mark) → step ≡ Ok (turn, next, mark) → terminal_outcome step ≡ Ok (Terminal turn)
+pub terminal-taken : (step : TerminalStep) (turn : TerminalTurn) (next : TerminalState) (mark : Mark)
+    → step ≡ Ok (turn, next, mark) → terminal_outcome step ≡ Ok (Terminal turn)
 terminal-taken step turn next mark e = rw e refl
 
-pub card-taken : (step : CardStep) (turn : CardTurn) (next : CardState) → step ≡ Ok (turn, next) → card_outcome step ≡ Ok (Card turn)
+pub card-taken : (step : CardStep) (turn : CardTurn) (next : CardState) → step ≡ Ok (turn, next)
+    → card_outcome step ≡ Ok (Card turn)
 card-taken step turn next e = rw e refl
 
 -- a call in the replay, where no turn is untold
-pub terminal-called : (t : TerminalState) (line : Line) (step : TerminalStep) (turn : TerminalTurn) (next : TerminalState) (mark : Mark)
-    → terminal_role t line ≡ calls (terminal_gives step) → step ≡ Ok (turn, next, mark) → runs terminal_end (line ∷ []) (t, None) ≡ Ok (next, Some turn)
+pub terminal-called : (t : TerminalState) (line : Line) (step : TerminalStep) (turn : TerminalTurn)
+    (next : TerminalState) (mark : Mark)
+    → terminal_role t line ≡ calls (terminal_gives step) → step ≡ Ok (turn, next, mark)
+    → runs terminal_end (line ∷ []) (t, None) ≡ Ok (next, Some turn)
 terminal-called t line step turn next mark role e = rw (role, e) refl
 
 pub card-called : (c : CardState) (line : Line) (step : CardStep) (turn : CardTurn) (next : CardState)
-    → card_role c line ≡ calls (card_gives step) → step ≡ Ok (turn, next) → runs card_end (line ∷ []) (c, None) ≡ Ok (next, Some turn)
+    → card_role c line ≡ calls (card_gives step) → step ≡ Ok (turn, next)
+    → runs card_end (line ∷ []) (c, None) ≡ Ok (next, Some turn)
 card-called c line step turn next role e = rw (role, e) refl

@@ -15,7 +15,8 @@ listens : (ear : Ear) → ear_waits ear ≡ idle → ⊥
 listens (first field) e = cc
 listens (further joined) e = cc
 
-pub idle-rests : {P : Type 0} {kt kc : Limits} (l : Link) → Good P kt kc l → l.terminal.waits ≡ idle → l.under_way ≡ nothing
+pub idle-rests : {P : Type 0} {kt kc : Limits} (l : Link) → Good P kt kc l → l.terminal.waits ≡ idle
+    → l.under_way ≡ nothing
 idle-rests _ (at_rest _ _) e = refl
 idle-rests _ (size_asked _ _) e = cc
 idle-rests _ (size_taken _ _) e = cc
@@ -80,7 +81,8 @@ host-rests _ (joined_told _ _ _ _) e = cc
 host-rests _ (joined_doubted _ _ _ _) e = cc
 
 -- a call that is taken is taken by an idle terminal, or in the host's turn
-pub taken-idle : (w : Waits) (step : TerminalStep) (turn : TerminalTurn) (next : TerminalState) (mark : Mark) → if_idle w step ≡ Ok (turn, next, mark) → w ≡ idle
+pub taken-idle : (w : Waits) (step : TerminalStep) (turn : TerminalTurn) (next : TerminalState) (mark : Mark)
+    → if_idle w step ≡ Ok (turn, next, mark) → w ≡ idle
 taken-idle idle step turn next mark e = refl
 taken-idle (ack field rest) step turn next mark e = cc
 taken-idle (answer field) step turn next mark e = cc
@@ -89,7 +91,8 @@ taken-idle (ifs size) step turn next mark e = cc
 taken-idle (resynch asked) step turn next mark e = cc
 taken-idle dead step turn next mark e = cc
 
-pub taken-host : (w : CardWaits) (step : CardStep) (turn : CardTurn) (next : CardState) → if_host w step ≡ Ok (turn, next) → w ≡ host
+pub taken-host : (w : CardWaits) (step : CardStep) (turn : CardTurn) (next : CardState)
+    → if_host w step ≡ Ok (turn, next) → w ≡ host
 taken-host (command joined) step turn next e = cc
 taken-host host step turn next e = refl
 taken-host (reply field rest) step turn next e = cc

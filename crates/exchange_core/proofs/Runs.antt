@@ -68,7 +68,8 @@ NoneAfter {S} {T} end lines number after =
 
 module _ {S T : Type 0} (end : End S T) (said : Line → Bool) (says : Says end said) where
   -- the line of a turn
-  met-line : (line : Line) (lines : List Line) → Agree end said lines → (number : ℕ) (s : S) (turn : T) → said line ≡ true
+  met-line : (line : Line) (lines : List Line) → Agree end said lines
+      → (number : ℕ) (s : S) (turn : T) → said line ≡ true
       → (met : Bool) → is_met (end.line s turn) line ≡ met
       → NoneAfter end lines number (if met then Ok (s, None) else Err (line_text (end.line s turn)))
       → option_map (λ rest. end.line s turn ∷ rest) (given_over end lines s)

@@ -199,12 +199,14 @@ unfolding encode_with
 unmet_at_end = refl
 
 -- the same where the other end sends a block, which is lost and passes
-unmet_past_lost : replay_from (Ok 32) (Command select ∷ FromCard again Lost ∷ []) Terminal ≡ Some (5, codes "t 00000500A4040000A5")
+unmet_past_lost : replay_from (Ok 32) (Command select ∷ FromCard again Lost ∷ []) Terminal
+    ≡ Some (5, codes "t 00000500A4040000A5")
 unfolding encode_with
 unmet_past_lost = refl
 
 -- the call after it isn't made
-unmet_at_call : replay_from (Ok 32) (Command select ∷ Quiet ∷ Dead ∷ []) Terminal ≡ Some (4, codes "t 00000500A4040000A5")
+unmet_at_call : replay_from (Ok 32) (Command select ∷ Quiet ∷ Dead ∷ []) Terminal
+    ≡ Some (4, codes "t 00000500A4040000A5")
 unfolding encode_with
 unmet_at_call = refl
 
@@ -217,6 +219,7 @@ only_answer : replay_from (Ok 32) (Answer done ∷ []) Terminal ≡ Some (3, cod
 only_answer = refl
 
 -- a turn is met once
-met_twice : replay_from (Ok 32) (Command select ∷ FromTerminal select_block Whole ∷ FromTerminal select_block Whole ∷ [])
-    Terminal ≡ Some (5, codes "nothing")
+met_twice : replay_from (Ok 32)
+    (Command select ∷ FromTerminal select_block Whole ∷ FromTerminal select_block Whole ∷ []) Terminal
+    ≡ Some (5, codes "nothing")
 met_twice = refl

@@ -20,12 +20,14 @@ use Rattle.exchange_core.proofs.Naming.{both}
 pub weaker : (p q : ℕ → Bool) → ((c : ℕ) → p c ≡ true → q c ≡ true) → (xs : List ℕ) → list_all p xs ≡ true
     → list_all q xs ≡ true
 weaker p q f [] h = refl
-weaker p q f (x ∷ xs) h = let k = both (p x) (list_all p xs) h in joined (q x) (list_all q xs) (f x k.0) (weaker p q f xs k.1)
+weaker p q f (x ∷ xs) h = let k = both (p x) (list_all p xs) h in
+    joined (q x) (list_all q xs) (f x k.0) (weaker p q f xs k.1)
 
 pub appended : (p : ℕ → Bool) (xs ys : List ℕ) → list_all p xs ≡ true → list_all p ys ≡ true
     → list_all p (xs ++ ys) ≡ true
 appended p [] ys h k = k
-appended p (x ∷ xs) ys h k = let b = both (p x) (list_all p xs) h in joined (p x) (list_all p (xs ++ ys)) b.0 (appended p xs ys b.1 k)
+appended p (x ∷ xs) ys h k = let b = both (p x) (list_all p xs) h in
+    joined (p x) (list_all p (xs ++ ys)) b.0 (appended p xs ys b.1 k)
 
 not-true : (b : Bool) → not b ≡ true → b ≡ false
 not-true true h = cc
@@ -67,7 +69,8 @@ feedless word h = weaker is_plain no_feed (λ c k. (both (no_space c) (no_feed c
 -- ---- hexadecimal
 
 digit-upper : (i : ℕ) → i < 16 → is_upper_digit (slice_index upper_digits i) ≡ true
-digit-upper i lt = All-get_or (λ c. is_upper_digit c ≡ true) upper_digits i 0 lt (AllPass-from_list_all is_upper_digit upper_digits refl)
+digit-upper i lt = All-get_or (λ c. is_upper_digit c ≡ true) upper_digits i 0 lt
+    (AllPass-from_list_all is_upper_digit upper_digits refl)
 
 digit-plain : (c : ℕ) → is_upper_digit c ≡ true → is_plain c ≡ true
 digit-plain c h = search (rules, h)
@@ -80,7 +83,8 @@ upper-octets [] h = refl
 upper-octets (octet ∷ octets) h =
     let fits : octet < 256 = h 0 in
     joined (is_upper_digit (slice_index upper_digits (octet / 16))) _ (digit-upper (octet / 16) (omega arith))
-    (joined (is_upper_digit (slice_index upper_digits (octet % 16))) _ (digit-upper (octet % 16) (omega arith)) (upper-octets octets (λ i. h (suc i))))
+    (joined (is_upper_digit (slice_index upper_digits (octet % 16))) _ (digit-upper (octet % 16) (omega arith))
+    (upper-octets octets (λ i. h (suc i))))
 
 pub word-hex : (octets : List ℕ) → AreOctets octets → IsWord (encode_upper octets)
 word-hex octets h = weaker is_upper_digit is_plain digit-plain (encode_upper octets) (upper-octets octets h)
@@ -97,7 +101,8 @@ not-none : (octet : ℕ) (octets : List ℕ) → list_all is_upper_digit (encode
     → bytes_eq (encode_upper (octet ∷ octets)) (codes "none") ≡ false
 unfolding encode_with
 not-none octet octets h =
-    let k = both (is_upper_digit (slice_index upper_digits (octet / 16))) (list_all is_upper_digit (slice_index upper_digits (octet % 16) ∷ encode_with upper_digits octets)) h in
+    let k = both (is_upper_digit (slice_index upper_digits (octet / 16)))
+    (list_all is_upper_digit (slice_index upper_digits (octet % 16) ∷ encode_with upper_digits octets)) h in
     rw (not-n (slice_index upper_digits (octet / 16)) k.0) refl
 
 some-by : (n : ℕ) → 1 ≤ n → nat_le 1 n ≡ true
@@ -115,7 +120,8 @@ pub octets-back : (octets : List ℕ) → AreOctets octets → octets_said (octe
 octets-back [] h = refl
 octets-back (octet ∷ octets) h =
     let upper = upper-octets (octet ∷ octets) h in
-    rw (not-none octet octets upper) (rw (some-digits octet octets upper) (ap octets_of (decode_of-encode_upper (octet ∷ octets) h)))
+    rw (not-none octet octets upper) (rw (some-digits octet octets upper)
+    (ap octets_of (decode_of-encode_upper (octet ∷ octets) h)))
 
 one-octet : (octet : ℕ) → octet < 256 → AreOctets (octet ∷ [])
 one-octet octet lt zero = lt
@@ -141,4 +147,5 @@ decimal-plain : (c : ℕ) → is_ascii_digit c ≡ true → is_plain c ≡ true
 decimal-plain c h = search (rules, h)
 
 pub word-decimal : (n : ℕ) → n < 1000000000000000 → IsWord (decimal n)
-word-decimal n lt = weaker is_ascii_digit is_plain decimal-plain (decimal n) (has_digits (decimal n) (decimal-is n lt)).digits
+word-decimal n lt = weaker is_ascii_digit is_plain decimal-plain (decimal n)
+    (has_digits (decimal n) (decimal-is n lt)).digits

@@ -30,10 +30,13 @@ session = record {
 -- its text with the texts of its two moments
 abbrev text_with : List ℕ → List ℕ → List ℕ
 text_with first second =
-    codes "scard-exchange 2\natr 3B808131204555\nat " ++ (first ++ (codes "\ncommand 00A4\nt 00800080 lost\nnote nothing came\nquiet\nat " ++ (second ++ codes "\nc 00 as none\nreply none\nc 9000\nifsd FE\n")))
+    codes "scard-exchange 2\natr 3B808131204555\nat "
+    ++ (first ++ (codes "\ncommand 00A4\nt 00800080 lost\nnote nothing came\nquiet\nat "
+    ++ (second ++ codes "\nc 00 as none\nreply none\nc 9000\nifsd FE\n")))
 
 abbrev text : List ℕ
-text = codes "scard-exchange 2\natr 3B808131204555\nat 0\ncommand 00A4\nt 00800080 lost\nnote nothing came\nquiet\nat 1500\nc 00 as none\nreply none\nc 9000\nifsd FE\n"
+text = codes
+    "scard-exchange 2\natr 3B808131204555\nat 0\ncommand 00A4\nt 00800080 lost\nnote nothing came\nquiet\nat 1500\nc 00 as none\nreply none\nc 9000\nifsd FE\n"
 
 parted : exchange_text session ≡ text_with (decimal 0) (decimal 1500)
 unfolding encode_with

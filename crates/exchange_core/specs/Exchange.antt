@@ -42,7 +42,8 @@ moment_after least line = least
 -- whether these lines may come, one after another, after a moment
 abbrev pub are_proper : Version → ℕ → List Line → Bool
 are_proper version least [] = true
-are_proper version least (line ∷ lines) = may_follow version least line && are_proper version (moment_after least line) lines
+are_proper version least (line ∷ lines) =
+    may_follow version least line && are_proper version (moment_after least line) lines
 
 -- what an exchange is by its text of version 2
 abbrev pub migrated : ExchangeParts → ExchangeParts

@@ -6,7 +6,7 @@ use Rattle.block_core.specs.Block.{Parts, front_of, spelling}
 use Rattle.t1_core.specs.Came.{Came, got, damaged, invalid, quiet, class_of}
 use Rattle.t1_core.specs.Terminal.{TerminalState, TerminalStep, TerminalInput, Mark, transmit, ask_ifs, takes, terminal_turn, new_terminal}
 use Rattle.t1_core.specs.Card.{CardState, CardStep, CardInput, replies, more_time, ask_ifs as ask_ifsc, takes as card_takes, card_turn, new_card}
-use Rattle.t1_core.specs.Link.{Link, UnderWay, nothing, to_card, to_terminal, Tables, tables, new_link, run, sent_by_terminal, sent_by_card, happens}
+use Rattle.t1_core.specs.Link.{Link, UnderWay, nothing, to_card, to_terminal, tables, new_link, run, sent_by_terminal, sent_by_card}
 use Rattle.t1_core.specs.Link as link
 use Rattle.t1_core.specs.Promises.{AllHandOctets}
 use Rattle.t1_core.specs.declared.turns.TerminalTurn.{TerminalTurn}
@@ -128,7 +128,8 @@ events_of (line ∷ lines) = line_events line ++ events_of lines
 
 -- ---- the recorder
 
--- The answer to reset, the size of information fields that it gives the card, the lines so far, and the last turn, which no line tells yet.
+-- The answer to reset, the size of information fields that it gives the card, the lines so far, and the last turn,
+-- which no line tells yet.
 pub record Recording : Type 0 where
   pub atr : List ℕ
   pub ifsc : ℕ
@@ -165,7 +166,8 @@ carried nothing change = []
 carried (to_card block) change = FromTerminal (spelling block) (arrival_of change block) ∷ []
 carried (to_terminal block) change = FromCard (spelling block) (arrival_of change block) ∷ []
 
--- The lines that an event adds. The line of a block that is carried is the one that tells the last turn; a call comes after that line.
+-- The lines that an event adds. The line of a block that is carried is the one that tells the last turn; a call comes
+-- after that line.
 abbrev pub added : Recording → link.Event → List Line
 added r link.delivers = carried (link_of r).under_way Kept
 added r link.damages = carried (link_of r).under_way Damaged
@@ -211,7 +213,8 @@ abbrev pub runs : {S T : Type 0} → End S T → List Line → S × Option T →
 runs end [] at = Ok at
 runs end (line ∷ lines) at = onward (λ after. runs end lines after) (by_role end at.0 at.1 line (end.role at.0 line))
 
--- The ends are those of the link, and each replays the lines to the state that it is in, where the last turn has met no line.
+-- The ends are those of the link, and each replays the lines to the state that it is in, where the last turn has met no
+-- line.
 pub record IsRecording (r : Recording) (t : TerminalState) (c : CardState) : Type 0 where
   pub octets : AllHandOctets (events_of r.lines)
   pub terminal : (link_of r).terminal ≡ t

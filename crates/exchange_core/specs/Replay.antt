@@ -26,7 +26,8 @@ use Rattle.exchange_core.specs.declared.replaying.ReplayFault.TheVariants.{Diffe
 
 -- ---- any end
 
--- What a line is to an end with states S and turns T: a call, which gives a turn and the state after it or is refused by a name; a line that the end itself is said to give; or nothing to it.
+-- What a line is to an end with states S and turns T: a call, which gives a turn and the state after it or is refused
+-- by a name; a line that the end itself is said to give; or nothing to it.
 pub data Role (S T : Type 0) : Type 0 where
   calls : (given : Result (T × S) (List ℕ)) → Role S T
   gives : Role S T
@@ -76,7 +77,8 @@ abbrev pub goes_on : {A : Type 0} → (A → Option (ℕ × List ℕ)) → ℕ �
 goes_on next number (Ok after) = next after
 goes_on next number (Err text) = Some (number, text)
 
--- The first line, counted from this number, at which the end gives something else, with the text of that. A turn that no line has met makes the file differ after its last line.
+-- The first line, counted from this number, at which the end gives something else, with the text of that. A turn that
+-- no line has met makes the file differ after its last line.
 abbrev pub replay_lines : {S T : Type 0} → End S T → List Line → ℕ → S → Option T → Option (ℕ × List ℕ)
 replay_lines end [] number s None = None
 replay_lines end [] number s (Some turn) = Some (number, line_text (end.line s turn))
@@ -171,7 +173,8 @@ replay_from (Err name) lines side = Some (2, refused name)
 replay_from (Ok ifsc) lines Terminal = replay_lines terminal_end lines 3 (new_terminal ifsc) None
 replay_from (Ok ifsc) lines Card = replay_lines card_end lines 3 (new_card ifsc) None
 
--- The file with this answer to reset and these lines replays so for the side: it differs nowhere, or first at this line, where the end gives this text.
+-- The file with this answer to reset and these lines replays so for the side: it differs nowhere, or first at this
+-- line, where the end gives this text.
 pub record Replays (atr : List ℕ) (lines : List Line) (side : Side) (difference : Option (ℕ × List ℕ)) : Type 0 where
   pub found : Result ℕ (List ℕ)
   pub is_found : IsFound atr found

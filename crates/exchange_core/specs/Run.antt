@@ -45,7 +45,8 @@ abbrev pub given_at : Side → ℕ → List Line → Option (List Line)
 given_at Terminal ifsc lines = given_over terminal_end lines (new_terminal ifsc)
 given_at Card ifsc lines = given_over card_end lines (new_card ifsc)
 
--- The lines are a run of the end, after this answer to reset: it refuses none of the lines that are calls of it, and those that it is said to give are, in order, all that it gives.
+-- The lines are a run of the end, after this answer to reset: it refuses none of the lines that are calls of it, and
+-- those that it is said to give are, in order, all that it gives.
 pub record IsRun (atr : List ℕ) (lines : List Line) (side : Side) : Type 0 where
   pub ifsc : ℕ
   pub is_found : IsFound atr (Ok ifsc)

@@ -1,12 +1,12 @@
 //! Blocks on their way, and the calls of the ends, as lines.
 
-ghost use Rattle.std.specs.Prelude.{◌≡◌, ◌++◌, ◌+◌, ◌≤◌, List, ℕ, [], ◌∷◌, IfOk, IfErr, OnOk, OnErr, Ok, Err, vec_len, vec_capacity};
+ghost use Rattle.std.specs.Prelude.{◌≡◌, ◌++◌, ◌+◌, ◌≤◌, [], ◌∷◌, IfOk, IfErr, OnOk, OnErr, Ok, Err, vec_len, vec_capacity};
 ghost use Rattle.octet_core.specs.Octets.{AreOctets};
 ghost use Rattle.block_core.specs.Block.{spelling};
 ghost use Rattle.t1_core.specs.Terminal.{terminal_turn};
 ghost use Rattle.t1_core.specs.Card.{card_turn};
 ghost use Rattle.exchange_core.specs.Given.{line_of};
-ghost use Rattle.exchange_core.specs.Recording.{arrival_of, damaged_octets, spoilt_octets, as_lost, as_list, terminal_input, card_input, Turns, terminal_outcome, card_outcome, IfNotMemory, IsCardCall};
+ghost use Rattle.exchange_core.specs.Recording.{arrival_of, damaged_octets, as_lost, as_list, terminal_input, card_input, Turns, terminal_outcome, card_outcome, IfNotMemory, IsCardCall};
 
 use crate::end::{card_called, terminal_called};
 use crate::event::EventFault;
@@ -120,7 +120,8 @@ pub(crate) fn terminal_takes(
     ensures lines { OnOk result (lines.new.items ≡ lines.old.items ++ (as_list told ++ line ∷ [])) }
     ensures refused { IfErr result (λ fault. IfNotMemory fault
         (terminal_outcome (terminal_turn terminal.old (terminal_input terminal.old line)) ≡ Err fault)) }
-    ensures kept { OnErr result ((terminal.new ≡ terminal.old) × (lines.new.items ≡ lines.old.items)) }
+    ensures kept { OnErr result ((terminal.new ≡ terminal.old)
+        × (lines.new.items ≡ lines.old.items)) }
 {
     lines.reserve(2)?;
     let turn = terminal_turned(terminal, &line)?;

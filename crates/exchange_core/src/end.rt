@@ -130,7 +130,8 @@ pub(crate) fn terminal_called(
     terminal: &mut Terminal,
     line: &Line,
 ) -> Result<TerminalTurn, TerminalFault>
-    ensures turn { result ≡ turn_of (terminal_turn terminal.old (terminal_input terminal.old line.now)) }
+    ensures turn { result ≡ turn_of
+        (terminal_turn terminal.old (terminal_input terminal.old line.now)) }
     ensures state { terminal.new
         ≡ state_after terminal.old (terminal_turn terminal.old (terminal_input terminal.old line.now)) }
 {

@@ -1,6 +1,6 @@
 //! Which lines an exchange of a version may have.
 
-ghost use Rattle.std.specs.Prelude.{◌≡◌, List, ℕ, length};
+ghost use Rattle.std.specs.Prelude.{◌≡◌};
 ghost use Rattle.std.specs.List.{list_all};
 ghost use Rattle.exchange_core.specs.Exchange as exchange;
 ghost use Rattle.exchange_core.specs.Exchange.{is_note, is_printable, may_follow, moment_after};

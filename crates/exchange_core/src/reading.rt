@@ -77,7 +77,8 @@ fn atr_said(alloc: Global, line: &[u8]) -> Result<Octets, LineFault>
 /// The lines of a text from the third on.
 fn lines_said(alloc: Global, version: Version, text: &[u8]) -> Result<Lines, ExchangeFault>
     requires { length text.now + 3 < 2 ^ 64 }
-    ensures said { UnlessMemory result (lines_said version 3 0 (slice_split is_line_feed text.now)) }
+    ensures said { UnlessMemory result
+        (lines_said version 3 0 (slice_split is_line_feed text.now)) }
     ensures proper { IfOk result (λ lines. are_proper version 0 lines ≡ true) }
 {
     let mut lines = Vec::new(alloc);

@@ -1,6 +1,6 @@
 //! Both ends on one line, and the record of what happens to them.
 
-ghost use Rattle.std.specs.Prelude.{◌≡◌, List, [], ◌++◌, Ok, Err, IfOk, IfErr, OnOk, OnErr, None};
+ghost use Rattle.std.specs.Prelude.{◌≡◌, [], ◌++◌, Ok, Err, IfOk, IfErr, OnOk, OnErr, None};
 ghost use Rattle.t1_core.specs.Link as t1_link;
 ghost use Rattle.t1_core.specs.Link.{new_link, tables, happens};
 ghost use Rattle.t1_core.specs.Promises.{Matches};
@@ -45,9 +45,16 @@ impl Model for Recorder {
 
     ghost Value = { Recording };
 
-    ghost view = { λ r. record { atr = r.atr; ifsc = r.params.ifsc; lines = r.lines.items; last = r.last } };
+    ghost view = { λ r. record {
+      atr = r.atr;
+      ifsc = r.params.ifsc;
+      lines = r.lines.items;
+      last = r.last;
+    } };
 
-    ghost invariant = { λ r. IsRecording (record { atr = r.atr; ifsc = r.params.ifsc; lines = r.lines.items; last = r.last }) r.terminal r.card };
+    ghost invariant = { λ r. IsRecording
+        (record { atr = r.atr; ifsc = r.params.ifsc; lines = r.lines.items; last = r.last })
+        r.terminal r.card };
 }
 
 impl Recorder {
@@ -115,7 +122,8 @@ impl Recorder {
     /// where memory runs out, nothing has changed and nothing is written.
     pub fn happens(&mut self, event: Event<'_>) -> Result<(), EventFault>
         ensures recorded { OnOk result (recorded self.old (event_of event.entry) ≡ Ok self.new) }
-        ensures link { OnOk result (link_of self.new ≡ happens tables (link_of self.old) (event_of event.entry)) }
+        ensures link { OnOk result
+            (link_of self.new ≡ happens tables (link_of self.old) (event_of event.entry)) }
         ensures refused { IfErr result (λ fault. IfNotMemory fault
             (recorded self.old (event_of event.entry) ≡ Err fault)) }
         ensures kept { OnErr result (self.new ≡ self.old) }
@@ -156,7 +164,8 @@ impl Recorder {
     /// The block under way is lost, and the terminal's waiting time ends.
     fn loses(&mut self) -> Result<(), EventFault>
         ensures recorded { OnOk result (recorded self.old (event_of Lose) ≡ Ok self.new) }
-        ensures link { OnOk result (link_of self.new ≡ happens tables (link_of self.old) (event_of Lose)) }
+        ensures link { OnOk result
+            (link_of self.new ≡ happens tables (link_of self.old) (event_of Lose)) }
         ensures refused { IfErr result (λ fault. IfNotMemory fault
             (recorded self.old (event_of Lose) ≡ Err fault)) }
         ensures kept { OnErr result (self.new ≡ self.old) }
@@ -171,7 +180,8 @@ impl Recorder {
     fn calls_terminal(&mut self, line: Line) -> Result<(), EventFault>
         requires { MayCall self.old.last line }
         ensures recorded { OnOk result (recorded self.old (call_event line) ≡ Ok self.new) }
-        ensures link { OnOk result (link_of self.new ≡ happens tables (link_of self.old) (call_event line)) }
+        ensures link { OnOk result
+            (link_of self.new ≡ happens tables (link_of self.old) (call_event line)) }
         ensures refused { IfErr result (λ fault. IfNotMemory fault
             (recorded self.old (call_event line) ≡ Err fault)) }
         ensures kept { OnErr result (self.new ≡ self.old) }
@@ -186,7 +196,8 @@ impl Recorder {
     fn calls_card(&mut self, line: Line) -> Result<(), EventFault>
         requires { MayReply line }
         ensures recorded { OnOk result (recorded self.old (call_event line) ≡ Ok self.new) }
-        ensures link { OnOk result (link_of self.new ≡ happens tables (link_of self.old) (call_event line)) }
+        ensures link { OnOk result
+            (link_of self.new ≡ happens tables (link_of self.old) (call_event line)) }
         ensures refused { IfErr result (λ fault. IfNotMemory fault
             (recorded self.old (call_event line) ≡ Err fault)) }
         ensures kept { OnErr result (self.new ≡ self.old) }
@@ -200,7 +211,8 @@ impl Recorder {
     /// The block under way comes to its receiver with this change.
     fn carries(&mut self, change: Change) -> Result<(), EventFault>
         ensures recorded { OnOk result (recorded self.old (change_event change) ≡ Ok self.new) }
-        ensures link { OnOk result (link_of self.new ≡ happens tables (link_of self.old) (change_event change)) }
+        ensures link { OnOk result
+            (link_of self.new ≡ happens tables (link_of self.old) (change_event change)) }
         ensures refused { IfErr result (λ fault. IfNotMemory fault
             (recorded self.old (change_event change) ≡ Err fault)) }
         ensures kept { OnErr result (self.new ≡ self.old) }

@@ -1,7 +1,7 @@
 //! Texts that come apart at an octet: lines at line feeds, words at spaces.
 
-ghost use Rattle.std.specs.Prelude.{◌≡◌, ◌==◌, ◌+◌, ◌<◌, [], ◌∷◌, length, IfSome, MatchOption, option_map};
-ghost use Rattle.std.specs.List.{after_first, before_first, slice_split, position_from};
+ghost use Rattle.std.specs.Prelude.{◌≡◌, ◌==◌, ◌+◌, ◌<◌, [], ◌∷◌, length, IfSome, MatchOption};
+ghost use Rattle.std.specs.List.{after_first, slice_split, position_from};
 ghost use Rattle.std.specs.Result.{result_map_both};
 ghost use Rattle.exchange_core.specs.Reading.{is_space, no_word, only_word};
 ghost use Rattle.exchange_core.specs.Words.{words_after, words_in};

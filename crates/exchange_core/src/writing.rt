@@ -1,7 +1,6 @@
 //! The text of an exchange.
 
-ghost use Rattle.std.specs.Prelude.{◌≡◌, ◌++◌, ◌∷◌, [], ◌<◌, IfOk, OnOk, codes, string_bytes};
-ghost use Rattle.std.proofs.lemmas.List.{append_assoc};
+ghost use Rattle.std.specs.Prelude.{◌≡◌, ◌++◌, ◌<◌, IfOk, OnOk, codes, string_bytes};
 ghost use Rattle.octet_core.specs.Octets.{AreOctets};
 ghost use Rattle.exchange_core.specs.Exchange.{AllHaveOctets, ArriveAsOctets, HasOctets, IsExchange};
 ghost use Rattle.exchange_core.specs.Names.{name_text};
@@ -28,7 +27,8 @@ pub fn write_exchange(alloc: Global, exchange: &Exchange) -> Result<Vec<u8>, All
 
 /// Adds the text of an exchange.
 fn push_exchange(alloc: Global, text: &mut String, exchange: &Exchange) -> Result<(), AllocError>
-    ensures text { OnOk result (string_bytes text.new ≡ string_bytes text.old ++ exchange_text exchange.now) }
+    ensures text { OnOk result (string_bytes text.new
+        ≡ string_bytes text.old ++ exchange_text exchange.now) }
     ensures exchange { OnOk result (IsExchange exchange.now) }
 {
     text.push_str(exchange.version().header())?;
@@ -41,7 +41,8 @@ fn push_exchange(alloc: Global, text: &mut String, exchange: &Exchange) -> Resul
 
 /// Adds lines, each with its line feed.
 fn push_lines(alloc: Global, text: &mut String, lines: &Lines) -> Result<(), AllocError>
-    ensures text { OnOk result (string_bytes text.new ≡ string_bytes text.old ++ lines_text lines.now) }
+    ensures text { OnOk result (string_bytes text.new
+        ≡ string_bytes text.old ++ lines_text lines.now) }
     ensures octets { OnOk result (AllHaveOctets lines.now) }
 {
     for line in lines.get() {
@@ -53,7 +54,8 @@ fn push_lines(alloc: Global, text: &mut String, lines: &Lines) -> Result<(), All
 
 /// Adds a line without its line feed.
 fn push_line(alloc: Global, text: &mut String, line: &Line) -> Result<(), AllocError>
-    ensures text { OnOk result (string_bytes text.new ≡ string_bytes text.old ++ line_text line.now) }
+    ensures text { OnOk result (string_bytes text.new
+        ≡ string_bytes text.old ++ line_text line.now) }
     ensures octets { OnOk result (HasOctets line.now) }
 {
     match line {
@@ -86,7 +88,8 @@ fn push_line(alloc: Global, text: &mut String, line: &Line) -> Result<(), AllocE
 
 /// Adds a word and a space.
 fn push_word(text: &mut String, word: &str) -> Result<(), AllocError>
-    ensures { OnOk result (string_bytes text.new ≡ string_bytes text.old ++ (word.now ++ codes " ")) }
+    ensures { OnOk result (string_bytes text.new
+        ≡ string_bytes text.old ++ (word.now ++ codes " ")) }
 {
     text.push_str(word)?;
     text.push_str(" ")
@@ -94,7 +97,8 @@ fn push_word(text: &mut String, word: &str) -> Result<(), AllocError>
 
 /// Adds octets, or `none` for no octets.
 fn push_octets(alloc: Global, text: &mut String, octets: &[u8]) -> Result<(), AllocError>
-    ensures text { OnOk result (string_bytes text.new ≡ string_bytes text.old ++ octets_text octets.now) }
+    ensures text { OnOk result (string_bytes text.new
+        ≡ string_bytes text.old ++ octets_text octets.now) }
     ensures octets { AreOctets octets.now }
 {
     if octets.is_empty() {
@@ -131,7 +135,8 @@ fn push_number(alloc: Global, text: &mut String, name: Name, octet: u8) -> Resul
 
 /// Adds what became of a block.
 fn push_arrival(alloc: Global, text: &mut String, arrival: &Arrival) -> Result<(), AllocError>
-    ensures text { OnOk result (string_bytes text.new ≡ string_bytes text.old ++ arrival_text arrival.now) }
+    ensures text { OnOk result (string_bytes text.new
+        ≡ string_bytes text.old ++ arrival_text arrival.now) }
     ensures octets { OnOk result (ArriveAsOctets arrival.now) }
 {
     match arrival {
@@ -150,7 +155,8 @@ fn push_arrival(alloc: Global, text: &mut String, arrival: &Arrival) -> Result<(
 
 /// Adds a moment.
 fn push_moment(alloc: Global, text: &mut String, moment: u64) -> Result<(), AllocError>
-    ensures { OnOk result (string_bytes text.new ≡ string_bytes text.old ++ line_text (Line.Moment moment)) }
+    ensures { OnOk result (string_bytes text.new
+        ≡ string_bytes text.old ++ line_text (Line.Moment moment)) }
 {
     push_word(text, Name::Moment.word())?;
     text.push_str(format!(in alloc; "{moment}")?.as_str())

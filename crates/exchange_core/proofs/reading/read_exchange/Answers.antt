@@ -8,7 +8,8 @@ pub returns-clause-said : goal.returns-clause-said
 returns-clause-said c =
     let parts = rw c.in_ok-header.ensures.ok_part at c.cut_at.ensures.parts in
     subst (λ said. UnlessMemory c.rest_said.result said)
-    (sym (header-said c.args.text.now c.in_ok-header.header.now c.in_ok-header.rest.now c.in_ok-version.version parts (sym c.version_said.ensures ∙ c.in_ok-version.was)))
+    (sym (header-said c.args.text.now c.in_ok-header.header.now c.in_ok-header.rest.now c.in_ok-version.version parts
+    (sym c.version_said.ensures ∙ c.in_ok-version.was)))
     c.rest_said.ensures
 
 pub returns-clause-found : goal.returns-clause-found

@@ -6,5 +6,6 @@ use Rattle.exchange_core.proofs.writing.push_lines.Given as goal
 
 abbrev pub invariant-loop-line : goal.invariant-loop-line
 invariant-loop-line l =
-    (string_bytes l.text ++ lines_text (drop l.line-index l.line-items) ≡ string_bytes l.fn.text ++ lines_text l.line-items)
+    (string_bytes l.text ++ lines_text (drop l.line-index l.line-items) ≡ string_bytes l.fn.text
+    ++ lines_text l.line-items)
     × (AllHaveOctets (drop l.line-index l.line-items) → AllHaveOctets l.line-items)

@@ -9,17 +9,22 @@ use Rattle.exchange_core.proofs.recording.Recorder.exchange.Goals as goal
 
 pub proper-requires : goal.proper-requires
 proper-requires c =
-    let lines = c.of-lines.ensures ∙ c.in_ok-with_line.ensures ∙ ap (λ (l : List Line). c.self.inside.lines.items ++ l) c.in_ok-told.ensures in
+    let lines = c.of-lines.ensures ∙ c.in_ok-with_line.ensures
+    ∙ ap (λ (l : List Line). c.self.inside.lines.items ++ l) c.in_ok-told.ensures in
     subst (λ (l : List Line). are_proper One 0 l ≡ true) (sym lines) (closed-proper _ _ _ c.self.invariant)
 
 pub returns-clause-terminal : goal.returns-clause-terminal
 returns-clause-terminal c =
-    let lines = c.of-lines.ensures ∙ c.in_ok-with_line.ensures ∙ ap (λ (l : List Line). c.self.inside.lines.items ++ l) c.in_ok-told.ensures in
+    let lines = c.of-lines.ensures ∙ c.in_ok-with_line.ensures
+    ∙ ap (λ (l : List Line). c.self.inside.lines.items ++ l) c.in_ok-told.ensures in
     subst (λ (e : ExchangeParts). Replays e.atr e.lines side.Terminal None) (sym c.proper.ensures)
-    (subst (λ (l : List Line). Replays c.self.inside.atr l side.Terminal None) (sym lines) (closes _ _ _ side.Terminal c.self.invariant))
+    (subst (λ (l : List Line). Replays c.self.inside.atr l side.Terminal None) (sym lines)
+    (closes _ _ _ side.Terminal c.self.invariant))
 
 pub returns-clause-card : goal.returns-clause-card
 returns-clause-card c =
-    let lines = c.of-lines.ensures ∙ c.in_ok-with_line.ensures ∙ ap (λ (l : List Line). c.self.inside.lines.items ++ l) c.in_ok-told.ensures in
+    let lines = c.of-lines.ensures ∙ c.in_ok-with_line.ensures
+    ∙ ap (λ (l : List Line). c.self.inside.lines.items ++ l) c.in_ok-told.ensures in
     subst (λ (e : ExchangeParts). Replays e.atr e.lines side.Card None) (sym c.proper.ensures)
-    (subst (λ (l : List Line). Replays c.self.inside.atr l side.Card None) (sym lines) (closes _ _ _ side.Card c.self.invariant))
+    (subst (λ (l : List Line). Replays c.self.inside.atr l side.Card None) (sym lines)
+    (closes _ _ _ side.Card c.self.invariant))
