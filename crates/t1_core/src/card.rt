@@ -10,6 +10,7 @@ ghost use Rattle.t1_core.specs.Card.{takes, replies, more_time, ask_ifs, new_car
 mod into;
 mod readers;
 mod steps;
+mod taking;
 
 use crate::buffers::{buffer, give_back, overwrite};
 use crate::places::CardPlaces;

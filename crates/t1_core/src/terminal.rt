@@ -8,6 +8,7 @@ ghost use Rattle.t1_core.specs.Terminal.{takes, transmit, ask_ifs, at_most, new_
 mod into;
 mod readers;
 mod steps;
+mod taking;
 
 use crate::buffers::{buffer, give_back, overwrite};
 use crate::places::TerminalPlaces;

@@ -1,0 +1,272 @@
+//! What the card does with what came, by what it waits for.
+
+ghost use Rattle.std.specs.Prelude.{◌≡◌, ◌≤◌, ◌+◌, ◌++◌, length, []};
+ghost use Rattle.block_core.specs.declared.pcb.Fault.TheVariants.{Free};
+ghost use Rattle.block_core.specs.declared.pcb.Pcb.TheVariants.{Ready};
+ghost use Rattle.t1_core.specs.Came.{got};
+ghost use Rattle.t1_core.specs.Views.{came_of};
+ghost use Rattle.t1_core.specs.CardViews.{card_held, AreCardPlaces, field_of, rest_of, taken_of, request_of, IsTaking, IsRequest};
+ghost use Rattle.t1_core.specs.Sending.{card_does};
+ghost use Rattle.t1_core.specs.Card.{command, reply, asking, card_came, in_either, in_reply, joins, sends_saved, resynched, turn_of, state_after};
+
+use crate::buffers::append;
+use crate::class::Arrived;
+use crate::cutting::is_same;
+use crate::places::CardPlaces;
+use crate::replying::{acknowledged, next_block};
+use crate::sending::{CardAct, Sent, Short};
+use crate::terminal::FIRST_IFSD;
+use crate::turns::{CardWait, Request};
+use block_core::{Fault, Number, Pcb, S};
+
+impl CardPlaces {
+    /// It waits for a block of a command.
+    pub(super) fn command_took(
+        &mut self,
+        held: &mut [u8],
+        answer: &[u8],
+        arrived: &Arrived,
+    ) -> CardAct
+        requires fit { AreCardPlaces self.old (length held.old) (length answer.now) }
+        requires waits { (card_held self.old held.old answer.now).waits
+            ≡ command (taken_of (card_held self.old held.old answer.now).waits) }
+        ensures fit { AreCardPlaces self.new (length held.new) (length answer.now) }
+        ensures turn { turn_of (card_came (card_held self.old held.old answer.now)
+            (command (taken_of (card_held self.old held.old answer.now).waits))
+            (came_of arrived.now))
+            ≡ Ok (card_does (card_held self.new held.new answer.now) result) }
+        ensures state { card_held self.new held.new answer.now
+            ≡ state_after (card_held self.old held.old answer.now)
+            (card_came (card_held self.old held.old answer.now)
+            (command (taken_of (card_held self.old held.old answer.now).waits))
+            (came_of arrived.now)) }
+    {
+        match arrived {
+            Arrived::Damaged | Arrived::Invalid => self.either_took(held, answer, arrived),
+            Arrived::Whole(block) => match block.pcb() {
+                Pcb::Info { number, more } => {
+                    let fits = self.taken_len(held, answer) + block.inf().len()
+                        <= self.most_command;
+                    if is_same(number, self.expected) && fits {
+                        self.joins(held, answer, block.inf(), more)
+                    } else {
+                        self.either_took(held, answer, arrived)
+                    }
+                }
+                Pcb::Ready { number, .. } => self.sends_saved(
+                    held,
+                    answer,
+                    is_same(number, self.number),
+                ),
+                Pcb::Request(S::Resynch) => self.resynched(held, answer),
+                Pcb::Request(S::Ifs | S::Abort | S::Wtx) | Pcb::Response(_) => {
+                    self.either_took(held, answer, arrived)
+                }
+            },
+        }
+    }
+
+    /// An I-block of the reply that isn't its last is under way.
+    pub(super) fn reply_took(&mut self, held: &[u8], answer: &[u8], arrived: &Arrived) -> CardAct
+        requires fit { AreCardPlaces self.old (length held.now) (length answer.now) }
+        requires waits { (card_held self.old held.now answer.now).waits
+            ≡ reply (field_of (card_held self.old held.now answer.now).waits)
+            (rest_of (card_held self.old held.now answer.now).waits) }
+        ensures fit { AreCardPlaces self.new (length held.now) (length answer.now) }
+        ensures turn { turn_of (card_came (card_held self.old held.now answer.now)
+            (reply (field_of (card_held self.old held.now answer.now).waits)
+            (rest_of (card_held self.old held.now answer.now).waits)) (came_of arrived.now))
+            ≡ Ok (card_does (card_held self.new held.now answer.now) result) }
+        ensures state { card_held self.new held.now answer.now
+            ≡ state_after (card_held self.old held.now answer.now)
+            (card_came (card_held self.old held.now answer.now)
+            (reply (field_of (card_held self.old held.now answer.now).waits)
+            (rest_of (card_held self.old held.now answer.now).waits)) (came_of arrived.now)) }
+    {
+        match arrived {
+            Arrived::Damaged | Arrived::Invalid => self.either_took(held, answer, arrived),
+            Arrived::Whole(block) => match block.pcb() {
+                Pcb::Ready { number, .. } => self.reply_asked(held, answer, number),
+                Pcb::Request(S::Resynch) => self.resynched(held, answer),
+                Pcb::Info { .. } | Pcb::Request(S::Ifs | S::Abort | S::Wtx) | Pcb::Response(_) =>
+                    self.either_took(held, answer, arrived),
+            },
+        }
+    }
+
+    /// While the reply is sent an R-block came: with the number of the block under way it is sent again,
+    /// with the other one the next block.
+    fn reply_asked(&mut self, held: &[u8], answer: &[u8], number: Number) -> CardAct
+        requires fit { AreCardPlaces self.old (length held.now) (length answer.now) }
+        requires waits { (card_held self.old held.now answer.now).waits
+            ≡ reply (field_of (card_held self.old held.now answer.now).waits)
+            (rest_of (card_held self.old held.now answer.now).waits) }
+        ensures fit { AreCardPlaces self.new (length held.now) (length answer.now) }
+        ensures turn { turn_of (in_reply (card_held self.old held.now answer.now)
+            (field_of (card_held self.old held.now answer.now).waits)
+            (rest_of (card_held self.old held.now answer.now).waits) (got (Ready number Free) []))
+            ≡ Ok (card_does (card_held self.new held.now answer.now) result) }
+        ensures state { card_held self.new held.now answer.now
+            ≡ state_after (card_held self.old held.now answer.now)
+            (in_reply (card_held self.old held.now answer.now)
+            (field_of (card_held self.old held.now answer.now).waits)
+            (rest_of (card_held self.old held.now answer.now).waits) (got (Ready number Free) [])) }
+    {
+        let CardWait::Reply(cut) = self.wait else {
+            unreachable!()
+        };
+        if is_same(number, self.number) {
+            return CardAct::Send(Sent::Inner);
+        }
+        self.number = self.number.other();
+        let next = next_block(
+            &answer[..self.reply_len],
+            cut.place + cut.size as usize,
+            self.ifsd,
+        );
+        self.wait = next.wait;
+        self.saved = next.saved;
+        CardAct::Send(next.sent)
+    }
+
+    /// It waits for the response to a request.
+    pub(super) fn asking_took(
+        &mut self,
+        held: &[u8],
+        answer: &[u8],
+        request: Request,
+        arrived: &Arrived,
+    ) -> CardAct
+        requires fit { AreCardPlaces self.old (length held.now) (length answer.now) }
+        requires waits { (card_held self.old held.now answer.now).waits
+            ≡ asking (request_of request) }
+        requires request { IsRequest request }
+        ensures fit { AreCardPlaces self.new (length held.now) (length answer.now) }
+        ensures turn { turn_of (card_came (card_held self.old held.now answer.now)
+            (asking (request_of request)) (came_of arrived.now))
+            ≡ Ok (card_does (card_held self.new held.now answer.now) result) }
+        ensures state { card_held self.new held.now answer.now
+            ≡ state_after (card_held self.old held.now answer.now)
+            (card_came (card_held self.old held.now answer.now) (asking (request_of request))
+            (came_of arrived.now)) }
+    {
+        match arrived {
+            Arrived::Damaged | Arrived::Invalid => CardAct::Send(Sent::Other(request.block())),
+            Arrived::Whole(block) => match (request, block.pcb()) {
+                (_, Pcb::Request(S::Resynch)) => self.resynched(held, answer),
+                (Request::Size(size), Pcb::Response(S::Ifs)) if block.inf()[0] == size => {
+                    self.ifsc = size;
+                    self.wait = CardWait::Host;
+                    CardAct::Asked
+                }
+                (Request::Time(multiple), Pcb::Response(S::Wtx)) if block.inf()[0] == multiple => {
+                    self.wait = CardWait::Host;
+                    CardAct::Asked
+                }
+                _ => CardAct::Send(Sent::Other(request.block())),
+            },
+        }
+    }
+
+    /// While it waits for a block of a command or for an R-block, what is taken alike.
+    fn either_took(&mut self, held: &[u8], answer: &[u8], arrived: &Arrived) -> CardAct
+        requires fit { AreCardPlaces self.old (length held.now) (length answer.now) }
+        ensures fit { AreCardPlaces self.new (length held.now) (length answer.now) }
+        ensures turn { turn_of (in_either (card_held self.old held.now answer.now)
+            (came_of arrived.now))
+            ≡ Ok (card_does (card_held self.new held.now answer.now) result) }
+        ensures state { card_held self.new held.now answer.now
+            ≡ state_after (card_held self.old held.now answer.now)
+            (in_either (card_held self.old held.now answer.now) (came_of arrived.now)) }
+    {
+        let fault = match arrived {
+            Arrived::Damaged => Fault::Redundancy,
+            Arrived::Invalid => Fault::Other,
+            Arrived::Whole(block) => match block.pcb() {
+                Pcb::Request(S::Ifs) => {
+                    self.ifsd = block.inf()[0];
+                    return CardAct::Send(Sent::Other(Short::response(S::Ifs, block.inf())));
+                }
+                _ => Fault::Other,
+            },
+        };
+        CardAct::Send(Sent::Other(Short::ready(self.expected, fault)))
+    }
+
+    /// An I-block of the command that fits is joined, and acknowledges the saved block.
+    fn joins(&mut self, held: &mut [u8], answer: &[u8], inf: &[u8], more: bool) -> CardAct
+        requires fit { AreCardPlaces self.old (length held.old) (length answer.now) }
+        requires taking { IsTaking (card_held self.old held.old answer.now).waits }
+        requires fits { length (taken_of (card_held self.old held.old answer.now).waits)
+            + length inf.now ≤ self.old.most_command }
+        ensures fit { AreCardPlaces self.new (length held.new) (length answer.now) }
+        ensures turn { turn_of (joins (card_held self.old held.old answer.now)
+            (taken_of (card_held self.old held.old answer.now).waits ++ inf.now) more)
+            ≡ Ok (card_does (card_held self.new held.new answer.now) result) }
+        ensures state { card_held self.new held.new answer.now
+            ≡ state_after (card_held self.old held.old answer.now)
+            (joins (card_held self.old held.old answer.now)
+            (taken_of (card_held self.old held.old answer.now).waits ++ inf.now) more) }
+    {
+        self.command_len = append(held, self.taken_len(held, answer), inf);
+        self.number = acknowledged(self.saved, self.number);
+        self.saved = None;
+        self.expected = self.expected.other();
+        if more {
+            self.wait = CardWait::Joining;
+            CardAct::Send(Sent::Other(Short::ready(self.expected, Fault::Free)))
+        } else {
+            self.wait = CardWait::Host;
+            CardAct::Asked
+        }
+    }
+
+    /// How many octets of a command came so far.
+    fn taken_len(&self, held: &[u8], answer: &[u8]) -> usize
+        requires fit { AreCardPlaces self.now (length held.now) (length answer.now) }
+        ensures { result ≡ length (taken_of (card_held self.now held.now answer.now).waits) }
+    {
+        match self.wait {
+            CardWait::Joining => self.command_len,
+            CardWait::Command | CardWait::Host | CardWait::Reply(_) | CardWait::Asking(_) => 0,
+        }
+    }
+
+    /// While it waits for a command an R-block came: with its own number the saved block is sent again.
+    fn sends_saved(&mut self, held: &[u8], answer: &[u8], is_own: bool) -> CardAct
+        requires fit { AreCardPlaces self.old (length held.now) (length answer.now) }
+        ensures fit { AreCardPlaces self.new (length held.now) (length answer.now) }
+        ensures turn { turn_of (sends_saved (card_held self.old held.now answer.now)
+            (card_held self.old held.now answer.now).saved is_own)
+            ≡ Ok (card_does (card_held self.new held.now answer.now) result) }
+        ensures state { card_held self.new held.now answer.now
+            ≡ state_after (card_held self.old held.now answer.now)
+            (sends_saved (card_held self.old held.now answer.now)
+            (card_held self.old held.now answer.now).saved is_own) }
+    {
+        match self.saved {
+            Some(_) if is_own => CardAct::Send(Sent::Last),
+            _ => CardAct::Send(Sent::Other(Short::ready(self.expected, Fault::Free))),
+        }
+    }
+
+    /// RESYNCH: as at the start, with no command.
+    fn resynched(&mut self, held: &[u8], answer: &[u8]) -> CardAct
+        requires fit { AreCardPlaces self.old (length held.now) (length answer.now) }
+        ensures fit { AreCardPlaces self.new (length held.now) (length answer.now) }
+        ensures turn { turn_of (resynched (card_held self.old held.now answer.now))
+            ≡ Ok (card_does (card_held self.new held.now answer.now) result) }
+        ensures state { card_held self.new held.now answer.now
+            ≡ state_after (card_held self.old held.now answer.now)
+            (resynched (card_held self.old held.now answer.now)) }
+    {
+        self.number = Number::Zero;
+        self.expected = Number::Zero;
+        self.saved = None;
+        self.ifsc = self.first_ifsc;
+        self.ifsd = FIRST_IFSD;
+        self.command_len = 0;
+        self.wait = CardWait::Command;
+        CardAct::Send(Sent::Other(Short::response(S::Resynch, &[])))
+    }
+}

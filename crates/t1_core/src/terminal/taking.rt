@@ -1,0 +1,325 @@
+//! What the terminal does with what came, by what it waits for.
+
+ghost use Rattle.std.specs.Prelude.{◌≡◌, ◌≤◌, ◌+◌, ◌++◌, length, false};
+ghost use Rattle.t1_core.specs.Came.{quiet, ready};
+ghost use Rattle.t1_core.specs.Views.{terminal_held, AreTerminalPlaces, came_of, field_at, rest_at, joined_of, IsJoining, IsInner, IsLast, IsSize};
+ghost use Rattle.t1_core.specs.Sending.{terminal_sends, terminal_does};
+ghost use Rattle.t1_core.specs.Terminal.{ack, answer, more, most_resynchs, in_exchange, in_ack, in_answer, in_more, in_ifs, in_resynch, joins, fails, turn_of, state_after};
+
+use crate::buffers::append;
+use crate::class::Arrived;
+use crate::cutting::is_same;
+use crate::places::TerminalPlaces;
+use crate::sending::{Sent, Short, TerminalAct};
+use crate::terminal::{FIRST_IFSD, MOST_REPEATS, MOST_RESYNCHS};
+use crate::turns::{Cut, TerminalWait};
+use block_core::{Fault, Number, Pcb, S};
+
+impl TerminalPlaces {
+    /// An I-block of the command that isn't its last is under way.
+    pub(super) fn ack_took(
+        &mut self,
+        held: &[u8],
+        joined: &[u8],
+        cut: Cut,
+        arrived: &Arrived,
+    ) -> TerminalAct
+        requires fit { AreTerminalPlaces self.old (length held.now) (length joined.now) }
+        requires inner { IsInner cut self.old.command_len }
+        requires waits { (terminal_held self.old held.now joined.now).waits
+            ≡ ack (field_at cut (terminal_held self.old held.now joined.now).command)
+            (rest_at cut (terminal_held self.old held.now joined.now).command) }
+        requires unanswered { self.old.is_answered ≡ false }
+        ensures fit { AreTerminalPlaces self.new (length held.now) (length joined.now) }
+        ensures turn { turn_of (in_ack (terminal_held self.old held.now joined.now)
+            (field_at cut (terminal_held self.old held.now joined.now).command)
+            (rest_at cut (terminal_held self.old held.now joined.now).command)
+            (came_of arrived.now))
+            ≡ Ok (terminal_does (terminal_held self.new held.now joined.now) result) }
+        ensures state { terminal_held self.new held.now joined.now
+            ≡ state_after (terminal_held self.old held.now joined.now)
+            (in_ack (terminal_held self.old held.now joined.now)
+            (field_at cut (terminal_held self.old held.now joined.now).command)
+            (rest_at cut (terminal_held self.old held.now joined.now).command)
+            (came_of arrived.now)) }
+    {
+        match arrived {
+            Arrived::Damaged | Arrived::Invalid => self.exchange_took(held, joined, arrived),
+            Arrived::Whole(block) => match block.pcb() {
+                Pcb::Ready { number, .. } => {
+                    if is_same(number, self.number) {
+                        return self.fails(held, joined, Sent::Inner);
+                    }
+                    self.failures = 0;
+                    self.number = self.number.other();
+                    self.sends_from(held, joined, cut.place + cut.size as usize)
+                }
+                Pcb::Info { .. } | Pcb::Request(_) | Pcb::Response(_) => {
+                    self.exchange_took(held, joined, arrived)
+                }
+            },
+        }
+    }
+
+    /// The last I-block of the command is under way.
+    pub(super) fn answer_took(
+        &mut self,
+        held: &[u8],
+        joined: &mut [u8],
+        cut: Cut,
+        arrived: &Arrived,
+    ) -> TerminalAct
+        requires fit { AreTerminalPlaces self.old (length held.now) (length joined.old) }
+        requires last { IsLast cut self.old.command_len }
+        requires waits { (terminal_held self.old held.now joined.old).waits
+            ≡ answer (field_at cut (terminal_held self.old held.now joined.old).command) }
+        ensures fit { AreTerminalPlaces self.new (length held.now) (length joined.new) }
+        ensures turn { turn_of (in_answer (terminal_held self.old held.now joined.old)
+            (field_at cut (terminal_held self.old held.now joined.old).command)
+            (came_of arrived.now))
+            ≡ Ok (terminal_does (terminal_held self.new held.now joined.new) result) }
+        ensures state { terminal_held self.new held.now joined.new
+            ≡ state_after (terminal_held self.old held.now joined.old)
+            (in_answer (terminal_held self.old held.now joined.old)
+            (field_at cut (terminal_held self.old held.now joined.old).command)
+            (came_of arrived.now)) }
+    {
+        match arrived {
+            Arrived::Damaged | Arrived::Invalid => self.exchange_took(held, joined, arrived),
+            Arrived::Whole(block) => match block.pcb() {
+                Pcb::Ready { number, .. } => {
+                    if is_same(number, self.number) {
+                        self.fails(held, joined, Sent::Last)
+                    } else {
+                        self.fails_with(held, joined, Fault::Free)
+                    }
+                }
+                Pcb::Info { number, more } => {
+                    let fits = block.inf().len() <= self.most_answer;
+                    if !(is_same(number, self.expected) && fits) {
+                        return self.exchange_took(held, joined, arrived);
+                    }
+                    self.number = self.number.other();
+                    self.joins(held, joined, block.inf(), more)
+                }
+                Pcb::Request(_) | Pcb::Response(_) => self.exchange_took(held, joined, arrived),
+            },
+        }
+    }
+
+    /// The answer goes on.
+    pub(super) fn more_took(
+        &mut self,
+        held: &[u8],
+        joined: &mut [u8],
+        arrived: &Arrived,
+    ) -> TerminalAct
+        requires fit { AreTerminalPlaces self.old (length held.now) (length joined.old) }
+        requires waits { (terminal_held self.old held.now joined.old).waits
+            ≡ more (joined_of (terminal_held self.old held.now joined.old).waits) }
+        ensures fit { AreTerminalPlaces self.new (length held.now) (length joined.new) }
+        ensures turn { turn_of (in_more (terminal_held self.old held.now joined.old)
+            (joined_of (terminal_held self.old held.now joined.old).waits) (came_of arrived.now))
+            ≡ Ok (terminal_does (terminal_held self.new held.now joined.new) result) }
+        ensures state { terminal_held self.new held.now joined.new
+            ≡ state_after (terminal_held self.old held.now joined.old)
+            (in_more (terminal_held self.old held.now joined.old)
+            (joined_of (terminal_held self.old held.now joined.old).waits) (came_of arrived.now)) }
+    {
+        match arrived {
+            Arrived::Damaged | Arrived::Invalid => self.exchange_took(held, joined, arrived),
+            Arrived::Whole(block) => match block.pcb() {
+                Pcb::Ready { .. } => self.fails_with(held, joined, Fault::Free),
+                Pcb::Info { number, more } => {
+                    let fits = self.joined_len + block.inf().len() <= self.most_answer;
+                    if is_same(number, self.expected) && fits {
+                        self.joins(held, joined, block.inf(), more)
+                    } else {
+                        self.exchange_took(held, joined, arrived)
+                    }
+                }
+                Pcb::Request(_) | Pcb::Response(_) => self.exchange_took(held, joined, arrived),
+            },
+        }
+    }
+
+    /// A size was asked for.
+    pub(super) fn ifs_took(
+        &mut self,
+        held: &[u8],
+        joined: &[u8],
+        size: u8,
+        arrived: &Arrived,
+    ) -> TerminalAct
+        requires fit { AreTerminalPlaces self.old (length held.now) (length joined.now) }
+        requires size { IsSize size }
+        ensures fit { AreTerminalPlaces self.new (length held.now) (length joined.now) }
+        ensures turn { turn_of (in_ifs (terminal_held self.old held.now joined.now) size
+            (came_of arrived.now))
+            ≡ Ok (terminal_does (terminal_held self.new held.now joined.now) result) }
+        ensures state { terminal_held self.new held.now joined.now
+            ≡ state_after (terminal_held self.old held.now joined.now)
+            (in_ifs (terminal_held self.old held.now joined.now) size (came_of arrived.now)) }
+    {
+        if arrived.responds_with(size) {
+            self.failures = 0;
+            self.ifsd = size;
+            self.wait = TerminalWait::Idle;
+            return TerminalAct::IfsSet;
+        }
+        self.fails(held, joined, Sent::Other(Short::request(S::Ifs, &[size])))
+    }
+
+    /// RESYNCH was asked for.
+    pub(super) fn resynch_took(
+        &mut self,
+        held: &[u8],
+        joined: &[u8],
+        asked: u8,
+        arrived: &Arrived,
+    ) -> TerminalAct
+        requires fit { AreTerminalPlaces self.old (length held.now) (length joined.now) }
+        requires asked { asked ≤ most_resynchs }
+        ensures fit { AreTerminalPlaces self.new (length held.now) (length joined.now) }
+        ensures turn { turn_of (in_resynch (terminal_held self.old held.now joined.now) asked
+            (came_of arrived.now))
+            ≡ Ok (terminal_does (terminal_held self.new held.now joined.now) result) }
+        ensures state { terminal_held self.new held.now joined.now
+            ≡ state_after (terminal_held self.old held.now joined.now)
+            (in_resynch (terminal_held self.old held.now joined.now) asked (came_of arrived.now)) }
+    {
+        match arrived {
+            Arrived::Damaged | Arrived::Invalid => self.resynch_again(held, joined, asked),
+            Arrived::Whole(block) => match block.pcb() {
+                Pcb::Response(S::Resynch) => {
+                    self.number = Number::Zero;
+                    self.expected = Number::Zero;
+                    self.failures = 0;
+                    self.ifsc = self.first_ifsc;
+                    self.ifsd = FIRST_IFSD;
+                    self.wait = TerminalWait::Idle;
+                    TerminalAct::GivenUp
+                }
+                Pcb::Response(S::Ifs | S::Abort | S::Wtx)
+                | Pcb::Info { .. }
+                | Pcb::Ready { .. }
+                | Pcb::Request(_) => self.resynch_again(held, joined, asked),
+            },
+        }
+    }
+
+    /// RESYNCH is asked for again, or the card is found dead.
+    pub(super) fn resynch_again(&mut self, held: &[u8], joined: &[u8], asked: u8) -> TerminalAct
+        requires fit { AreTerminalPlaces self.old (length held.now) (length joined.now) }
+        requires asked { asked ≤ most_resynchs }
+        ensures fit { AreTerminalPlaces self.new (length held.now) (length joined.now) }
+        ensures turn { turn_of (in_resynch (terminal_held self.old held.now joined.now) asked quiet)
+            ≡ Ok (terminal_does (terminal_held self.new held.now joined.now) result) }
+        ensures state { terminal_held self.new held.now joined.now
+            ≡ state_after (terminal_held self.old held.now joined.now)
+            (in_resynch (terminal_held self.old held.now joined.now) asked quiet) }
+    {
+        if asked < MOST_RESYNCHS {
+            self.wait = TerminalWait::Resynch(asked + 1);
+            TerminalAct::Send(Sent::Other(Short::request(S::Resynch, &[])))
+        } else {
+            self.wait = TerminalWait::Dead;
+            TerminalAct::Dead
+        }
+    }
+
+    /// An I-block of the answer that fits is joined.
+    fn joins(&mut self, held: &[u8], joined: &mut [u8], inf: &[u8], more: bool) -> TerminalAct
+        requires fit { AreTerminalPlaces self.old (length held.now) (length joined.old) }
+        requires joining { IsJoining (terminal_held self.old held.now joined.old).waits }
+        requires fits { length (joined_of (terminal_held self.old held.now joined.old).waits)
+            + length inf.now ≤ self.old.most_answer }
+        ensures fit { AreTerminalPlaces self.new (length held.now) (length joined.new) }
+        ensures turn { turn_of (joins (terminal_held self.old held.now joined.old)
+            (joined_of (terminal_held self.old held.now joined.old).waits ++ inf.now) more)
+            ≡ Ok (terminal_does (terminal_held self.new held.now joined.new) result) }
+        ensures state { terminal_held self.new held.now joined.new
+            ≡ state_after (terminal_held self.old held.now joined.old)
+            (joins (terminal_held self.old held.now joined.old)
+            (joined_of (terminal_held self.old held.now joined.old).waits ++ inf.now) more) }
+    {
+        self.joined_len = append(joined, self.joined_len, inf);
+        self.failures = 0;
+        self.expected = self.expected.other();
+        if more {
+            self.wait = TerminalWait::More;
+            TerminalAct::Send(Sent::Other(Short::ready(self.expected, Fault::Free)))
+        } else {
+            self.wait = TerminalWait::Idle;
+            self.is_answered = true;
+            TerminalAct::Answered
+        }
+    }
+
+    /// A failure: the block is sent, or RESYNCH is asked for.
+    pub(super) fn fails(&mut self, held: &[u8], joined: &[u8], sent: Sent) -> TerminalAct
+        requires fit { AreTerminalPlaces self.old (length held.now) (length joined.now) }
+        ensures fit { AreTerminalPlaces self.new (length held.now) (length joined.now) }
+        ensures turn { turn_of (fails (terminal_held self.old held.now joined.now)
+            (terminal_sends (terminal_held self.old held.now joined.now) sent))
+            ≡ Ok (terminal_does (terminal_held self.new held.now joined.now) result) }
+        ensures state { terminal_held self.new held.now joined.now
+            ≡ state_after (terminal_held self.old held.now joined.now)
+            (fails (terminal_held self.old held.now joined.now)
+            (terminal_sends (terminal_held self.old held.now joined.now) sent)) }
+    {
+        if self.failures < MOST_REPEATS {
+            self.failures += 1;
+            return TerminalAct::Send(sent);
+        }
+        self.wait = TerminalWait::Resynch(1);
+        TerminalAct::Send(Sent::Other(Short::request(S::Resynch, &[])))
+    }
+
+    /// A failure, of which an R-block tells the card.
+    pub(super) fn fails_with(&mut self, held: &[u8], joined: &[u8], fault: Fault) -> TerminalAct
+        requires fit { AreTerminalPlaces self.old (length held.now) (length joined.now) }
+        ensures fit { AreTerminalPlaces self.new (length held.now) (length joined.now) }
+        ensures turn { turn_of (fails (terminal_held self.old held.now joined.now)
+            (ready (terminal_held self.old held.now joined.now).expected fault))
+            ≡ Ok (terminal_does (terminal_held self.new held.now joined.now) result) }
+        ensures state { terminal_held self.new held.now joined.now
+            ≡ state_after (terminal_held self.old held.now joined.now)
+            (fails (terminal_held self.old held.now joined.now)
+            (ready (terminal_held self.old held.now joined.now).expected fault)) }
+    {
+        self.fails(
+            held,
+            joined,
+            Sent::Other(Short::ready(self.expected, fault)),
+        )
+    }
+
+    /// In an exchange, what is taken alike whatever the terminal waits for.
+    fn exchange_took(&mut self, held: &[u8], joined: &[u8], arrived: &Arrived) -> TerminalAct
+        requires fit { AreTerminalPlaces self.old (length held.now) (length joined.now) }
+        ensures fit { AreTerminalPlaces self.new (length held.now) (length joined.now) }
+        ensures turn { turn_of (in_exchange (terminal_held self.old held.now joined.now)
+            (came_of arrived.now))
+            ≡ Ok (terminal_does (terminal_held self.new held.now joined.now) result) }
+        ensures state { terminal_held self.new held.now joined.now
+            ≡ state_after (terminal_held self.old held.now joined.now)
+            (in_exchange (terminal_held self.old held.now joined.now) (came_of arrived.now)) }
+    {
+        let fault = match arrived {
+            Arrived::Damaged => Fault::Redundancy,
+            Arrived::Invalid => Fault::Other,
+            Arrived::Whole(block) => match block.pcb() {
+                Pcb::Request(S::Ifs) => {
+                    self.ifsc = block.inf()[0];
+                    return TerminalAct::Send(Sent::Other(Short::response(S::Ifs, block.inf())));
+                }
+                Pcb::Request(S::Wtx) => {
+                    return TerminalAct::Send(Sent::Other(Short::response(S::Wtx, block.inf())));
+                }
+                _ => Fault::Other,
+            },
+        };
+        self.fails_with(held, joined, fault)
+    }
+}
