@@ -44,7 +44,6 @@ impl Octets {
 
 impl PartialEq for Octets {
     ghost use Rattle.std.specs.Prelude.{◌==◌};
-    ghost use Rattle.std.proofs.lemmas.Cmp.{nat_list_eq_equiv};
     ghost use lib.Pointwise.{pointwise};
     ghost use Rattle.std.proofs.Common.{rules};
     ghost use Rattle.std.specs.Cmp.Rules.{comparing};
@@ -115,7 +114,6 @@ impl Text {
 
 impl PartialEq for Text {
     ghost use Rattle.std.specs.Prelude.{◌==◌};
-    ghost use Rattle.std.proofs.lemmas.Cmp.{nat_list_eq_equiv};
     ghost use lib.Pointwise.{pointwise};
     ghost use Rattle.std.proofs.Common.{rules};
     ghost use Rattle.std.specs.Cmp.Rules.{comparing};
