@@ -21,7 +21,7 @@ use Rattle.chain_core.specs.declared.reason.ChainReason.TheVariants.{BadNad, Bad
 use Rattle.chain_core.specs.declared.part.Part as part
 use Rattle.chain_core.specs.declared.part.Part.TheVariants as parts
 use Rattle.chain_core.specs.Chain.{MeetsInBlock, all_reasons, message_of, number_after}
-use Rattle.chain_core.specs.Part.{IsPcb, IsAtPart, IsHead, IsHeadFault, IsPcbFault, IsLenFault, IsBehind, more_count, place_of}
+use Rattle.chain_core.specs.Part.{IsPcb, IsAtPart, IsHead, IsHeadFault, IsPcbFault, IsLenFault, IsAfter, more_count, place_of}
 use Rattle.chain_core.proofs.Stuck.{not-other, same-number}
 
 length-take-one : (n x : ℕ) → n ≤ length (x ∷ []) → length (take n (x ∷ [])) ≤ 1
@@ -59,30 +59,30 @@ pcb-more : (number : Number) (blocks : ℕ) (more : Bool) (c : List ℕ) (x : �
 pcb-more number blocks more c x lt h = (h.0 ∙ sym (front-of c x 1 lt), h.1)
 
 -- the part that comes next, after an octet that is taken
-pub at-behind : (number : Number) (last : Bool) (ifs max room blocks joined : ℕ) (p next : part.Part) (c : List ℕ) (x : ℕ) → (last ≡ false → blocks + 2 ≤ 131072) → blocks + 1 ≤ 131072 → joined ≤ max → room ≡ max - joined
-    → IsAtPart number max blocks joined p c → IsBehind number last ifs room p x next → IsAtPart number max blocks joined next (c ++ x ∷ [])
-at-behind number last ifs max room blocks joined parts.Nad next c x few some fits is at h =
+pub at-after : (number : Number) (last : Bool) (ifs max room blocks joined : ℕ) (p next : part.Part) (c : List ℕ) (x : ℕ) → (last ≡ false → blocks + 2 ≤ 131072) → blocks + 1 ≤ 131072 → joined ≤ max → room ≡ max - joined
+    → IsAtPart number max blocks joined p c → IsAfter number last ifs room p x next → IsAtPart number max blocks joined next (c ++ x ∷ [])
+at-after number last ifs max room blocks joined parts.Nad next c x few some fits is at h =
     subst (λ (q : part.Part). IsAtPart number max blocks joined q (c ++ x ∷ [])) (sym h.1) (omega (arith, at, length-append c (x ∷ [])), last-of c x 0 at ∙ h.0)
-at-behind number last ifs max room blocks joined parts.Pcb next c x few some fits is at h =
+at-after number last ifs max room blocks joined parts.Pcb next c x few some fits is at h =
     subst (λ (q : part.Part). IsAtPart number max blocks joined q (c ++ x ∷ [])) (sym h.1)
     (omega (arith, at.0, length-append c (x ∷ [])), front-of c x 0 (omega (arith, at.0)) ∙ at.1, (h.2 ∙ sym (last-of c x 1 at.0), counted h.0 last blocks few some h.3))
-at-behind number last ifs max room blocks joined (parts.Len more) next c x few some fits is at h =
+at-after number last ifs max room blocks joined (parts.Len more) next c x few some fits is at h =
     subst (λ (q : part.Part). IsAtPart number max blocks joined q (c ++ x ∷ [])) (sym h.0)
     (omega (arith, at.0, length-append c (x ∷ [])), front-of c x 0 (omega (arith, at.0)) ∙ at.1, pcb-more number blocks more c x (omega (arith, at.0)) at.2, omega (arith, last-of c x 2 at.0, h.2), last-of c x 2 at.0)
-at-behind number last ifs max room blocks joined (parts.Rest more len) next c x few some fits is at h = absurd h
+at-after number last ifs max room blocks joined (parts.Rest more len) next c x few some fits is at h = absurd h
 
 -- so a block goes on
-pub block-behind : (number : Number) (last : Bool) (ifs max room blocks joined : ℕ) (p next : part.Part) (c : List ℕ) (x : ℕ) → AreOctets (c ++ x ∷ []) → IsAtPart number max blocks joined p c → IsBehind number last ifs room p x next → Begins (IsBlock ifs) (c ++ x ∷ [])
-block-behind number last ifs max room blocks joined parts.Nad next c x octets at h = begun-lt2 ifs (c ++ x ∷ []) octets (omega (arith, at, length-append c (x ∷ [])))
-block-behind number last ifs max room blocks joined parts.Pcb next c x octets at h =
+pub block-after : (number : Number) (last : Bool) (ifs max room blocks joined : ℕ) (p next : part.Part) (c : List ℕ) (x : ℕ) → AreOctets (c ++ x ∷ []) → IsAtPart number max blocks joined p c → IsAfter number last ifs room p x next → Begins (IsBlock ifs) (c ++ x ∷ [])
+block-after number last ifs max room blocks joined parts.Nad next c x octets at h = begun-lt2 ifs (c ++ x ∷ []) octets (omega (arith, at, length-append c (x ∷ [])))
+block-after number last ifs max room blocks joined parts.Pcb next c x octets at h =
     let b : List ℕ = c ++ x ∷ [] in
     let len : length b ≡ 2 = omega (arith, at.0, length-append c (x ∷ [])) in
     subst (Begins (IsBlock ifs)) (ap (λ (k : ℕ). take k b) (sym len) ∙ take-length b) (begun-two ifs (Info number h.0) b octets (omega (arith, len)) (h.2 ∙ sym (last-of c x 1 at.0)))
-block-behind number last ifs max room blocks joined (parts.Len more) next c x octets at h =
+block-after number last ifs max room blocks joined (parts.Len more) next c x octets at h =
     let b : List ℕ = c ++ x ∷ [] in
     let len : length b ≡ 3 = omega (arith, at.0, length-append c (x ∷ [])) in
     begun-all ifs (Info number more) b octets (omega (arith, len)) (omega (arith, len)) (at.2.0 ∙ sym (front-of c x 1 (omega (arith, at.0)))) (omega (arith, last-of c x 2 at.0, h.1)) (λ about lt. absurd (omega (arith, len)))
-block-behind number last ifs max room blocks joined (parts.Rest more len) next c x octets at h = absurd h
+block-after number last ifs max room blocks joined (parts.Rest more len) next c x octets at h = absurd h
 
 -- ---- octets that are refused
 

@@ -22,11 +22,11 @@ use Rattle.chain_core.specs.declared.reason.ChainReason.TheVariants.{BadLrc}
 use Rattle.chain_core.specs.declared.part.Part as part
 use Rattle.chain_core.specs.declared.part.Part.TheVariants as parts
 use Rattle.chain_core.specs.declared.places.ReceiverPlaces.{ReceiverPlaces}
-use Rattle.chain_core.specs.Part.{IsAtPart, IsHead, IsHeadFault, IsBehind, IsRest, more_count, place_of}
+use Rattle.chain_core.specs.Part.{IsAtPart, IsHead, IsHeadFault, IsAfter, IsRest, more_count, place_of}
 use Rattle.chain_core.specs.Taken.{Reception, HasTaken}
 use Rattle.chain_core.specs.Receiving.{IsWaiting, Waits, IsSound, Goes}
 use Rattle.chain_core.specs.Places.{under_way_of, number_at, field_at, received_at, IsUnderWay, IsAmong, AreReceiverPlaces}
-use Rattle.chain_core.proofs.Heads.{counted, block-behind}
+use Rattle.chain_core.proofs.Heads.{counted, block-after}
 use Rattle.chain_core.proofs.Joins.{Whole, joined-goes}
 use Rattle.chain_core.proofs.Receptions.{last-free, head-waits, more-taken, head-refused}
 use Rattle.chain_core.proofs.Rests.{Refused, rest-refused}
@@ -135,7 +135,7 @@ goes-if old new piece ifs number max f = record {
 pub with_part : ReceiverPlaces → part.Part → ReceiverPlaces
 with_part p next = record p { part = next; came = 0 }
 
-head-text : (number : Number) (last : Bool) (ifs room x : ℕ) (p next : part.Part) (field more : List ℕ) → IsBehind number last ifs room p x next → under_way_of number next (take 0 more) ≡ under_way_of number p field ++ x ∷ []
+head-text : (number : Number) (last : Bool) (ifs room x : ℕ) (p next : part.Part) (field more : List ℕ) → IsAfter number last ifs room p x next → under_way_of number next (take 0 more) ≡ under_way_of number p field ++ x ∷ []
 head-text number last ifs room x parts.Nad next field more h = ap (λ (q : part.Part). under_way_of number q (take 0 more)) h.1 ∙ ap (λ (y : ℕ). y ∷ []) (sym h.0)
 head-text number last ifs room x parts.Pcb next field more h = ap (λ (q : part.Part). under_way_of number q (take 0 more)) h.1 ∙ ap (λ (y : ℕ). 0 ∷ y ∷ []) h.2
 head-text number last ifs room x (parts.Len goes_on) next field more h = ap (λ (q : part.Part). under_way_of number q (take 0 more)) h.0
@@ -148,34 +148,34 @@ way-short number (parts.Len more) field h = omega arith
 way-short number (parts.Rest more len) field h = absurd h
 
 pub head-on : (p : ReceiverPlaces) (next : part.Part) (x : ℕ) (m : List ℕ) → AreOctets m → AreReceiverPlaces p (length m) → p.refusal ≡ None → p.done ≡ false → x < 256 → IsHead p.part
-    → IsBehind (number_at p) (nat_eq (p.blocks + 1) 131072) p.ifs (p.max - p.joined) p.part x next → Goes (received_at p m) (received_at (record p { part = next; came = 0 }) m) (x ∷ [])
-head-on p next x m all fit none still small head behind =
+    → IsAfter (number_at p) (nat_eq (p.blocks + 1) 131072) p.ifs (p.max - p.joined) p.part x next → Goes (received_at p m) (received_at (record p { part = next; came = 0 }) m) (x ∷ [])
+head-on p next x m all fit none still small head follows =
     let octets : AreOctets (field_at p m) = field-octets p m all in
     let r : Reception = received_at p m in
     let new : Reception = received_at (record p { part = next; came = 0 }) m in
     let c : List ℕ = under_way_of (number_at p) p.part (field_at p m) in
     let rd : Reading = record { ifs = p.ifs; taken = c ++ x ∷ []; refusal = None } in
-    let here : IsBehind (number_at p) (nat_eq (p.blocks + 1) 131072) p.ifs (r.max - length r.joined) p.part x next =
-    subst (λ (k : ℕ). IsBehind (number_at p) (nat_eq (p.blocks + 1) 131072) p.ifs (p.max - k) p.part x next) (sym (joined-len p m fit)) behind in
+    let here : IsAfter (number_at p) (nat_eq (p.blocks + 1) 131072) p.ifs (r.max - length r.joined) p.part x next =
+    subst (λ (k : ℕ). IsAfter (number_at p) (nat_eq (p.blocks + 1) 131072) p.ifs (p.max - k) p.part x next) (sym (joined-len p m fit)) follows in
     let w = waiting p m octets fit still in
-    let begun : Begins (IsBlock p.ifs) (c ++ x ∷ []) = block-behind (number_at p) (nat_eq (p.blocks + 1) 131072) p.ifs p.max (r.max - length r.joined) p.blocks (length r.joined) p.part next c x (octets-append c (x ∷ []) w.octets (octets-cons x [] small none-octets)) w.part here in
+    let begun : Begins (IsBlock p.ifs) (c ++ x ∷ []) = block-after (number_at p) (nat_eq (p.blocks + 1) 131072) p.ifs p.max (r.max - length r.joined) p.blocks (length r.joined) p.part next c x (octets-append c (x ∷ []) w.octets (octets-cons x [] small none-octets)) w.part here in
     let taken : reading.HasTaken rd (c ++ x ∷ []) = record { kept = refl; is = refl; begun = begun } in
     let is : new ≡ record r { under_way = rd.taken } =
-    ap (λ (l : List ℕ). record r { under_way = l }) (head-text (number_at p) (nat_eq (p.blocks + 1) 131072) p.ifs (p.max - p.joined) x p.part next (field_at p m) (drop p.joined m) behind) in
+    ap (λ (l : List ℕ). record r { under_way = l }) (head-text (number_at p) (nat_eq (p.blocks + 1) 131072) p.ifs (p.max - p.joined) x p.part next (field_at p m) (drop p.joined m) follows) in
     goes-if r new (x ∷ []) refl refl refl (λ t h.
     let sound = sound-at p m octets fit still t h in
     let waits = head-waits r (number_at p) (length m) p.part next (reading_at p m) rd x sound (none, still) refl (way-short (number_at p) p.part (field_at p m) head) small here taken refl in
     more-taken r new (number_at p) (length m) p.part next (reading_at p m) rd (x ∷ []) sound (none, still) refl taken refl waits is)
 
-head-way : (number : Number) (ifs max blocks joined came x : ℕ) (p next : part.Part) → blocks + 1 ≤ 131072 → joined ≤ max → IsUnderWay ifs max blocks joined came p → IsBehind number (nat_eq (blocks + 1) 131072) ifs (max - joined) p x next → IsUnderWay ifs max blocks joined 0 next
+head-way : (number : Number) (ifs max blocks joined came x : ℕ) (p next : part.Part) → blocks + 1 ≤ 131072 → joined ≤ max → IsUnderWay ifs max blocks joined came p → IsAfter number (nat_eq (blocks + 1) 131072) ifs (max - joined) p x next → IsUnderWay ifs max blocks joined 0 next
 head-way number ifs max blocks joined came x parts.Nad next few fits h b = rw b.1 tt
 head-way number ifs max blocks joined came x parts.Pcb next few fits h b = rw b.1 (counted b.0 (nat_eq (blocks + 1) 131072) blocks (last-free blocks few) few b.3)
 head-way number ifs max blocks joined came x (parts.Len more) next few fits h b = rw b.0 (h, b.1, omega (arith, b.2, fits), omega arith)
 head-way number ifs max blocks joined came x (parts.Rest more len) next few fits h b = absurd b
 
-pub head-fit : (p : ReceiverPlaces) (next : part.Part) (x room : ℕ) → p.done ≡ false → IsBehind (number_at p) (nat_eq (p.blocks + 1) 131072) p.ifs (p.max - p.joined) p.part x next → AreReceiverPlaces p room
+pub head-fit : (p : ReceiverPlaces) (next : part.Part) (x room : ℕ) → p.done ≡ false → IsAfter (number_at p) (nat_eq (p.blocks + 1) 131072) p.ifs (p.max - p.joined) p.part x next → AreReceiverPlaces p room
     → AreReceiverPlaces (record p { part = next; came = 0 }) room
-head-fit p next x room still behind fit =
+head-fit p next x room still follows fit =
     let way = way-of p room fit still in
     record {
       least = fit.least;
@@ -184,7 +184,7 @@ head-fit p next x room still behind fit =
       reserved = fit.reserved;
       joined = fit.joined;
       blocks = fit.blocks;
-      among = subst (λ (d : Bool). IsAmong d (record p { part = next; came = 0 })) (sym still) (way.0, head-way (number_at p) p.ifs p.max p.blocks p.joined p.came x p.part next way.0 fit.joined way.1 behind);
+      among = subst (λ (d : Bool). IsAmong d (record p { part = next; came = 0 })) (sym still) (way.0, head-way (number_at p) p.ifs p.max p.blocks p.joined p.came x p.part next way.0 fit.joined way.1 follows);
     }
 
 pub head-off : (p : ReceiverPlaces) (x : ℕ) (reason : ChainReason) (m : List ℕ) → AreOctets m → AreReceiverPlaces p (length m) → p.refusal ≡ None → p.done ≡ false → IsHead p.part

@@ -22,7 +22,7 @@ use Rattle.chain_core.specs.declared.reason.ChainReason.{ChainReason}
 use Rattle.chain_core.specs.declared.part.Part as part
 use Rattle.chain_core.specs.declared.part.Part.TheVariants as parts
 use Rattle.chain_core.specs.Chain.{IsChain, IsReason, message_of, open_links, octets_of, number_after}
-use Rattle.chain_core.specs.Part.{IsAtPart, IsHead, IsHeadFault, IsBehind, place_of}
+use Rattle.chain_core.specs.Part.{IsAtPart, IsHead, IsHeadFault, IsAfter, place_of}
 use Rattle.chain_core.specs.Taken.{Reception, HasTaken, AreTaken, AreBefore, IsOpen, fresh}
 use Rattle.chain_core.specs.Receiving.{IsWaiting, Waits, IsSound, Goes}
 use Rattle.chain_core.proofs.Goes.{Taken}
@@ -30,7 +30,7 @@ use Rattle.chain_core.proofs.Lengths.{open-length}
 use Rattle.chain_core.proofs.Receiving.{begun-taken, at-part-begins, under-length, refused-in_block}
 use Rattle.chain_core.proofs.Feeds.{taken-fresh, some_is}
 use Rattle.chain_core.proofs.Reasons.{part-short}
-use Rattle.chain_core.proofs.Heads.{at-behind, block-behind, first-head, place-len, fed-one}
+use Rattle.chain_core.proofs.Heads.{at-after, block-after, first-head, place-len, fed-one}
 
 head-of : (number : Number) (max blocks joined : ℕ) (p : part.Part) (c : List ℕ) → length c < 3 → IsAtPart number max blocks joined p c → IsHead p
 head-of number max blocks joined parts.Nad c few at = tt
@@ -89,10 +89,10 @@ short-block ifs b le v h = omega (arith, ap length h.is, spelling-len v)
 
 -- it is taken
 pub head-waits : (r : Reception) (number : Number) (room : ℕ) (p next : part.Part) (reader rd : Reading) (x : ℕ) → IsSound r number room p reader → IsOpen r → r.under_way ≡ reader.taken → length r.under_way < 3 → x < 256
-    → IsBehind number (nat_eq (r.blocks + 1) 131072) r.ifs (r.max - length r.joined) p x next → reading.HasTaken rd (reader.taken ++ x ∷ []) → rd.ifs ≡ reader.ifs → IsWaiting number r.max r.blocks (length r.joined) next rd
-head-waits r number room p next reader rd x sound free own few small behind h size =
+    → IsAfter number (nat_eq (r.blocks + 1) 131072) r.ifs (r.max - length r.joined) p x next → reading.HasTaken rd (reader.taken ++ x ∷ []) → rd.ifs ≡ reader.ifs → IsWaiting number r.max r.blocks (length r.joined) next rd
+head-waits r number room p next reader rd x sound free own few small follows h size =
     let w : IsWaiting number r.max r.blocks (length r.joined) p reader = subst (λ (d : Bool). Waits d number r.max r.blocks (length r.joined) p reader) free.1 (sound.waits free.0) in
-    let at = at-behind number (nat_eq (r.blocks + 1) 131072) r.ifs r.max (r.max - length r.joined) r.blocks (length r.joined) p next reader.taken x (last-free r.blocks w.few) w.few sound.joined refl w.part behind in
+    let at = at-after number (nat_eq (r.blocks + 1) 131072) r.ifs r.max (r.max - length r.joined) r.blocks (length r.joined) p next reader.taken x (last-free r.blocks w.few) w.few sound.joined refl w.part follows in
     record {
       few = w.few;
       taken = subst (reading.HasTaken rd) (sym h.is) h;
@@ -201,11 +201,11 @@ fresh-sound ifs number max room reader least most limit reserved e joined none =
 
 -- the reader of the block takes an octet that is taken
 pub head-fed : (r : Reception) (number : Number) (room : ℕ) (p next : part.Part) (reader rd : Reading) (x : ℕ) (result : Result (ℕ × Bool) (Stop BlockReason)) → IsSound r number room p reader → IsOpen r → r.under_way ≡ reader.taken → length r.under_way < 3 → x < 256
-    → IsBehind number (nat_eq (r.blocks + 1) 131072) r.ifs (r.max - length r.joined) p x next → IsFed (IsBlock reader.ifs) (block.IsReason reader.ifs) reading.HasTaken reading.refusal_of reader rd (x ∷ []) result → reading.HasTaken rd (reader.taken ++ x ∷ [])
-head-fed r number room p next reader rd x result sound free own few small behind fed =
+    → IsAfter number (nat_eq (r.blocks + 1) 131072) r.ifs (r.max - length r.joined) p x next → IsFed (IsBlock reader.ifs) (block.IsReason reader.ifs) reading.HasTaken reading.refusal_of reader rd (x ∷ []) result → reading.HasTaken rd (reader.taken ++ x ∷ [])
+head-fed r number room p next reader rd x result sound free own few small follows fed =
     let w : IsWaiting number r.max r.blocks (length r.joined) p reader = subst (λ (d : Bool). Waits d number r.max r.blocks (length r.joined) p reader) free.1 (sound.waits free.0) in
     let octets = octets-append reader.taken (x ∷ []) w.octets (one-octet x small) in
-    let begun = block-behind number (nat_eq (r.blocks + 1) 131072) r.ifs r.max (r.max - length r.joined) r.blocks (length r.joined) p next reader.taken x octets w.part behind in
+    let begun = block-after number (nat_eq (r.blocks + 1) 131072) r.ifs r.max (r.max - length r.joined) r.blocks (length r.joined) p next reader.taken x octets w.part follows in
     fed-one reader rd x result fed w.taken (omega (arith, ap length own, few)) (subst (λ (i : ℕ). Begins (IsBlock i) (reader.taken ++ x ∷ [])) (sym sound.size) begun)
 
 -- what holds of it then

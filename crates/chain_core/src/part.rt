@@ -3,7 +3,7 @@
 ghost use Rattle.std.specs.Prelude.{◌≡◌, ◌≢◌, ◌<◌, ◌≤◌, IfOk, IfErr, OnOk, true, false, IsTrue};
 ghost use Rattle.block_core.specs.Block.{other, pcb_octet};
 ghost use Rattle.block_core.specs.declared.pcb.Pcb.TheVariants.{Info};
-ghost use Rattle.chain_core.specs.Part.{IsPcbFault, IsLenFault, IsHead, IsHeadFault, IsBehind, place_of, more_said, end_of};
+ghost use Rattle.chain_core.specs.Part.{IsPcbFault, IsLenFault, IsHead, IsHeadFault, IsAfter, place_of, more_said, end_of};
 
 use crate::reason::ChainReason;
 use block_core::{Number, Pcb};
@@ -96,7 +96,7 @@ pub(crate) fn check_len(len: u8, ifs: u8, room: usize) -> Result<(), ChainReason
 
 /// What comes after one of the first three octets of a block. `number` is the number of the block, `last`
 /// says that it is the last that a chain can have, and `room` octets have room in the message.
-pub(crate) fn behind(
+pub(crate) fn after(
     part: Part,
     octet: u8,
     ifs: u8,
@@ -105,7 +105,7 @@ pub(crate) fn behind(
     room: usize,
 ) -> Result<Part, ChainReason>
     requires { IsHead part }
-    ensures on { IfOk result (IsBehind number last ifs room part octet) }
+    ensures on { IfOk result (IsAfter number last ifs room part octet) }
     ensures refused { IfErr result (IsHeadFault number last ifs room part octet) }
 {
     match part {

@@ -13,7 +13,7 @@ ghost use Rattle.chain_core.specs.Taken.{HasTaken, IsOpen, IsClosed, fresh, refu
 ghost use Rattle.chain_core.specs.Receiving.{Goes};
 ghost use Rattle.chain_core.specs.Places.{AreReceiverPlaces, IsUnderWay, number_at, field_at, under_way_of, received_at, IsFinishedHere};
 
-use crate::part::{Part, behind};
+use crate::part::{Part, after};
 use crate::reason::ChainReason;
 use crate::receiver::{LONGEST_MESSAGE, MOST_BLOCKS};
 use block_core::{LONGEST_INF, Number, Pcb};
@@ -236,7 +236,7 @@ impl ReceiverPlaces {
     {
         let last = self.blocks + 1 == MOST_BLOCKS;
         let room = (self.max - self.joined) as usize;
-        match behind(self.part, octet, self.ifs, self.number(), last, room) {
+        match after(self.part, octet, self.ifs, self.number(), last, room) {
             Ok(part) => {
                 self.part = part;
                 self.came = 0;

@@ -9,7 +9,7 @@ ghost use Rattle.chain_core.specs.Chain.{IsChain, IsReason};
 ghost use Rattle.chain_core.specs.Taken.{HasTaken, AreBefore, IsOpen, IsClosed, fresh, refusal_of};
 ghost use Rattle.chain_core.specs.Receiving.{Goes};
 
-use crate::part::{Part, behind};
+use crate::part::{Part, after};
 use crate::reason::ChainReason;
 use block_core::{BlockReader, Number};
 use octet_core::{Refusal, Stop};
@@ -197,7 +197,7 @@ impl Receiver {
     {
         let last = self.blocks + 1 == MOST_BLOCKS;
         let room = self.max - self.message.len();
-        match behind(self.part, octet, self.ifs, self.number, last, room) {
+        match after(self.part, octet, self.ifs, self.number, last, room) {
             Ok(part) => {
                 self.part = part;
                 let _taken = self.reader.feed(&[octet]);

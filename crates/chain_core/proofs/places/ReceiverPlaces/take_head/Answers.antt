@@ -1,6 +1,6 @@
 use Rattle.std.proofs.Common.{◌≡◌, ◌+◌, ◌-◌, ◌*◌, ℕ, Some, arith, sym, ap, subst, ◌∙◌, nat_eq, ◌∷◌, []}
 use Rattle.block_core.specs.declared.pcb.Number.{Number}
-use Rattle.chain_core.specs.Part.{IsBehind, IsHeadFault, place_of}
+use Rattle.chain_core.specs.Part.{IsAfter, IsHeadFault, place_of}
 use Rattle.chain_core.specs.Receiving.{Goes}
 use Rattle.chain_core.specs.Places.{number_at, received_at}
 use Rattle.chain_core.specs.declared.places.ReceiverPlaces.{ReceiverPlaces}
@@ -10,14 +10,14 @@ use Rattle.chain_core.proofs.places.ReceiverPlaces.take_head.Goals as goal
 pub returns-in-Ok-clause-fit : goal.returns-in-Ok-clause-fit
 returns-in-Ok-clause-fit c = λ room fit.
     let p : ReceiverPlaces = c.args.self.now in
-    let behind : IsBehind (number_at p) (nat_eq (p.blocks + 1) 131072) p.ifs (p.max - p.joined) p.part c.args.octet c.in-Ok.part = subst (λ (n : Number). IsBehind n (nat_eq (p.blocks + 1) 131072) p.ifs (p.max - p.joined) p.part c.args.octet c.in-Ok.part) c.number.ensures c.in-Ok.ensures.on in
-    head-fit p c.in-Ok.part c.args.octet room c.requires.open.1 behind fit
+    let follows : IsAfter (number_at p) (nat_eq (p.blocks + 1) 131072) p.ifs (p.max - p.joined) p.part c.args.octet c.in-Ok.part = subst (λ (n : Number). IsAfter n (nat_eq (p.blocks + 1) 131072) p.ifs (p.max - p.joined) p.part c.args.octet c.in-Ok.part) c.number.ensures c.in-Ok.ensures.on in
+    head-fit p c.in-Ok.part c.args.octet room c.requires.open.1 follows fit
 
 pub returns-in-Ok-clause-goes : goal.returns-in-Ok-clause-goes
 returns-in-Ok-clause-goes c = λ m octets fit.
     let p : ReceiverPlaces = c.args.self.now in
-    let behind : IsBehind (number_at p) (nat_eq (p.blocks + 1) 131072) p.ifs (p.max - p.joined) p.part c.args.octet c.in-Ok.part = subst (λ (n : Number). IsBehind n (nat_eq (p.blocks + 1) 131072) p.ifs (p.max - p.joined) p.part c.args.octet c.in-Ok.part) c.number.ensures c.in-Ok.ensures.on in
-    head-on p c.in-Ok.part c.args.octet m octets fit c.requires.open.0 c.requires.open.1 (omega arith) c.requires.head behind
+    let follows : IsAfter (number_at p) (nat_eq (p.blocks + 1) 131072) p.ifs (p.max - p.joined) p.part c.args.octet c.in-Ok.part = subst (λ (n : Number). IsAfter n (nat_eq (p.blocks + 1) 131072) p.ifs (p.max - p.joined) p.part c.args.octet c.in-Ok.part) c.number.ensures c.in-Ok.ensures.on in
+    head-on p c.in-Ok.part c.args.octet m octets fit c.requires.open.0 c.requires.open.1 (omega arith) c.requires.head follows
 
 pub returns-in-Err-clause-fit : goal.returns-in-Err-clause-fit
 returns-in-Err-clause-fit c = λ room fit. rw c.refuse.ensures (kept-fit c.args.self.now _ room fit)

@@ -1,6 +1,6 @@
 use Rattle.std.proofs.Common.{◌≡◌, ◌+◌, ◌-◌, ◌*◌, ◌<◌, ap, Some, ◌∷◌, [], ℕ, length, arith, sym, subst, refl, nat_eq}
 use Rattle.block_core.specs.Reading.{Reading}
-use Rattle.chain_core.specs.Part.{IsBehind, IsHeadFault, place_of}
+use Rattle.chain_core.specs.Part.{IsAfter, IsHeadFault, place_of}
 use Rattle.chain_core.specs.Taken.{Reception, IsOpen}
 use Rattle.chain_core.specs.Receiving.{Goes}
 use Rattle.chain_core.proofs.Receptions.{head-fed, head-waits, head-part, more-sound, more-taken, head-refused}
@@ -13,11 +13,11 @@ invariant_of-self c =
     let free : IsOpen r = subst IsOpen (sym c.self.view_is) c.requires.open in
     let few : length r.under_way < 3 = subst (λ (s : Reception). length s.under_way < 3) (sym c.self.view_is) c.requires.head in
     let len : c.len.result ≡ length i.message.items = omega (arith, c.len.ensures, i.message.ok.0) in
-    let behind : IsBehind i.number (nat_eq (i.blocks + 1) 131072) i.ifs (i.max - length i.message.items) i.part c.args.octet c.in-Ok.part = subst (λ (k : ℕ). IsBehind i.number (nat_eq (i.blocks + 1) 131072) i.ifs (i.max - k) i.part c.args.octet c.in-Ok.part) len c.in-Ok.ensures.on in
+    let follows : IsAfter i.number (nat_eq (i.blocks + 1) 131072) i.ifs (i.max - length i.message.items) i.part c.args.octet c.in-Ok.part = subst (λ (k : ℕ). IsAfter i.number (nat_eq (i.blocks + 1) 131072) i.ifs (i.max - k) i.part c.args.octet c.in-Ok.part) len c.in-Ok.ensures.on in
     let small : c.args.octet < 256 = omega arith in
     let rd : Reading = c.feed-taken.new.self in
-    let taken = head-fed r i.number _ i.part c.in-Ok.part i.reader rd c.args.octet c.feed-taken.result c.self.invariant free refl few small behind c.feed-taken.ensures.fed in
-    let w = head-waits r i.number _ i.part c.in-Ok.part i.reader rd c.args.octet c.self.invariant free refl few small behind taken c.feed-taken.ensures.size in
+    let taken = head-fed r i.number _ i.part c.in-Ok.part i.reader rd c.args.octet c.feed-taken.result c.self.invariant free refl few small follows c.feed-taken.ensures.fed in
+    let w = head-waits r i.number _ i.part c.in-Ok.part i.reader rd c.args.octet c.self.invariant free refl few small follows taken c.feed-taken.ensures.size in
     more-sound r i.number _ i.part c.in-Ok.part i.reader rd (c.args.octet ∷ []) c.self.invariant free refl taken c.feed-taken.ensures.size w
 
 pub returns-in-Ok : goal.returns-in-Ok
@@ -27,11 +27,11 @@ returns-in-Ok c =
     let free : IsOpen r = subst IsOpen (sym c.self.view_is) c.requires.open in
     let few : length r.under_way < 3 = subst (λ (s : Reception). length s.under_way < 3) (sym c.self.view_is) c.requires.head in
     let len : c.len.result ≡ length i.message.items = omega (arith, c.len.ensures, i.message.ok.0) in
-    let behind : IsBehind i.number (nat_eq (i.blocks + 1) 131072) i.ifs (i.max - length i.message.items) i.part c.args.octet c.in-Ok.part = subst (λ (k : ℕ). IsBehind i.number (nat_eq (i.blocks + 1) 131072) i.ifs (i.max - k) i.part c.args.octet c.in-Ok.part) len c.in-Ok.ensures.on in
+    let follows : IsAfter i.number (nat_eq (i.blocks + 1) 131072) i.ifs (i.max - length i.message.items) i.part c.args.octet c.in-Ok.part = subst (λ (k : ℕ). IsAfter i.number (nat_eq (i.blocks + 1) 131072) i.ifs (i.max - k) i.part c.args.octet c.in-Ok.part) len c.in-Ok.ensures.on in
     let small : c.args.octet < 256 = omega arith in
     let rd : Reading = c.feed-taken.new.self in
-    let taken = head-fed r i.number _ i.part c.in-Ok.part i.reader rd c.args.octet c.feed-taken.result c.self.invariant free refl few small behind c.feed-taken.ensures.fed in
-    let w = head-waits r i.number _ i.part c.in-Ok.part i.reader rd c.args.octet c.self.invariant free refl few small behind taken c.feed-taken.ensures.size in
+    let taken = head-fed r i.number _ i.part c.in-Ok.part i.reader rd c.args.octet c.feed-taken.result c.self.invariant free refl few small follows c.feed-taken.ensures.fed in
+    let w = head-waits r i.number _ i.part c.in-Ok.part i.reader rd c.args.octet c.self.invariant free refl few small follows taken c.feed-taken.ensures.size in
     let new : Reception = record r { under_way = rd.taken } in
     subst (λ (s : Reception). Goes s new (c.args.octet ∷ [])) c.self.view_is
     (more-taken r new i.number _ i.part c.in-Ok.part i.reader rd (c.args.octet ∷ []) c.self.invariant free refl taken c.feed-taken.ensures.size w refl)
