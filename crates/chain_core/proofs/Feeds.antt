@@ -1,9 +1,10 @@
 -- What a receiver answers.
-use Rattle.std.proofs.Common.{◌≡◌, ℕ, ◌+◌, ◌*◌, ◌≤◌, ◌++◌, ◌⊎◌, List, [], length, take, drop, refl, sym, ap, subst, ◌∙◌, arith, Bool, true, false, append_assoc, inl, inr, Option, Some, None, Ok, Err}
+use Rattle.std.proofs.Common.{◌≡◌, ℕ, ◌+◌, ◌*◌, ◌≤◌, ◌++◌, ◌⊎◌, List, [], length, take, drop, refl, sym, ap, subst, ◌∙◌, arith, Bool, true, false, append_assoc, inl, inr, Option, Some, None, Result, Ok, Err}
 use Rattle.std.proofs.lemmas.List.{append-nil, take-append-drop, take-append-le}
 use Rattle.octet_core.specs.Grammar.{RefusesAt, self_ended}
 use Rattle.octet_core.specs.Reader.{IsFed, IsFinished}
 use Rattle.octet_core.specs.declared.stop.Refusal.{Refusal}
+use Rattle.octet_core.specs.declared.stop.Stop.{Stop}
 use Rattle.octet_core.specs.declared.stop.Stop.TheVariants.{At, Short}
 use Rattle.octet_core.proofs.Lists.{never}
 use Rattle.block_core.specs.declared.pcb.Number.{Number}
@@ -15,7 +16,8 @@ use Rattle.octet_core.proofs.Begun.{begins-front}
 use Rattle.chain_core.proofs.Goes.{chain-begins}
 use Rattle.chain_core.proofs.Unique.{one-spelled}
 use Rattle.chain_core.specs.Taken.{Reception, HasTaken, AreTaken, AreBefore, IsOpen, IsClosed, fresh, refusal_of}
-use Rattle.chain_core.specs.Receiving.{Goes}
+use Rattle.chain_core.specs.Receiving.{Goes, fed_answer, answer_after, end_answer}
+use Rattle.chain_core.specs.Places.{IsFinishedHere}
 use Rattle.chain_core.proofs.Taken.{done-spelled, length-taken}
 use Rattle.chain_core.proofs.Receiving.{not-chain}
 
@@ -135,6 +137,14 @@ fed-refused old new piece n refusal f some = record {
       (ap (λ (x : Refusal ChainReason). Err (At x.place x.reason)) one, same);
 }
 
+fed-by : (old new : Reception) (piece : List ℕ) (n : ℕ) (o : Option (Refusal ChainReason)) → Fed old new piece n → new.refusal ≡ o → IsFed (IsChain old.ifs old.number old.max) (IsReason old.ifs old.number old.max) HasTaken refusal_of old new piece (fed_answer o new.done n)
+fed-by old new piece n None f e = fed-on old new piece n f e
+fed-by old new piece n (Some refusal) f e = fed-refused old new piece n refusal f e
+
+pub fed-answered : (old new : Reception) (piece : List ℕ) (n : ℕ) (result : Result (ℕ × Bool) (Stop ChainReason)) → Fed old new piece n → result ≡ fed_answer new.refusal new.done n
+    → IsFed (IsChain old.ifs old.number old.max) (IsReason old.ifs old.number old.max) HasTaken refusal_of old new piece result
+fed-answered old new piece n result f e = subst (IsFed (IsChain old.ifs old.number old.max) (IsReason old.ifs old.number old.max) HasTaken refusal_of old new piece) (sym e) (fed-by old new piece n new.refusal f refl)
+
 -- the octets before the refused one, where the piece goes on after those that were taken
 pub before-all : (old new : Reception) (piece : List ℕ) (n : ℕ) (refusal : Refusal ChainReason) → Fed old new piece n → new.refusal ≡ Some refusal → (t : List ℕ) → HasTaken old t
     → AreBefore old.number new.blocks new.joined (take refusal.place (t ++ piece))
@@ -146,21 +156,22 @@ before-all old new piece n refusal f some t h =
 
 -- ---- the end
 
-pub finished-done : (r : Reception) → (r.refusal ≡ None → (t : List ℕ) × HasTaken r t) → r.refusal ≡ None → r.done ≡ true → IsFinished (IsChain r.ifs r.number r.max) (IsReason r.ifs r.number r.max) HasTaken refusal_of r (Ok tt)
-finished-done r some none done = record {
-  done = λ t h. (h.fields, done-spelled r t h done);
-  short = tt;
-  repeated = λ refusal e. none_some r.refusal refusal none e;
-  some_taken = some;
-}
-
-pub finished-short : (r : Reception) (place : ℕ) → (r.refusal ≡ None → (t : List ℕ) × HasTaken r t) → r.refusal ≡ None → r.done ≡ false → place ≡ length r.joined + r.blocks * 4 + length r.under_way → IsFinished (IsChain r.ifs r.number r.max) (IsReason r.ifs r.number r.max) HasTaken refusal_of r (Err (Short place))
-finished-short r place some none still is = record {
+ended-by : (r : Reception) (o : Option (Refusal ChainReason)) (d : Bool) → r.refusal ≡ o → r.done ≡ d → IsFinishedHere r (answer_after o d (length r.joined + r.blocks * 4 + length r.under_way))
+ended-by r (Some refusal) d e f = record {
   done = tt;
-  short = λ e t h. (ap Short (is ∙ sym (length-taken r t h)), not-spelled r t still h);
-  repeated = λ refusal e. none_some r.refusal refusal none e;
-  some_taken = some;
+  short = λ none. none_some r.refusal refusal none e;
+  repeated = λ other g. ap (λ (x : Refusal ChainReason). Err (At x.place x.reason)) (some_is refusal other (sym e ∙ g));
 }
+ended-by r None true e f = record { done = λ t h. (h.fields, done-spelled r t h f); short = tt; repeated = λ refusal g. none_some r.refusal refusal e g }
+ended-by r None false e f = record { done = tt; short = λ none t h. (ap Short (sym (length-taken r t h)), not-spelled r t f h); repeated = λ refusal g. none_some r.refusal refusal e g }
+
+pub ended-here : (r : Reception) (result : Result Unit (Stop ChainReason)) → result ≡ end_answer r → IsFinishedHere r result
+ended-here r result e = subst (IsFinishedHere r) (sym e) (ended-by r r.refusal r.done refl refl)
+
+pub ended-finished : (r : Reception) (result : Result Unit (Stop ChainReason)) → result ≡ end_answer r → (r.refusal ≡ None → (t : List ℕ) × HasTaken r t) → IsFinished (IsChain r.ifs r.number r.max) (IsReason r.ifs r.number r.max) HasTaken refusal_of r result
+ended-finished r result e some =
+    let here = ended-here r result e in
+    record { done = here.done; short = here.short; repeated = here.repeated; some_taken = some }
 
 -- ---- a new receiver has taken no octets
 

@@ -256,7 +256,7 @@ goes-pcb ifs number max before x (Info n go) e taken few fits =
       ]
     ]
 
-zeros-octets : (n : ℕ) → AreOctets (replicate n 0)
+pub zeros-octets : (n : ℕ) → AreOctets (replicate n 0)
 zeros-octets n i =
     elim (cases_lt i n) [
       | inl lt ↦ rw (get_or-replicate {A = ℕ} n i 0 0 lt) (omega arith)

@@ -9,11 +9,9 @@ pub mod Stuck
 pub mod Goes
 pub mod Receiving
 pub mod Heads
-pub mod Receptions
-pub mod Joins
-pub mod Rests
 pub mod Feeds
+pub mod Receptions
+pub mod Steps
 pub mod Moves
 pub mod Ends
 pub mod Parity
-pub mod Lent

@@ -1,32 +1,32 @@
 -- How a chain gets on while its octets come.
-use Rattle.std.proofs.Common.{◌≡◌, ℕ, ◌+◌, ◌<◌, ◌≤◌, ◌++◌, List, [], ◌∷◌, length, take, drop, refl, sym, ap, subst, ◌∙◌, arith, Bool, true, false, append_assoc, slice_index, inl, inr}
-use Rattle.std.proofs.lemmas.List.{append-nil, length-append, take-append-le}
+use Rattle.std.proofs.Common.{◌≡◌, ℕ, ◌+◌, ◌-◌, ◌<◌, ◌≤◌, ◌++◌, List, [], ◌∷◌, length, take, drop, refl, sym, ap, subst, ◌∙◌, arith, true, false, append_assoc, slice_index, inl, inr}
+use Rattle.std.proofs.lemmas.List.{length-append, length-replicate, take-append-le}
+use Rattle.std.proofs.Math.ListN.{replicate}
 use Rattle.std.proofs.Math.Seq.{take-length, take-append_seam}
 use Rattle.std.proofs.lemmas.Bool.{cases_lt}
 use Rattle.std.specs.List.{AllByRecursion}
-use Rattle.octet_core.specs.Octets.{AreOctets}
+use Rattle.octet_core.specs.Octets.{AreOctets, xor_of}
 use Rattle.octet_core.specs.Grammar.{Begins, Accepts, RefusesAt, self_ended}
 use Rattle.octet_core.specs.declared.stop.Stop.TheVariants.{At}
 use Rattle.octet_core.proofs.Begun.{spelled-begins}
 use Rattle.octet_core.proofs.Firsts.{first_holds}
 use Rattle.octet_core.specs.Grammar.{IsFirst}
-use Rattle.octet_core.proofs.Lists.{nil_of, octets-append, octets-left, octets-right}
+use Rattle.octet_core.proofs.Lists.{octets-append, octets-left, octets-right}
 use Rattle.block_core.specs.declared.pcb.Number.{Number}
-use Rattle.block_core.specs.declared.pcb.Pcb.{Pcb}
 use Rattle.block_core.specs.declared.pcb.Pcb.TheVariants.{Info}
 use Rattle.block_core.specs.Block as block
-use Rattle.block_core.specs.Block.{Parts, IsBlock, Suits, pcb_octet, other}
-use Rattle.block_core.proofs.Blocks.{pcb-back, spelling-len}
+use Rattle.block_core.specs.Block.{other, pcb_octet, front_of}
+use Rattle.block_core.proofs.Blocks.{spelling-len}
 use Rattle.block_core.proofs.Readings.{short-of}
 use Rattle.chain_core.specs.declared.reason.ChainReason.{ChainReason}
 use Rattle.chain_core.specs.declared.part.Part as part
 use Rattle.chain_core.specs.declared.part.Part.TheVariants as parts
 use Rattle.chain_core.specs.Chain.{IsChain, IsReason, MeetsInBlock, all_reasons, message_of, open_links, octets_of, link, number_after, spelling}
-use Rattle.chain_core.specs.Part.{IsPcb, IsAtPart}
+use Rattle.chain_core.specs.Places.{under_way_of, IsUnderWay}
 use Rattle.chain_core.proofs.Unique.{link-split, one-accepted}
-use Rattle.chain_core.proofs.Goes.{Taken, part-begins}
+use Rattle.chain_core.proofs.Goes.{Taken, part-begins, zeros-octets}
 use Rattle.chain_core.proofs.Reasons.{IsPart, reason-in_block}
-use Rattle.chain_core.proofs.Stuck.{Next, next-block, octet-at, meets-stuck}
+use Rattle.chain_core.proofs.Stuck.{Next, next-block, meets-stuck}
 
 false-true : {P : Type 0} → false ≡ true → P
 false-true {P} e = cc
@@ -58,69 +58,32 @@ begun-taken ifs max number fields c t is (gs, more, h) =
 
 -- ---- the block under way
 
--- the block that the octets begin is one of the chain
-record Link (ifs : ℕ) (own : Number) (go : Bool) (c more : List ℕ) : Type 0 where
-  field : List ℕ
-  is : c ++ more ≡ block.spelling (link own go field)
-  len : length field ≡ slice_index c 2
-  size : length field ≤ ifs
-  octets : AreOctets field
-
-link-of : (ifs : ℕ) (own : Number) (go : Bool) (c : List ℕ) → 3 ≤ length c → slice_index c 0 ≡ 0 → pcb_octet (Info own go) ≡ slice_index c 1 → (v : Parts) (more : List ℕ) → IsBlock ifs v (c ++ more) → Link ifs own go c more
-link-of ifs own go c le nad pcb v more h =
-    let s : List ℕ = block.spelling v in
-    let zero_nad : v.nad ≡ 0 = sym (octet-at c more s 0 (omega arith) h.is) ∙ nad in
-    let kind : v.pcb ≡ Info own go = pcb-back v.pcb (Info own go) (sym (octet-at c more s 1 (omega arith) h.is) ∙ sym pcb) in
-    let same : v ≡ link own go v.inf = λ i. record { nad = zero_nad i; pcb = kind i; inf = v.inf } in
-    let suits : Suits ifs (Info own go) v.inf = subst (λ (p : Pcb). Suits ifs p v.inf) kind h.proper.suits in
-    record {
-      field = v.inf;
-      is = h.is ∙ ap block.spelling same;
-      len = sym (octet-at c more s 2 (omega arith) h.is);
-      size = suits;
-      octets = h.proper.octets;
-    }
-
-pub rest-begins : (ifs max : ℕ) (number : Number) (before : List (List ℕ)) (go : Bool) (c : List ℕ) → Taken ifs before → 3 ≤ length c → slice_index c 0 ≡ 0 → IsPcb (number_after number (length before)) (length before) go c
-    → length (message_of before) + slice_index c 2 ≤ max → Begins (IsBlock ifs) c → Begins (IsChain ifs number max) (octets_of (open_links number before) ++ c)
-rest-begins ifs max number before go c taken le nad pcb fits (v, more, h) =
-    let l = link-of ifs (number_after number (length before)) go c le nad pcb.0 v more h in
-    part-begins ifs number max before go l.field c more taken pcb.1 l.size l.octets (omega (arith, l.len, fits)) l.is
-
--- fewer octets than a block has, where they are none yet
-pub under-length : (ifs : ℕ) (c : List ℕ) → Begins (IsBlock ifs) c → ((v : Parts) → IsBlock ifs v c → ⊥) → 3 < length c → length c < slice_index c 2 + 4
-under-length ifs c (v, [], h) none lt = absurd (none v (subst (IsBlock ifs v) (append-nil c) h))
-under-length ifs c (v, x ∷ more, h) none lt =
-    let two : slice_index c 2 ≡ length v.inf = octet-at c (x ∷ more) (block.spelling v) 2 (omega arith) h.is in
-    omega (arith, two, ap length h.is, length-append c (x ∷ more), spelling-len v)
-
-nad-begins : (ifs max : ℕ) (number : Number) (before : List (List ℕ)) (c : List ℕ) → Taken ifs before → length before + 1 ≤ 131072 → length (message_of before) ≤ max → length c ≡ 1 → slice_index c 0 ≡ 0 → Begins (IsChain ifs number max) (octets_of (open_links number before) ++ c)
-nad-begins ifs max number before [] taken few fits len nad = absurd (omega arith)
-nad-begins ifs max number before (x ∷ []) taken few fits len nad =
-    let own : Number = number_after number (length before) in
-    part-begins ifs number max before false [] (x ∷ []) (drop 1 (block.spelling (link own false []))) taken (omega arith) (omega arith) (λ i. omega arith) (omega arith) (ap (λ (z : ℕ). z ∷ drop 1 (block.spelling (link own false []))) nad)
-nad-begins ifs max number before (x ∷ y ∷ c) taken few fits len nad = absurd (omega arith)
-
-pcb-begins : (ifs max : ℕ) (number : Number) (before : List (List ℕ)) (go : Bool) (c : List ℕ) → Taken ifs before → length (message_of before) ≤ max → length c ≡ 2 → slice_index c 0 ≡ 0 → IsPcb (number_after number (length before)) (length before) go c → Begins (IsChain ifs number max) (octets_of (open_links number before) ++ c)
-pcb-begins ifs max number before go [] taken fits len nad pcb = absurd (omega arith)
-pcb-begins ifs max number before go (x ∷ []) taken fits len nad pcb = absurd (omega arith)
-pcb-begins ifs max number before go (x ∷ y ∷ []) taken fits len nad pcb =
-    let own : Number = number_after number (length before) in
-    let rest : List ℕ = drop 2 (block.spelling (link own go [])) in
-    let told : y ≡ pcb_octet (Info own go) = sym pcb.0 in
-    part-begins ifs number max before go [] (x ∷ y ∷ []) rest taken pcb.1 (omega arith) (λ i. omega arith) (omega arith) (λ i. nad i ∷ told i ∷ rest)
-pcb-begins ifs max number before go (x ∷ y ∷ z ∷ c) taken fits len nad pcb = absurd (omega arith)
+-- fewer octets than a block has
+pub way-under : (number : Number) (ifs max blocks joined came : ℕ) (p : part.Part) (field : List ℕ) → length field ≤ came → IsUnderWay ifs max blocks joined came p
+    → 3 < length (under_way_of number p field) → length (under_way_of number p field) < slice_index (under_way_of number p field) 2 + 4
+way-under number ifs max blocks joined came parts.Nad field short h lt = absurd (omega arith)
+way-under number ifs max blocks joined came parts.Pcb field short h lt = absurd (omega arith)
+way-under number ifs max blocks joined came (parts.Len more) field short h lt = absurd (omega arith)
+way-under number ifs max blocks joined came (parts.Rest more len) field short h lt = omega (arith, short, h.3)
 
 -- whole blocks and what there is of the next begin a chain
-pub at-part-begins : (ifs max : ℕ) (number : Number) (before : List (List ℕ)) (p : part.Part) (c : List ℕ) → Taken ifs before → length before + 1 ≤ 131072 → length (message_of before) ≤ max
-    → IsAtPart (number_after number (length before)) max (length before) (length (message_of before)) p c → Begins (IsBlock ifs) c → Begins (IsChain ifs number max) (octets_of (open_links number before) ++ c)
-at-part-begins ifs max number before parts.Nad c taken few fits at begun =
+pub way-begins : (ifs : ℕ) (number : Number) (max : ℕ) (before : List (List ℕ)) (came : ℕ) (p : part.Part) (field : List ℕ) → Taken ifs before → length before + 1 ≤ 131072 → length (message_of before) ≤ max
+    → length field ≤ came → IsUnderWay ifs max (length before) (length (message_of before)) came p → AreOctets field → Begins (IsChain ifs number max) (octets_of (open_links number before) ++ under_way_of (number_after number (length before)) p field)
+way-begins ifs number max before came parts.Nad field taken few fits short h octets =
+    part-begins ifs number max before false [] [] (block.spelling (link (number_after number (length before)) false [])) taken (omega arith) (omega arith) (λ i. omega arith) (omega arith) refl
+way-begins ifs number max before came parts.Pcb field taken few fits short h octets =
+    part-begins ifs number max before false [] (0 ∷ []) (drop 1 (block.spelling (link (number_after number (length before)) false []))) taken (omega arith) (omega arith) (λ i. omega arith) (omega arith) refl
+way-begins ifs number max before came (parts.Len more) field taken few fits short h octets =
     let own : Number = number_after number (length before) in
-    subst (λ (l : List ℕ). Begins (IsChain ifs number max) (octets_of (open_links number before) ++ l)) (sym (nil_of c at))
-    (part-begins ifs number max before false [] [] (block.spelling (link own false [])) taken (omega arith) (omega arith) (λ i. omega arith) (omega arith) refl)
-at-part-begins ifs max number before parts.Pcb c taken few fits at begun = nad-begins ifs max number before c taken few fits at.0 at.1
-at-part-begins ifs max number before (parts.Len go) c taken few fits at begun = pcb-begins ifs max number before go c taken fits at.0 at.1 at.2
-at-part-begins ifs max number before (parts.Rest go len) c taken few fits at begun = rest-begins ifs max number before go c taken at.0 at.1 at.2 at.3 begun
+    part-begins ifs number max before more [] (0 ∷ pcb_octet (Info own more) ∷ []) (drop 2 (block.spelling (link own more []))) taken h (omega arith) (λ i. omega arith) (omega arith) refl
+way-begins ifs number max before came (parts.Rest more len) field taken few fits short h octets =
+    let own : Number = number_after number (length before) in
+    let left : List ℕ = replicate (len - length field) 0 in
+    let all : List ℕ = field ++ left in
+    let sum : List ℕ = xor_of (front_of (link own more all)) ∷ [] in
+    let count : len ≡ length all = omega (arith, length-append field left, length-replicate {A = ℕ} (len - length field) 0, short, h.3) in
+    let text : field ++ (left ++ sum) ≡ all ++ sum = sym (append_assoc field left sum) in
+    part-begins ifs number max before more all (0 ∷ pcb_octet (Info own more) ∷ len ∷ field) (left ++ sum) taken h.0 (omega (arith, count, h.1)) (octets-append field left octets (zeros-octets (len - length field))) (omega (arith, count, h.2)) (λ i. 0 ∷ pcb_octet (Info own more) ∷ count i ∷ text i)
 
 -- and are none
 pub not-chain : (ifs max : ℕ) (number : Number) (before : List (List ℕ)) (c : List ℕ) → (3 < length c → length c < slice_index c 2 + 4) → (gs : List (List ℕ)) → IsChain ifs number max gs (octets_of (open_links number before) ++ c) → ⊥

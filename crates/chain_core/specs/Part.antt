@@ -1,5 +1,5 @@
 -- How far the block of a chain has come, and what its first three octets are refused for.
-use Rattle.std.specs.Prelude.{◌≡◌, ◌≢◌, ℕ, ◌+◌, ◌<◌, ◌≤◌, List, length, slice_index, Bool, true, false}
+use Rattle.std.specs.Prelude.{◌≡◌, ◌≢◌, ℕ, ◌+◌, ◌-◌, ◌<◌, ◌≤◌, Bool, true, false}
 use Rattle.block_core.specs.Block.{other, pcb_octet, IsInfo}
 use Rattle.block_core.specs.declared.pcb.Number.{Number}
 use Rattle.block_core.specs.declared.pcb.Pcb.{Pcb}
@@ -38,17 +38,6 @@ abbrev pub more_count : Bool → ℕ
 more_count false = 0
 more_count true = 1
 
--- a block with this number that can come after so many
-abbrev pub IsPcb : Number → ℕ → Bool → List ℕ → Type 0
-IsPcb number blocks more c = (pcb_octet (Info number more) ≡ slice_index c 1) × (blocks + 1 + more_count more ≤ 131072)
-
--- the octets c of the block under way, after so many blocks with so many octets
-abbrev pub IsAtPart : Number → ℕ → ℕ → ℕ → part.Part → List ℕ → Type 0
-IsAtPart number max blocks joined parts.Nad c = length c ≡ 0
-IsAtPart number max blocks joined parts.Pcb c = (length c ≡ 1) × (slice_index c 0 ≡ 0)
-IsAtPart number max blocks joined (parts.Len more) c = (length c ≡ 2) × (slice_index c 0 ≡ 0) × IsPcb number blocks more c
-IsAtPart number max blocks joined (parts.Rest more len) c = (3 ≤ length c) × (slice_index c 0 ≡ 0) × IsPcb number blocks more c × (joined + slice_index c 2 ≤ max) × (slice_index c 2 ≡ len)
-
 -- the first three octets of a block come one by one
 abbrev pub IsHead : part.Part → Type 0
 IsHead parts.Nad = Unit {0}
@@ -76,12 +65,6 @@ place_of parts.Pcb = 1
 place_of (parts.Len more) = 2
 place_of (parts.Rest more len) = 3
 
-abbrev pub more_said : part.Part → Bool
-more_said parts.Nad = false
-more_said parts.Pcb = false
-more_said (parts.Len more) = more
-more_said (parts.Rest more len) = more
-
 -- how many octets of the block there are up to the end of the first three, or of the block once LEN has come
 abbrev pub end_of : part.Part → ℕ
 end_of parts.Nad = 3
@@ -89,9 +72,16 @@ end_of parts.Pcb = 3
 end_of (parts.Len more) = 3
 end_of (parts.Rest more len) = len + 4
 
--- the field, of this length, and the LRC come next
-abbrev pub IsRest : part.Part → ℕ → Type 0
-IsRest parts.Nad n = ⊥
-IsRest parts.Pcb n = ⊥
-IsRest (parts.Len more) n = ⊥
-IsRest (parts.Rest more len) n = n ≡ len
+-- how many octets of its field came, where a field is under way
+abbrev pub came_of : part.Part → ℕ → ℕ
+came_of parts.Nad came = 0
+came_of parts.Pcb came = 0
+came_of (parts.Len more) came = 0
+came_of (parts.Rest more len) came = came
+
+-- and how many are still to come
+abbrev pub left_of : part.Part → ℕ → ℕ
+left_of parts.Nad came = 0
+left_of parts.Pcb came = 0
+left_of (parts.Len more) came = 0
+left_of (parts.Rest more len) came = len - came

@@ -1,5 +1,6 @@
 -- A receiver of a chain as its caller keeps it, with the octets of the message in the caller's buffer.
 use Rattle.std.specs.Prelude.{◌≡◌, ℕ, ◌+◌, ◌≤◌, List, [], ◌∷◌, length, take, drop, Bool, true, false, Some, None, Result, Err, OnOk, IfErr}
+use Rattle.octet_core.specs.Octets.{AreOctets}
 use Rattle.octet_core.specs.declared.stop.Refusal.{Refusal}
 use Rattle.octet_core.specs.declared.stop.Stop.{Stop}
 use Rattle.octet_core.specs.declared.stop.Stop.TheVariants.{Short, At}
@@ -10,7 +11,7 @@ use Rattle.chain_core.specs.declared.part.Part as part
 use Rattle.chain_core.specs.declared.part.Part.TheVariants as parts
 use Rattle.chain_core.specs.declared.places.ReceiverPlaces.{ReceiverPlaces}
 use Rattle.chain_core.specs.Chain.{IsChain, number_after}
-use Rattle.chain_core.specs.Part.{more_count}
+use Rattle.chain_core.specs.Part.{more_count, came_of}
 use Rattle.chain_core.specs.Taken.{Reception, HasTaken}
 use Rattle.chain_core.specs.declared.reason.ChainReason.{ChainReason}
 
@@ -28,6 +29,10 @@ number_at p = number_after p.first p.blocks
 -- the octets of its field that came: they come after the message
 abbrev pub field_at : ReceiverPlaces → List ℕ → List ℕ
 field_at p message = take p.came (drop p.joined message)
+
+-- how many octets of the buffer are the message, or those of the field
+abbrev pub held_at : ReceiverPlaces → ℕ
+held_at p = p.joined + came_of p.part p.came
 
 -- the receiver that they are with this buffer
 abbrev pub received_at : ReceiverPlaces → List ℕ → Reception
@@ -63,6 +68,14 @@ pub record AreReceiverPlaces (p : ReceiverPlaces) (room : ℕ) : Type 0 where
   pub joined : p.joined ≤ p.max
   pub blocks : p.blocks ≤ 131072
   pub among : IsAmong p.done p
+
+-- A receiver has room for the longest message, and keeps the octets that are in use and no other.
+pub record IsReceiver (p : ReceiverPlaces) (message : List ℕ) (room : ℕ) : Type 0 where
+  pub fit : AreReceiverPlaces p room
+  pub octets : AreOctets message
+  pub exact : length message ≡ held_at p
+  -- some list of octets may have been taken
+  pub taken : p.refusal ≡ None → (t : List ℕ) × HasTaken (received_at p message) t
 
 -- What a receiver answers when no more octets come, of all octets that it may have taken.
 pub record IsFinishedHere (r : Reception) (result : Result (Unit {0}) (Stop ChainReason)) : Type 0 where

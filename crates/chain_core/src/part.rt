@@ -3,7 +3,7 @@
 ghost use Rattle.std.specs.Prelude.{◌≡◌, ◌≢◌, ◌<◌, ◌≤◌, IfOk, IfErr, OnOk, true, false, IsTrue};
 ghost use Rattle.block_core.specs.Block.{other, pcb_octet};
 ghost use Rattle.block_core.specs.declared.pcb.Pcb.TheVariants.{Info};
-ghost use Rattle.chain_core.specs.Part.{IsPcbFault, IsLenFault, IsHead, IsHeadFault, IsAfter, place_of, more_said, end_of};
+ghost use Rattle.chain_core.specs.Part.{IsPcbFault, IsLenFault, IsHead, IsHeadFault, IsAfter, place_of, end_of};
 
 use crate::reason::ChainReason;
 use block_core::{Number, Pcb};
@@ -20,16 +20,6 @@ pub enum Part {
 }
 
 impl Part {
-    /// Whether the block under way says that more follow.
-    pub(crate) fn more(self) -> bool
-        ensures { result ≡ more_said self }
-    {
-        match self {
-            Part::Nad | Part::Pcb => false,
-            Part::Len { more } | Part::Rest { more, .. } => more,
-        }
-    }
-
     /// The place in the block of the octet that comes next, 3 for all from the field on.
     pub(crate) fn place(self) -> usize
         ensures { result ≡ place_of self }

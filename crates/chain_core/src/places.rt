@@ -1,17 +1,16 @@
 //! A receiver of a chain that its caller keeps, some thirty octets, and whose message is in the caller's buffer.
 
 ghost use Rattle.std.specs.Prelude.{◌≡◌, ◌+◌, ◌*◌, ◌<◌, ◌≤◌, length, take, Some, None, [], ◌∷◌, IfSome, IfNone, MatchBool, true, false, List, ℕ, ◌⊎◌, IsSome};
-ghost use Rattle.octet_core.specs.Octets.{AreOctets};
 ghost use Rattle.octet_core.specs.Reader.{IsFed};
 ghost use Rattle.octet_core.specs.declared.stop.Refusal.{Refusal};
 ghost use Rattle.octet_core.specs.declared.stop.Stop.TheVariants.{Short};
 ghost use Rattle.chain_core.specs.declared.reason.ChainReason.{ChainReason};
 ghost use Rattle.chain_core.specs.declared.part.Part.TheVariants.{Rest};
 ghost use Rattle.chain_core.specs.Chain.{IsChain, IsReason, number_after};
-ghost use Rattle.chain_core.specs.Part.{IsHead, IsRest};
+ghost use Rattle.chain_core.specs.Part.{IsHead, left_of};
 ghost use Rattle.chain_core.specs.Taken.{HasTaken, IsOpen, IsClosed, fresh, refusal_of};
-ghost use Rattle.chain_core.specs.Receiving.{Goes};
-ghost use Rattle.chain_core.specs.Places.{AreReceiverPlaces, IsUnderWay, number_at, field_at, under_way_of, received_at, IsFinishedHere};
+ghost use Rattle.chain_core.specs.Receiving.{Goes, fed_answer, end_answer};
+ghost use Rattle.chain_core.specs.Places.{AreReceiverPlaces, IsUnderWay, number_at, field_at, under_way_of, received_at, held_at, IsFinishedHere};
 
 use crate::part::{Part, after};
 use crate::reason::ChainReason;
@@ -88,10 +87,7 @@ impl ReceiverPlaces {
         while taken < piece.len() && self.is_open() {
             taken += self.take_run(message, &piece[taken..]);
         }
-        match self.refusal {
-            Some(refusal) => Err(refusal.stop()),
-            None => Ok((taken, self.done)),
-        }
+        self.answer(taken)
     }
 
     /// What there is to say when no more octets come, as `Receiver::finish`, of all octets that these places may
@@ -100,13 +96,7 @@ impl ReceiverPlaces {
         requires { (room : ℕ) × AreReceiverPlaces self.now room }
         ensures { (message : List ℕ) → AreReceiverPlaces self.now (length message) → IsFinishedHere (received_at self.now message) result }
     {
-        match self.refusal {
-            Some(refusal) => Err(refusal.stop()),
-            None if self.done => Ok(()),
-            None => Err(Stop::Short {
-                place: self.joined as usize + 4 * self.blocks as usize + self.under_way(),
-            }),
-        }
+        self.ended()
     }
 
     /// How many octets at the front of the buffer are the message, once the chain is whole.
@@ -159,11 +149,35 @@ impl ReceiverPlaces {
         }
     }
 
+    /// What a call that fed octets answers, of which it took so many.
+    pub(crate) fn answer(&self, taken: usize) -> Result<(usize, bool), Stop<ChainReason>>
+        ensures { result ≡ fed_answer self.now.refusal self.now.done taken }
+    {
+        match self.refusal {
+            Some(refusal) => Err(refusal.stop()),
+            None => Ok((taken, self.done)),
+        }
+    }
+
+    /// What there is to say when no more octets come.
+    pub(crate) fn ended(&self) -> Result<(), Stop<ChainReason>>
+        requires { (room : ℕ) × AreReceiverPlaces self.now room }
+        ensures { (message : List ℕ) → held_at self.now ≤ length message → result ≡ end_answer (received_at self.now message) }
+    {
+        match self.refusal {
+            Some(refusal) => Err(refusal.stop()),
+            None if self.done => Ok(()),
+            None => Err(Stop::Short {
+                place: self.joined as usize + 4 * self.blocks as usize + self.under_way(),
+            }),
+        }
+    }
+
     /// How many octets of the block under way came.
-    fn under_way(&self) -> usize
+    pub(crate) fn under_way(&self) -> usize
         requires { IsUnderWay self.now.ifs self.now.max self.now.blocks self.now.joined self.now.came self.now.part }
         ensures few { result ≤ 258 }
-        ensures count { (message : List ℕ) → self.now.max ≤ length message →
+        ensures count { (message : List ℕ) → held_at self.now ≤ length message →
             result ≡ length (under_way_of (number_at self.now) self.now.part (field_at self.now message)) }
     {
         match self.part {
@@ -172,19 +186,19 @@ impl ReceiverPlaces {
         }
     }
 
-    /// Keeps the refusal of the octet at this place of the block under way.
-    fn refuse(&mut self, place: usize, reason: ChainReason)
-        requires place { place ≤ 258 }
-        requires blocks { self.old.blocks ≤ 131072 }
-        requires joined { self.old.joined ≤ 131072 }
-        ensures { self.new ≡ record self.old { refusal = Some (record { place = self.old.joined + 4 * self.old.blocks + place; reason = reason }) } }
+    /// How many octets of the field under way are still to come, none where another octet comes next.
+    pub(crate) fn field_left(&self) -> usize
+        requires { IsUnderWay self.now.ifs self.now.max self.now.blocks self.now.joined self.now.came self.now.part }
+        ensures { result ≡ left_of self.now.part self.now.came }
     {
-        let place = self.joined as usize + 4 * self.blocks as usize + place;
-        self.refusal = Some(Refusal { place, reason });
+        match self.part {
+            Part::Rest { len, .. } => (len - self.came) as usize,
+            Part::Nad | Part::Pcb | Part::Len { .. } => 0,
+        }
     }
 
     /// Whether it takes more octets.
-    fn is_open(&self) -> bool
+    pub(crate) fn is_open(&self) -> bool
         ensures { (message : List ℕ) → MatchBool result (IsOpen (received_at self.now message)) (IsClosed (received_at self.now message)) }
     {
         self.refusal.is_none() && !self.done
@@ -201,7 +215,7 @@ impl ReceiverPlaces {
         }
     }
 
-    /// Takes one of the first three octets of a block, or its LRC, or octets of its field.
+    /// Takes octets of the field under way, or one other octet of the block.
     fn take_run(&mut self, message: &mut [u8], piece: &[u8]) -> usize
         requires some { 0 < length piece.now }
         requires fit { AreReceiverPlaces self.old (length message.old) }
@@ -212,16 +226,30 @@ impl ReceiverPlaces {
         ensures fit { AreReceiverPlaces self.new (length message.new) }
         ensures goes { Goes (received_at self.old message.old) (received_at self.new message.new) (take result piece.now) }
     {
+        let run = piece.len().min(self.field_left());
+        if run == 0 {
+            self.take_control(message, piece[0]);
+            return 1;
+        }
+        let start = self.joined as usize + self.came as usize;
+        message[start..start + run].copy_from_slice(&piece[..run]);
+        self.came += run as u8;
+        run
+    }
+
+    /// Takes one of the first three octets of a block, or its LRC.
+    pub(crate) fn take_control(&mut self, message: &[u8], octet: u8)
+        requires open { (self.old.refusal ≡ None) × (self.old.done ≡ false) }
+        requires fit { (room : ℕ) × AreReceiverPlaces self.old room }
+        requires held { held_at self.old ≤ length message.now }
+        requires whole { left_of self.old.part self.old.came ≡ 0 }
+        ensures fit { (room : ℕ) → AreReceiverPlaces self.old room → AreReceiverPlaces self.new room }
+        ensures held { held_at self.new ≡ held_at self.old }
+        ensures goes { Goes (received_at self.old message.now) (received_at self.new message.now) (octet ∷ []) }
+    {
         match self.part {
-            Part::Rest { len, .. } if self.came < len => self.take_field(message, piece, len),
-            Part::Rest { more, len } => {
-                self.take_lrc(message, more, len, piece[0]);
-                1
-            }
-            Part::Nad | Part::Pcb | Part::Len { .. } => {
-                self.take_head(piece[0]);
-                1
-            }
+            Part::Rest { more, len } => self.take_lrc(message, more, len, octet),
+            Part::Nad | Part::Pcb | Part::Len { .. } => self.take_head(octet),
         }
     }
 
@@ -231,7 +259,8 @@ impl ReceiverPlaces {
         requires head { IsHead self.old.part }
         requires fit { (room : ℕ) × AreReceiverPlaces self.old room }
         ensures fit { (room : ℕ) → AreReceiverPlaces self.old room → AreReceiverPlaces self.new room }
-        ensures goes { (message : List ℕ) → AreOctets message → AreReceiverPlaces self.old (length message) →
+        ensures held { held_at self.new ≡ held_at self.old }
+        ensures goes { (message : List ℕ) → held_at self.old ≤ length message →
             Goes (received_at self.old message) (received_at self.new message) (octet ∷ []) }
     {
         let last = self.blocks + 1 == MOST_BLOCKS;
@@ -245,33 +274,15 @@ impl ReceiverPlaces {
         }
     }
 
-    /// Takes octets of the field of a block, of `len` octets.
-    fn take_field(&mut self, message: &mut [u8], piece: &[u8], len: u8) -> usize
-        requires some { 0 < length piece.now }
-        requires fit { AreReceiverPlaces self.old (length message.old) }
-        requires open { (self.old.refusal ≡ None) × (self.old.done ≡ false) }
-        requires part { IsRest self.old.part len }
-        requires under_way { self.old.came < len }
-        ensures some { 0 < result }
-        ensures most { result ≤ length piece.now }
-        ensures room { length message.new ≡ length message.old }
-        ensures fit { AreReceiverPlaces self.new (length message.new) }
-        ensures goes { Goes (received_at self.old message.old) (received_at self.new message.new) (take result piece.now) }
-    {
-        let start = self.joined as usize + self.came as usize;
-        let run = piece.len().min((len - self.came) as usize);
-        message[start..start + run].copy_from_slice(&piece[..run]);
-        self.came += run as u8;
-        run
-    }
-
     /// Takes the LRC of a block whose field came, which then joins the message.
     fn take_lrc(&mut self, message: &[u8], more: bool, len: u8, octet: u8)
-        requires fit { AreReceiverPlaces self.old (length message.now) }
         requires open { (self.old.refusal ≡ None) × (self.old.done ≡ false) }
+        requires fit { (room : ℕ) × AreReceiverPlaces self.old room }
+        requires held { self.old.joined + len ≤ length message.now }
         requires part { self.old.part ≡ Rest more len }
         requires came { self.old.came ≡ len }
-        ensures fit { AreReceiverPlaces self.new (length message.now) }
+        ensures fit { (room : ℕ) → AreReceiverPlaces self.old room → AreReceiverPlaces self.new room }
+        ensures held { held_at self.new ≡ held_at self.old }
         ensures goes { Goes (received_at self.old message.now) (received_at self.new message.now) (octet ∷ []) }
     {
         let start = self.joined as usize;
@@ -289,5 +300,16 @@ impl ReceiverPlaces {
         self.done = !more;
         self.part = Part::Nad;
         self.came = 0;
+    }
+
+    /// Keeps the refusal of the octet at this place of the block under way.
+    fn refuse(&mut self, place: usize, reason: ChainReason)
+        requires place { place ≤ 258 }
+        requires blocks { self.old.blocks ≤ 131072 }
+        requires joined { self.old.joined ≤ 131072 }
+        ensures { self.new ≡ record self.old { refusal = Some (record { place = self.old.joined + 4 * self.old.blocks + place; reason = reason }) } }
+    {
+        let place = self.joined as usize + 4 * self.blocks as usize + place;
+        self.refusal = Some(Refusal { place, reason });
     }
 }

@@ -1,6 +1,6 @@
 //! A chain that comes in pieces, and its message.
 
-ghost use Rattle.std.specs.Prelude.{◌≡◌, ◌+◌, ◌*◌, ◌<◌, ◌≤◌, ◌++◌, ◌⊎◌, length, take, Some, IsSome, [], ◌∷◌, IfOk, IfErr, IfSome, IfNone, OnOk, MatchBool, true, false, None, List, ℕ, slice_index};
+ghost use Rattle.std.specs.Prelude.{◌≡◌, ◌+◌, ◌*◌, ◌<◌, ◌≤◌, ◌++◌, ◌⊎◌, length, take, Some, IsSome, IfOk, IfErr, IfSome, IfNone, OnOk, MatchBool, true, false, None, List, ℕ, slice_index};
 ghost use Rattle.octet_core.specs.Reader.{IsFed, IsFinished};
 ghost use Rattle.octet_core.specs.declared.stop.Refusal.{Refusal};
 ghost use Rattle.octet_core.specs.declared.stop.Stop.TheVariants.{Short};
@@ -9,10 +9,10 @@ ghost use Rattle.chain_core.specs.Chain.{IsChain, IsReason};
 ghost use Rattle.chain_core.specs.Taken.{HasTaken, AreBefore, IsOpen, IsClosed, fresh, refusal_of};
 ghost use Rattle.chain_core.specs.Receiving.{Goes};
 
-use crate::part::{Part, after};
+use crate::places::ReceiverPlaces;
 use crate::reason::ChainReason;
-use block_core::{BlockReader, Number};
-use octet_core::{Refusal, Stop};
+use block_core::Number;
+use octet_core::Stop;
 use std::alloc::{AllocError, Global};
 use std::fmt::{self, Debug, Formatter, Write};
 use std::marker::Model;
@@ -24,32 +24,25 @@ pub const MOST_BLOCKS: u32 = 131_072;
 pub const LONGEST_MESSAGE: usize = 131_072;
 
 /// A receiver of one chain (ISO/IEC 7816-3, clause 11.6) whose octets come in pieces. It joins the fields
-/// of the blocks to the message, for which `new` reserves memory once; no later call takes any.
+/// of the blocks to the message, for which `new` reserves memory once; no later call takes any. It judges
+/// octets as [`ReceiverPlaces`] do, which it keeps beside a message of its own.
 #[derive(Drop)]
 pub struct Receiver {
-    ifs: u8,
-    first: Number,
-    max: usize,
+    places: ReceiverPlaces,
+    /// The message so far, and then what came of the field under way.
     message: Vec<u8>,
-    blocks: u32,
-    number: Number,
-    reader: BlockReader,
-    part: Part,
-    done: bool,
-    refusal: Option<Refusal<ChainReason>>,
 }
 
 impl Model for Receiver {
     ghost use Rattle.std.specs.Vec.{vec_capacity};
     ghost use Rattle.chain_core.specs.Taken.{Reception};
+    ghost use Rattle.chain_core.specs.Places.{received_at, IsReceiver};
 
     ghost Value = { Reception };
 
-    ghost use Rattle.chain_core.specs.Receiving.{IsSound};
+    ghost view = { λ r. received_at r.places r.message.items };
 
-    ghost view = { λ r. record { ifs = r.ifs; number = r.first; max = r.max; blocks = r.blocks; joined = r.message.items; under_way = r.reader.taken; done = r.done; refusal = r.refusal } };
-
-    ghost invariant = { λ r. IsSound (record { ifs = r.ifs; number = r.first; max = r.max; blocks = r.blocks; joined = r.message.items; under_way = r.reader.taken; done = r.done; refusal = r.refusal }) r.number (vec_capacity r.message) r.part r.reader };
+    ghost invariant = { λ r. IsReceiver r.places r.message.items (vec_capacity r.message) };
 }
 
 impl Receiver {
@@ -63,32 +56,16 @@ impl Receiver {
         ensures { IfOk result (λ r. r ≡ fresh ifs number max) }
     {
         let message = Vec::with_capacity(alloc, max)?;
-        Ok(Receiver {
-            ifs,
-            first: number,
-            max,
-            message,
-            blocks: 0,
-            number,
-            reader: BlockReader::new(ifs),
-            part: Part::Nad,
-            done: false,
-            refusal: None,
-        })
+        let places = ReceiverPlaces::begin(ifs, number, max as u32);
+        Ok(Receiver { places, message })
     }
 
     /// Begins anew, with a first block of this number.
     pub fn restart(&mut self, number: Number)
         ensures { self.new ≡ fresh self.old.ifs number self.old.max }
     {
-        self.first = number;
+        self.places = ReceiverPlaces::begin(self.places.ifs, number, self.places.max);
         self.message.clear();
-        self.blocks = 0;
-        self.number = number;
-        self.reader.reset();
-        self.part = Part::Nad;
-        self.done = false;
-        self.refusal = None;
     }
 
     /// Takes the next octets: how many of this piece, and whether the chain is whole. It takes the whole
@@ -106,13 +83,7 @@ impl Receiver {
         while taken < piece.len() && self.is_open() {
             taken += self.take_run(&piece[taken..]);
         }
-        match self.refusal {
-            Some(refusal) => Err(Stop::At {
-                place: refusal.place,
-                reason: refusal.reason,
-            }),
-            None => Ok((taken, self.done)),
-        }
+        self.places.answer(taken)
     }
 
     /// What there is to say when no more octets come: `Short` with the octets taken where the chain isn't
@@ -122,16 +93,7 @@ impl Receiver {
         ensures done { OnOk result ((self.now.refusal ≡ None) × (self.now.done ≡ true)) }
         ensures waits { IfErr result (λ stop. self.now.refusal ≡ None → (self.now.done ≡ false) × (stop ≡ Short (length self.now.joined + self.now.blocks * 4 + length self.now.under_way))) }
     {
-        match self.refusal {
-            Some(refusal) => Err(Stop::At {
-                place: refusal.place,
-                reason: refusal.reason,
-            }),
-            None if self.done => Ok(()),
-            None => Err(Stop::Short {
-                place: self.message.len() + 4 * self.blocks as usize + self.reader.taken(),
-            }),
-        }
+        self.places.ended()
     }
 
     /// The message, once the chain is whole.
@@ -139,25 +101,22 @@ impl Receiver {
         ensures done { IfSome result (λ message. (self.now.refusal ≡ None) × (self.now.done ≡ true) × (message.now ≡ self.now.joined)) }
         ensures none { IfNone result (IsSome self.now.refusal ⊎ (self.now.done ≡ false)) }
     {
-        if self.done && self.refusal.is_none() {
-            Some(self.message.as_slice())
-        } else {
-            None
-        }
+        let len = self.places.message_len()?;
+        Some(&self.message.as_slice()[..len])
     }
 
     /// How many whole blocks were taken; after a refusal, those before the block that it is in.
     pub fn blocks(&self) -> u32
         ensures { result ≡ self.now.blocks }
     {
-        self.blocks
+        self.places.blocks
     }
 
     /// Whether it takes more octets.
     pub(crate) fn is_open(&self) -> bool
         ensures { MatchBool result (IsOpen self.now) (IsClosed self.now) }
     {
-        self.refusal.is_none() && !self.done
+        self.places.is_open()
     }
 
     /// How many octets may come next so that none lies past the block under way: those that are left of
@@ -171,10 +130,10 @@ impl Receiver {
         ensures taken { (t : List ℕ) × HasTaken self.now t }
         ensures limit { self.now.max ≤ 131072 }
     {
-        self.part.end() - self.reader.taken()
+        self.places.part.end() - self.places.under_way()
     }
 
-    /// Takes one of the first three octets of a block, or octets of its rest.
+    /// Takes octets of the field under way, or one other octet of the block.
     fn take_run(&mut self, piece: &[u8]) -> usize
         requires some { 0 < length piece.now }
         requires open { IsOpen self.old }
@@ -182,81 +141,22 @@ impl Receiver {
         ensures most { result ≤ length piece.now }
         ensures goes { Goes self.old self.new (take result piece.now) }
     {
-        if matches!(self.part, Part::Rest { .. }) {
-            return self.take_rest(piece);
+        let run = piece.len().min(self.places.field_left());
+        if run == 0 {
+            self.places.take_control(self.message.as_slice(), piece[0]);
+            return 1;
         }
-        self.take_head(piece[0]);
-        1
-    }
-
-    /// Takes one of the first three octets of a block.
-    fn take_head(&mut self, octet: u8)
-        requires open { IsOpen self.old }
-        requires head { length self.old.under_way < 3 }
-        ensures { Goes self.old self.new (octet ∷ []) }
-    {
-        let last = self.blocks + 1 == MOST_BLOCKS;
-        let room = self.max - self.message.len();
-        match after(self.part, octet, self.ifs, self.number, last, room) {
-            Ok(part) => {
-                self.part = part;
-                let _taken = self.reader.feed(&[octet]);
-            }
-            Err(reason) => {
-                let place = self.message.len() + 4 * self.blocks as usize + self.part.place();
-                self.refusal = Some(Refusal { place, reason });
-            }
-        }
-    }
-
-    /// Takes octets of the field and the LRC of a block, and joins its field once it is whole.
-    fn take_rest(&mut self, piece: &[u8]) -> usize
-        requires some { 0 < length piece.now }
-        requires open { IsOpen self.old }
-        requires rest { 3 ≤ length self.old.under_way }
-        ensures some { 0 < result }
-        ensures most { result ≤ length piece.now }
-        ensures goes { Goes self.old self.new (take result piece.now) }
-    {
-        match self.reader.feed(piece) {
-            Ok((taken, _)) => {
-                if let Some(block) = self.reader.value() {
-                    self.message.extend_from_slice(block.inf()).unwrap();
-                    self.blocks += 1;
-                    self.number = self.number.other();
-                    self.done = !self.part.more();
-                    self.part = Part::Nad;
-                    self.reader.reset();
-                }
-                taken
-            }
-            Err(Stop::At { place, .. }) => {
-                let place = self.message.len() + 4 * self.blocks as usize + place;
-                self.refusal = Some(Refusal {
-                    place,
-                    reason: ChainReason::BadLrc,
-                });
-                piece.len()
-            }
-            Err(Stop::Short { .. }) => unreachable!(),
-        }
+        self.message.extend_from_slice(&piece[..run]).unwrap();
+        self.places.came += run as u8;
+        run
     }
 }
 
-/// Sizes, numbers, and how many octets came. A message may carry a PIN, so no octet is shown.
+/// What comes next, and how many octets came. A message may carry a PIN, so no octet is shown.
 impl Debug for Receiver {
     fn fmt<W: Write>(&self, f: &mut Formatter<W>) -> fmt::Result {
         f.debug_struct("Receiver")
-            .field("ifs", &self.ifs)
-            .field("first", &self.first)
-            .field("max", &self.max)
-            .field("message_octets", &self.message.len())
-            .field("blocks", &self.blocks)
-            .field("number", &self.number)
-            .field("reader", &self.reader)
-            .field("part", &self.part)
-            .field("done", &self.done)
-            .field("refusal", &self.refusal)
+            .field("places", &self.places)
             .finish()
     }
 }

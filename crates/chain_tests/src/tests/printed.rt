@@ -64,10 +64,8 @@ fn debug_shows_no_octet(rt: HostRuntime) -> Result<(), Fail> {
         )
     );
     let seen =
-        "Receiver { ifs: 2, first: Zero, max: 8, message_octets: 0, blocks: 0, number: Zero, \
-        reader: BlockReader { ifs: 2, taken: 5, \
-        stage: Rest { pcb: Info { number: Zero, more: true }, end: 5 } }, \
-        part: Rest { more: true, len: 2 }, done: false, refusal: None }";
+        "Receiver { places: ReceiverPlaces { ifs: 2, first: Zero, max: 8, blocks: 0, joined: 0, \
+        part: Rest { more: true, len: 2 }, came: 2, done: false, refusal: None } }";
     assert!(rt; debugs(alloc, &receiver, seen));
     Ok(())
 }

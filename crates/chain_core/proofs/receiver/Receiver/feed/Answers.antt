@@ -1,15 +1,11 @@
-use Rattle.std.proofs.Common.{◌≡◌, ◌≤◌, ◌-◌, ◌∙◌, ◌⊎◌, inl, inr, ℕ, List, length, take, drop, arith, sym, ap, subst, Bool, Result, Ok}
+use Rattle.std.proofs.Common.{◌≡◌, ◌≤◌, ◌-◌, ◌∙◌, ◌⊎◌, inl, inr, ℕ, List, length, take, drop, arith, sym, ap, subst}
 use Rattle.std.proofs.lemmas.List.{length-drop, take_rest}
 use Rattle.std.proofs.Math.Seq.{take-add}
-use Rattle.chain_core.specs.Taken.{Reception, HasTaken, IsOpen, IsClosed, refusal_of}
-use Rattle.chain_core.specs.Receiving.{Goes}
-use Rattle.chain_core.proofs.Feeds.{Fed, before-all, goes-then, open-not-closed, fed-on, fed-refused}
-use Rattle.octet_core.specs.Reader.{IsFed}
-use Rattle.octet_core.specs.declared.stop.Stop.{Stop}
-use Rattle.chain_core.specs.declared.reason.ChainReason.{ChainReason}
-use Rattle.chain_core.specs.Chain.{IsChain, IsReason}
+use Rattle.chain_core.specs.Taken.{Reception, IsOpen, IsClosed}
+use Rattle.chain_core.specs.Receiving.{Goes, fed_answer}
+use Rattle.chain_core.proofs.Feeds.{Fed, before-all, goes-then, open-not-closed, fed-answered}
 use Rattle.chain_core.proofs.receiver.Receiver.feed.Goals as goal
-use Rattle.chain_core.proofs.receiver.Receiver.feed.Goals.{in-Some, in-None, then-loop-taken-test+else-is_open, else-loop-taken-test}
+use Rattle.chain_core.proofs.receiver.Receiver.feed.Goals.{then-loop-taken-test+else-is_open, else-loop-taken-test}
 
 pub loop-taken-preserved : goal.loop-taken-preserved
 loop-taken-preserved c =
@@ -27,19 +23,11 @@ loop-taken-preserved c =
 
 pub returns-clause-fed : goal.returns-clause-fed
 returns-clause-fed c =
-    let old : Reception = c.args.self.now in
-    let new : Reception = c.loop-taken.self in
-    let n : ℕ = c.loop-taken.taken in
-    let piece : List ℕ = c.args.piece.now in
-    let exit : (length piece ≤ n) ⊎ IsClosed new =
+    let exit : (length c.args.piece.now ≤ c.loop-taken.taken) ⊎ IsClosed c.loop-taken.self =
     elim c.loop-taken-test.branch [ then-loop-taken-test+else-is_open w ↦ inr (rw w.if-is_open.false at w.is_open.ensures) | else-loop-taken-test w ↦ inl (omega arith) ] in
-    let f : Fed old new piece n = record { goes = c.loop-taken.invariant.goes; inside = c.loop-taken.invariant.inside; closed = c.loop-taken.invariant.closed; exit = exit } in
-    let kept = ap refusal_of (sym c.self-2.view_is) in
-    let Answers : Result (ℕ × Bool) (Stop ChainReason) → Type 0 = λ r. IsFed (IsChain old.ifs old.number old.max) (IsReason old.ifs old.number old.max) HasTaken refusal_of old new piece r in
-    elim c.match-self.branch [
-      | in-Some w ↦ subst Answers (sym w.result-is) (fed-refused old new piece n w.in-Some.refusal f (kept ∙ w.in-Some.is))
-      | in-None w ↦ subst Answers (sym w.result-is) (subst (λ (d : Bool). Answers (Ok (n, d))) (sym (ap (λ (s : Reception). s.done) c.self-2.view_is)) (fed-on old new piece n f (kept ∙ w.in-None.is)))
-    ]
+    let f : Fed c.args.self.now c.loop-taken.self c.args.piece.now c.loop-taken.taken = record { goes = c.loop-taken.invariant.goes; inside = c.loop-taken.invariant.inside; closed = c.loop-taken.invariant.closed; exit = exit } in
+    let answer = c.answer.ensures ∙ ap (λ (s : Reception). fed_answer s.refusal s.done c.loop-taken.taken) c.self-2.view_is in
+    fed-answered c.args.self.now c.loop-taken.self c.args.piece.now c.loop-taken.taken c.answer.result f answer
 
 pub returns-clause-before : goal.returns-clause-before
 returns-clause-before c = λ refusal some t h.

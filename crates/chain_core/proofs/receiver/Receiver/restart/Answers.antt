@@ -1,9 +1,8 @@
-use Rattle.std.proofs.Common.{arith, ◌∙◌, ap}
-use Rattle.block_core.specs.Reading.{fresh}
-use Rattle.chain_core.proofs.Receptions.{fresh-sound}
+use Rattle.std.proofs.Common.{arith}
+use Rattle.chain_core.proofs.Steps.{receiver-fresh}
 use Rattle.chain_core.proofs.receiver.Receiver.restart.Goals as goal
 
 pub invariant_of-self : goal.invariant_of-self
 invariant_of-self c =
-    let i = c.self.invariant in
-    fresh-sound c.self.inside.ifs c.args.number c.self.inside.max _ c.reset.new.self i.least i.most i.limit (omega (arith, c.clear.ensures.capacity, i.reserved)) (c.reset.ensures ∙ ap fresh i.size) c.clear.new.self.items c.clear.ensures.items
+    let i = c.self.inside in
+    receiver-fresh c.begin-self-inside.result c.clear.new.self.items _ i.places.ifs c.args.number i.places.max (c.begin-self-inside.ensures.fit _ (omega (arith, c.clear.ensures.capacity, c.self.invariant.fit.reserved))) c.clear.ensures.items c.begin-self-inside.ensures.fresh
