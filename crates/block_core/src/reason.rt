@@ -54,8 +54,9 @@ impl Display for BlockReason {
 impl Error for BlockReason {}
 
 impl Pcb {
-    /// Why no block of this kind has an information field of this length.
-    pub(crate) fn fault_of_len(self, len: u8, ifs: u8) -> Option<BlockReason>
+    /// Why no block of this kind has an information field of this length, under this information size: `BadLen` or
+    /// `OverIfs`.
+    pub fn fault_of_len(self, len: u8, ifs: u8) -> Option<BlockReason>
         ensures none { IfNone result (FitsLen ifs self len) }
         ensures some { IfSome result (IsLenFault ifs self len) }
     {

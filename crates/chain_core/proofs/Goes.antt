@@ -1,5 +1,5 @@
 -- Where a chain goes on, and that every input has one verdict.
-use Rattle.std.proofs.Common.{◌≡◌, ◌≢◌, ℕ, suc, ◌+◌, ◌<◌, ◌≤◌, ◌++◌, List, [], ◌∷◌, length, drop, get_or, refl, sym, ap, subst, ◌∙◌, arith, Bool, true, false, append_assoc, bit_xor, inl, inr, ◌⊎◌}
+use Rattle.std.proofs.Common.{◌≡◌, ◌≢◌, ℕ, suc, ◌+◌, ◌-◌, ◌<◌, ◌≤◌, ◌++◌, List, [], ◌∷◌, length, drop, get_or, refl, sym, ap, subst, ◌∙◌, arith, Bool, true, false, append_assoc, bit_xor, inl, inr, ◌⊎◌}
 use Rattle.std.proofs.lemmas.Bool.{cases_lt}
 use Rattle.std.proofs.lemmas.List.{append-nil, length-append, length-replicate, get_or-replicate, get_or_past}
 use Rattle.std.proofs.lemmas.List.Sums.{fold-append}
@@ -10,7 +10,7 @@ use Rattle.octet_core.specs.Grammar.{Begins, OneVerdict, self_ended, IsFirst}
 use Rattle.octet_core.proofs.Begun.{begins-front}
 use Rattle.octet_core.proofs.Firsts.{first_once, first_holds}
 use Rattle.octet_core.proofs.Told.{same}
-use Rattle.octet_core.proofs.Lists.{head_is, nil_of, cut_at, octets-append, octets-left, octets-right, octets-cons}
+use Rattle.octet_core.proofs.Lists.{head_is, nil_of, never, cut_at, octets-append, octets-left, octets-right, octets-cons}
 use Rattle.octet_core.proofs.Verdicts.{Steps, one_verdict}
 use Rattle.block_core.specs.declared.pcb.Number.{Number}
 use Rattle.block_core.specs.declared.pcb.Number.TheVariants.{Zero, One}
@@ -18,15 +18,16 @@ use Rattle.block_core.specs.declared.pcb.Pcb.{Pcb}
 use Rattle.block_core.specs.declared.pcb.Pcb.TheVariants.{Info, Ready, Request, Response}
 use Rattle.block_core.specs.Block as block
 use Rattle.block_core.specs.Block.{other, pcb_octet, front_of, IsInfo}
-use Rattle.block_core.proofs.Blocks.{pcb-back, xor-zero}
+use Rattle.block_core.proofs.Blocks.{xor-zero}
 use Rattle.block_core.proofs.Goes.{pcb-known}
 use Rattle.chain_core.specs.declared.reason.ChainReason.{ChainReason}
 use Rattle.chain_core.specs.declared.reason.ChainReason.TheVariants.{BadNad, BadPcb, NotInfo, BadSequence, TooManyBlocks, BadLen, OverIfs, TooLong, BadLrc}
 use Rattle.chain_core.specs.Chain.{IsChain, message_of, open_links, octets_of, link, number_after, spelling, MeetsInBlock, Meets, IsReason, all_reasons}
-use Rattle.chain_core.specs.Part.{more_count}
+use Rattle.chain_core.specs.Part.{more_count, IsPcbFault, IsLenFault}
 use Rattle.chain_core.proofs.Unique.{one-accepted}
 use Rattle.chain_core.proofs.Reasons.{IsPart, part-short, part-sum, reason-in_block}
-use Rattle.chain_core.proofs.Stuck.{not-other, same-number, meets-stuck}
+use Rattle.chain_core.proofs.Heads.{first-pcb, first-len, first-lrc}
+use Rattle.chain_core.proofs.Stuck.{meets-stuck}
 
 -- ---- chains by their blocks
 
@@ -206,54 +207,32 @@ goes-nad ifs number max before x taken few fits =
       | inr ne ↦ refused ifs number max before (x ∷ []) BadNad (part-short (x ∷ []) (omega arith)) (inl ((omega arith, ne), refl))
     ]
 
-not-info : (ifs : ℕ) (number : Number) (max : ℕ) (before : List (List ℕ)) (x : ℕ) (p : Pcb) → pcb_octet p ≡ x → (IsInfo p → ⊥) → Goes ifs number max (octets_of (open_links number before) ++ 0 ∷ x ∷ [])
-unfolding IsFirst
-not-info ifs number max before x p e none =
-    refused ifs number max before (0 ∷ x ∷ []) NotInfo (part-short (0 ∷ x ∷ []) (omega arith))
-    (inr (λ m. omega (arith, m.0), inr (λ m. m.1 p e, inl ((omega arith, λ q f info. none (subst IsInfo (pcb-back q p (f ∙ sym e)) info)), refl))))
+-- a control octet that is refused
+pcb-refused : (ifs : ℕ) (number : Number) (max : ℕ) (before : List (List ℕ)) (x : ℕ) (last : Bool) (r : ChainReason) → (last ≡ true → length before + 1 ≡ 131072) → IsPcbFault (number_after number (length before)) last x r
+    → Goes ifs number max (octets_of (open_links number before) ++ 0 ∷ x ∷ [])
+pcb-refused ifs number max before x last r full h = refused ifs number max before (0 ∷ x ∷ []) r (part-short (0 ∷ x ∷ []) (omega arith)) (first-pcb ifs number max before (0 ∷ x ∷ []) last r refl full h)
 
 -- M=1 in the last block that a chain can have
-crowded : (ifs : ℕ) (number : Number) (max : ℕ) (before : List (List ℕ)) (x : ℕ) (n : Number) (go : Bool) → pcb_octet (Info n go) ≡ x → n ≡ number_after number (length before)
-    → length before + 1 ≤ 131072 → 131073 ≤ length before + 1 + more_count go → IsPart (0 ∷ x ∷ []) → Goes ifs number max (octets_of (open_links number before) ++ 0 ∷ x ∷ [])
-unfolding IsFirst
-crowded ifs number max before x n false e good few over short = absurd (omega arith)
-crowded ifs number max before x n true e good few over short =
-    let own : Number = number_after number (length before) in
-    refused ifs number max before (0 ∷ x ∷ []) TooManyBlocks short
-    (inr (
-      λ m. omega (arith, m.0),
-      inr (
-        λ m. m.1 (Info n true) e,
-        inr (
-          λ m. m.1 (Info n true) e tt,
-          inr (
-            λ m. not-other own (same-number (other own) n m.1 true (pcb-back (Info (other own) m.1) (Info n true) (m.2 ∙ sym e)) ∙ good),
-            inl ((omega arith, omega arith, n, e), refl),
-          ),
-        ),
-      ),
-    ))
+crowded : (ifs : ℕ) (number : Number) (max : ℕ) (before : List (List ℕ)) (x : ℕ) (go : Bool) → pcb_octet (Info (number_after number (length before)) go) ≡ x → length before + 1 ≤ 131072 → 131073 ≤ length before + 1 + more_count go
+    → Goes ifs number max (octets_of (open_links number before) ++ 0 ∷ x ∷ [])
+crowded ifs number max before x false e few over = absurd (omega arith)
+crowded ifs number max before x true e few over = pcb-refused ifs number max before x true TooManyBlocks (λ full. omega arith) (refl, e)
 
 goes-pcb : (ifs : ℕ) (number : Number) (max : ℕ) (before : List (List ℕ)) (x : ℕ) (p : Pcb) → pcb_octet p ≡ x → Taken ifs before → length before + 1 ≤ 131072 → length (message_of before) ≤ max → Goes ifs number max (octets_of (open_links number before) ++ 0 ∷ x ∷ [])
-unfolding IsFirst
-goes-pcb ifs number max before x (Ready n f) e taken few fits = not-info ifs number max before x (Ready n f) e (λ i. i)
-goes-pcb ifs number max before x (Request s) e taken few fits = not-info ifs number max before x (Request s) e (λ i. i)
-goes-pcb ifs number max before x (Response s) e taken few fits = not-info ifs number max before x (Response s) e (λ i. i)
+goes-pcb ifs number max before x (Ready n f) e taken few fits = pcb-refused ifs number max before x false NotInfo (λ full. never full) (Ready n f, e, λ i. i)
+goes-pcb ifs number max before x (Request s) e taken few fits = pcb-refused ifs number max before x false NotInfo (λ full. never full) (Request s, e, λ i. i)
+goes-pcb ifs number max before x (Response s) e taken few fits = pcb-refused ifs number max before x false NotInfo (λ full. never full) (Response s, e, λ i. i)
 goes-pcb ifs number max before x (Info n go) e taken few fits =
     let own : Number = number_after number (length before) in
-    let part : List ℕ = 0 ∷ x ∷ [] in
-    let short : IsPart part = part-short part (omega arith) in
-    let goes : n ≡ own → length before + 1 + more_count go ≤ 131072 → Goes ifs number max (octets_of (open_links number before) ++ part) = λ same_number enough.
-    let told : x ≡ pcb_octet (Info own go) = sym e ∙ ap (λ (k : Number). pcb_octet (Info k go)) same_number in
-    let rest : List ℕ = drop 2 (block.spelling (link own go [])) in
-    inl (part-begins ifs number max before go [] part rest taken enough (omega arith) (λ i. omega arith) (omega arith) (ap (λ (z : ℕ). 0 ∷ z ∷ rest) told)) in
     elim (number-told n own) [
-      | inr bad ↦ refused ifs number max before part BadSequence short
-          (inr (λ m. omega (arith, m.0), inr (λ m. m.1 (Info n go) e, inr (λ m. m.1 (Info n go) e tt, inl ((omega arith, go, ap (λ (k : Number). pcb_octet (Info k go)) (sym bad) ∙ e), refl)))))
-      | inl good ↦ elim (cases_lt (length before + 1 + more_count go) 131073) [
-        | inl lt ↦ goes good (omega arith)
-        | inr over ↦ crowded ifs number max before x n go e good few over short
-      ]
+      | inr bad ↦ pcb-refused ifs number max before x false BadSequence (λ full. never full) (go, ap (λ (k : Number). pcb_octet (Info k go)) (sym bad) ∙ e)
+      | inl good ↦
+          let told : pcb_octet (Info own go) ≡ x = ap (λ (k : Number). pcb_octet (Info k go)) (sym good) ∙ e in
+          let rest : List ℕ = drop 2 (block.spelling (link own go [])) in
+          elim (cases_lt (length before + 1 + more_count go) 131073) [
+            | inl lt ↦ inl (part-begins ifs number max before go [] (0 ∷ x ∷ []) rest taken (omega arith) (omega arith) (λ i. omega arith) (omega arith) (ap (λ (z : ℕ). 0 ∷ z ∷ rest) (sym told)))
+            | inr over ↦ crowded ifs number max before x go told few (omega arith)
+          ]
     ]
 
 pub zeros-octets : (n : ℕ) → AreOctets (replicate n 0)
@@ -263,26 +242,24 @@ zeros-octets n i =
       | inr le ↦ rw (get_or_past {X = ℕ} (replicate n 0) i 0 (omega (arith, length-replicate {A = ℕ} n 0))) (omega arith)
     ]
 
-goes-len : (ifs : ℕ) (number : Number) (max : ℕ) (before : List (List ℕ)) (go : Bool) (x : ℕ) → Taken ifs before → length before + 1 + more_count go ≤ 131072
+goes-len : (ifs : ℕ) (number : Number) (max : ℕ) (before : List (List ℕ)) (go : Bool) (x : ℕ) → Taken ifs before → length before + 1 + more_count go ≤ 131072 → length (message_of before) ≤ max
     → Goes ifs number max (octets_of (open_links number before) ++ 0 ∷ pcb_octet (Info (number_after number (length before)) go) ∷ x ∷ [])
-unfolding IsFirst
-goes-len ifs number max before go x taken few =
+goes-len ifs number max before go x taken few enough =
     let own : Number = number_after number (length before) in
+    let room : ℕ = max - length (message_of before) in
     let part : List ℕ = 0 ∷ pcb_octet (Info own go) ∷ x ∷ [] in
-    let short : IsPart part = part-short part (omega arith) in
-    let late : (r : ChainReason) → IsFirst (BadLen ∷ OverIfs ∷ TooLong ∷ BadLrc ∷ []) (MeetsInBlock ifs number max before part) r → IsFirst all_reasons (MeetsInBlock ifs number max before part) r =
-    λ r f. inr (λ m. omega (arith, m.0), inr (λ m. omega (arith, m.0), inr (λ m. omega (arith, m.0), inr (λ m. omega (arith, m.0), inr (λ m. omega (arith, m.0), f))))) in
+    let bad : (r : ChainReason) → IsLenFault ifs room x r → Goes ifs number max (octets_of (open_links number before) ++ part) = λ r h. refused ifs number max before part r (part-short part (omega arith)) (first-len ifs number max before part room r refl enough refl h) in
     elim (same x 255) [
-      | inl e ↦ refused ifs number max before part BadLen short (late BadLen (inl ((omega arith, e), refl)))
+      | inl e ↦ bad BadLen e
       | inr ne ↦ elim (cases_lt ifs x) [
-        | inl over ↦ refused ifs number max before part OverIfs short (late OverIfs (inr (λ m. ne m.1, inl ((omega arith, over), refl))))
-        | inr size ↦ elim (cases_lt max (length (message_of before) + x)) [
-          | inl over ↦ refused ifs number max before part TooLong short (late TooLong (inr (λ m. ne m.1, inr (λ m. omega (arith, m.1), inl ((omega arith, over), refl)))))
+        | inl over ↦ bad OverIfs (ne, over)
+        | inr size ↦ elim (cases_lt room x) [
+          | inl over ↦ bad TooLong (ne, size, over)
           | inr fits ↦
               let field : List ℕ = replicate x 0 in
               let count : length field ≡ x = length-replicate {A = ℕ} x 0 in
               let rest : List ℕ = field ++ xor_of (front_of (link own go field)) ∷ [] in
-              inl (part-begins ifs number max before go field part rest taken few (omega (arith, count)) (zeros-octets x) (omega (arith, count)) (ap (λ (n : ℕ). 0 ∷ pcb_octet (Info own go) ∷ n ∷ rest) (sym count)))
+              inl (part-begins ifs number max before go field part rest taken few (omega (arith, count)) (zeros-octets x) (omega (arith, count, fits, enough)) (ap (λ (n : ℕ). 0 ∷ pcb_octet (Info own go) ∷ n ∷ rest) (sym count)))
         ]
       ]
     ]
@@ -290,14 +267,12 @@ goes-len ifs number max before go x taken few =
 -- a wrong check sum
 goes-sum : (ifs : ℕ) (number : Number) (max : ℕ) (before : List (List ℕ)) (go : Bool) (field : List ℕ) (x : ℕ) → x ≢ xor_of (front_of (link (number_after number (length before)) go field))
     → Goes ifs number max (octets_of (open_links number before) ++ (front_of (link (number_after number (length before)) go field) ++ x ∷ []))
-unfolding IsFirst
 goes-sum ifs number max before go field x ne =
     let front : List ℕ = front_of (link (number_after number (length before)) go field) in
     let part : List ℕ = front ++ x ∷ [] in
     let long : length part ≡ length field + 4 = omega (arith, length-append field (x ∷ [])) in
     let bad : xor_of part ≢ 0 = λ z. ne (xor-zero (xor_of front) x (sym (fold-append bit_xor 0 front (x ∷ [])) ∙ z)) in
-    refused ifs number max before part BadLrc (part-sum part long bad)
-    (inr (λ m. omega (arith, m.0, long), inr (λ m. omega (arith, m.0, long), inr (λ m. omega (arith, m.0, long), inr (λ m. omega (arith, m.0, long), inr (λ m. omega (arith, m.0, long), inr (λ m. omega (arith, m.0, long), inr (λ m. omega (arith, m.0, long), inr (λ m. omega (arith, m.0, long), inl ((long, bad), refl))))))))))
+    refused ifs number max before part BadLrc (part-sum part long bad) (first-lrc ifs number max before part (omega (arith, long)) long bad)
 
 -- an octet of a field, or another check sum
 goes-field : (ifs : ℕ) (number : Number) (max : ℕ) (before : List (List ℕ)) (go : Bool) (field s left : List ℕ) (y x : ℕ) → Taken ifs before → length before + 1 + more_count go ≤ 131072
@@ -329,20 +304,19 @@ goes-field ifs number max before go field s left y x taken few size octets fits 
 in-block : (ifs : ℕ) (number : Number) (max : ℕ) (before : List (List ℕ)) (go : Bool) (field part left : List ℕ) (y x : ℕ) → Taken ifs before → length before + 1 + more_count go ≤ 131072
     → length field ≤ ifs → AreOctets field → length (message_of before) + length field ≤ max → x < 256 → x ≢ y
     → block.spelling (link (number_after number (length before)) go field) ≡ part ++ y ∷ left → Goes ifs number max (octets_of (open_links number before) ++ (part ++ x ∷ []))
-unfolding IsFirst
 in-block ifs number max before go field [] left y x taken few size octets fits lt ne e = goes-nad ifs number max before x taken (omega (arith, few)) (omega (arith, fits))
 in-block ifs number max before go field (a ∷ []) left y x taken few size octets fits lt ne e =
     let nad : 0 ≡ a = ap (λ (l : List ℕ). get_or l 0 0) e in
     subst (λ (z : ℕ). Goes ifs number max (octets_of (open_links number before) ++ z ∷ x ∷ [])) nad
     (elim (pcb-known x) [
       | inl p ↦ goes-pcb ifs number max before x p.0 p.1 taken (omega (arith, few)) (omega (arith, fits))
-      | inr unknown ↦ refused ifs number max before (0 ∷ x ∷ []) BadPcb (part-short (0 ∷ x ∷ []) (omega arith)) (inr (λ m. omega (arith, m.0), inl ((omega arith, unknown), refl)))
+      | inr unknown ↦ pcb-refused ifs number max before x false BadPcb (λ full. never full) unknown
     ])
 in-block ifs number max before go field (a ∷ c ∷ []) left y x taken few size octets fits lt ne e =
     let nad : 0 ≡ a = ap (λ (l : List ℕ). get_or l 0 0) e in
     let pcb : pcb_octet (Info (number_after number (length before)) go) ≡ c = ap (λ (l : List ℕ). get_or l 1 0) e in
     let is : 0 ∷ pcb_octet (Info (number_after number (length before)) go) ∷ x ∷ [] ≡ a ∷ c ∷ x ∷ [] = λ i. nad i ∷ pcb i ∷ x ∷ [] in
-    subst (λ (l : List ℕ). Goes ifs number max (octets_of (open_links number before) ++ l)) is (goes-len ifs number max before go x taken few)
+    subst (λ (l : List ℕ). Goes ifs number max (octets_of (open_links number before) ++ l)) is (goes-len ifs number max before go x taken few (omega (arith, fits)))
 in-block ifs number max before go field (a ∷ c ∷ l ∷ s) left y x taken few size octets fits lt ne e =
     let nad : 0 ≡ a = ap (λ (t : List ℕ). get_or t 0 0) e in
     let pcb : pcb_octet (Info (number_after number (length before)) go) ≡ c = ap (λ (t : List ℕ). get_or t 1 0) e in

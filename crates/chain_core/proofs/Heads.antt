@@ -7,7 +7,7 @@ use Rattle.block_core.specs.declared.pcb.Pcb.TheVariants.{Info}
 use Rattle.block_core.specs.Block.{other, IsInfo}
 use Rattle.block_core.proofs.Blocks.{pcb-back}
 use Rattle.chain_core.specs.declared.reason.ChainReason.{ChainReason}
-use Rattle.chain_core.specs.declared.reason.ChainReason.TheVariants.{BadNad, BadPcb, NotInfo, BadSequence, TooManyBlocks, BadLen, OverIfs, TooLong, BadLrc}
+use Rattle.chain_core.specs.declared.reason.ChainReason.TheVariants.{BadPcb, NotInfo, BadSequence, TooManyBlocks, BadLen, OverIfs, TooLong, BadLrc}
 use Rattle.chain_core.specs.declared.part.Part as part
 use Rattle.chain_core.specs.declared.part.Part.TheVariants as parts
 use Rattle.chain_core.specs.Chain.{MeetsInBlock, all_reasons, message_of, number_after}
@@ -18,7 +18,6 @@ use Rattle.chain_core.proofs.Stuck.{not-other, same-number}
 pub first-pcb : (ifs : ℕ) (number : Number) (max : ℕ) (before : List (List ℕ)) (c : List ℕ) (last : Bool) (r : ChainReason) → length c ≡ 2 → (last ≡ true → length before + 1 ≡ 131072) → IsPcbFault (number_after number (length before)) last (slice_index c 1) r
     → IsFirst all_reasons (MeetsInBlock ifs number max before c) r
 unfolding IsFirst
-first-pcb ifs number max before c last BadNad len full h = absurd h
 first-pcb ifs number max before c last BadPcb len full h = inr (λ m. omega (arith, m.0), inl ((len, h), refl))
 first-pcb ifs number max before c last NotInfo len full h =
     inr (λ m. omega (arith, m.0), inr (λ m. m.1 h.0 h.1, inl ((len, λ q e info. h.2 (subst IsInfo (pcb-back q h.0 (e ∙ sym h.1)) info)), refl)))
@@ -39,26 +38,22 @@ first-pcb ifs number max before c last TooManyBlocks len full h =
         ),
       ),
     )
-first-pcb ifs number max before c last BadLen len full h = absurd h
-first-pcb ifs number max before c last OverIfs len full h = absurd h
-first-pcb ifs number max before c last TooLong len full h = absurd h
-first-pcb ifs number max before c last BadLrc len full h = absurd h
+first-pcb ifs number max before c last _ len full h = absurd h
+
+-- what meets no line for NAD or PCB
+past-pcb : (ifs : ℕ) (number : Number) (max : ℕ) (before : List (List ℕ)) (c : List ℕ) (r : ChainReason) → 3 ≤ length c → IsFirst (BadLen ∷ OverIfs ∷ TooLong ∷ BadLrc ∷ []) (MeetsInBlock ifs number max before c) r
+    → IsFirst all_reasons (MeetsInBlock ifs number max before c) r
+unfolding IsFirst
+past-pcb ifs number max before c r le h = inr (λ m. omega (arith, m.0), inr (λ m. omega (arith, m.0), inr (λ m. omega (arith, m.0), inr (λ m. omega (arith, m.0), inr (λ m. omega (arith, m.0), h)))))
 
 pub first-len : (ifs : ℕ) (number : Number) (max : ℕ) (before : List (List ℕ)) (c : List ℕ) (room : ℕ) (r : ChainReason) → length c ≡ 3 → length (message_of before) ≤ max → room ≡ max - length (message_of before) → IsLenFault ifs room (slice_index c 2) r
     → IsFirst all_reasons (MeetsInBlock ifs number max before c) r
 unfolding IsFirst
-first-len ifs number max before c room BadNad len fits is h = absurd h
-first-len ifs number max before c room BadPcb len fits is h = absurd h
-first-len ifs number max before c room NotInfo len fits is h = absurd h
-first-len ifs number max before c room BadSequence len fits is h = absurd h
-first-len ifs number max before c room TooManyBlocks len fits is h = absurd h
-first-len ifs number max before c room BadLen len fits is h =
-    inr (λ m. omega (arith, m.0), inr (λ m. omega (arith, m.0), inr (λ m. omega (arith, m.0), inr (λ m. omega (arith, m.0), inr (λ m. omega (arith, m.0), inl ((len, h), refl))))))
-first-len ifs number max before c room OverIfs len fits is h =
-    inr (λ m. omega (arith, m.0), inr (λ m. omega (arith, m.0), inr (λ m. omega (arith, m.0), inr (λ m. omega (arith, m.0), inr (λ m. omega (arith, m.0), inr (λ m. h.0 m.1, inl ((len, h.1), refl)))))))
+first-len ifs number max before c room BadLen len fits is h = past-pcb ifs number max before c BadLen (omega arith) (inl ((len, h), refl))
+first-len ifs number max before c room OverIfs len fits is h = past-pcb ifs number max before c OverIfs (omega arith) (inr (λ m. h.0 m.1, inl ((len, h.1), refl)))
 first-len ifs number max before c room TooLong len fits is h =
-    inr (λ m. omega (arith, m.0), inr (λ m. omega (arith, m.0), inr (λ m. omega (arith, m.0), inr (λ m. omega (arith, m.0), inr (λ m. omega (arith, m.0), inr (λ m. h.0 m.1, inr (λ m. omega (arith, m.1, h.1), inl ((len, omega (arith, h.2)), refl))))))))
-first-len ifs number max before c room BadLrc len fits is h = absurd h
+    past-pcb ifs number max before c TooLong (omega arith) (inr (λ m. h.0 m.1, inr (λ m. omega (arith, m.1, h.1), inl ((len, omega (arith, h.2)), refl))))
+first-len ifs number max before c room _ len fits is h = absurd h
 
 -- the reason of one of the first three octets
 pub first-head : (ifs : ℕ) (number : Number) (max : ℕ) (before : List (List ℕ)) (last : Bool) (room : ℕ) (p : part.Part) (field : List ℕ) (x : ℕ) (r : ChainReason) → (last ≡ true → length before + 1 ≡ 131072)
@@ -74,4 +69,4 @@ first-head ifs number max before last room (parts.Rest more len) field x r full 
 pub first-lrc : (ifs : ℕ) (number : Number) (max : ℕ) (before : List (List ℕ)) (c : List ℕ) → 3 < length c → length c ≡ slice_index c 2 + 4 → xor_of c ≢ 0 → IsFirst all_reasons (MeetsInBlock ifs number max before c) BadLrc
 unfolding IsFirst
 first-lrc ifs number max before c lt long bad =
-    inr (λ m. omega (arith, m.0, lt), inr (λ m. omega (arith, m.0, lt), inr (λ m. omega (arith, m.0, lt), inr (λ m. omega (arith, m.0, lt), inr (λ m. omega (arith, m.0, lt), inr (λ m. omega (arith, m.0, lt), inr (λ m. omega (arith, m.0, lt), inr (λ m. omega (arith, m.0, lt), inl ((long, bad), refl)))))))))
+    past-pcb ifs number max before c BadLrc (omega arith) (inr (λ m. omega (arith, m.0, lt), inr (λ m. omega (arith, m.0, lt), inr (λ m. omega (arith, m.0, lt), inl ((long, bad), refl)))))

@@ -6,9 +6,9 @@ pub mod Reasons
 pub mod Rows
 pub mod Taken
 pub mod Stuck
+pub mod Heads
 pub mod Goes
 pub mod Receiving
-pub mod Heads
 pub mod Feeds
 pub mod Receptions
 pub mod Steps

@@ -10,7 +10,7 @@ use Rattle.block_core.specs.Block as block
 use Rattle.block_core.specs.Block.{other, Parts, pcb_octet, front_of}
 use Rattle.block_core.proofs.Blocks.{spelling-len, spelling-xor}
 use Rattle.chain_core.specs.declared.reason.ChainReason.{ChainReason}
-use Rattle.chain_core.specs.declared.reason.ChainReason.TheVariants.{BadNad, BadPcb, NotInfo, BadSequence, TooManyBlocks, BadLen, OverIfs, TooLong, BadLrc}
+use Rattle.chain_core.specs.declared.reason.ChainReason.TheVariants.{BadLrc}
 use Rattle.chain_core.specs.Chain.{link, open_links, octets_of, MeetsInBlock, Meets, IsReason, all_reasons}
 use Rattle.chain_core.proofs.Unique.{link-split}
 
@@ -56,27 +56,13 @@ part-split number (f ∷ fs) (g ∷ gs) c d p q e =
     (λ i. h.1 i ∷ r.0 i, r.1)
 
 pub part-meets : (ifs : ℕ) (number : Number) (max : ℕ) (fields : List (List ℕ)) (c : List ℕ) (r : ChainReason) → MeetsInBlock ifs number max fields c r → IsPart c
-part-meets ifs number max fields c BadNad h = part-short c (omega (arith, h.0))
-part-meets ifs number max fields c BadPcb h = part-short c (omega (arith, h.0))
-part-meets ifs number max fields c NotInfo h = part-short c (omega (arith, h.0))
-part-meets ifs number max fields c BadSequence h = part-short c (omega (arith, h.0))
-part-meets ifs number max fields c TooManyBlocks h = part-short c (omega (arith, h.0))
-part-meets ifs number max fields c BadLen h = part-short c (omega (arith, h.0))
-part-meets ifs number max fields c OverIfs h = part-short c (omega (arith, h.0))
-part-meets ifs number max fields c TooLong h = part-short c (omega (arith, h.0))
 part-meets ifs number max fields c BadLrc h = part-sum c h.0 h.1
+part-meets ifs number max fields c _ h = part-short c (omega (arith, h.0))
 
 -- a reason is of the first three octets of a block, or of all of them
 pub meets-length : (ifs : ℕ) (number : Number) (max : ℕ) (fields : List (List ℕ)) (c : List ℕ) (r : ChainReason) → MeetsInBlock ifs number max fields c r → (length c ≤ 3) ⊎ (length c ≡ slice_index c 2 + 4)
-meets-length ifs number max fields c BadNad h = inl (omega (arith, h.0))
-meets-length ifs number max fields c BadPcb h = inl (omega (arith, h.0))
-meets-length ifs number max fields c NotInfo h = inl (omega (arith, h.0))
-meets-length ifs number max fields c BadSequence h = inl (omega (arith, h.0))
-meets-length ifs number max fields c TooManyBlocks h = inl (omega (arith, h.0))
-meets-length ifs number max fields c BadLen h = inl (omega (arith, h.0))
-meets-length ifs number max fields c OverIfs h = inl (omega (arith, h.0))
-meets-length ifs number max fields c TooLong h = inl (omega (arith, h.0))
 meets-length ifs number max fields c BadLrc h = inr h.0
+meets-length ifs number max fields c _ h = inl (omega (arith, h.0))
 
 -- the reason is that of the block under way
 pub reason-in_block : (ifs : ℕ) (number : Number) (max : ℕ) (fields : List (List ℕ)) (c b : List ℕ) (r : ChainReason) → b ≡ octets_of (open_links number fields) ++ c → IsPart c

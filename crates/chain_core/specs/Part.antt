@@ -5,33 +5,24 @@ use Rattle.block_core.specs.declared.pcb.Number.{Number}
 use Rattle.block_core.specs.declared.pcb.Pcb.{Pcb}
 use Rattle.block_core.specs.declared.pcb.Pcb.TheVariants.{Info}
 use Rattle.chain_core.specs.declared.reason.ChainReason.{ChainReason}
-use Rattle.chain_core.specs.declared.reason.ChainReason.TheVariants.{BadNad, BadPcb, NotInfo, BadSequence, TooManyBlocks, BadLen, OverIfs, TooLong, BadLrc}
+use Rattle.chain_core.specs.declared.reason.ChainReason.TheVariants.{BadNad, BadPcb, NotInfo, BadSequence, TooManyBlocks, BadLen, OverIfs, TooLong}
 use Rattle.chain_core.specs.declared.part.Part as part
 use Rattle.chain_core.specs.declared.part.Part.TheVariants as parts
 
 -- what is wrong with a control octet, where this number comes next and the block may be the last
 abbrev pub IsPcbFault : Number → Bool → ℕ → ChainReason → Type 0
-IsPcbFault number last x BadNad = ⊥
 IsPcbFault number last x BadPcb = (p : Pcb) → pcb_octet p ≡ x → ⊥
 IsPcbFault number last x NotInfo = (p : Pcb) × (pcb_octet p ≡ x) × (IsInfo p → ⊥)
 IsPcbFault number last x BadSequence = (more : Bool) × (pcb_octet (Info (other number) more) ≡ x)
 IsPcbFault number last x TooManyBlocks = (last ≡ true) × (pcb_octet (Info number true) ≡ x)
-IsPcbFault number last x BadLen = ⊥
-IsPcbFault number last x OverIfs = ⊥
-IsPcbFault number last x TooLong = ⊥
-IsPcbFault number last x BadLrc = ⊥
+IsPcbFault number last x _ = ⊥
 
 -- what is wrong with a length
 abbrev pub IsLenFault : ℕ → ℕ → ℕ → ChainReason → Type 0
-IsLenFault ifs room x BadNad = ⊥
-IsLenFault ifs room x BadPcb = ⊥
-IsLenFault ifs room x NotInfo = ⊥
-IsLenFault ifs room x BadSequence = ⊥
-IsLenFault ifs room x TooManyBlocks = ⊥
 IsLenFault ifs room x BadLen = x ≡ 255
 IsLenFault ifs room x OverIfs = (x ≢ 255) × (ifs < x)
 IsLenFault ifs room x TooLong = (x ≢ 255) × (x ≤ ifs) × (room < x)
-IsLenFault ifs room x BadLrc = ⊥
+IsLenFault ifs room x _ = ⊥
 
 -- how many blocks follow at least
 abbrev pub more_count : Bool → ℕ

@@ -1,12 +1,12 @@
 //! How far the block of a chain has come, and what its first three octets are refused for.
 
 ghost use Rattle.std.specs.Prelude.{◌≡◌, ◌≢◌, ◌<◌, ◌≤◌, IfOk, IfErr, OnOk, true, false, IsTrue};
-ghost use Rattle.block_core.specs.Block.{other, pcb_octet};
+ghost use Rattle.block_core.specs.Block.{other, pcb_octet, IsInfo};
 ghost use Rattle.block_core.specs.declared.pcb.Pcb.TheVariants.{Info};
 ghost use Rattle.chain_core.specs.Part.{IsPcbFault, IsLenFault, IsHead, IsHeadFault, IsAfter, place_of, end_of};
 
 use crate::reason::ChainReason;
-use block_core::{Number, Pcb};
+use block_core::{BlockReason, Number, Pcb};
 
 /// What comes next of the block under way.
 #[derive(Clone, Copy, Debug, PartialEq, Eq)]
@@ -46,7 +46,7 @@ impl Part {
 
 /// Whether a block with this PCB says that more follow, if it can come next: `number` is the number of the
 /// next block, and `last` says that it is the last that a chain can have.
-pub(crate) fn more_of(octet: u8, number: Number, last: bool) -> Result<bool, ChainReason>
+fn more_of(octet: u8, number: Number, last: bool) -> Result<bool, ChainReason>
     ensures kind { IfOk result (λ more. pcb_octet (Info number more) ≡ octet) }
     ensures room { IfOk result (λ more. more ≡ true → last ≡ false) }
     ensures refused { IfErr result (IsPcbFault number last octet) }
@@ -66,22 +66,21 @@ pub(crate) fn more_of(octet: u8, number: Number, last: bool) -> Result<bool, Cha
     Ok(more)
 }
 
-/// Whether a block can have a field of this length; `room` octets have room in the message.
-pub(crate) fn check_len(len: u8, ifs: u8, room: usize) -> Result<(), ChainReason>
+/// Whether an I-block can have a field of this length; `room` octets have room in the message.
+fn check_len(pcb: Pcb, len: u8, ifs: u8, room: usize) -> Result<(), ChainReason>
+    requires kind { IsInfo pcb }
+    requires most { ifs ≤ 254 }
     ensures size { OnOk result (len ≤ ifs) }
     ensures room { OnOk result (len ≤ room) }
     ensures refused { IfErr result (IsLenFault ifs room len) }
 {
-    if len == 255 {
-        return Err(ChainReason::BadLen);
+    match pcb.fault_of_len(len, ifs) {
+        Some(BlockReason::BadLen) => Err(ChainReason::BadLen),
+        // A length has but two faults.
+        Some(_) => Err(ChainReason::OverIfs),
+        None if len as usize > room => Err(ChainReason::TooLong),
+        None => Ok(()),
     }
-    if len > ifs {
-        return Err(ChainReason::OverIfs);
-    }
-    if len as usize > room {
-        return Err(ChainReason::TooLong);
-    }
-    Ok(())
 }
 
 /// What comes after one of the first three octets of a block. `number` is the number of the block, `last`
@@ -94,21 +93,22 @@ pub(crate) fn after(
     last: bool,
     room: usize,
 ) -> Result<Part, ChainReason>
-    requires { IsHead part }
+    requires head { IsHead part }
+    requires most { ifs ≤ 254 }
     ensures on { IfOk result (IsAfter number last ifs room part octet) }
     ensures refused { IfErr result (IsHeadFault number last ifs room part octet) }
 {
     match part {
         Part::Nad if octet != 0 => Err(ChainReason::BadNad),
         Part::Nad => Ok(Part::Pcb),
-        Part::Pcb => match more_of(octet, number, last) {
-            Ok(more) => Ok(Part::Len { more }),
-            Err(reason) => Err(reason),
-        },
-        Part::Len { more } => match check_len(octet, ifs, room) {
-            Ok(()) => Ok(Part::Rest { more, len: octet }),
-            Err(reason) => Err(reason),
-        },
+        Part::Pcb => {
+            let more = more_of(octet, number, last)?;
+            Ok(Part::Len { more })
+        }
+        Part::Len { more } => {
+            check_len(Pcb::Info { number, more }, octet, ifs, room)?;
+            Ok(Part::Rest { more, len: octet })
+        }
         Part::Rest { .. } => unreachable!(),
     }
 }
