@@ -15,6 +15,10 @@ use Rattle.chain_core.specs.declared.reason.ChainReason.TheVariants.{BadNad, Bad
 abbrev pub most_blocks : ℕ
 most_blocks = 131072
 
+-- and the greatest limit of a message
+abbrev pub longest_message : ℕ
+longest_message = 131072
+
 -- the number of the block after n blocks of which the first has this number
 abbrev pub number_after : Number → ℕ → Number
 number_after number zero = number

@@ -10,7 +10,7 @@ use Rattle.block_core.specs.declared.pcb.Pcb.TheVariants.{Info}
 use Rattle.chain_core.specs.declared.part.Part as part
 use Rattle.chain_core.specs.declared.part.Part.TheVariants as parts
 use Rattle.chain_core.specs.declared.places.ReceiverPlaces.{ReceiverPlaces}
-use Rattle.chain_core.specs.Chain.{IsChain, number_after}
+use Rattle.chain_core.specs.Chain.{IsChain, most_blocks, longest_message, number_after}
 use Rattle.chain_core.specs.Part.{more_count, came_of}
 use Rattle.chain_core.specs.Taken.{Reception, HasTaken}
 use Rattle.chain_core.specs.declared.reason.ChainReason.{ChainReason}
@@ -51,22 +51,22 @@ received_at p message = record {
 abbrev pub IsUnderWay : (ifs max blocks joined came : ℕ) → part.Part → Type 0
 IsUnderWay ifs max blocks joined came parts.Nad = Unit {0}
 IsUnderWay ifs max blocks joined came parts.Pcb = Unit {0}
-IsUnderWay ifs max blocks joined came (parts.Len more) = blocks + 1 + more_count more ≤ 131072
-IsUnderWay ifs max blocks joined came (parts.Rest more len) = (blocks + 1 + more_count more ≤ 131072) × (len ≤ ifs) × (joined + len ≤ max) × (came ≤ len)
+IsUnderWay ifs max blocks joined came (parts.Len more) = blocks + 1 + more_count more ≤ most_blocks
+IsUnderWay ifs max blocks joined came (parts.Rest more len) = (blocks + 1 + more_count more ≤ most_blocks) × (len ≤ ifs) × (joined + len ≤ max) × (came ≤ len)
 
 -- a whole chain has no block under way
 abbrev pub IsAmong : Bool → ReceiverPlaces → Type 0
 IsAmong true p = p.part ≡ parts.Nad
-IsAmong false p = (p.blocks + 1 ≤ 131072) × IsUnderWay p.ifs p.max p.blocks p.joined p.came p.part
+IsAmong false p = (p.blocks + 1 ≤ most_blocks) × IsUnderWay p.ifs p.max p.blocks p.joined p.came p.part
 
 -- They are those of a receiver with a buffer of so many octets.
 pub record AreReceiverPlaces (p : ReceiverPlaces) (room : ℕ) : Type 0 where
   pub least : 1 ≤ p.ifs
   pub most : p.ifs ≤ 254
-  pub limit : p.max ≤ 131072
+  pub limit : p.max ≤ longest_message
   pub reserved : p.max ≤ room
   pub joined : p.joined ≤ p.max
-  pub blocks : p.blocks ≤ 131072
+  pub blocks : p.blocks ≤ most_blocks
   pub among : IsAmong p.done p
 
 -- A receiver has room for the longest message, and keeps the octets that are in use and no other.

@@ -8,7 +8,7 @@ use Rattle.octet_core.specs.Grammar.{self_ended, Refuses, RefusesAt}
 use Rattle.octet_core.specs.declared.stop.Refusal.{Refusal}
 use Rattle.octet_core.specs.declared.stop.Stop.TheVariants.{Short, At}
 use Rattle.block_core.specs.declared.pcb.Number.{Number}
-use Rattle.chain_core.specs.Chain.{IsChain, IsReason, message_of, open_links, octets_of}
+use Rattle.chain_core.specs.Chain.{IsChain, IsReason, longest_message, message_of, open_links, octets_of}
 use Rattle.chain_core.specs.Taken.{Reception, HasTaken, AreBefore, IsOpen}
 use Rattle.chain_core.specs.Receiving.{Goes}
 use Rattle.chain_core.specs.declared.reason.ChainReason.{ChainReason}
@@ -85,7 +85,7 @@ pub record MovesOn (held left : Option (List ℕ)) (old new : Reception) (count 
   pub near : (refusal : Refusal ChainReason) → new.refusal ≡ Some refusal → (t : List ℕ) → HasTaken old t → EndsNear old.number (t ++ piece) refusal.place
   -- some octets were taken before
   pub before : (t : List ℕ) × HasTaken old t
-  pub limit : old.max ≤ 131072
+  pub limit : old.max ≤ longest_message
 
 -- ---- the calls so far
 

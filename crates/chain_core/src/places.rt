@@ -6,7 +6,7 @@ ghost use Rattle.octet_core.specs.declared.stop.Refusal.{Refusal};
 ghost use Rattle.octet_core.specs.declared.stop.Stop.TheVariants.{Short};
 ghost use Rattle.chain_core.specs.declared.reason.ChainReason.{ChainReason};
 ghost use Rattle.chain_core.specs.declared.part.Part.TheVariants.{Rest};
-ghost use Rattle.chain_core.specs.Chain.{IsChain, IsReason, number_after};
+ghost use Rattle.chain_core.specs.Chain.{IsChain, IsReason, most_blocks, longest_message, number_after};
 ghost use Rattle.chain_core.specs.Part.{IsHead, left_of};
 ghost use Rattle.chain_core.specs.Taken.{HasTaken, IsOpen, IsClosed, fresh, refusal_of};
 ghost use Rattle.chain_core.specs.Receiving.{Goes, fed_answer, end_answer};
@@ -53,7 +53,7 @@ impl ReceiverPlaces {
     pub fn begin(ifs: u8, number: Number, max: u32) -> ReceiverPlaces
         requires least { 1 ≤ ifs }
         requires most { ifs ≤ 254 }
-        requires limit { max ≤ 131072 }
+        requires limit { max ≤ longest_message }
         ensures fit { (room : ℕ) → max ≤ room → AreReceiverPlaces result room }
         ensures fresh { (message : List ℕ) → received_at result message ≡ fresh ifs number max }
     {
@@ -131,7 +131,7 @@ impl ReceiverPlaces {
 
     /// Whether a block can be under way as it is said.
     fn is_under_way(&self) -> bool
-        requires blocks { self.now.blocks + 1 ≤ 131072 }
+        requires blocks { self.now.blocks + 1 ≤ most_blocks }
         requires joined { self.now.joined ≤ self.now.max }
         ensures yes { result ≡ true → IsUnderWay self.now.ifs self.now.max self.now.blocks self.now.joined self.now.came self.now.part }
         ensures no { IsUnderWay self.now.ifs self.now.max self.now.blocks self.now.joined self.now.came self.now.part → result ≡ true }
@@ -305,8 +305,8 @@ impl ReceiverPlaces {
     /// Keeps the refusal of the octet at this place of the block under way.
     fn refuse(&mut self, place: usize, reason: ChainReason)
         requires place { place ≤ 258 }
-        requires blocks { self.old.blocks ≤ 131072 }
-        requires joined { self.old.joined ≤ 131072 }
+        requires blocks { self.old.blocks ≤ most_blocks }
+        requires joined { self.old.joined ≤ longest_message }
         ensures { self.new ≡ record self.old { refusal = Some (record { place = self.old.joined + 4 * self.old.blocks + place; reason = reason }) } }
     {
         let place = self.joined as usize + 4 * self.blocks as usize + place;

@@ -5,7 +5,7 @@ ghost use Rattle.octet_core.specs.Reader.{IsFed, IsFinished};
 ghost use Rattle.octet_core.specs.declared.stop.Refusal.{Refusal};
 ghost use Rattle.octet_core.specs.declared.stop.Stop.TheVariants.{Short};
 ghost use Rattle.chain_core.specs.declared.reason.ChainReason.{ChainReason};
-ghost use Rattle.chain_core.specs.Chain.{IsChain, IsReason};
+ghost use Rattle.chain_core.specs.Chain.{IsChain, IsReason, longest_message};
 ghost use Rattle.chain_core.specs.Taken.{HasTaken, AreBefore, IsOpen, IsClosed, fresh, refusal_of};
 ghost use Rattle.chain_core.specs.Receiving.{Goes};
 
@@ -52,7 +52,7 @@ impl Receiver {
     pub fn new(alloc: Global, ifs: u8, number: Number, max: usize) -> Result<Receiver, AllocError>
         requires least { 1 ≤ ifs }
         requires most { ifs ≤ 254 }
-        requires limit { max ≤ 131072 }
+        requires limit { max ≤ longest_message }
         ensures { IfOk result (λ r. r ≡ fresh ifs number max) }
     {
         let message = Vec::with_capacity(alloc, max)?;
@@ -128,7 +128,7 @@ impl Receiver {
         ensures head { length self.now.under_way < 3 → result + length self.now.under_way ≡ 3 }
         ensures rest { 3 ≤ length self.now.under_way → result + length self.now.under_way ≡ slice_index self.now.under_way 2 + 4 }
         ensures taken { (t : List ℕ) × HasTaken self.now t }
-        ensures limit { self.now.max ≤ 131072 }
+        ensures limit { self.now.max ≤ longest_message }
     {
         self.places.part.end() - self.places.under_way()
     }

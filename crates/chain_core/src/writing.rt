@@ -3,7 +3,7 @@
 ghost use Rattle.std.specs.Prelude.{◌≡◌, ◌<◌, ◌≤◌, length, take, OnOk, IfErr};
 ghost use Rattle.std.specs.Io.KnownBytes.{Appends};
 ghost use Rattle.octet_core.specs.Failures.{HasFailed, next_count};
-ghost use Rattle.chain_core.specs.Chain.{spelling};
+ghost use Rattle.chain_core.specs.Chain.{longest_message, spelling};
 ghost use Rattle.chain_core.specs.Cut.{cut_of};
 
 use crate::cutting::cut;
@@ -23,7 +23,7 @@ pub fn write_chain<W: Sink>(
 ) -> Result<(), WriteFault>
     requires least { 1 ≤ ifs }
     requires most { ifs ≤ 254 }
-    requires limit { length msg.now ≤ 131072 }
+    requires limit { length msg.now ≤ longest_message }
 
     ensures all { OnOk result (Appends (W.contents writer.old) (W.contents writer.new) (spelling number (cut_of ifs msg.now))) }
     ensures none_failed { OnOk result (W.failures writer.new ≡ W.failures writer.old) }
