@@ -17,13 +17,15 @@ use Rattle.std.proofs.lemmas.Bool.{le-ltb, lt-ltb}
 
 pub message_of-pieces : (size count : ℕ) (m : List ℕ) → message_of (pieces size count m) ≡ m
 message_of-pieces size zero m = append-nil m
-message_of-pieces size (suc count) m = ap (λ (l : List ℕ). take size m ++ l) (message_of-pieces size count (drop size m)) ∙ take-append-drop size m
+message_of-pieces size (suc count) m = ap (λ (l : List ℕ). take size m ++ l)
+    (message_of-pieces size count (drop size m)) ∙ take-append-drop size m
 
 pub length-pieces : (size count : ℕ) (m : List ℕ) → length (pieces size count m) ≡ count + 1
 length-pieces size zero m = omega arith
 length-pieces size (suc count) m = omega (arith, length-pieces size count (drop size m))
 
-pub pieces-sizes : (size count : ℕ) (m : List ℕ) → length m ≤ count * size + size → AllByRecursion (λ f. length f ≤ size) (pieces size count m)
+pub pieces-sizes : (size count : ℕ) (m : List ℕ) → length m ≤ count * size + size
+    → AllByRecursion (λ f. length f ≤ size) (pieces size count m)
 pieces-sizes size zero m le = (omega arith, tt)
 pieces-sizes size (suc count) m le =
     let more : (suc count) * size ≡ count * size + size = omega arith in
@@ -59,14 +61,20 @@ next-count size n pos lt =
 
 -- ---- the cut of a message is the one list of fields with this message, full but for the last
 
-full-pieces : (size count : ℕ) (m : List ℕ) → count * size < length m → length m ≤ count * size + size → IsFull size (pieces size count m)
+full-pieces : (size count : ℕ) (m : List ℕ) → count * size < length m → length m ≤ count * size + size
+    → IsFull size (pieces size count m)
 full-pieces size zero m lt le = (omega arith, omega arith)
 full-pieces size (suc zero) m lt le =
-    let one : 1 * size ≡ size = omega arith in
-    (omega (arith, length-take size m, one), (omega (arith, length-drop size m, one), omega (arith, length-drop size m, one)))
+    let one : 1 * size ≡ size = omega arith in (
+      omega (arith, length-take size m, one),
+      (omega (arith, length-drop size m, one), omega (arith, length-drop size m, one)),
+    )
 full-pieces size (suc (suc count)) m lt le =
-    let more : (suc (suc count)) * size ≡ (suc count) * size + size = omega arith in
-    (omega (arith, length-take size m, more), full-pieces size (suc count) (drop size m) (omega (arith, length-drop size m, more)) (omega (arith, length-drop size m, more)))
+    let more : (suc (suc count)) * size ≡ (suc count) * size + size = omega arith in (
+      omega (arith, length-take size m, more),
+      full-pieces size (suc count) (drop size m) (omega (arith, length-drop size m, more))
+          (omega (arith, length-drop size m, more)),
+    )
 
 below : (size n : ℕ) → 1 ≤ size → 1 ≤ n → ((n - 1) / size) * size < n
 below size n pos some = omega (arith, div-mul-le_self (n - 1) size)
@@ -81,16 +89,39 @@ full-some size (f ∷ g ∷ fs) pos p = omega (arith, p.0, length-append f (mess
 
 pub cut_of-is_cut : (size : ℕ) (m : List ℕ) → 1 ≤ size → IsCut size m (cut_of size m)
 cut_of-is_cut size [] pos = nothing size ((0 - 1) / size) pos
-cut_of-is_cut size (x ∷ m) pos = (message_of-cut_of size (x ∷ m), full-pieces size ((length (x ∷ m) - 1) / size) (x ∷ m) (below size (length (x ∷ m)) pos (omega arith)) (cover size (length (x ∷ m)) pos))
+cut_of-is_cut size (x ∷ m) pos = (
+  message_of-cut_of size (x ∷ m),
+  full-pieces size ((length (x ∷ m) - 1) / size) (x ∷ m) (below size (length (x ∷ m)) pos (omega arith))
+      (cover size (length (x ∷ m)) pos),
+)
 
-full-same : (size : ℕ) (fs gs : List (List ℕ)) → 1 ≤ size → IsFull size fs → IsFull size gs → message_of fs ≡ message_of gs → fs ≡ gs
+full-same : (size : ℕ) (fs gs : List (List ℕ)) → 1 ≤ size → IsFull size fs → IsFull size gs
+    → message_of fs ≡ message_of gs → fs ≡ gs
 full-same size [] gs pos p q e = absurd p
 full-same size (f ∷ fs) [] pos p q e = absurd q
 full-same size (f ∷ []) (g ∷ []) pos p q e = ap (λ (x : List ℕ). x ∷ []) (sym (append-nil f) ∙ e ∙ append-nil g)
 full-same size (f ∷ []) (g ∷ k ∷ gs) pos p q e =
-    absurd (omega (arith, p.0, p.1, q.0, full-some size (k ∷ gs) pos q.1, length-append f [], length-append g (message_of (k ∷ gs)), ap length e))
+    absurd (omega (
+      arith,
+      p.0,
+      p.1,
+      q.0,
+      full-some size (k ∷ gs) pos q.1,
+      length-append f [],
+      length-append g (message_of (k ∷ gs)),
+      ap length e,
+    ))
 full-same size (f ∷ k ∷ fs) (g ∷ []) pos p q e =
-    absurd (omega (arith, q.0, q.1, p.0, full-some size (k ∷ fs) pos p.1, length-append g [], length-append f (message_of (k ∷ fs)), ap length e))
+    absurd (omega (
+      arith,
+      q.0,
+      q.1,
+      p.0,
+      full-some size (k ∷ fs) pos p.1,
+      length-append g [],
+      length-append f (message_of (k ∷ fs)),
+      ap length e,
+    ))
 full-same size (f ∷ k ∷ fs) (g ∷ l ∷ gs) pos p q e =
     let h = split_same f g (message_of (k ∷ fs)) (message_of (l ∷ gs)) (p.0 ∙ sym q.0) e in
     let r = full-same size (k ∷ fs) (l ∷ gs) pos p.1 q.1 h.1 in
@@ -107,7 +138,8 @@ one-cut size (x ∷ m) fs pos p =
 pub cut_of-short : (size : ℕ) (m : List ℕ) → 1 ≤ size → length m ≤ size → cut_of size m ≡ m ∷ []
 cut_of-short size m pos le = ap (λ (k : ℕ). pieces size k m) (last-count size (length m) pos le)
 
-pub cut_of-long : (size : ℕ) (m : List ℕ) → 1 ≤ size → size < length m → cut_of size m ≡ take size m ∷ cut_of size (drop size m)
+pub cut_of-long : (size : ℕ) (m : List ℕ) → 1 ≤ size → size < length m
+    → cut_of size m ≡ take size m ∷ cut_of size (drop size m)
 cut_of-long size m pos lt =
     ap (λ (k : ℕ). pieces size k m) (next-count size (length m) pos lt)
     ∙ ap (λ (n : ℕ). take size m ∷ pieces size ((n - 1) / size) (drop size m)) (sym (length-drop size m))
@@ -120,12 +152,14 @@ AreOctets-cut_of size m h = subst AreOctets (sym (message_of-cut_of size m)) h
 div-most : (n size : ℕ) → n / size ≤ n
 div-most n size = div-le_self n size
 
-AllByRecursion-weaker : (size ifs : ℕ) (fields : List (List ℕ)) → size ≤ ifs → AllByRecursion (λ f. length f ≤ size) fields → AllByRecursion (λ f. length f ≤ ifs) fields
+AllByRecursion-weaker : (size ifs : ℕ) (fields : List (List ℕ)) → size ≤ ifs
+    → AllByRecursion (λ f. length f ≤ size) fields → AllByRecursion (λ f. length f ≤ ifs) fields
 AllByRecursion-weaker size ifs [] le h = tt
 AllByRecursion-weaker size ifs (f ∷ fields) le h = (omega (arith, h.0), AllByRecursion-weaker size ifs fields le h.1)
 
 -- a cut is a chain, under each size that is not below its own
-pub cut_of-chain : (size ifs max : ℕ) (number : Number) (m : List ℕ) → 1 ≤ size → size ≤ ifs → length m ≤ max → length m ≤ 131072 → AreOctets m → IsChain ifs number max (cut_of size m) (spelling number (cut_of size m))
+pub cut_of-chain : (size ifs max : ℕ) (number : Number) (m : List ℕ) → 1 ≤ size → size ≤ ifs → length m ≤ max
+    → length m ≤ 131072 → AreOctets m → IsChain ifs number max (cut_of size m) (spelling number (cut_of size m))
 cut_of-chain size ifs max number m pos le fits few octets = record {
   proper = record {
     some = omega (arith, length-cut_of size m);
@@ -138,30 +172,39 @@ cut_of-chain size ifs max number m pos le fits few octets = record {
 }
 
 -- and accepted, whatever follows
-pub cut_of-accepted : (size ifs max : ℕ) (number : Number) (m more : List ℕ) → 1 ≤ size → size ≤ ifs → length m ≤ max → length m ≤ 131072 → AreOctets m
-    → Accepts self_ended (IsChain ifs number max) (spelling number (cut_of size m) ++ more) (cut_of size m) (length (spelling number (cut_of size m)))
+pub cut_of-accepted : (size ifs max : ℕ) (number : Number) (m more : List ℕ) → 1 ≤ size → size ≤ ifs → length m ≤ max
+    → length m ≤ 131072 → AreOctets m
+    → Accepts self_ended (IsChain ifs number max) (spelling number (cut_of size m) ++ more) (cut_of size m)
+    (length (spelling number (cut_of size m)))
 cut_of-accepted size ifs max number m more pos le fits few octets =
-    spelled-accepted (IsChain ifs number max) (cut_of size m) (spelling number (cut_of size m)) more (cut_of-chain size ifs max number m pos le fits few octets)
+    spelled-accepted (IsChain ifs number max) (cut_of size m) (spelling number (cut_of size m)) more
+    (cut_of-chain size ifs max number m pos le fits few octets)
 
 -- and nothing else is
-pub cut_of-only : (size ifs max : ℕ) (number : Number) (m more : List ℕ) (fields : List (List ℕ)) (n : ℕ) → 1 ≤ size → size ≤ ifs → length m ≤ max → length m ≤ 131072 → AreOctets m
+pub cut_of-only : (size ifs max : ℕ) (number : Number) (m more : List ℕ) (fields : List (List ℕ)) (n : ℕ) → 1 ≤ size
+    → size ≤ ifs → length m ≤ max → length m ≤ 131072 → AreOctets m
     → Accepts self_ended (IsChain ifs number max) (spelling number (cut_of size m) ++ more) fields n
     → (fields ≡ cut_of size m) × (n ≡ length (spelling number (cut_of size m)))
 cut_of-only size ifs max number m more fields n pos le fits few octets a =
-    one-accepted ifs ifs max max number (spelling number (cut_of size m) ++ more) fields (cut_of size m) n (length (spelling number (cut_of size m))) a
+    one-accepted ifs ifs max max number (spelling number (cut_of size m) ++ more) fields (cut_of size m) n
+    (length (spelling number (cut_of size m))) a
     (cut_of-accepted size ifs max number m more pos le fits few octets)
 
 -- ---- the first block of a cut
 
-pub links-short : (number : Number) (size : ℕ) (m : List ℕ) → 1 ≤ size → length m ≤ size → links number (cut_of size m) ≡ link number false m ∷ []
+pub links-short : (number : Number) (size : ℕ) (m : List ℕ) → 1 ≤ size → length m ≤ size
+    → links number (cut_of size m) ≡ link number false m ∷ []
 links-short number size m pos le = ap (links number) (cut_of-short size m pos le)
 
-more-pieces : (number : Number) (f : List ℕ) (size count : ℕ) (m : List ℕ) → links number (f ∷ pieces size count m) ≡ link number true f ∷ links (other number) (pieces size count m)
+more-pieces : (number : Number) (f : List ℕ) (size count : ℕ) (m : List ℕ)
+    → links number (f ∷ pieces size count m) ≡ link number true f ∷ links (other number) (pieces size count m)
 more-pieces number f size zero m = refl
 more-pieces number f size (suc count) m = refl
 
-pub links-long : (number : Number) (size : ℕ) (m : List ℕ) → 1 ≤ size → size < length m → links number (cut_of size m) ≡ link number true (take size m) ∷ links (other number) (cut_of size (drop size m))
-links-long number size m pos lt = ap (links number) (cut_of-long size m pos lt) ∙ more-pieces number (take size m) size ((length (drop size m) - 1) / size) (drop size m)
+pub links-long : (number : Number) (size : ℕ) (m : List ℕ) → 1 ≤ size → size < length m
+    → links number (cut_of size m) ≡ link number true (take size m) ∷ links (other number) (cut_of size (drop size m))
+links-long number size m pos lt = ap (links number) (cut_of-long size m pos lt)
+    ∙ more-pieces number (take size m) size ((length (drop size m) - 1) / size) (drop size m)
 
 take-all : (n : ℕ) (l : List ℕ) → length l ≤ n → take n l ≡ l
 take-all zero [] le = refl
@@ -170,17 +213,29 @@ take-all (suc n) [] le = refl
 take-all (suc n) (x ∷ l) le = ap (λ (t : List ℕ). x ∷ t) (take-all n l (omega arith))
 
 -- the block of a message that is cut, and those after it
-pub first-short : (number : Number) (size : ℕ) (m : List ℕ) → 1 ≤ size → length m ≤ size → links number (cut_of size m) ≡ first_link size number m ∷ []
+pub first-short : (number : Number) (size : ℕ) (m : List ℕ) → 1 ≤ size → length m ≤ size
+    → links number (cut_of size m) ≡ first_link size number m ∷ []
 first-short number size m pos le =
-    links-short number size m pos le ∙ ap (λ (go : Bool). link number go m ∷ []) (sym (le-ltb size (length m) le)) ∙ ap (λ (t : List ℕ). link number (nat_lt size (length m)) t ∷ []) (sym (take-all size m le))
+    links-short number size m pos le ∙ ap (λ (go : Bool). link number go m ∷ []) (sym (le-ltb size (length m) le))
+    ∙ ap (λ (t : List ℕ). link number (nat_lt size (length m)) t ∷ []) (sym (take-all size m le))
 
-pub first-long : (number : Number) (size : ℕ) (m : List ℕ) → 1 ≤ size → size < length m → links number (cut_of size m) ≡ first_link size number m ∷ links (other number) (cut_of size (drop size m))
+pub first-long : (number : Number) (size : ℕ) (m : List ℕ) → 1 ≤ size → size < length m
+    → links number (cut_of size m) ≡ first_link size number m ∷ links (other number) (cut_of size (drop size m))
 first-long number size m pos lt =
-    links-long number size m pos lt ∙ ap (λ (go : Bool). link number go (take size m) ∷ links (other number) (cut_of size (drop size m))) (sym (lt-ltb size (length m) lt))
+    links-long number size m pos lt ∙ ap (λ (go : Bool).
+    link number go (take size m) ∷ links (other number) (cut_of size (drop size m)))
+    (sym (lt-ltb size (length m) lt))
 
 -- a chain of a cut has an octet for each of the message, and four for each block
-pub length-cut : (number : Number) (size : ℕ) (m : List ℕ) → length (spelling number (cut_of size m)) ≤ length m + ((length m - 1) / size + 1) * 4
-length-cut number size m = omega (arith, links-length number (cut_of size m), ap length (message_of-cut_of size m), length-cut_of size m)
+pub length-cut : (number : Number) (size : ℕ) (m : List ℕ)
+    → length (spelling number (cut_of size m)) ≤ length m + ((length m - 1) / size + 1) * 4
+length-cut number size m = omega (
+  arith,
+  links-length number (cut_of size m),
+  ap length (message_of-cut_of size m),
+  length-cut_of size m,
+)
 
-pub length-cut-most : (number : Number) (size : ℕ) (m : List ℕ) → length m ≤ 131072 → length (spelling number (cut_of size m)) ≤ 655364
+pub length-cut-most : (number : Number) (size : ℕ) (m : List ℕ) → length m ≤ 131072
+    → length (spelling number (cut_of size m)) ≤ 655364
 length-cut-most number size m le = omega (arith, length-cut number size m, div-most (length m - 1) size)

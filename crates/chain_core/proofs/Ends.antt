@@ -34,30 +34,49 @@ read-none held r = record {
   most = λ none. omega arith;
 }
 
-pub read-more : (held mid left : Option (List ℕ)) (old cur new : Reception) (taken count : ℕ) → HasRead held mid old cur taken → IsOpen cur → MovesOn mid left cur new count → HasRead held left old new (taken + count)
+pub read-more : (held mid left : Option (List ℕ)) (old cur new : Reception) (taken count : ℕ)
+    → HasRead held mid old cur taken → IsOpen cur → MovesOn mid left cur new count
+    → HasRead held left old new (taken + count)
 read-more held mid left old cur new taken count h free m = record {
   read = h.read ++ m.piece;
   count = omega (arith, length-append h.read m.piece, h.count, m.long);
   from = Consumes-trans held mid left h.read m.piece h.from m.from;
   goes = goes-then old cur new h.read m.piece h.goes free m.goes;
   near = λ refusal e open_before t g.
-      let near : EndsNear cur.number ((t ++ h.read) ++ m.piece) refusal.place = m.near refusal e (t ++ h.read) (h.goes.on free.0 t g) in
-      subst (λ (n : Number). EndsNear n (t ++ (h.read ++ m.piece)) refusal.place) h.goes.number (subst (λ (l : List ℕ). EndsNear cur.number l refusal.place) (append_assoc t h.read m.piece) near);
+      let near : EndsNear cur.number ((t ++ h.read) ++ m.piece) refusal.place =
+      m.near refusal e (t ++ h.read) (h.goes.on free.0 t g) in
+      subst (λ (n : Number). EndsNear n (t ++ (h.read ++ m.piece)) refusal.place) h.goes.number
+      (subst (λ (l : List ℕ). EndsNear cur.number l refusal.place) (append_assoc t h.read m.piece) near);
   most = λ none.
       let b : List ℕ = m.before.0 in
-      let before : length b ≡ length cur.joined + cur.blocks * 4 + length cur.under_way = length-taken cur b m.before.1 in
-      let after : length (b ++ m.piece) ≡ length new.joined + new.blocks * 4 + length new.under_way = length-taken new (b ++ m.piece) (m.goes.on none b m.before.1) in
+      let before : length b ≡ length cur.joined + cur.blocks * 4 + length cur.under_way =
+      length-taken cur b m.before.1 in
+      let after : length (b ++ m.piece) ≡ length new.joined + new.blocks * 4 + length new.under_way =
+      length-taken new (b ++ m.piece) (m.goes.on none b m.before.1) in
       omega (arith, h.most free.0, before, after, length-append b m.piece, m.long);
 }
 
 -- before a call that moves on there is room for more
-pub read-bound : (held mid left : Option (List ℕ)) (old cur new : Reception) (taken count : ℕ) → HasRead held mid old cur taken → IsOpen cur → MovesOn mid left cur new count → taken ≤ old.max + 524288
-read-bound held mid left old cur new taken count h free m = omega (arith, h.most free.0, length-taken cur m.before.0 m.before.1, taken-most cur m.before.0 m.before.1, h.goes.max)
+pub read-bound : (held mid left : Option (List ℕ)) (old cur new : Reception) (taken count : ℕ)
+    → HasRead held mid old cur taken → IsOpen cur → MovesOn mid left cur new count → taken ≤ old.max + 524288
+read-bound held mid left old cur new taken count h free m =
+    omega (
+      arith,
+      h.most free.0,
+      length-taken cur m.before.0 m.before.1,
+      taken-most cur m.before.0 m.before.1,
+      h.goes.max,
+    )
 
-pub read-part : (held mid left : Option (List ℕ)) (old cur new : Reception) (taken : ℕ) → HasRead held mid old cur taken → IsOpen cur → Keeps mid left → new ≡ cur → ReadsPart held left old new taken
+pub read-part : (held mid left : Option (List ℕ)) (old cur new : Reception) (taken : ℕ) → HasRead held mid old cur taken
+    → IsOpen cur → Keeps mid left → new ≡ cur → ReadsPart held left old new taken
 read-part held mid left old cur new taken h free kept same = record {
   read = h.read;
-  is = record { from = Consumes-kept held mid left h.read h.from kept; taken = λ t g. subst (λ (r : Reception). HasTaken r (t ++ h.read)) (sym same) (h.goes.on free.0 t g) };
+  is = record {
+    from = Consumes-kept held mid left h.read h.from kept;
+    taken =
+        λ t g. subst (λ (r : Reception). HasTaken r (t ++ h.read)) (sym same) (h.goes.on free.0 t g);
+  };
   count = h.count;
 }
 
@@ -67,7 +86,9 @@ abbrev pub answer_of : Result Unit (Stop ChainReason) → Result Unit ReadRefusa
 answer_of (Ok done) = Ok done
 answer_of (Err stop) = Err (answers.Stop stop)
 
-pub mapped : (said : Result Unit (Stop ChainReason)) (result : Result Unit ReadRefusal) → MatchResult said (λ done. result ≡ Ok done) (λ stop. IsErrAnd result (λ refusal. refusal ≡ answers.Stop stop)) → answer_of said ≡ result
+pub mapped : (said : Result Unit (Stop ChainReason)) (result : Result Unit ReadRefusal)
+    → MatchResult said (λ done. result ≡ Ok done) (λ stop. IsErrAnd result (λ refusal. refusal ≡ answers.Stop stop))
+    → answer_of said ≡ result
 mapped (Ok done) result h = sym h
 mapped (Err stop) (Ok done) h = absurd h
 mapped (Err stop) (Err refusal) h = ap Err (sym h)
@@ -76,18 +97,25 @@ mapped (Err stop) (Err refusal) h = ap Err (sym h)
 abbrev pub IsEnded : Option (List ℕ) → Reception → Type 0
 IsEnded left new = IsClosed new ⊎ (IsOpen new × IsAtEnd left)
 
-ended-chain : (held left : Option (List ℕ)) (old new : Reception) (taken : ℕ) → HasRead held left old new taken → new.refusal ≡ None → new.done ≡ true → ReadsChain held left old new
+ended-chain : (held left : Option (List ℕ)) (old new : Reception) (taken : ℕ) → HasRead held left old new taken
+    → new.refusal ≡ None → new.done ≡ true → ReadsChain held left old new
 ended-chain held left old new taken h none done = record {
   read = h.read;
   is = record { from = h.from; taken = λ t g. h.goes.on none t g };
   chain = λ t g.
-      let here : HasTaken new (t ++ h.read) = h.goes.on none t g in
-      (here.fields, chain-at old new here.fields (t ++ h.read) h.goes.ifs h.goes.number h.goes.max (done-spelled new (t ++ h.read) here done), sym here.joined);
+      let here : HasTaken new (t ++ h.read) = h.goes.on none t g in (
+        here.fields,
+        chain-at old new here.fields (t ++ h.read) h.goes.ifs h.goes.number h.goes.max
+            (done-spelled new (t ++ h.read) here done),
+        sym here.joined,
+      );
   done = done;
   kept = none;
 }
 
-ended-short : (held left : Option (List ℕ)) (old new : Reception) (taken p : ℕ) → HasRead held left old new taken → IsOpen new → IsAtEnd left → p ≡ length new.joined + new.blocks * 4 + length new.under_way → ReadsShort held left old new p
+ended-short : (held left : Option (List ℕ)) (old new : Reception) (taken p : ℕ) → HasRead held left old new taken
+    → IsOpen new → IsAtEnd left → p ≡ length new.joined + new.blocks * 4 + length new.under_way
+    → ReadsShort held left old new p
 ended-short held left old new taken p h free end place = record {
   read = h.read;
   is = record { from = h.from; taken = λ t g. h.goes.on free.0 t g };
@@ -96,12 +124,23 @@ ended-short held left old new taken p h free end place = record {
       let b : List ℕ = t ++ h.read in
       let here : HasTaken new b = h.goes.on free.0 t g in
       let at : p ≡ length b = place ∙ sym (length-taken new b here) in
-      let begun : Begins (IsChain old.ifs old.number old.max) b = (here.begun.0, here.begun.1, chain-at old new here.begun.0 (b ++ here.begun.1) h.goes.ifs h.goes.number h.goes.max here.begun.2) in
-      let not_yet : (v : List (List ℕ)) → IsChain old.ifs old.number old.max v b → ⊥ = λ v s. not-spelled new b free.1 here v (chain-at new old v b (sym h.goes.ifs) (sym h.goes.number) (sym h.goes.max) s) in
-      subst (λ (k : ℕ). IsShort self_ended (IsChain old.ifs old.number old.max) b k) (sym at) (short-of (IsChain old.ifs old.number old.max) (one-accepted old.ifs old.ifs old.max old.max old.number) b begun not_yet);
+      let begun : Begins (IsChain old.ifs old.number old.max) b = (
+        here.begun.0,
+        here.begun.1,
+        chain-at old new here.begun.0 (b ++ here.begun.1) h.goes.ifs h.goes.number
+            h.goes.max here.begun.2,
+      ) in
+      let not_yet : (v : List (List ℕ)) → IsChain old.ifs old.number old.max v b → ⊥ =
+      λ v s. not-spelled new b free.1 here v
+      (chain-at new old v b (sym h.goes.ifs) (sym h.goes.number) (sym h.goes.max) s) in
+      subst (λ (k : ℕ). IsShort self_ended (IsChain old.ifs old.number old.max) b k) (sym at)
+      (short-of (IsChain old.ifs old.number old.max) (one-accepted old.ifs old.ifs old.max old.max old.number) b
+      begun not_yet);
 }
 
-ended-refused : (held left : Option (List ℕ)) (old new : Reception) (taken : ℕ) (refusal : Refusal ChainReason) → HasRead held left old new taken → new.refusal ≡ Some refusal → IsOpen old → ReadsRefused held left old new refusal.place refusal.reason
+ended-refused : (held left : Option (List ℕ)) (old new : Reception) (taken : ℕ) (refusal : Refusal ChainReason)
+    → HasRead held left old new taken → new.refusal ≡ Some refusal → IsOpen old
+    → ReadsRefused held left old new refusal.place refusal.reason
 ended-refused held left old new taken refusal h e free = record {
   read = h.read;
   from = h.from;
@@ -115,7 +154,8 @@ told : {A : Type 0} (o : Option A) → (o ≡ None) ⊎ ((x : A) × (o ≡ Some 
 told None = inl refl
 told (Some x) = inr (x, refl)
 
-still-open : (old new : Reception) (refusal : Refusal ChainReason) → (IsClosed old → new ≡ old) → new.refusal ≡ Some refusal → old.refusal ≡ None → IsOpen old
+still-open : (old new : Reception) (refusal : Refusal ChainReason) → (IsClosed old → new ≡ old)
+    → new.refusal ≡ Some refusal → old.refusal ≡ None → IsOpen old
 still-open old new refusal same e none = (
   none,
   elim (bool_cases old.done) [
@@ -125,27 +165,36 @@ still-open old new refusal same e none = (
 )
 
 -- the answer follows what the receiver says at the end
-pub finished-reads : (held left : Option (List ℕ)) (old new : Reception) (taken : ℕ) → HasRead held left old new taken → IsEnded left new → (IsClosed old → new ≡ old) → (result : Result Unit (Stop ChainReason))
-    → IsFinished (IsChain new.ifs new.number new.max) (IsReason new.ifs new.number new.max) HasTaken refusal_of new result → OnOk result ((new.refusal ≡ None) × (new.done ≡ true))
-    → IfErr result (λ stop. new.refusal ≡ None → (new.done ≡ false) × (stop ≡ Short (length new.joined + new.blocks * 4 + length new.under_way))) → Reads held left old new (answer_of result)
-finished-reads held left old new taken h ended same (Ok done) f ok waits = ended-chain held left old new taken h ok.0 ok.1
+pub finished-reads : (held left : Option (List ℕ)) (old new : Reception) (taken : ℕ) → HasRead held left old new taken
+    → IsEnded left new → (IsClosed old → new ≡ old) → (result : Result Unit (Stop ChainReason))
+    → IsFinished (IsChain new.ifs new.number new.max) (IsReason new.ifs new.number new.max) HasTaken refusal_of new
+    result → OnOk result ((new.refusal ≡ None) × (new.done ≡ true))
+    → IfErr result (λ stop. new.refusal ≡ None → (new.done ≡ false)
+    × (stop ≡ Short (length new.joined + new.blocks * 4 + length new.under_way)))
+    → Reads held left old new (answer_of result)
+finished-reads held left old new taken h ended same (Ok done) f ok waits =
+    ended-chain held left old new taken h ok.0 ok.1
 finished-reads held left old new taken h ended same (Err (Short p)) f ok waits =
     elim (told new.refusal) [
       | inl none ↦ elim ended [
         | inl closed ↦ absurd (open-not-closed new (none, (waits none).0) closed)
-        | inr more ↦ ended-short held left old new taken p h more.0 more.1 (let e : Short p ≡ Short (length new.joined + new.blocks * 4 + length new.under_way) = (waits none).1 in cc)
+        | inr more ↦ ended-short held left old new taken p h more.0 more.1
+            (let e : Short p ≡ Short (length new.joined + new.blocks * 4 + length new.under_way) = (waits none).1 in cc)
       ]
       | inr some ↦ absurd (let e : Err (Short p) ≡ Err (At some.0.place some.0.reason) = f.repeated some.0 some.1 in cc)
     ]
 finished-reads held left old new taken h ended same (Err (At p r)) f ok waits =
     λ none_before. elim (told new.refusal) [
-      | inl none ↦ absurd (let e : At p r ≡ Short (length new.joined + new.blocks * 4 + length new.under_way) = (waits none).1 in cc)
+      | inl none ↦ absurd (let e : At p r ≡ Short (length new.joined + new.blocks * 4 + length new.under_way) =
+          (waits none).1 in cc)
       | inr some ↦
           let e : Err (At p r) ≡ Err (At some.0.place some.0.reason) = f.repeated some.0 some.1 in
           let place : some.0.place ≡ p = cc in
           let reason : some.0.reason ≡ r = cc in
-          let refused = ended-refused held left old new taken some.0 h some.1 (still-open old new some.0 same some.1 none_before) in
-          subst (λ (k : ℕ). ReadsRefused held left old new k r) place (subst (λ (x : ChainReason). ReadsRefused held left old new some.0.place x) reason refused)
+          let refused = ended-refused held left old new taken some.0 h some.1
+          (still-open old new some.0 same some.1 none_before) in
+          subst (λ (k : ℕ). ReadsRefused held left old new k r) place
+          (subst (λ (x : ChainReason). ReadsRefused held left old new some.0.place x) reason refused)
     ]
 
 -- ---- the verdict on all that the source held
@@ -153,19 +202,25 @@ finished-reads held left old new taken h ended same (Err (At p r)) f ok waits =
 all-is : (t held left read : List ℕ) → held ≡ read ++ left → (t ++ read) ++ left ≡ t ++ held
 all-is t held left read e = append_assoc t read left ∙ ap (λ (l : List ℕ). t ++ l) (sym e)
 
-pub all-accepted : (ifs max : ℕ) (number : Number) (t held left read : List ℕ) (v : List (List ℕ)) → held ≡ read ++ left → IsChain ifs number max v (t ++ read) → Accepts self_ended (IsChain ifs number max) (t ++ held) v (length (t ++ read))
+pub all-accepted : (ifs max : ℕ) (number : Number) (t held left read : List ℕ) (v : List (List ℕ)) → held ≡ read ++ left
+    → IsChain ifs number max v (t ++ read)
+    → Accepts self_ended (IsChain ifs number max) (t ++ held) v (length (t ++ read))
 all-accepted ifs max number t held left read v e h =
-    subst (λ (b : List ℕ). Accepts self_ended (IsChain ifs number max) b v (length (t ++ read))) (all-is t held left read e) (spelled-accepted (IsChain ifs number max) v (t ++ read) left h)
+    subst (λ (b : List ℕ). Accepts self_ended (IsChain ifs number max) b v (length (t ++ read)))
+    (all-is t held left read e) (spelled-accepted (IsChain ifs number max) v (t ++ read) left h)
 
-pub all-short : (ifs max : ℕ) (number : Number) (t held left read : List ℕ) (s : Stop ChainReason) → held ≡ read ++ left → left ≡ [] → Refuses self_ended (IsChain ifs number max) (IsReason ifs number max) (t ++ read) s
+pub all-short : (ifs max : ℕ) (number : Number) (t held left read : List ℕ) (s : Stop ChainReason) → held ≡ read ++ left
+    → left ≡ [] → Refuses self_ended (IsChain ifs number max) (IsReason ifs number max) (t ++ read) s
     → Refuses self_ended (IsChain ifs number max) (IsReason ifs number max) (t ++ held) s
 all-short ifs max number t held left read s e end h =
     let is : held ≡ read = e ∙ ap (λ (l : List ℕ). read ++ l) end ∙ append-nil read in
     subst (λ (l : List ℕ). Refuses self_ended (IsChain ifs number max) (IsReason ifs number max) (t ++ l) s) (sym is) h
 
-pub all-refused : (ifs max : ℕ) (number : Number) (t held left read : List ℕ) (s : Stop ChainReason) → held ≡ read ++ left → RefusesAt self_ended (IsChain ifs number max) (IsReason ifs number max) (t ++ read) s
+pub all-refused : (ifs max : ℕ) (number : Number) (t held left read : List ℕ) (s : Stop ChainReason) → held ≡ read
+    ++ left → RefusesAt self_ended (IsChain ifs number max) (IsReason ifs number max) (t ++ read) s
     → Refuses self_ended (IsChain ifs number max) (IsReason ifs number max) (t ++ held) s
 all-refused ifs max number t held left read (Short p) e h = absurd h
 all-refused ifs max number t held left read (At p r) e h =
-    subst (λ (b : List ℕ). RefusesAt self_ended (IsChain ifs number max) (IsReason ifs number max) b (At p r)) (all-is t held left read e)
+    subst (λ (b : List ℕ). RefusesAt self_ended (IsChain ifs number max) (IsReason ifs number max) b (At p r))
+    (all-is t held left read e)
     (refuses-append (IsChain ifs number max) (IsReason ifs number max) (t ++ read) left p r h)

@@ -29,25 +29,37 @@ pub record IsInside (old : Reception) (piece : List ℕ) : Type 0 where
 -- ---- the receiver takes them
 
 -- a chain doesn't end before them
-whole-piece : (old : Reception) (piece : List ℕ) (n : ℕ) (t : List ℕ) (gs : List (List ℕ)) → IsOpen old → IsInside old piece → n ≤ length piece → HasTaken old t → IsChain old.ifs old.number old.max gs (t ++ take n piece) → n ≡ length piece
+whole-piece : (old : Reception) (piece : List ℕ) (n : ℕ) (t : List ℕ) (gs : List (List ℕ)) → IsOpen old
+    → IsInside old piece → n ≤ length piece → HasTaken old t → IsChain old.ifs old.number old.max gs (t ++ take n piece)
+    → n ≡ length piece
 whole-piece old piece n t gs free inside le h g =
     let c : List ℕ = old.under_way in
     let d : List ℕ = c ++ take n piece in
     let opened : List ℕ = octets_of (open_links old.number h.fields) in
-    let is : t ++ take n piece ≡ opened ++ d = ap (λ (l : List ℕ). l ++ take n piece) (open-is old t free.1 h) ∙ append_assoc opened c (take n piece) in
+    let is : t ++ take n piece ≡ opened ++ d =
+    ap (λ (l : List ℕ). l ++ take n piece) (open-is old t free.1 h) ∙ append_assoc opened c (take n piece) in
     let long : length d ≡ length c + n = omega (arith, length-append c (take n piece), length-take n piece, le) in
     elim (cases_lt n (length piece)) [
       | inl lt ↦ absurd (not-chain old.ifs old.max old.number h.fields d (λ more. elim (cases_lt (length c) 3) [
         | inl few ↦ absurd (omega (arith, inside.head few, long, more, lt))
-        | inr enough ↦ omega (arith, inside.rest enough, long, lt, get_or_append_left c (take n piece) 0 2 (omega arith))
+        | inr enough ↦ omega (
+          arith,
+          inside.rest enough,
+          long,
+          lt,
+          get_or_append_left c (take n piece) 0 2 (omega arith),
+        )
       ]) gs (subst (IsChain old.ifs old.number old.max gs) is g))
       | inr ge ↦ omega arith
     ]
 
-pub fed-goes : (old new : Reception) (piece : List ℕ) (result : Result (ℕ × Bool) (Stop ChainReason)) → IsOpen old → IsInside old piece → (t : List ℕ) → HasTaken old t
+pub fed-goes : (old new : Reception) (piece : List ℕ) (result : Result (ℕ × Bool) (Stop ChainReason)) → IsOpen old
+    → IsInside old piece → (t : List ℕ) → HasTaken old t
     → new.ifs ≡ old.ifs → new.number ≡ old.number → new.max ≡ old.max
-    → ((refusal : Refusal ChainReason) → new.refusal ≡ Some refusal → (s : List ℕ) → HasTaken old s → AreBefore old.number new.blocks new.joined (take refusal.place (s ++ piece)))
-    → IsFed (IsChain old.ifs old.number old.max) (IsReason old.ifs old.number old.max) HasTaken refusal_of old new piece result → Goes old new piece
+    → ((refusal : Refusal ChainReason) → new.refusal ≡ Some refusal → (s : List ℕ) → HasTaken old s
+    → AreBefore old.number new.blocks new.joined (take refusal.place (s ++ piece)))
+    → IsFed (IsChain old.ifs old.number old.max) (IsReason old.ifs old.number old.max) HasTaken refusal_of old new piece
+    result → Goes old new piece
 fed-goes old new piece (Ok (n, done)) free inside t h ifs-is number-is max-is before f =
     let all : n ≡ length piece = elim done as (λ d. d ≡ done → n ≡ length piece) [
       | true ↦ λ e. let v = (f.done t h).0 (sym e) in whole-piece old piece n t v.0 free inside f.taken.0 h v.1
@@ -69,14 +81,18 @@ fed-goes old new piece (Err stop) free inside t h ifs-is number-is max-is before
   on = λ none. none_some new.refusal f.kept.0 none f.kept.1;
   refused = λ refusal e s g.
       let one : f.kept.0 ≡ refusal = some_is f.kept.0 refusal (sym f.kept.1 ∙ e) in
-      let is : stop ≡ At refusal.place refusal.reason = f.kept.2 ∙ ap (λ (x : Refusal ChainReason). At x.place x.reason) one in
-      subst (RefusesAt self_ended (IsChain old.ifs old.number old.max) (IsReason old.ifs old.number old.max) (s ++ piece)) is (f.refused s g);
+      let is : stop ≡ At refusal.place refusal.reason =
+      f.kept.2 ∙ ap (λ (x : Refusal ChainReason). At x.place x.reason) one in
+      subst (RefusesAt self_ended (IsChain old.ifs old.number old.max) (IsReason old.ifs old.number old.max)
+      (s ++ piece)) is (f.refused s g);
   before = before;
 }
 
 -- ---- where it refuses them
 
-pub refused-near : (old new : Reception) (piece : List ℕ) (refusal : Refusal ChainReason) → IsOpen old → IsInside old piece → Goes old new piece → new.refusal ≡ Some refusal → (t : List ℕ) → HasTaken old t → EndsNear old.number (t ++ piece) refusal.place
+pub refused-near : (old new : Reception) (piece : List ℕ) (refusal : Refusal ChainReason) → IsOpen old
+    → IsInside old piece → Goes old new piece → new.refusal ≡ Some refusal → (t : List ℕ) → HasTaken old t
+    → EndsNear old.number (t ++ piece) refusal.place
 refused-near old new piece refusal free inside goes e t h =
     let S : List (List ℕ) → List ℕ → Type 0 = IsChain old.ifs old.number old.max in
     let c : List ℕ = old.under_way in
@@ -89,7 +105,8 @@ refused-near old new piece refusal free inside goes e t h =
     let refused = goes.refused refusal e t h in
     let stuck = refused.0 in
     let late : length t ≤ p = elim (cases_lt p (length t)) [
-      | inl lt ↦ absurd (stuck.stuck (subst (Begins S) (sym (take-append-le (p + 1) t piece (omega arith))) (begins-take S (p + 1) (length t) t (omega arith) (subst (Begins S) (sym (take-length t)) h.begun))))
+      | inl lt ↦ absurd (stuck.stuck (subst (Begins S) (sym (take-append-le (p + 1) t piece (omega arith)))
+          (begins-take S (p + 1) (length t) t (omega arith) (subst (Begins S) (sym (take-length t)) h.begun))))
       | inr le ↦ le
     ] in
     let t-long : length t ≡ length opened + length c = ap length t-is ∙ length-append opened c in
@@ -101,14 +118,27 @@ refused-near old new piece refusal free inside goes e t h =
           let front : List ℕ = take k d in
           let front-long : length front ≡ k = omega (arith, length-take k d, lt, b-long) in
           let at : p + 1 ≡ length opened + k = omega (arith, late, t-long) in
-          let front-is : take (p + 1) b ≡ opened ++ front = ap (λ (n : ℕ). take n b) at ∙ ap (take (length opened + k)) b-is ∙ take-append-add opened d k in
-          let two : slice_index front 2 ≡ slice_index c 2 = get_or-take k d 2 0 (omega (arith, late, t-long, enough)) ∙ get_or_append_left c piece 0 2 (omega arith) in
-          let under : length front < slice_index front 2 + 4 = omega (arith, front-long, two, inside.rest enough, d-long, b-long, lt) in
-          let m = first_holds all_reasons (Meets old.ifs old.number old.max (take (p + 1) b)) refusal.reason refused.1 in
-          let same = part-split old.number m.0 h.fields m.1 front (part-meets old.ifs old.number old.max m.0 m.1 refusal.reason m.3) (part-under front under) (sym m.2 ∙ front-is) in
+          let front-is : take (p + 1) b ≡ opened ++ front =
+          ap (λ (n : ℕ). take n b) at ∙ ap (take (length opened + k)) b-is ∙ take-append-add opened d k in
+          let two : slice_index front 2 ≡ slice_index c 2 =
+          get_or-take k d 2 0 (omega (arith, late, t-long, enough))
+          ∙ get_or_append_left c piece 0 2 (omega arith) in
+          let under : length front < slice_index front 2 + 4 =
+          omega (arith, front-long, two, inside.rest enough, d-long, b-long, lt) in
+          let m = first_holds all_reasons (Meets old.ifs old.number old.max (take (p + 1) b)) refusal.reason refused.1
+          in
+          let same = part-split old.number m.0 h.fields m.1 front
+          (part-meets old.ifs old.number old.max m.0 m.1 refusal.reason m.3) (part-under front under)
+          (sym m.2 ∙ front-is) in
           elim (meets-length old.ifs old.number old.max m.0 m.1 refusal.reason m.3) [
             | inl few ↦ absurd (omega (arith, few, ap length same.1, front-long, late, t-long, enough))
-            | inr whole ↦ absurd (omega (arith, whole, ap length same.1, ap (λ (l : List ℕ). slice_index l 2) same.1, under))
+            | inr whole ↦ absurd (omega (
+              arith,
+              whole,
+              ap length same.1,
+              ap (λ (l : List ℕ). slice_index l 2) same.1,
+              under,
+            ))
           ]
       | inr le ↦ omega (arith, stuck.inside)
     ] in
@@ -129,4 +159,11 @@ refused-near old new piece refusal free inside goes e t h =
 pub taken-most : (r : Reception) (t : List ℕ) → HasTaken r t → length t ≤ r.max + 524288
 taken-most r t h =
     let g = h.begun.2 in
-    omega (arith, ap length g.is, length-append t h.begun.1, links-length r.number h.begun.0, g.proper.fits, g.proper.few)
+    omega (
+      arith,
+      ap length g.is,
+      length-append t h.begun.1,
+      links-length r.number h.begun.0,
+      g.proper.fits,
+      g.proper.few,
+    )

@@ -28,24 +28,42 @@ len-at b s = refl
 -- there are fewer than LEN tells
 pub part-under : (c : List ℕ) → length c < slice_index c 2 + 4 → IsPart c
 unfolding IsPart
-part-under c lt b s e = omega (arith, ap length e, length-append (block.spelling b) s, spelling-len b, ap (λ (l : List ℕ). slice_index l 2) e, len-at b s)
+part-under c lt b s e = omega (
+  arith,
+  ap length e,
+  length-append (block.spelling b) s,
+  spelling-len b,
+  ap (λ (l : List ℕ). slice_index l 2) e,
+  len-at b s,
+)
 
 pub part-sum : (c : List ℕ) → length c ≡ slice_index c 2 + 4 → xor_of c ≢ 0 → IsPart c
 unfolding IsPart
 part-sum c len bad b s e =
     let told : slice_index c 2 ≡ length b.inf = ap (λ (l : List ℕ). slice_index l 2) e ∙ len-at b s in
-    let none : s ≡ [] = nil_of s (omega (arith, len, told, ap length e, length-append (block.spelling b) s, spelling-len b)) in
-    let all : c ≡ block.spelling b = e ∙ ap (λ (l : List ℕ). block.spelling b ++ l) none ∙ append-nil (block.spelling b) in
+    let none : s ≡ [] = nil_of s (omega (
+      arith,
+      len,
+      told,
+      ap length e,
+      length-append (block.spelling b) s,
+      spelling-len b,
+    )) in
+    let all : c ≡ block.spelling b = e ∙ ap (λ (l : List ℕ). block.spelling b ++ l) none
+    ∙ append-nil (block.spelling b) in
     bad (ap xor_of all ∙ spelling-xor b)
 
 -- octets come apart in one way into whole blocks that go on and a part of a block
-pub part-split : (number : Number) (fs gs : List (List ℕ)) (c d : List ℕ) → IsPart c → IsPart d → octets_of (open_links number fs) ++ c ≡ octets_of (open_links number gs) ++ d → (fs ≡ gs) × (c ≡ d)
+pub part-split : (number : Number) (fs gs : List (List ℕ)) (c d : List ℕ) → IsPart c → IsPart d
+    → octets_of (open_links number fs) ++ c ≡ octets_of (open_links number gs) ++ d → (fs ≡ gs) × (c ≡ d)
 unfolding IsPart
 part-split number [] [] c d p q e = (refl, e)
 part-split number [] (g ∷ gs) c d p q e =
-    absurd (p (link number true g) (octets_of (open_links (other number) gs) ++ d) (e ∙ append_assoc (block.spelling (link number true g)) (octets_of (open_links (other number) gs)) d))
+    absurd (p (link number true g) (octets_of (open_links (other number) gs) ++ d)
+    (e ∙ append_assoc (block.spelling (link number true g)) (octets_of (open_links (other number) gs)) d))
 part-split number (f ∷ fs) [] c d p q e =
-    absurd (q (link number true f) (octets_of (open_links (other number) fs) ++ c) (sym e ∙ append_assoc (block.spelling (link number true f)) (octets_of (open_links (other number) fs)) c))
+    absurd (q (link number true f) (octets_of (open_links (other number) fs) ++ c)
+    (sym e ∙ append_assoc (block.spelling (link number true f)) (octets_of (open_links (other number) fs)) c))
 part-split number (f ∷ fs) (g ∷ gs) c d p q e =
     let a : List ℕ = block.spelling (link number true f) in
     let b : List ℕ = block.spelling (link number true g) in
@@ -55,17 +73,20 @@ part-split number (f ∷ fs) (g ∷ gs) c d p q e =
     let r = part-split (other number) fs gs c d p q h.2 in
     (λ i. h.1 i ∷ r.0 i, r.1)
 
-pub part-meets : (ifs : ℕ) (number : Number) (max : ℕ) (fields : List (List ℕ)) (c : List ℕ) (r : ChainReason) → MeetsInBlock ifs number max fields c r → IsPart c
+pub part-meets : (ifs : ℕ) (number : Number) (max : ℕ) (fields : List (List ℕ)) (c : List ℕ) (r : ChainReason)
+    → MeetsInBlock ifs number max fields c r → IsPart c
 part-meets ifs number max fields c BadLrc h = part-sum c h.0 h.1
 part-meets ifs number max fields c _ h = part-short c (omega (arith, h.0))
 
 -- a reason is of the first three octets of a block, or of all of them
-pub meets-length : (ifs : ℕ) (number : Number) (max : ℕ) (fields : List (List ℕ)) (c : List ℕ) (r : ChainReason) → MeetsInBlock ifs number max fields c r → (length c ≤ 3) ⊎ (length c ≡ slice_index c 2 + 4)
+pub meets-length : (ifs : ℕ) (number : Number) (max : ℕ) (fields : List (List ℕ)) (c : List ℕ) (r : ChainReason)
+    → MeetsInBlock ifs number max fields c r → (length c ≤ 3) ⊎ (length c ≡ slice_index c 2 + 4)
 meets-length ifs number max fields c BadLrc h = inr h.0
 meets-length ifs number max fields c _ h = inl (omega (arith, h.0))
 
 -- the reason is that of the block under way
-pub reason-in_block : (ifs : ℕ) (number : Number) (max : ℕ) (fields : List (List ℕ)) (c b : List ℕ) (r : ChainReason) → b ≡ octets_of (open_links number fields) ++ c → IsPart c
+pub reason-in_block : (ifs : ℕ) (number : Number) (max : ℕ) (fields : List (List ℕ)) (c b : List ℕ) (r : ChainReason)
+    → b ≡ octets_of (open_links number fields) ++ c → IsPart c
     → IsFirst all_reasons (MeetsInBlock ifs number max fields c) r → IsReason ifs number max r b
 reason-in_block ifs number max fields c b r is part first =
     IsFirst-alike all_reasons
@@ -73,5 +94,6 @@ reason-in_block ifs number max fields c b r is part first =
     (λ line h. (fields, c, is, h))
     (λ line h.
     let same = part-split number h.0 fields h.1 c (part-meets ifs number max h.0 h.1 line h.3) part (sym h.2 ∙ is) in
-    subst (λ (x : List ℕ). MeetsInBlock ifs number max fields x line) same.1 (subst (λ (fs : List (List ℕ)). MeetsInBlock ifs number max fs h.1 line) same.0 h.3))
+    subst (λ (x : List ℕ). MeetsInBlock ifs number max fields x line) same.1
+    (subst (λ (fs : List (List ℕ)). MeetsInBlock ifs number max fs h.1 line) same.0 h.3))
     first

@@ -32,11 +32,19 @@ false-true : {P : Type 0} → false ≡ true → P
 false-true {P} e = cc
 
 -- the whole blocks that begin a chain have what its blocks have
-pub opened-taken : (ifs : ℕ) (number : Number) (fields gs : List (List ℕ)) (s : List ℕ) → AllByRecursion (λ f. length f ≤ ifs) gs → AreOctets (message_of gs) → spelling number gs ≡ octets_of (open_links number fields) ++ s → Taken ifs fields
+pub opened-taken : (ifs : ℕ) (number : Number) (fields gs : List (List ℕ)) (s : List ℕ)
+    → AllByRecursion (λ f. length f ≤ ifs) gs → AreOctets (message_of gs)
+    → spelling number gs ≡ octets_of (open_links number fields) ++ s → Taken ifs fields
 opened-taken ifs number [] gs s sizes octets e = record { sizes = tt; octets = λ i. omega arith }
 opened-taken ifs number (f ∷ fs) [] s sizes octets e =
     let a : List ℕ = block.spelling (link number true f) in
-    absurd (omega (arith, ap length e, length-append (a ++ octets_of (open_links (other number) fs)) s, length-append a (octets_of (open_links (other number) fs)), spelling-len (link number true f)))
+    absurd (omega (
+      arith,
+      ap length e,
+      length-append (a ++ octets_of (open_links (other number) fs)) s,
+      length-append a (octets_of (open_links (other number) fs)),
+      spelling-len (link number true f),
+    ))
 opened-taken ifs number (f ∷ fs) (g ∷ []) s sizes octets e =
     let a : List ℕ = block.spelling (link number true f) in
     let u : List ℕ = octets_of (open_links (other number) fs) in
@@ -45,13 +53,16 @@ opened-taken ifs number (f ∷ fs) (g ∷ k ∷ gs) s sizes octets e =
     let a : List ℕ = block.spelling (link number true f) in
     let u : List ℕ = octets_of (open_links (other number) fs) in
     let h = link-split number true true g f (spelling (other number) (k ∷ gs)) (u ++ s) (e ∙ append_assoc a u s) in
-    let rest : Taken ifs fs = opened-taken ifs (other number) fs (k ∷ gs) s sizes.1 (octets-right g (message_of (k ∷ gs)) octets) h.2 in
+    let rest : Taken ifs fs = opened-taken ifs (other number) fs (k ∷ gs) s sizes.1
+    (octets-right g (message_of (k ∷ gs)) octets) h.2 in
     record {
       sizes = (subst (λ (x : List ℕ). length x ≤ ifs) h.1 sizes.0, rest.sizes);
-      octets = octets-append f (message_of fs) (subst AreOctets h.1 (octets-left g (message_of (k ∷ gs)) octets)) rest.octets;
+      octets = octets-append f (message_of fs) (subst AreOctets h.1 (octets-left g (message_of (k ∷ gs)) octets))
+          rest.octets;
     }
 
-pub begun-taken : (ifs max : ℕ) (number : Number) (fields : List (List ℕ)) (c t : List ℕ) → t ≡ octets_of (open_links number fields) ++ c → Begins (IsChain ifs number max) t → Taken ifs fields
+pub begun-taken : (ifs max : ℕ) (number : Number) (fields : List (List ℕ)) (c t : List ℕ)
+    → t ≡ octets_of (open_links number fields) ++ c → Begins (IsChain ifs number max) t → Taken ifs fields
 begun-taken ifs max number fields c t is (gs, more, h) =
     opened-taken ifs number fields gs (c ++ more) h.proper.sizes h.proper.octets
     (sym h.is ∙ ap (λ (l : List ℕ). l ++ more) is ∙ append_assoc (octets_of (open_links number fields)) c more)
@@ -59,46 +70,69 @@ begun-taken ifs max number fields c t is (gs, more, h) =
 -- ---- the block under way
 
 -- fewer octets than a block has
-pub way-under : (number : Number) (ifs max blocks joined came : ℕ) (p : part.Part) (field : List ℕ) → length field ≤ came → IsUnderWay ifs max blocks joined came p
-    → 3 < length (under_way_of number p field) → length (under_way_of number p field) < slice_index (under_way_of number p field) 2 + 4
+pub way-under : (number : Number) (ifs max blocks joined came : ℕ) (p : part.Part) (field : List ℕ)
+    → length field ≤ came → IsUnderWay ifs max blocks joined came p
+    → 3 < length (under_way_of number p field)
+    → length (under_way_of number p field) < slice_index (under_way_of number p field) 2 + 4
 way-under number ifs max blocks joined came parts.Nad field short h lt = absurd (omega arith)
 way-under number ifs max blocks joined came parts.Pcb field short h lt = absurd (omega arith)
 way-under number ifs max blocks joined came (parts.Len more) field short h lt = absurd (omega arith)
 way-under number ifs max blocks joined came (parts.Rest more len) field short h lt = omega (arith, short, h.3)
 
 -- whole blocks and what there is of the next begin a chain
-pub way-begins : (ifs : ℕ) (number : Number) (max : ℕ) (before : List (List ℕ)) (came : ℕ) (p : part.Part) (field : List ℕ) → Taken ifs before → length before + 1 ≤ 131072 → length (message_of before) ≤ max
-    → length field ≤ came → IsUnderWay ifs max (length before) (length (message_of before)) came p → AreOctets field → Begins (IsChain ifs number max) (octets_of (open_links number before) ++ under_way_of (number_after number (length before)) p field)
+pub way-begins : (ifs : ℕ) (number : Number) (max : ℕ) (before : List (List ℕ)) (came : ℕ) (p : part.Part)
+    (field : List ℕ) → Taken ifs before → length before + 1 ≤ 131072 → length (message_of before) ≤ max
+    → length field ≤ came → IsUnderWay ifs max (length before) (length (message_of before)) came p → AreOctets field
+    → Begins (IsChain ifs number max)
+    (octets_of (open_links number before) ++ under_way_of (number_after number (length before)) p field)
 way-begins ifs number max before came parts.Nad field taken few fits short h octets =
-    part-begins ifs number max before false [] [] (block.spelling (link (number_after number (length before)) false [])) taken (omega arith) (omega arith) (λ i. omega arith) (omega arith) refl
+    part-begins ifs number max before false [] [] (block.spelling (link (number_after number (length before)) false []))
+    taken (omega arith) (omega arith) (λ i. omega arith) (omega arith) refl
 way-begins ifs number max before came parts.Pcb field taken few fits short h octets =
-    part-begins ifs number max before false [] (0 ∷ []) (drop 1 (block.spelling (link (number_after number (length before)) false []))) taken (omega arith) (omega arith) (λ i. omega arith) (omega arith) refl
+    part-begins ifs number max before false [] (0 ∷ [])
+    (drop 1 (block.spelling (link (number_after number (length before)) false []))) taken (omega arith)
+    (omega arith) (λ i. omega arith) (omega arith) refl
 way-begins ifs number max before came (parts.Len more) field taken few fits short h octets =
     let own : Number = number_after number (length before) in
-    part-begins ifs number max before more [] (0 ∷ pcb_octet (Info own more) ∷ []) (drop 2 (block.spelling (link own more []))) taken h (omega arith) (λ i. omega arith) (omega arith) refl
+    part-begins ifs number max before more [] (0 ∷ pcb_octet (Info own more) ∷ [])
+    (drop 2 (block.spelling (link own more []))) taken h (omega arith) (λ i. omega arith) (omega arith) refl
 way-begins ifs number max before came (parts.Rest more len) field taken few fits short h octets =
     let own : Number = number_after number (length before) in
     let left : List ℕ = replicate (len - length field) 0 in
     let all : List ℕ = field ++ left in
     let sum : List ℕ = xor_of (front_of (link own more all)) ∷ [] in
-    let count : len ≡ length all = omega (arith, length-append field left, length-replicate {A = ℕ} (len - length field) 0, short, h.3) in
+    let count : len ≡ length all = omega (
+      arith,
+      length-append field left,
+      length-replicate {A = ℕ} (len - length field) 0,
+      short,
+      h.3,
+    ) in
     let text : field ++ (left ++ sum) ≡ all ++ sum = sym (append_assoc field left sum) in
-    part-begins ifs number max before more all (0 ∷ pcb_octet (Info own more) ∷ len ∷ field) (left ++ sum) taken h.0 (omega (arith, count, h.1)) (octets-append field left octets (zeros-octets (len - length field))) (omega (arith, count, h.2)) (λ i. 0 ∷ pcb_octet (Info own more) ∷ count i ∷ text i)
+    part-begins ifs number max before more all (0 ∷ pcb_octet (Info own more) ∷ len ∷ field) (left ++ sum) taken h.0
+    (omega (arith, count, h.1)) (octets-append field left octets (zeros-octets (len - length field)))
+    (omega (arith, count, h.2)) (λ i. 0 ∷ pcb_octet (Info own more) ∷ count i ∷ text i)
 
 -- and are none
-pub not-chain : (ifs max : ℕ) (number : Number) (before : List (List ℕ)) (c : List ℕ) → (3 < length c → length c < slice_index c 2 + 4) → (gs : List (List ℕ)) → IsChain ifs number max gs (octets_of (open_links number before) ++ c) → ⊥
+pub not-chain : (ifs max : ℕ) (number : Number) (before : List (List ℕ)) (c : List ℕ)
+    → (3 < length c → length c < slice_index c 2 + 4) → (gs : List (List ℕ))
+    → IsChain ifs number max gs (octets_of (open_links number before) ++ c) → ⊥
 not-chain ifs max number before c part gs h =
-    let n : Next ifs max number before gs c = next-block ifs max number before gs c h.proper.some h.proper.sizes (sym h.is) in
+    let n : Next ifs max number before gs c =
+    next-block ifs max number before gs c h.proper.some h.proper.sizes (sym h.is) in
     let own = link (number_after number (length before)) n.more n.field in
-    let long : length c ≡ length n.field + 4 + length n.rest = omega (arith, ap length n.is, length-append (block.spelling own) n.rest, spelling-len own) in
+    let long : length c ≡ length n.field + 4 + length n.rest =
+    omega (arith, ap length n.is, length-append (block.spelling own) n.rest, spelling-len own) in
     let two : slice_index c 2 ≡ length n.field = ap (λ (l : List ℕ). slice_index l 2) n.is in
     omega (arith, part (omega (arith, long)), long, two)
 
 -- ---- refusals
 
 -- the next octet is refused, where a spelling goes on before it and none after it
-pub refused-next : {V R : Type 0} (S : V → List ℕ → Type 0) (Reason : R → List ℕ → Type 0) → ((b : List ℕ) (v w : V) (n m : ℕ) → Accepts self_ended S b v n → Accepts self_ended S b w m → (v ≡ w) × (n ≡ m))
-    → (b : List ℕ) (x : ℕ) (r : R) → Begins S b → ((v : V) → S v b → ⊥) → (Begins S (b ++ x ∷ []) → ⊥) → Reason r (b ++ x ∷ []) → RefusesAt self_ended S Reason (b ++ x ∷ []) (At (length b) r)
+pub refused-next : {V R : Type 0} (S : V → List ℕ → Type 0) (Reason : R → List ℕ → Type 0)
+    → ((b : List ℕ) (v w : V) (n m : ℕ) → Accepts self_ended S b v n → Accepts self_ended S b w m → (v ≡ w) × (n ≡ m))
+    → (b : List ℕ) (x : ℕ) (r : R) → Begins S b → ((v : V) → S v b → ⊥) → (Begins S (b ++ x ∷ []) → ⊥)
+    → Reason r (b ++ x ∷ []) → RefusesAt self_ended S Reason (b ++ x ∷ []) (At (length b) r)
 refused-next S Reason one b x r begun not_yet stuck reason =
     let all : List ℕ = b ++ x ∷ [] in
     let len : length all ≡ length b + 1 = length-append b (x ∷ []) in
@@ -106,7 +140,9 @@ refused-next S Reason one b x r begun not_yet stuck reason =
     let front : take (length b) all ≡ b = take-append_seam b (x ∷ []) in (
       record {
         none = λ v n a. elim (cases_lt (length b) n) [
-          | inl lt ↦ stuck (subst (Begins S) (ap (λ (k : ℕ). take k all) (let e : n ≡ length b + 1 = omega (arith, len, a.0) in e) ∙ whole) (spelled-begins S v (take n all) a.1))
+          | inl lt ↦ stuck (subst (Begins S)
+              (ap (λ (k : ℕ). take k all) (let e : n ≡ length b + 1 = omega (arith, len, a.0) in e) ∙ whole)
+              (spelled-begins S v (take n all) a.1))
           | inr le ↦ (short-of S one b begun not_yet).none v n (le, subst (S v) (take-append-le n b (x ∷ []) le) a.1)
         ];
         inside = omega (arith, len);
@@ -117,12 +153,19 @@ refused-next S Reason one b x r begun not_yet stuck reason =
     )
 
 -- the next octet of the block under way
-pub refused-in_block : (ifs max : ℕ) (number : Number) (before : List (List ℕ)) (c : List ℕ) (x : ℕ) (r : ChainReason) → ifs ≤ 254 → Begins (IsChain ifs number max) (octets_of (open_links number before) ++ c)
-    → (3 < length c → length c < slice_index c 2 + 4) → IsPart (c ++ x ∷ []) → IsFirst all_reasons (MeetsInBlock ifs number max before (c ++ x ∷ [])) r
-    → RefusesAt self_ended (IsChain ifs number max) (IsReason ifs number max) ((octets_of (open_links number before) ++ c) ++ x ∷ []) (At (length (octets_of (open_links number before) ++ c)) r)
+pub refused-in_block : (ifs max : ℕ) (number : Number) (before : List (List ℕ)) (c : List ℕ) (x : ℕ) (r : ChainReason)
+    → ifs ≤ 254 → Begins (IsChain ifs number max) (octets_of (open_links number before) ++ c)
+    → (3 < length c → length c < slice_index c 2 + 4) → IsPart (c ++ x ∷ [])
+    → IsFirst all_reasons (MeetsInBlock ifs number max before (c ++ x ∷ [])) r
+    → RefusesAt self_ended (IsChain ifs number max) (IsReason ifs number max)
+    ((octets_of (open_links number before) ++ c) ++ x ∷ [])
+    (At (length (octets_of (open_links number before) ++ c)) r)
 refused-in_block ifs max number before c x r small begun under part first =
     let opened : List ℕ = octets_of (open_links number before) in
     let parts_is : (opened ++ c) ++ x ∷ [] ≡ opened ++ (c ++ x ∷ []) = append_assoc opened c (x ∷ []) in
-    refused-next (IsChain ifs number max) (IsReason ifs number max) (one-accepted ifs ifs max max number) (opened ++ c) x r begun (not-chain ifs max number before c under)
-    (λ h. meets-stuck ifs max number (opened ++ (c ++ x ∷ [])) r small (before, c ++ x ∷ [], refl, first_holds all_reasons (MeetsInBlock ifs number max before (c ++ x ∷ [])) r first) (subst (Begins (IsChain ifs number max)) parts_is h))
+    refused-next (IsChain ifs number max) (IsReason ifs number max) (one-accepted ifs ifs max max number) (opened ++ c)
+    x r begun (not-chain ifs max number before c under)
+    (λ h. meets-stuck ifs max number (opened ++ (c ++ x ∷ [])) r small
+    (before, c ++ x ∷ [], refl, first_holds all_reasons (MeetsInBlock ifs number max before (c ++ x ∷ [])) r first)
+    (subst (Begins (IsChain ifs number max)) parts_is h))
     (reason-in_block ifs number max before (c ++ x ∷ []) ((opened ++ c) ++ x ∷ []) r parts_is part first)

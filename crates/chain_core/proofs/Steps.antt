@@ -36,7 +36,8 @@ use Rattle.chain_core.proofs.Receptions.{more-goes, refused-goes, joined-goes}
 pub way-of : (p : ReceiverPlaces) (room : ℕ) → AreReceiverPlaces p room → p.done ≡ false → IsAmong false p
 way-of p room fit still = subst (λ (d : Bool). IsAmong d p) still fit.among
 
-way-held : (ifs max blocks joined came : ℕ) (p : part.Part) → joined ≤ max → IsUnderWay ifs max blocks joined came p → joined + came_of p came ≤ max
+way-held : (ifs max blocks joined came : ℕ) (p : part.Part) → joined ≤ max → IsUnderWay ifs max blocks joined came p
+    → joined + came_of p came ≤ max
 way-held ifs max blocks joined came parts.Nad le h = omega arith
 way-held ifs max blocks joined came parts.Pcb le h = omega arith
 way-held ifs max blocks joined came (parts.Len more) le h = omega arith
@@ -57,22 +58,34 @@ joined-len p m inside = omega (arith, length-take p.joined m, inside)
 
 -- a test for the last block
 last-full : (blocks : ℕ) → nat_eq (blocks + 1) 131072 ≡ true → blocks + 1 ≡ 131072
-last-full blocks e = elim (eqb_tells (blocks + 1) 131072) [ inl h ↦ h.1 | inr h ↦ absurd (let bad : true ≡ false = sym e ∙ h.0 in cc) ]
+last-full blocks e = elim (eqb_tells (blocks + 1) 131072)
+    [ inl h ↦ h.1 | inr h ↦ absurd (let bad : true ≡ false = sym e ∙ h.0 in cc) ]
 
 last-free : (blocks : ℕ) → blocks + 1 ≤ 131072 → nat_eq (blocks + 1) 131072 ≡ false → blocks + 2 ≤ 131072
-last-free blocks few e = elim (eqb_tells (blocks + 1) 131072) [ inl h ↦ absurd (let bad : true ≡ false = sym h.0 ∙ e in cc) | inr h ↦ let ne : blocks + 1 ≢ 131072 = h.1 in omega arith ]
+last-free blocks few e = elim (eqb_tells (blocks + 1) 131072) [
+  | inl h ↦ absurd (let bad : true ≡ false = sym h.0 ∙ e in cc)
+  | inr h ↦ let ne : blocks + 1 ≢ 131072 =
+      h.1 in omega arith
+]
 
-counted : (more last : Bool) (blocks : ℕ) → (last ≡ false → blocks + 2 ≤ 131072) → blocks + 1 ≤ 131072 → (more ≡ true → last ≡ false) → blocks + 1 + more_count more ≤ 131072
+counted : (more last : Bool) (blocks : ℕ) → (last ≡ false → blocks + 2 ≤ 131072) → blocks + 1 ≤ 131072
+    → (more ≡ true → last ≡ false) → blocks + 1 + more_count more ≤ 131072
 counted false last blocks few some h = omega arith
 counted true last blocks few some h = omega (arith, few (h refl))
 
-head-text : (number : Number) (last : Bool) (ifs room x : ℕ) (p next : part.Part) (field more : List ℕ) → IsAfter number last ifs room p x next → under_way_of number next (take 0 more) ≡ under_way_of number p field ++ x ∷ []
-head-text number last ifs room x parts.Nad next field more h = ap (λ (q : part.Part). under_way_of number q (take 0 more)) h.1 ∙ ap (λ (y : ℕ). y ∷ []) (sym h.0)
-head-text number last ifs room x parts.Pcb next field more h = ap (λ (q : part.Part). under_way_of number q (take 0 more)) h.1 ∙ ap (λ (y : ℕ). 0 ∷ y ∷ []) h.2
-head-text number last ifs room x (parts.Len goes_on) next field more h = ap (λ (q : part.Part). under_way_of number q (take 0 more)) h.0
+head-text : (number : Number) (last : Bool) (ifs room x : ℕ) (p next : part.Part) (field more : List ℕ)
+    → IsAfter number last ifs room p x next → under_way_of number next (take 0 more) ≡ under_way_of number p field
+    ++ x ∷ []
+head-text number last ifs room x parts.Nad next field more h =
+    ap (λ (q : part.Part). under_way_of number q (take 0 more)) h.1 ∙ ap (λ (y : ℕ). y ∷ []) (sym h.0)
+head-text number last ifs room x parts.Pcb next field more h =
+    ap (λ (q : part.Part). under_way_of number q (take 0 more)) h.1 ∙ ap (λ (y : ℕ). 0 ∷ y ∷ []) h.2
+head-text number last ifs room x (parts.Len goes_on) next field more h =
+    ap (λ (q : part.Part). under_way_of number q (take 0 more)) h.0
 head-text number last ifs room x (parts.Rest goes_on len) next field more h = absurd h
 
-head-len : (number : Number) (p : part.Part) (field : List ℕ) → IsHead p → length (under_way_of number p field) ≡ place_of p
+head-len : (number : Number) (p : part.Part) (field : List ℕ) → IsHead p
+    → length (under_way_of number p field) ≡ place_of p
 head-len number parts.Nad field h = refl
 head-len number parts.Pcb field h = refl
 head-len number (parts.Len more) field h = refl
@@ -84,10 +97,14 @@ place-most parts.Pcb head = omega arith
 place-most (parts.Len more) head = omega arith
 place-most (parts.Rest more len) head = absurd head
 
-head-way : (number : Number) (ifs max blocks joined came x : ℕ) (p next : part.Part) → blocks + 1 ≤ 131072 → joined ≤ max → IsUnderWay ifs max blocks joined came p → IsAfter number (nat_eq (blocks + 1) 131072) ifs (max - joined) p x next → IsUnderWay ifs max blocks joined 0 next
+head-way : (number : Number) (ifs max blocks joined came x : ℕ) (p next : part.Part) → blocks + 1 ≤ 131072
+    → joined ≤ max → IsUnderWay ifs max blocks joined came p
+    → IsAfter number (nat_eq (blocks + 1) 131072) ifs (max - joined) p x next → IsUnderWay ifs max blocks joined 0 next
 head-way number ifs max blocks joined came x parts.Nad next few fits h b = rw b.1 tt
-head-way number ifs max blocks joined came x parts.Pcb next few fits h b = rw b.1 (counted b.0 (nat_eq (blocks + 1) 131072) blocks (last-free blocks few) few b.3)
-head-way number ifs max blocks joined came x (parts.Len more) next few fits h b = rw b.0 (h, b.1, omega (arith, b.2, fits), omega arith)
+head-way number ifs max blocks joined came x parts.Pcb next few fits h b =
+    rw b.1 (counted b.0 (nat_eq (blocks + 1) 131072) blocks (last-free blocks few) few b.3)
+head-way number ifs max blocks joined came x (parts.Len more) next few fits h b =
+    rw b.0 (h, b.1, omega (arith, b.2, fits), omega arith)
 head-way number ifs max blocks joined came x (parts.Rest more len) next few fits h b = absurd b
 
 none-came : (p : part.Part) → came_of p 0 ≡ 0
@@ -102,19 +119,28 @@ head-came parts.Pcb came h = refl
 head-came (parts.Len more) came h = refl
 head-came (parts.Rest more len) came h = absurd h
 
-pub head-held : (p : ReceiverPlaces) (next : part.Part) → IsHead p.part → held_at (record p { part = next; came = 0 }) ≡ held_at p
+pub head-held : (p : ReceiverPlaces) (next : part.Part) → IsHead p.part
+    → held_at (record p { part = next; came = 0 }) ≡ held_at p
 head-held p next head = omega (arith, none-came next, head-came p.part p.came head)
 
-pub head-on : (p : ReceiverPlaces) (next : part.Part) (x room : ℕ) (m : List ℕ) → AreReceiverPlaces p room → held_at p ≤ length m → p.refusal ≡ None → p.done ≡ false
-    → IsAfter (number_at p) (nat_eq (p.blocks + 1) 131072) p.ifs (p.max - p.joined) p.part x next → Goes (received_at p m) (received_at (record p { part = next; came = 0 }) m) (x ∷ [])
+pub head-on : (p : ReceiverPlaces) (next : part.Part) (x room : ℕ) (m : List ℕ) → AreReceiverPlaces p room
+    → held_at p ≤ length m → p.refusal ≡ None → p.done ≡ false
+    → IsAfter (number_at p) (nat_eq (p.blocks + 1) 131072) p.ifs (p.max - p.joined) p.part x next
+    → Goes (received_at p m) (received_at (record p { part = next; came = 0 }) m) (x ∷ [])
 head-on p next x room m fit held none still after =
     let way = way-of p room fit still in
     let long = joined-len p m (omega (arith, held)) in
-    let next-way = head-way (number_at p) p.ifs p.max p.blocks p.joined p.came x p.part next way.0 fit.joined way.1 after in
-    more-goes (received_at p m) 0 next (take 0 (drop p.joined m)) (x ∷ []) (none, still) (omega arith) (subst (λ (k : ℕ). IsUnderWay p.ifs p.max p.blocks k 0 next) (sym long) next-way) way.0 (omega (arith, long, fit.joined)) (λ i. omega arith)
-    (head-text (number_at p) (nat_eq (p.blocks + 1) 131072) p.ifs (p.max - p.joined) x p.part next (field_at p m) (drop p.joined m) after)
+    let next-way = head-way (number_at p) p.ifs p.max p.blocks p.joined p.came x p.part next way.0 fit.joined way.1
+    after in
+    more-goes (received_at p m) 0 next (take 0 (drop p.joined m)) (x ∷ []) (none, still) (omega arith)
+    (subst (λ (k : ℕ). IsUnderWay p.ifs p.max p.blocks k 0 next) (sym long) next-way) way.0
+    (omega (arith, long, fit.joined)) (λ i. omega arith)
+    (head-text (number_at p) (nat_eq (p.blocks + 1) 131072) p.ifs (p.max - p.joined) x p.part next (field_at p m)
+    (drop p.joined m) after)
 
-pub head-fit : (p : ReceiverPlaces) (next : part.Part) (x room : ℕ) → p.done ≡ false → IsAfter (number_at p) (nat_eq (p.blocks + 1) 131072) p.ifs (p.max - p.joined) p.part x next → AreReceiverPlaces p room
+pub head-fit : (p : ReceiverPlaces) (next : part.Part) (x room : ℕ) → p.done ≡ false
+    → IsAfter (number_at p) (nat_eq (p.blocks + 1) 131072) p.ifs (p.max - p.joined) p.part x next
+    → AreReceiverPlaces p room
     → AreReceiverPlaces (record p { part = next; came = 0 }) room
 head-fit p next x room still after fit =
     let way = way-of p room fit still in
@@ -125,47 +151,75 @@ head-fit p next x room still after fit =
       reserved = fit.reserved;
       joined = fit.joined;
       blocks = fit.blocks;
-      among = subst (λ (d : Bool). IsAmong d (record p { part = next; came = 0 })) (sym still) (way.0, head-way (number_at p) p.ifs p.max p.blocks p.joined p.came x p.part next way.0 fit.joined way.1 after);
+      among = subst (λ (d : Bool). IsAmong d (record p { part = next; came = 0 })) (sym still) (
+        way.0,
+        head-way (number_at p) p.ifs p.max p.blocks p.joined p.came x p.part next way.0 fit.joined way.1
+            after,
+      );
     }
 
-pub head-off : (p : ReceiverPlaces) (x room : ℕ) (reason : ChainReason) (m : List ℕ) → AreReceiverPlaces p room → held_at p ≤ length m → p.refusal ≡ None → p.done ≡ false → IsHead p.part
+pub head-off : (p : ReceiverPlaces) (x room : ℕ) (reason : ChainReason) (m : List ℕ) → AreReceiverPlaces p room
+    → held_at p ≤ length m → p.refusal ≡ None → p.done ≡ false → IsHead p.part
     → IsHeadFault (number_at p) (nat_eq (p.blocks + 1) 131072) p.ifs (p.max - p.joined) p.part x reason
-    → Goes (received_at p m) (received_at (record p { refusal = Some (record { place = p.joined + 4 * p.blocks + place_of p.part; reason = reason }) }) m) (x ∷ [])
+    → Goes (received_at p m) (received_at
+    (record p { refusal = Some (record { place = p.joined + 4 * p.blocks + place_of p.part; reason = reason }) }) m)
+    (x ∷ [])
 head-off p x room reason m fit held none still head fault =
     let last : Bool = nat_eq (p.blocks + 1) 131072 in
     let c : List ℕ = under_way_of (number_at p) p.part (field_at p m) in
     let len = head-len (number_at p) p.part (field_at p m) head in
     let long = joined-len p m (omega (arith, held)) in
-    refused-goes (received_at p m) x (p.joined + 4 * p.blocks + place_of p.part) reason (none, still) fit.most (part-short (c ++ x ∷ []) (omega (arith, length-append c (x ∷ []), len, place-most p.part head))) (omega (arith, len, long))
+    refused-goes (received_at p m) x (p.joined + 4 * p.blocks + place_of p.part) reason (none, still) fit.most
+    (part-short (c ++ x ∷ []) (omega (arith, length-append c (x ∷ []), len, place-most p.part head)))
+    (omega (arith, len, long))
     (λ before count joined.
     let number-is : number_at p ≡ number_after p.first (length before) = ap (number_after p.first) (sym count) in
     let room-is : p.max - p.joined ≡ p.max - length (message_of before) = omega (arith, ap length joined, long) in
-    subst (λ (n : Number). IsFirst all_reasons (MeetsInBlock p.ifs p.first p.max before (under_way_of n p.part (field_at p m) ++ x ∷ [])) reason) (sym number-is)
-    (first-head p.ifs p.first p.max before last (p.max - p.joined) p.part (field_at p m) x reason (λ full. omega (arith, last-full p.blocks full, count)) (omega (arith, ap length joined, long, fit.joined)) room-is
+    subst (λ (n : Number). IsFirst all_reasons
+    (MeetsInBlock p.ifs p.first p.max before (under_way_of n p.part (field_at p m) ++ x ∷ [])) reason)
+    (sym number-is)
+    (first-head p.ifs p.first p.max before last (p.max - p.joined) p.part (field_at p m) x reason
+    (λ full. omega (arith, last-full p.blocks full, count)) (omega (arith, ap length joined, long, fit.joined))
+    room-is
     (subst (λ (n : Number). IsHeadFault n last p.ifs (p.max - p.joined) p.part x reason) number-is fault)))
 
-among-kept : (done : Bool) (p : ReceiverPlaces) (refusal : Refusal ChainReason) → IsAmong done p → IsAmong done (record p { refusal = Some refusal })
+among-kept : (done : Bool) (p : ReceiverPlaces) (refusal : Refusal ChainReason) → IsAmong done p
+    → IsAmong done (record p { refusal = Some refusal })
 among-kept true p refusal h = h
 among-kept false p refusal h = h
 
-pub kept-fit : (p : ReceiverPlaces) (refusal : Refusal ChainReason) (room : ℕ) → AreReceiverPlaces p room → AreReceiverPlaces (record p { refusal = Some refusal }) room
-kept-fit p refusal room fit = record { least = fit.least; most = fit.most; limit = fit.limit; reserved = fit.reserved; joined = fit.joined; blocks = fit.blocks; among = among-kept p.done p refusal fit.among }
+pub kept-fit : (p : ReceiverPlaces) (refusal : Refusal ChainReason) (room : ℕ) → AreReceiverPlaces p room
+    → AreReceiverPlaces (record p { refusal = Some refusal }) room
+kept-fit p refusal room fit = record {
+  least = fit.least;
+  most = fit.most;
+  limit = fit.limit;
+  reserved =
+      fit.reserved;
+  joined = fit.joined;
+  blocks = fit.blocks;
+  among = among-kept p.done p refusal fit.among;
+}
 
 -- ---- octets of the field
 
-rest-text : (number : Number) (p : part.Part) (came : ℕ) (field xs : List ℕ) → 0 < left_of p came → under_way_of number p (field ++ xs) ≡ under_way_of number p field ++ xs
+rest-text : (number : Number) (p : part.Part) (came : ℕ) (field xs : List ℕ) → 0 < left_of p came
+    → under_way_of number p (field ++ xs) ≡ under_way_of number p field ++ xs
 rest-text number parts.Nad came field xs some = absurd (omega arith)
 rest-text number parts.Pcb came field xs some = absurd (omega arith)
 rest-text number (parts.Len more) came field xs some = absurd (omega arith)
 rest-text number (parts.Rest more len) came field xs some = refl
 
-more-way : (ifs max blocks joined came run : ℕ) (p : part.Part) → 0 < left_of p came → run ≤ left_of p came → IsUnderWay ifs max blocks joined came p → IsUnderWay ifs max blocks joined (came + run) p
+more-way : (ifs max blocks joined came run : ℕ) (p : part.Part) → 0 < left_of p came → run ≤ left_of p came
+    → IsUnderWay ifs max blocks joined came p → IsUnderWay ifs max blocks joined (came + run) p
 more-way ifs max blocks joined came run parts.Nad some le h = absurd (omega arith)
 more-way ifs max blocks joined came run parts.Pcb some le h = absurd (omega arith)
 more-way ifs max blocks joined came run (parts.Len more) some le h = absurd (omega arith)
 more-way ifs max blocks joined came run (parts.Rest more len) some le h = (h.0, h.1, h.2, omega (arith, le, some))
 
-pub field-fit : (p : ReceiverPlaces) (run room more : ℕ) → p.done ≡ false → 0 < left_of p.part p.came → run ≤ left_of p.part p.came → room ≤ more → AreReceiverPlaces p room → AreReceiverPlaces (record p { came = p.came + run }) more
+pub field-fit : (p : ReceiverPlaces) (run room more : ℕ) → p.done ≡ false → 0 < left_of p.part p.came
+    → run ≤ left_of p.part p.came → room ≤ more → AreReceiverPlaces p room
+    → AreReceiverPlaces (record p { came = p.came + run }) more
 field-fit p run room more still some le grows fit =
     let way = way-of p room fit still in
     record {
@@ -175,7 +229,8 @@ field-fit p run room more still some le grows fit =
       reserved = omega (arith, fit.reserved, grows);
       joined = fit.joined;
       blocks = fit.blocks;
-      among = subst (λ (d : Bool). IsAmong d (record p { came = p.came + run })) (sym still) (way.0, more-way p.ifs p.max p.blocks p.joined p.came run p.part some le way.1);
+      among = subst (λ (d : Bool). IsAmong d (record p { came = p.came + run })) (sym still)
+          (way.0, more-way p.ifs p.max p.blocks p.joined p.came run p.part some le way.1);
     }
 
 left-held : (p : part.Part) (came now : ℕ) → 0 < left_of p came → came_of p now ≡ now
@@ -185,22 +240,32 @@ left-held (parts.Len more) came now some = absurd (omega arith)
 left-held (parts.Rest more len) came now some = refl
 
 -- what comes of the field is put after what came before
-pub field-held : (p : ReceiverPlaces) (run : ℕ) → 0 < left_of p.part p.came → held_at (record p { came = p.came + run }) ≡ p.joined + p.came + run
+pub field-held : (p : ReceiverPlaces) (run : ℕ) → 0 < left_of p.part p.came
+    → held_at (record p { came = p.came + run }) ≡ p.joined + p.came + run
 field-held p run some = omega (arith, left-held p.part p.came (p.came + run) some)
 
 -- the front of a buffer whose octets after it changed
-front-stays : (n k : ℕ) (m m' xs : List ℕ) → n + k ≤ length m → take (n + k + length xs) m' ≡ take (n + k) m ++ xs → take n m' ≡ take n m
+front-stays : (n k : ℕ) (m m' xs : List ℕ) → n + k ≤ length m → take (n + k + length xs) m' ≡ take (n + k) m ++ xs
+    → take n m' ≡ take n m
 front-stays n k m m' xs inside e =
-    sym (take_take n (n + k + length xs) m' (omega arith)) ∙ ap (take n) e ∙ take-append-le n (take (n + k) m) xs (omega (arith, length-take (n + k) m, inside)) ∙ take_take n (n + k) m (omega arith)
+    sym (take_take n (n + k + length xs) m' (omega arith)) ∙ ap (take n) e
+    ∙ take-append-le n (take (n + k) m) xs (omega (arith, length-take (n + k) m, inside))
+    ∙ take_take n (n + k) m (omega arith)
 
 -- and the octets after that front
-field-text : (n k : ℕ) (m m' xs : List ℕ) → n + k ≤ length m → take (n + k + length xs) m' ≡ take (n + k) m ++ xs → take (k + length xs) (drop n m') ≡ take k (drop n m) ++ xs
+field-text : (n k : ℕ) (m m' xs : List ℕ) → n + k ≤ length m → take (n + k + length xs) m' ≡ take (n + k) m ++ xs
+    → take (k + length xs) (drop n m') ≡ take k (drop n m) ++ xs
 field-text n k m m' xs inside e =
     let sum : n + (k + length xs) ≡ n + k + length xs = omega arith in
-    sym (drop-take n (k + length xs) m') ∙ ap (λ (i : ℕ). drop n (take i m')) sum ∙ ap (drop n) e ∙ drop-append-le n (take (n + k) m) xs (omega (arith, length-take (n + k) m, inside)) ∙ ap (λ (l : List ℕ). l ++ xs) (drop-take n k m)
+    sym (drop-take n (k + length xs) m') ∙ ap (λ (i : ℕ). drop n (take i m')) sum ∙ ap (drop n) e
+    ∙ drop-append-le n (take (n + k) m) xs (omega (arith, length-take (n + k) m, inside))
+    ∙ ap (λ (l : List ℕ). l ++ xs) (drop-take n k m)
 
-pub field-on : (p : ReceiverPlaces) (room : ℕ) (m m' xs : List ℕ) → AreOctets m' → AreReceiverPlaces p room → p.joined + p.came ≤ length m → p.refusal ≡ None → p.done ≡ false → 0 < left_of p.part p.came → length xs ≤ left_of p.part p.came
-    → take (p.joined + p.came + length xs) m' ≡ take (p.joined + p.came) m ++ xs → Goes (received_at p m) (received_at (record p { came = p.came + length xs }) m') xs
+pub field-on : (p : ReceiverPlaces) (room : ℕ) (m m' xs : List ℕ) → AreOctets m' → AreReceiverPlaces p room
+    → p.joined + p.came ≤ length m → p.refusal ≡ None → p.done ≡ false → 0 < left_of p.part p.came
+    → length xs ≤ left_of p.part p.came
+    → take (p.joined + p.came + length xs) m' ≡ take (p.joined + p.came) m ++ xs
+    → Goes (received_at p m) (received_at (record p { came = p.came + length xs }) m') xs
 field-on p room m m' xs all fit inside none still some le text =
     let r : Reception = received_at p m in
     let field : List ℕ = take (p.came + length xs) (drop p.joined m') in
@@ -208,9 +273,14 @@ field-on p room m m' xs all fit inside none still some le text =
     let long = joined-len p m (omega (arith, inside)) in
     let front : take p.joined m' ≡ take p.joined m = front-stays p.joined p.came m m' xs inside text in
     let field-is : field ≡ field_at p m ++ xs = field-text p.joined p.came m m' xs inside text in
-    let next-way = subst (λ (k : ℕ). IsUnderWay p.ifs p.max p.blocks k (p.came + length xs) p.part) (sym long) (more-way p.ifs p.max p.blocks p.joined p.came (length xs) p.part some le way.1) in
-    subst (λ (l : List ℕ). Goes r (record r { joined = l; under_way = under_way_of (number_at p) p.part field }) xs) (sym front)
-    (more-goes r (p.came + length xs) p.part field xs (none, still) (omega (arith, length-take (p.came + length xs) (drop p.joined m'))) next-way way.0 (omega (arith, long, fit.joined)) (octets-take (p.came + length xs) (drop p.joined m') (octets-drop p.joined m' all))
+    let next-way = subst (λ (k : ℕ). IsUnderWay p.ifs p.max p.blocks k (p.came + length xs) p.part) (sym long)
+    (more-way p.ifs p.max p.blocks p.joined p.came (length xs) p.part some le way.1) in
+    subst (λ (l : List ℕ). Goes r (record r { joined = l; under_way = under_way_of (number_at p) p.part field }) xs)
+    (sym front)
+    (more-goes r (p.came + length xs) p.part field xs (none, still)
+    (omega (arith, length-take (p.came + length xs) (drop p.joined m'))) next-way way.0
+    (omega (arith, long, fit.joined))
+    (octets-take (p.came + length xs) (drop p.joined m') (octets-drop p.joined m' all))
     (ap (under_way_of (number_at p) p.part) field-is ∙ rest-text (number_at p) p.part p.came (field_at p m) xs some))
 
 -- ---- the LRC
@@ -219,25 +289,38 @@ abbrev pub with_rest : ReceiverPlaces → Bool → ℕ → ReceiverPlaces
 with_rest p more len = record p { part = parts.Rest more len; came = len }
 
 abbrev pub closed_at : ReceiverPlaces → Bool → ℕ → ReceiverPlaces
-closed_at p more len = record p { joined = p.joined + len; blocks = p.blocks + 1; done = not more; part = parts.Nad; came = 0 }
+closed_at p more len = record p {
+  joined = p.joined + len;
+  blocks = p.blocks + 1;
+  done = not more;
+  part =
+      parts.Nad;
+  came = 0;
+}
 
 -- the octets of the block but for its LRC
 abbrev pub front_at : ReceiverPlaces → Bool → ℕ → List ℕ → List ℕ
 front_at p more len m = 0 ∷ pcb_octet (Info (number_at p) more) ∷ len ∷ take len (drop p.joined m)
 
-field-len : (p : ReceiverPlaces) (len : ℕ) (m : List ℕ) → p.joined + len ≤ length m → length (take len (drop p.joined m)) ≡ len
+field-len : (p : ReceiverPlaces) (len : ℕ) (m : List ℕ) → p.joined + len ≤ length m
+    → length (take len (drop p.joined m)) ≡ len
 field-len p len m inside = omega (arith, length-take len (drop p.joined m), length-drop p.joined m, inside)
 
 -- the exclusive-or of the first three octets and of the field is that of both
-pub front-sum : (p : ReceiverPlaces) (more : Bool) (len pcb a b : ℕ) (m : List ℕ) → pcb ≡ pcb_octet (Info (number_at p) more) → a ≡ xor_of (0 ∷ pcb ∷ len ∷ []) → b ≡ xor_of (take len (drop p.joined m)) → bit_xor a b ≡ xor_of (front_at p more len m)
+pub front-sum : (p : ReceiverPlaces) (more : Bool) (len pcb a b : ℕ) (m : List ℕ)
+    → pcb ≡ pcb_octet (Info (number_at p) more) → a ≡ xor_of (0 ∷ pcb ∷ len ∷ [])
+    → b ≡ xor_of (take len (drop p.joined m)) → bit_xor a b ≡ xor_of (front_at p more len m)
 front-sum p more len pcb a b m is head field =
-    xor-more a b (0 ∷ pcb_octet (Info (number_at p) more) ∷ len ∷ []) (take len (drop p.joined m)) (head ∙ ap (λ (y : ℕ). xor_of (0 ∷ y ∷ len ∷ [])) is) field
+    xor-more a b (0 ∷ pcb_octet (Info (number_at p) more) ∷ len ∷ []) (take len (drop p.joined m))
+    (head ∙ ap (λ (y : ℕ). xor_of (0 ∷ y ∷ len ∷ [])) is) field
 
 -- another octet than that makes no sum of 0
 pub sum-off : (front : List ℕ) (x : ℕ) → xor_of front ≢ x → xor_of (front ++ x ∷ []) ≢ 0
 sum-off front x ne = λ e. ne (sym (xor-zero (xor_of front) x (sym (fold-append bit_xor 0 front (x ∷ [])) ∙ e)))
 
-pub lrc-on : (p : ReceiverPlaces) (more : Bool) (len x room : ℕ) (m : List ℕ) → AreOctets m → AreReceiverPlaces (with_rest p more len) room → p.joined + len ≤ length m → p.refusal ≡ None → p.done ≡ false → x ≡ xor_of (front_at p more len m)
+pub lrc-on : (p : ReceiverPlaces) (more : Bool) (len x room : ℕ) (m : List ℕ) → AreOctets m
+    → AreReceiverPlaces (with_rest p more len) room → p.joined + len ≤ length m → p.refusal ≡ None → p.done ≡ false
+    → x ≡ xor_of (front_at p more len m)
     → Goes (received_at (with_rest p more len) m) (received_at (closed_at p more len) m) (x ∷ [])
 lrc-on p more len x room m all fit inside none still sum =
     let r : Reception = received_at (with_rest p more len) m in
@@ -246,15 +329,22 @@ lrc-on p more len x room m all fit inside none still sum =
     let len-is : length field ≡ len = field-len p len m inside in
     let long = joined-len p m (omega (arith, inside)) in
     let spelled : r.under_way ++ x ∷ [] ≡ block.spelling (link (number_at p) more field) =
-    ap (λ (y : ℕ). front_at p more len m ++ y ∷ []) sum ∙ ap (λ (k : ℕ). (0 ∷ pcb_octet (Info (number_at p) more) ∷ k ∷ field) ++ xor_of (0 ∷ pcb_octet (Info (number_at p) more) ∷ k ∷ field) ∷ []) (sym len-is) in
-    subst (λ (l : List ℕ). Goes r (record r { blocks = r.blocks + 1; joined = l; under_way = []; done = not more }) (x ∷ [])) (sym (take-add p.joined len m))
-    (joined-goes r more field (x ∷ []) (none, still) (omega (arith, len-is, way.1.1)) (octets-take len (drop p.joined m) (octets-drop p.joined m all)) way.1.0 (omega (arith, long, len-is, way.1.2)) spelled)
+    ap (λ (y : ℕ). front_at p more len m ++ y ∷ []) sum
+    ∙ ap (λ (k : ℕ). (0 ∷ pcb_octet (Info (number_at p) more) ∷ k ∷ field)
+    ++ xor_of (0 ∷ pcb_octet (Info (number_at p) more) ∷ k ∷ field) ∷ []) (sym len-is) in
+    subst (λ (l : List ℕ). Goes r (record r { blocks = r.blocks + 1; joined = l; under_way = []; done = not more })
+    (x ∷ [])) (sym (take-add p.joined len m))
+    (joined-goes r more field (x ∷ []) (none, still) (omega (arith, len-is, way.1.1))
+    (octets-take len (drop p.joined m) (octets-drop p.joined m all)) way.1.0 (omega (arith, long, len-is, way.1.2))
+    spelled)
 
-among-closed : (p : ReceiverPlaces) (more : Bool) (len : ℕ) → p.blocks + 1 + more_count more ≤ 131072 → IsAmong (not more) (closed_at p more len)
+among-closed : (p : ReceiverPlaces) (more : Bool) (len : ℕ) → p.blocks + 1 + more_count more ≤ 131072
+    → IsAmong (not more) (closed_at p more len)
 among-closed p true len few = (omega (arith, few), tt)
 among-closed p false len few = refl
 
-pub closed-fit : (p : ReceiverPlaces) (more : Bool) (len room : ℕ) → p.done ≡ false → AreReceiverPlaces (with_rest p more len) room → AreReceiverPlaces (closed_at p more len) room
+pub closed-fit : (p : ReceiverPlaces) (more : Bool) (len room : ℕ) → p.done ≡ false
+    → AreReceiverPlaces (with_rest p more len) room → AreReceiverPlaces (closed_at p more len) room
 closed-fit p more len room still fit =
     let way = way-of (with_rest p more len) room fit still in
     record {
@@ -267,19 +357,27 @@ closed-fit p more len room still fit =
       among = among-closed p more len way.1.0;
     }
 
-pub lrc-off : (p : ReceiverPlaces) (more : Bool) (len x room : ℕ) (m : List ℕ) → AreReceiverPlaces (with_rest p more len) room → p.joined + len ≤ length m → p.refusal ≡ None → p.done ≡ false → xor_of (front_at p more len m ++ x ∷ []) ≢ 0
-    → Goes (received_at (with_rest p more len) m) (received_at (record (with_rest p more len) { refusal = Some (record { place = p.joined + 4 * p.blocks + (3 + len); reason = BadLrc }) }) m) (x ∷ [])
+pub lrc-off : (p : ReceiverPlaces) (more : Bool) (len x room : ℕ) (m : List ℕ)
+    → AreReceiverPlaces (with_rest p more len) room → p.joined + len ≤ length m → p.refusal ≡ None → p.done ≡ false
+    → xor_of (front_at p more len m ++ x ∷ []) ≢ 0
+    → Goes (received_at (with_rest p more len) m)
+    (received_at (record (with_rest p more len)
+    { refusal = Some (record { place = p.joined + 4 * p.blocks + (3 + len); reason = BadLrc }) }) m) (x ∷ [])
 lrc-off p more len x room m fit inside none still sum =
     let b : List ℕ = front_at p more len m ++ x ∷ [] in
     let len-is = field-len p len m inside in
     let long = joined-len p m (omega (arith, inside)) in
     let all : length b ≡ len + 4 = omega (arith, len-is, length-append (front_at p more len m) (x ∷ [])) in
-    refused-goes (received_at (with_rest p more len) m) x (p.joined + 4 * p.blocks + (3 + len)) BadLrc (none, still) fit.most (part-sum b all sum) (omega (arith, long, len-is)) (λ before count joined. first-lrc p.ifs p.first p.max before b (omega (arith, all)) all sum)
+    refused-goes (received_at (with_rest p more len) m) x (p.joined + 4 * p.blocks + (3 + len)) BadLrc (none, still)
+    fit.most (part-sum b all sum) (omega (arith, long, len-is))
+    (λ before count joined. first-lrc p.ifs p.first p.max before b (omega (arith, all)) all sum)
 
 -- ---- a receiver with a message of its own
 
 -- it stays one over octets that come
-pub receiver-kept : (p q : ReceiverPlaces) (m m' xs : List ℕ) (room more : ℕ) → IsReceiver p m room → p.refusal ≡ None → AreReceiverPlaces q more → AreOctets m' → length m' ≡ held_at q → Goes (received_at p m) (received_at q m') xs → IsReceiver q m' more
+pub receiver-kept : (p q : ReceiverPlaces) (m m' xs : List ℕ) (room more : ℕ) → IsReceiver p m room → p.refusal ≡ None
+    → AreReceiverPlaces q more → AreOctets m' → length m' ≡ held_at q → Goes (received_at p m) (received_at q m') xs
+    → IsReceiver q m' more
 receiver-kept p q m m' xs room more r free fit octets exact goes = record {
   fit = fit;
   octets = octets;
@@ -288,8 +386,11 @@ receiver-kept p q m m' xs room more r free fit octets exact goes = record {
 }
 
 -- also where they are of the field, and are put at the end of the message
-pub receiver-field : (p : ReceiverPlaces) (m m' xs : List ℕ) (n room more : ℕ) → IsReceiver p m room → p.refusal ≡ None → p.done ≡ false → AreOctets xs → room ≤ more → 0 < left_of p.part p.came → n ≤ left_of p.part p.came → length xs ≡ n → m' ≡ m ++ xs
-    → Goes (received_at p m) (received_at (record p { came = p.came + n }) m') xs × IsReceiver (record p { came = p.came + n }) m' more
+pub receiver-field : (p : ReceiverPlaces) (m m' xs : List ℕ) (n room more : ℕ) → IsReceiver p m room → p.refusal ≡ None
+    → p.done ≡ false → AreOctets xs → room ≤ more → 0 < left_of p.part p.came → n ≤ left_of p.part p.came
+    → length xs ≡ n → m' ≡ m ++ xs
+    → Goes (received_at p m) (received_at (record p { came = p.came + n }) m') xs
+    × IsReceiver (record p { came = p.came + n }) m' more
 receiver-field p m m' xs n room more r free still octets grows some le count is =
     let run : ℕ = length xs in
     let q : ReceiverPlaces = record p { came = p.came + run } in
@@ -297,24 +398,37 @@ receiver-field p m m' xs n room more r free still octets grows some le count is 
     let inside : length m ≡ a = omega (arith, r.exact, left-held p.part p.came p.came some) in
     let long : length m' ≡ a + run = omega (arith, ap length is, length-append m xs, inside) in
     let all : AreOctets m' = subst AreOctets (sym is) (octets-append m xs r.octets octets) in
-    let text : take (a + run) m' ≡ take a m ++ xs = take_all (a + run) m' (omega (arith, long)) ∙ is ∙ ap (λ (l : List ℕ). l ++ xs) (sym (take_all a m (omega (arith, inside)))) in
-    let goes : Goes (received_at p m) (received_at q m') xs = field-on p room m m' xs all r.fit (omega (arith, inside)) free still some (omega (arith, le, count)) text in
+    let text : take (a + run) m' ≡ take a m ++ xs =
+    take_all (a + run) m' (omega (arith, long)) ∙ is
+    ∙ ap (λ (l : List ℕ). l ++ xs) (sym (take_all a m (omega (arith, inside)))) in
+    let goes : Goes (received_at p m) (received_at q m') xs =
+    field-on p room m m' xs all r.fit (omega (arith, inside)) free still some (omega (arith, le, count)) text in
     let fit : AreReceiverPlaces q more = field-fit p run room more still some (omega (arith, le, count)) grows r.fit in
-    let kept : IsReceiver q m' more = receiver-kept p q m m' xs room more r free fit all (omega (arith, long, field-held p run some)) goes in
-    subst (λ (k : ℕ). Goes (received_at p m) (received_at (record p { came = p.came + k }) m') xs × IsReceiver (record p { came = p.came + k }) m' more) count (goes, kept)
+    let kept : IsReceiver q m' more = receiver-kept p q m m' xs room more r free fit all
+    (omega (arith, long, field-held p run some)) goes in
+    subst (λ (k : ℕ). Goes (received_at p m) (received_at (record p { came = p.came + k }) m') xs
+    × IsReceiver (record p { came = p.came + k }) m' more) count (goes, kept)
 
-way-none : (number : Number) (p : part.Part) (field : List ℕ) (came : ℕ) → under_way_of number p field ≡ [] → came_of p came ≡ 0
+way-none : (number : Number) (p : part.Part) (field : List ℕ) (came : ℕ) → under_way_of number p field ≡ []
+    → came_of p came ≡ 0
 way-none number parts.Nad field came e = refl
 way-none number parts.Pcb field came e = refl
 way-none number (parts.Len more) field came e = refl
 way-none number (parts.Rest more len) field came e = absurd (omega (arith, ap length e))
 
 -- and a new one is one, whose message is empty
-pub receiver-fresh : (p : ReceiverPlaces) (m : List ℕ) (room ifs : ℕ) (number : Number) (max : ℕ) → AreReceiverPlaces p room → m ≡ [] → ((l : List ℕ) → received_at p l ≡ fresh ifs number max) → IsReceiver p m room
+pub receiver-fresh : (p : ReceiverPlaces) (m : List ℕ) (room ifs : ℕ) (number : Number) (max : ℕ)
+    → AreReceiverPlaces p room → m ≡ [] → ((l : List ℕ) → received_at p l ≡ fresh ifs number max) → IsReceiver p m room
 receiver-fresh p m room ifs number max fit none is =
     let zeros : List ℕ = replicate p.joined 0 in
-    let joined : p.joined ≡ 0 = omega (arith, ap (λ (r : Reception). length r.joined) (is zeros), length-take p.joined zeros, length-replicate {A = ℕ} p.joined 0) in
-    let came : came_of p.part p.came ≡ 0 = way-none (number_at p) p.part (field_at p []) p.came (ap (λ (r : Reception). r.under_way) (is [])) in
+    let joined : p.joined ≡ 0 = omega (
+      arith,
+      ap (λ (r : Reception). length r.joined) (is zeros),
+      length-take p.joined zeros,
+      length-replicate {A = ℕ} p.joined 0,
+    ) in
+    let came : came_of p.part p.came ≡ 0 =
+    way-none (number_at p) p.part (field_at p []) p.came (ap (λ (r : Reception). r.under_way) (is [])) in
     record {
       fit = fit;
       octets = subst AreOctets (sym none) (λ i. omega arith);

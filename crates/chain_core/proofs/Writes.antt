@@ -9,13 +9,16 @@ module _ (all p rest : List ℕ) (i : ℕ) (inside : i ≤ length all) (left : d
   part-inside = omega (arith, length-drop i all, ap length left, length-append p rest)
 
   pub part-taken : (n : ℕ) → n ≤ length p → take (i + n) all ≡ take i all ++ take n p
-  part-taken n le = take-add i n all ∙ ap (λ (l : List ℕ). take i all ++ l) (ap (take n) left ∙ take-append-le n p rest le)
+  part-taken n le = take-add i n all ∙ ap (λ (l : List ℕ). take i all ++ l)
+      (ap (take n) left ∙ take-append-le n p rest le)
 
   pub part-all : take (i + length p) all ≡ take i all ++ p
-  part-all = take-add i (length p) all ∙ ap (λ (l : List ℕ). take i all ++ l) (ap (take (length p)) left ∙ take-append_seam p rest)
+  part-all = take-add i (length p) all ∙ ap (λ (l : List ℕ). take i all ++ l)
+      (ap (take (length p)) left ∙ take-append_seam p rest)
 
   pub part-left : drop (i + length p) all ≡ rest
   part-left =
       let front : length (take i all) ≡ i = omega (arith, length-take i all) in
-      ap (λ (k : ℕ). drop (k + length p) all) (sym front) ∙ ap (drop (length (take i all) + length p)) (sym (take-append-drop i all))
+      ap (λ (k : ℕ). drop (k + length p) all) (sym front)
+      ∙ ap (drop (length (take i all) + length p)) (sym (take-append-drop i all))
       ∙ drop-append-add (take i all) (drop i all) (length p) ∙ ap (drop (length p)) left ∙ drop-append_seam p rest

@@ -68,9 +68,13 @@ pub record IsChain (ifs : ℕ) (number : Number) (max : ℕ) (fields : List (Lis
 abbrev pub MeetsInBlock : ℕ → Number → ℕ → List (List ℕ) → List ℕ → ChainReason → Type 0
 MeetsInBlock ifs number max fields c BadNad = (length c ≡ 1) × (slice_index c 0 ≢ 0)
 MeetsInBlock ifs number max fields c BadPcb = (length c ≡ 2) × ((p : Pcb) → pcb_octet p ≡ slice_index c 1 → ⊥)
-MeetsInBlock ifs number max fields c NotInfo = (length c ≡ 2) × ((p : Pcb) → pcb_octet p ≡ slice_index c 1 → IsInfo p → ⊥)
-MeetsInBlock ifs number max fields c BadSequence = (length c ≡ 2) × (more : Bool) × (pcb_octet (Info (other (number_after number (length fields))) more) ≡ slice_index c 1)
-MeetsInBlock ifs number max fields c TooManyBlocks = (length c ≡ 2) × (length fields + 1 ≡ most_blocks) × (n : Number) × (pcb_octet (Info n true) ≡ slice_index c 1)
+MeetsInBlock ifs number max fields c NotInfo =
+    (length c ≡ 2) × ((p : Pcb) → pcb_octet p ≡ slice_index c 1 → IsInfo p → ⊥)
+MeetsInBlock ifs number max fields c BadSequence =
+    (length c ≡ 2) × (more : Bool) × (pcb_octet (Info (other (number_after number (length fields))) more) ≡ slice_index
+    c 1)
+MeetsInBlock ifs number max fields c TooManyBlocks =
+    (length c ≡ 2) × (length fields + 1 ≡ most_blocks) × (n : Number) × (pcb_octet (Info n true) ≡ slice_index c 1)
 MeetsInBlock ifs number max fields c BadLen = (length c ≡ 3) × (slice_index c 2 ≡ 0xFF)
 MeetsInBlock ifs number max fields c OverIfs = (length c ≡ 3) × (ifs < slice_index c 2)
 MeetsInBlock ifs number max fields c TooLong = (length c ≡ 3) × (max < length (message_of fields) + slice_index c 2)
@@ -78,7 +82,8 @@ MeetsInBlock ifs number max fields c BadLrc = (length c ≡ slice_index c 2 + 4)
 
 -- the octets b, whole blocks and the first octets of one more, meet this line of the table
 abbrev pub Meets : ℕ → Number → ℕ → List ℕ → ChainReason → Type 0
-Meets ifs number max b r = (fields : List (List ℕ)) × (c : List ℕ) × (b ≡ octets_of (open_links number fields) ++ c) × MeetsInBlock ifs number max fields c r
+Meets ifs number max b r = (fields : List (List ℕ)) × (c : List ℕ) × (b ≡ octets_of (open_links number fields) ++ c)
+    × MeetsInBlock ifs number max fields c r
 
 -- the lines of the table in their order, octet by octet of a block
 abbrev pub all_reasons : List ChainReason

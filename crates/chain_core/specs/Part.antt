@@ -46,7 +46,8 @@ IsHeadFault number last ifs room (parts.Rest more len) x r = ⊥
 -- what comes after it
 abbrev pub IsAfter : Number → Bool → ℕ → ℕ → part.Part → ℕ → part.Part → Type 0
 IsAfter number last ifs room parts.Nad x next = (x ≡ 0) × (next ≡ parts.Pcb)
-IsAfter number last ifs room parts.Pcb x next = (more : Bool) × (next ≡ parts.Len more) × (pcb_octet (Info number more) ≡ x) × (more ≡ true → last ≡ false)
+IsAfter number last ifs room parts.Pcb x next =
+    (more : Bool) × (next ≡ parts.Len more) × (pcb_octet (Info number more) ≡ x) × (more ≡ true → last ≡ false)
 IsAfter number last ifs room (parts.Len more) x next = (next ≡ parts.Rest more x) × (x ≤ ifs) × (x ≤ room)
 IsAfter number last ifs room (parts.Rest more len) x next = ⊥
 

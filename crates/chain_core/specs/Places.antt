@@ -52,7 +52,8 @@ abbrev pub IsUnderWay : (ifs max blocks joined came : ℕ) → part.Part → Typ
 IsUnderWay ifs max blocks joined came parts.Nad = Unit {0}
 IsUnderWay ifs max blocks joined came parts.Pcb = Unit {0}
 IsUnderWay ifs max blocks joined came (parts.Len more) = blocks + 1 + more_count more ≤ most_blocks
-IsUnderWay ifs max blocks joined came (parts.Rest more len) = (blocks + 1 + more_count more ≤ most_blocks) × (len ≤ ifs) × (joined + len ≤ max) × (came ≤ len)
+IsUnderWay ifs max blocks joined came (parts.Rest more len) =
+    (blocks + 1 + more_count more ≤ most_blocks) × (len ≤ ifs) × (joined + len ≤ max) × (came ≤ len)
 
 -- a whole chain has no block under way
 abbrev pub IsAmong : Bool → ReceiverPlaces → Type 0
@@ -80,5 +81,7 @@ pub record IsReceiver (p : ReceiverPlaces) (message : List ℕ) (room : ℕ) : T
 -- What a receiver answers when no more octets come, of all octets that it may have taken.
 pub record IsFinishedHere (r : Reception) (result : Result (Unit {0}) (Stop ChainReason)) : Type 0 where
   pub done : OnOk result ((t : List ℕ) → HasTaken r t → (v : List (List ℕ)) × IsChain r.ifs r.number r.max v t)
-  pub short : IfErr result (λ stop. r.refusal ≡ None → (t : List ℕ) → HasTaken r t → (stop ≡ Short (length t)) × ((v : List (List ℕ)) → IsChain r.ifs r.number r.max v t → ⊥))
-  pub repeated : (refusal : Refusal ChainReason) → r.refusal ≡ Some refusal → result ≡ Err (At refusal.place refusal.reason)
+  pub short : IfErr result (λ stop. r.refusal ≡ None → (t : List ℕ) → HasTaken r t → (stop ≡ Short (length t))
+      × ((v : List (List ℕ)) → IsChain r.ifs r.number r.max v t → ⊥))
+  pub repeated : (refusal : Refusal ChainReason) → r.refusal ≡ Some refusal
+      → result ≡ Err (At refusal.place refusal.reason)

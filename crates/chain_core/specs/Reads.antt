@@ -32,7 +32,8 @@ pub record EndsNear (number : Number) (b : List ℕ) (p : ℕ) : Type 0 where
 pub record ReadsChain (held left : Option (List ℕ)) (old new : Reception) : Type 0 where
   pub read : List ℕ
   pub is : IsTaken held left old new read
-  pub chain : (t : List ℕ) → HasTaken old t → (v : List (List ℕ)) × IsChain old.ifs old.number old.max v (t ++ read) × (new.joined ≡ message_of v)
+  pub chain : (t : List ℕ) → HasTaken old t → (v : List (List ℕ)) × IsChain old.ifs old.number old.max v (t ++ read)
+      × (new.joined ≡ message_of v)
   pub done : new.done ≡ true
   pub kept : new.refusal ≡ None
 
@@ -47,13 +48,17 @@ pub record ReadsShort (held left : Option (List ℕ)) (old new : Reception) (p :
   pub read : List ℕ
   pub is : IsTaken held left old new read
   pub end : IsAtEnd left
-  pub short : (t : List ℕ) → HasTaken old t → Refuses self_ended (IsChain old.ifs old.number old.max) (IsReason old.ifs old.number old.max) (t ++ read) (Short p)
+  pub short : (t : List ℕ) → HasTaken old t
+      → Refuses self_ended (IsChain old.ifs old.number old.max) (IsReason old.ifs old.number old.max) (t ++ read)
+      (Short p)
 
 -- the chain was refused at this place, and no octet past the first three of its block was read, or past the place itself
 pub record ReadsRefused (held left : Option (List ℕ)) (old new : Reception) (p : ℕ) (r : ChainReason) : Type 0 where
   pub read : List ℕ
   pub from : Consumes held left read
-  pub refused : (t : List ℕ) → HasTaken old t → RefusesAt self_ended (IsChain old.ifs old.number old.max) (IsReason old.ifs old.number old.max) (t ++ read) (At p r)
+  pub refused : (t : List ℕ) → HasTaken old t
+      → RefusesAt self_ended (IsChain old.ifs old.number old.max) (IsReason old.ifs old.number old.max) (t ++ read)
+      (At p r)
   pub near : (t : List ℕ) → HasTaken old t → EndsNear old.number (t ++ read) p
   pub kept : new.refusal ≡ Some (record { place = p; reason = r })
   pub before : (t : List ℕ) → HasTaken old t → AreBefore old.number new.blocks new.joined (take p (t ++ read))
@@ -82,7 +87,8 @@ pub record MovesOn (held left : Option (List ℕ)) (old new : Reception) (count 
   pub goes : Goes old new piece
   pub end : count ≡ 0 → IsAtEnd left
   pub still : count ≡ 0 → IsOpen new
-  pub near : (refusal : Refusal ChainReason) → new.refusal ≡ Some refusal → (t : List ℕ) → HasTaken old t → EndsNear old.number (t ++ piece) refusal.place
+  pub near : (refusal : Refusal ChainReason) → new.refusal ≡ Some refusal → (t : List ℕ) → HasTaken old t
+      → EndsNear old.number (t ++ piece) refusal.place
   -- some octets were taken before
   pub before : (t : List ℕ) × HasTaken old t
   pub limit : old.max ≤ longest_message
@@ -95,6 +101,7 @@ pub record HasRead (held left : Option (List ℕ)) (old new : Reception) (taken 
   pub count : length read ≡ taken
   pub from : Consumes held left read
   pub goes : Goes old new read
-  pub near : (refusal : Refusal ChainReason) → new.refusal ≡ Some refusal → IsOpen old → (t : List ℕ) → HasTaken old t → EndsNear old.number (t ++ read) refusal.place
+  pub near : (refusal : Refusal ChainReason) → new.refusal ≡ Some refusal → IsOpen old → (t : List ℕ) → HasTaken old t
+      → EndsNear old.number (t ++ read) refusal.place
   -- they are some of those that the receiver has taken
   pub most : new.refusal ≡ None → taken ≤ length new.joined + new.blocks * 4 + length new.under_way

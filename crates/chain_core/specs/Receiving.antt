@@ -15,8 +15,10 @@ pub record Goes (old new : Reception) (piece : List ℕ) : Type 0 where
   pub max : new.max ≡ old.max
   pub on : new.refusal ≡ None → (t : List ℕ) → HasTaken old t → HasTaken new (t ++ piece)
   pub refused : (refusal : Refusal ChainReason) → new.refusal ≡ Some refusal → (t : List ℕ) → HasTaken old t
-      → RefusesAt self_ended (IsChain old.ifs old.number old.max) (IsReason old.ifs old.number old.max) (t ++ piece) (At refusal.place refusal.reason)
-  pub before : (refusal : Refusal ChainReason) → new.refusal ≡ Some refusal → (t : List ℕ) → HasTaken old t → AreBefore old.number new.blocks new.joined (take refusal.place (t ++ piece))
+      → RefusesAt self_ended (IsChain old.ifs old.number old.max) (IsReason old.ifs old.number old.max) (t ++ piece)
+      (At refusal.place refusal.reason)
+  pub before : (refusal : Refusal ChainReason) → new.refusal ≡ Some refusal → (t : List ℕ) → HasTaken old t
+      → AreBefore old.number new.blocks new.joined (take refusal.place (t ++ piece))
 
 -- what it answers to a piece of which it took so many octets
 abbrev pub fed_answer : Option (Refusal ChainReason) → Bool → ℕ → Result (ℕ × Bool) (Stop ChainReason)

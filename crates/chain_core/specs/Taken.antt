@@ -20,13 +20,24 @@ pub record Reception : Type 0 where
 
 -- a receiver that took nothing
 abbrev pub fresh : ℕ → Number → ℕ → Reception
-fresh ifs number max = record { ifs = ifs; number = number; max = max; blocks = 0; joined = []; under_way = []; done = false; refusal = None }
+fresh ifs number max = record {
+  ifs = ifs;
+  number = number;
+  max = max;
+  blocks = 0;
+  joined = [];
+  under_way = [];
+  done =
+      false;
+  refusal = None;
+}
 
 -- the octets t are whole blocks with these fields, and then the octets c of the block under way:
 -- where the chain is done none, else fewer than its LEN tells
 abbrev pub AreTaken : Bool → Number → List (List ℕ) → List ℕ → List ℕ → Type 0
 AreTaken true number fields c t = (0 < length fields) × (c ≡ []) × (t ≡ octets_of (links number fields))
-AreTaken false number fields c t = (3 < length c → length c < slice_index c 2 + 4) × (t ≡ octets_of (open_links number fields) ++ c)
+AreTaken false number fields c t = (3 < length c → length c < slice_index c 2 + 4)
+    × (t ≡ octets_of (open_links number fields) ++ c)
 
 -- a receiver that refused nothing may have taken the octets t
 pub record HasTaken (r : Reception) (t : List ℕ) : Type 0 where

@@ -79,9 +79,11 @@ impl ReceiverPlaces {
     ) -> Result<(usize, bool), Stop<ChainReason>>
         requires { AreReceiverPlaces self.old (length message.old) }
         ensures fit { AreReceiverPlaces self.new (length message.new) }
-        ensures fed { IsFed (IsChain self.old.ifs self.old.first self.old.max) (IsReason self.old.ifs self.old.first self.old.max) HasTaken refusal_of
+        ensures fed { IsFed (IsChain self.old.ifs self.old.first self.old.max)
+            (IsReason self.old.ifs self.old.first self.old.max) HasTaken refusal_of
             (received_at self.old message.old) (received_at self.new message.new) piece.now result }
-        ensures kept { (self.new.ifs ≡ self.old.ifs) × (self.new.first ≡ self.old.first) × (self.new.max ≡ self.old.max) }
+        ensures kept { (self.new.ifs ≡ self.old.ifs) × (self.new.first ≡ self.old.first)
+            × (self.new.max ≡ self.old.max) }
     {
         let mut taken = 0;
         while taken < piece.len() && self.is_open() {
@@ -94,14 +96,17 @@ impl ReceiverPlaces {
     /// have taken.
     pub fn finish(&self) -> Result<(), Stop<ChainReason>>
         requires { (room : ℕ) × AreReceiverPlaces self.now room }
-        ensures { (message : List ℕ) → AreReceiverPlaces self.now (length message) → IsFinishedHere (received_at self.now message) result }
+        ensures { (message : List ℕ) → AreReceiverPlaces self.now (length message)
+            → IsFinishedHere (received_at self.now message) result }
     {
         self.ended()
     }
 
     /// How many octets at the front of the buffer are the message, once the chain is whole.
     pub fn message_len(&self) -> Option<usize>
-        ensures whole { IfSome result (λ count. (self.now.refusal ≡ None) × (self.now.done ≡ true) × (count ≡ self.now.joined)) }
+        ensures whole { IfSome result
+            (λ count. (self.now.refusal ≡ None) × (self.now.done ≡ true)
+            × (count ≡ self.now.joined)) }
         ensures none { IfNone result (IsSome self.now.refusal ⊎ (self.now.done ≡ false)) }
     {
         if self.done && self.refusal.is_none() {
@@ -133,8 +138,11 @@ impl ReceiverPlaces {
     fn is_under_way(&self) -> bool
         requires blocks { self.now.blocks + 1 ≤ most_blocks }
         requires joined { self.now.joined ≤ self.now.max }
-        ensures yes { result ≡ true → IsUnderWay self.now.ifs self.now.max self.now.blocks self.now.joined self.now.came self.now.part }
-        ensures no { IsUnderWay self.now.ifs self.now.max self.now.blocks self.now.joined self.now.came self.now.part → result ≡ true }
+        ensures yes { result ≡ true
+            → IsUnderWay self.now.ifs self.now.max self.now.blocks self.now.joined self.now.came
+            self.now.part }
+        ensures no { IsUnderWay self.now.ifs self.now.max self.now.blocks self.now.joined
+            self.now.came self.now.part → result ≡ true }
     {
         let is_last = self.blocks + 1 == MOST_BLOCKS;
         match self.part {
@@ -162,7 +170,8 @@ impl ReceiverPlaces {
     /// What there is to say when no more octets come.
     pub(crate) fn ended(&self) -> Result<(), Stop<ChainReason>>
         requires { (room : ℕ) × AreReceiverPlaces self.now room }
-        ensures { (message : List ℕ) → held_at self.now ≤ length message → result ≡ end_answer (received_at self.now message) }
+        ensures { (message : List ℕ) → held_at self.now ≤ length message
+            → result ≡ end_answer (received_at self.now message) }
     {
         match self.refusal {
             Some(refusal) => Err(refusal.stop()),
@@ -175,7 +184,8 @@ impl ReceiverPlaces {
 
     /// How many octets of the block under way came.
     pub(crate) fn under_way(&self) -> usize
-        requires { IsUnderWay self.now.ifs self.now.max self.now.blocks self.now.joined self.now.came self.now.part }
+        requires { IsUnderWay self.now.ifs self.now.max self.now.blocks self.now.joined
+            self.now.came self.now.part }
         ensures few { result ≤ 258 }
         ensures count { (message : List ℕ) → held_at self.now ≤ length message →
             result ≡ length (under_way_of (number_at self.now) self.now.part (field_at self.now message)) }
@@ -188,7 +198,8 @@ impl ReceiverPlaces {
 
     /// How many octets of the field under way are still to come, none where another octet comes next.
     pub(crate) fn field_left(&self) -> usize
-        requires { IsUnderWay self.now.ifs self.now.max self.now.blocks self.now.joined self.now.came self.now.part }
+        requires { IsUnderWay self.now.ifs self.now.max self.now.blocks self.now.joined
+            self.now.came self.now.part }
         ensures { result ≡ left_of self.now.part self.now.came }
     {
         match self.part {
@@ -199,7 +210,9 @@ impl ReceiverPlaces {
 
     /// Whether it takes more octets.
     pub(crate) fn is_open(&self) -> bool
-        ensures { (message : List ℕ) → MatchBool result (IsOpen (received_at self.now message)) (IsClosed (received_at self.now message)) }
+        ensures { (message : List ℕ)
+            → MatchBool result (IsOpen (received_at self.now message))
+            (IsClosed (received_at self.now message)) }
     {
         self.refusal.is_none() && !self.done
     }
@@ -224,7 +237,8 @@ impl ReceiverPlaces {
         ensures most { result ≤ length piece.now }
         ensures room { length message.new ≡ length message.old }
         ensures fit { AreReceiverPlaces self.new (length message.new) }
-        ensures goes { Goes (received_at self.old message.old) (received_at self.new message.new) (take result piece.now) }
+        ensures goes { Goes (received_at self.old message.old) (received_at self.new message.new)
+            (take result piece.now) }
     {
         let run = piece.len().min(self.field_left());
         if run == 0 {
@@ -243,9 +257,11 @@ impl ReceiverPlaces {
         requires fit { (room : ℕ) × AreReceiverPlaces self.old room }
         requires held { held_at self.old ≤ length message.now }
         requires whole { left_of self.old.part self.old.came ≡ 0 }
-        ensures fit { (room : ℕ) → AreReceiverPlaces self.old room → AreReceiverPlaces self.new room }
+        ensures fit { (room : ℕ) → AreReceiverPlaces self.old room
+            → AreReceiverPlaces self.new room }
         ensures held { held_at self.new ≡ held_at self.old }
-        ensures goes { Goes (received_at self.old message.now) (received_at self.new message.now) (octet ∷ []) }
+        ensures goes { Goes (received_at self.old message.now) (received_at self.new message.now)
+            (octet ∷ []) }
     {
         match self.part {
             Part::Rest { more, len } => self.take_lrc(message, more, len, octet),
@@ -258,7 +274,8 @@ impl ReceiverPlaces {
         requires open { (self.old.refusal ≡ None) × (self.old.done ≡ false) }
         requires head { IsHead self.old.part }
         requires fit { (room : ℕ) × AreReceiverPlaces self.old room }
-        ensures fit { (room : ℕ) → AreReceiverPlaces self.old room → AreReceiverPlaces self.new room }
+        ensures fit { (room : ℕ) → AreReceiverPlaces self.old room
+            → AreReceiverPlaces self.new room }
         ensures held { held_at self.new ≡ held_at self.old }
         ensures goes { (message : List ℕ) → held_at self.old ≤ length message →
             Goes (received_at self.old message) (received_at self.new message) (octet ∷ []) }
@@ -281,9 +298,11 @@ impl ReceiverPlaces {
         requires held { self.old.joined + len ≤ length message.now }
         requires part { self.old.part ≡ Rest more len }
         requires came { self.old.came ≡ len }
-        ensures fit { (room : ℕ) → AreReceiverPlaces self.old room → AreReceiverPlaces self.new room }
+        ensures fit { (room : ℕ) → AreReceiverPlaces self.old room
+            → AreReceiverPlaces self.new room }
         ensures held { held_at self.new ≡ held_at self.old }
-        ensures goes { Goes (received_at self.old message.now) (received_at self.new message.now) (octet ∷ []) }
+        ensures goes { Goes (received_at self.old message.now) (received_at self.new message.now)
+            (octet ∷ []) }
     {
         let start = self.joined as usize;
         let end = start + len as usize;
@@ -307,7 +326,10 @@ impl ReceiverPlaces {
         requires place { place ≤ 258 }
         requires blocks { self.old.blocks ≤ most_blocks }
         requires joined { self.old.joined ≤ longest_message }
-        ensures { self.new ≡ record self.old { refusal = Some (record { place = self.old.joined + 4 * self.old.blocks + place; reason = reason }) } }
+        ensures { self.new ≡ record self.old {
+          refusal = Some (record
+              { place = self.old.joined + 4 * self.old.blocks + place; reason = reason });
+        } }
     {
         let place = self.joined as usize + 4 * self.blocks as usize + place;
         self.refusal = Some(Refusal { place, reason });

@@ -57,12 +57,17 @@ const MOST_WANTED: usize = 255;
 /// Where the receiver is done the answer is `Ok(())`, and where it refused that refusal; then nothing is
 /// read.
 pub fn read_chain<R: Source>(reader: &mut R, receiver: &mut Receiver) -> Result<(), ReadRefusal>
-    ensures reads { Reads (R.remaining reader.old) (R.remaining reader.new) receiver.old receiver.new result }
+    ensures reads { Reads (R.remaining reader.old) (R.remaining reader.new) receiver.old
+        receiver.new result }
     ensures counted { CountsFault result (R.failures reader.old) (R.failures reader.new) }
-    ensures kept { (receiver.new.ifs ≡ receiver.old.ifs) × (receiver.new.number ≡ receiver.old.number) × (receiver.new.max ≡ receiver.old.max) }
+    ensures kept { (receiver.new.ifs ≡ receiver.old.ifs)
+        × (receiver.new.number ≡ receiver.old.number) × (receiver.new.max ≡ receiver.old.max) }
 
-    ensures done { receiver.old.refusal ≡ None → receiver.old.done ≡ true → (result ≡ Ok tt) × (reader.new ≡ reader.old) × (receiver.new ≡ receiver.old) }
-    ensures repeated { (refusal : Refusal ChainReason) → receiver.old.refusal ≡ Some refusal → (result ≡ Err (ReadRefusal.Stop (Stop.At refusal.place refusal.reason))) × (reader.new ≡ reader.old) × (receiver.new ≡ receiver.old) }
+    ensures done { receiver.old.refusal ≡ None → receiver.old.done ≡ true → (result ≡ Ok tt)
+        × (reader.new ≡ reader.old) × (receiver.new ≡ receiver.old) }
+    ensures repeated { (refusal : Refusal ChainReason) → receiver.old.refusal ≡ Some refusal
+        → (result ≡ Err (ReadRefusal.Stop (Stop.At refusal.place refusal.reason)))
+        × (reader.new ≡ reader.old) × (receiver.new ≡ receiver.old) }
 {
     let mut room = [0; MOST_WANTED];
     let mut taken = 0;
@@ -81,10 +86,12 @@ pub fn read_chain<R: Source>(reader: &mut R, receiver: &mut Receiver) -> Result<
 fn read_some<R: Source>(reader: &mut R, receiver: &mut Receiver, room: &mut [u8]) -> Option<usize>
     requires open { IsOpen receiver.old }
     requires room { length room.old ≡ 255 }
-    ensures moved { IfSome result (λ count. MovesOn (R.remaining reader.old) (R.remaining reader.new) receiver.old receiver.new count) }
+    ensures moved { IfSome result (λ count.
+        MovesOn (R.remaining reader.old) (R.remaining reader.new) receiver.old receiver.new count) }
     ensures none_failed { IfSome result (λ count. R.failures reader.new ≡ R.failures reader.old) }
 
-    ensures nothing { IfNone result (Keeps (R.remaining reader.old) (R.remaining reader.new) × (receiver.new ≡ receiver.old)) }
+    ensures nothing { IfNone result
+        (Keeps (R.remaining reader.old) (R.remaining reader.new) × (receiver.new ≡ receiver.old)) }
     ensures failed { IfNone result (R.failures reader.new ≡ next_count (R.failures reader.old)) }
 {
     let room = &mut room[..receiver.wanted()];

@@ -75,9 +75,15 @@ impl Receiver {
     /// the receiver was new or restarted, and its reason. From then on it is answered again, and nothing is
     /// taken, until `restart`.
     pub fn feed(&mut self, piece: &[u8]) -> Result<(usize, bool), Stop<ChainReason>>
-        ensures fed { IsFed (IsChain self.old.ifs self.old.number self.old.max) (IsReason self.old.ifs self.old.number self.old.max) HasTaken refusal_of self.old self.new piece.now result }
-        ensures kept { (self.new.ifs ≡ self.old.ifs) × (self.new.number ≡ self.old.number) × (self.new.max ≡ self.old.max) }
-        ensures before { (refusal : Refusal ChainReason) → self.new.refusal ≡ Some refusal → (t : List ℕ) → HasTaken self.old t → AreBefore self.old.number self.new.blocks self.new.joined (take refusal.place (t ++ piece.now)) }
+        ensures fed { IsFed (IsChain self.old.ifs self.old.number self.old.max)
+            (IsReason self.old.ifs self.old.number self.old.max) HasTaken refusal_of self.old
+            self.new piece.now result }
+        ensures kept { (self.new.ifs ≡ self.old.ifs) × (self.new.number ≡ self.old.number)
+            × (self.new.max ≡ self.old.max) }
+        ensures before { (refusal : Refusal ChainReason) → self.new.refusal ≡ Some refusal
+            → (t : List ℕ) → HasTaken self.old t
+            → AreBefore self.old.number self.new.blocks self.new.joined
+            (take refusal.place (t ++ piece.now)) }
     {
         let mut taken = 0;
         while taken < piece.len() && self.is_open() {
@@ -89,16 +95,23 @@ impl Receiver {
     /// What there is to say when no more octets come: `Short` with the octets taken where the chain isn't
     /// whole, or the refusal that is kept.
     pub fn finish(&self) -> Result<(), Stop<ChainReason>>
-        ensures finished { IsFinished (IsChain self.now.ifs self.now.number self.now.max) (IsReason self.now.ifs self.now.number self.now.max) HasTaken refusal_of self.now result }
+        ensures finished { IsFinished (IsChain self.now.ifs self.now.number self.now.max)
+            (IsReason self.now.ifs self.now.number self.now.max) HasTaken refusal_of self.now
+            result }
         ensures done { OnOk result ((self.now.refusal ≡ None) × (self.now.done ≡ true)) }
-        ensures waits { IfErr result (λ stop. self.now.refusal ≡ None → (self.now.done ≡ false) × (stop ≡ Short (length self.now.joined + self.now.blocks * 4 + length self.now.under_way))) }
+        ensures waits { IfErr result
+            (λ stop. self.now.refusal ≡ None → (self.now.done ≡ false)
+            × (stop ≡ Short (length self.now.joined + self.now.blocks * 4 + length
+            self.now.under_way))) }
     {
         self.places.ended()
     }
 
     /// The message, once the chain is whole.
     pub fn message(&self) -> Option<&[u8]>
-        ensures done { IfSome result (λ message. (self.now.refusal ≡ None) × (self.now.done ≡ true) × (message.now ≡ self.now.joined)) }
+        ensures done { IfSome result
+            (λ message. (self.now.refusal ≡ None) × (self.now.done ≡ true)
+            × (message.now ≡ self.now.joined)) }
         ensures none { IfNone result (IsSome self.now.refusal ⊎ (self.now.done ≡ false)) }
     {
         let len = self.places.message_len()?;
@@ -126,7 +139,8 @@ impl Receiver {
         ensures some { 0 < result }
         ensures most { result ≤ 255 }
         ensures head { length self.now.under_way < 3 → result + length self.now.under_way ≡ 3 }
-        ensures rest { 3 ≤ length self.now.under_way → result + length self.now.under_way ≡ slice_index self.now.under_way 2 + 4 }
+        ensures rest { 3 ≤ length self.now.under_way
+            → result + length self.now.under_way ≡ slice_index self.now.under_way 2 + 4 }
         ensures taken { (t : List ℕ) × HasTaken self.now t }
         ensures limit { self.now.max ≤ longest_message }
     {

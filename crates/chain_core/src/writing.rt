@@ -25,13 +25,19 @@ pub fn write_chain<W: Sink>(
     requires most { ifs ≤ 254 }
     requires limit { length msg.now ≤ longest_message }
 
-    ensures all { OnOk result (Appends (W.contents writer.old) (W.contents writer.new) (spelling number (cut_of ifs msg.now))) }
+    ensures all { OnOk result (Appends (W.contents writer.old) (W.contents writer.new)
+        (spelling number (cut_of ifs msg.now))) }
     ensures none_failed { OnOk result (W.failures writer.new ≡ W.failures writer.old) }
 
-    ensures fewer { IfErr result (λ fault. fault.written < length (spelling number (cut_of ifs msg.now))) }
-    ensures first { IfErr result (λ fault. Appends (W.contents writer.old) (W.contents writer.new) (take fault.written (spelling number (cut_of ifs msg.now)))) }
-    ensures failed { IfErr result (λ fault. HasFailed (W.failures writer.old) (W.failures writer.new)) }
-    ensures failed_once { IfErr result (λ fault. W.failures writer.new ≡ next_count (W.failures writer.old)) }
+    ensures fewer { IfErr result (λ fault.
+        fault.written < length (spelling number (cut_of ifs msg.now))) }
+    ensures first { IfErr result (λ fault.
+        Appends (W.contents writer.old) (W.contents writer.new)
+        (take fault.written (spelling number (cut_of ifs msg.now)))) }
+    ensures failed { IfErr result (λ fault.
+        HasFailed (W.failures writer.old) (W.failures writer.new)) }
+    ensures failed_once { IfErr result
+        (λ fault. W.failures writer.new ≡ next_count (W.failures writer.old)) }
 {
     let mut written = 0;
     for block in cut(msg, ifs, number) {

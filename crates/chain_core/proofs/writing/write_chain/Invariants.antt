@@ -8,7 +8,8 @@ use Rattle.chain_core.proofs.writing.write_chain.Given as goal
 abbrev pub invariant-loop-block : goal.invariant-loop-block
 invariant-loop-block g l = record {
   inside : l.written ≤ length (spelling l.fn.number (cut_of l.ifs l.msg));
-  so_far : Appends (g.W.Sink.contents l.fn.writer) (g.W.Sink.contents l.writer) (take l.written (spelling l.fn.number (cut_of l.ifs l.msg)));
+  so_far : Appends (g.W.Sink.contents l.fn.writer) (g.W.Sink.contents l.writer)
+      (take l.written (spelling l.fn.number (cut_of l.ifs l.msg)));
   left : drop l.written (spelling l.fn.number (cut_of l.ifs l.msg)) ≡ octets_of l.block-iterator;
   count : g.W.Sink.failures l.writer ≡ g.W.Sink.failures l.fn.writer;
 }

@@ -18,8 +18,10 @@ returns-clause-steps c =
       | then-rest-len w ↦
           before ∙ first-long n ifs rest c.self.invariant.0 w.if-rest-len.true
           ∙ ap (λ (b : Parts). b ∷ links (other n) (cut_of ifs (drop ifs rest))) (sym c.block_at-block.ensures)
-          ∙ ap (λ (m : Number). c.block_at-block.result ∷ links m (cut_of ifs (drop ifs rest))) (sym c.other-self-inside.ensures)
-          ∙ ap (λ (t : List ℕ). c.block_at-block.result ∷ links c.other-self-inside.result (cut_of ifs t)) (sym (take_rest rest ifs))
+          ∙ ap (λ (m : Number). c.block_at-block.result ∷ links m (cut_of ifs (drop ifs rest)))
+          (sym c.other-self-inside.ensures)
+          ∙ ap (λ (t : List ℕ). c.block_at-block.result ∷ links c.other-self-inside.result (cut_of ifs t))
+          (sym (take_rest rest ifs))
           ∙ ap (λ o. c.block_at-block.result ∷ blocks_left ifs c.other-self-inside.result o) (sym w.self-is)
       | else-rest-len w ↦
           before ∙ first-short n ifs rest c.self.invariant.0 w.if-rest-len.false
@@ -28,4 +30,9 @@ returns-clause-steps c =
     ]
 
 pub returns-clause-goes : goal.returns-clause-goes
-returns-clause-goes c = record { on = λ _. (tt, tt, omega (arith, ap length (returns-clause-steps c))); keeps = tt; rests = λ _. tt }
+returns-clause-goes c = record {
+  on = λ _. (tt, tt, omega (arith, ap length (returns-clause-steps c)));
+  keeps =
+      tt;
+  rests = λ _. tt;
+}

@@ -18,13 +18,16 @@ loop-taken-preserved c =
     let n : ℕ = c.take_run-taken.result in
     let rest-is : take (length piece - i) (drop i piece) ≡ drop i piece = take_rest piece i in
     let waits : IsOpen mid = rw c.if-is_open.true at (c.is_open.ensures c.loop-taken.message) in
-    let more : Goes mid new (take n (drop i piece)) = subst (λ (l : List ℕ). Goes mid new (take n l)) rest-is c.take_run-taken.ensures.goes in
+    let more : Goes mid new (take n (drop i piece)) =
+    subst (λ (l : List ℕ). Goes mid new (take n l)) rest-is c.take_run-taken.ensures.goes in
     record {
       inside = omega (arith, c.take_run-taken.ensures.most, ap length rest-is, length-drop i piece);
       room = c.take_run-taken.ensures.room ∙ c.loop-taken.invariant.room;
       fit = c.take_run-taken.ensures.fit;
-      goes = subst (Goes old new) (sym (take-add i n piece)) (goes-then old mid new (take i piece) (take n (drop i piece)) c.loop-taken.invariant.goes waits more);
-      closed = λ closed. absurd (open-not-closed mid waits (subst IsClosed (sym (c.loop-taken.invariant.closed closed).0) closed));
+      goes = subst (Goes old new) (sym (take-add i n piece))
+          (goes-then old mid new (take i piece) (take n (drop i piece)) c.loop-taken.invariant.goes waits more);
+      closed = λ closed. absurd (open-not-closed mid waits
+          (subst IsClosed (sym (c.loop-taken.invariant.closed closed).0) closed));
     }
 
 pub returns-clause-fed : goal.returns-clause-fed
@@ -32,6 +35,17 @@ returns-clause-fed c =
     let old : Reception = received_at c.args.self.now c.args.message.now in
     let new : Reception = received_at c.loop-taken.self c.loop-taken.message in
     let exit : (length c.args.piece.now ≤ c.loop-taken.taken) ⊎ IsClosed new =
-    elim c.loop-taken-test.branch [ then-loop-taken-test+else-is_open w ↦ inr (rw w.if-is_open.false at (w.is_open.ensures c.loop-taken.message)) | else-loop-taken-test w ↦ inl (omega arith) ] in
-    let f : Fed old new c.args.piece.now c.loop-taken.taken = record { goes = c.loop-taken.invariant.goes; inside = c.loop-taken.invariant.inside; closed = c.loop-taken.invariant.closed; exit = exit } in
+    elim c.loop-taken-test.branch [
+      | then-loop-taken-test+else-is_open w ↦
+          inr (rw w.if-is_open.false at (w.is_open.ensures c.loop-taken.message))
+      | else-loop-taken-test w ↦ inl (omega arith)
+    ] in
+    let f : Fed old new c.args.piece.now c.loop-taken.taken =
+    record {
+      goes = c.loop-taken.invariant.goes;
+      inside = c.loop-taken.invariant.inside;
+      closed =
+          c.loop-taken.invariant.closed;
+      exit = exit;
+    } in
     fed-answered old new c.args.piece.now c.loop-taken.taken c.answer.result f c.answer.ensures

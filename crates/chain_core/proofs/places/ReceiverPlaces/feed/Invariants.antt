@@ -11,7 +11,8 @@ invariant-loop-taken l = record {
   room : length l.message ≡ length l.fn.message;
   fit : AreReceiverPlaces l.self (length l.message);
   goes : Goes (received_at l.fn.self l.fn.message) (received_at l.self l.message) (take l.taken l.piece);
-  closed : IsClosed (received_at l.fn.self l.fn.message) → (received_at l.self l.message ≡ received_at l.fn.self l.fn.message) × (l.taken ≡ 0);
+  closed : IsClosed (received_at l.fn.self l.fn.message)
+      → (received_at l.self l.message ≡ received_at l.fn.self l.fn.message) × (l.taken ≡ 0);
 }
 
 abbrev pub decreases-loop-taken : goal.decreases-loop-taken

@@ -12,4 +12,5 @@ pub returns-else-self-eq0 : goal.returns-else-self-eq0
 returns-else-self-eq0 c =
     let n : ℕ = c.args.self.now.blocks in
     let two : 0 < 2 = omega arith in
-    c.other.ensures ∙ sym (after-odd c.args.self.now.first n (n / 2) (omega (arith, div-add-mod n 2, mod-lt n two, c.if-self-eq0.false)))
+    c.other.ensures ∙ sym (after-odd c.args.self.now.first n (n / 2)
+    (omega (arith, div-add-mod n 2, mod-lt n two, c.if-self-eq0.false)))

@@ -10,14 +10,21 @@ use Rattle.chain_core.proofs.places.ReceiverPlaces.take_head.Goals as goal
 pub returns-in-Ok-clause-fit : goal.returns-in-Ok-clause-fit
 returns-in-Ok-clause-fit c = λ room fit.
     let p : ReceiverPlaces = c.args.self.now in
-    let after : IsAfter (number_at p) (nat_eq (p.blocks + 1) 131072) p.ifs (p.max - p.joined) p.part c.args.octet c.in-Ok.part = subst (λ (n : Number). IsAfter n (nat_eq (p.blocks + 1) 131072) p.ifs (p.max - p.joined) p.part c.args.octet c.in-Ok.part) c.number.ensures c.in-Ok.ensures.on in
+    let after : IsAfter (number_at p) (nat_eq (p.blocks + 1) 131072) p.ifs (p.max - p.joined) p.part c.args.octet
+    c.in-Ok.part = subst (λ (n : Number).
+    IsAfter n (nat_eq (p.blocks + 1) 131072) p.ifs (p.max - p.joined) p.part c.args.octet c.in-Ok.part)
+    c.number.ensures c.in-Ok.ensures.on in
     head-fit p c.in-Ok.part c.args.octet room c.requires.open.1 after fit
 
 pub returns-in-Ok-clause-goes : goal.returns-in-Ok-clause-goes
 returns-in-Ok-clause-goes c = λ m held.
     let p : ReceiverPlaces = c.args.self.now in
-    let after : IsAfter (number_at p) (nat_eq (p.blocks + 1) 131072) p.ifs (p.max - p.joined) p.part c.args.octet c.in-Ok.part = subst (λ (n : Number). IsAfter n (nat_eq (p.blocks + 1) 131072) p.ifs (p.max - p.joined) p.part c.args.octet c.in-Ok.part) c.number.ensures c.in-Ok.ensures.on in
-    head-on p c.in-Ok.part c.args.octet c.requires.fit.0 m c.requires.fit.1 held c.requires.open.0 c.requires.open.1 after
+    let after : IsAfter (number_at p) (nat_eq (p.blocks + 1) 131072) p.ifs (p.max - p.joined) p.part c.args.octet
+    c.in-Ok.part = subst (λ (n : Number).
+    IsAfter n (nat_eq (p.blocks + 1) 131072) p.ifs (p.max - p.joined) p.part c.args.octet c.in-Ok.part)
+    c.number.ensures c.in-Ok.ensures.on in
+    head-on p c.in-Ok.part c.args.octet c.requires.fit.0 m c.requires.fit.1 held c.requires.open.0 c.requires.open.1
+    after
 
 pub returns-in-Err-clause-fit : goal.returns-in-Err-clause-fit
 returns-in-Err-clause-fit c = λ room fit. rw c.refuse.ensures (kept-fit c.args.self.now _ room fit)
@@ -25,10 +32,18 @@ returns-in-Err-clause-fit c = λ room fit. rw c.refuse.ensures (kept-fit c.args.
 pub returns-in-Err-clause-goes : goal.returns-in-Err-clause-goes
 returns-in-Err-clause-goes c = λ m held.
     let p : ReceiverPlaces = c.args.self.now in
-    let fault : IsHeadFault (number_at p) (nat_eq (p.blocks + 1) 131072) p.ifs (p.max - p.joined) p.part c.args.octet c.in-Err.reason = subst (λ (n : Number). IsHeadFault n (nat_eq (p.blocks + 1) 131072) p.ifs (p.max - p.joined) p.part c.args.octet c.in-Err.reason) c.number.ensures c.in-Err.ensures.refused in
-    let is : c.refuse.new.self ≡ record p { refusal = Some (record { place = p.joined + 4 * p.blocks + place_of p.part; reason = c.in-Err.reason }) } =
-    c.refuse.ensures ∙ ap (λ (k : ℕ). record p { refusal = Some (record { place = p.joined + 4 * p.blocks + k; reason = c.in-Err.reason }) }) c.place.ensures in
-    subst (λ (q : ReceiverPlaces). Goes (received_at p m) (received_at q m) (c.args.octet ∷ [])) (sym is) (head-off p c.args.octet c.requires.fit.0 c.in-Err.reason m c.requires.fit.1 held c.requires.open.0 c.requires.open.1 c.requires.head fault)
+    let fault : IsHeadFault (number_at p) (nat_eq (p.blocks + 1) 131072) p.ifs (p.max - p.joined) p.part c.args.octet
+    c.in-Err.reason = subst (λ (n : Number).
+    IsHeadFault n (nat_eq (p.blocks + 1) 131072) p.ifs (p.max - p.joined) p.part c.args.octet c.in-Err.reason)
+    c.number.ensures c.in-Err.ensures.refused in
+    let is : c.refuse.new.self ≡ record p
+    { refusal = Some (record { place = p.joined + 4 * p.blocks + place_of p.part; reason = c.in-Err.reason }) } =
+    c.refuse.ensures ∙ ap (λ (k : ℕ). record p
+    { refusal = Some (record { place = p.joined + 4 * p.blocks + k; reason = c.in-Err.reason }) }) c.place.ensures
+    in
+    subst (λ (q : ReceiverPlaces). Goes (received_at p m) (received_at q m) (c.args.octet ∷ [])) (sym is)
+    (head-off p c.args.octet c.requires.fit.0 c.in-Err.reason m c.requires.fit.1 held c.requires.open.0
+    c.requires.open.1 c.requires.head fault)
 
 pub returns-in-Ok-clause-held : goal.returns-in-Ok-clause-held
 returns-in-Ok-clause-held c = head-held c.args.self.now c.in-Ok.part c.requires.head

@@ -19,22 +19,33 @@ returns-then-lrc-octet-clause-goes c =
     let x : ℕ = c.args.octet in
     let q : ReceiverPlaces = with_rest p more len in
     let same : p ≡ q = λ i. record p { part = c.requires.part i; came = c.requires.came i } in
-    let fit : AreReceiverPlaces q c.requires.fit.0 = subst (λ (s : ReceiverPlaces). AreReceiverPlaces s c.requires.fit.0) same c.requires.fit.1 in
+    let fit : AreReceiverPlaces q c.requires.fit.0 =
+    subst (λ (s : ReceiverPlaces). AreReceiverPlaces s c.requires.fit.0) same c.requires.fit.1 in
     let run : p.joined + len - p.joined ≡ len = omega arith in
-    let kind : c.octet.result ≡ pcb_octet (Info (number_at p) more) = c.octet.ensures ∙ ap (λ (n : Number). pcb_octet (Info n more)) c.number.ensures in
+    let kind : c.octet.result ≡ pcb_octet (Info (number_at p) more) =
+    c.octet.ensures ∙ ap (λ (n : Number). pcb_octet (Info n more)) c.number.ensures in
     let sum : bit_xor c.lrc.result c.lrc-2.result ≡ xor_of (front_at p more len m) =
-    front-sum p more len c.octet.result c.lrc.result c.lrc-2.result m kind c.lrc.ensures (c.lrc-2.ensures ∙ ap (λ (k : ℕ). xor_of (take k (drop p.joined m))) run) in
-    let goes = lrc-off p more len x c.requires.fit.0 m fit c.requires.held c.requires.open.0 c.requires.open.1 (sum-off (front_at p more len m) x (λ e. c.if-lrc-octet.true (sum ∙ e))) in
-    let kept : record q { refusal = Some (record { place = p.joined + 4 * p.blocks + (3 + len); reason = BadLrc }) } ≡ c.refuse.new.self =
-    ap (λ (s : ReceiverPlaces). record s { refusal = Some (record { place = p.joined + 4 * p.blocks + (3 + len); reason = BadLrc }) }) (sym same) ∙ sym c.refuse.ensures in
+    front-sum p more len c.octet.result c.lrc.result c.lrc-2.result m kind c.lrc.ensures
+    (c.lrc-2.ensures ∙ ap (λ (k : ℕ). xor_of (take k (drop p.joined m))) run) in
+    let goes = lrc-off p more len x c.requires.fit.0 m fit c.requires.held c.requires.open.0 c.requires.open.1
+    (sum-off (front_at p more len m) x (λ e. c.if-lrc-octet.true (sum ∙ e))) in
+    let kept : record q { refusal = Some (record { place = p.joined + 4 * p.blocks + (3 + len); reason = BadLrc }) } ≡
+    c.refuse.new.self =
+    ap (λ (s : ReceiverPlaces). record s {
+      refusal =
+          Some (record { place = p.joined + 4 * p.blocks + (3 + len); reason = BadLrc });
+    }) (sym same)
+    ∙ sym c.refuse.ensures in
     subst (λ (s : ReceiverPlaces). Goes (received_at s m) (received_at c.refuse.new.self m) (x ∷ [])) (sym same)
     (subst (λ (s : ReceiverPlaces). Goes (received_at q m) (received_at s m) (x ∷ [])) kept goes)
 
 pub returns-clause-fit : goal.returns-clause-fit
 returns-clause-fit c = λ room fit.
     let p : ReceiverPlaces = c.args.self.now in
-    let same : p ≡ with_rest p c.args.more c.args.len = λ i. record p { part = c.requires.part i; came = c.requires.came i } in
-    closed-fit p c.args.more c.args.len room c.requires.open.1 (subst (λ (s : ReceiverPlaces). AreReceiverPlaces s room) same fit)
+    let same : p ≡ with_rest p c.args.more c.args.len =
+    λ i. record p { part = c.requires.part i; came = c.requires.came i } in
+    closed-fit p c.args.more c.args.len room c.requires.open.1
+    (subst (λ (s : ReceiverPlaces). AreReceiverPlaces s room) same fit)
 
 pub returns-clause-goes : goal.returns-clause-goes
 returns-clause-goes c =
@@ -46,10 +57,14 @@ returns-clause-goes c =
     let q : ReceiverPlaces = with_rest p more len in
     let same : p ≡ q = λ i. record p { part = c.requires.part i; came = c.requires.came i } in
     let octets : AreOctets m = λ i. omega (arith, c.type_inv.message i) in
-    let fit : AreReceiverPlaces q c.requires.fit.0 = subst (λ (s : ReceiverPlaces). AreReceiverPlaces s c.requires.fit.0) same c.requires.fit.1 in
+    let fit : AreReceiverPlaces q c.requires.fit.0 =
+    subst (λ (s : ReceiverPlaces). AreReceiverPlaces s c.requires.fit.0) same c.requires.fit.1 in
     let run : p.joined + len - p.joined ≡ len = omega arith in
-    let kind : c.octet.result ≡ pcb_octet (Info (number_at p) more) = c.octet.ensures ∙ ap (λ (n : Number). pcb_octet (Info n more)) c.number.ensures in
+    let kind : c.octet.result ≡ pcb_octet (Info (number_at p) more) =
+    c.octet.ensures ∙ ap (λ (n : Number). pcb_octet (Info n more)) c.number.ensures in
     let sum : bit_xor c.lrc.result c.lrc-2.result ≡ xor_of (front_at p more len m) =
-    front-sum p more len c.octet.result c.lrc.result c.lrc-2.result m kind c.lrc.ensures (c.lrc-2.ensures ∙ ap (λ (k : ℕ). xor_of (take k (drop p.joined m))) run) in
+    front-sum p more len c.octet.result c.lrc.result c.lrc-2.result m kind c.lrc.ensures
+    (c.lrc-2.ensures ∙ ap (λ (k : ℕ). xor_of (take k (drop p.joined m))) run) in
     subst (λ (s : ReceiverPlaces). Goes (received_at s m) (received_at (closed_at p more len) m) (x ∷ [])) (sym same)
-    (lrc-on p more len x c.requires.fit.0 m octets fit c.requires.held c.requires.open.0 c.requires.open.1 (sym c.if-lrc-octet.false ∙ sum))
+    (lrc-on p more len x c.requires.fit.0 m octets fit c.requires.held c.requires.open.0 c.requires.open.1
+    (sym c.if-lrc-octet.false ∙ sum))

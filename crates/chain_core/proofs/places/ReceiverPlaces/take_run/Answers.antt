@@ -21,13 +21,21 @@ returns-clause-goes c =
     let k : ℕ = a + n - a in
     let m' : List ℕ = put_mid a k m ys in
     let still = c.requires.open.1 in
-    let some : 0 < left_of p.part p.came = omega (arith, c.min-run.ensures, c.if-run-eq0.false, c.field_left.ensures, c.requires.some) in
+    let some : 0 < left_of p.part p.came =
+    omega (arith, c.min-run.ensures, c.if-run-eq0.false, c.field_left.ensures, c.requires.some) in
     let le : n ≤ left_of p.part p.came = omega (arith, c.min-run.ensures, c.field_left.ensures) in
-    let fits : a + n ≤ length m = omega (arith, field-held p n some, held-room _ (length m) (field-fit p n (length m) (length m) still some le (omega arith) c.requires.fit)) in
+    let fits : a + n ≤ length m = omega (
+      arith,
+      field-held p n some,
+      held-room _ (length m) (field-fit p n (length m) (length m) still some le (omega arith) c.requires.fit),
+    ) in
     let long : length xs ≡ n = omega (arith, length-take n c.args.piece.now, c.min-run.ensures) in
     let copied : ys ≡ xs = c.copy_from_slice.ensures.after in
     let after : AreOctets m' = λ i. omega (arith, c.type_inv.message i) in
-    let text : take (a + length xs) m' ≡ take a m ++ xs = take-put_mid a k m ys (a + length xs) (omega (arith, ap length copied)) (omega (arith, fits)) ∙ ap (λ (l : List ℕ). take a m ++ l) copied in
+    let text : take (a + length xs) m' ≡ take a m ++ xs =
+    take-put_mid a k m ys (a + length xs) (omega (arith, ap length copied)) (omega (arith, fits))
+    ∙ ap (λ (l : List ℕ). take a m ++ l) copied in
     let goes : Goes (received_at p m) (received_at (record p { came = p.came + length xs }) m') xs =
-    field-on p (length m) m m' xs after c.requires.fit (omega (arith, fits)) c.requires.open.0 still some (omega (arith, long, le)) text in
+    field-on p (length m) m m' xs after c.requires.fit (omega (arith, fits)) c.requires.open.0 still some
+    (omega (arith, long, le)) text in
     subst (λ (i : ℕ). Goes (received_at p m) (received_at (record p { came = p.came + i }) m') xs) long goes

@@ -12,5 +12,7 @@ ended-requires c = (_, c.self.invariant.fit)
 pub returns-clause-finished : goal.returns-clause-finished
 returns-clause-finished c =
     let i = c.self.inside in
-    subst (λ (s : Reception). IsFinished (IsChain s.ifs s.number s.max) (IsReason s.ifs s.number s.max) HasTaken refusal_of s c.ended.result) c.self.view_is
-    (ended-finished (received_at i.places i.message.items) c.ended.result (c.ended.ensures i.message.items (omega (arith, c.self.invariant.exact))) c.self.invariant.taken)
+    subst (λ (s : Reception). IsFinished (IsChain s.ifs s.number s.max) (IsReason s.ifs s.number s.max) HasTaken
+    refusal_of s c.ended.result) c.self.view_is
+    (ended-finished (received_at i.places i.message.items) c.ended.result
+    (c.ended.ensures i.message.items (omega (arith, c.self.invariant.exact))) c.self.invariant.taken)

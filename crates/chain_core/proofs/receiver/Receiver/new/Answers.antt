@@ -4,4 +4,6 @@ use Rattle.chain_core.proofs.receiver.Receiver.new.Goals as goal
 
 pub invariant_of-result : goal.invariant_of-result
 invariant_of-result c =
-    receiver-fresh c.begin-places.result c.in_ok-message.message.items _ c.args.ifs c.args.number c.args.max (c.begin-places.ensures.fit _ (omega (arith, c.in_ok-message.ensures.exact))) c.in_ok-message.ensures.items c.begin-places.ensures.fresh
+    receiver-fresh c.begin-places.result c.in_ok-message.message.items _ c.args.ifs c.args.number c.args.max
+    (c.begin-places.ensures.fit _ (omega (arith, c.in_ok-message.ensures.exact))) c.in_ok-message.ensures.items
+    c.begin-places.ensures.fresh

@@ -5,4 +5,6 @@ use Rattle.chain_core.proofs.receiver.Receiver.restart.Goals as goal
 pub invariant_of-self : goal.invariant_of-self
 invariant_of-self c =
     let i = c.self.inside in
-    receiver-fresh c.begin-self-inside.result c.clear.new.self.items _ i.places.ifs c.args.number i.places.max (c.begin-self-inside.ensures.fit _ (omega (arith, c.clear.ensures.capacity, c.self.invariant.fit.reserved))) c.clear.ensures.items c.begin-self-inside.ensures.fresh
+    receiver-fresh c.begin-self-inside.result c.clear.new.self.items _ i.places.ifs c.args.number i.places.max
+    (c.begin-self-inside.ensures.fit _ (omega (arith, c.clear.ensures.capacity, c.self.invariant.fit.reserved)))
+    c.clear.ensures.items c.begin-self-inside.ensures.fresh

@@ -17,25 +17,35 @@ invariant_of-self c =
     let r = c.self.invariant in
     let free : IsOpen (received_at i.places m) = subst IsOpen (sym c.self.view_is) c.requires.open in
     let goes = rw c.as_slice.ensures.value at c.take_control.ensures.goes in
-    receiver-kept i.places c.take_control.new.self m m _ _ _ r free.0 (c.take_control.ensures.fit _ r.fit) r.octets (omega (arith, r.exact, c.take_control.ensures.held)) goes
+    receiver-kept i.places c.take_control.new.self m m _ _ _ r free.0 (c.take_control.ensures.fit _ r.fit) r.octets
+    (omega (arith, r.exact, c.take_control.ensures.held)) goes
 
 -- octets of the field
-field : (c : goal.After-self-1) → Goes (received_at c.self.inside.places c.self.inside.message.items) (received_at (record c.self.inside.places { came = c.self.inside.places.came + c.min-run.result }) c.extend_from_slice.new.self.items) (take c.min-run.result c.args.piece.now)
-    × IsReceiver (record c.self.inside.places { came = c.self.inside.places.came + c.min-run.result }) c.extend_from_slice.new.self.items (vec_capacity c.extend_from_slice.new.self)
+field : (c : goal.After-self-1) → Goes (received_at c.self.inside.places c.self.inside.message.items)
+    (received_at (record c.self.inside.places { came = c.self.inside.places.came + c.min-run.result })
+    c.extend_from_slice.new.self.items) (take c.min-run.result c.args.piece.now)
+    × IsReceiver (record c.self.inside.places { came = c.self.inside.places.came + c.min-run.result })
+    c.extend_from_slice.new.self.items (vec_capacity c.extend_from_slice.new.self)
 field c =
     let i = c.self.inside in
     let n : ℕ = c.min-run.result in
     let piece : List ℕ = c.args.piece.now in
     let octets : AreOctets piece = λ k. omega (arith, c.type_inv.piece k) in
     let free : IsOpen (received_at i.places i.message.items) = subst IsOpen (sym c.self.view_is) c.requires.open in
-    let some : 0 < left_of i.places.part i.places.came = omega (arith, c.min-run.ensures, c.if-run-eq0.false, c.field_left.ensures, c.requires.some) in
-    let joined : c.extend_from_slice.new.self.items ≡ i.message.items ++ take n piece = rw c.unwrap.ensures at c.extend_from_slice.ensures.items in
-    receiver-field i.places i.message.items c.extend_from_slice.new.self.items (take n piece) n _ _ c.self.invariant free.0 free.1 (octets-take n piece octets) c.extend_from_slice.ensures.capacity some (omega (arith, c.min-run.ensures, c.field_left.ensures)) (omega (arith, length-take n piece, c.min-run.ensures)) joined
+    let some : 0 < left_of i.places.part i.places.came =
+    omega (arith, c.min-run.ensures, c.if-run-eq0.false, c.field_left.ensures, c.requires.some) in
+    let joined : c.extend_from_slice.new.self.items ≡ i.message.items ++ take n piece =
+    rw c.unwrap.ensures at c.extend_from_slice.ensures.items in
+    receiver-field i.places i.message.items c.extend_from_slice.new.self.items (take n piece) n _ _ c.self.invariant
+    free.0 free.1 (octets-take n piece octets) c.extend_from_slice.ensures.capacity some
+    (omega (arith, c.min-run.ensures, c.field_left.ensures)) (omega (arith, length-take n piece, c.min-run.ensures))
+    joined
 
 pub invariant_of-self-2 : goal.invariant_of-self-2
 invariant_of-self-2 c = (field c).1
 
 pub returns-clause-goes : goal.returns-clause-goes
 returns-clause-goes c =
-    let new : Reception = received_at (record c.self.inside.places { came = c.self.inside.places.came + c.min-run.result }) c.extend_from_slice.new.self.items in
+    let new : Reception = received_at (record c.self.inside.places
+    { came = c.self.inside.places.came + c.min-run.result }) c.extend_from_slice.new.self.items in
     subst (λ (s : Reception). Goes s new (take c.min-run.result c.args.piece.now)) c.self.view_is (field c).0
