@@ -1,11 +1,15 @@
 -- Objects that are so somewhere in a list, found node by node.
-use Rattle.std.proofs.Common.{◌≡◌, ℕ, ◌+◌, ◌<◌, ◌⊎◌, List, [], ◌∷◌, length, take, get_or, sym, subst, inl, inr, arith, suc, zero}
+use Rattle.std.proofs.Common.{◌≡◌, ℕ, ◌+◌, ◌-◌, ◌^◌, ◌<◌, ◌⊎◌, ◌↔◌, List, [], ◌∷◌, length, take, get_or, min, sym, subst, inl, inr, arith, suc, zero}
+use Rattle.std.proofs.lemmas.Bool.{cases_lt}
 use Rattle.tlv_core.specs.declared.form.Form.{Form}
 use Rattle.tlv_core.specs.declared.node.Node.{Node}
 use Rattle.tlv_core.specs.declared.node.Node.TheVariants as node
 use Rattle.tlv_core.specs.Tree.{Tree, End, Filler, Primitive, Constructed}
 use Rattle.tlv_core.specs.Nodes.{tree_of}
-use Rattle.tlv_core.specs.Improper.{SomeObject}
+use Rattle.tlv_core.specs.declared.survey.Fault.{Fault}
+use Rattle.tlv_core.specs.declared.survey.Fault.TheVariants as fault
+use Rattle.tlv_core.specs.Forest.{deepest, spelling}
+use Rattle.tlv_core.specs.Improper.{SomeObject, HasFault}
 use Rattle.tlv_core.specs.Own.{OwnIs}
 use Rattle.tlv_core.proofs.One.{join}
 use Rattle.tlv_core.proofs.Listed.{tree_more}
@@ -85,3 +89,42 @@ module _ (Is : ℕ → ℕ → List ℕ → Form → ℕ → Type 0) where
 pub same_nodes : (tag tag' : List ℕ) (form form' : Form) (nodes nodes' : Tree) (x : Node)
     → x ≡ node.Constructed tag form nodes → x ≡ node.Constructed tag' form' nodes' → nodes ≡ nodes'
 same_nodes tag tag' form form' nodes nodes' x p q = cc
+
+-- ---- a depth greater than 16 is like any other
+
+fault_alike : (f : Fault) (d e bit : ℕ) (tag : List ℕ) (form : Form) (n : ℕ) → deepest < e
+    → HasFault f d bit tag form n → HasFault f e bit tag form n
+fault_alike fault.Depth d e bit tag form n lt h = lt
+fault_alike fault.Tag d e bit tag form n lt h = h
+fault_alike fault.Form d e bit tag form n lt h = h
+
+too_deep_alike : (f : Fault) (d e : ℕ) (t : Tree) → deepest < e → SomeObject (HasFault f) d t
+    → SomeObject (HasFault f) e t
+too_deep_alike f d e End lt h = h
+too_deep_alike f d e (Filler rest) lt h = too_deep_alike f d e rest lt h
+too_deep_alike f d e (Primitive tag form value rest) lt h =
+    elim h [
+      | inl a ↦ inl (fault_alike f d e 0 tag form (length value) lt a)
+      | inr a ↦ inr (too_deep_alike f d e rest lt a)
+    ]
+too_deep_alike f d e (Constructed tag form nodes rest) lt h =
+    elim h [
+      | inl a ↦ inl (fault_alike f d e 1 tag form (length (spelling nodes)) lt a)
+      | inr a ↦ elim a [
+        | inl b ↦ inr (inl (too_deep_alike f (d + 1) (e + 1) nodes (omega arith) b))
+        | inr b ↦ inr (inr (too_deep_alike f d e rest lt b))
+      ]
+    ]
+
+-- so the next depth may stop at the greatest number
+pub one_deeper : (f : Fault) (d e : ℕ) (t : Tree) → e ≡ min (d + 1) (2 ^ 64 - 1)
+    → SomeObject (HasFault f) e t ↔ SomeObject (HasFault f) (d + 1) t
+one_deeper f d e t is =
+    elim (cases_lt deepest d) [
+      | inl lt ↦ (too_deep_alike f e (d + 1) t (omega arith), too_deep_alike f (d + 1) e t (omega arith))
+      | inr le ↦
+          let same : e ≡ d + 1 = omega arith in (
+            subst (λ (k : ℕ). SomeObject (HasFault f) k t) same,
+            subst (λ (k : ℕ). SomeObject (HasFault f) k t) (sym same),
+          )
+    ]

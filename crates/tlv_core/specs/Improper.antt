@@ -7,6 +7,8 @@ use Rattle.tlv_core.specs.Form.{capacity}
 use Rattle.tlv_core.specs.Tree.{Tree, End, Filler, Primitive, Constructed}
 use Rattle.tlv_core.specs.Forest.{spelling, deepest, HasSpelling}
 use Rattle.tlv_core.specs.declared.form.Form.{Form}
+use Rattle.tlv_core.specs.declared.survey.Fault.{Fault}
+use Rattle.tlv_core.specs.declared.survey.Fault.TheVariants as fault
 use Rattle.tlv_core.specs.declared.forest.Improper.{Improper}
 use Rattle.tlv_core.specs.declared.forest.Improper.TheVariants as improper
 
@@ -37,6 +39,12 @@ IsOtherKind d bit tag form n = constructed_bit tag ≢ bit
 -- the length doesn't fit its form
 abbrev pub IsUnfit : ℕ → ℕ → List ℕ → Form → ℕ → Type 0
 IsUnfit d bit tag form n = capacity form ≤ n
+
+-- an object has this fault
+abbrev pub HasFault : Fault → ℕ → ℕ → List ℕ → Form → ℕ → Type 0
+HasFault fault.Depth = IsDeep
+HasFault fault.Tag = IsOtherKind
+HasFault fault.Form = IsUnfit
 
 -- Some object is so; or the whole is too long.
 abbrev pub IsImproper : ℕ → Tree → Improper → Type 0

@@ -3,7 +3,7 @@
 ghost use Rattle.std.specs.Prelude.{◌≡◌, IfOk, IfErr};
 
 use crate::node::Nodes;
-use crate::survey::{has_deep, has_other_kind, has_unfit, octets_of};
+use crate::survey::{Fault, has_fault, octets_of};
 use octet_core::Named;
 use std::error::Error;
 use std::fmt::{self, Display, Formatter, Write};
@@ -106,13 +106,13 @@ impl Forest {
         ensures refused { IfErr result
             (λ refused. (refused.0 ≡ nodes) × IsFirstImproper largest nodes refused.1) }
     {
-        if has_deep(&nodes, 1) {
+        if has_fault(Fault::Depth, &nodes, 1) {
             return Err((nodes, Improper::Depth));
         }
-        if has_other_kind(&nodes) {
+        if has_fault(Fault::Tag, &nodes, 1) {
             return Err((nodes, Improper::Tag));
         }
-        if has_unfit(&nodes) {
+        if has_fault(Fault::Form, &nodes, 1) {
             return Err((nodes, Improper::Form));
         }
         if octets_of(&nodes) > LARGEST_FOREST {

@@ -3,7 +3,7 @@
 ghost use Rattle.std.specs.Prelude.{◌≡◌, ℕ, ◌+◌, ◌-◌, ◌^◌, ◌≤◌, ◌↔◌, IsTrue, length, min};
 ghost use Rattle.octet_core.specs.Octets.{AreOctets};
 ghost use Rattle.tlv_core.specs.Forest.{spelling};
-ghost use Rattle.tlv_core.specs.Improper.{AreObjects, SomeObject, IsDeep, IsOtherKind, IsUnfit};
+ghost use Rattle.tlv_core.specs.Improper.{AreObjects, SomeObject, HasFault, IsDeep, IsOtherKind, IsUnfit};
 ghost use Rattle.tlv_core.specs.Own.{OwnIs};
 ghost use Rattle.tlv_core.specs.Form.{further};
 ghost use Rattle.tlv_core.specs.Tag.{IsTag};
@@ -49,13 +49,23 @@ fn octets_with(tag: &Tag, form: Form, len: usize) -> usize
     len.saturating_add(header)
 }
 
-/// Whether an object is too deep, where the list is at this depth.
-pub(crate) fn has_deep(nodes: &Nodes, depth: usize) -> bool
-    requires { depth ≤ 17 }
-    ensures { IsTrue result ↔ SomeObject IsDeep depth nodes.now }
+/// What is wrong with an object.
+#[derive(Clone, Copy)]
+pub(crate) enum Fault {
+    /// It is inside one of depth 16.
+    Depth,
+    /// Bit 6 of its tag disagrees with its kind.
+    Tag,
+    /// Its length is too large for the form of its length field.
+    Form,
+}
+
+/// Whether an object has this fault, where the list is at this depth.
+pub(crate) fn has_fault(fault: Fault, nodes: &Nodes, depth: usize) -> bool
+    ensures { IsTrue result ↔ SomeObject (HasFault fault) depth nodes.now }
 {
     for node in nodes.get() {
-        if is_deep(node, depth) {
+        if is_faulty(fault, node, depth) {
             return true;
         }
         if let Node::Constructed {
@@ -64,12 +74,23 @@ pub(crate) fn has_deep(nodes: &Nodes, depth: usize) -> bool
             nodes,
         } = node
         {
-            if has_deep(nodes, depth + 1) {
+            if has_fault(fault, nodes, depth.saturating_add(1)) {
                 return true;
             }
         }
     }
     false
+}
+
+/// Whether the node is an object with this fault, at this depth.
+fn is_faulty(fault: Fault, node: &Node, depth: usize) -> bool
+    ensures { IsTrue result ↔ OwnIs (HasFault fault) depth node.now }
+{
+    match fault {
+        Fault::Depth => is_deep(node, depth),
+        Fault::Tag => is_other_kind(node),
+        Fault::Form => is_unfit(node),
+    }
 }
 
 /// Whether the node is an object that is too deep, at this depth.
@@ -80,28 +101,6 @@ fn is_deep(node: &Node, depth: usize) -> bool
         Node::Filler => false,
         Node::Primitive { .. } | Node::Constructed { .. } => depth > DEEPEST,
     }
-}
-
-/// Whether bit 6 of a tag disagrees with the kind of its object.
-pub(crate) fn has_other_kind(nodes: &Nodes) -> bool
-    ensures { (d : ℕ) → IsTrue result ↔ SomeObject IsOtherKind d nodes.now }
-{
-    for node in nodes.get() {
-        if is_other_kind(node) {
-            return true;
-        }
-        if let Node::Constructed {
-            tag: _,
-            form: _,
-            nodes,
-        } = node
-        {
-            if has_other_kind(nodes) {
-                return true;
-            }
-        }
-    }
-    false
 }
 
 /// Whether bit 6 of the tag of the node disagrees with its kind.
@@ -121,28 +120,6 @@ fn is_other_kind(node: &Node) -> bool
             nodes: _,
         } => !tag.is_constructed(),
     }
-}
-
-/// Whether a length is too large for the form of its length field.
-pub(crate) fn has_unfit(nodes: &Nodes) -> bool
-    ensures { (d : ℕ) → IsTrue result ↔ SomeObject IsUnfit d nodes.now }
-{
-    for node in nodes.get() {
-        if is_unfit(node) {
-            return true;
-        }
-        if let Node::Constructed {
-            tag: _,
-            form: _,
-            nodes,
-        } = node
-        {
-            if has_unfit(nodes) {
-                return true;
-            }
-        }
-    }
-    false
 }
 
 /// Whether the length of the node is too large for its form.
