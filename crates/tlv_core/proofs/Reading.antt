@@ -12,7 +12,7 @@ use Rattle.tlv_core.specs.declared.header.Next.{Next}
 use Rattle.tlv_core.specs.declared.node.Node.TheVariants as node
 use Rattle.tlv_core.specs.declared.partial.OpenValue.{OpenValue}
 use Rattle.tlv_core.specs.declared.partial.Partial.{Partial}
-use Rattle.tlv_core.specs.declared.reason.Refusal.{Refusal}
+use Rattle.octet_core.specs.declared.stop.Refusal.{Refusal}
 use Rattle.tlv_core.specs.declared.reason.TlvReason.{TlvReason}
 use Rattle.tlv_core.specs.Tree.{Tree, End, Primitive}
 use Rattle.tlv_core.specs.Forest.{IsForest}
@@ -38,7 +38,7 @@ none_grown max k g is tree =
     (λ (l : Kept). HasGrown [] l (record { opened = []; list = End; value = None })) (sym is)
     (record { opened = refl; proper = tt; under = refl }))
 
-pub none_begun : (max : ℕ) (k : Kept) (g : Grown) (refusal : Option Refusal)
+pub none_begun : (max : ℕ) (k : Kept) (g : Grown) (refusal : Option (Refusal TlvReason))
     → k ≡ record { max = max; count = 0; rooms = []; header = []; value_left = 0 }
     → g ≡ record { opened = []; list = End; value = None }
     → HasBegun [] (record { kept = k; tree = g; refusal = refusal })
@@ -66,7 +66,8 @@ part_of b k m add opened list (Some v) taken len octets some lt h =
     part_grown b k m add opened list v (value_fits b k taken) len octets lt h
 
 -- more of it is to come
-pub part_begun : (b : List ℕ) (k : Kept) (old new : Partial) (m : ℕ) (add : List ℕ) (refusal : Option Refusal)
+pub part_begun : (b : List ℕ) (k : Kept) (old new : Partial) (m : ℕ) (add : List ℕ)
+    (refusal : Option (Refusal TlvReason))
     → length add ≡ m → AreOctets add → 0 < m → m < k.value_left → grown_of new ≡ extended (grown_of old) add
     → HasBegun b (record { kept = k; tree = grown_of old; refusal = refusal })
     → HasBegun (b ++ add) (record { kept = after_run k m; tree = grown_of new; refusal = refusal })
@@ -124,7 +125,8 @@ ended_with b k mid new (Some v) is none z idle ends close =
     (ap value_of is)) (λ closed. close v closed is)
 
 -- these are its last octets
-pub whole_begun : (b : List ℕ) (k : Kept) (old mid new : Partial) (m : ℕ) (add : List ℕ) (refusal : Option Refusal)
+pub whole_begun : (b : List ℕ) (k : Kept) (old mid new : Partial) (m : ℕ) (add : List ℕ)
+    (refusal : Option (Refusal TlvReason))
     → length add ≡ m → AreOctets add → 0 < m → m ≡ k.value_left → grown_of mid ≡ extended (grown_of old) add
     → new.value ≡ None
     → ((v : OpenValue) (closed : ℕ) → mid.value ≡ Some v
@@ -145,7 +147,7 @@ whole_begun b k old mid new m add refusal len octets some is e idle close h =
 -- ---- an octet of a header
 
 pub octet_begun : (b : List ℕ) (k : Kept) (x : ℕ) (next : Next) (old room : Partial) (new : Grown)
-    (refusal : Option Refusal) → k.value_left ≡ 0 → IsStep k x next → grown_of room ≡ grown_of old
+    (refusal : Option (Refusal TlvReason)) → k.value_left ≡ 0 → IsStep k x next → grown_of room ≡ grown_of old
     → (TakesNext b k x next (grown_of room) → HasGrown (b ++ x ∷ []) (after_next k next) new)
     → HasBegun b (record { kept = k; tree = grown_of old; refusal = refusal })
     → HasBegun (b ++ x ∷ []) (record { kept = after_next k next; tree = new; refusal = refusal })

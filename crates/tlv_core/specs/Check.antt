@@ -3,13 +3,13 @@ use Rattle.std.specs.Prelude.{◌≡◌, ℕ, List, Option, Some, None, Result, 
 use Rattle.octet_core.specs.declared.stop.Stop.{Stop}
 use Rattle.octet_core.specs.declared.stop.Stop.TheVariants.{At}
 use Rattle.tlv_core.specs.declared.reason.TlvReason.{TlvReason}
-use Rattle.tlv_core.specs.declared.reason.Refusal.{Refusal}
+use Rattle.octet_core.specs.declared.stop.Refusal.{Refusal}
 use Rattle.tlv_core.specs.Reasons.{Kept, HasTaken}
 
 -- what its octets leave open, and why the next one was refused, if it was
 pub record Checked : Type 0 where
   pub kept : Kept
-  pub refusal : Option Refusal
+  pub refusal : Option (Refusal TlvReason)
 
 -- A check that keeps this has taken the octets b, and refused none.
 pub record HasChecked (b : List ℕ) (k : Checked) : Type 0 where
@@ -17,11 +17,11 @@ pub record HasChecked (b : List ℕ) (k : Checked) : Type 0 where
   pub none : k.refusal ≡ None
 
 -- what it answers from then on
-abbrev pub answer_of : Option Refusal → Result (Unit {0}) (Stop TlvReason)
+abbrev pub answer_of : Option (Refusal TlvReason) → Result (Unit {0}) (Stop TlvReason)
 answer_of None = Ok tt
 answer_of (Some r) = Err (At r.place r.reason)
 
 -- the refusal of the octet at this place, if any
-abbrev pub refusal_at : ℕ → Option TlvReason → Option Refusal
+abbrev pub refusal_at : ℕ → Option TlvReason → Option (Refusal TlvReason)
 refusal_at count None = None
 refusal_at count (Some reason) = Some (record { place = count; reason = reason })

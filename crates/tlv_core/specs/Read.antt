@@ -11,7 +11,7 @@ use Rattle.tlv_core.specs.declared.partial.OpenValue.{OpenValue}
 use Rattle.tlv_core.specs.declared.partial.Partial.{Partial}
 use Rattle.tlv_core.specs.declared.progress.Progress.{Progress}
 use Rattle.tlv_core.specs.declared.reason.TlvReason.{TlvReason}
-use Rattle.tlv_core.specs.declared.reason.Refusal.{Refusal}
+use Rattle.octet_core.specs.declared.stop.Refusal.{Refusal}
 use Rattle.tlv_core.specs.declared.header.ObjectHeader.{ObjectHeader}
 use Rattle.tlv_core.specs.declared.header.Next.{Next}
 use Rattle.tlv_core.specs.declared.short.ShortHeader.{ShortHeader}
@@ -87,9 +87,9 @@ IsWholeNode o value y = ((constructed_bit o.tag ≡ 0) × (y ≡ node.Primitive 
 pub record Reading : Type 0 where
   pub kept : Kept
   pub tree : Grown
-  pub refusal : Option Refusal
+  pub refusal : Option (Refusal TlvReason)
 
-abbrev pub reading_of : Progress → Partial → Option Refusal → Reading
+abbrev pub reading_of : Progress → Partial → Option (Refusal TlvReason) → Reading
 reading_of progress tree refusal = record { kept = kept_of progress; tree = grown_of tree; refusal = refusal }
 
 -- these octets were taken: with the rooms, the header and the value under way the tree spells them
@@ -110,8 +110,8 @@ IsEndedFeed max b piece new n refused.Memory = (n ≤ length piece) × HasRead (
 IsEndedFeed max b piece new n (refused.Stop stop) =
     (n ≤ length piece) × HasBegun (b ++ take n piece) new
     × RefusesAt whole (IsForest max) (IsReason max) (b ++ piece) stop
-    × ((r : Refusal) × (new.refusal ≡ Some r) × (stop ≡ At r.place r.reason) × (r.place ≡ length b + n))
+    × ((r : Refusal TlvReason) × (new.refusal ≡ Some r) × (stop ≡ At r.place r.reason) × (r.place ≡ length b + n))
 
 -- what it answers once a refusal stands
-abbrev pub stop_of : Refusal → Stop TlvReason
+abbrev pub stop_of : Refusal TlvReason → Stop TlvReason
 stop_of r = At r.place r.reason

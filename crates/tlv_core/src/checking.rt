@@ -10,8 +10,8 @@ ghost use Rattle.tlv_core.specs.Checking.{checked_of};
 ghost use Rattle.tlv_core.specs.Progress.{kept_of};
 
 use crate::progress::Progress;
-use crate::reason::{Refusal, TlvReason};
-use octet_core::Stop;
+use crate::reason::TlvReason;
+use octet_core::{Refusal, Stop};
 
 /// What a check keeps: what the octets so far leave open, and why the next one was refused, if it was.
 #[derive(Drop)]
@@ -71,7 +71,7 @@ impl Checking {
     }
 
     /// The refusal that is kept.
-    pub(crate) fn refusal(&self) -> Option<Refusal>
+    pub(crate) fn refusal(&self) -> Option<Refusal<TlvReason>>
         ensures { result ≡ (checked_of self.now).refusal }
     {
         self.refused.map(|reason| self.progress.refusal(reason))

@@ -11,9 +11,10 @@ ghost use Rattle.tlv_core.specs.Open.{AreEnds, IsWell-prop, open_after};
 
 use crate::header::{Header, Next, ObjectHeader};
 use crate::places::CheckPlaces;
-use crate::reason::{Refusal, TlvReason};
+use crate::reason::TlvReason;
 use crate::short::{ShortHeader, short_header};
 use arrayvec::ArrayVec;
+use octet_core::Refusal;
 
 /// The greatest depth of an object; the outermost objects have depth 1.
 pub(crate) const DEEPEST: usize = 16;
@@ -132,7 +133,7 @@ impl Progress {
     }
 
     /// The refusal of the next octet.
-    pub(crate) fn refusal(&self, reason: TlvReason) -> Refusal
+    pub(crate) fn refusal(&self, reason: TlvReason) -> Refusal<TlvReason>
         ensures { result ≡ record { place = self.now.count; reason = reason } }
     {
         Refusal {

@@ -3,15 +3,16 @@
 ghost use Rattle.std.specs.Prelude.{◌≡◌, ℕ, ◌+◌, ◌<◌, ◌≤◌, ◌↔◌, List, [], ◌++◌, length, take, Some, None, Err, IfOk, IfErr, OnOk, MatchResult};
 ghost use Rattle.octet_core.specs.Grammar.{Refuses, whole};
 ghost use Rattle.octet_core.specs.declared.stop.Refused.TheVariants as refused;
-ghost use Rattle.tlv_core.specs.declared.reason.Refusal.{Refusal};
+ghost use Rattle.octet_core.specs.declared.stop.Refusal.{Refusal};
+ghost use Rattle.tlv_core.specs.declared.reason.TlvReason.{TlvReason};
 ghost use Rattle.tlv_core.specs.Forest.{IsForest};
 ghost use Rattle.tlv_core.specs.Reasons.{IsReason};
 
 use crate::forest::Forest;
 use crate::partial::Partial;
 use crate::progress::Progress;
-use crate::reason::{Refusal, TlvReason};
-use octet_core::{Refused, Stop};
+use crate::reason::TlvReason;
+use octet_core::{Refusal, Refused, Stop};
 use std::alloc::{AllocError, Global};
 use std::fmt::{self, Debug, Formatter, Write};
 use std::marker::Model;
@@ -24,7 +25,7 @@ use std::marker::Model;
 pub struct ForestReader {
     progress: Progress,
     tree: Partial,
-    refusal: Option<Refusal>,
+    refusal: Option<Refusal<TlvReason>>,
 }
 
 impl Model for ForestReader {
@@ -67,7 +68,7 @@ impl ForestReader {
     /// fed, and never `Short`; from then on each call takes no octet and answers the same.
     pub fn feed(&mut self, piece: &[u8]) -> Result<(), (usize, Refused<TlvReason>)>
         ensures limit { self.new.kept.max ≡ self.old.kept.max }
-        ensures repeats { (refusal : Refusal) → self.old.refusal ≡ Some refusal
+        ensures repeats { (refusal : Refusal TlvReason) → self.old.refusal ≡ Some refusal
             → (result ≡ Err (0, refused.Stop (stop_of refusal))) × (self.new ≡ self.old) }
         ensures taken { (b : List ℕ) → HasRead b self.old
             → OnOk result (HasRead (b ++ piece.now) self.new) }
@@ -91,7 +92,7 @@ impl ForestReader {
     /// That no more octets come: the forest that the octets taken spell, the refusal that is kept, or
     /// `Short` at their end.
     pub fn finish(self) -> Result<Forest, Stop<TlvReason>>
-        ensures repeats { (refusal : Refusal) → self.refusal ≡ Some refusal
+        ensures repeats { (refusal : Refusal TlvReason) → self.refusal ≡ Some refusal
             → result ≡ Err (stop_of refusal) }
         ensures verdict { (b : List ℕ) → HasRead b self
             → MatchResult result (λ forest. IsForest self.kept.max forest b)

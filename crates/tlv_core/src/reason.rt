@@ -1,9 +1,6 @@
 //! Why octets are refused.
 
-ghost use Rattle.std.specs.Prelude.{◌≡◌};
-ghost use Rattle.octet_core.specs.declared.stop.Stop.TheVariants.{At};
-
-use octet_core::{Named, Stop};
+use octet_core::Named;
 use std::error::Error;
 use std::fmt::{self, Display, Formatter, Write};
 
@@ -95,24 +92,3 @@ impl Display for DolReason {
 }
 
 impl Error for DolReason {}
-
-/// The refusal of an octet of a forest that comes in pieces.
-#[derive(Clone, Copy, Debug, PartialEq, Eq)]
-pub(crate) struct Refusal {
-    /// The place of the octet, counted from the first one ever fed.
-    pub(crate) place: usize,
-    /// Why it is refused.
-    pub(crate) reason: TlvReason,
-}
-
-impl Refusal {
-    /// The refusal as it is answered.
-    pub(crate) fn stop(self) -> Stop<TlvReason>
-        ensures { result ≡ At self.place self.reason }
-    {
-        Stop::At {
-            place: self.place,
-            reason: self.reason,
-        }
-    }
-}

@@ -4,7 +4,8 @@ use Rattle.octet_core.specs.Octets.{AreOctets}
 use Rattle.octet_core.specs.Grammar.{IsFirst, Refuses, whole}
 use Rattle.octet_core.specs.declared.stop.Stop.TheVariants.{At}
 use Rattle.tlv_core.specs.declared.header.ObjectHeader.{ObjectHeader}
-use Rattle.tlv_core.specs.declared.reason.Refusal.{Refusal}
+use Rattle.octet_core.specs.declared.stop.Refusal.{Refusal}
+use Rattle.tlv_core.specs.declared.reason.TlvReason.{TlvReason}
 use Rattle.tlv_core.specs.declared.progress.Progress.{Progress}
 use Rattle.tlv_core.specs.Forest.{IsForest}
 use Rattle.tlv_core.specs.Parts.{Placed}
@@ -170,7 +171,7 @@ returns-in-Err-clause-err c h =
     err.1 in
     let stop : At k.count c.in-Err.reason ≡ c.stop.result =
     ap (λ (p : Progress). At p.count c.in-Err.reason) (sym err.0)
-    ∙ ap (λ (r : Refusal). At r.place r.reason) (sym c.refusal.ensures) ∙ sym c.stop.ensures in
+    ∙ ap (λ (r : Refusal TlvReason). At r.place r.reason) (sym c.refusal.ensures) ∙ sym c.stop.ensures in
     let refused : Refuses whole (IsForest k.max) (IsReason k.max) b c.stop.result =
     subst (Refuses whole (IsForest k.max) (IsReason k.max) b) stop
     (flat_refused b k parts c.in-Err.reason less z first

@@ -1,7 +1,8 @@
 use Rattle.std.proofs.Common.{◌≡◌, ◌-◌, ◌++◌, ◌∙◌, refl, sym, subst, ap, take, drop, length}
 use Rattle.octet_core.specs.Grammar.{RefusesAt, whole}
 use Rattle.octet_core.specs.declared.stop.Stop.TheVariants.{At}
-use Rattle.tlv_core.specs.declared.reason.Refusal.{Refusal}
+use Rattle.octet_core.specs.declared.stop.Refusal.{Refusal}
+use Rattle.tlv_core.specs.declared.reason.TlvReason.{TlvReason}
 use Rattle.tlv_core.specs.declared.progress.Progress.{Progress}
 use Rattle.tlv_core.specs.Forest.{IsForest}
 use Rattle.tlv_core.specs.Reasons.{HasTaken, IsReason}
@@ -28,7 +29,7 @@ returns-in-Err-clause-refused c b h =
     let err = c.in-Err.ensures.err in
     let stop : At l.self.progress.count c.in-Err.reason ≡ c.stop-in-Err.result =
     ap (λ (p : Progress). At p.count c.in-Err.reason) (sym err.0)
-    ∙ ap (λ (r : Refusal). At r.place r.reason) (sym c.refusal-in-Err.ensures) ∙ sym c.stop-in-Err.ensures in
+    ∙ ap (λ (r : Refusal TlvReason). At r.place r.reason) (sym c.refusal-in-Err.ensures) ∙ sym c.stop-in-Err.ensures in
     subst (RefusesAt whole (IsForest before.max) (IsReason before.max) (b ++ piece)) stop
     (fed_refused before (kept_of l.self.progress) piece (take (length piece - l.taken) (drop l.taken piece)) l.taken
     c.in-Err.reason b l.invariant.0 c.loop-taken-test.true (rest_of piece l.taken) err.1 err.2 h.taken)

@@ -6,7 +6,8 @@ use Rattle.octet_core.specs.Grammar.{RefusesAt, whole}
 use Rattle.octet_core.specs.declared.stop.Stop.TheVariants.{At}
 use Rattle.octet_core.proofs.Lists.{octets-take}
 use Rattle.tlv_core.specs.declared.progress.Progress.{Progress}
-use Rattle.tlv_core.specs.declared.reason.Refusal.{Refusal}
+use Rattle.octet_core.specs.declared.stop.Refusal.{Refusal}
+use Rattle.tlv_core.specs.declared.reason.TlvReason.{TlvReason}
 use Rattle.tlv_core.specs.Forest.{IsForest}
 use Rattle.tlv_core.specs.Progress.{kept_of}
 use Rattle.tlv_core.specs.Reasons.{Kept, IsReason}
@@ -158,9 +159,9 @@ returns-in-Err-clause-err c b h =
     let r = c.refusal-refusal.result in
     let stop : At k.count c.in-Err.reason ≡ c.stop.result =
     ap (λ (q : Progress). At q.count c.in-Err.reason) (sym err.0)
-    ∙ ap (λ (q : Refusal). At q.place q.reason) (sym c.refusal-refusal.ensures) ∙ sym c.stop.ensures in
+    ∙ ap (λ (q : Refusal TlvReason). At q.place q.reason) (sym c.refusal-refusal.ensures) ∙ sym c.stop.ensures in
     let max : k.max ≡ c.args.self.now.kept.max = ap (λ (q : Reading). q.kept.max) c.self.view_is in
-    let place : r.place ≡ length b + 0 = ap (λ (q : Refusal). q.place) c.refusal-refusal.ensures
+    let place : r.place ≡ length b + 0 = ap (λ (q : Refusal TlvReason). q.place) c.refusal-refusal.ensures
     ∙ ap (λ (q : Progress). q.count) err.0 ∙ sym o.begun.taken.count ∙ omega arith in
     let same : reading_of p c.self.inside.tree (Some r) ≡ reading_of c.take.new.self c.reserve.new.self (Some r) =
     ap (λ (q : Progress). reading_of q c.self.inside.tree (Some r)) (sym err.0)
