@@ -4,7 +4,10 @@ use Rattle.std.proofs.lemmas.Bool.{cases_lt, cases_eq}
 use Rattle.std.proofs.lemmas.List.{take_more, take_all}
 use Rattle.octet_core.specs.Octets.{AreOctets}
 use Rattle.octet_core.specs.Grammar.{whole, Begins, Accepts, IsFirst, Refuses}
-use Rattle.tlv_core.specs.Tag.{IsTag, IsLong}
+use Rattle.tlv_core.specs.Tag.{IsTag}
+use Rattle.tlv_core.specs.TagPart.{part_octets, IsTagPart}
+use Rattle.tlv_core.specs.declared.tag_part.TagPart.{TagPart}
+use Rattle.tlv_core.specs.declared.tag_part.TagPart.TheVariants.{Nothing, First, Second, Tagged}
 use Rattle.tlv_core.specs.Dol.{entry_octets, AreEntries, dol_spelling, IsDol, IsBegunEntry, IsWrongEntry, MeetsEntry, IsDolReason, DolVerdict, dol_reasons}
 use Rattle.tlv_core.specs.declared.form.Form.TheVariants.{One}
 use Rattle.tlv_core.specs.declared.reason.DolReason.{DolReason}
@@ -127,25 +130,7 @@ one_entry_reason r s b h g =
 
 -- ---- some verdict
 
-pub data Part : Type 0 where
-  Nothing : Part
-  First : (x : ℕ) → Part
-  Second : (x y : ℕ) → Part
-  Tagged : (tag : List ℕ) → Part
-
-abbrev pub part_octets : Part → List ℕ
-part_octets Nothing = []
-part_octets (First x) = x ∷ []
-part_octets (Second x y) = x ∷ y ∷ []
-part_octets (Tagged tag) = tag
-
-abbrev pub IsPart : Part → Type 0
-IsPart Nothing = Unit {0}
-IsPart (First x) = (x < 256) × IsLong x
-IsPart (Second x y) = (x < 256) × IsLong x × (128 < y) × (y < 256)
-IsPart (Tagged tag) = IsTag tag
-
-part_begun : (p : Part) → IsPart p → IsBegunEntry (part_octets p)
+part_begun : (p : TagPart) → IsTagPart p → IsBegunEntry (part_octets p)
 part_begun Nothing h = begun_nil
 part_begun (First x) h = record {
   entry = (x ∷ 1 ∷ [], 0);
@@ -168,8 +153,8 @@ part_begun (Tagged tag) h = record { entry = (tag, 0); next = 0; more = []; is_t
 pub record Stands (b : List ℕ) : Type 0 where
   pub done : List Entry
   pub each : AreEntries done
-  pub part : Part
-  pub ok : IsPart part
+  pub part : TagPart
+  pub ok : IsTagPart part
   pub is : b ≡ dol_spelling done ++ part_octets part
 
 pub entries_append : (es : List Entry) (e : Entry) → AreEntries es → IsTag e.0 → e.1 < 256 → AreEntries (es ++ e ∷ [])
@@ -194,7 +179,7 @@ begins_with b done e h more each tag lt is q = (
   },
 )
 
-pub begins_of : (p : Part) (b : List ℕ) (done : List Entry) → AreEntries done → IsPart p → b ≡ dol_spelling done
+pub begins_of : (p : TagPart) (b : List ℕ) (done : List Entry) → AreEntries done → IsTagPart p → b ≡ dol_spelling done
     ++ part_octets p → Begins IsDol b
 begins_of Nothing b done each ok is = (
   done,
@@ -211,8 +196,8 @@ begins_of (Tagged tag) b done each ok is = begins_with b done (tag, 0) tag (0 �
 pub stands_begins : (b : List ℕ) → Stands b → Begins IsDol b
 stands_begins b s = begins_of s.part b s.done s.each s.ok s.is
 
-goes_on : (b : List ℕ) (x : ℕ) (done : List Entry) (p q : Part) → AreEntries done → b ≡ dol_spelling done
-    ++ part_octets p → IsPart q → part_octets q ≡ part_octets p ++ x ∷ [] → Stands (b ++ x ∷ [])
+goes_on : (b : List ℕ) (x : ℕ) (done : List Entry) (p q : TagPart) → AreEntries done → b ≡ dol_spelling done
+    ++ part_octets p → IsTagPart q → part_octets q ≡ part_octets p ++ x ∷ [] → Stands (b ++ x ∷ [])
 goes_on b x done p q each is ok octets = record {
   done = done;
   each = each;
@@ -223,7 +208,7 @@ goes_on b x done p q each is ok octets = record {
       ∙ ap (λ (l : List ℕ). dol_spelling done ++ l) (sym octets);
 }
 
-step : (p : Part) (b : List ℕ) (x : ℕ) (done : List Entry) → AreEntries done → IsPart p → b ≡ dol_spelling done
+step : (p : TagPart) (b : List ℕ) (x : ℕ) (done : List Entry) → AreEntries done → IsTagPart p → b ≡ dol_spelling done
     ++ part_octets p → x < 256 → ((r : DolReason) → IsWrongEntry (part_octets p) x r → ⊥) → Stands (b ++ x ∷ [])
 step Nothing b x done each ok is lt none =
     elim (cases_eq x 0) [

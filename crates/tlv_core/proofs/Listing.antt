@@ -6,14 +6,14 @@ use Rattle.std.specs.Option.{ok_or}
 use Rattle.std.proofs.lemmas.List.{take_more}
 use Rattle.octet_core.specs.Grammar.{IsFirst, Refuses, whole}
 use Rattle.octet_core.specs.declared.stop.Stop.TheVariants.{At, Short}
-use Rattle.tlv_core.specs.declared.header.Header.{Header}
-use Rattle.tlv_core.specs.declared.header.Header.TheVariants as header
+use Rattle.tlv_core.specs.declared.tag_part.TagPart.{TagPart}
+use Rattle.tlv_core.specs.declared.tag_part.TagPart.TheVariants as part
 use Rattle.tlv_core.specs.declared.reason.DolReason.{DolReason}
 use Rattle.tlv_core.specs.declared.reason.DolReason.TheVariants.{TagZero, TagSecond, TagLong}
 use Rattle.tlv_core.specs.Tag.{IsTag, IsLong}
-use Rattle.tlv_core.specs.Header.{header_octets, IsTagPart}
-use Rattle.tlv_core.specs.Dol.{entry_octets, AreEntries, dol_spelling, IsDol, IsWrongEntry, IsDolReason, dol_reasons}
-use Rattle.tlv_core.proofs.Entries.{Entry, Part, Nothing, First, Second, Tagged, part_octets, IsPart, Stands, entries_append, spelling_append, refuses_at, short_entry}
+use Rattle.tlv_core.specs.TagPart.{part_octets, IsTagPart}
+use Rattle.tlv_core.specs.Dol.{entry_octets, AreEntries, dol_spelling, IsDol, IsPartAfter, IsWrongEntry, IsDolReason, dol_reasons}
+use Rattle.tlv_core.proofs.Entries.{Entry, Stands, entries_append, spelling_append, refuses_at, short_entry}
 
 -- ---- the line of the table
 
@@ -40,89 +40,79 @@ line_third a b x h e long more z = subst (λ (l : List ℕ). IsFirst dol_reasons
 
 -- ---- octet by octet
 
-abbrev part_of : Header → Part
-part_of header.Nothing = Nothing
-part_of (header.First a) = First a
-part_of (header.Second a b) = Second a b
-part_of (header.Tagged g) = Tagged g
-part_of (header.Sized g f read number) = Nothing
-
-part_is : (h : Header) → IsTagPart h → IsPart (part_of h) × (part_octets (part_of h) ≡ header_octets h)
-part_is header.Nothing ok = (tt, refl)
-part_is (header.First a) ok = (ok, refl)
-part_is (header.Second a b) ok = (ok, refl)
-part_is (header.Tagged g) ok = (ok, refl)
-part_is (header.Sized g f read number) ok = absurd ok
-
 -- these octets are these entries, and then this part of a tag
-pub record Listing (b : List ℕ) (entries : List Entry) (h : Header) : Type 0 where
+pub record Listing (b : List ℕ) (entries : List Entry) (p : TagPart) : Type 0 where
   pub each : AreEntries entries
-  pub part : IsTagPart h
-  pub is : b ≡ dol_spelling entries ++ header_octets h
+  pub part : IsTagPart p
+  pub is : b ≡ dol_spelling entries ++ part_octets p
 
-abbrev stands_of : (b : List ℕ) (entries : List Entry) (h : Header) → Listing b entries h → Stands b
-stands_of b entries h l = let p = part_is h l.part in
-    record {
-      done = entries;
-      each = l.each;
-      part = part_of h;
-      ok = p.0;
-      is =
-          l.is ∙ ap (λ (k : List ℕ). dol_spelling entries ++ k) (sym p.1);
-    }
+abbrev stands_of : (b : List ℕ) (entries : List Entry) (p : TagPart) → Listing b entries p → Stands b
+stands_of b entries p l = record { done = entries; each = l.each; part = p; ok = l.part; is = l.is }
 
--- the octet makes the part longer
-pub listing_longer : (b : List ℕ) (i : ℕ) (entries : List Entry) (h longer : Header) → i < length b
-    → Listing (take i b) entries h → IsTagPart longer → header_octets longer ≡ header_octets h ++ get_or b i 0 ∷ []
-    → Listing (take (i + 1) b) entries longer
-listing_longer b i entries h longer lt l part e =
-    record {
-      each = l.each;
-      part = part;
-      is =
-          take_more b i 0 lt ∙ ap (λ (k : List ℕ). k ++ get_or b i 0 ∷ []) l.is
-          ∙ append_assoc (dol_spelling entries) (header_octets h) (get_or b i 0 ∷ [])
-          ∙ ap (λ (k : List ℕ). dol_spelling entries ++ k) (sym e);
-    }
-
--- the octet is the length of an entry
-pub listing_entry : (b : List ℕ) (i : ℕ) (entries : List Entry) (tag : List ℕ) (h : Header) → h ≡ header.Tagged tag
-    → i < length b → get_or b i 0 < 256 → Listing (take i b) entries h
-    → Listing (take (i + 1) b) (entries ++ (tag, get_or b i 0) ∷ []) header.Nothing
-listing_entry b i entries tag h e lt small l =
+-- the octet is the length of an entry, which is pushed
+pub listing_pushed : (b : List ℕ) (i : ℕ) (old now : List Entry) (tag : List ℕ) (p next : TagPart) → i < length b
+    → get_or b i 0 < 256 → Listing (take i b) old p → p ≡ part.Tagged tag → now ≡ old ++ (tag, get_or b i 0) ∷ []
+    → IsPartAfter p (get_or b i 0) next → Listing (take (i + 1) b) now next
+listing_pushed b i old now tag p next lt small l e is after =
     let t : IsTag tag = subst IsTagPart e l.part in
-    let octets : header_octets h ≡ tag = ap header_octets e in
+    let octets : part_octets p ≡ tag = ap part_octets e in
+    let nothing : next ≡ part.Nothing = subst (λ (q : TagPart). IsPartAfter q (get_or b i 0) next) e after in
     let entry : Entry = (tag, get_or b i 0) in
-    record {
-      each = entries_append entries entry l.each t small;
+    subst (λ (k : List Entry). Listing (take (i + 1) b) k next) (sym is)
+    (subst (λ (q : TagPart). Listing (take (i + 1) b) (old ++ entry ∷ []) q) (sym nothing) (record {
+      each = entries_append old entry l.each t small;
       part = tt;
       is =
           take_more b i 0 lt ∙ ap (λ (k : List ℕ). k ++ get_or b i 0 ∷ []) l.is
-          ∙ append_assoc (dol_spelling entries) (header_octets h) (get_or b i 0 ∷ [])
-          ∙ ap (λ (k : List ℕ). dol_spelling entries ++ (k ++ get_or b i 0 ∷ [])) octets
-          ∙ sym (spelling_append entries entry) ∙ sym (append-nil (dol_spelling (entries ++ entry ∷ [])));
-    }
+          ∙ append_assoc (dol_spelling old) (part_octets p) (get_or b i 0 ∷ [])
+          ∙ ap (λ (k : List ℕ). dol_spelling old ++ (k ++ get_or b i 0 ∷ [])) octets
+          ∙ sym (spelling_append old entry) ∙ sym (append-nil (dol_spelling (old ++ entry ∷ [])));
+    }))
 
-pub listing_refused : (b : List ℕ) (i : ℕ) (entries : List Entry) (h : Header) (r : DolReason) → i < length b
-    → Listing (take i b) entries h → IsFirst dol_reasons (IsWrongEntry (header_octets h) (get_or b i 0)) r
+part_longer : (p : TagPart) (x : ℕ) (next : TagPart) → ((tag : List ℕ) → p ≡ part.Tagged tag → ⊥) → IsPartAfter p x next
+    → IsTagPart next × (part_octets next ≡ part_octets p ++ x ∷ [])
+part_longer part.Nothing x next more after = after
+part_longer (part.First a) x next more after = after
+part_longer (part.Second a b) x next more after = after
+part_longer (part.Tagged tag) x next more after = absurd (more tag refl)
+
+-- the octet makes the part longer
+pub listing_longer : (b : List ℕ) (i : ℕ) (old now : List Entry) (p next : TagPart) → i < length b
+    → Listing (take i b) old p → ((tag : List ℕ) → p ≡ part.Tagged tag → ⊥) → now ≡ old
+    → IsPartAfter p (get_or b i 0) next → Listing (take (i + 1) b) now next
+listing_longer b i old now p next lt l more is after =
+    let longer = part_longer p (get_or b i 0) next more after in
+    subst (λ (k : List Entry). Listing (take (i + 1) b) k next) (sym is) (record {
+      each = l.each;
+      part = longer.0;
+      is =
+          take_more b i 0 lt ∙ ap (λ (k : List ℕ). k ++ get_or b i 0 ∷ []) l.is
+          ∙ append_assoc (dol_spelling old) (part_octets p) (get_or b i 0 ∷ [])
+          ∙ ap (λ (k : List ℕ). dol_spelling old ++ k) (sym longer.1);
+    })
+
+pub listing_refused : (b : List ℕ) (i : ℕ) (entries : List Entry) (p : TagPart) (r : DolReason) → i < length b
+    → Listing (take i b) entries p → IsFirst dol_reasons (IsWrongEntry (part_octets p) (get_or b i 0)) r
     → Refuses whole IsDol IsDolReason b (At i r)
-listing_refused b i entries h r lt l first =
-    let p = part_is h l.part in
-    refuses_at i b r lt (stands_of (take i b) entries h l)
-    (subst (λ (k : List ℕ). IsFirst dol_reasons (IsWrongEntry k (get_or b i 0)) r) (sym p.1) first)
+listing_refused b i entries p r lt l first = refuses_at i b r lt (stands_of (take i b) entries p l) first
 
-pub listing_whole : (b : List ℕ) (entries : List Entry) (h : Header) → Listing b entries h → header_octets h ≡ []
+pub listing_whole : (b : List ℕ) (entries : List Entry) (p : TagPart) → Listing b entries p → p ≡ part.Nothing
     → IsDol entries b
-listing_whole b entries h l e = record {
+listing_whole b entries p l e = record {
   each = l.each;
   is =
-      l.is ∙ ap (λ (k : List ℕ). dol_spelling entries ++ k) e ∙ append-nil (dol_spelling entries);
+      l.is ∙ ap (λ (q : TagPart). dol_spelling entries ++ part_octets q) e ∙ append-nil (dol_spelling entries);
 }
 
-pub listing_short : (b : List ℕ) (entries : List Entry) (h : Header) → Listing b entries h → (header_octets h ≡ [] → ⊥)
+not_nil : (p : TagPart) → IsTagPart p → (p ≡ part.Nothing → ⊥) → part_octets p ≡ [] → ⊥
+not_nil part.Nothing ok some e = some refl
+not_nil (part.First a) ok some e = cc
+not_nil (part.Second a b) ok some e = cc
+not_nil (part.Tagged tag) ok some e = subst IsTag e ok
+
+pub listing_short : (b : List ℕ) (entries : List Entry) (p : TagPart) → Listing b entries p → (p ≡ part.Nothing → ⊥)
     → Refuses whole IsDol IsDolReason b (Short (length b))
-listing_short b entries h l some = let p =
-    part_is h l.part in short_entry b (stands_of b entries h l) (λ e. some (sym p.1 ∙ e))
+listing_short b entries p l some = short_entry b (stands_of b entries p l) (not_nil p l.part some)
 
 -- ---- entry by entry
 
@@ -149,20 +139,3 @@ pub pushed : (ok failed : Bool) (old now : List Entry) (e : Entry) → now ≡ c
     → failed ≡ false → now ≡ old ++ e ∷ []
 pushed true failed old now e is n f = is
 pushed false failed old now e is n f = absurd (false≢true (n ∙ ap not f))
-
--- an entry is pushed
-pub listing_pushed : (b : List ℕ) (i : ℕ) (old now : List Entry) (tag : List ℕ) (h next : Header) → now ≡ old
-    ++ (tag, get_or b i 0) ∷ [] → next ≡ header.Nothing → h ≡ header.Tagged tag → i < length b → get_or b i 0 < 256
-    → Listing (take i b) old h → Listing (take (i + 1) b) now next
-listing_pushed b i old now tag h next is e t lt small l =
-    subst (λ (j : Header). Listing (take (i + 1) b) now j) (sym e)
-    (subst (λ (k : List Entry). Listing (take (i + 1) b) k header.Nothing) (sym is)
-    (listing_entry b i old tag h t lt small l))
-
-pub listing_kept : (b : List ℕ) (i : ℕ) (old now : List Entry) (h longer next : Header) → now ≡ old → next ≡ longer
-    → i < length b → Listing (take i b) old h → IsTagPart longer → header_octets longer ≡ header_octets h
-    ++ get_or b i 0 ∷ [] → Listing (take (i + 1) b) now next
-listing_kept b i old now h longer next is e lt l part q =
-    subst (λ (j : Header). Listing (take (i + 1) b) now j) (sym e)
-    (subst (λ (k : List Entry). Listing (take (i + 1) b) k longer) (sym is)
-    (listing_longer b i old h longer lt l part q))

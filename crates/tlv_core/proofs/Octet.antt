@@ -1,12 +1,15 @@
 -- What one octet makes of a header.
-use Rattle.std.proofs.Common.{◌≡◌, ℕ, ◌+◌, ◌*◌, ◌/◌, ◌%◌, ◌^◌, ◌<◌, ◌≤◌, List, [], ◌∷◌, ◌++◌, refl, sym, ap, ◌∙◌, inl, inr, arith, suc, zero, append_assoc}
+use Rattle.std.proofs.Common.{◌≡◌, ℕ, ◌+◌, ◌*◌, ◌/◌, ◌%◌, ◌^◌, ◌<◌, ◌≤◌, List, [], ◌∷◌, ◌++◌, refl, sym, ap, subst, ◌∙◌, inl, inr, arith, suc, zero, append_assoc}
 use Rattle.std.proofs.lemmas.Nat.{pow-add, div-mul-add, mod-mul-add, div-add-mod', mod_below}
 use Rattle.octet_core.specs.Grammar.{IsFirst}
 use Rattle.tlv_core.specs.declared.form.Form.{Form}
 use Rattle.tlv_core.specs.declared.reason.TlvReason.TheVariants.{TagSecond, TagLong, LengthForm}
+use Rattle.tlv_core.specs.declared.tag_part.TagPart.{TagPart}
+use Rattle.tlv_core.specs.declared.tag_part.TagPart.TheVariants as part
 use Rattle.tlv_core.specs.declared.header.Header.{Header}
-use Rattle.tlv_core.specs.declared.header.Header.TheVariants as header
-use Rattle.tlv_core.specs.Header.{IsWell, IsTagPart}
+use Rattle.tlv_core.specs.declared.header.Next.TheVariants as next
+use Rattle.tlv_core.specs.TagPart.{part_octets, IsTagPart}
+use Rattle.tlv_core.specs.Header.{header_octets, header_from, IsWell, IsNext}
 use Rattle.tlv_core.specs.Number.{high_first}
 use Rattle.tlv_core.specs.Form.{further, capacity}
 use Rattle.tlv_core.specs.Tag.{IsTag, IsLong, header_of}
@@ -119,9 +122,15 @@ number_fits read left number le h =
     omega (arith, mul-lt number (256 ^ read) (256 ^ left) h (pow256 left), power, pow_up (read + left) 4 le)
 
 -- a part of a tag is a part of a header
-pub part_well : (longer : Header) → IsTagPart longer → IsWell longer
-part_well header.Nothing h = tt
-part_well (header.First a) h = h
-part_well (header.Second a b) h = h
-part_well (header.Tagged g) h = h
-part_well (header.Sized g f read number) h = absurd h
+pub part_well : (p : TagPart) → IsTagPart p → IsWell (header_from p) × (header_octets (header_from p) ≡ part_octets p)
+part_well part.Nothing h = (tt, refl)
+part_well (part.First a) h = (h, refl)
+part_well (part.Second a b) h = (h, refl)
+part_well (part.Tagged g) h = (h, refl)
+
+-- so what is made of its octets is what comes next
+pub part_next : (h : List ℕ) (x : ℕ) (p : TagPart) (longer : Header) → IsTagPart p → part_octets p ≡ h ++ x ∷ []
+    → longer ≡ header_from p → IsNext h x (next.Under longer)
+part_next h x p longer part q e =
+    let well = part_well p part in
+    subst (λ (k : Header). IsNext h x (next.Under k)) (sym e) (well.0, well.1 ∙ q)

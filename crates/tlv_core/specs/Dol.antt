@@ -2,6 +2,9 @@
 use Rattle.std.specs.Prelude.{◌≡◌, ℕ, ◌%◌, ◌<◌, ◌≤◌, List, [], ◌∷◌, ◌++◌}
 use Rattle.octet_core.specs.Grammar.{IsFirst, OneVerdict, whole}
 use Rattle.tlv_core.specs.Tag.{IsTag}
+use Rattle.tlv_core.specs.TagPart.{part_octets, IsTagPart}
+use Rattle.tlv_core.specs.declared.tag_part.TagPart.{TagPart}
+use Rattle.tlv_core.specs.declared.tag_part.TagPart.TheVariants as part
 use Rattle.tlv_core.specs.Reasons.{AwaitsSecond, AwaitsThird}
 use Rattle.tlv_core.specs.declared.reason.DolReason.{DolReason}
 use Rattle.tlv_core.specs.declared.reason.DolReason.TheVariants.{TagZero, TagSecond, TagLong}
@@ -40,6 +43,11 @@ IsWrongEntry h x TagLong = AwaitsThird h × (128 ≤ x)
 -- the lines of the table, in their order
 abbrev pub dol_reasons : List DolReason
 dol_reasons = TagZero ∷ TagSecond ∷ TagLong ∷ []
+
+-- what the octet x leaves of a part of an entry: nothing where that is a whole tag, else a longer part
+abbrev pub IsPartAfter : TagPart → ℕ → TagPart → Type 0
+IsPartAfter (part.Tagged tag) x next = next ≡ part.Nothing
+IsPartAfter begun x next = IsTagPart next × (part_octets next ≡ part_octets begun ++ x ∷ [])
 
 -- b is whole entries, a part of one, and an octet
 pub record EndsInEntry (b : List ℕ) : Type 0 where

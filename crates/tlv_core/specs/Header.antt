@@ -5,6 +5,8 @@ use Rattle.tlv_core.specs.declared.header.ObjectHeader.{ObjectHeader}
 use Rattle.tlv_core.specs.Number.{high_first}
 use Rattle.tlv_core.specs.Form.{further, capacity}
 use Rattle.tlv_core.specs.Tag.{IsTag, IsLong, header_of}
+use Rattle.tlv_core.specs.declared.tag_part.TagPart.{TagPart}
+use Rattle.tlv_core.specs.declared.tag_part.TagPart.TheVariants as part
 use Rattle.tlv_core.specs.declared.header.Header.{Header}
 use Rattle.tlv_core.specs.declared.header.Header.TheVariants as header
 use Rattle.tlv_core.specs.declared.header.Next.{Next}
@@ -26,13 +28,12 @@ IsWell (header.Second first second) = (first < 256) × IsLong first × (128 < se
 IsWell (header.Tagged tag) = IsTag tag
 IsWell (header.Sized tag form read number) = IsTag tag × (read < further form) × (number < 256 ^ read)
 
--- and no octet of a length field is among them
-abbrev pub IsTagPart : Header → Type 0
-IsTagPart header.Nothing = Unit {0}
-IsTagPart (header.First first) = (first < 256) × IsLong first
-IsTagPart (header.Second first second) = (first < 256) × IsLong first × (128 < second) × (second < 256)
-IsTagPart (header.Tagged tag) = IsTag tag
-IsTagPart (header.Sized tag form read number) = ⊥
+-- the header of which these are the first octets
+abbrev pub header_from : TagPart → Header
+header_from part.Nothing = header.Nothing
+header_from (part.First first) = header.First first
+header_from (part.Second first second) = header.Second first second
+header_from (part.Tagged tag) = header.Tagged tag
 
 -- what the octet x makes of a part h of a header: a filler, a longer part, or a whole header
 abbrev pub IsNext : List ℕ → ℕ → Next → Type 0

@@ -2,6 +2,7 @@ pub mod Number
 pub mod Form
 pub mod Tag
 pub mod TagView
+pub mod TagPart
 pub mod Tree
 pub mod Nodes
 pub mod NodesFall

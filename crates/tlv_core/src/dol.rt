@@ -2,14 +2,13 @@
 
 ghost use Rattle.std.specs.Prelude.{◌≡◌, ℕ, ◌<◌, ◌++◌, ◌∷◌, [], List, length, IfOk, IfErr, OnOk};
 ghost use Rattle.octet_core.specs.Grammar.{Accepts, RefusesUnlessMemory, IsFirst, whole};
-ghost use Rattle.tlv_core.specs.Header.{header_octets, IsTagPart};
-ghost use Rattle.tlv_core.specs.declared.header.Header.TheVariants.{Tagged, Sized};
+ghost use Rattle.tlv_core.specs.TagPart.{part_octets, IsTagPart};
 ghost use Rattle.tlv_core.specs.Tag.{IsTag};
-ghost use Rattle.tlv_core.specs.Dol.{IsDol, IsDolReason, IsWrongEntry, dol_reasons};
+ghost use Rattle.tlv_core.specs.Dol.{IsDol, IsDolReason, IsPartAfter, IsWrongEntry, dol_reasons};
 
-use crate::header::{Header, tag_first, tag_second, tag_third};
 use crate::reason::DolReason;
 use crate::tag::Tag;
+use crate::tag_part::{TagPart, tag_first, tag_second, tag_third};
 use octet_core::{Refused, Stop};
 use std::alloc::{AllocError, Global};
 use std::marker::Model;
@@ -52,21 +51,19 @@ impl Dol {
         ensures refused { IfErr result (RefusesUnlessMemory whole IsDol IsDolReason octets.now) }
     {
         let mut entries = Vec::new(alloc);
-        let mut header = Header::Nothing;
+        let mut part = TagPart::Nothing;
         for (place, octet) in octets.iter().enumerate() {
-            if let Header::Tagged(tag) = header {
+            if let TagPart::Tagged(tag) = part {
                 if entries.push((tag, *octet)).is_err() {
                     return Err(Refused::Memory);
                 }
-                header = Header::Nothing;
-            } else {
-                match tag_next(header, *octet) {
-                    Ok(longer) => header = longer,
-                    Err(reason) => return Err(Refused::Stop(Stop::At { place, reason })),
-                }
+            }
+            match entry_next(part, *octet) {
+                Ok(next) => part = next,
+                Err(reason) => return Err(Refused::Stop(Stop::At { place, reason })),
             }
         }
-        if header.is_nothing() {
+        if let TagPart::Nothing = part {
             return Ok(Dol { entries });
         }
         Err(Refused::Stop(Stop::Short {
@@ -120,20 +117,19 @@ fn append_entry(out: &mut Vec<u8>, tag: &Tag, length: u8) -> Result<(), AllocErr
     Ok(())
 }
 
-/// What the octet makes of a part of a tag, or why it is refused.
-fn tag_next(header: Header, octet: u8) -> Result<Header, DolReason>
-    requires part { IsTagPart header }
-    requires open { (tag : List ℕ) → header ≡ Tagged tag → ⊥ }
-    ensures ok { IfOk result (λ longer. IsTagPart longer
-        × (header_octets longer ≡ header_octets header ++ octet ∷ [])) }
-    ensures err { IfErr result (IsFirst dol_reasons (IsWrongEntry (header_octets header) octet)) }
+/// What is under way after the octet, or why it is refused. The octet after a tag is its length, and then
+/// nothing is.
+fn entry_next(part: TagPart, octet: u8) -> Result<TagPart, DolReason>
+    requires { IsTagPart part }
+    ensures ok { IfOk result (IsPartAfter part octet) }
+    ensures err { IfErr result (IsFirst dol_reasons (IsWrongEntry (part_octets part) octet)) }
 {
-    match header {
-        Header::Nothing => tag_first(octet).ok_or(DolReason::TagZero),
-        Header::First(first) => tag_second(first, octet).ok_or(DolReason::TagSecond),
-        Header::Second(first, second) => {
+    match part {
+        TagPart::Nothing => tag_first(octet).ok_or(DolReason::TagZero),
+        TagPart::First(first) => tag_second(first, octet).ok_or(DolReason::TagSecond),
+        TagPart::Second(first, second) => {
             tag_third(first, second, octet).ok_or(DolReason::TagLong)
         }
-        Header::Tagged(_) | Header::Sized { .. } => unreachable!(),
+        TagPart::Tagged(_) => Ok(TagPart::Nothing),
     }
 }

@@ -5,11 +5,12 @@ ghost use Rattle.octet_core.specs.Grammar.{IsFirst};
 ghost use Rattle.tlv_core.specs.Tag.{IsTag, IsLong};
 ghost use Rattle.tlv_core.specs.Form.{further};
 ghost use Rattle.tlv_core.specs.Reasons.{IsWrong, octet_reasons};
-ghost use Rattle.tlv_core.specs.Header.{header_octets, IsWell, IsTagPart, IsNext, header_need, next_need, IsWellNext, header_in, object_in};
+ghost use Rattle.tlv_core.specs.Header.{header_octets, IsWell, IsNext, header_from, header_need, next_need, IsWellNext, header_in, object_in};
 
 use crate::form::Form;
 use crate::reason::TlvReason;
 use crate::tag::{Tag, is_long, is_tag};
+use crate::tag_part::{TagPart, tag_first, tag_second, tag_third};
 
 /// The octets of a header so far.
 #[derive(Clone, Copy, Debug)]
@@ -53,6 +54,18 @@ pub(crate) struct ObjectHeader {
 }
 
 impl Header {
+    /// The header of which these are the first octets.
+    fn of(part: TagPart) -> Header
+        ensures { result ≡ header_from part }
+    {
+        match part {
+            TagPart::Nothing => Header::Nothing,
+            TagPart::First(first) => Header::First(first),
+            TagPart::Second(first, second) => Header::Second(first, second),
+            TagPart::Tagged(tag) => Header::Tagged(tag),
+        }
+    }
+
     /// Whether they are a part of a header, of the kind that is said.
     pub(crate) fn is_well(&self) -> bool
         ensures yes { result ≡ true → IsWell self.now }
@@ -160,55 +173,12 @@ impl Next {
     }
 }
 
-/// The first octet of a tag, unless it is 00.
-pub(crate) fn tag_first(octet: u8) -> Option<Header>
-    ensures { MatchOption result (octet ≡ 0)
-        (λ longer. IsTagPart longer × (header_octets longer ≡ octet ∷ [])) }
-{
-    if octet == 0 {
-        None
-    } else if is_long(octet) {
-        Some(Header::First(octet))
-    } else {
-        Some(Header::Tagged(Tag::of(&[octet])))
-    }
-}
-
-/// The second octet of a tag, unless its low seven bits are all 0.
-pub(crate) fn tag_second(first: u8, octet: u8) -> Option<Header>
-    requires { IsLong first }
-    ensures { MatchOption result (octet % 128 ≡ 0)
-        (λ longer. IsTagPart longer × (header_octets longer ≡ first ∷ octet ∷ [])) }
-{
-    if octet % 0x80 == 0 {
-        None
-    } else if octet < 0x80 {
-        Some(Header::Tagged(Tag::of(&[first, octet])))
-    } else {
-        Some(Header::Second(first, octet))
-    }
-}
-
-/// The third octet of a tag, unless a fourth would follow.
-pub(crate) fn tag_third(first: u8, second: u8, octet: u8) -> Option<Header>
-    requires long { IsLong first }
-    requires more { 128 < second }
-    ensures { MatchOption result (128 ≤ octet)
-        (λ longer. IsTagPart longer × (header_octets longer ≡ first ∷ second ∷ octet ∷ [])) }
-{
-    if octet < 0x80 {
-        Some(Header::Tagged(Tag::of(&[first, second, octet])))
-    } else {
-        None
-    }
-}
-
 /// A filler, or the first tag octet of an object.
 fn after_nothing(octet: u8) -> Next
     ensures { IsNext [] octet result }
 {
     match tag_first(octet) {
-        Some(longer) => Next::Under(longer),
+        Some(longer) => Next::Under(Header::of(longer)),
         None => Next::Filler,
     }
 }
@@ -220,7 +190,7 @@ fn after_first(first: u8, octet: u8) -> Result<Next, TlvReason>
     ensures err { IfErr result (IsFirst octet_reasons (IsWrong 0 0 (first ∷ []) octet)) }
 {
     match tag_second(first, octet) {
-        Some(longer) => Ok(Next::Under(longer)),
+        Some(longer) => Ok(Next::Under(Header::of(longer))),
         None => Err(TlvReason::TagSecond),
     }
 }
@@ -233,7 +203,7 @@ fn after_second(first: u8, second: u8, octet: u8) -> Result<Next, TlvReason>
     ensures err { IfErr result (IsFirst octet_reasons (IsWrong 0 0 (first ∷ second ∷ []) octet)) }
 {
     match tag_third(first, second, octet) {
-        Some(longer) => Ok(Next::Under(longer)),
+        Some(longer) => Ok(Next::Under(Header::of(longer))),
         None => Err(TlvReason::TagLong),
     }
 }

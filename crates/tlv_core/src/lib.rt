@@ -30,6 +30,7 @@ mod short;
 pub mod spelling;
 mod survey;
 pub mod tag;
+mod tag_part;
 pub mod tidying;
 
 pub use check::ForestCheck;

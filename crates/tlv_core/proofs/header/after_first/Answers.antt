@@ -1,8 +1,11 @@
-use Rattle.tlv_core.proofs.Octet.{first_second, part_well}
+use Rattle.std.proofs.Common.{[], ◌∷◌}
+use Rattle.tlv_core.proofs.Octet.{first_second, part_next}
 use Rattle.tlv_core.proofs.header.after_first.Goals as goal
 
 pub returns-in-Some-clause-ok : goal.returns-in-Some-clause-ok
-returns-in-Some-clause-ok c = (part_well c.in-Some.longer c.in-Some.ensures.0, c.in-Some.ensures.1)
+returns-in-Some-clause-ok c =
+    part_next (c.args.first ∷ []) c.args.octet c.in-Some.longer c.of.result c.in-Some.ensures.0 c.in-Some.ensures.1
+    c.of.ensures
 
 pub returns-in-None-clause-err : goal.returns-in-None-clause-err
 returns-in-None-clause-err c = first_second c.args.first c.args.octet c.requires c.in-None.ensures
