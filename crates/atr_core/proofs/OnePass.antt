@@ -1,16 +1,19 @@
 -- A whole answer to reset, read in one pass: the parts that were read are those of the answer with which the octets begin.
-use Rattle.std.proofs.Common.{◌≡◌, ℕ, ◌-◌, ◌%◌, ◌≤◌, ◌++◌, List, [], ◌∷◌, length, take, drop, get_or, refl, sym, ap, ◌∙◌, arith, option_to_list, append_assoc, Bool, true, false}
-use Rattle.std.proofs.lemmas.List.{append-nil, length-append}
+use Rattle.std.proofs.Common.{◌≡◌, ℕ, ◌+◌, ◌-◌, ◌%◌, ◌≤◌, ◌++◌, List, [], ◌∷◌, length, take, drop, get_or, refl, sym, ap, ◌∙◌, arith, Option, Some, None, option_to_list, append_assoc, Bool, true, false, not, ◌||◌, ◌==◌}
+use Rattle.std.proofs.lemmas.List.{append-nil, length-append, length-take, length-drop, drop-drop, take-append-drop}
 use Rattle.std.proofs.Math.Seq.{take-append_seam, take-length}
 use Rattle.octet_core.specs.Octets.{AreOctets}
 use Rattle.octet_core.specs.Grammar.{Accepts, self_ended}
 use Rattle.octet_core.proofs.Lists.{octets-take}
+use Rattle.atr_core.specs.declared.atr.Convention.{Convention}
 use Rattle.atr_core.specs.declared.atr.Interface.{Interface}
 use Rattle.atr_core.specs.declared.atr.Indicated.{Indicated}
-use Rattle.atr_core.specs.Atr.{AtrParts, ts_of, goes_on, announcing, octets_of, interface_octets, td_octets, needs_tck, tck_of, checked_octets, spelling, IsAtr}
-use Rattle.atr_core.specs.Whole.{IsSection, AreTds, AreTdsSoFar, tck_after}
+use Rattle.atr_core.specs.declared.partial.Announced.{Announced}
+use Rattle.atr_core.specs.Atr.{AtrParts, ts_of, bit_of, count_of, goes_on, td_bit, announcing, octets_of, interface_octets, td_octets, needs_tck, tck_of, checked_octets, spelling, IsAtr}
+use Rattle.atr_core.specs.Partial.{or_awaited, Announces}
+use Rattle.atr_core.specs.Whole.{IsSection, AreTds, AreTdsSoFar, IsEnded, HasSection, HasTds, HasTdsSoFar, tck_after}
 use Rattle.atr_core.proofs.Built.{interface-td}
-use Rattle.atr_core.proofs.Partials.{protocols-push}
+use Rattle.atr_core.proofs.Partials.{protocols-push, needs-push}
 
 -- octets as the first one and those after it, as a pattern has them
 pub first-and-rest : (l : List ℕ) → 1 ≤ length l → l ≡ get_or l 0 0 ∷ take (length l - 1) (drop 1 l)
@@ -59,23 +62,94 @@ checked-read a t0 td after tds tail tck section indicated historical count =
     section.is ∙ ap (λ (s : List ℕ). octets_of a.first ++ s) indicated.is ∙ sym (append_assoc (octets_of a.first) (td_octets a.indicated) tail) ∙ ap (λ (s : List ℕ). s ++ tail) (sym (interface-td a.first a.indicated)) in
     λ i. told i ∷ (bytes ∙ ap (λ (s : List ℕ). inter ++ s) historical ∙ sym (append_assoc inter a.historical tck)) i
 
-pub whole-read : (a : AtrParts) (octets from tds tail tck left checked after : List ℕ) (ts t0 : ℕ) (td needed : Bool) (count : ℕ) → AreOctets octets → octets ≡ ts ∷ from → from ≡ t0 ∷ after
+pub whole-read : (a : AtrParts) (octets from after tds tail tck : List ℕ) (ts t0 : ℕ) (td needed : Bool) (count : ℕ) → AreOctets octets → octets ≡ ts ∷ from → from ≡ t0 ∷ after
     → ts_of a.convention ≡ ts → IsSection t0 after a.first td tds → AreTds td tds a.indicated tail → tail ≡ a.historical ++ tck → length a.historical ≡ t0 % 16 → needed ≡ needs_tck a.indicated
-    → checked ≡ take (length from - length tck) from → tck ≡ option_to_list (tck_after needed checked) ++ left → count ≡ length octets - length left → count ≤ 33
-    → Accepts self_ended IsAtr octets a count
-whole-read a octets from tds tail tck left checked after ts t0 td needed count are octets-is from-is convention section indicated historical few needs front-is check counted most =
+    → IsEnded from tck needed count → Accepts self_ended IsAtr octets a count
+whole-read a octets from after tds tail tck ts t0 td needed count are octets-is from-is convention section indicated historical few needs ended =
+    let left : List ℕ = ended.left in
     let from-t0 : from ≡ checked_octets a ++ tck = from-is ∙ checked-read a t0 td after tds tail tck section indicated historical few in
-    let checked-is : checked ≡ checked_octets a = front-is ∙ ap (λ (s : List ℕ). take (length s - length tck) s) from-t0 ∙ front (checked_octets a) tck in
-    let end : tck ≡ option_to_list (tck_of a) ++ left = check ∙ (λ i. option_to_list (tck_after (needs i) (checked-is i)) ++ left) in
+    let checked-is : take (length from - length tck) from ≡ checked_octets a = ap (λ (s : List ℕ). take (length s - length tck) s) from-t0 ∙ front (checked_octets a) tck in
+    let end : tck ≡ option_to_list (tck_of a) ++ left = ended.is ∙ (λ i. option_to_list (tck_after (needs i) (checked-is i)) ++ left) in
     let all : octets ≡ spelling a ++ left =
     octets-is ∙ (λ i. sym convention i ∷ from-t0 i) ∙ ap (λ (s : List ℕ). ts_of a.convention ∷ checked_octets a ++ s) end
     ∙ ap (λ (s : List ℕ). ts_of a.convention ∷ s) (sym (append_assoc (checked_octets a) (option_to_list (tck_of a)) left)) in
-    let spelled : take count octets ≡ spelling a = ap (λ (n : ℕ). take n octets) counted ∙ ap (λ (s : List ℕ). take (length s - length left) s) all ∙ front (spelling a) left in
-    let n : count ≡ length (spelling a) = omega (arith, counted, ap length all, length-append (spelling a) left) in (
-      omega (arith, counted),
+    let n : count ≡ length (spelling a) = omega (arith, ended.counted, ap length octets-is, ap length all, length-append (spelling a) left) in
+    let spelled : take count octets ≡ spelling a = ap (λ (k : ℕ). take k octets) n ∙ ap (λ (s : List ℕ). take (length (spelling a)) s) all ∙ take-append_seam (spelling a) left in (
+      omega (arith, ended.counted, ap length octets-is),
       record {
-        proper = record { nibbles = record { protocols = indicated.protocols; historical = omega (arith, few) }; most = omega (arith, n, most) };
+        proper = record { nibbles = record { protocols = indicated.protocols; historical = omega (arith, few) }; most = omega (arith, n, ended.most) };
         octets = octets-take count octets are;
         is = spelled;
       },
+    )
+
+-- ---- where no part is kept
+
+-- the first octet, where it is there
+abbrev first-where : Bool → List ℕ → Option ℕ
+first-where true l = Some (get_or l 0 0)
+first-where false l = None
+
+one-byte : (b : Bool) (l : List ℕ) → count_of b ≤ length l → l ≡ option_to_list (first-where b l) ++ drop (count_of b) l
+one-byte true [] some = absurd (omega arith)
+one-byte true (x ∷ l) some = refl
+one-byte false l some = refl
+
+told-byte : (b : Bool) (l : List ℕ) (weight : ℕ) → bit_of (first-where b l) weight ≡ bit_of (or_awaited b None) weight
+told-byte true l weight = refl
+told-byte false l weight = refl
+
+-- what an octet announces is there
+pub section-there : (octet : ℕ) (announced : Announced) (octets rest : List ℕ) → Announces announced octet → count_of announced.ta + count_of announced.tb + count_of announced.tc ≤ length octets
+    → rest ≡ drop (count_of announced.ta + count_of announced.tb + count_of announced.tc) octets → HasSection octet octets announced.td rest
+section-there octet announced octets rest announces some is =
+    let a : ℕ = count_of announced.ta in let b : ℕ = count_of announced.tb in let c : ℕ = count_of announced.tc in
+    let second : List ℕ = drop a octets in
+    let third : List ℕ = drop b second in
+    let bytes : Interface = record { ta = first-where announced.ta octets; tb = first-where announced.tb second; tc = first-where announced.tc third } in
+    let ta : List ℕ = option_to_list bytes.ta in let tb : List ℕ = option_to_list bytes.tb in let tc : List ℕ = option_to_list bytes.tc in
+    let end : drop c third ≡ rest = ap (λ (l : List ℕ). drop c l) (drop-drop b a octets) ∙ drop-drop c (a + b) octets ∙ ap (λ (n : ℕ). drop n octets) (omega arith) ∙ sym is in
+    let two : length second ≡ length octets - a = length-drop a octets in
+    let three : length third ≡ length second - b = length-drop b second in (
+      bytes,
+      record {
+        told = (λ i. told-byte announced.ta octets 0x10 i + told-byte announced.tb second 0x20 i + told-byte announced.tc third 0x40 i + td_bit announced.td + octet % 16) ∙ announces;
+        is = one-byte announced.ta octets (omega (arith, some))
+            ∙ ap (λ (l : List ℕ). ta ++ l) (one-byte announced.tb second (omega (arith, some, two)))
+            ∙ sym (append_assoc ta tb third)
+            ∙ ap (λ (l : List ℕ). (ta ++ tb) ++ l) (one-byte announced.tc third (omega (arith, some, two, three)) ∙ ap (λ (l : List ℕ). tc ++ l) end)
+            ∙ sym (append_assoc (ta ++ tb) tc rest);
+      },
+    )
+
+pub no-td-skipped : (td : Bool) (octets : List ℕ) → HasTdsSoFar td octets false td octets
+no-td-skipped td octets = ([], no-td-yet td octets, refl)
+
+either-first : (a b : Bool) → (a || b) ≡ (b || a)
+either-first false false = refl
+either-first false true = refl
+either-first true false = refl
+either-first true true = refl
+
+pub one-td-skipped : (td : Bool) (octets : List ℕ) (needed more : Bool) (rest : List ℕ) (x : ℕ) (after : List ℕ) (later next : Bool) (left : List ℕ) → HasTdsSoFar td octets needed more rest
+    → more ≡ true → rest ≡ x ∷ after → HasSection x after next left → later ≡ (needed || not (x % 16 == 0)) → HasTdsSoFar td octets later next left
+one-td-skipped td octets needed more rest x after later next left so stands is section later-is =
+    let n : Indicated = record { protocol = x % 16; bytes = section.0 } in (
+      so.0 ++ n ∷ [],
+      one-td-more td octets so.0 more rest x after section.0 next left so.1 stands is section.1,
+      later-is ∙ either-first needed (not (x % 16 == 0)) ∙ ap (λ (b : Bool). not (x % 16 == 0) || b) so.2 ∙ sym (needs-push so.0 n),
+    )
+
+pub all-skipped : (td : Bool) (octets : List ℕ) (needed more : Bool) (rest : List ℕ) → HasTdsSoFar td octets needed more rest → more ≡ false → HasTds td octets needed rest
+all-skipped td octets needed more rest so none = (so.0, all-tds td octets so.0 more rest so.1 none, so.2)
+
+pub whole-passed : (convention : Convention) (octets from after tds tail tck : List ℕ) (ts t0 : ℕ) (td needed : Bool) (count : ℕ) → AreOctets octets → octets ≡ ts ∷ from → from ≡ t0 ∷ after
+    → ts_of convention ≡ ts → HasSection t0 after td tds → HasTds td tds needed tail → t0 % 16 ≤ length tail → tck ≡ drop (t0 % 16) tail
+    → IsEnded from tck needed count → (v : AtrParts) × Accepts self_ended IsAtr octets v count
+whole-passed convention octets from after tds tail tck ts t0 td needed count are octets-is from-is opened section indicated few tck-is ended =
+    let a : AtrParts = record { convention = convention; first = section.0; indicated = indicated.0; historical = take (t0 % 16) tail } in (
+      a,
+      whole-read a octets from after tds tail tck ts t0 td needed count are octets-is from-is opened section.1 indicated.1
+          (sym (take-append-drop (t0 % 16) tail) ∙ ap (λ (l : List ℕ). take (t0 % 16) tail ++ l) (sym tck-is))
+          (omega (arith, length-take (t0 % 16) tail, few)) indicated.2 ended,
     )

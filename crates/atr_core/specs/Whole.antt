@@ -1,11 +1,11 @@
 -- A whole answer to reset, read in one pass: what each part of the pass takes from the front of octets.
-use Rattle.std.specs.Prelude.{◌≡◌, ℕ, ◌%◌, ◌<◌, ◌++◌, List, Bool, if◌then◌else◌, Option, Some, None}
+use Rattle.std.specs.Prelude.{◌≡◌, ℕ, ◌+◌, ◌-◌, ◌%◌, ◌<◌, ◌≤◌, ◌++◌, List, length, take, Bool, if◌then◌else◌, Option, Some, None, option_to_list}
 use Rattle.std.specs.List.{AllByRecursion}
 use Rattle.octet_core.specs.Octets.{xor_of}
 use Rattle.atr_core.specs.declared.atr.Interface.{Interface}
 use Rattle.atr_core.specs.declared.atr.Indicated.{Indicated}
 use Rattle.atr_core.specs.declared.whole.Parts.{Parts}
-use Rattle.atr_core.specs.Atr.{AtrParts, announcing, goes_on, octets_of, td_octets}
+use Rattle.atr_core.specs.Atr.{AtrParts, announcing, goes_on, octets_of, td_octets, needs_tck}
 
 -- the answer with these parts
 abbrev pub made_of : Parts → AtrParts
@@ -31,3 +31,24 @@ pub record AreTdsSoFar (td : Bool) (octets : List ℕ) (indicated : List Indicat
 -- TCK after the octets that it checks, where it is needed
 abbrev pub tck_after : Bool → List ℕ → Option ℕ
 tck_after needed checked = if needed then Some (xor_of checked) else None
+
+-- an answer has so many octets: those from T0 on begin from, and tck is what from has after the historical bytes
+pub record IsEnded (from tck : List ℕ) (needed : Bool) (count : ℕ) : Type 0 where
+  pub left : List ℕ
+  pub is : tck ≡ option_to_list (tck_after needed (take (length from - length tck) from)) ++ left
+  pub counted : count + length left ≡ 1 + length from
+  pub most : count ≤ 33
+
+-- ---- where no part is kept
+
+-- the same of some bytes
+abbrev pub HasSection : ℕ → List ℕ → Bool → List ℕ → Type 0
+HasSection octet octets td rest = (bytes : Interface) × IsSection octet octets bytes td rest
+
+-- the same of some TDs, and whether they need TCK
+abbrev pub HasTds : Bool → List ℕ → Bool → List ℕ → Type 0
+HasTds td octets needed rest = (indicated : List Indicated) × AreTds td octets indicated rest × (needed ≡ needs_tck indicated)
+
+-- the same of the TDs so far
+abbrev pub HasTdsSoFar : Bool → List ℕ → Bool → Bool → List ℕ → Type 0
+HasTdsSoFar td octets needed more rest = (indicated : List Indicated) × AreTdsSoFar td octets indicated more rest × (needed ≡ needs_tck indicated)

@@ -2,8 +2,9 @@
 
 ghost use Rattle.std.specs.Prelude.{IfOk, IfErr};
 ghost use Rattle.octet_core.specs.Grammar.{Accepts, Refuses, self_ended};
-ghost use Rattle.atr_core.specs.Atr.{IsAtr, IsReason};
+ghost use Rattle.atr_core.specs.Atr.{AtrParts, IsAtr, IsReason};
 
+use crate::length::whole_len;
 use crate::partial::Partial;
 use crate::whole::Parts;
 use crate::{Atr, AtrReason};
@@ -25,7 +26,22 @@ pub fn decode(octets: &[u8]) -> Result<(Atr, usize), Stop<AtrReason>>
     }
 }
 
-/// The same octet by octet, which tells the place and the reason of a refusal.
+/// How many octets the answer to reset takes with which the octets begin: the verdict of [`decode`], without
+/// the answer.
+pub fn check(octets: &[u8]) -> Result<usize, Stop<AtrReason>>
+    ensures found { IfOk result (λ count. (atr : AtrParts) × Accepts self_ended IsAtr octets.now atr count) }
+    ensures refused { IfErr result (λ stop. Refuses self_ended IsAtr IsReason octets.now stop) }
+{
+    if let Some(count) = whole_len(octets) {
+        return Ok(count);
+    }
+    match by_octets(octets) {
+        Ok((_, count)) => Ok(count),
+        Err(stop) => Err(stop),
+    }
+}
+
+/// The verdict of [`decode`] octet by octet, which tells the place and the reason of a refusal.
 #[inline(never)]
 fn by_octets(octets: &[u8]) -> Result<(Atr, usize), Stop<AtrReason>>
     ensures found { IfOk result (λ found. Accepts self_ended IsAtr octets.now found.0 found.1) }

@@ -2,7 +2,8 @@
 //! and what they say about the rates and about T=1.
 //!
 //! `specs/Atr.antt` has the grammar: TS, T0, the interface bytes, the historical bytes and TCK as a
-//! function of the value. [`decode`] answers the verdict of that grammar and [`encode`] its spelling.
+//! function of the value. [`decode`] answers the verdict of that grammar, [`check`] the same without the value,
+//! and [`encode`] its spelling.
 //! `specs/T1.antt` and `specs/Rates.antt` have what the interface bytes mean. No call takes memory.
 #![tactic(auto)]
 
@@ -10,6 +11,7 @@ pub mod atr;
 pub mod decoding;
 pub mod encoding;
 pub mod laws;
+mod length;
 pub mod params;
 mod partial;
 pub mod rating;
@@ -18,7 +20,7 @@ pub mod reason;
 mod whole;
 
 pub use atr::{Atr, Convention, Indicated, Interface};
-pub use decoding::decode;
+pub use decoding::{check, decode};
 pub use encoding::encode;
 pub use params::{ParamFault, T1Params, t1_params};
 pub use rating::rates;

@@ -1,7 +1,7 @@
 //! An answer to reset of which some octets have come, octet by octet.
 
 ghost use Rattle.std.specs.Prelude.{◌≡◌, ℕ, List, MatchOption, ◌+◌, ◌<◌, ◌≤◌, ◌/◌, ◌%◌, ◌++◌, [], ◌∷◌, true, false, IfOk, IfErr, IfSome, IfNone, IsTrue, MatchBool, length, not, ◌||◌, ◌==◌};
-ghost use Rattle.atr_core.specs.Atr.{AtrParts, IsAtr, IsReason, ts_of};
+ghost use Rattle.atr_core.specs.Atr.{AtrParts, IsAtr, IsReason, count_of, ts_of};
 ghost use Rattle.atr_core.specs.Partial.{Announces, AwaitsByte, AwaitsTd, HeaderHolds, Holds, InOrder, IsNow, IsTailStep, Puts, TailAwaits, TailEnds, TailHolds, awaits_byte, first_of, header_taken, is_announced, is_whole, parts_of, tail_taken, taken_of, tds_of};
 
 use crate::atr::MOST_OCTETS;
@@ -139,6 +139,14 @@ impl Announced {
             tc: octet / 0x40 % 2 == 1,
             td: octet / 0x80 == 1,
         }
+    }
+
+    /// How many of TA, TB and TC follow.
+    #[inline]
+    pub(crate) fn byte_count(self) -> usize
+        ensures { result ≡ count_of self.ta + count_of self.tb + count_of self.tc }
+    {
+        usize::from(self.ta) + usize::from(self.tb) + usize::from(self.tc)
     }
 
     /// Whether TA, TB or TC is awaited.

@@ -1,11 +1,11 @@
 //! A whole answer to reset, read in one pass.
 
-ghost use Rattle.std.specs.Prelude.{◌≡◌, ◌+◌, ◌<◌, ◌++◌, ℕ, Bool, [], IfSome, length};
+ghost use Rattle.std.specs.Prelude.{◌≡◌, ◌+◌, ◌<◌, ◌≤◌, ◌++◌, ℕ, Bool, [], IfSome, length};
 ghost use Rattle.std.specs.Option.{option_to_list};
 ghost use Rattle.octet_core.specs.Grammar.{Accepts, self_ended};
 ghost use Rattle.atr_core.specs.Atr.{IsAtr, IsProper, bit_of};
 ghost use Rattle.atr_core.specs.Partial.{or_awaited};
-ghost use Rattle.atr_core.specs.Whole.{AreTds, IsSection, made_of, tck_after};
+ghost use Rattle.atr_core.specs.Whole.{AreTds, IsEnded, IsSection, made_of, tck_after};
 
 use crate::atr::{MOST_OCTETS, has_tck};
 use crate::encoding::push_all;
@@ -56,10 +56,10 @@ impl Parts {
         requires historical { self.old.historical.items ≡ [] }
         ensures { IfSome result (λ count. Accepts self_ended IsAtr octets.now (made_of self.new) count) }
     {
-        let [ts, checked @ ..] = octets else {
+        let [ts, from @ ..] = octets else {
             return None;
         };
-        let [t0, after @ ..] = checked else {
+        let [t0, after @ ..] = from else {
             return None;
         };
         let Ok(convention) = opened(*ts) else {
@@ -70,13 +70,7 @@ impl Parts {
         self.first = section.bytes;
         let tail = read_tds(&mut self.indicated, section.td, section.rest)?;
         let tck = read_historical(&mut self.historical, usize::from(*t0 % 16), tail)?;
-        let checked = &checked[..checked.len() - tck.len()];
-        let left = after_tck(has_tck(self.indicated.as_slice()), checked, tck)?;
-        let count = octets.len() - left.len();
-        if count > MOST_OCTETS {
-            return None;
-        }
-        Some(count)
+        ended(from, tck, has_tck(self.indicated.as_slice()))
     }
 
     /// The answer with these parts.
@@ -165,6 +159,22 @@ fn read_historical<'a>(
     let (bytes, rest) = octets.split_at_checked(count)?;
     push_all(historical, bytes);
     Some(rest)
+}
+
+/// How many octets an answer has whose octets from T0 on are at the front of `from`: `tck` is what `from` has
+/// after the historical bytes, and whether TCK is there is `needed`.
+#[inline]
+pub(crate) fn ended(from: &[u8], tck: &[u8], needed: bool) -> Option<usize>
+    requires { length tck.now ≤ length from.now }
+    ensures { IfSome result (λ count. IsEnded from.now tck.now needed count) }
+{
+    let checked = &from[..from.len() - tck.len()];
+    let left = after_tck(needed, checked, tck)?;
+    let count = 1 + from.len() - left.len();
+    if count > MOST_OCTETS {
+        return None;
+    }
+    Some(count)
 }
 
 /// The octets that are left after TCK, where it is `needed`: the exclusive-or of those that it checks.

@@ -5,8 +5,8 @@ mod printed;
 use arrayvec::ArrayVec;
 use atr_core::laws::are_equal;
 use atr_core::{
-    Atr, AtrReader, AtrReason, Convention, Indicated, Interface, ParamFault, T1Params, decode,
-    encode, rates, t1_params,
+    Atr, AtrReader, AtrReason, Convention, Indicated, Interface, ParamFault, T1Params, check,
+    decode, encode, rates, t1_params,
 };
 use octet_core::Stop;
 use std::test::Fail;
@@ -332,6 +332,33 @@ fn one_pass_agrees_with_octet_by_octet(rt: HostRuntime) {
             let wanted = octet_by_octet(front);
             assert!(rt; same(decode(front).map(|found| found.1), wanted));
             assert!(rt; same(at_once(front), wanted));
+        }
+    }
+}
+
+/// Whether `check` says what `decode` does.
+fn is_checked_as_decoded(octets: &[u8]) -> bool {
+    same(check(octets), decode(octets).map(|found| found.1))
+}
+
+/// Whether it does so with each bit of the octet at this place changed.
+fn is_checked_alike_changed(octets: &[u8], place: usize) -> bool {
+    (0..8).all(|bit| {
+        let mut changed: ArrayVec<u8, 40> = ArrayVec::new();
+        let _ = changed.try_extend_from_slice(octets);
+        if let Some(octet) = changed.as_mut_slice().get_mut(place) {
+            *octet ^= 1 << bit;
+        }
+        is_checked_as_decoded(changed.as_slice())
+    })
+}
+
+#[test]
+fn check_agrees_with_decode(rt: HostRuntime) {
+    for octets in WHOLE_OR_NOT {
+        for end in 0..=octets.len() {
+            assert!(rt; is_checked_as_decoded(&octets[..end]));
+            assert!(rt; is_checked_alike_changed(octets, end));
         }
     }
 }

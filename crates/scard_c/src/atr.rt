@@ -12,7 +12,8 @@ use crate::output::put;
 use crate::verdict::{ARGUMENT, Numbered, Verdict};
 use arrayvec::ArrayVec;
 use atr_core::{
-    Atr, AtrReason, Convention, Indicated, Interface, ParamFault, decode, encode, rates, t1_params,
+    Atr, AtrReason, Convention, Indicated, Interface, ParamFault, check, decode, encode, rates,
+    t1_params,
 };
 
 /// The interface bytes TA, TB and TC that T0 or one TD announces. A byte is there where its mark isn't 0.
@@ -80,8 +81,8 @@ pub extern "C" fn scard_atr_check(octets: &[u8]) -> Verdict
     ensures refused { result.status ≢ 0 →
         Tells atr_reason (Refuses self_ended IsAtr IsReason octets.now) result }
 {
-    match decode(octets) {
-        Ok((_, taken)) => Verdict::ok(taken),
+    match check(octets) {
+        Ok(taken) => Verdict::ok(taken),
         Err(stop) => Verdict::stopped(stop),
     }
 }
