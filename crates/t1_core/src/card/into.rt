@@ -175,7 +175,9 @@ impl CardPlaces {
         self.put(held, answer, acted, out)
     }
 
-    /// What a call answers, with the octets of the block that is sent in the buffer.
+    /// What a call answers, with the octets of the block that is sent in the buffer. Inlined, so that the call's
+    /// act is never kept in memory.
+    #[inline(always)]
     fn put(
         &self,
         held: &[u8],

@@ -180,7 +180,9 @@ impl TerminalPlaces {
         self.put(held, joined, acted, out)
     }
 
-    /// What a call answers, with the octets of the block that is sent in the buffer.
+    /// What a call answers, with the octets of the block that is sent in the buffer. Inlined, so that the call's
+    /// act is never kept in memory.
+    #[inline(always)]
     fn put(
         &self,
         held: &[u8],
