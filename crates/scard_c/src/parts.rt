@@ -145,7 +145,7 @@ fn shown(part: &Part<'_>) -> CPart
     CPart {
         depth: part.depth as u8,
         is_constructed: u8::from(part.tag.is_constructed()),
-        len_octets: part.length_field().len() as u8,
+        len_octets: part.form.octets() as u8,
         tag: tag_shown(&part.tag),
         place: part.place,
         len: part.value.len(),

@@ -1,6 +1,6 @@
 //! The forms of a length field.
 
-ghost use Rattle.std.specs.Prelude.{◌≡◌, ◌+◌, ◌<◌, ◌≤◌, MatchOption};
+ghost use Rattle.std.specs.Prelude.{◌≡◌, ℕ, ◌+◌, ◌<◌, ◌≤◌, length, MatchOption};
 ghost use Rattle.tlv_core.specs.Reasons.{BeginsLength};
 
 use arrayvec::ArrayVec;
@@ -24,6 +24,15 @@ pub enum Form {
 impl Form {
     ghost use Rattle.tlv_core.specs.Form.{further, capacity, shortest};
     ghost use Rattle.tlv_core.specs.Tag.{length_field};
+
+    /// How many octets a length field of this form has, 1 to 5.
+    pub fn octets(self) -> usize
+        ensures field { (len : ℕ) → result ≡ length (length_field self len) }
+        ensures some { 1 ≤ result }
+        ensures most { result ≤ 5 }
+    {
+        1 + usize::from(self.further())
+    }
 
     /// The number of octets after the first one.
     pub(crate) fn further(self) -> u8

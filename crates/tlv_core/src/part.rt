@@ -53,7 +53,7 @@ impl Part<'_> {
         ensures { result ≡ length (header_of self.now.tag self.now.form
             (length self.now.value.now)) }
     {
-        self.tag.octets().len() + self.length_field().len()
+        self.tag.octets().len() + self.form.octets()
     }
 }
 

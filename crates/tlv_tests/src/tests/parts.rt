@@ -67,8 +67,24 @@ fn short_and_long_headers_have_parts(rt: HostRuntime) -> Result<(), Fail> {
     )
 }
 
-/// Where the header and the value of each object begin, after fillers and after long length fields.
-const PLACES: [(usize, usize); 4] = [(1, 4), (5, 9), (10, 12), (12, 14)];
+/// The longest header that is taken at once, before more octets and at their end.
+#[test]
+fn tags_of_three_octets_have_parts(rt: HostRuntime) -> Result<(), Fail> {
+    check_parts(
+        rt.alloc(),
+        &rt,
+        "FF8129820006DF8201820000DF812900",
+        &[
+            (1, "FF8129", 6, "DF8201820000"),
+            (2, "DF8201", 12, ""),
+            (1, "DF8129", 16, ""),
+        ],
+    )
+}
+
+/// Where the header and the value of each object begin, after fillers and after long length fields, and how many octets
+/// its length field has.
+const PLACES: [(usize, usize, usize); 4] = [(1, 4, 2), (5, 9, 3), (10, 12, 1), (12, 14, 1)];
 
 #[test]
 fn parts_tell_their_places(rt: HostRuntime) -> Result<(), Fail> {
@@ -77,9 +93,10 @@ fn parts_tell_their_places(rt: HostRuntime) -> Result<(), Fail> {
         .ok()
         .ok_or("a forest")?;
     assert!(rt; same(flat.parts().len(), PLACES.len()));
-    for (part, (header, value)) in flat.parts().iter().zip(PLACES) {
+    for (part, (header, value, length_octets)) in flat.parts().iter().zip(PLACES) {
         assert!(rt; same(part.header_place(), header));
         assert!(rt; same(part.place, value));
+        assert!(rt; same(part.form.octets(), length_octets));
     }
     Ok(())
 }
