@@ -1,5 +1,5 @@
 -- The places at which open objects end, and their rooms.
-use Rattle.std.proofs.Common.{◌≡◌, ℕ, ◌+◌, ◌-◌, ◌<◌, ◌≤◌, List, [], ◌∷◌, ◌++◌, length, take, get_or, refl, sym, ap, subst, ◌∙◌, inl, inr, arith, suc, cond, Bool, true, nat_lt}
+use Rattle.std.proofs.Common.{◌≡◌, ℕ, ◌+◌, ◌-◌, ◌<◌, ◌≤◌, List, [], ◌∷◌, ◌++◌, length, take, get_or, refl, sym, ap, subst, ◌∙◌, inl, inr, arith, zero, suc, cond, Bool, true, nat_lt}
 use Rattle.std.specs.Prelude.{slice_get, Some}
 use Rattle.std.specs.List.{prefix_len}
 use borrow.Author.Tests.{lt-ltb, le-ltb, ltb-true}
@@ -16,7 +16,7 @@ use Rattle.tlv_core.specs.Header.{header_octets, header_in, object_in, IsWell, I
 use Rattle.tlv_core.specs.Reasons.{Kept, room_of}
 use Rattle.tlv_core.specs.Steps.{spent, after_octet, after_next}
 use Rattle.tlv_core.proofs.Advances.{not_filler, object_not_filler}
-use Rattle.tlv_core.specs.Open.{AreEnds, rooms_to, open_after}
+use Rattle.tlv_core.specs.Open.{AreEnds, AreNested, AreFrom, rooms_to, open_after}
 use Rattle.tlv_core.proofs.Steps.{spent-more, spent-last}
 
 open-more : (count e : ℕ) (ends : List ℕ) → count < e → open_after count (e ∷ ends) ≡ e ∷ open_after count ends
@@ -96,6 +96,110 @@ pub room-within : (max count : ℕ) (ends : List ℕ) → AreEnds max count ends
 room-within max count [] h le = omega arith
 room-within max count (e ∷ ends) h le = let first =
     h 0 (omega arith) in omega (arith, first.1, inner_room max count e ends (λ i lt. h (suc i) (omega arith)) first.1)
+
+-- ---- each inside the one before
+
+nested-tail : (e : ℕ) (ends : List ℕ) → AreNested (e ∷ ends) → AreNested ends
+nested-tail e ends h i lt = h (suc i) (omega arith)
+
+-- an outer end is no earlier than the innermost
+outer_from : (e place : ℕ) (ends : List ℕ) → AreNested (e ∷ ends)
+    → place ≤ get_or (e ∷ ends) (length ends) 0 → place ≤ e
+outer_from e place [] h le = le
+outer_from e place (f ∷ ends) h le =
+    omega (arith, h 0 (omega arith), outer_from f place ends (nested-tail e (f ∷ ends) h) le)
+
+-- where the innermost object is open, all are
+pub open-all : (count : ℕ) (ends : List ℕ) → AreNested ends
+    → (0 < length ends → count < get_or ends (length ends - 1) 0) → open_after count ends ≡ ends
+open-all count [] h lt = refl
+open-all count (e ∷ []) h lt = open-more count e [] (lt (omega arith))
+open-all count (e ∷ f ∷ ends) h lt =
+    let at : length (e ∷ f ∷ ends) - 1 ≡ suc (length ends) = omega arith in
+    let last : count < get_or (f ∷ ends) (length ends) 0 =
+    subst (λ (k : ℕ). count < get_or (e ∷ f ∷ ends) k 0) at (lt (omega arith)) in
+    let at_inner : length (f ∷ ends) - 1 ≡ length ends = omega arith in
+    let first : suc count ≤ e = outer_from e (suc count) (f ∷ ends) h last in
+    open-more count e (f ∷ ends) (omega arith)
+    ∙ ap (λ (l : List ℕ). e ∷ l) (open-all count (f ∷ ends) (nested-tail e (f ∷ ends) h)
+    (λ some. subst (λ (k : ℕ). count < get_or (f ∷ ends) k 0) (sym at_inner) last))
+
+-- an innermost object whose end is reached is closed
+pub open-front : (count k : ℕ) (ends : List ℕ) → length ends ≡ suc k → get_or ends k 0 ≤ count
+    → open_after count (take k ends) ≡ open_after count ends
+open-front count k [] same le = absurd (omega arith)
+open-front count zero (e ∷ []) same le = sym (open-last count e [] le)
+open-front count zero (e ∷ f ∷ ends) same le = absurd (omega arith)
+open-front count (suc k) (e ∷ ends) same le =
+    elim (cases_lt count e) [
+      | inl lt ↦ open-more count e (take k ends) lt
+          ∙ ap (λ (l : List ℕ). e ∷ l) (open-front count k ends (omega arith) le)
+          ∙ sym (open-more count e ends lt)
+      | inr ge ↦ open-last count e (take k ends) ge ∙ sym (open-last count e ends ge)
+    ]
+
+pub nested-take : (n : ℕ) (ends : List ℕ) → AreNested ends → AreNested (take n ends)
+nested-take n ends h i lt =
+    let inside : suc i < n = omega (arith, length-take n ends) in
+    let within : suc i < length ends = omega (arith, length-take n ends) in
+    omega (
+      arith,
+      get_or-take n ends i 0 (omega arith),
+      get_or-take n ends (suc i) 0 inside,
+      h i within,
+    )
+
+pub nested-now : (count : ℕ) (ends now : List ℕ) → AreNested ends → now ≡ open_after count ends → AreNested now
+nested-now count ends now h e =
+    subst AreNested (sym e) (nested-take (prefix_len (λ end. nat_lt count end) ends) ends h)
+
+pub from-now : (place count : ℕ) (ends now : List ℕ) → AreFrom place ends → now ≡ open_after count ends
+    → AreFrom place now
+from-now place count ends now h e =
+    subst (AreFrom place) (sym e)
+    (λ i lt.
+    let n = prefix_len (λ end. nat_lt count end) ends in
+    omega (
+      arith,
+      get_or-take n ends i 0 (omega (arith, length-take n ends)),
+      h i (omega (arith, length-take n ends)),
+    ))
+
+pub nested-push : (e : ℕ) (ends : List ℕ) → AreNested ends → AreFrom e ends → AreNested (ends ++ e ∷ [])
+nested-push e ends h from i lt =
+    elim (cases_lt (suc i) (length ends)) [
+      | inl before ↦
+          let same = get_or_append_left ends (e ∷ []) 0 i (omega arith) in
+          let next = get_or_append_left ends (e ∷ []) 0 (suc i) before in
+          omega (arith, same, next, h i before)
+      | inr at ↦
+          let last : length ends ≡ suc i = omega (arith, length-append ends (e ∷ [])) in
+          let next = get_or_push ends e 0 (suc i) last in
+          let same = get_or_append_left ends (e ∷ []) 0 i (omega arith) in
+          omega (arith, next, same, from i (omega arith))
+    ]
+
+-- what fits into the room ends no later than any open object
+pub from-room : (max count left : ℕ) (ends : List ℕ) → AreEnds max count ends → AreNested ends
+    → AreFrom (count + room_of left (rooms_to count ends)) ends
+from-room max count left [] h nested i lt = absurd (omega arith)
+from-room max count left (e ∷ []) h nested i lt =
+    let first = (h 0 (omega arith)).0 in
+    let at : i ≡ 0 = omega arith in
+    subst (λ (k : ℕ). count + (e - count) ≤ get_or (e ∷ []) k 0) (sym at) (omega (arith, first))
+from-room max count left (e ∷ f ∷ ends) h nested zero lt =
+    omega (
+      arith,
+      nested 0 (omega arith),
+      from-room max count (e - count) (f ∷ ends) (λ k lt. h (suc k) (omega arith)) (nested-tail e (f ∷ ends) nested)
+          0 (omega arith),
+    )
+from-room max count left (e ∷ f ∷ ends) h nested (suc i) lt =
+    from-room max count (e - count) (f ∷ ends) (λ k lt. h (suc k) (omega arith)) (nested-tail e (f ∷ ends) nested) i
+    (omega arith)
+
+pub from-less : (place more : ℕ) (ends : List ℕ) → place ≤ more → AreFrom more ends → AreFrom place ends
+from-less place more ends le h i lt = omega (arith, le, h i lt)
 
 -- ---- what is kept
 

@@ -1,8 +1,8 @@
 -- Objects with a short header, taken at once.
 use Rattle.std.proofs.Common.{◌≡◌, ℕ, ◌+◌, ◌-◌, ◌<◌, ◌≤◌, List, [], ◌∷◌, ◌++◌, length, take, drop, refl, sym, ap, subst, ◌∙◌, arith, Bool, true, false, cond, zero, suc, append-nil, inl, inr}
-use Rattle.std.specs.Prelude.{◌/◌, ◌%◌, ◌↔◌, IsTrue, slice_index}
+use Rattle.std.specs.Prelude.{◌/◌, ◌%◌, ◌↔◌, IsTrue, slice_index, Option, Some, None, IfSome}
 use Rattle.std.proofs.lemmas.Bool.{false≢true}
-use Rattle.std.proofs.lemmas.List.{length-take, length-drop}
+use Rattle.std.proofs.lemmas.List.{length-take, length-drop, take-take, take_all}
 use Rattle.std.proofs.Math.Seq.{take-add}
 use Rattle.octet_core.specs.Octets.{AreOctets}
 use Rattle.octet_core.proofs.Lists.{octets-take, octets-drop}
@@ -14,6 +14,7 @@ use Rattle.tlv_core.specs.declared.header.Header.{Header}
 use Rattle.tlv_core.specs.declared.header.Header.TheVariants.{Nothing}
 use Rattle.tlv_core.specs.Header.{header_octets}
 use Rattle.tlv_core.specs.Tag.{IsTag, constructed_bit, header_of}
+use Rattle.tlv_core.specs.TagView.{IsWholeTag}
 use Rattle.tlv_core.specs.Tree.{End, Primitive, Constructed}
 use Rattle.tlv_core.specs.Forest.{spelling, IsObject, deepest}
 use Rattle.tlv_core.specs.Reasons.{Kept, HasTaken, room_of}
@@ -197,3 +198,90 @@ joined octets t c l is_tag some inside e h =
       is = take-add t l.octets octets ∙ ap (λ (rest : List ℕ). take t octets ++ rest) h.is;
       bit = bit_of octets t c some is_tag e;
     }
+
+-- a header at the front of octets, with zeros after them, is theirs where they have all of it
+pub at_front : (octets front : List ℕ) (o : ShortHeader) → take (length octets) front ≡ take 6 octets
+    → length front ≤ 6 → o.header ≤ length octets → IsShort front o → IsShort octets o
+at_front octets front o same few inside h =
+    let alike : (n : ℕ) → n ≤ o.header → take n front ≡ take n octets =
+    λ n le. sym (take-take n (length octets) front (omega (arith, le)))
+    ∙ ap (take n) same ∙ take-take n 6 octets (omega (arith, le, h.within)) in
+    let tag : take o.tag front ≡ take o.tag octets = alike o.tag (omega (arith, h.longer)) in
+    record {
+      is_tag = subst IsTag tag h.is_tag;
+      longer = h.longer;
+      within = inside;
+      fits = h.fits;
+      is =
+          sym (alike o.header (omega arith)) ∙ h.is ∙ ap (λ (t : List ℕ). header_of t o.form o.len) tag;
+      bit = ap constructed_bit (sym tag) ∙ h.bit;
+    }
+
+-- where there are enough octets, the first six have their short header, if any
+pub at_front_if : (octets front : List ℕ) (found : Option ShortHeader) → take 6 octets ≡ front
+    → length front ≤ length octets → IfSome found (IsShort front) → IfSome found (IsShort octets)
+at_front_if octets front None is inside h = tt
+at_front_if octets front (Some o) is inside h =
+    at_front octets front o (take_all (length octets) front inside ∙ sym is)
+    (omega (arith, ap length is, length-take 6 octets)) (omega (arith, h.within, inside)) h
+
+-- a tag has at most three octets
+pub tag_few : (tag : List ℕ) → IsTag tag → length tag ≤ 3
+tag_few [] h = absurd h
+tag_few (x ∷ []) h = omega arith
+tag_few (x ∷ y ∷ []) h = omega arith
+tag_few (x ∷ y ∷ z ∷ []) h = omega arith
+tag_few (x ∷ y ∷ z ∷ w ∷ more) h = absurd h
+
+first_three : (front : List ℕ) → 3 ≤ length front
+    → slice_index front 0 ∷ slice_index front 1 ∷ slice_index front 2 ∷ [] ≡ take 3 front
+first_three [] le = absurd (omega arith)
+first_three (x ∷ []) le = absurd (omega arith)
+first_three (x ∷ y ∷ []) le = absurd (omega arith)
+first_three (x ∷ y ∷ z ∷ more) le = refl
+
+-- and so has that of a short header
+pub few_in_tag : (octets : List ℕ) (o : ShortHeader) → IsShort octets o → o.tag ≤ 3
+few_in_tag octets o h =
+    omega (arith, tag_few (take o.tag octets) h.is_tag, length-take o.tag octets, h.longer, h.within)
+
+-- it is at the front, among the first three octets
+pub tag_in_front : (octets front : List ℕ) (o : ShortHeader) → take (length octets) front ≡ take 6 octets
+    → 3 ≤ length front → IsShort octets o
+    → take o.tag (slice_index front 0 ∷ slice_index front 1 ∷ slice_index front 2 ∷ []) ≡ take o.tag octets
+tag_in_front octets front o same three h =
+    let few : o.tag ≤ 3 = few_in_tag octets o h in
+    ap (take o.tag) (first_three front three) ∙ take-take o.tag 3 front few
+    ∙ sym (take-take o.tag (length octets) front (omega (arith, h.longer, h.within))) ∙ ap (take o.tag) same
+    ∙ take-take o.tag 6 octets (omega (arith, few))
+
+-- ---- the tag that is made of three octets and a count
+
+-- what is kept of them is a whole tag, and it is that tag
+pub record IsMade (l : List ℕ) (count a b : ℕ) : Type 0 where
+  pub whole : IsWholeTag (record { octets = slice_index l 0 ∷ a ∷ b ∷ []; count = count })
+  pub same : take count (slice_index l 0 ∷ a ∷ b ∷ []) ≡ take count l
+
+pub tag_made : (l : List ℕ) (count a b : ℕ) → length l ≡ 3 → count ≤ 3 → IsTag (take count l)
+    → (1 < count → a ≡ slice_index l 1) → (count ≤ 1 → a ≡ 0) → (2 < count → b ≡ slice_index l 2)
+    → (count ≤ 2 → b ≡ 0) → IsMade l count a b
+tag_made [] count a b three few is more none most fewer = absurd (omega arith)
+tag_made (x ∷ []) count a b three few is more none most fewer = absurd (omega arith)
+tag_made (x ∷ y ∷ []) count a b three few is more none most fewer = absurd (omega arith)
+tag_made (x ∷ y ∷ z ∷ w ∷ l) count a b three few is more none most fewer = absurd (omega arith)
+tag_made (x ∷ y ∷ z ∷ []) zero a b three few is more none most fewer = absurd is
+tag_made (x ∷ y ∷ z ∷ []) (suc zero) a b three few is more none most fewer =
+    let second : a ≡ 0 = none (omega arith) in
+    let third : b ≡ 0 = fewer (omega arith) in
+    record { whole = record { tag = is; count = refl; octets = cc }; same = refl }
+tag_made (x ∷ y ∷ z ∷ []) (suc (suc zero)) a b three few is more none most fewer =
+    let second : a ≡ y = more (omega arith) in
+    let third : b ≡ 0 = fewer (omega arith) in
+    let same : x ∷ a ∷ [] ≡ x ∷ y ∷ [] = cc in
+    record { whole = record { tag = subst IsTag (sym same) is; count = refl; octets = cc }; same = same }
+tag_made (x ∷ y ∷ z ∷ []) (suc (suc (suc zero))) a b three few is more none most fewer =
+    let second : a ≡ y = more (omega arith) in
+    let third : b ≡ z = most (omega arith) in
+    let same : x ∷ a ∷ b ∷ [] ≡ x ∷ y ∷ z ∷ [] = cc in
+    record { whole = record { tag = subst IsTag (sym same) is; count = refl; octets = refl }; same = same }
+tag_made (x ∷ y ∷ z ∷ []) (suc (suc (suc (suc count)))) a b three few is more none most fewer = absurd (omega arith)

@@ -1,5 +1,6 @@
 -- The places at which open objects end, and what is known of a header under way: what the code keeps.
 use Rattle.std.specs.Prelude.{ℕ, ◌-◌, ◌<◌, ◌≤◌, List, [], ◌∷◌, length, slice_index, nat_lt, map}
+use Rattle.std.proofs.Common.{suc}
 use Rattle.std.specs.Coded.{le_prop}
 use Rattle.std.proofs.Math.Nat.{ℕ_set}
 use Rattle.std.specs.List.{take_while}
@@ -11,6 +12,14 @@ use Rattle.tlv_core.specs.Tag.{IsTag}
 -- each of these places is after the octets that came, and within the limit
 abbrev pub AreEnds : ℕ → ℕ → List ℕ → Type 0
 AreEnds max count ends = (i : ℕ) → i < length ends → (count < slice_index ends i) × (slice_index ends i ≤ max)
+
+-- each of them ends no later than the one before it, in which it is
+abbrev pub AreNested : List ℕ → Type 0
+AreNested ends = (i : ℕ) → suc i < length ends → slice_index ends (suc i) ≤ slice_index ends i
+
+-- none of them ends before this place
+abbrev pub AreFrom : ℕ → List ℕ → Type 0
+AreFrom place ends = (i : ℕ) → i < length ends → place ≤ slice_index ends i
 
 -- the rooms of objects that end at these places
 abbrev pub rooms_to : ℕ → List ℕ → List ℕ

@@ -3,7 +3,7 @@ use Rattle.std.specs.Prelude.{◌≢◌, ℕ, ◌+◌, ◌<◌, ◌≤◌, List,
 use Rattle.tlv_core.specs.declared.header.Header.TheVariants.{Nothing}
 use Rattle.tlv_core.specs.declared.places.CheckPlaces.{CheckPlaces}
 use Rattle.tlv_core.specs.Header.{IsWell, header_octets}
-use Rattle.tlv_core.specs.Open.{AreEnds, rooms_to}
+use Rattle.tlv_core.specs.Open.{AreEnds, AreNested, rooms_to}
 use Rattle.tlv_core.specs.Reasons.{Kept}
 use Rattle.tlv_core.specs.Check.{Checked, refusal_at}
 
@@ -11,13 +11,14 @@ use Rattle.tlv_core.specs.Check.{Checked, refusal_at}
 abbrev pub ends_at : CheckPlaces → List ℕ
 ends_at p = take p.level p.ends
 
--- They are those of a check: open objects end after the octets that came, within the limit, and so does the value under
--- way; and no header is under way inside an object of the greatest depth.
+-- They are those of a check: open objects end after the octets that came, within the limit, none after the one that it is
+-- in; the value under way ends within the limit; and no header is under way inside an object of the greatest depth.
 pub record AreCheckPlaces (p : CheckPlaces) : Type 0 where
   pub limit : p.max ≤ 1048576
   pub within : p.count + p.value_left ≤ p.max
   pub levels : p.level ≤ 16
   pub ahead : AreEnds p.max p.count (ends_at p)
+  pub nested : AreNested (ends_at p)
   pub well : IsWell p.header
   pub shallow : p.header ≢ Nothing → p.level < 16
 

@@ -1,4 +1,4 @@
--- Objects with a short header: a tag of one octet or two, and a length field of at most three.
+-- Objects with a short header: a tag, and a length field of at most three octets.
 use Rattle.std.specs.Prelude.{◌≡◌, ℕ, ◌+◌, ◌-◌, ◌<◌, ◌≤◌, List, [], ◌∷◌, ◌++◌, length, take, drop, Bool, true, false, cond}
 use Rattle.std.proofs.Common.{zero, suc}
 use Rattle.tlv_core.specs.declared.short.ShortHeader.{ShortHeader}

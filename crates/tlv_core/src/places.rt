@@ -6,7 +6,7 @@ ghost use Rattle.octet_core.specs.Grammar.{Refuses, RefusesAt, whole};
 ghost use Rattle.tlv_core.specs.Tree.{Tree};
 ghost use Rattle.tlv_core.specs.Forest.{IsForest};
 ghost use Rattle.tlv_core.specs.Reasons.{IsReason};
-ghost use Rattle.tlv_core.specs.Open.{AreEnds};
+ghost use Rattle.tlv_core.specs.Open.{AreEnds, AreNested};
 
 use crate::checking::Checking;
 use crate::forest::LARGEST_FOREST;
@@ -108,6 +108,7 @@ impl CheckPlaces {
             && self.header.is_well()
             && (self.header.is_nothing() || level < DEEPEST)
             && are_ends(self.max, self.count, &self.ends[..level])
+            && are_nested(&self.ends[..level])
     }
 }
 
@@ -129,4 +130,17 @@ fn are_ends(max: u32, count: u32, ends: &[u32]) -> bool
     ensures no { AreEnds max count ends.now → result ≡ true }
 {
     ends.iter().all(|&end| count < end && end <= max)
+}
+
+/// Whether each object that ends at these places ends no later than the one before it.
+fn are_nested(ends: &[u32]) -> bool
+    ensures yes { result ≡ true → AreNested ends.now }
+    ensures no { AreNested ends.now → result ≡ true }
+{
+    for inner in 1..ends.len() {
+        if ends[inner - 1] < ends[inner] {
+            return false;
+        }
+    }
+    true
 }

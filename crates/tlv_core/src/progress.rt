@@ -1,13 +1,12 @@
 //! How far the octets of a forest have come, and what they leave open.
 
-ghost use Rattle.std.specs.List.{prefix_len};
-ghost use Rattle.std.specs.Prelude.{nat_lt, nat_eq, if◌then◌else◌, ◌≡◌, ◌≢◌, ℕ, ◌+◌, ◌<◌, ◌≤◌, List, ◌++◌, length, take, slice_index, IfOk, IfErr, IfSome, IfNone, IsTrue, ◌↔◌, ◌-◌};
+ghost use Rattle.std.specs.Prelude.{nat_eq, if◌then◌else◌, ◌≡◌, ◌≢◌, ℕ, ◌+◌, ◌<◌, ◌≤◌, List, ◌++◌, length, take, slice_index, IfOk, IfErr, IfSome, IfNone, IsTrue, ◌↔◌, ◌-◌, true, false};
 ghost use Rattle.arrayvec.specs.ArrayVec.{array_vec_len};
 ghost use Rattle.tlv_core.specs.declared.header.Header.TheVariants.{Nothing};
 ghost use Rattle.tlv_core.specs.Header.{IsWell};
 ghost use Rattle.tlv_core.specs.declared.header.Next.TheVariants.{Filler};
 ghost use Rattle.tlv_core.specs.declared.reason.TlvReason.TheVariants.{TooDeep, TooLong, Overrun};
-ghost use Rattle.tlv_core.specs.Open.{AreEnds, IsWell-prop, open_after};
+ghost use Rattle.tlv_core.specs.Open.{AreEnds, AreFrom, AreNested, IsWell-prop, open_after};
 
 use crate::header::{Header, Next, ObjectHeader};
 use crate::places::CheckPlaces;
@@ -35,6 +34,7 @@ pub(crate) struct Progress {
     ghost limit: { max ≤ 1048576 },
     ghost within: { count + value_left ≤ max },
     ghost ahead: { AreEnds max count ends.items },
+    ghost nested: { AreNested ends.items },
     ghost well: { IsWell header } by { IsWell-prop header },
     ghost levels: { array_vec_len ends ≤ 16 },
     ghost shallow: { header ≢ Nothing → array_vec_len ends < 16 },
@@ -166,8 +166,8 @@ impl Progress {
         Ok(1)
     }
 
-    /// Takes a primitive object, or the header of a constructed one, where its tag has one octet or two, its
-    /// length field at most three, and all of that is here and fits. The header that was taken; where there
+    /// Takes a primitive object, or the header of a constructed one, where its length field has at most three
+    /// octets, and all of that is here and fits. The header that was taken; where there
     /// is nothing of the kind, nothing changes.
     #[inline(always)]
     pub(crate) fn take_short(&mut self, octets: &[u8]) -> Option<ShortHeader>
@@ -315,6 +315,7 @@ impl Progress {
         requires idle { self.old.value_left ≡ 0 }
         requires whole { self.old.header ≡ Nothing }
         requires fits { self.old.count + object.len ≤ self.old.max }
+        requires inside { AreFrom (self.old.count + object.len) self.old.ends.items }
         ensures { kept_of self.new ≡ entered (kept_of self.old) object.len
             (constructed_bit object.tag) }
     {
@@ -330,17 +331,28 @@ impl Progress {
     }
 }
 
-/// Closes the objects whose end is reached after `count` octets.
+/// Closes the objects whose end is reached after `count` octets, the innermost first: none ends after the one that it
+/// is in.
+#[inline(always)]
 fn close(ends: &mut ArrayVec<u32, DEEPEST>, count: usize)
+    requires { AreNested ends.old.items }
     ensures { ends.new.items ≡ open_after count ends.old.items }
 {
-    let open = open_count(ends.as_slice(), count);
-    ends.truncate(open);
+    while is_reached(ends.as_slice(), count) {
+        let _end = ends.pop();
+    }
 }
 
-/// How many objects are open yet after `count` octets.
-fn open_count(ends: &[u32], count: usize) -> usize
-    ensures { result ≡ prefix_len (λ end. nat_lt count end) ends.now }
+/// Whether an object is open, and the end of the innermost one is reached after `count` octets.
+#[inline(always)]
+fn is_reached(ends: &[u32], count: usize) -> bool
+    ensures yes { result ≡ true → (0 < length ends.now)
+        × (slice_index ends.now (length ends.now - 1) ≤ count) }
+    ensures no { result ≡ false → 0 < length ends.now
+        → count < slice_index ends.now (length ends.now - 1) }
 {
-    ends.iter().take_while(|end| **end as usize > count).count()
+    match ends.last() {
+        Some(end) => *end as usize <= count,
+        None => false,
+    }
 }

@@ -1,21 +1,21 @@
 //! Objects whose header is short, taken at once.
 
-ghost use Rattle.std.specs.Prelude.{◌≡◌, ◌<◌, ◌≤◌, ◌+◌, [], ◌∷◌, take, length, IfSome, IfNone};
+ghost use Rattle.std.specs.Prelude.{◌≡◌, ◌<◌, ◌≤◌, ◌+◌, [], ◌∷◌, take, drop, length, IfSome, IfNone};
 ghost use Rattle.tlv_core.specs.Tag.{IsTag};
 ghost use Rattle.tlv_core.specs.Short.{IsShort, IsShortLength, opened, taken_of, whole_of, value_in};
 
 use crate::form::Form;
 use crate::header::ObjectHeader;
-use crate::tag::{Tag, is_constructed, is_last, is_long};
+use crate::tag::{Tag, is_constructed, is_long};
 
-/// The header of an object whose tag has one octet or two, and whose length field has at most three.
+/// The header of an object whose length field has at most three octets.
 #[derive(Clone, Copy)]
 pub(crate) struct ShortHeader {
-    /// The number of its tag's octets, 1 or 2.
+    /// The number of its tag's octets, 1 to 3.
     pub(crate) tag: u8,
     /// The form of its length field.
     pub(crate) form: Form,
-    /// The number of its octets, 2 to 5.
+    /// The number of its octets, 2 to 6.
     pub(crate) header: u8,
     pub(crate) is_constructed: bool,
     /// The length of the value.
@@ -85,61 +85,110 @@ impl ShortHeader {
               self.now.len;
         } }
     {
+        let front = front_of(octets);
         ObjectHeader {
-            tag: Tag::of(&octets[..usize::from(self.tag)]),
+            tag: Tag::front([front[0], front[1], front[2]], self.tag),
             form: self.form,
             len: u32::from(self.len),
         }
     }
 }
 
+/// A short header is at most so long.
+const LONGEST_SHORT: usize = 6;
+
 /// The short header with which these octets begin, if they do.
+#[inline(always)]
 pub(crate) fn short_header(octets: &[u8]) -> Option<ShortHeader>
     ensures { IfSome result (IsShort octets.now) }
 {
-    let tag = short_tag(octets)?;
-    let length = short_length(&octets[usize::from(tag)..])?;
+    match octets.first_chunk::<LONGEST_SHORT>() {
+        Some(front) => header_at(front),
+        None => header_at_end(octets),
+    }
+}
+
+/// The same of a few octets.
+#[inline(never)]
+fn header_at_end(octets: &[u8]) -> Option<ShortHeader>
+    ensures { IfSome result (IsShort octets.now) }
+{
+    let found = header_at(&front_of(octets))?;
+    if usize::from(found.header) > octets.len() {
+        return None;
+    }
+    Some(found)
+}
+
+/// The first octets, with zeros after the last where there are fewer.
+#[inline(always)]
+fn front_of(octets: &[u8]) -> [u8; LONGEST_SHORT]
+    ensures { take (length octets.now) result ≡ take 6 octets.now }
+{
+    if let Some(front) = octets.first_chunk::<LONGEST_SHORT>() {
+        return *front;
+    }
+    let mut front = [0; LONGEST_SHORT];
+    front[..octets.len()].copy_from_slice(octets);
+    front
+}
+
+/// The short header with which so many octets begin, if they do.
+#[inline(always)]
+fn header_at(front: &[u8; LONGEST_SHORT]) -> Option<ShortHeader>
+    ensures { IfSome result (IsShort front.now) }
+{
+    let tag = tag_at(front)?;
+    let length = length_at(front, tag)?;
     Some(ShortHeader {
         tag,
         form: length.form,
         header: tag + length.octets,
-        is_constructed: is_constructed(octets[0]),
+        is_constructed: is_constructed(front[0]),
         len: length.len,
     })
 }
 
-/// The number of octets of the tag at the front, where it has one or two.
-fn short_tag(octets: &[u8]) -> Option<u8>
-    ensures tag { IfSome result (λ n. IsTag (take n octets.now)) }
-    ensures few { IfSome result (λ n. (0 < n) × (n ≤ 2) × (n ≤ length octets.now)) }
+/// The number of octets of the tag at the front. Objects differ in it with no rule, so it is counted without a branch.
+#[inline(always)]
+fn tag_at(front: &[u8; LONGEST_SHORT]) -> Option<u8>
+    ensures tag { IfSome result (λ n. IsTag (take n front.now)) }
+    ensures few { IfSome result (λ n. (0 < n) × (n ≤ 3)) }
 {
-    match octets {
-        [first, ..] if *first != 0 && !is_long(*first) => Some(1),
-        [first, second, ..] if is_long(*first) && is_last(*second) => Some(2),
-        _ => None,
+    let [first, second, third, ..] = *front;
+    let is_long = is_long(first);
+    let is_longer = is_long & (second >= 0x80);
+    let is_tag = (first != 0) & (!is_long | (second % 0x80 != 0)) & (!is_longer | (third < 0x80));
+    if !is_tag {
+        return None;
     }
+    Some(1 + u8::from(is_long) + u8::from(is_longer))
 }
 
-/// The length field at the front, where it has at most three octets.
-fn short_length(octets: &[u8]) -> Option<ShortLength>
-    ensures { IfSome result (IsShortLength octets.now) }
+/// The length field of at most three octets after a tag of so many.
+#[inline(always)]
+fn length_at(front: &[u8; LONGEST_SHORT], tag: u8) -> Option<ShortLength>
+    requires { tag ≤ 3 }
+    ensures { IfSome result (IsShortLength (drop tag front.now)) }
 {
-    match octets {
-        [len, ..] if *len < 0x80 => Some(ShortLength {
-            form: Form::One,
-            octets: 1,
-            len: u16::from(*len),
-        }),
-        [0x81, len, ..] => Some(ShortLength {
+    let at = usize::from(tag);
+    let (first, second, third) = (front[at], front[at + 1], front[at + 2]);
+    match first {
+        0x81 => Some(ShortLength {
             form: Form::Two,
             octets: 2,
-            len: u16::from(*len),
+            len: u16::from(second),
         }),
-        [0x82, high, low, ..] => Some(ShortLength {
+        0x82 => Some(ShortLength {
             form: Form::Three,
             octets: 3,
-            len: u16::from(*high) * 0x100 + u16::from(*low),
+            len: u16::from(second) * 0x100 + u16::from(third),
         }),
-        _ => None,
+        0x80.. => None,
+        _ => Some(ShortLength {
+            form: Form::One,
+            octets: 1,
+            len: u16::from(first),
+        }),
     }
 }

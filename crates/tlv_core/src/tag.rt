@@ -1,6 +1,6 @@
 //! Tags of data objects.
 
-ghost use Rattle.std.specs.Prelude.{◌≡◌, ◌<◌, ◌/◌, ◌%◌, ◌↔◌, IsTrue, MatchOption};
+ghost use Rattle.std.specs.Prelude.{◌≡◌, ◌<◌, ◌≤◌, ◌/◌, ◌%◌, ◌↔◌, IsTrue, MatchOption, take};
 ghost use Rattle.tlv_core.specs.Tag.{IsTag, IsLong, constructed_bit};
 
 use std::marker::Model;
@@ -96,6 +96,24 @@ impl Tag {
                 count: 3,
             },
             _ => unreachable!(),
+        }
+    }
+
+    /// The tag that the first `count` of these octets are, made without a branch.
+    #[inline(always)]
+    pub(crate) fn front(octets: [u8; 3], count: u8) -> Tag
+        requires few { count ≤ 3 }
+        requires tag { IsTag (take count octets) }
+        ensures { result ≡ take count octets }
+    {
+        let [first, second, third] = octets;
+        Tag {
+            octets: [
+                first,
+                if count > 1 { second } else { 0 },
+                if count > 2 { third } else { 0 },
+            ],
+            count,
         }
     }
 

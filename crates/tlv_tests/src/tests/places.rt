@@ -76,6 +76,10 @@ fn places_that_are_no_check(rt: HostRuntime) -> Result<(), Fail> {
     );
     assert!(rt; !CheckPlaces { level: 3, ..p }.fit());
     assert!(rt; !CheckPlaces { level: 17, ..p }.fit());
+    // the inner object would end after the outer one
+    let mut later = p;
+    later.ends[1] += 1;
+    assert!(rt; !later.fit());
     Ok(())
 }
 

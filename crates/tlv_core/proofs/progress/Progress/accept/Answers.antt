@@ -1,13 +1,13 @@
-use Rattle.std.proofs.Common.{◌≡◌, ◌+◌, List, ℕ, [], sym, ap, subst, ◌∙◌, arith}
+use Rattle.std.proofs.Common.{◌≡◌, ◌+◌, ◌-◌, List, ℕ, [], sym, ap, subst, ◌∙◌, arith}
 use Rattle.tlv_core.specs.declared.header.Header.{Header}
 use Rattle.tlv_core.specs.declared.header.Next.TheVariants as next
 use Rattle.tlv_core.specs.Header.{header_octets, header_in, next_need, IsWell}
-use Rattle.tlv_core.specs.Reasons.{Kept}
+use Rattle.tlv_core.specs.Reasons.{Kept, room_of}
 use Rattle.tlv_core.specs.Tag.{constructed_bit}
 use Rattle.tlv_core.specs.Steps.{after_next, entered}
 use Rattle.tlv_core.specs.Open.{rooms_to}
 use Rattle.tlv_core.specs.Progress.{kept_of}
-use Rattle.tlv_core.proofs.Ends.{kept, ends-now, fewer-now, room-within, same_open, same_left, some_header, well_header, some_object, after-none}
+use Rattle.tlv_core.proofs.Ends.{kept, ends-now, nested-now, from-now, from-room, from-less, fewer-now, room-within, same_open, same_left, some_header, well_header, some_object, after-none}
 use Rattle.tlv_core.proofs.progress.Progress.accept.Goals as goal
 
 pub invariant_of-self : goal.invariant_of-self
@@ -23,6 +23,7 @@ invariant_of-self c =
         room-within s.max s.count s.ends.items s.ahead (omega (arith, s.within)),
       );
       ahead = ends-now s.max s.count 1 s.ends.items c.close.new.ends.items s.ahead c.close.ensures;
+      nested = nested-now (s.count + 1) s.ends.items c.close.new.ends.items s.nested c.close.ensures;
       well = subst IsWell (sym c.header-self.ensures) (well_header c.args.next.now c.requires.well);
       levels = omega (arith, s.levels, fewer-now c.close.new.ends.items s.ends.items (s.count + 1) c.close.ensures);
       shallow = λ h. omega (
@@ -45,6 +46,16 @@ enter-requires-clause-fits c =
       s.within,
       room-within s.max s.count s.ends.items s.ahead (omega (arith, s.within)),
     )
+
+pub enter-requires-clause-inside : goal.enter-requires-clause-inside
+enter-requires-clause-inside c =
+    let s = c.args.self.now in
+    let o = c.in-Some.object in
+    let is : c.args.next.now ≡ next.Object o = some_object c.args.next.now o (sym c.object.ensures ∙ c.in-Some.is) in
+    from-now (s.count + 1 + o.len) (s.count + 1) s.ends.items c.close.new.ends.items
+    (from-less (s.count + 1 + o.len) (s.count + room_of (s.max - s.count) (rooms_to s.count s.ends.items)) s.ends.items
+    (omega (arith, ap next_need is, c.requires.room))
+    (from-room s.max s.count (s.max - s.count) s.ends.items s.ahead s.nested)) c.close.ensures
 
 pub returns-in-Some : goal.returns-in-Some
 returns-in-Some c =

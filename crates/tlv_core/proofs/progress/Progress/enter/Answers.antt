@@ -1,6 +1,6 @@
 use Rattle.std.proofs.Common.{◌+◌, subst, sym, arith}
-use Rattle.tlv_core.specs.Open.{AreEnds}
-use Rattle.tlv_core.proofs.Ends.{ends-push}
+use Rattle.tlv_core.specs.Open.{AreEnds, AreNested}
+use Rattle.tlv_core.proofs.Ends.{ends-push, nested-push}
 use Rattle.tlv_core.proofs.progress.Progress.enter.Goals as goal
 
 pub invariant_of-self : goal.invariant_of-self
@@ -12,6 +12,8 @@ invariant_of-self c =
       ahead = subst (AreEnds s.max s.count) (sym c.push.ensures.items)
           (ends-push s.max s.count (s.count + c.args.object.len) s.ends.items s.ahead
           (omega (arith, c.if-len-eq0.false)) c.requires.fits);
+      nested = subst AreNested (sym c.push.ensures.items)
+          (nested-push (s.count + c.args.object.len) s.ends.items s.nested c.requires.inside);
       well = s.well;
       levels = omega (arith, c.requires.shallow, c.push.ensures.len);
       shallow = λ h. absurd (h c.requires.whole);

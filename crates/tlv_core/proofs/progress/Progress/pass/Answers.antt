@@ -1,6 +1,7 @@
-use Rattle.std.proofs.Common.{◌+◌, ◌∙◌, subst, sym, arith}
-use Rattle.tlv_core.specs.Open.{AreEnds, rooms_to}
-use Rattle.tlv_core.proofs.Ends.{ends-now, ends-push, fewer-now, room-within}
+use Rattle.std.proofs.Common.{◌+◌, ◌-◌, ◌∙◌, subst, sym, arith}
+use Rattle.tlv_core.specs.Open.{AreEnds, AreNested, rooms_to}
+use Rattle.tlv_core.proofs.Ends.{ends-now, ends-push, nested-now, nested-push, from-now, from-room, from-less, fewer-now, room-within}
+use Rattle.tlv_core.specs.Reasons.{room_of}
 use Rattle.tlv_core.proofs.Shorts.{kept_opened, kept_passed, taken_within, was_nothing, by_header}
 use Rattle.tlv_core.proofs.progress.Progress.pass.Goals as goal
 
@@ -22,6 +23,16 @@ invariant_of-self c =
           (omega (arith, some.0))
           (omega (arith, s.within, c.requires.fits, most, whole, c.taken.ensures))
           );
+      nested = subst AreNested (sym c.push.ensures.items)
+          (
+          nested-push (s.count + c.taken.result + n) c.close.new.ends.items
+          (nested-now (s.count + c.taken.result) s.ends.items c.close.new.ends.items s.nested c.close.ensures)
+          (from-now (s.count + c.taken.result + n) (s.count + c.taken.result) s.ends.items c.close.new.ends.items
+          (from-less (s.count + c.taken.result + n)
+          (s.count + room_of (s.max - s.count) (rooms_to s.count s.ends.items)) s.ends.items
+          (omega (arith, c.requires.fits, whole, c.taken.ensures))
+          (from-room s.max s.count (s.max - s.count) s.ends.items s.ahead s.nested)) c.close.ensures)
+          );
       well = s.well;
       levels = omega (
         arith,
@@ -41,6 +52,7 @@ invariant_of-self-in_default c =
       limit = s.limit;
       within = omega (arith, s.within, c.requires.idle, c.requires.fits, most, least, c.taken.ensures);
       ahead = ends-now s.max s.count c.taken.result s.ends.items c.close.new.ends.items s.ahead c.close.ensures;
+      nested = nested-now (s.count + c.taken.result) s.ends.items c.close.new.ends.items s.nested c.close.ensures;
       well = s.well;
       levels = omega (
         arith,
