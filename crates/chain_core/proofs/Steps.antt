@@ -1,5 +1,5 @@
 -- What a receiver keeps over the octets that come: its places, and the octets of its message.
-use Rattle.std.proofs.Common.{◌≡◌, ◌≢◌, ℕ, ◌+◌, ◌-◌, ◌*◌, ◌<◌, ◌≤◌, ◌++◌, List, [], ◌∷◌, length, take, drop, refl, sym, ap, subst, ◌∙◌, arith, Bool, true, false, not, inl, inr, Some, None, nat_eq, bit_xor}
+use Rattle.std.proofs.Common.{◌≡◌, ◌≢◌, ℕ, ◌+◌, ◌-◌, ◌*◌, ◌<◌, ◌≤◌, ◌++◌, List, [], ◌∷◌, length, take, drop, refl, sym, ap, subst, ◌∙◌, arith, Bool, true, false, not, inl, inr, Option, Some, None, nat_eq, bit_xor}
 use Rattle.std.proofs.lemmas.List.{length-append, length-take, length-drop, length-replicate, drop-take, drop-append-le, take-append-le, take_all}
 use Rattle.std.proofs.lemmas.List.Sums.{fold-append}
 use Rattle.std.proofs.lemmas.Bool.Decides.{eqb_tells}
@@ -73,6 +73,13 @@ counted : (more last : Bool) (blocks : ℕ) → (last ≡ false → blocks + 2 �
 counted false last blocks few some h = omega arith
 counted true last blocks few some h = omega (arith, few (h refl))
 
+-- what comes after one of these octets, and what it is refused for
+abbrev pub IsNext : ReceiverPlaces → ℕ → part.Part → Type 0
+IsNext p x next = IsAfter (number_at p) (nat_eq (p.blocks + 1) 131072) p.ifs (p.max - p.joined) p.part x next
+
+abbrev pub IsOff : ReceiverPlaces → ℕ → ChainReason → Type 0
+IsOff p x reason = IsHeadFault (number_at p) (nat_eq (p.blocks + 1) 131072) p.ifs (p.max - p.joined) p.part x reason
+
 head-text : (number : Number) (last : Bool) (ifs room x : ℕ) (p next : part.Part) (field more : List ℕ)
     → IsAfter number last ifs room p x next → under_way_of number next (take 0 more) ≡ under_way_of number p field
     ++ x ∷ []
@@ -124,8 +131,7 @@ pub head-held : (p : ReceiverPlaces) (next : part.Part) → IsHead p.part
 head-held p next head = omega (arith, none-came next, head-came p.part p.came head)
 
 pub head-on : (p : ReceiverPlaces) (next : part.Part) (x room : ℕ) (m : List ℕ) → AreReceiverPlaces p room
-    → held_at p ≤ length m → p.refusal ≡ None → p.done ≡ false
-    → IsAfter (number_at p) (nat_eq (p.blocks + 1) 131072) p.ifs (p.max - p.joined) p.part x next
+    → held_at p ≤ length m → p.refusal ≡ None → p.done ≡ false → IsNext p x next
     → Goes (received_at p m) (received_at (record p { part = next; came = 0 }) m) (x ∷ [])
 head-on p next x room m fit held none still after =
     let way = way-of p room fit still in
@@ -138,29 +144,33 @@ head-on p next x room m fit held none still after =
     (head-text (number_at p) (nat_eq (p.blocks + 1) 131072) p.ifs (p.max - p.joined) x p.part next (field_at p m)
     (drop p.joined m) after)
 
-pub head-fit : (p : ReceiverPlaces) (next : part.Part) (x room : ℕ) → p.done ≡ false
-    → IsAfter (number_at p) (nat_eq (p.blocks + 1) 131072) p.ifs (p.max - p.joined) p.part x next
-    → AreReceiverPlaces p room
-    → AreReceiverPlaces (record p { part = next; came = 0 }) room
+-- what is kept beside the block under way stays
+fit-with : (p : ReceiverPlaces) (next : part.Part) (came : ℕ) (refusal : Option (Refusal ChainReason)) (room more : ℕ)
+    → AreReceiverPlaces p room → room ≤ more
+    → IsAmong p.done (record p { part = next; came = came; refusal = refusal })
+    → AreReceiverPlaces (record p { part = next; came = came; refusal = refusal }) more
+fit-with p next came refusal room more fit grows among = record {
+  least = fit.least;
+  most = fit.most;
+  limit = fit.limit;
+  reserved = omega (arith, fit.reserved, grows);
+  joined = fit.joined;
+  blocks = fit.blocks;
+  among = among;
+}
+
+pub head-fit : (p : ReceiverPlaces) (next : part.Part) (x room : ℕ) → p.done ≡ false → IsNext p x next
+    → AreReceiverPlaces p room → AreReceiverPlaces (record p { part = next; came = 0 }) room
 head-fit p next x room still after fit =
     let way = way-of p room fit still in
-    record {
-      least = fit.least;
-      most = fit.most;
-      limit = fit.limit;
-      reserved = fit.reserved;
-      joined = fit.joined;
-      blocks = fit.blocks;
-      among = subst (λ (d : Bool). IsAmong d (record p { part = next; came = 0 })) (sym still) (
-        way.0,
-        head-way (number_at p) p.ifs p.max p.blocks p.joined p.came x p.part next way.0 fit.joined way.1
-            after,
-      );
-    }
+    let next-way = head-way (number_at p) p.ifs p.max p.blocks p.joined p.came x p.part next way.0 fit.joined way.1
+    after in
+    fit-with p next 0 p.refusal room room fit (omega arith)
+    (subst (λ (d : Bool). IsAmong d (record p { part = next; came = 0 })) (sym still) (way.0, next-way))
 
 pub head-off : (p : ReceiverPlaces) (x room : ℕ) (reason : ChainReason) (m : List ℕ) → AreReceiverPlaces p room
     → held_at p ≤ length m → p.refusal ≡ None → p.done ≡ false → IsHead p.part
-    → IsHeadFault (number_at p) (nat_eq (p.blocks + 1) 131072) p.ifs (p.max - p.joined) p.part x reason
+    → IsOff p x reason
     → Goes (received_at p m) (received_at
     (record p { refusal = Some (record { place = p.joined + 4 * p.blocks + place_of p.part; reason = reason }) }) m)
     (x ∷ [])
@@ -190,16 +200,8 @@ among-kept false p refusal h = h
 
 pub kept-fit : (p : ReceiverPlaces) (refusal : Refusal ChainReason) (room : ℕ) → AreReceiverPlaces p room
     → AreReceiverPlaces (record p { refusal = Some refusal }) room
-kept-fit p refusal room fit = record {
-  least = fit.least;
-  most = fit.most;
-  limit = fit.limit;
-  reserved =
-      fit.reserved;
-  joined = fit.joined;
-  blocks = fit.blocks;
-  among = among-kept p.done p refusal fit.among;
-}
+kept-fit p refusal room fit =
+    fit-with p p.part p.came (Some refusal) room room fit (omega arith) (among-kept p.done p refusal fit.among)
 
 -- ---- octets of the field
 
@@ -222,16 +224,9 @@ pub field-fit : (p : ReceiverPlaces) (run room more : ℕ) → p.done ≡ false 
     → AreReceiverPlaces (record p { came = p.came + run }) more
 field-fit p run room more still some le grows fit =
     let way = way-of p room fit still in
-    record {
-      least = fit.least;
-      most = fit.most;
-      limit = fit.limit;
-      reserved = omega (arith, fit.reserved, grows);
-      joined = fit.joined;
-      blocks = fit.blocks;
-      among = subst (λ (d : Bool). IsAmong d (record p { came = p.came + run })) (sym still)
-          (way.0, more-way p.ifs p.max p.blocks p.joined p.came run p.part some le way.1);
-    }
+    fit-with p p.part (p.came + run) p.refusal room more fit grows
+    (subst (λ (d : Bool). IsAmong d (record p { came = p.came + run })) (sym still)
+    (way.0, more-way p.ifs p.max p.blocks p.joined p.came run p.part some le way.1))
 
 left-held : (p : part.Part) (came now : ℕ) → 0 < left_of p came → came_of p now ≡ now
 left-held parts.Nad came now some = absurd (omega arith)
@@ -307,12 +302,15 @@ field-len : (p : ReceiverPlaces) (len : ℕ) (m : List ℕ) → p.joined + len �
 field-len p len m inside = omega (arith, length-take len (drop p.joined m), length-drop p.joined m, inside)
 
 -- the exclusive-or of the first three octets and of the field is that of both
-pub front-sum : (p : ReceiverPlaces) (more : Bool) (len pcb a b : ℕ) (m : List ℕ)
-    → pcb ≡ pcb_octet (Info (number_at p) more) → a ≡ xor_of (0 ∷ pcb ∷ len ∷ [])
-    → b ≡ xor_of (take len (drop p.joined m)) → bit_xor a b ≡ xor_of (front_at p more len m)
-front-sum p more len pcb a b m is head field =
+pub front-sum : (p : ReceiverPlaces) (more : Bool) (number : Number) (len pcb a b : ℕ) (m : List ℕ)
+    → number ≡ number_at p → pcb ≡ pcb_octet (Info number more) → a ≡ xor_of (0 ∷ pcb ∷ len ∷ [])
+    → b ≡ xor_of (take (p.joined + len - p.joined) (drop p.joined m)) → bit_xor a b ≡ xor_of (front_at p more len m)
+front-sum p more number len pcb a b m own is head field =
+    let run : p.joined + len - p.joined ≡ len = omega arith in
+    let kind : pcb ≡ pcb_octet (Info (number_at p) more) = is ∙ ap (λ (n : Number). pcb_octet (Info n more)) own in
     xor-more a b (0 ∷ pcb_octet (Info (number_at p) more) ∷ len ∷ []) (take len (drop p.joined m))
-    (head ∙ ap (λ (y : ℕ). xor_of (0 ∷ y ∷ len ∷ [])) is) field
+    (head ∙ ap (λ (y : ℕ). xor_of (0 ∷ y ∷ len ∷ [])) kind)
+    (field ∙ ap (λ (k : ℕ). xor_of (take k (drop p.joined m))) run)
 
 -- another octet than that makes no sum of 0
 pub sum-off : (front : List ℕ) (x : ℕ) → xor_of front ≢ x → xor_of (front ++ x ∷ []) ≢ 0

@@ -1,28 +1,21 @@
-use Rattle.std.proofs.Common.{◌≡◌, ◌+◌, ◌-◌, ◌*◌, ℕ, Some, sym, ap, subst, ◌∙◌, nat_eq, ◌∷◌, []}
-use Rattle.block_core.specs.declared.pcb.Number.{Number}
-use Rattle.chain_core.specs.Part.{IsAfter, IsHeadFault, place_of}
+use Rattle.std.proofs.Common.{◌≡◌, ◌+◌, ◌*◌, ℕ, Some, sym, ap, subst, ◌∙◌, ◌∷◌, []}
+use Rattle.chain_core.specs.Part.{place_of}
 use Rattle.chain_core.specs.Receiving.{Goes}
-use Rattle.chain_core.specs.Places.{number_at, held_at, received_at}
+use Rattle.chain_core.specs.Places.{held_at, received_at}
 use Rattle.chain_core.specs.declared.places.ReceiverPlaces.{ReceiverPlaces}
-use Rattle.chain_core.proofs.Steps.{head-on, head-off, head-fit, head-held, kept-fit}
+use Rattle.chain_core.proofs.Steps.{IsNext, IsOff, head-on, head-off, head-fit, head-held, kept-fit}
 use Rattle.chain_core.proofs.places.ReceiverPlaces.take_head.Goals as goal
 
 pub returns-in-Ok-clause-fit : goal.returns-in-Ok-clause-fit
 returns-in-Ok-clause-fit c = λ room fit.
     let p : ReceiverPlaces = c.args.self.now in
-    let after : IsAfter (number_at p) (nat_eq (p.blocks + 1) 131072) p.ifs (p.max - p.joined) p.part c.args.octet
-    c.in-Ok.part = subst (λ (n : Number).
-    IsAfter n (nat_eq (p.blocks + 1) 131072) p.ifs (p.max - p.joined) p.part c.args.octet c.in-Ok.part)
-    c.number.ensures c.in-Ok.ensures.on in
+    let after : IsNext p c.args.octet c.in-Ok.part = rw c.number.ensures at c.in-Ok.ensures.on in
     head-fit p c.in-Ok.part c.args.octet room c.requires.open.1 after fit
 
 pub returns-in-Ok-clause-goes : goal.returns-in-Ok-clause-goes
 returns-in-Ok-clause-goes c = λ m held.
     let p : ReceiverPlaces = c.args.self.now in
-    let after : IsAfter (number_at p) (nat_eq (p.blocks + 1) 131072) p.ifs (p.max - p.joined) p.part c.args.octet
-    c.in-Ok.part = subst (λ (n : Number).
-    IsAfter n (nat_eq (p.blocks + 1) 131072) p.ifs (p.max - p.joined) p.part c.args.octet c.in-Ok.part)
-    c.number.ensures c.in-Ok.ensures.on in
+    let after : IsNext p c.args.octet c.in-Ok.part = rw c.number.ensures at c.in-Ok.ensures.on in
     head-on p c.in-Ok.part c.args.octet c.requires.fit.0 m c.requires.fit.1 held c.requires.open.0 c.requires.open.1
     after
 
@@ -32,10 +25,7 @@ returns-in-Err-clause-fit c = λ room fit. rw c.refuse.ensures (kept-fit c.args.
 pub returns-in-Err-clause-goes : goal.returns-in-Err-clause-goes
 returns-in-Err-clause-goes c = λ m held.
     let p : ReceiverPlaces = c.args.self.now in
-    let fault : IsHeadFault (number_at p) (nat_eq (p.blocks + 1) 131072) p.ifs (p.max - p.joined) p.part c.args.octet
-    c.in-Err.reason = subst (λ (n : Number).
-    IsHeadFault n (nat_eq (p.blocks + 1) 131072) p.ifs (p.max - p.joined) p.part c.args.octet c.in-Err.reason)
-    c.number.ensures c.in-Err.ensures.refused in
+    let fault : IsOff p c.args.octet c.in-Err.reason = rw c.number.ensures at c.in-Err.ensures.refused in
     let is : c.refuse.new.self ≡ record p
     { refusal = Some (record { place = p.joined + 4 * p.blocks + place_of p.part; reason = c.in-Err.reason }) } =
     c.refuse.ensures ∙ ap (λ (k : ℕ). record p

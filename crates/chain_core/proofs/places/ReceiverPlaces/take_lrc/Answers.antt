@@ -1,10 +1,7 @@
-use Rattle.std.proofs.Common.{◌≡◌, ◌+◌, ◌-◌, ◌*◌, ℕ, List, [], ◌∷◌, Bool, take, drop, arith, sym, ap, subst, ◌∙◌, Some, bit_xor}
+use Rattle.std.proofs.Common.{◌≡◌, ◌+◌, ◌*◌, ℕ, List, [], ◌∷◌, Bool, arith, sym, ap, subst, ◌∙◌, Some, bit_xor}
 use Rattle.octet_core.specs.Octets.{AreOctets, xor_of}
-use Rattle.block_core.specs.Block.{pcb_octet}
-use Rattle.block_core.specs.declared.pcb.Number.{Number}
-use Rattle.block_core.specs.declared.pcb.Pcb.TheVariants.{Info}
 use Rattle.chain_core.specs.Receiving.{Goes}
-use Rattle.chain_core.specs.Places.{number_at, received_at, AreReceiverPlaces}
+use Rattle.chain_core.specs.Places.{received_at, AreReceiverPlaces}
 use Rattle.chain_core.specs.declared.places.ReceiverPlaces.{ReceiverPlaces}
 use Rattle.chain_core.specs.declared.reason.ChainReason.TheVariants.{BadLrc}
 use Rattle.chain_core.proofs.Steps.{with_rest, closed_at, front_at, front-sum, sum-off, lrc-on, lrc-off, closed-fit}
@@ -21,12 +18,9 @@ returns-then-lrc-octet-clause-goes c =
     let same : p ≡ q = λ i. record p { part = c.requires.part i; came = c.requires.came i } in
     let fit : AreReceiverPlaces q c.requires.fit.0 =
     subst (λ (s : ReceiverPlaces). AreReceiverPlaces s c.requires.fit.0) same c.requires.fit.1 in
-    let run : p.joined + len - p.joined ≡ len = omega arith in
-    let kind : c.octet.result ≡ pcb_octet (Info (number_at p) more) =
-    c.octet.ensures ∙ ap (λ (n : Number). pcb_octet (Info n more)) c.number.ensures in
     let sum : bit_xor c.lrc.result c.lrc-2.result ≡ xor_of (front_at p more len m) =
-    front-sum p more len c.octet.result c.lrc.result c.lrc-2.result m kind c.lrc.ensures
-    (c.lrc-2.ensures ∙ ap (λ (k : ℕ). xor_of (take k (drop p.joined m))) run) in
+    front-sum p more c.number.result len c.octet.result c.lrc.result c.lrc-2.result m c.number.ensures c.octet.ensures
+    c.lrc.ensures c.lrc-2.ensures in
     let goes = lrc-off p more len x c.requires.fit.0 m fit c.requires.held c.requires.open.0 c.requires.open.1
     (sum-off (front_at p more len m) x (λ e. c.if-lrc-octet.true (sum ∙ e))) in
     let kept : record q { refusal = Some (record { place = p.joined + 4 * p.blocks + (3 + len); reason = BadLrc }) } ≡
@@ -59,12 +53,9 @@ returns-clause-goes c =
     let octets : AreOctets m = λ i. omega (arith, c.type_inv.message i) in
     let fit : AreReceiverPlaces q c.requires.fit.0 =
     subst (λ (s : ReceiverPlaces). AreReceiverPlaces s c.requires.fit.0) same c.requires.fit.1 in
-    let run : p.joined + len - p.joined ≡ len = omega arith in
-    let kind : c.octet.result ≡ pcb_octet (Info (number_at p) more) =
-    c.octet.ensures ∙ ap (λ (n : Number). pcb_octet (Info n more)) c.number.ensures in
     let sum : bit_xor c.lrc.result c.lrc-2.result ≡ xor_of (front_at p more len m) =
-    front-sum p more len c.octet.result c.lrc.result c.lrc-2.result m kind c.lrc.ensures
-    (c.lrc-2.ensures ∙ ap (λ (k : ℕ). xor_of (take k (drop p.joined m))) run) in
+    front-sum p more c.number.result len c.octet.result c.lrc.result c.lrc-2.result m c.number.ensures c.octet.ensures
+    c.lrc.ensures c.lrc-2.ensures in
     subst (λ (s : ReceiverPlaces). Goes (received_at s m) (received_at (closed_at p more len) m) (x ∷ [])) (sym same)
     (lrc-on p more len x c.requires.fit.0 m octets fit c.requires.held c.requires.open.0 c.requires.open.1
     (sym c.if-lrc-octet.false ∙ sum))
