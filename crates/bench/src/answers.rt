@@ -1,4 +1,4 @@
-//! Answers to reset decoded, whole and octet by octet.
+//! Answers to reset checked and decoded, whole and octet by octet.
 
 use crate::work::Work;
 use atr_core::AtrReader;
@@ -17,9 +17,14 @@ const ANSWERS: [&[u8]; 2] = [
     ],
 ];
 
-/// Decodes each answer as often whole, and as often octet by octet.
+/// Checks each answer, and decodes it as often whole, and as often octet by octet.
 pub(crate) fn decode_each(rt: &HostRuntime, timed: bool) -> io::Result<()> {
     for octets in ANSWERS {
+        let started = Instant::now(rt)?;
+        if !is_checked(octets) {
+            return Err(ErrorKind::InvalidData.into());
+        }
+        tell(rt, "answer to reset checked", octets, started, timed)?;
         let started = Instant::now(rt)?;
         if !is_decoded(octets) {
             return Err(ErrorKind::InvalidData.into());
@@ -54,6 +59,17 @@ fn tell(
         unit: "times",
     };
     work.tell(rt, started, timed)
+}
+
+/// Whether an answer is accepted each time, and is short each time without its last octet.
+fn is_checked(octets: &[u8]) -> bool {
+    for turn in 0..TIMES {
+        let cut = octets.len().saturating_sub(turn % 2);
+        if atr_core::check(&octets[..cut]).is_ok() != (turn % 2 == 0) {
+            return false;
+        }
+    }
+    true
 }
 
 /// Whether an answer is decoded each time, and is short each time without its last octet.

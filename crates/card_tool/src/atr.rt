@@ -8,7 +8,7 @@ ghost use Rattle.card_tool.specs.AtrTexts.{atr_codec, atr_text, byte_text, bytes
 use crate::codec::{Codec, Outcome};
 use crate::text::octets_word;
 use atr_core::{
-    Atr, AtrReason, Convention, Indicated, Interface, ParamFault, T1Params, decode, rates,
+    Atr, AtrReason, Convention, Indicated, Interface, ParamFault, T1Params, check, decode, rates,
     t1_params,
 };
 use card_words::Expected;
@@ -25,8 +25,7 @@ impl Codec for Atr {
     ghost named = { λ _. refl };
 
     fn taken(_alloc: Global, octets: &[u8], _expected: Expected) -> Outcome<usize, AtrReason> {
-        let (_, taken) = decode(octets)?;
-        Ok(taken)
+        Ok(check(octets)?)
     }
 
     fn shown(alloc: Global, octets: &[u8], _expected: Expected) -> Outcome<String, AtrReason> {
