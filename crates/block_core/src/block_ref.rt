@@ -40,6 +40,7 @@ impl<'a> BlockRef<'a> {
     /// `ifs` is the information size, 1 to 254. Where no block begins the octets, `At` gives the first
     /// octet after which none goes on, with its reason, and `Short` the place where the octets ended
     /// though one could go on.
+    #[inline(always)]
     pub fn decode(octets: &'a [u8], ifs: u8) -> Result<(BlockRef<'a>, usize), Stop<BlockReason>>
         requires least { 1 ≤ ifs }
         requires most { ifs ≤ 254 }

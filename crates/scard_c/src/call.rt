@@ -47,6 +47,7 @@ pub(crate) enum Call<'a> {
 
 impl<'a> TerminalCall<'a> {
     /// Makes the call, with the octets of the block that is sent in the buffer.
+    #[inline(always)]
     pub(crate) fn make(
         self,
         end: &mut Terminal,
@@ -97,6 +98,7 @@ impl<'a> TerminalCall<'a> {
 
 impl<'a> CardCall<'a> {
     /// Makes the call, with the octets of the block that is sent in the buffer.
+    #[inline(always)]
     pub(crate) fn make(self, end: &mut Card, out: &mut [u8]) -> Result<CardPut, CardFault>
         requires { 258 ≤ length out.old }
         ensures turn { IsCardPut (card_turn_of (card_turn end.old (card_input self.entry end.old)))

@@ -254,6 +254,7 @@ pub extern "C" fn scard_card_ask_ifs(
 }
 
 /// The turn of the end in a handle that a call gives.
+#[inline(always)]
 fn turn(alloc: Global, handle: &mut Handle, call: Call<'_>, out: &mut [u8]) -> CTurn
     ensures room { length out.old < 258 → result ≡ no_room }
     ensures stays { length out.old < 258 →

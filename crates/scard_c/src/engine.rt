@@ -22,6 +22,7 @@ impl Engine {
     ghost use Rattle.scard_c.specs.Readers.{Feeds, Ends};
 
     /// A call of an end; nothing where this isn't the end that is called.
+    #[inline(always)]
     pub(crate) fn called(&mut self, call: Call<'_>, out: &mut [u8]) -> CTurn
         requires { 258 ≤ length out.old }
         ensures { Takes call.entry (Some self.old) (Some self.new) out.old out.new result }
@@ -32,6 +33,7 @@ impl Engine {
         }
     }
 
+    #[inline(always)]
     fn terminal_called(&mut self, call: TerminalCall<'_>, out: &mut [u8]) -> CTurn
         requires { 258 ≤ length out.old }
         ensures { TerminalTakes (terminal_input call.entry) (Some self.old) (Some self.new) out.old
@@ -43,6 +45,7 @@ impl Engine {
         }
     }
 
+    #[inline(always)]
     fn card_called(&mut self, call: CardCall<'_>, out: &mut [u8]) -> CTurn
         requires { 258 ≤ length out.old }
         ensures { CardTakes (card_input call.entry) (Some self.old) (Some self.new) out.old out.new

@@ -37,6 +37,7 @@ impl<'a> Arrived<'a> {
 }
 
 /// What these octets are to an end that takes information fields of so many octets.
+#[inline(always)]
 pub(crate) fn classify(octets: &[u8], ifs: u8) -> Arrived<'_>
     requires least { 1 ≤ ifs }
     requires most { ifs ≤ 254 }
@@ -47,6 +48,7 @@ pub(crate) fn classify(octets: &[u8], ifs: u8) -> Arrived<'_>
 }
 
 /// The same, by the verdict on the octets as a block.
+#[inline(always)]
 fn by_verdict(octets: &[u8], ifs: u8) -> Arrived<'_>
     requires least { 1 ≤ ifs }
     requires most { ifs ≤ 254 }

@@ -115,6 +115,7 @@ impl CardPlaces {
     }
 
     /// The block that is sent, its field lent.
+    #[inline(always)]
     pub(super) fn lent<'a>(&self, held: &[u8], answer: &'a [u8], sent: &'a Sent) -> BlockRef<'a>
         requires fit { AreCardPlaces self.now (length held.now) (length answer.now) }
         ensures { result ≡ card_sends (card_held self.now held.now answer.now) sent.now }

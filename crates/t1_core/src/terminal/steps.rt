@@ -152,6 +152,7 @@ impl TerminalPlaces {
     }
 
     /// The block that is sent, its field lent.
+    #[inline(always)]
     pub(super) fn lent<'a>(&self, held: &'a [u8], joined: &[u8], sent: &'a Sent) -> BlockRef<'a>
         requires fit { AreTerminalPlaces self.now (length held.now) (length joined.now) }
         ensures { result ≡ terminal_sends (terminal_held self.now held.now joined.now) sent.now }
