@@ -33,7 +33,8 @@ use Rattle.atr_core.proofs.Partials.{needs-push, protocols-push, needs-same, pro
 abbrev pub Unfinished : List ℕ → Type 0
 Unfinished c = (w : AtrParts) × (y : ℕ) × (more : List ℕ) × IsAtr w (c ++ y ∷ more)
 
-go-on : (v : AtrParts) (c rest : List ℕ) → IsProper v → AreOctets (checked_octets v) → c ++ rest ≡ ts_of v.convention ∷ checked_octets v ++ option_to_list (tck_of v) → 0 < length rest → Unfinished c
+go-on : (v : AtrParts) (c rest : List ℕ) → IsProper v → AreOctets (checked_octets v) → c
+    ++ rest ≡ ts_of v.convention ∷ checked_octets v ++ option_to_list (tck_of v) → 0 < length rest → Unfinished c
 go-on v c [] proper octets is some = absurd (omega arith)
 go-on v c (y ∷ more) proper octets is some = (v, y, more, encoded v (c ++ y ∷ more) proper octets is)
 
@@ -44,14 +45,17 @@ plain c = record { convention = c; first = record { ta = None; tb = None; tc = N
 
 from-ts : (c : Convention) → IsAtr (plain c) (ts_of c ∷ 0 ∷ [])
 unfolding plain
-from-ts c = encoded (plain c) (ts_of c ∷ 0 ∷ []) (record { nibbles = record { protocols = tt; historical = omega arith }; most = omega arith }) (octets-cons 0 [] (omega arith) (λ i. omega arith)) refl
+from-ts c = encoded (plain c) (ts_of c ∷ 0 ∷ [])
+    (record { nibbles = record { protocols = tt; historical = omega arith }; most = omega arith })
+    (octets-cons 0 [] (omega arith) (λ i. omega arith)) refl
 
 -- ---- interface bytes
 
 -- 0 for each interface byte that is awaited
 record Awaiting (a b c : Option ℕ) (x y z : Bool) : Type 0 where
   rest : List ℕ
-  is : octets_of (record { ta = or_awaited x a; tb = or_awaited y b; tc = or_awaited z c }) ≡ octets_of (record { ta = a; tb = b; tc = c }) ++ rest
+  is : octets_of (record { ta = or_awaited x a; tb = or_awaited y b; tc = or_awaited z c }) ≡ octets_of
+      (record { ta = a; tb = b; tc = c }) ++ rest
   octets : AreOctets rest
   count : length rest ≡ count_of x + count_of y + count_of z
 
@@ -69,14 +73,35 @@ awaited_length : (z : Bool) → length (option_to_list (or_awaited z None)) ≡ 
 awaited_length false = refl
 awaited_length true = refl
 
-awaiting : (a b c : Option ℕ) (x y z : Bool) → (IsTrue x → (a ≡ None) × (b ≡ None) × (c ≡ None)) → (IsTrue y → (b ≡ None) × (c ≡ None)) → (IsTrue z → c ≡ None) → Awaiting a b c x y z
-awaiting a b c false false false p q r = record { rest = []; is = sym (append-nil (octets_of (record { ta = a; tb = b; tc = c }))); octets = nothing; count = refl }
+awaiting : (a b c : Option ℕ) (x y z : Bool) → (IsTrue x → (a ≡ None) × (b ≡ None) × (c ≡ None))
+    → (IsTrue y → (b ≡ None) × (c ≡ None)) → (IsTrue z → c ≡ None) → Awaiting a b c x y z
+awaiting a b c false false false p q r = record
+    { rest = []; is = sym (append-nil (octets_of (record { ta = a; tb = b; tc = c }))); octets = nothing; count = refl }
 awaiting a b None false false true p q r =
-    record { rest = 0 ∷ []; is = ap (λ (l : List ℕ). l ++ 0 ∷ []) (sym (append-nil (option_to_list a ++ option_to_list b))); octets = zero_octet [] nothing; count = refl }
+    record {
+      rest = 0 ∷ [];
+      is = ap (λ (l : List ℕ). l ++ 0 ∷ [])
+          (sym (append-nil (option_to_list a ++ option_to_list b)));
+      octets = zero_octet [] nothing;
+      count = refl;
+    }
 awaiting a b (Some w) false false true p q r = absurd (let e : Some w ≡ None = r refl in cc)
-awaiting None None None false true z p q r = record { rest = 0 ∷ option_to_list (or_awaited z None); is = refl; octets = zero_octet (option_to_list (or_awaited z None)) (awaited_octets z); count = omega (arith, awaited_length z) }
+awaiting None None None false true z p q r =
+    record {
+      rest = 0 ∷ option_to_list (or_awaited z None);
+      is = refl;
+      octets =
+          zero_octet (option_to_list (or_awaited z None)) (awaited_octets z);
+      count = omega (arith, awaited_length z);
+    }
 awaiting (Some v) None None false true z p q r =
-    record { rest = 0 ∷ option_to_list (or_awaited z None); is = refl; octets = zero_octet (option_to_list (or_awaited z None)) (awaited_octets z); count = omega (arith, awaited_length z) }
+    record {
+      rest = 0 ∷ option_to_list (or_awaited z None);
+      is = refl;
+      octets =
+          zero_octet (option_to_list (or_awaited z None)) (awaited_octets z);
+      count = omega (arith, awaited_length z);
+    }
 awaiting a (Some w) c false true z p q r = absurd (let e : Some w ≡ None = (q refl).0 in cc)
 awaiting a None (Some w) false true z p q r = absurd (let e : Some w ≡ None = (q refl).1 in cc)
 awaiting None None None true y z p q r =
@@ -116,14 +141,18 @@ unfolding tail_of bare
 needs-tail zs false = ap needs_tck (append-nil zs)
 needs-tail zs true = needs-push zs (record { protocol = 0; bytes = record { ta = None; tb = None; tc = None } })
 
-protocols-end : (zs : List Indicated) (t : Bool) → AllByRecursion (λ z. z.protocol < 16) zs → AllByRecursion (λ z. z.protocol < 16) (zs ++ tail_of t)
+protocols-end : (zs : List Indicated) (t : Bool) → AllByRecursion (λ z. z.protocol < 16) zs
+    → AllByRecursion (λ z. z.protocol < 16) (zs ++ tail_of t)
 unfolding tail_of bare
 protocols-end zs false p = subst (AllByRecursion (λ z. z.protocol < 16)) (sym (append-nil zs)) p
-protocols-end zs true p = protocols-push zs (record { protocol = 0; bytes = record { ta = None; tb = None; tc = None } }) p (omega arith)
+protocols-end zs true p = protocols-push zs
+    (record { protocol = 0; bytes = record { ta = None; tb = None; tc = None } }) p (omega arith)
 
 -- with 0 for what is awaited, and for the TD that is
-header-goes : (u : Option ℕ) (first : Interface) (xs : List Indicated) (f : Interface) (l : Announced) (k : ℕ) (rest : List ℕ) → IfNone u (xs ≡ []) → octets_of (filled f l) ≡ octets_of f ++ rest
-    → announcing (first_under u first (filled f l)) (goes_on (tds_under u xs (filled f l) ++ tail_of l.td)) k ∷ interface_octets (first_under u first (filled f l)) (tds_under u xs (filled f l) ++ tail_of l.td)
+header-goes : (u : Option ℕ) (first : Interface) (xs : List Indicated) (f : Interface) (l : Announced) (k : ℕ)
+    (rest : List ℕ) → IfNone u (xs ≡ []) → octets_of (filled f l) ≡ octets_of f ++ rest
+    → announcing (first_under u first (filled f l)) (goes_on (tds_under u xs (filled f l) ++ tail_of l.td)) k ∷
+    interface_octets (first_under u first (filled f l)) (tds_under u xs (filled f l) ++ tail_of l.td)
     ≡ from_t0 u first xs f l k ++ (rest ++ td_zeros l.td)
 header-goes None first xs f l k rest none is =
     let g : Interface = filled f l in
@@ -156,7 +185,8 @@ header-goes-on : (h : Header) → HeaderHolds h → is_announced h.awaited ≡ t
 header-goes-on h holds awaits =
     let l : Announced = h.awaited in
     let g : Interface = filled h.bytes l in
-    let a : Awaiting h.bytes.ta h.bytes.tb h.bytes.tc l.ta l.tb l.tc = awaiting h.bytes.ta h.bytes.tb h.bytes.tc l.ta l.tb l.tc holds.ordered.ta holds.ordered.tb holds.ordered.tc in
+    let a : Awaiting h.bytes.ta h.bytes.tb h.bytes.tc l.ta l.tb l.tc =
+    awaiting h.bytes.ta h.bytes.tb h.bytes.tc l.ta l.tb l.tc holds.ordered.ta holds.ordered.tb holds.ordered.tc in
     let before : List Indicated = tds_under h.under h.indicated.items g in
     let tds : List Indicated = before ++ tail_of l.td in
     let first : Interface = first_under h.under h.first g in
@@ -165,20 +195,46 @@ header-goes-on h holds awaits =
     let v : AtrParts = record { convention = h.convention; first = first; indicated = tds; historical = zeros } in
     let more : List ℕ = a.rest ++ td_zeros l.td in
     let tck : List ℕ = option_to_list (tck_of v) in
-    let goes : announcing first (goes_on tds) h.historical_len ∷ interface_octets first tds ≡ header_checked h ++ more = header-goes h.under h.first h.indicated.items h.bytes l h.historical_len a.rest holds.none a.is in
-    let checked : checked_octets v ≡ (header_checked h ++ more) ++ zeros = (λ i. announcing first (goes_on tds) (k i) ∷ interface_octets first tds ++ zeros) ∙ ap (λ (b : List ℕ). b ++ zeros) goes in
+    let goes : announcing first (goes_on tds) h.historical_len ∷ interface_octets first tds ≡ header_checked h ++ more =
+    header-goes h.under h.first h.indicated.items h.bytes l h.historical_len a.rest holds.none a.is in
+    let checked : checked_octets v ≡ (header_checked h ++ more) ++ zeros =
+    (λ i. announcing first (goes_on tds) (k i) ∷ interface_octets first tds ++ zeros)
+    ∙ ap (λ (b : List ℕ). b ++ zeros) goes in
     let more-octets : AreOctets more = octets-append a.rest (td_zeros l.td) a.octets (td_zeros-octets l.td) in
-    let octets : AreOctets (checked_octets v) = subst AreOctets (sym checked) (octets-append (header_checked h ++ more) zeros (octets-append (header_checked h) more (λ i. holds.octets (suc i)) more-octets) (zeros-octets h.historical_len)) in
-    let needs : needs_tck tds ≡ h.tck = needs-tail before l.td ∙ needs-same h.under h.indicated.items g h.bytes ∙ sym holds.tck in
+    let octets : AreOctets (checked_octets v) =
+    subst AreOctets (sym checked) (octets-append (header_checked h ++ more) zeros
+    (octets-append (header_checked h) more (λ i. holds.octets (suc i)) more-octets) (zeros-octets h.historical_len))
+    in
+    let needs : needs_tck tds ≡ h.tck = needs-tail before l.td ∙ needs-same h.under h.indicated.items g h.bytes
+    ∙ sym holds.tck in
     let need : count_of (needs_tck tds) ≡ count_of h.tck = ap count_of needs in
-    let count : length more ≡ awaited_count l = omega (arith, length-append a.rest (td_zeros l.td), a.count, td_zeros-length l.td) in
+    let count : length more ≡ awaited_count l =
+    omega (arith, length-append a.rest (td_zeros l.td), a.count, td_zeros-length l.td) in
     let proper : IsProper v = record {
-      nibbles = record { protocols = protocols-end before l.td (protocols-same h.under h.indicated.items h.bytes g holds.protocols); historical = omega (arith, k, holds.few) };
-      most = omega (arith, spelling-length v, k, need, count, ap length goes, length-append (header_checked h) more, holds.count, holds.most);
+      nibbles = record {
+        protocols = protocols-end before l.td
+            (protocols-same h.under h.indicated.items h.bytes g holds.protocols);
+        historical =
+            omega (arith, k, holds.few);
+      };
+      most = omega (
+        arith,
+        spelling-length v,
+        k,
+        need,
+        count,
+        ap length goes,
+        length-append (header_checked h) more,
+        holds.count,
+        holds.most,
+      );
     } in
     let is : header_taken h ++ (more ++ (zeros ++ tck)) ≡ ts_of h.convention ∷ checked_octets v ++ tck =
-    ap (λ (b : List ℕ). ts_of h.convention ∷ b) (sym (ap (λ (b : List ℕ). b ++ tck) checked ∙ append_assoc (header_checked h ++ more) zeros tck ∙ append_assoc (header_checked h) more (zeros ++ tck))) in
-    go-on v (header_taken h) (more ++ (zeros ++ tck)) proper octets is (omega (arith, length-append more (zeros ++ tck), count, some-awaited l.ta l.tb l.tc l.td awaits))
+    ap (λ (b : List ℕ). ts_of h.convention ∷ b)
+    (sym (ap (λ (b : List ℕ). b ++ tck) checked ∙ append_assoc (header_checked h ++ more) zeros tck
+    ∙ append_assoc (header_checked h) more (zeros ++ tck))) in
+    go-on v (header_taken h) (more ++ (zeros ++ tck)) proper octets is
+    (omega (arith, length-append more (zeros ++ tck), count, some-awaited l.ta l.tb l.tc l.td awaits))
 
 -- ---- historical bytes and TCK
 
@@ -194,16 +250,30 @@ tail-goes-on t holds awaits =
     let v : AtrParts = record { convention = t.convention; first = t.first; indicated = tds; historical = hist } in
     let tck : List ℕ = option_to_list (tck_of v) in
     let checked : checked_octets v ≡ tail_checked t ++ zeros =
-    (λ i. announcing t.first (goes_on tds) (k i) ∷ inter ++ hist) ∙ ap (λ (b : List ℕ). announcing t.first (goes_on tds) t.historical_len ∷ b) (sym (append_assoc inter t.historical.items zeros)) in
-    let octets : AreOctets (checked_octets v) = subst AreOctets (sym checked) (octets-append (tail_checked t) zeros (λ i. holds.octets (suc i)) (zeros-octets left)) in
+    (λ i. announcing t.first (goes_on tds) (k i) ∷ inter ++ hist)
+    ∙ ap (λ (b : List ℕ). announcing t.first (goes_on tds) t.historical_len ∷ b)
+    (sym (append_assoc inter t.historical.items zeros)) in
+    let octets : AreOctets (checked_octets v) =
+    subst AreOctets (sym checked) (octets-append (tail_checked t) zeros (λ i. holds.octets (suc i))
+    (zeros-octets left)) in
     let need : count_of (needs_tck tds) ≡ count_of t.tck = ap count_of (sym holds.tck) in
     let proper : IsProper v = record {
       nibbles = record { protocols = holds.protocols; historical = omega (arith, k, holds.few) };
       most = omega (arith, spelling-length v, k, need, holds.most);
     } in
     let is : tail_taken t ++ (zeros ++ tck) ≡ ts_of t.convention ∷ checked_octets v ++ tck =
-    ap (λ (b : List ℕ). ts_of t.convention ∷ b) (sym (ap (λ (b : List ℕ). b ++ tck) checked ∙ append_assoc (tail_checked t) zeros tck)) in
-    go-on v (tail_taken t) (zeros ++ tck) proper octets is (omega (arith, length-append zeros tck, n, awaits, holds.within, need, tck-length (needs_tck tds) (xor_of (checked_octets v))))
+    ap (λ (b : List ℕ). ts_of t.convention ∷ b)
+    (sym (ap (λ (b : List ℕ). b ++ tck) checked ∙ append_assoc (tail_checked t) zeros tck)) in
+    go-on v (tail_taken t) (zeros ++ tck) proper octets is
+    (omega (
+      arith,
+      length-append zeros tck,
+      n,
+      awaits,
+      holds.within,
+      need,
+      tck-length (needs_tck tds) (xor_of (checked_octets v)),
+    ))
 
 -- ---- all stages
 
@@ -218,20 +288,28 @@ goes-on (partial.Whole a) s unended = absurd (cc)
 -- what a longer spelling begins with is none
 unspelled : (c : List ℕ) (v : AtrParts) (n : ℕ) → n ≤ length c → Unfinished c → IsAtr v (take n c) → ⊥
 unspelled c v n le u h =
-    let split : c ++ u.1 ∷ u.2 ≡ take n c ++ (drop n c ++ u.1 ∷ u.2) = ap (λ (l : List ℕ). l ++ u.1 ∷ u.2) (sym (take-append-drop n c)) ∙ append_assoc (take n c) (drop n c) (u.1 ∷ u.2) in
+    let split : c ++ u.1 ∷ u.2 ≡ take n c ++ (drop n c ++ u.1 ∷ u.2) =
+    ap (λ (l : List ℕ). l ++ u.1 ∷ u.2) (sym (take-append-drop n c))
+    ∙ append_assoc (take n c) (drop n c) (u.1 ∷ u.2) in
     let one = one-spelled v u.0 (take n c) (drop n c ++ u.1 ∷ u.2) h (subst (IsAtr u.0) split u.3) in
     omega (arith, ap length one.1, length-append (drop n c) (u.1 ∷ u.2))
 
-pub refused-at : (b : List ℕ) (p : ℕ) (r : AtrReason) (x : ℕ) → p < length b → x ≡ get_or b p 0 → Unfinished (take p b) → IsReason r (take p b ++ x ∷ []) → IsStuck self_ended IsAtr b p × IsReason r (take (p + 1) b)
+pub refused-at : (b : List ℕ) (p : ℕ) (r : AtrReason) (x : ℕ) → p < length b → x ≡ get_or b p 0 → Unfinished (take p b)
+    → IsReason r (take p b ++ x ∷ []) → IsStuck self_ended IsAtr b p × IsReason r (take (p + 1) b)
 refused-at b p r x inside x-is u reason =
-    let shape : take p b ++ x ∷ [] ≡ take (p + 1) b = ap (λ (z : ℕ). take p b ++ z ∷ []) x-is ∙ sym (take_more b p 0 inside) in
+    let shape : take p b ++ x ∷ [] ≡ take (p + 1) b =
+    ap (λ (z : ℕ). take p b ++ z ∷ []) x-is ∙ sym (take_more b p 0 inside) in
     let here : IsReason r (take (p + 1) b) = subst (IsReason r) shape reason in
-    let stuck : Begins IsAtr (take (p + 1) b) → ⊥ = meets-stuck (take (p + 1) b) r (first_holds (BadTs ∷ TooLong ∷ BadTck ∷ []) (Meets (take (p + 1) b)) r here) in
+    let stuck : Begins IsAtr (take (p + 1) b) → ⊥ =
+    meets-stuck (take (p + 1) b) r (first_holds (BadTs ∷ TooLong ∷ BadTck ∷ []) (Meets (take (p + 1) b)) r here) in
     let long : (v : AtrParts) (n : ℕ) → Accepts self_ended IsAtr b v n → p < n = λ v n a. elim (cases_lt p n) [
       | inl lt ↦ lt
-      | inr le ↦ absurd (unspelled (take p b) v n (omega (arith, le, length-take p b)) u (subst (IsAtr v) (sym (take_take n p b le)) a.1))
-    ] in
-    (record { none = none-stuck IsAtr b p stuck long; inside = inside; begun = (u.0, u.1 ∷ u.2, u.3); stuck = stuck }, here)
+      | inr le ↦ absurd (unspelled (take p b) v n (omega (arith, le, length-take p b)) u
+          (subst (IsAtr v) (sym (take_take n p b le)) a.1))
+    ] in (
+      record { none = none-stuck IsAtr b p stuck long; inside = inside; begun = (u.0, u.1 ∷ u.2, u.3); stuck = stuck },
+      here,
+    )
 
 pub short : (b : List ℕ) → Unfinished b → IsShort self_ended IsAtr b (length b)
 short b u = record { none = λ v n a. unspelled b v n a.0 u a.1; end = refl; begun = (u.0, u.1 ∷ u.2, u.3) }

@@ -21,17 +21,24 @@ pub holds-few : (p : Partial) → Holds p → length (taken_of p) ≤ 33
 holds-few partial.Start h = omega arith
 holds-few (partial.Opened convention) h = omega arith
 holds-few (partial.Header header) h = omega (arith, h.0.count, h.0.most)
-holds-few (partial.Tail t) h = omega (arith, h.0.within, h.0.most, length-append (interface_octets t.first t.indicated.items) t.historical.items)
+holds-few (partial.Tail t) h = omega (
+  arith,
+  h.0.within,
+  h.0.most,
+  length-append (interface_octets t.first t.indicated.items) t.historical.items,
+)
 holds-few (partial.Whole a) h = h.proper.most
 
 -- more must come
 pub begun-open : (p : Partial) → Holds p → is_whole p ≡ false → Begins IsAtr (taken_of p)
 begun-open p h unended = let u = goes-on p h unended in (u.0, u.1 ∷ u.2, u.3)
 
-pub open-not : (p : Partial) (t : List ℕ) → Holds p → is_whole p ≡ false → t ≡ taken_of p → (v : AtrParts) → IsAtr v t → ⊥
+pub open-not : (p : Partial) (t : List ℕ) → Holds p → is_whole p ≡ false → t ≡ taken_of p → (v : AtrParts) → IsAtr v t
+    → ⊥
 open-not p t holds unended is v h =
     let own : IsAtr v (taken_of p) = subst (IsAtr v) is h in
-    (short (taken_of p) (goes-on p holds unended)).none v (length (taken_of p)) (omega arith, subst (IsAtr v) (sym (take-length (taken_of p))) own)
+    (short (taken_of p) (goes-on p holds unended)).none v (length (taken_of p))
+    (omega arith, subst (IsAtr v) (sym (take-length (taken_of p))) own)
 
 -- none of the whole ones
 pub unended-of : (p : Partial) → ((a : AtrParts) → p ≡ partial.Whole a → ⊥) → is_whole p ≡ false
@@ -47,11 +54,22 @@ unended-of (partial.Whole a) none = absurd (none a refl)
 joined : (p : Partial) (t x : List ℕ) → HasTaken (taking_of (Taken p)) t → taken_of p ++ x ≡ t ++ x
 joined p t x h = ap (λ (l : List ℕ). l ++ x) (sym h.is)
 
-fed-open : (p q : Partial) (piece : List ℕ) (n : ℕ) → Holds p → is_whole p ≡ false → is_whole q ≡ false → IsTaken (taken_of p) piece q (Ok n) → IsFed IsAtr IsReason HasTaken refusal_kept (taking_of (Taken p)) (taking_of (Taken q)) piece (Ok (n, false))
+fed-open : (p q : Partial) (piece : List ℕ) (n : ℕ) → Holds p → is_whole p ≡ false → is_whole q ≡ false
+    → IsTaken (taken_of p) piece q (Ok n)
+    → IsFed IsAtr IsReason HasTaken refusal_kept (taking_of (Taken p)) (taking_of (Taken q)) piece (Ok (n, false))
 fed-open p q piece n holds unended more h =
-    let is : (t : List ℕ) → HasTaken (taking_of (Taken p)) t → t ++ take n piece ≡ taken_of q = λ t g. sym (joined p t (take n piece) g) ∙ sym h.1 in
+    let is : (t : List ℕ) → HasTaken (taking_of (Taken p)) t → t ++ take n piece ≡ taken_of q =
+    λ t g. sym (joined p t (take n piece) g) ∙ sym h.1 in
     record {
-      taken = (h.2, λ t g. record { free = refl; is = is t g; begun = subst (Begins IsAtr) (sym (is t g)) (begun-open q h.0 more) });
+      taken = (
+        h.2,
+        λ t g. record {
+          free = refl;
+          is = is t g;
+          begun =
+              subst (Begins IsAtr) (sym (is t g)) (begun-open q h.0 more);
+        },
+      );
       done = λ t g. (λ e. never e, λ s. absurd (open-not q (t ++ take n piece) h.0 more (is t g) s.0 s.1));
       whole = λ e. h.3 more;
       refused = tt;
@@ -60,12 +78,24 @@ fed-open p q piece n holds unended more h =
       repeated = λ r e. absurd (cc);
     }
 
-fed-whole : (p q : Partial) (piece : List ℕ) (n : ℕ) → Holds p → is_whole p ≡ false → (v : AtrParts) → IsAtr v (taken_of q) → IsTaken (taken_of p) piece q (Ok n) → IsFed IsAtr IsReason HasTaken refusal_kept (taking_of (Taken p)) (taking_of (Taken q)) piece (Ok (n, true))
+fed-whole : (p q : Partial) (piece : List ℕ) (n : ℕ) → Holds p → is_whole p ≡ false → (v : AtrParts)
+    → IsAtr v (taken_of q) → IsTaken (taken_of p) piece q (Ok n)
+    → IsFed IsAtr IsReason HasTaken refusal_kept (taking_of (Taken p)) (taking_of (Taken q)) piece (Ok (n, true))
 fed-whole p q piece n holds unended v spelled h =
-    let is : (t : List ℕ) → HasTaken (taking_of (Taken p)) t → t ++ take n piece ≡ taken_of q = λ t g. sym (joined p t (take n piece) g) ∙ sym h.1 in
-    let own : (t : List ℕ) → HasTaken (taking_of (Taken p)) t → IsAtr v (t ++ take n piece) = λ t g. subst (IsAtr v) (sym (is t g)) spelled in
+    let is : (t : List ℕ) → HasTaken (taking_of (Taken p)) t → t ++ take n piece ≡ taken_of q =
+    λ t g. sym (joined p t (take n piece) g) ∙ sym h.1 in
+    let own : (t : List ℕ) → HasTaken (taking_of (Taken p)) t → IsAtr v (t ++ take n piece) =
+    λ t g. subst (IsAtr v) (sym (is t g)) spelled in
     record {
-      taken = (h.2, λ t g. record { free = refl; is = is t g; begun = spelled-begins IsAtr v (t ++ take n piece) (own t g) });
+      taken = (
+        h.2,
+        λ t g. record {
+          free = refl;
+          is = is t g;
+          begun =
+              spelled-begins IsAtr v (t ++ take n piece) (own t g);
+        },
+      );
       done = λ t g. (λ e. (v, own t g), λ s. refl);
       whole = λ e. absurd (cc);
       refused = tt;
@@ -74,32 +104,41 @@ fed-whole p q piece n holds unended v spelled h =
       repeated = λ r e. absurd (cc);
     }
 
-pub fed : (p q : Partial) (piece : List ℕ) (n : ℕ) → Holds p → is_whole p ≡ false → IsTaken (taken_of p) piece q (Ok n) → IsFed IsAtr IsReason HasTaken refusal_kept (taking_of (Taken p)) (taking_of (Taken q)) piece (Ok (n, is_whole q))
+pub fed : (p q : Partial) (piece : List ℕ) (n : ℕ) → Holds p → is_whole p ≡ false → IsTaken (taken_of p) piece q (Ok n)
+    → IsFed IsAtr IsReason HasTaken refusal_kept (taking_of (Taken p)) (taking_of (Taken q)) piece (Ok (n, is_whole q))
 fed p partial.Start piece n holds unended h = fed-open p partial.Start piece n holds unended refl h
 fed p (partial.Opened c) piece n holds unended h = fed-open p (partial.Opened c) piece n holds unended refl h
 fed p (partial.Header d) piece n holds unended h = fed-open p (partial.Header d) piece n holds unended refl h
 fed p (partial.Tail t) piece n holds unended h = fed-open p (partial.Tail t) piece n holds unended refl h
 fed p (partial.Whole a) piece n holds unended h = fed-whole p (partial.Whole a) piece n holds unended a h.0 h
 
-pub fed-refused : (p q : Partial) (piece : List ℕ) (r : Refusal AtrReason) → Holds p → is_whole p ≡ false → IsTaken (taken_of p) piece q (Err r) → IsFed IsAtr IsReason HasTaken refusal_kept (taking_of (Taken p)) (taking_of (Refused r)) piece (Err (At r.place r.reason))
+pub fed-refused : (p q : Partial) (piece : List ℕ) (r : Refusal AtrReason) → Holds p → is_whole p ≡ false
+    → IsTaken (taken_of p) piece q (Err r)
+    → IsFed IsAtr IsReason HasTaken refusal_kept (taking_of (Taken p)) (taking_of (Refused r)) piece
+    (Err (At r.place r.reason))
 fed-refused p q piece r holds unended h = record {
   taken = tt;
   done = tt;
   whole = tt;
-  refused = λ t g. (subst (λ (l : List ℕ). IsStuck self_ended IsAtr l r.place) (joined p t piece g) h.0, subst (λ (l : List ℕ). IsReason r.reason (take (r.place + 1) l)) (joined p t piece g) h.1);
+  refused = λ t g. (
+    subst (λ (l : List ℕ). IsStuck self_ended IsAtr l r.place) (joined p t piece g) h.0,
+    subst (λ (l : List ℕ). IsReason r.reason (take (r.place + 1) l)) (joined p t piece g) h.1,
+  );
   kept = (r, refl, refl);
   full = λ t v g s. absurd (open-not p t holds unended g.is v s);
   repeated = λ s e. absurd (cc);
 }
 
 -- where the answer was whole before
-pub fed-full : (p : Partial) (piece : List ℕ) → Holds p → is_whole p ≡ true → IsFed IsAtr IsReason HasTaken refusal_kept (taking_of (Taken p)) (taking_of (Taken p)) piece (Ok (0, true))
+pub fed-full : (p : Partial) (piece : List ℕ) → Holds p → is_whole p ≡ true
+    → IsFed IsAtr IsReason HasTaken refusal_kept (taking_of (Taken p)) (taking_of (Taken p)) piece (Ok (0, true))
 fed-full partial.Start piece spelled e = absurd (cc)
 fed-full (partial.Opened c) piece spelled e = absurd (cc)
 fed-full (partial.Header h) piece spelled e = absurd (cc)
 fed-full (partial.Tail t) piece spelled e = absurd (cc)
 fed-full (partial.Whole a) piece spelled e =
-    let own : (t : List ℕ) → HasTaken (taking_of (Taken (partial.Whole a))) t → IsAtr a t = λ t g. subst (IsAtr a) (sym g.is) spelled in
+    let own : (t : List ℕ) → HasTaken (taking_of (Taken (partial.Whole a))) t → IsAtr a t =
+    λ t g. subst (IsAtr a) (sym g.is) spelled in
     record {
       taken = (omega arith, λ t g. subst (HasTaken (taking_of (Taken (partial.Whole a)))) (sym (append-nil t)) g);
       done = λ t g. (λ e. (a, subst (IsAtr a) (sym (append-nil t)) (own t g)), λ s. refl);
@@ -110,12 +149,20 @@ fed-full (partial.Whole a) piece spelled e =
       repeated = λ r e. absurd (cc);
     }
 
-pub total-few : (p q : Partial) (piece : List ℕ) (n : ℕ) → IsTaken (taken_of p) piece q (Ok n) → length (taken_of p) + n ≡ length (taken_of q)
-total-few p q piece n h = omega (arith, ap length h.1, h.2, length-take n piece, length-append (taken_of p) (take n piece))
+pub total-few : (p q : Partial) (piece : List ℕ) (n : ℕ) → IsTaken (taken_of p) piece q (Ok n)
+    → length (taken_of p) + n ≡ length (taken_of q)
+total-few p q piece n h = omega (
+  arith,
+  ap length h.1,
+  h.2,
+  length-take n piece,
+  length-append (taken_of p) (take n piece),
+)
 
 -- ---- a finish
 
-pub finished : (p : Partial) (count : ℕ) → Holds p → is_whole p ≡ false → count ≡ length (taken_of p) → IsFinished IsAtr IsReason HasTaken refusal_kept (taking_of (Taken p)) (Err (Short count))
+pub finished : (p : Partial) (count : ℕ) → Holds p → is_whole p ≡ false → count ≡ length (taken_of p)
+    → IsFinished IsAtr IsReason HasTaken refusal_kept (taking_of (Taken p)) (Err (Short count))
 finished p count holds unended is = record {
   done = tt;
   short = λ free t h. (ap Short (is ∙ ap length (sym h.is)), λ v g. open-not p t holds unended h.is v g);
@@ -124,7 +171,8 @@ finished p count holds unended is = record {
 }
 
 -- octets from the first on, after which more must come
-pub short-open : (p : Partial) (octets : List ℕ) (n : ℕ) → is_whole p ≡ false → IsTaken [] octets p (Ok n) → IsShort self_ended IsAtr octets n
+pub short-open : (p : Partial) (octets : List ℕ) (n : ℕ) → is_whole p ≡ false → IsTaken [] octets p (Ok n)
+    → IsShort self_ended IsAtr octets n
 short-open p octets n unended h =
     let all : n ≡ length octets = h.3 unended in
     let is : taken_of p ≡ octets = h.1 ∙ ap (λ (k : ℕ). take k octets) all ∙ take-length octets in

@@ -13,9 +13,15 @@ pub tck-length : (t : Bool) (x : ℕ) → length (option_to_list (if t then Some
 tck-length false x = refl
 tck-length true x = refl
 
-pub spelling-length : (v : AtrParts) → length (spelling v) ≡ 2 + length (interface_octets v.first v.indicated) + length v.historical + count_of (needs_tck v.indicated)
+pub spelling-length : (v : AtrParts) → length (spelling v) ≡ 2 + length (interface_octets v.first v.indicated) + length
+    v.historical + count_of (needs_tck v.indicated)
 spelling-length v =
-    omega (arith, length-append (checked_octets v) (option_to_list (tck_of v)), length-append (interface_octets v.first v.indicated) v.historical, tck-length (needs_tck v.indicated) (xor_of (checked_octets v)))
+    omega (
+      arith,
+      length-append (checked_octets v) (option_to_list (tck_of v)),
+      length-append (interface_octets v.first v.indicated) v.historical,
+      tck-length (needs_tck v.indicated) (xor_of (checked_octets v)),
+    )
 
 pub few-bytes : (g : Interface) → length (octets_of g) ≤ 3
 few-bytes g = omega (arith, octets_of-length g, present-most g.ta, present-most g.tb, present-most g.tc)
@@ -24,9 +30,15 @@ few-bytes g = omega (arith, octets_of-length g, present-most g.ta, present-most 
 abbrev pub octet_count : Indicated → ℕ
 octet_count x = 1 + length (octets_of x.bytes)
 
-pub interface-length : (f : Interface) (xs : List Indicated) → length (interface_octets f xs) ≡ length (octets_of f) + sum_by octet_count xs
+pub interface-length : (f : Interface) (xs : List Indicated)
+    → length (interface_octets f xs) ≡ length (octets_of f) + sum_by octet_count xs
 interface-length f [] = omega arith
-interface-length f (x ∷ xs) = omega (arith, interface-length x.bytes xs, sum_by-cons octet_count x xs, length-append (octets_of f) (announcing x.bytes (goes_on xs) x.protocol ∷ interface_octets x.bytes xs))
+interface-length f (x ∷ xs) = omega (
+  arith,
+  interface-length x.bytes xs,
+  sum_by-cons octet_count x xs,
+  length-append (octets_of f) (announcing x.bytes (goes_on xs) x.protocol ∷ interface_octets x.bytes xs),
+)
 
 pub after-most : (xs : List Indicated) → sum_by octet_count xs ≤ 4 * length xs
 after-most [] = omega arith

@@ -34,21 +34,28 @@ octets-push b x h lt = octets-append b (x ∷ []) h (octets-cons x [] lt (λ i. 
 
 -- ---- TDs
 
-pub needs-push : (xs : List Indicated) (n : Indicated) → needs_tck (xs ++ n ∷ []) ≡ (not (n.protocol == 0) || needs_tck xs)
+pub needs-push : (xs : List Indicated) (n : Indicated)
+    → needs_tck (xs ++ n ∷ []) ≡ (not (n.protocol == 0) || needs_tck xs)
 needs-push xs n = needs-mid xs n [] refl
 
-pub protocols-push : (xs : List Indicated) (n : Indicated) → AllByRecursion (λ z. z.protocol < 16) xs → n.protocol < 16 → AllByRecursion (λ z. z.protocol < 16) (xs ++ n ∷ [])
+pub protocols-push : (xs : List Indicated) (n : Indicated) → AllByRecursion (λ z. z.protocol < 16) xs → n.protocol < 16
+    → AllByRecursion (λ z. z.protocol < 16) (xs ++ n ∷ [])
 protocols-push xs n p q = protocols-mid xs n [] p q tt
 
-protocols-front : (xs : List Indicated) (n : Indicated) → AllByRecursion (λ z. z.protocol < 16) (xs ++ n ∷ []) → AllByRecursion (λ z. z.protocol < 16) xs × (n.protocol < 16)
+protocols-front : (xs : List Indicated) (n : Indicated) → AllByRecursion (λ z. z.protocol < 16) (xs ++ n ∷ [])
+    → AllByRecursion (λ z. z.protocol < 16) xs × (n.protocol < 16)
 protocols-front [] n p = (tt, p.0)
 protocols-front (x ∷ xs) n p = let rest = protocols-front xs n p.1 in ((p.0, rest.0), rest.1)
 
-pub needs-same : (u : Option ℕ) (xs : List Indicated) (f g : Interface) → needs_tck (tds_under u xs f) ≡ needs_tck (tds_under u xs g)
+pub needs-same : (u : Option ℕ) (xs : List Indicated) (f g : Interface)
+    → needs_tck (tds_under u xs f) ≡ needs_tck (tds_under u xs g)
 needs-same None xs f g = refl
-needs-same (Some p) xs f g = needs-push xs (record { protocol = p; bytes = f }) ∙ sym (needs-push xs (record { protocol = p; bytes = g }))
+needs-same (Some p) xs f g = needs-push xs (record { protocol = p; bytes = f })
+    ∙ sym (needs-push xs (record { protocol = p; bytes = g }))
 
-pub protocols-same : (u : Option ℕ) (xs : List Indicated) (f g : Interface) → AllByRecursion (λ z. z.protocol < 16) (tds_under u xs f) → AllByRecursion (λ z. z.protocol < 16) (tds_under u xs g)
+pub protocols-same : (u : Option ℕ) (xs : List Indicated) (f g : Interface)
+    → AllByRecursion (λ z. z.protocol < 16) (tds_under u xs f)
+    → AllByRecursion (λ z. z.protocol < 16) (tds_under u xs g)
 protocols-same None xs f g p = p
 protocols-same (Some n) xs f g p =
     let parts = protocols-front xs (record { protocol = n; bytes = f }) p in
@@ -56,20 +63,26 @@ protocols-same (Some n) xs f g p =
 
 -- ---- an interface byte comes
 
-pub from_t0-byte : (u : Option ℕ) (first : Interface) (xs : List Indicated) (f g : Interface) (l m : Announced) (k x : ℕ) → ((low : ℕ) → told g m low ≡ told f l low) → octets_of g ≡ octets_of f ++ x ∷ []
+pub from_t0-byte : (u : Option ℕ) (first : Interface) (xs : List Indicated) (f g : Interface) (l m : Announced)
+    (k x : ℕ) → ((low : ℕ) → told g m low ≡ told f l low) → octets_of g ≡ octets_of f ++ x ∷ []
     → from_t0 u first xs g m k ≡ from_t0 u first xs f l k ++ x ∷ []
 from_t0-byte None first xs f g l m k x same is = λ i. same k i ∷ is i
 from_t0-byte (Some p) first xs f g l m k x same is =
     let a : ℕ = announcing first true k in
-    (λ i. a ∷ (up_to_td first xs (same p i) ++ is i)) ∙ ap (λ (b : List ℕ). a ∷ b) (sym (append_assoc (up_to_td first xs (told f l p)) (octets_of f) (x ∷ [])))
+    (λ i. a ∷ (up_to_td first xs (same p i) ++ is i))
+    ∙ ap (λ (b : List ℕ). a ∷ b) (sym (append_assoc (up_to_td first xs (told f l p)) (octets_of f) (x ∷ [])))
 
-pub byte-taken : (h : Header) (g : Interface) (m : Announced) (x s n : ℕ) → Puts h.bytes h.awaited x g m → header_taken (record h { bytes = g; awaited = m; sum = s; count = n }) ≡ header_taken h ++ x ∷ []
-byte-taken h g m x s n p = ap (λ (b : List ℕ). ts_of h.convention ∷ b) (from_t0-byte h.under h.first h.indicated.items h.bytes g h.awaited m h.historical_len x p.same p.octets)
+pub byte-taken : (h : Header) (g : Interface) (m : Announced) (x s n : ℕ) → Puts h.bytes h.awaited x g m
+    → header_taken (record h { bytes = g; awaited = m; sum = s; count = n }) ≡ header_taken h ++ x ∷ []
+byte-taken h g m x s n p = ap (λ (b : List ℕ). ts_of h.convention ∷ b)
+    (from_t0-byte h.under h.first h.indicated.items h.bytes g h.awaited m h.historical_len x p.same p.octets)
 
-pub byte-holds : (h : Header) (g : Interface) (m : Announced) (x : ℕ) → HeaderHolds h → x < 256 → Puts h.bytes h.awaited x g m
+pub byte-holds : (h : Header) (g : Interface) (m : Announced) (x : ℕ) → HeaderHolds h → x < 256
+    → Puts h.bytes h.awaited x g m
     → HeaderHolds (record h { bytes = g; awaited = m; sum = bit_xor h.sum x; count = h.count + 1 })
 byte-holds h g m x holds lt p =
-    let more = from_t0-byte h.under h.first h.indicated.items h.bytes g h.awaited m h.historical_len x p.same p.octets in
+    let more = from_t0-byte h.under h.first h.indicated.items h.bytes g h.awaited m h.historical_len x p.same p.octets
+    in
     let taken = byte-taken h g m x (bit_xor h.sum x) (h.count + 1) p in
     record {
       few = holds.few;
@@ -85,7 +98,8 @@ byte-holds h g m x holds lt p =
 
 -- ---- the bytes of T0 or a TD have all come
 
-all : (f : Interface) (a b c : Bool) → ((a || b) || c) ≡ false → filled f (record { ta = a; tb = b; tc = c; td = false }) ≡ f
+all : (f : Interface) (a b c : Bool) → ((a || b) || c) ≡ false
+    → filled f (record { ta = a; tb = b; tc = c; td = false }) ≡ f
 all f false false false e = refl
 all f false false true e = absurd (cc)
 all f false true c e = absurd (cc)
@@ -94,10 +108,13 @@ all f true b c e = absurd (cc)
 pub filled-all : (f : Interface) (l : Announced) → awaits_byte l ≡ false → filled f l ≡ f
 filled-all f l e = all f l.ta l.tb l.tc e
 
-up-push : (f : Interface) (xs : List Indicated) (n : Indicated) (x : ℕ) → up_to_td f (xs ++ n ∷ []) x ≡ (up_to_td f xs (announcing n.bytes true n.protocol) ++ octets_of n.bytes) ++ x ∷ []
+up-push : (f : Interface) (xs : List Indicated) (n : Indicated) (x : ℕ)
+    → up_to_td f (xs ++ n ∷ []) x ≡ (up_to_td f xs (announcing n.bytes true n.protocol) ++ octets_of n.bytes) ++ x ∷ []
 up-push f [] n x =
-    ap (λ (l : List ℕ). octets_of f ++ l) refl ∙ sym (append_assoc (octets_of f) (announcing n.bytes true n.protocol ∷ octets_of n.bytes) (x ∷ []))
-    ∙ ap (λ (l : List ℕ). l ++ x ∷ []) (sym (append_assoc (octets_of f) (announcing n.bytes true n.protocol ∷ []) (octets_of n.bytes)))
+    ap (λ (l : List ℕ). octets_of f ++ l) refl
+    ∙ sym (append_assoc (octets_of f) (announcing n.bytes true n.protocol ∷ octets_of n.bytes) (x ∷ []))
+    ∙ ap (λ (l : List ℕ). l ++ x ∷ []) (sym
+    (append_assoc (octets_of f) (announcing n.bytes true n.protocol ∷ []) (octets_of n.bytes)))
 up-push f (y ∷ xs) n x =
     let a : ℕ = announcing y.bytes true y.protocol in
     let u : List ℕ = up_to_td y.bytes xs (announcing n.bytes true n.protocol) in
@@ -106,10 +123,13 @@ up-push f (y ∷ xs) n x =
     ∙ ap (λ (l : List ℕ). l ++ x ∷ []) (sym (append_assoc (octets_of f) (a ∷ u) (octets_of n.bytes)))
 
 -- T0, and all up to the TD x that follows
-pub td-follows : (u : Option ℕ) (first : Interface) (xs : List Indicated) (f : Interface) (l : Announced) (k x : ℕ) → IfNone u (xs ≡ []) → awaits_byte l ≡ false → l.td ≡ true
-    → announcing (first_under u first f) true k ∷ up_to_td (first_under u first f) (tds_under u xs f) x ≡ from_t0 u first xs f l k ++ x ∷ []
+pub td-follows : (u : Option ℕ) (first : Interface) (xs : List Indicated) (f : Interface) (l : Announced) (k x : ℕ)
+    → IfNone u (xs ≡ []) → awaits_byte l ≡ false → l.td ≡ true
+    → announcing (first_under u first f) true k ∷ up_to_td (first_under u first f) (tds_under u xs f) x ≡ from_t0 u
+    first xs f l k ++ x ∷ []
 td-follows None first xs f l k x none e t =
-    (λ i. announcing f true k ∷ up_to_td f (none i) x) ∙ sym (λ i. announcing (filled-all f l e i) (t i) k ∷ (octets_of f ++ x ∷ []))
+    (λ i. announcing f true k ∷ up_to_td f (none i) x)
+    ∙ sym (λ i. announcing (filled-all f l e i) (t i) k ∷ (octets_of f ++ x ∷ []))
 td-follows (Some p) first xs f l k x none e t =
     let same : told f l p ≡ announcing f true p = (λ i. announcing (filled-all f l e i) (t i) p) in
     ap (λ (b : List ℕ). announcing first true k ∷ b) (up-push first xs (record { protocol = p; bytes = f }) x)
@@ -117,15 +137,22 @@ td-follows (Some p) first xs f l k x none e t =
 
 up-least : (f : Interface) (xs : List Indicated) (td : ℕ) → length xs + 1 ≤ length (up_to_td f xs td)
 up-least f [] td = omega (arith, length-append (octets_of f) (td ∷ []))
-up-least f (y ∷ xs) td = omega (arith, up-least y.bytes xs td, length-append (octets_of f) (announcing y.bytes true y.protocol ∷ up_to_td y.bytes xs td))
+up-least f (y ∷ xs) td = omega (
+  arith,
+  up-least y.bytes xs td,
+  length-append (octets_of f) (announcing y.bytes true y.protocol ∷ up_to_td y.bytes xs td),
+)
 
-few-tds : (u : Option ℕ) (first : Interface) (xs : List Indicated) (f : Interface) (l : Announced) (k : ℕ) → IfNone u (xs ≡ []) → 1 + length (from_t0 u first xs f l k) ≤ 33 → length xs < 31
+few-tds : (u : Option ℕ) (first : Interface) (xs : List Indicated) (f : Interface) (l : Announced) (k : ℕ)
+    → IfNone u (xs ≡ []) → 1 + length (from_t0 u first xs f l k) ≤ 33 → length xs < 31
 few-tds None first xs f l k none le = omega (arith, ap length none)
-few-tds (Some p) first xs f l k none le = omega (arith, le, up-least first xs (told f l p), length-append (up_to_td first xs (told f l p)) (octets_of f))
+few-tds (Some p) first xs f l k none le =
+    omega (arith, le, up-least first xs (told f l p), length-append (up_to_td first xs (told f l p)) (octets_of f))
 
 -- one TD more has room
 pub td-room : (h : Header) → HeaderHolds h → length h.indicated.items < 31
-td-room h holds = few-tds h.under h.first h.indicated.items h.bytes h.awaited h.historical_len holds.none (omega (arith, holds.count, holds.most))
+td-room h holds = few-tds h.under h.first h.indicated.items h.bytes h.awaited h.historical_len holds.none
+    (omega (arith, holds.count, holds.most))
 
 -- ---- a TD comes
 
@@ -142,7 +169,8 @@ flag-td true = refl
 -- as many octets are awaited as the high nibble has bits
 pub announced-count : (m : Announced) (x : ℕ) → Announces m x → count_ones (x / 16) ≡ awaited_count m
 announced-count m x is =
-    ap (λ (z : ℕ). count_ones (z / 16)) (sym is) ∙ ones-of (or_awaited m.ta None) (or_awaited m.tb None) (or_awaited m.tc None) m.td (x % 16) (omega arith)
+    ap (λ (z : ℕ). count_ones (z / 16)) (sym is)
+    ∙ ones-of (or_awaited m.ta None) (or_awaited m.tb None) (or_awaited m.tc None) m.td (x % 16) (omega arith)
     ∙ (λ i. flag-present m.ta i + flag-present m.tb i + flag-present m.tc i + flag-td m.td i)
 
 pub fresh : (g : Interface) (m : Announced) → g ≡ no_bytes → InOrder g m
@@ -152,23 +180,49 @@ fresh g m e =
     let c : g.tc ≡ None = ap (λ (f : Interface). f.tc) e in
     record { ta = λ _. (a, b, c); tb = λ _. (b, c); tc = λ _. c }
 
-pub td-taken : (h : Header) (g : Interface) (m : Announced) (x : ℕ) (tck : Bool) (s n : ℕ) → HeaderHolds h → AwaitsTd h.awaited → g ≡ no_bytes → Announces m x
-    → header_taken (record h { first = first_of h; indicated = record { items = tds_of h }; under = Some (x % 16); bytes = g; awaited = m; tck = tck; sum = s; count = n }) ≡ header_taken h ++ x ∷ []
+pub td-taken : (h : Header) (g : Interface) (m : Announced) (x : ℕ) (tck : Bool) (s n : ℕ) → HeaderHolds h
+    → AwaitsTd h.awaited → g ≡ no_bytes → Announces m x
+    → header_taken (record h {
+      first = first_of h;
+      indicated = record { items = tds_of h };
+      under =
+          Some (x % 16);
+      bytes = g;
+      awaited = m;
+      tck = tck;
+      sum = s;
+      count = n;
+    }) ≡ header_taken h ++ x ∷ []
 td-taken h g m x tck s n holds awaits none told-is =
     let a : ℕ = announcing (first_of h) true h.historical_len in
     let is : told g m (x % 16) ≡ x = ap (λ (f : Interface). told f m (x % 16)) none ∙ told-is in
     (λ i. ts_of h.convention ∷ a ∷ (up_to_td (first_of h) (tds_of h) (is i) ++ octets_of (none i)))
     ∙ ap (λ (l : List ℕ). ts_of h.convention ∷ a ∷ l) (append-nil (up_to_td (first_of h) (tds_of h) x))
-    ∙ ap (λ (l : List ℕ). ts_of h.convention ∷ l) (td-follows h.under h.first h.indicated.items h.bytes h.awaited h.historical_len x holds.none awaits.0 awaits.1)
+    ∙ ap (λ (l : List ℕ). ts_of h.convention ∷ l)
+    (td-follows h.under h.first h.indicated.items h.bytes h.awaited h.historical_len x holds.none awaits.0 awaits.1)
 
-pub td-holds : (h : Header) (g : Interface) (m : Announced) (x : ℕ) (tck : Bool) → HeaderHolds h → AwaitsTd h.awaited → x < 256 → g ≡ no_bytes → Announces m x → tck ≡ (not (x % 16 == 0) || h.tck)
+pub td-holds : (h : Header) (g : Interface) (m : Announced) (x : ℕ) (tck : Bool) → HeaderHolds h → AwaitsTd h.awaited
+    → x < 256 → g ≡ no_bytes → Announces m x → tck ≡ (not (x % 16 == 0) || h.tck)
     → h.count + 1 + count_ones (x / 16) + h.historical_len + count_of tck ≤ 33
-    → HeaderHolds (record h { first = first_of h; indicated = record { items = tds_of h }; under = Some (x % 16); bytes = g; awaited = m; tck = tck; sum = bit_xor h.sum x; count = h.count + 1 })
+    → HeaderHolds (record h {
+      first = first_of h;
+      indicated = record { items = tds_of h };
+      under =
+          Some (x % 16);
+      bytes = g;
+      awaited = m;
+      tck = tck;
+      sum = bit_xor h.sum x;
+      count = h.count + 1;
+    })
 td-holds h g m x tck holds awaits lt none told-is tck-is most =
     let taken = td-taken h g m x tck (bit_xor h.sum x) (h.count + 1) holds awaits none told-is in
     let n : Indicated = record { protocol = x % 16; bytes = g } in
-    let checked : announcing (first_of h) true h.historical_len ∷ up_to_td (first_of h) (tds_of h) (told g m (x % 16)) ++ octets_of g ≡ header_checked h ++ x ∷ [] =
-    tail_is (ts_of h.convention) (ts_of h.convention) (announcing (first_of h) true h.historical_len ∷ up_to_td (first_of h) (tds_of h) (told g m (x % 16)) ++ octets_of g) (header_checked h ++ x ∷ []) taken in
+    let checked : announcing (first_of h) true h.historical_len ∷ up_to_td (first_of h) (tds_of h) (told g m (x % 16))
+    ++ octets_of g ≡ header_checked h ++ x ∷ [] =
+    tail_is (ts_of h.convention) (ts_of h.convention)
+    (announcing (first_of h) true h.historical_len ∷ up_to_td (first_of h) (tds_of h) (told g m (x % 16))
+    ++ octets_of g) (header_checked h ++ x ∷ []) taken in
     record {
       few = holds.few;
       protocols = protocols-push (tds_of h) n holds.protocols (omega arith);
@@ -181,21 +235,35 @@ td-holds h g m x tck holds awaits lt none told-is tck-is most =
       most = omega (arith, most, announced-count m x told-is);
     }
 
-some : (u : Option ℕ) (first : Interface) (xs : List Indicated) (f : Interface) (l : Announced) (k : ℕ) → 1 ≤ length (from_t0 u first xs f l k)
+some : (u : Option ℕ) (first : Interface) (xs : List Indicated) (f : Interface) (l : Announced) (k : ℕ)
+    → 1 ≤ length (from_t0 u first xs f l k)
 some None first xs f l k = omega arith
 some (Some p) first xs f l k = omega arith
 
-pub td-refused : (h : Header) (x : ℕ) → HeaderHolds h → AwaitsTd h.awaited → 33 < h.count + 1 + count_ones (x / 16) + h.historical_len + count_of (not (x % 16 == 0) || h.tck) → IsReason TooLong (header_taken h ++ x ∷ [])
+pub td-refused : (h : Header) (x : ℕ) → HeaderHolds h → AwaitsTd h.awaited
+    → 33 < h.count + 1 + count_ones (x / 16) + h.historical_len + count_of (not (x % 16 == 0) || h.tck)
+    → IsReason TooLong (header_taken h ++ x ∷ [])
 unfolding IsFirst
 td-refused h x holds awaits over =
     let b : List ℕ = header_taken h ++ x ∷ [] in
-    let is : b ≡ ts_of h.convention ∷ announcing (first_of h) true h.historical_len ∷ up_to_td (first_of h) (tds_of h) x =
-    ap (λ (l : List ℕ). ts_of h.convention ∷ l) (sym (td-follows h.under h.first h.indicated.items h.bytes h.awaited h.historical_len x holds.none awaits.0 awaits.1)) in
-    let ends : EndsInTd b h.historical_len (tds_of h) x = record { few = holds.few; protocols = holds.protocols; convention = h.convention; first = first_of h; is = is } in
+    let is : b ≡ ts_of h.convention ∷ announcing (first_of h) true h.historical_len ∷ up_to_td (first_of h) (tds_of h) x
+    =
+    ap (λ (l : List ℕ). ts_of h.convention ∷ l)
+    (sym (td-follows h.under h.first h.indicated.items h.bytes h.awaited h.historical_len x holds.none awaits.0
+    awaits.1)) in
+    let ends : EndsInTd b h.historical_len (tds_of h) x =
+    record { few = holds.few; protocols = holds.protocols; convention = h.convention; first = first_of h; is = is }
+    in
     let count : length b ≡ h.count + 1 = omega (arith, holds.count, length-append (header_taken h) (x ∷ [])) in
-    let tck : count_of (not (x % 16 == 0) || h.tck) ≡ count_of (not (x % 16 == 0) || needs_tck (tds_of h)) = ap (λ (t : Bool). count_of (not (x % 16 == 0) || t)) holds.tck in
+    let tck : count_of (not (x % 16 == 0) || h.tck) ≡ count_of (not (x % 16 == 0) || needs_tck (tds_of h)) =
+    ap (λ (t : Bool). count_of (not (x % 16 == 0) || t)) holds.tck in
     inr (
-      λ m. omega (arith, m.0, length-append (header_checked h) (x ∷ []), some h.under h.first h.indicated.items h.bytes h.awaited h.historical_len),
+      λ m. omega (
+        arith,
+        m.0,
+        length-append (header_checked h) (x ∷ []),
+        some h.under h.first h.indicated.items h.bytes h.awaited h.historical_len,
+      ),
       inl ((h.historical_len, tds_of h, x, ends, omega (arith, over, count, tck)), refl),
     )
 
@@ -212,18 +280,31 @@ goes-push : (xs : List Indicated) (n : Indicated) → goes_on (xs ++ n ∷ []) �
 goes-push [] n = refl
 goes-push (x ∷ xs) n = refl
 
-pub all-come : (u : Option ℕ) (first : Interface) (xs : List Indicated) (f : Interface) (l : Announced) (k : ℕ) → IfNone u (xs ≡ []) → awaits_byte l ≡ false → l.td ≡ false
-    → announcing (first_under u first f) (goes_on (tds_under u xs f)) k ∷ interface_octets (first_under u first f) (tds_under u xs f) ≡ from_t0 u first xs f l k
+pub all-come : (u : Option ℕ) (first : Interface) (xs : List Indicated) (f : Interface) (l : Announced) (k : ℕ)
+    → IfNone u (xs ≡ []) → awaits_byte l ≡ false → l.td ≡ false
+    → announcing (first_under u first f) (goes_on (tds_under u xs f)) k ∷ interface_octets (first_under u first f)
+    (tds_under u xs f) ≡ from_t0 u first xs f l k
 all-come None first xs f l k none e t =
-    (λ i. announcing f (goes_on (none i)) k ∷ interface_octets f (none i)) ∙ sym (λ i. announcing (filled-all f l e i) (t i) k ∷ octets_of f)
+    (λ i. announcing f (goes_on (none i)) k ∷ interface_octets f (none i))
+    ∙ sym (λ i. announcing (filled-all f l e i) (t i) k ∷ octets_of f)
 all-come (Some p) first xs f l k none e t =
     let n : Indicated = record { protocol = p; bytes = f } in
     let same : told f l p ≡ announcing f false p = (λ i. announcing (filled-all f l e i) (t i) p) in
-    (λ i. announcing first (goes-push xs n i) k ∷ interface-mid first xs n [] i) ∙ ap (λ (z : ℕ). announcing first true k ∷ up_to_td first xs z ++ octets_of f) (sym same)
+    (λ i. announcing first (goes-push xs n i) k ∷ interface-mid first xs n [] i)
+    ∙ ap (λ (z : ℕ). announcing first true k ∷ up_to_td first xs z ++ octets_of f) (sym same)
 
 -- the octets after the last interface byte
 unfoldable pub ended : Header → Tail
-ended h = record { convention = h.convention; first = first_of h; indicated = record { items = tds_of h }; historical = record { items = [] }; historical_len = h.historical_len; tck = h.tck; sum = h.sum }
+ended h = record {
+  convention = h.convention;
+  first = first_of h;
+  indicated = record { items = tds_of h };
+  historical =
+      record { items = [] };
+  historical_len = h.historical_len;
+  tck = h.tck;
+  sum = h.sum;
+}
 
 both : (a b : Bool) → (a || b) ≡ false → (a ≡ false) × (b ≡ false)
 both false false e = (refl, refl)
@@ -233,11 +314,13 @@ both true b e = absurd (cc)
 none-announced : (l : Announced) → is_announced l ≡ false → (awaits_byte l ≡ false) × (l.td ≡ false)
 none-announced l e = both (awaits_byte l) l.td e
 
-pub end-checked : (h : Header) → HeaderHolds h → is_announced h.awaited ≡ false → tail_checked (ended h) ≡ header_checked h
+pub end-checked : (h : Header) → HeaderHolds h → is_announced h.awaited ≡ false
+    → tail_checked (ended h) ≡ header_checked h
 unfolding ended
 end-checked h holds none =
     let parts = none-announced h.awaited none in
-    append-nil (announcing (first_of h) (goes_on (tds_of h)) h.historical_len ∷ interface_octets (first_of h) (tds_of h))
+    append-nil (announcing (first_of h) (goes_on (tds_of h)) h.historical_len ∷ interface_octets (first_of h)
+    (tds_of h))
     ∙ all-come h.under h.first h.indicated.items h.bytes h.awaited h.historical_len holds.none parts.0 parts.1
 
 pub end-taken : (h : Header) → HeaderHolds h → is_announced h.awaited ≡ false → tail_taken (ended h) ≡ header_taken h
@@ -261,12 +344,15 @@ end-holds h holds none =
 
 -- ---- historical bytes and TCK
 
-pub historical-taken : (t : Tail) (v : ArrayVec ℕ) (x s : ℕ) → v.items ≡ t.historical.items ++ x ∷ [] → tail_checked (record t { historical = v; sum = s }) ≡ tail_checked t ++ x ∷ []
+pub historical-taken : (t : Tail) (v : ArrayVec ℕ) (x s : ℕ) → v.items ≡ t.historical.items ++ x ∷ []
+    → tail_checked (record t { historical = v; sum = s }) ≡ tail_checked t ++ x ∷ []
 historical-taken t v x s e =
-    let front : List ℕ = announcing t.first (goes_on t.indicated.items) t.historical_len ∷ interface_octets t.first t.indicated.items in
+    let front : List ℕ = announcing t.first (goes_on t.indicated.items) t.historical_len ∷ interface_octets t.first
+    t.indicated.items in
     ap (λ (l : List ℕ). front ++ l) e ∙ sym (append_assoc front t.historical.items (x ∷ []))
 
-pub historical-holds : (t : Tail) (v : ArrayVec ℕ) (x : ℕ) → TailHolds t → length t.historical.items < t.historical_len → x < 256 → v.items ≡ t.historical.items ++ x ∷ []
+pub historical-holds : (t : Tail) (v : ArrayVec ℕ) (x : ℕ) → TailHolds t → length t.historical.items < t.historical_len
+    → x < 256 → v.items ≡ t.historical.items ++ x ∷ []
     → TailHolds (record t { historical = v; sum = bit_xor t.sum x })
 historical-holds t v x holds less lt e =
     let more = historical-taken t v x (bit_xor t.sum x) e in
@@ -275,14 +361,17 @@ historical-holds t v x holds less lt e =
       within = omega (arith, less, ap length e, length-append t.historical.items (x ∷ []));
       protocols = holds.protocols;
       tck = holds.tck;
-      octets = subst AreOctets (sym (ap (λ (l : List ℕ). ts_of t.convention ∷ l) more)) (octets-push (tail_taken t) x holds.octets lt);
+      octets = subst AreOctets (sym (ap (λ (l : List ℕ). ts_of t.convention ∷ l) more))
+          (octets-push (tail_taken t) x holds.octets lt);
       sum = ap (λ (s : ℕ). bit_xor s x) holds.sum ∙ sym (xor_of-push (tail_checked t) x) ∙ ap xor_of (sym more);
       most = holds.most;
     }
 
 -- once all historical bytes have come
-pub all-checked : (t : Tail) → length t.historical.items ≡ t.historical_len → checked_octets (parts_of t) ≡ tail_checked t
-all-checked t e = ap (λ (k : ℕ). announcing t.first (goes_on t.indicated.items) k ∷ interface_octets t.first t.indicated.items ++ t.historical.items) e
+pub all-checked : (t : Tail) → length t.historical.items ≡ t.historical_len
+    → checked_octets (parts_of t) ≡ tail_checked t
+all-checked t e = ap (λ (k : ℕ). announcing t.first (goes_on t.indicated.items) k ∷ interface_octets t.first
+    t.indicated.items ++ t.historical.items) e
 
 pub tail-nibbles : (t : Tail) → TailHolds t → length t.historical.items ≡ t.historical_len → HasNibbles (parts_of t)
 tail-nibbles t holds e = record { protocols = holds.protocols; historical = omega (arith, holds.few, e) }
@@ -292,47 +381,74 @@ tail-proper t holds e =
     let same : count_of t.tck ≡ count_of (needs_tck t.indicated.items) = ap count_of holds.tck in
     record { nibbles = tail-nibbles t holds e; most = omega (arith, holds.most, spelling-length (parts_of t), e, same) }
 
-pub tck-refused : (t : Tail) (x : ℕ) → TailHolds t → length t.historical.items ≡ t.historical_len → t.tck ≡ true → x ≢ t.sum → IsReason BadTck (tail_taken t ++ x ∷ [])
+pub tck-refused : (t : Tail) (x : ℕ) → TailHolds t → length t.historical.items ≡ t.historical_len → t.tck ≡ true
+    → x ≢ t.sum → IsReason BadTck (tail_taken t ++ x ∷ [])
 unfolding IsFirst
 tck-refused t x holds e tck differs =
     let a : AtrParts = parts_of t in
     let nibbles : HasNibbles a = tail-nibbles t holds e in
-    let is : tail_taken t ++ x ∷ [] ≡ ts_of a.convention ∷ checked_octets a ++ x ∷ [] = ap (λ (l : List ℕ). ts_of t.convention ∷ l ++ x ∷ []) (sym (all-checked t e)) in
+    let is : tail_taken t ++ x ∷ [] ≡ ts_of a.convention ∷ checked_octets a ++ x ∷ [] =
+    ap (λ (l : List ℕ). ts_of t.convention ∷ l ++ x ∷ []) (sym (all-checked t e)) in
     inr (
       λ m. omega (arith, m.0, length-append (tail_checked t) (x ∷ [])),
       inr (
         λ m. no-td a x m.0 m.2 m.1 nibbles (subst (λ (l : List ℕ). EndsInTd l m.0 m.1 m.2) is m.3),
-        inl ((a, x, nibbles, sym holds.tck ∙ tck, is, λ same. differs (same ∙ ap xor_of (all-checked t e) ∙ sym holds.sum)), refl),
+        inl (
+          (
+            a,
+            x,
+            nibbles,
+            sym holds.tck
+                ∙ tck,
+            is,
+            λ same. differs (same ∙ ap xor_of (all-checked t e) ∙ sym holds.sum),
+          ),
+          refl,
+        ),
       ),
     )
 
-pub tck-taken : (t : Tail) (x : ℕ) → TailHolds t → length t.historical.items ≡ t.historical_len → t.tck ≡ true → x ≡ t.sum → IsAtr (parts_of t) (tail_taken t ++ x ∷ [])
+pub tck-taken : (t : Tail) (x : ℕ) → TailHolds t → length t.historical.items ≡ t.historical_len → t.tck ≡ true
+    → x ≡ t.sum → IsAtr (parts_of t) (tail_taken t ++ x ∷ [])
 tck-taken t x holds e tck same =
     let a : AtrParts = parts_of t in
     let sum : x ≡ xor_of (checked_octets a) = same ∙ holds.sum ∙ ap xor_of (sym (all-checked t e)) in
     let needs : needs_tck a.indicated ≡ true = sym holds.tck ∙ tck in
-    let stands : option_to_list (tck_of a) ≡ xor_of (checked_octets a) ∷ [] = ap (λ (b : Bool). option_to_list (if b then Some (xor_of (checked_octets a)) else None)) needs in
-    encoded a (tail_taken t ++ x ∷ []) (tail-proper t holds e) (subst AreOctets (sym (all-checked t e)) (λ i. holds.octets (suc i)))
-    ((λ i. ts_of t.convention ∷ (sym (all-checked t e) i ++ sum i ∷ [])) ∙ ap (λ (l : List ℕ). ts_of t.convention ∷ checked_octets a ++ l) (sym stands))
+    let stands : option_to_list (tck_of a) ≡ xor_of (checked_octets a) ∷ [] =
+    ap (λ (b : Bool). option_to_list (if b then Some (xor_of (checked_octets a)) else None)) needs in
+    encoded a (tail_taken t ++ x ∷ []) (tail-proper t holds e)
+    (subst AreOctets (sym (all-checked t e)) (λ i. holds.octets (suc i)))
+    ((λ i. ts_of t.convention ∷ (sym (all-checked t e) i ++ sum i ∷ []))
+    ∙ ap (λ (l : List ℕ). ts_of t.convention ∷ checked_octets a ++ l) (sym stands))
 
 -- where no TCK is to come
-tail-whole : (t : Tail) → TailHolds t → length t.historical.items ≡ t.historical_len → t.tck ≡ false → IsAtr (parts_of t) (tail_taken t)
+tail-whole : (t : Tail) → TailHolds t → length t.historical.items ≡ t.historical_len → t.tck ≡ false
+    → IsAtr (parts_of t) (tail_taken t)
 tail-whole t holds e tck =
     let a : AtrParts = parts_of t in
     let needs : needs_tck a.indicated ≡ false = sym holds.tck ∙ tck in
-    let none : option_to_list (tck_of a) ≡ [] = ap (λ (b : Bool). option_to_list (if b then Some (xor_of (checked_octets a)) else None)) needs in
-    encoded a (tail_taken t) (tail-proper t holds e) (subst AreOctets (sym (all-checked t e)) (λ i. holds.octets (suc i)))
-    (ap (λ (l : List ℕ). ts_of t.convention ∷ l) (sym (all-checked t e) ∙ sym (append-nil (checked_octets a))) ∙ ap (λ (l : List ℕ). ts_of t.convention ∷ checked_octets a ++ l) (sym none))
+    let none : option_to_list (tck_of a) ≡ [] =
+    ap (λ (b : Bool). option_to_list (if b then Some (xor_of (checked_octets a)) else None)) needs in
+    encoded a (tail_taken t) (tail-proper t holds e)
+    (subst AreOctets (sym (all-checked t e)) (λ i. holds.octets (suc i)))
+    (ap (λ (l : List ℕ). ts_of t.convention ∷ l) (sym (all-checked t e) ∙ sym (append-nil (checked_octets a)))
+    ∙ ap (λ (l : List ℕ). ts_of t.convention ∷ checked_octets a ++ l) (sym none))
 
 -- the octets with the one that came, told apart by whether more must come
-pub tail-step : (octets : List ℕ) (t : Tail) (b : Bool) → TailHolds t → tail_taken t ≡ octets → MatchBool b (TailAwaits t) (TailEnds t) → IsTailStep octets t (Ok (not b))
+pub tail-step : (octets : List ℕ) (t : Tail) (b : Bool) → TailHolds t → tail_taken t ≡ octets
+    → MatchBool b (TailAwaits t) (TailEnds t) → IsTailStep octets t (Ok (not b))
 tail-step octets t true holds is awaits = (holds, awaits, is)
-tail-step octets t false holds is ends = (holds, ends.0, subst (IsAtr (parts_of t)) is (tail-whole t holds ends.0 ends.1))
+tail-step octets t false holds is ends = (
+  holds,
+  ends.0,
+  subst (IsAtr (parts_of t)) is (tail-whole t holds ends.0 ends.1),
+)
 
 counted-true : (b : Bool) → 1 ≤ count_of b → b ≡ true
 counted-true false le = absurd (omega arith)
 counted-true true le = refl
 
 -- where all historical bytes have come and more is awaited, it is TCK
-pub tck-awaited : (t : Tail) → TailHolds t → TailAwaits t → t.historical_len ≤ length t.historical.items → (length t.historical.items ≡ t.historical_len) × (t.tck ≡ true)
+pub tck-awaited : (t : Tail) → TailHolds t → TailAwaits t → t.historical_len ≤ length t.historical.items
+    → (length t.historical.items ≡ t.historical_len) × (t.tck ≡ true)
 tck-awaited t holds awaits le = (omega (arith, le, holds.within), counted-true t.tck (omega (arith, awaits, le)))

@@ -60,9 +60,12 @@ inverse-accepted = (
 
 -- T=0, T=1, fifteen historical bytes and TCK; an octet after them is left
 abbrev both : AtrParts
-both = direct plain (indicates 0 plain ∷ indicates 1 plain ∷ []) (0x80 ∷ 0x4F ∷ 0x0C ∷ 0xA0 ∷ 0x00 ∷ 0x00 ∷ 0x03 ∷ 0x06 ∷ 0x03 ∷ 0x00 ∷ 0x01 ∷ 0x00 ∷ 0x00 ∷ 0x00 ∷ 0x00 ∷ [])
+both = direct plain (indicates 0 plain ∷ indicates 1 plain ∷ [])
+    (0x80 ∷ 0x4F ∷ 0x0C ∷ 0xA0 ∷ 0x00 ∷ 0x00 ∷ 0x03 ∷ 0x06 ∷ 0x03 ∷ 0x00 ∷ 0x01 ∷ 0x00 ∷ 0x00 ∷ 0x00 ∷ 0x00 ∷ [])
 
-pub both-accepted : Accepts self_ended IsAtr (0x3B ∷ 0x8F ∷ 0x80 ∷ 0x01 ∷ 0x80 ∷ 0x4F ∷ 0x0C ∷ 0xA0 ∷ 0x00 ∷ 0x00 ∷ 0x03 ∷ 0x06 ∷ 0x03 ∷ 0x00 ∷ 0x01 ∷ 0x00 ∷ 0x00 ∷ 0x00 ∷ 0x00 ∷ 0x6A ∷ 0xFF ∷ []) both 20
+pub both-accepted : Accepts self_ended IsAtr
+    (0x3B ∷ 0x8F ∷ 0x80 ∷ 0x01 ∷ 0x80 ∷ 0x4F ∷ 0x0C ∷ 0xA0 ∷ 0x00 ∷ 0x00 ∷ 0x03 ∷ 0x06 ∷ 0x03 ∷ 0x00 ∷ 0x01 ∷ 0x00 ∷
+    0x00 ∷ 0x00 ∷ 0x00 ∷ 0x6A ∷ 0xFF ∷ []) both 20
 both-accepted = (
   omega arith,
   record {
@@ -114,9 +117,15 @@ waits_front = 0x3B ∷ 0x80 ∷ 0x81 ∷ 0x31 ∷ 0x20 ∷ 0x45 ∷ []
 
 -- 33 octets
 abbrev longest : AtrParts
-longest = direct (bytes (Some 0) (Some 0) (Some 0)) (indicates 1 (bytes (Some 0) (Some 0) (Some 0)) ∷ indicates 1 (bytes (Some 0) (Some 0) (Some 0)) ∷ indicates 1 (bytes (Some 0) (Some 0) (Some 0)) ∷ []) (0x00 ∷ 0x00 ∷ 0x00 ∷ 0x00 ∷ 0x00 ∷ 0x00 ∷ 0x00 ∷ 0x00 ∷ 0x00 ∷ 0x00 ∷ 0x00 ∷ 0x00 ∷ 0x00 ∷ 0x00 ∷ 0x00 ∷ [])
+longest = direct (bytes (Some 0) (Some 0) (Some 0))
+    (indicates 1 (bytes (Some 0) (Some 0) (Some 0)) ∷ indicates 1 (bytes (Some 0) (Some 0) (Some 0)) ∷ indicates 1
+    (bytes (Some 0) (Some 0) (Some 0)) ∷ [])
+    (0x00 ∷ 0x00 ∷ 0x00 ∷ 0x00 ∷ 0x00 ∷ 0x00 ∷ 0x00 ∷ 0x00 ∷ 0x00 ∷ 0x00 ∷ 0x00 ∷ 0x00 ∷ 0x00 ∷ 0x00 ∷ 0x00 ∷ [])
 
-pub longest-accepted : Accepts self_ended IsAtr (0x3B ∷ 0xFF ∷ 0x00 ∷ 0x00 ∷ 0x00 ∷ 0xF1 ∷ 0x00 ∷ 0x00 ∷ 0x00 ∷ 0xF1 ∷ 0x00 ∷ 0x00 ∷ 0x00 ∷ 0x71 ∷ 0x00 ∷ 0x00 ∷ 0x00 ∷ 0x00 ∷ 0x00 ∷ 0x00 ∷ 0x00 ∷ 0x00 ∷ 0x00 ∷ 0x00 ∷ 0x00 ∷ 0x00 ∷ 0x00 ∷ 0x00 ∷ 0x00 ∷ 0x00 ∷ 0x00 ∷ 0x00 ∷ 0x8E ∷ []) longest 33
+pub longest-accepted : Accepts self_ended IsAtr
+    (0x3B ∷ 0xFF ∷ 0x00 ∷ 0x00 ∷ 0x00 ∷ 0xF1 ∷ 0x00 ∷ 0x00 ∷ 0x00 ∷ 0xF1 ∷ 0x00 ∷ 0x00 ∷ 0x00 ∷ 0x71 ∷ 0x00 ∷ 0x00 ∷
+    0x00 ∷ 0x00 ∷ 0x00 ∷ 0x00 ∷ 0x00 ∷ 0x00 ∷ 0x00 ∷ 0x00 ∷ 0x00 ∷ 0x00 ∷ 0x00 ∷ 0x00 ∷ 0x00 ∷ 0x00 ∷ 0x00 ∷ 0x00 ∷ 0x8E
+    ∷ []) longest 33
 longest-accepted = (
   omega arith,
   record {
@@ -136,16 +145,25 @@ unfolding IsFirst
 bad_ts = inl ((refl, λ e. omega (arith, e), λ e. omega (arith, e)), refl)
 
 -- after the third TD at least 34 octets
-pub too_long : IsReason TooLong (0x3B ∷ 0xFF ∷ 0x11 ∷ 0x22 ∷ 0x33 ∷ 0xF1 ∷ 0x44 ∷ 0x55 ∷ 0x66 ∷ 0xF1 ∷ 0x77 ∷ 0x88 ∷ 0x99 ∷ 0xF1 ∷ [])
+pub too_long : IsReason TooLong (0x3B ∷ 0xFF ∷ 0x11 ∷ 0x22 ∷ 0x33 ∷ 0xF1 ∷ 0x44 ∷ 0x55 ∷ 0x66 ∷ 0xF1 ∷ 0x77 ∷ 0x88 ∷
+    0x99 ∷ 0xF1 ∷ [])
 unfolding IsFirst lib.Count.ones
 too_long = inr (
   λ m. omega (arith, m.0),
   inl (
     (
       15,
-      indicates 1 (bytes (Some 0x44) (Some 0x55) (Some 0x66)) ∷ indicates 1 (bytes (Some 0x77) (Some 0x88) (Some 0x99)) ∷ [],
+      indicates 1 (bytes (Some 0x44) (Some 0x55) (Some 0x66)) ∷ indicates 1 (bytes (Some 0x77) (Some 0x88) (Some 0x99))
+          ∷ [],
       0xF1,
-      record { few = omega arith; protocols = (omega arith, (omega arith, tt)); convention = Direct; first = bytes (Some 0x11) (Some 0x22) (Some 0x33); is = refl },
+      record {
+        few = omega arith;
+        protocols = (omega arith, (omega arith, tt));
+        convention = Direct;
+        first =
+            bytes (Some 0x11) (Some 0x22) (Some 0x33);
+        is = refl;
+      },
       let four : count_ones (0xF1 / 16) ≡ 4 = refl in
           omega (arith, four),
     ),
@@ -159,8 +177,19 @@ unfolding IsFirst
 bad_tck = inr (
   λ m. omega (arith, m.0),
   inr (
-    λ m. no-td waits 0x54 m.0 m.2 m.1 (record { protocols = (omega arith, (omega arith, tt)); historical = omega arith }) m.3,
-    inl ((waits, 0x54, record { protocols = (omega arith, (omega arith, tt)); historical = omega arith }, refl, refl, λ e. omega (arith, e)), refl),
+    λ m. no-td waits 0x54 m.0 m.2 m.1 (record
+        { protocols = (omega arith, (omega arith, tt)); historical = omega arith }) m.3,
+    inl (
+      (
+        waits,
+        0x54,
+        record { protocols = (omega arith, (omega arith, tt)); historical = omega arith },
+        refl,
+        refl,
+        λ e. omega (arith, e),
+      ),
+      refl,
+    ),
   ),
 )
 
@@ -175,7 +204,8 @@ waits-t1 = refl
 pub both-t1 : t1_params_of both ≡ Ok (record { ifsc = 32; bwi = 4; cwi = 13 })
 both-t1 = refl
 
-pub reserved-t1 : t1_params_of (direct plain (indicates 1 plain ∷ indicates 1 (bytes (Some 0xFF) None None) ∷ []) []) ≡ Err ReservedIfsc
+pub reserved-t1 : t1_params_of (direct plain (indicates 1 plain ∷ indicates 1 (bytes (Some 0xFF) None None) ∷ []) []) ≡
+    Err ReservedIfsc
 reserved-t1 = refl
 
 pub crc-t1 : t1_params_of (direct plain (indicates 1 plain ∷ indicates 1 (bytes None None (Some 1)) ∷ []) []) ≡ Err Crc

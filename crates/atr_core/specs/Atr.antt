@@ -52,7 +52,8 @@ octets_of bytes = option_to_list bytes.ta ++ option_to_list bytes.tb ++ option_t
 -- the interface bytes: those after T0, and then each TD and those after it
 abbrev pub interface_octets : Interface → List Indicated → List ℕ
 interface_octets bytes [] = octets_of bytes
-interface_octets bytes (x ∷ xs) = octets_of bytes ++ announcing x.bytes (goes_on xs) x.protocol ∷ interface_octets x.bytes xs
+interface_octets bytes (x ∷ xs) = octets_of bytes
+    ++ announcing x.bytes (goes_on xs) x.protocol ∷ interface_octets x.bytes xs
 
 -- each TD and the interface bytes after it
 abbrev pub td_octets : List Indicated → List ℕ
@@ -65,7 +66,8 @@ needs_tck xs = list_any (λ x. not (x.protocol == 0)) xs
 
 -- all from T0 to the last historical byte
 abbrev pub checked_octets : AtrParts → List ℕ
-checked_octets a = announcing a.first (goes_on a.indicated) (length a.historical) ∷ interface_octets a.first a.indicated ++ a.historical
+checked_octets a = announcing a.first (goes_on a.indicated) (length a.historical) ∷ interface_octets a.first a.indicated
+    ++ a.historical
 
 -- TCK: absent where only T=0 is indicated, else it makes the exclusive-or of all from T0 on 0
 abbrev pub tck_of : AtrParts → Option ℕ
@@ -110,8 +112,10 @@ least_total n k xs td = n + count_ones (td / 16) + k + count_of (not (td % 16 ==
 -- the first octets b meet this line of the table of reasons
 abbrev pub Meets : List ℕ → AtrReason → Type 0
 Meets b BadTs = (length b ≡ 1) × (slice_index b 0 ≢ 0x3B) × (slice_index b 0 ≢ 0x3F)
-Meets b TooLong = (k : ℕ) × (xs : List Indicated) × (td : ℕ) × EndsInTd b k xs td × (33 < least_total (length b) k xs td)
-Meets b BadTck = (a : AtrParts) × (tck : ℕ) × HasNibbles a × IsTrue (needs_tck a.indicated) × (b ≡ ts_of a.convention ∷ checked_octets a ++ tck ∷ []) × (tck ≢ xor_of (checked_octets a))
+Meets b TooLong = (k : ℕ) × (xs : List Indicated) × (td : ℕ) × EndsInTd b k xs td
+    × (33 < least_total (length b) k xs td)
+Meets b BadTck = (a : AtrParts) × (tck : ℕ) × HasNibbles a × IsTrue (needs_tck a.indicated)
+    × (b ≡ ts_of a.convention ∷ checked_octets a ++ tck ∷ []) × (tck ≢ xor_of (checked_octets a))
 
 -- the reason is the first line of the table that the octets up to and with the refused one meet
 abbrev pub IsReason : AtrReason → List ℕ → Type 0

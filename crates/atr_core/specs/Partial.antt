@@ -21,7 +21,12 @@ or_awaited false o = o
 
 -- the bytes, with 0 for those that are awaited
 abbrev pub filled : Interface → Announced → Interface
-filled bytes left = record { ta = or_awaited left.ta bytes.ta; tb = or_awaited left.tb bytes.tb; tc = or_awaited left.tc bytes.tc }
+filled bytes left = record {
+  ta = or_awaited left.ta bytes.ta;
+  tb = or_awaited left.tb bytes.tb;
+  tc =
+      or_awaited left.tc bytes.tc;
+}
 
 -- the T0 or TD that announces the bytes that have come and those that are awaited
 abbrev pub told : Interface → Announced → ℕ → ℕ
@@ -91,7 +96,8 @@ tds_of h = tds_under h.under h.indicated.items h.bytes
 -- the octets from T0 on, where k historical bytes are announced
 abbrev pub from_t0 : Option ℕ → Interface → List Indicated → Interface → Announced → ℕ → List ℕ
 from_t0 None first indicated bytes left k = told bytes left k ∷ octets_of bytes
-from_t0 (Some protocol) first indicated bytes left k = announcing first true k ∷ up_to_td first indicated (told bytes left protocol) ++ octets_of bytes
+from_t0 (Some protocol) first indicated bytes left k =
+    announcing first true k ∷ up_to_td first indicated (told bytes left protocol) ++ octets_of bytes
 
 -- the octets that have come from T0 on
 abbrev pub header_checked : Header → List ℕ
@@ -117,7 +123,8 @@ pub record HeaderHolds (h : Header) : Type 0 where
 
 -- the octets that have come from T0 on
 abbrev pub tail_checked : Tail → List ℕ
-tail_checked t = announcing t.first (goes_on t.indicated.items) t.historical_len ∷ interface_octets t.first t.indicated.items ++ t.historical.items
+tail_checked t = announcing t.first (goes_on t.indicated.items) t.historical_len ∷ interface_octets t.first
+    t.indicated.items ++ t.historical.items
 
 -- the octets that have come
 abbrev pub tail_taken : Tail → List ℕ
@@ -125,7 +132,13 @@ tail_taken t = ts_of t.convention ∷ tail_checked t
 
 -- the answer, once all historical bytes have come
 abbrev pub parts_of : Tail → AtrParts
-parts_of t = record { convention = t.convention; first = t.first; indicated = t.indicated.items; historical = t.historical.items }
+parts_of t = record {
+  convention = t.convention;
+  first = t.first;
+  indicated = t.indicated.items;
+  historical =
+      t.historical.items;
+}
 
 -- the fields agree with the octets, and an answer of at most 33 octets goes on
 pub record TailHolds (t : Tail) : Type 0 where

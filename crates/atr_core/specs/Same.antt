@@ -27,4 +27,5 @@ same_taking = eq_of_both (on (λ s. s.octets) (pointwise ◌==◌)) (on (λ s. r
 -- ---- the law of this comparison
 
 pub taking_equiv : IsEquivalence same_taking
-taking_equiv = and_equiv (on_equiv (λ s. s.octets) nat_list_eq_equiv) (on_equiv (λ s. refusal_numbers s.refusal) nat_list_eq_equiv)
+taking_equiv = and_equiv (on_equiv (λ s. s.octets) nat_list_eq_equiv)
+    (on_equiv (λ s. refusal_numbers s.refusal) nat_list_eq_equiv)

@@ -28,7 +28,8 @@ offers_t1 xs = list_any (λ x. x.protocol == 1) xs
 -- the first such byte after a TD that indicates T=1
 abbrev pub first_after_t1 : (Interface → Option ℕ) → List Indicated → Option ℕ
 first_after_t1 byte [] = None
-first_after_t1 byte (x ∷ xs) = if x.protocol == 1 then option_or (byte x.bytes) (first_after_t1 byte xs) else first_after_t1 byte xs
+first_after_t1 byte (x ∷ xs) = if x.protocol == 1 then option_or (byte x.bytes) (first_after_t1 byte xs) else
+    first_after_t1 byte xs
 
 -- the first such byte for T=1: the bytes after TD1 are not specific, so the search begins at TD2
 abbrev pub first_for_t1 : (Interface → Option ℕ) → AtrParts → Option ℕ
@@ -53,5 +54,6 @@ t1_values_of a = record { ifsc = ifsc_of a; bwi = waiting_of a / 16; cwi = waiti
 abbrev pub t1_params_of : AtrParts → Result T1Values ParamFault
 t1_params_of a =
     if offers_t1 a.indicated
-    then (if (ifsc_of a == 0) || (ifsc_of a == 0xFF) then Err ReservedIfsc else (if chooses_crc a then Err Crc else Ok (t1_values_of a)))
+    then (if (ifsc_of a == 0) || (ifsc_of a == 0xFF) then Err ReservedIfsc else
+    (if chooses_crc a then Err Crc else Ok (t1_values_of a)))
     else Err NoT1

@@ -39,5 +39,7 @@ Agrees (Refused r) octets = Unit {0}
 
 -- what a piece makes of the octets before it: so many of it are taken, all unless the answer ends, or one is refused
 abbrev pub IsTaken : List ℕ → List ℕ → Partial → Result ℕ (Refusal AtrReason) → Type 0
-IsTaken t piece p (Ok n) = Holds p × (taken_of p ≡ t ++ take n piece) × (n ≤ length piece) × (is_whole p ≡ false → n ≡ length piece)
-IsTaken t piece p (Err r) = IsStuck self_ended IsAtr (t ++ piece) r.place × IsReason r.reason (take (r.place + 1) (t ++ piece))
+IsTaken t piece p (Ok n) = Holds p × (taken_of p ≡ t ++ take n piece) × (n ≤ length piece)
+    × (is_whole p ≡ false → n ≡ length piece)
+IsTaken t piece p (Err r) = IsStuck self_ended IsAtr (t ++ piece) r.place
+    × IsReason r.reason (take (r.place + 1) (t ++ piece))

@@ -9,7 +9,13 @@ use Rattle.atr_core.specs.Atr.{AtrParts, announcing, goes_on, octets_of, td_octe
 
 -- the answer with these parts
 abbrev pub made_of : Parts → AtrParts
-made_of p = record { convention = p.convention; first = p.first; indicated = p.indicated.items; historical = p.historical.items }
+made_of p = record {
+  convention = p.convention;
+  first = p.first;
+  indicated = p.indicated.items;
+  historical =
+      p.historical.items;
+}
 
 -- the bytes that the octet announces, whether a TD follows, and what is left of the octets after it
 pub record IsSection (octet : ℕ) (octets : List ℕ) (bytes : Interface) (td : Bool) (rest : List ℕ) : Type 0 where
@@ -23,10 +29,12 @@ pub record AreTds (td : Bool) (octets : List ℕ) (indicated : List Indicated) (
   pub is : octets ≡ td_octets indicated ++ rest
 
 -- these TDs and whatever TDs are read next make all of them
-pub record AreTdsSoFar (td : Bool) (octets : List ℕ) (indicated : List Indicated) (more : Bool) (rest : List ℕ) : Type 0 where
-  pub protocols : AllByRecursion (λ x. x.protocol < 16) indicated
-  pub some : (xs : List Indicated) → goes_on xs ≡ more → goes_on (indicated ++ xs) ≡ td
-  pub is : (xs : List Indicated) (left : List ℕ) → goes_on xs ≡ more → rest ≡ td_octets xs ++ left → octets ≡ td_octets (indicated ++ xs) ++ left
+pub record AreTdsSoFar (td : Bool) (octets : List ℕ) (indicated : List Indicated) (more : Bool) (rest : List ℕ) : Type 0
+  where
+    pub protocols : AllByRecursion (λ x. x.protocol < 16) indicated
+    pub some : (xs : List Indicated) → goes_on xs ≡ more → goes_on (indicated ++ xs) ≡ td
+    pub is : (xs : List Indicated) (left : List ℕ) → goes_on xs ≡ more → rest ≡ td_octets xs ++ left
+        → octets ≡ td_octets (indicated ++ xs) ++ left
 
 -- TCK after the octets that it checks, where it is needed
 abbrev pub tck_after : Bool → List ℕ → Option ℕ
@@ -47,8 +55,10 @@ HasSection octet octets td rest = (bytes : Interface) × IsSection octet octets 
 
 -- the same of some TDs, and whether they need TCK
 abbrev pub HasTds : Bool → List ℕ → Bool → List ℕ → Type 0
-HasTds td octets needed rest = (indicated : List Indicated) × AreTds td octets indicated rest × (needed ≡ needs_tck indicated)
+HasTds td octets needed rest = (indicated : List Indicated) × AreTds td octets indicated rest
+    × (needed ≡ needs_tck indicated)
 
 -- the same of the TDs so far
 abbrev pub HasTdsSoFar : Bool → List ℕ → Bool → Bool → List ℕ → Type 0
-HasTdsSoFar td octets needed more rest = (indicated : List Indicated) × AreTdsSoFar td octets indicated more rest × (needed ≡ needs_tck indicated)
+HasTdsSoFar td octets needed more rest = (indicated : List Indicated) × AreTdsSoFar td octets indicated more rest
+    × (needed ≡ needs_tck indicated)

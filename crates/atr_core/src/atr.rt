@@ -76,9 +76,22 @@ impl Model for Atr {
 
     ghost Value = { AtrParts };
 
-    ghost view = { λ a. record { convention = a.convention; first = a.first; indicated = a.indicated.items; historical = a.historical.items } };
+    ghost view = { λ a. record {
+      convention = a.convention;
+      first = a.first;
+      indicated =
+          a.indicated.items;
+      historical = a.historical.items;
+    } };
 
-    ghost invariant = { λ a. IsProper (record { convention = a.convention; first = a.first; indicated = a.indicated.items; historical = a.historical.items }) };
+    ghost invariant = { λ a. IsProper
+        (record {
+          convention = a.convention;
+          first = a.first;
+          indicated =
+              a.indicated.items;
+          historical = a.historical.items;
+        }) };
 
     ghost inverse = { λ a. record {
       convention = a.convention;

@@ -29,7 +29,8 @@ pub fn decode(octets: &[u8]) -> Result<(Atr, usize), Stop<AtrReason>>
 /// How many octets the answer to reset takes with which the octets begin: the verdict of [`decode`], without
 /// the answer.
 pub fn check(octets: &[u8]) -> Result<usize, Stop<AtrReason>>
-    ensures found { IfOk result (λ count. (atr : AtrParts) × Accepts self_ended IsAtr octets.now atr count) }
+    ensures found { IfOk result (λ count. (atr : AtrParts)
+        × Accepts self_ended IsAtr octets.now atr count) }
     ensures refused { IfErr result (λ stop. Refuses self_ended IsAtr IsReason octets.now stop) }
 {
     if let Some(count) = whole_len(octets) {

@@ -37,7 +37,8 @@ pub fn one_accepted()
 
 /// No octets spell two answers, and no spelling is a proper prefix of another.
 pub fn one_spelled()
-    ensures { (v w : AtrParts) (b more : List ℕ) → IsAtr v b → IsAtr w (b ++ more) → (v ≡ w) × (more ≡ []) }
+    ensures { (v w : AtrParts) (b more : List ℕ) → IsAtr v b → IsAtr w (b ++ more)
+        → (v ≡ w) × (more ≡ []) }
 {}
 
 /// Where octets meet a line of the table of reasons, no answer goes on.

@@ -12,7 +12,8 @@ use crate::whole::ended;
 /// not told.
 #[inline]
 pub(crate) fn whole_len(octets: &[u8]) -> Option<usize>
-    ensures { IfSome result (λ count. (v : AtrParts) × Accepts self_ended IsAtr octets.now v count) }
+    ensures { IfSome result (λ count. (v : AtrParts)
+        × Accepts self_ended IsAtr octets.now v count) }
 {
     let [ts, from @ ..] = octets else {
         return None;

@@ -82,7 +82,8 @@ impl Partial {
     /// The answer, once it is whole.
     pub(crate) fn answer(&self) -> Option<&Atr>
         requires { Holds self.now }
-        ensures { (t : List ℕ) → t ≡ taken_of self.now → MatchOption result ((v : AtrParts) → IsAtr v t → ⊥) (λ atr. IsAtr atr.now t) }
+        ensures { (t : List ℕ) → t ≡ taken_of self.now
+            → MatchOption result ((v : AtrParts) → IsAtr v t → ⊥) (λ atr. IsAtr atr.now t) }
     {
         match self {
             Partial::Whole(atr) => Some(atr),
@@ -95,7 +96,8 @@ impl Partial {
         requires holds { Holds self.old }
         requires unended { is_whole self.old ≡ false }
         ensures taken { IfOk result (λ done. IsNow (taken_of self.old ++ octet ∷ []) self.new) }
-        ensures refused { IfErr result (λ reason. IsReason reason (taken_of self.old ++ octet ∷ [])) }
+        ensures refused { IfErr result
+            (λ reason. IsReason reason (taken_of self.old ++ octet ∷ [])) }
     {
         match self {
             Partial::Start => *self = Partial::Opened(opened(octet)?),
@@ -248,9 +250,11 @@ impl Header {
         requires holds { HeaderHolds self.old }
         requires announced { is_announced self.old.awaited ≡ true }
         ensures holds { IfOk result (λ last. HeaderHolds self.new) }
-        ensures taken { IfOk result (λ last. header_taken self.new ≡ header_taken self.old ++ octet ∷ []) }
+        ensures taken { IfOk result
+            (λ last. header_taken self.new ≡ header_taken self.old ++ octet ∷ []) }
         ensures last { IfOk result (λ last. last ≡ not (is_announced self.new.awaited)) }
-        ensures refused { IfErr result (λ reason. IsReason reason (header_taken self.old ++ octet ∷ [])) }
+        ensures refused { IfErr result
+            (λ reason. IsReason reason (header_taken self.old ++ octet ∷ [])) }
     {
         if self.awaited.has_byte() {
             self.take_byte(octet);
@@ -277,8 +281,10 @@ impl Header {
         requires holds { HeaderHolds self.old }
         requires awaited { AwaitsTd self.old.awaited }
         ensures holds { IfOk result (λ done. HeaderHolds self.new) }
-        ensures taken { IfOk result (λ done. header_taken self.new ≡ header_taken self.old ++ octet ∷ []) }
-        ensures refused { IfErr result (λ reason. IsReason reason (header_taken self.old ++ octet ∷ [])) }
+        ensures taken { IfOk result
+            (λ done. header_taken self.new ≡ header_taken self.old ++ octet ∷ []) }
+        ensures refused { IfErr result
+            (λ reason. IsReason reason (header_taken self.old ++ octet ∷ [])) }
     {
         let count = self.count + 1;
         let tck = needs_tck_after(octet % 16, self.tck);
@@ -299,7 +305,8 @@ impl Header {
     /// Puts the bytes under way to those of T0 or to the TDs whose bytes have all come.
     fn close_section(&mut self)
         requires { length self.old.indicated.items < 31 }
-        ensures { self.new ≡ record self.old { first = first_of self.old; indicated = record { items = tds_of self.old } } }
+        ensures { self.new ≡ record self.old
+            { first = first_of self.old; indicated = record { items = tds_of self.old } } }
     {
         match self.under {
             None => self.first = self.bytes,

@@ -130,7 +130,8 @@ impl AtrReader {
 
     /// The answer, once it is whole.
     pub fn value(&self) -> Option<&Atr>
-        ensures value { (t : List ℕ) → HasTaken self.now t → MatchOption result ((v : AtrParts) → IsAtr v t → ⊥) (λ atr. IsAtr atr.now t) }
+        ensures value { (t : List ℕ) → HasTaken self.now t
+            → MatchOption result ((v : AtrParts) → IsAtr v t → ⊥) (λ atr. IsAtr atr.now t) }
         ensures refused { IsSome (refusal_kept self.now) → IsNone result }
     {
         match &self.stage {

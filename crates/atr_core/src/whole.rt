@@ -54,7 +54,8 @@ impl Parts {
     pub(crate) fn read(&mut self, octets: &[u8]) -> Option<usize>
         requires indicated { self.old.indicated.items ≡ [] }
         requires historical { self.old.historical.items ≡ [] }
-        ensures { IfSome result (λ count. Accepts self_ended IsAtr octets.now (made_of self.new) count) }
+        ensures { IfSome result (λ count.
+            Accepts self_ended IsAtr octets.now (made_of self.new) count) }
     {
         let [ts, from @ ..] = octets else {
             return None;
@@ -86,7 +87,8 @@ impl Parts {
 /// The interface bytes that T0 or a TD announces, from the front of the octets after it.
 #[inline]
 fn read_section(octet: u8, octets: &[u8]) -> Option<Section<'_>>
-    ensures { IfSome result (λ section. IsSection octet octets.now section.bytes section.td section.rest.now) }
+    ensures { IfSome result (λ section.
+        IsSection octet octets.now section.bytes section.td section.rest.now) }
 {
     let announced = Announced::by(octet);
     let (ta, rest) = read_byte(announced.ta, octets)?;
@@ -102,7 +104,8 @@ fn read_section(octet: u8, octets: &[u8]) -> Option<Section<'_>>
 /// An interface byte from the front of octets, where it is announced, and the octets that are left.
 #[inline]
 fn read_byte(announced: bool, octets: &[u8]) -> Option<(Option<u8>, &[u8])>
-    ensures told { IfSome result (λ taken. (weight : ℕ) → bit_of taken.0 weight ≡ bit_of (or_awaited announced None) weight) }
+    ensures told { IfSome result (λ taken. (weight : ℕ)
+        → bit_of taken.0 weight ≡ bit_of (or_awaited announced None) weight) }
     ensures is { IfSome result (λ taken. octets.now ≡ option_to_list taken.0 ++ taken.1.now) }
 {
     if !announced {
@@ -180,7 +183,8 @@ pub(crate) fn ended(from: &[u8], tck: &[u8], needed: bool) -> Option<usize>
 /// The octets that are left after TCK, where it is `needed`: the exclusive-or of those that it checks.
 #[inline]
 fn after_tck<'a>(needed: bool, checked: &[u8], octets: &'a [u8]) -> Option<&'a [u8]>
-    ensures { IfSome result (λ left. octets.now ≡ option_to_list (tck_after needed checked.now) ++ left.now) }
+    ensures { IfSome result (λ left. octets.now ≡ option_to_list (tck_after needed checked.now)
+        ++ left.now) }
 {
     if !needed {
         return Some(octets);

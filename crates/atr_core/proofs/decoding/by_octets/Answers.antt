@@ -4,4 +4,8 @@ use Rattle.atr_core.proofs.decoding.by_octets.Goals as goal
 pub returns-in_default : goal.returns-in_default
 returns-in_default c =
     let q = c.take_octets.new.self in
-    record { found = tt; refused = short-open q c.args.octets.now c.in-Ok.count (unended-of q c.in_default.not-Whole) c.in-Ok.ensures }
+    record {
+      found = tt;
+      refused = short-open q c.args.octets.now c.in-Ok.count (unended-of q c.in_default.not-Whole)
+          c.in-Ok.ensures;
+    }

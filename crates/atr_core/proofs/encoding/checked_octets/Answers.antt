@@ -8,17 +8,52 @@ pub push_indicated-requires-clause-room : goal.push_indicated-requires-clause-ro
 push_indicated-requires-clause-room c =
     let a : AtrParts = c.args.atr.now in
     let first : length c.push_bytes.new.octets.items ≡ 1 + length (octets_of a.first) =
-    omega (arith, ap length c.push_bytes.ensures, length-append c.push.new.self.items (octets_of c.first-2.result), ap (λ f. length (octets_of f)) c.first-2.ensures, ap length c.push.ensures.items, ap length c.new-octets.ensures, length-append c.new-octets.result.items (c.announcing.result ∷ [])) in
-    omega (arith, front-room a c.indicated-2.ensures.proper, first, ap (λ xs. length (td_octets xs)) c.indicated-2.ensures.value)
+    omega (
+      arith,
+      ap length c.push_bytes.ensures,
+      length-append c.push.new.self.items (octets_of c.first-2.result),
+      ap (λ f. length (octets_of f)) c.first-2.ensures,
+      ap length c.push.ensures.items,
+      ap length c.new-octets.ensures,
+      length-append c.new-octets.result.items (c.announcing.result ∷ []),
+    ) in
+    omega (
+      arith,
+      front-room a c.indicated-2.ensures.proper,
+      first,
+      ap (λ xs. length (td_octets xs)) c.indicated-2.ensures.value,
+    )
 
 pub push_all-requires : goal.push_all-requires
 push_all-requires c =
     let a : AtrParts = c.args.atr.now in
     let first : length c.push_bytes.new.octets.items ≡ 1 + length (octets_of a.first) =
-    omega (arith, ap length c.push_bytes.ensures, length-append c.push.new.self.items (octets_of c.first-2.result), ap (λ f. length (octets_of f)) c.first-2.ensures, ap length c.push.ensures.items, ap length c.new-octets.ensures, length-append c.new-octets.result.items (c.announcing.result ∷ [])) in
-    let second : length c.push_indicated.new.octets.items ≡ length c.push_bytes.new.octets.items + length (td_octets a.indicated) =
-    omega (arith, ap length c.push_indicated.ensures, length-append c.push_bytes.new.octets.items (td_octets c.indicated-2.result.now), ap (λ xs. length (td_octets xs)) c.indicated-2.ensures.value) in
-    (lit< tt, omega (arith, front-room a c.indicated-2.ensures.proper, first, second, ap length c.historical-historical.ensures.value))
+    omega (
+      arith,
+      ap length c.push_bytes.ensures,
+      length-append c.push.new.self.items (octets_of c.first-2.result),
+      ap (λ f. length (octets_of f)) c.first-2.ensures,
+      ap length c.push.ensures.items,
+      ap length c.new-octets.ensures,
+      length-append c.new-octets.result.items (c.announcing.result ∷ []),
+    ) in
+    let second : length c.push_indicated.new.octets.items ≡ length c.push_bytes.new.octets.items + length
+    (td_octets a.indicated) =
+    omega (
+      arith,
+      ap length c.push_indicated.ensures,
+      length-append c.push_bytes.new.octets.items (td_octets c.indicated-2.result.now),
+      ap (λ xs. length (td_octets xs)) c.indicated-2.ensures.value,
+    ) in (
+      lit< tt,
+      omega (
+        arith,
+        front-room a c.indicated-2.ensures.proper,
+        first,
+        second,
+        ap length c.historical-historical.ensures.value,
+      ),
+    )
 
 pub returns-clause-value : goal.returns-clause-value
 returns-clause-value c =
@@ -26,7 +61,9 @@ returns-clause-value c =
     let g = goes_on-is a.indicated in
     let e : not c.is_empty.result ≡ goes_on a.indicated = cc in
     let told : c.announcing.result ≡ announcing a.first (goes_on a.indicated) (length a.historical) = cc in
-    checked-built a c.new-octets.result.items c.push.new.self.items c.push_bytes.new.octets.items c.push_indicated.new.octets.items c.push_all.new.octets.items c.announcing.result
-    c.new-octets.ensures c.push.ensures.items (c.push_bytes.ensures ∙ ap (λ f. c.push.new.self.items ++ octets_of f) c.first-2.ensures)
+    checked-built a c.new-octets.result.items c.push.new.self.items c.push_bytes.new.octets.items
+    c.push_indicated.new.octets.items c.push_all.new.octets.items c.announcing.result
+    c.new-octets.ensures c.push.ensures.items
+    (c.push_bytes.ensures ∙ ap (λ f. c.push.new.self.items ++ octets_of f) c.first-2.ensures)
     (c.push_indicated.ensures ∙ ap (λ xs. c.push_bytes.new.octets.items ++ td_octets xs) c.indicated-2.ensures.value)
     (cc) told

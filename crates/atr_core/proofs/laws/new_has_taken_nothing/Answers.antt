@@ -6,4 +6,12 @@ use Rattle.atr_core.proofs.Feeding.{begun-open}
 use Rattle.atr_core.proofs.laws.new_has_taken_nothing.Goals as goal
 
 pub returns : goal.returns
-returns c = λ t. (λ h. h.is, λ e. record { free = refl; is = e; begun = subst (Begins IsAtr) (sym e) (begun-open partial.Start tt refl) })
+returns c = λ t. (
+  λ h. h.is,
+  λ e. record {
+    free = refl;
+    is = e;
+    begun =
+        subst (Begins IsAtr) (sym e) (begun-open partial.Start tt refl);
+  },
+)

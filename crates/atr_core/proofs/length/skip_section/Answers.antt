@@ -4,5 +4,6 @@ use Rattle.atr_core.proofs.length.skip_section.Goals as goal
 
 pub returns : goal.returns
 returns c =
-    section-there c.args.octet c.by-announced.result c.args.octets.now c.in_ok-rest.rest.now c.by-announced.ensures (omega (arith, c.byte_count.ensures, c.in_ok-rest.ensures.there))
+    section-there c.args.octet c.by-announced.result c.args.octets.now c.in_ok-rest.rest.now c.by-announced.ensures
+    (omega (arith, c.byte_count.ensures, c.in_ok-rest.ensures.there))
     (c.in_ok-rest.ensures.is ∙ ap (λ (n : ℕ). drop n c.args.octets.now) c.byte_count.ensures)

@@ -10,5 +10,7 @@ use Rattle.atr_core.proofs.reader.AtrReader.finish.Goals as goal
 pub returns : goal.returns
 returns c =
     let agrees = subst (λ (s : Stage). Agrees s c.self.inside.octets.items) c.in-Taken.is c.self.invariant in
-    subst (λ (s : Taking). IsFinished IsAtr IsReason HasTaken refusal_kept s (Err (Short c.len.result))) (ap taking_of (sym c.in-Taken.is) ∙ c.self.view_is)
-    (finished c.in-Taken.partial c.len.result agrees.0 (sym c.if-is_whole.ensures) (c.len.ensures.value ∙ ap length agrees.1))
+    subst (λ (s : Taking). IsFinished IsAtr IsReason HasTaken refusal_kept s (Err (Short c.len.result)))
+    (ap taking_of (sym c.in-Taken.is) ∙ c.self.view_is)
+    (finished c.in-Taken.partial c.len.result agrees.0 (sym c.if-is_whole.ensures)
+    (c.len.ensures.value ∙ ap length agrees.1))
