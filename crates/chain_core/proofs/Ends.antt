@@ -74,8 +74,7 @@ read-part held mid left old cur new taken h free kept same = record {
   read = h.read;
   is = record {
     from = Consumes-kept held mid left h.read h.from kept;
-    taken =
-        λ t g. subst (λ (r : Reception). HasTaken r (t ++ h.read)) (sym same) (h.goes.on free.0 t g);
+    taken = λ t g. subst (λ (r : Reception). HasTaken r (t ++ h.read)) (sym same) (h.goes.on free.0 t g);
   };
   count = h.count;
 }

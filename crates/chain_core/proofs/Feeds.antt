@@ -203,15 +203,12 @@ ended-by r (Some refusal) d e f = record {
 ended-by r None true e f = record {
   done = λ t h. (h.fields, done-spelled r t h f);
   short = tt;
-  repeated =
-      λ refusal g. none_some r.refusal refusal e g;
+  repeated = λ refusal g. none_some r.refusal refusal e g;
 }
 ended-by r None false e f = record {
   done = tt;
-  short =
-      λ none t h. (ap Short (sym (length-taken r t h)), not-spelled r t f h);
-  repeated =
-      λ refusal g. none_some r.refusal refusal e g;
+  short = λ none t h. (ap Short (sym (length-taken r t h)), not-spelled r t f h);
+  repeated = λ refusal g. none_some r.refusal refusal e g;
 }
 
 pub ended-here : (r : Reception) (result : Result Unit (Stop ChainReason)) → result ≡ end_answer r

@@ -113,8 +113,7 @@ refused-goes r x place reason free most part place-is first =
             part = r.under_way;
             count = g.blocks;
             message = g.joined;
-            taken =
-                (own.0, take_at t (x ∷ []) refusal.place here ∙ own.1);
+            taken = (own.0, take_at t (x ∷ []) refusal.place here ∙ own.1);
           };
     }
 

@@ -64,8 +64,7 @@ last-full blocks e = elim (eqb_tells (blocks + 1) 131072)
 last-free : (blocks : ℕ) → blocks + 1 ≤ 131072 → nat_eq (blocks + 1) 131072 ≡ false → blocks + 2 ≤ 131072
 last-free blocks few e = elim (eqb_tells (blocks + 1) 131072) [
   | inl h ↦ absurd (let bad : true ≡ false = sym h.0 ∙ e in cc)
-  | inr h ↦ let ne : blocks + 1 ≢ 131072 =
-      h.1 in omega arith
+  | inr h ↦ let ne : blocks + 1 ≢ 131072 = h.1 in omega arith
 ]
 
 counted : (more last : Bool) (blocks : ℕ) → (last ≡ false → blocks + 2 ≤ 131072) → blocks + 1 ≤ 131072
@@ -288,8 +287,7 @@ closed_at p more len = record p {
   joined = p.joined + len;
   blocks = p.blocks + 1;
   done = not more;
-  part =
-      parts.Nad;
+  part = parts.Nad;
   came = 0;
 }
 

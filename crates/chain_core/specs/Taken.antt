@@ -27,8 +27,7 @@ fresh ifs number max = record {
   blocks = 0;
   joined = [];
   under_way = [];
-  done =
-      false;
+  done = false;
   refusal = None;
 }
 

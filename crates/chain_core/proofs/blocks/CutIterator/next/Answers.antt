@@ -32,7 +32,6 @@ returns-clause-steps c =
 pub returns-clause-goes : goal.returns-clause-goes
 returns-clause-goes c = record {
   on = λ _. (tt, tt, omega (arith, ap length (returns-clause-steps c)));
-  keeps =
-      tt;
+  keeps = tt;
   rests = λ _. tt;
 }

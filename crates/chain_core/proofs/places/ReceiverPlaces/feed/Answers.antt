@@ -44,8 +44,7 @@ returns-clause-fed c =
     record {
       goes = c.loop-taken.invariant.goes;
       inside = c.loop-taken.invariant.inside;
-      closed =
-          c.loop-taken.invariant.closed;
+      closed = c.loop-taken.invariant.closed;
       exit = exit;
     } in
     fed-answered old new c.args.piece.now c.loop-taken.taken c.answer.result f c.answer.ensures

@@ -26,8 +26,7 @@ returns-then-lrc-octet-clause-goes c =
     let kept : record q { refusal = Some (record { place = p.joined + 4 * p.blocks + (3 + len); reason = BadLrc }) } ≡
     c.refuse.new.self =
     ap (λ (s : ReceiverPlaces). record s {
-      refusal =
-          Some (record { place = p.joined + 4 * p.blocks + (3 + len); reason = BadLrc });
+      refusal = Some (record { place = p.joined + 4 * p.blocks + (3 + len); reason = BadLrc });
     }) (sym same)
     ∙ sym c.refuse.ensures in
     subst (λ (s : ReceiverPlaces). Goes (received_at s m) (received_at c.refuse.new.self m) (x ∷ [])) (sym same)

@@ -38,8 +38,7 @@ returns-clause-fed c =
     record {
       goes = c.loop-taken.invariant.goes;
       inside = c.loop-taken.invariant.inside;
-      closed =
-          c.loop-taken.invariant.closed;
+      closed = c.loop-taken.invariant.closed;
       exit = exit;
     } in
     let answer = c.answer.ensures ∙ ap (λ (s : Reception). fed_answer s.refusal s.done c.loop-taken.taken)
@@ -58,8 +57,7 @@ returns-clause-before c = λ refusal some t h.
     record {
       goes = c.loop-taken.invariant.goes;
       inside = c.loop-taken.invariant.inside;
-      closed =
-          c.loop-taken.invariant.closed;
+      closed = c.loop-taken.invariant.closed;
       exit = exit;
     } in
     before-all c.args.self.now c.loop-taken.self c.args.piece.now c.loop-taken.taken refusal f some t h
