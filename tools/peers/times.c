@@ -1,5 +1,5 @@
-/* How long each work takes with us and with a peer: a row for each, with the least of seven rounds in nanoseconds and
- * the ratio. Rounds of the two take turns, so that other work on the machine meets both.
+/* How long each work takes with us and with a peer: a row for each, with the least of its rounds in nanoseconds and
+ * the ratio. Rounds of the two take turns, and are so short that some meet no other work, on a busy machine too.
  * usage: times ATRS, a file with an answer to reset in hexadecimal in each line
  */
 #define _POSIX_C_SOURCE 200809L
@@ -10,7 +10,7 @@
 #include <string.h>
 #include <time.h>
 
-enum { ROUNDS = 7, MOST_ATRS = 10000, LONGEST_ATR = 33, COMMAND = 65544, REPLY = 65538, FOREST = 65536 };
+enum { ROUNDS = 1000, MOST_ATRS = 10000, LONGEST_ATR = 33, COMMAND = 65544, REPLY = 65538, FOREST = 65536 };
 
 static double now(void)
 {
@@ -33,14 +33,14 @@ static double round_of(job *work, unsigned times)
     return (now() - began) / times;
 }
 
-/* How often a work is done in a round, so that the round takes a tenth of a second. */
+/* How often a work is done in a round, so that the round takes a third of a millisecond at least. */
 static unsigned times_of(job *work)
 {
     unsigned times = 1;
-    while (round_of(work, times) * times < 1e7) {
-        times *= 4;
+    while (round_of(work, times) * times < 3e5) {
+        times *= 2;
     }
-    return times * 10;
+    return times;
 }
 
 /* Times a work with the peer and with us; `each` is how many things one call does. */
