@@ -1,8 +1,8 @@
 -- Objects with a short header, taken at once.
 use Rattle.std.proofs.Common.{◌≡◌, ℕ, ◌+◌, ◌-◌, ◌<◌, ◌≤◌, List, [], ◌∷◌, ◌++◌, length, take, drop, refl, sym, ap, subst, ◌∙◌, arith, Bool, true, false, cond, zero, suc, append-nil, inl, inr}
-use Rattle.std.specs.Prelude.{◌/◌, ◌%◌, ◌↔◌, IsTrue, slice_index, Option, Some, None, IfSome}
+use Rattle.std.specs.Prelude.{◌/◌, ◌%◌, ◌↔◌, IsTrue, slice_index}
 use Rattle.std.proofs.lemmas.Bool.{false≢true}
-use Rattle.std.proofs.lemmas.List.{length-take, length-drop, take-take, take_all}
+use Rattle.std.proofs.lemmas.List.{length-take, length-drop, take-take}
 use Rattle.std.proofs.Math.Seq.{take-add}
 use Rattle.octet_core.specs.Octets.{AreOctets}
 use Rattle.octet_core.proofs.Lists.{octets-take, octets-drop}
@@ -216,14 +216,6 @@ at_front octets front o same few inside h =
           sym (alike o.header (omega arith)) ∙ h.is ∙ ap (λ (t : List ℕ). header_of t o.form o.len) tag;
       bit = ap constructed_bit (sym tag) ∙ h.bit;
     }
-
--- where there are enough octets, the first six have their short header, if any
-pub at_front_if : (octets front : List ℕ) (found : Option ShortHeader) → take 6 octets ≡ front
-    → length front ≤ length octets → IfSome found (IsShort front) → IfSome found (IsShort octets)
-at_front_if octets front None is inside h = tt
-at_front_if octets front (Some o) is inside h =
-    at_front octets front o (take_all (length octets) front inside ∙ sym is)
-    (omega (arith, ap length is, length-take 6 octets)) (omega (arith, h.within, inside)) h
 
 -- a tag has at most three octets
 pub tag_few : (tag : List ℕ) → IsTag tag → length tag ≤ 3

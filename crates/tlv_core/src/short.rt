@@ -102,17 +102,6 @@ const LONGEST_SHORT: usize = 6;
 pub(crate) fn short_header(octets: &[u8]) -> Option<ShortHeader>
     ensures { IfSome result (IsShort octets.now) }
 {
-    match octets.first_chunk::<LONGEST_SHORT>() {
-        Some(front) => header_at(front),
-        None => header_at_end(octets),
-    }
-}
-
-/// The same of a few octets.
-#[inline(never)]
-fn header_at_end(octets: &[u8]) -> Option<ShortHeader>
-    ensures { IfSome result (IsShort octets.now) }
-{
     let found = header_at(&front_of(octets))?;
     if usize::from(found.header) > octets.len() {
         return None;
@@ -120,7 +109,8 @@ fn header_at_end(octets: &[u8]) -> Option<ShortHeader>
     Some(found)
 }
 
-/// The first octets, with zeros after the last where there are fewer.
+/// The first octets, with zeros after the last where there are fewer. They are copied, so that the header is read
+/// from places that are always there: read from the octets themselves it takes a quarter longer.
 #[inline(always)]
 fn front_of(octets: &[u8]) -> [u8; LONGEST_SHORT]
     ensures { take (length octets.now) result ≡ take 6 octets.now }

@@ -1,4 +1,4 @@
-use Rattle.std.proofs.Common.{◌≡◌, ◌<◌, ◌≤◌, ℕ, ◌-◌, ◌∙◌, List, length, get_or, take, sym, subst, ap, arith, suc}
+use Rattle.std.proofs.Common.{◌≡◌, ◌<◌, ◌≤◌, ℕ, ◌-◌, ◌∙◌, List, length, get_or, sym, subst, ap, arith}
 use Rattle.std.proofs.lemmas.List.{length-take}
 use Rattle.tlv_core.specs.Open.{AreNested, open_after}
 use Rattle.tlv_core.proofs.Ends.{open-all, open-front, nested-take}

@@ -1,4 +1,4 @@
-use Rattle.std.proofs.Common.{◌≡◌, ℕ, List, length}
+use Rattle.std.proofs.Common.{◌≡◌, length}
 use Rattle.tlv_core.specs.Open.{AreNested, open_after}
 use Rattle.tlv_core.proofs.progress.close.Given as goal
 

@@ -1,6 +1,5 @@
-use Rattle.std.proofs.Common.{◌≡◌, List, ℕ, take, sym, ap, subst, ◌∙◌, arith}
+use Rattle.std.proofs.Common.{sym, subst, ◌∙◌, arith}
 use Rattle.tlv_core.specs.Tag.{IsTag}
-use Rattle.tlv_core.specs.declared.header.ObjectHeader.{ObjectHeader}
 use Rattle.tlv_core.proofs.Shorts.{tag_in_front, few_in_tag}
 use Rattle.tlv_core.proofs.short.ShortHeader.object.Goals as goal
 

@@ -1,4 +1,4 @@
-use Rattle.std.proofs.Common.{◌≡◌, ◌<◌, ◌≤◌, arith}
+use Rattle.std.proofs.Common.{arith}
 use Rattle.tlv_core.proofs.Shorts.{tag_made}
 use Rattle.tlv_core.proofs.tag.Tag.front.Goals as goal
 use Rattle.tlv_core.proofs.tag.Tag.front.Goals.{then-count-gt1, else-count-gt1, then-count-gt2, else-count-gt2}
