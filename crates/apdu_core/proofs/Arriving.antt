@@ -12,7 +12,7 @@ use Rattle.chain_core.specs.Chain.{IsChain, message_of}
 use Rattle.chain_core.specs.declared.reason.ChainReason.{ChainReason}
 use Rattle.chain_core.proofs.Unique.{one-accepted}
 use Rattle.chain_core.proofs.Ends.{all-accepted, all-short}
-use Rattle.block_core.proofs.Readings.{refuses-append}
+use Rattle.octet_core.proofs.Answered.{refuses-append}
 use Rattle.apdu_core.specs.Receiving.{ArrivesUnlessFault, IsReceived, IsReceiveFault, IsNoApdu, IsNoChain, ReadsWhole}
 use Rattle.apdu_core.specs.declared.receiving.ReceiveFault.{ReceiveFault}
 use Rattle.apdu_core.specs.declared.receiving.ReceiveFault.TheVariants.{Memory, Read, Chain, Apdu}
@@ -87,6 +87,8 @@ module _ {V R Reader : Type 0} (S : V → List ℕ → Type 0) (Reason : R → L
       (At place reason)) (sym p.2) refused)
       sent (length b) whole-chain
 
+  -- where the reader held the chain, v comes and the octets after it are left,
+  -- or a growth of memory or a call of the reader failed
   pub arrives-only : (result : Result V (ReceiveFault R))
       → IfOk result (IsReceived S limit ifs number remaining failures old new)
       → IfErr result (IsReceiveFault S Reason limit ifs number remaining failures old new)

@@ -1,11 +1,11 @@
 -- A command goes on from octets exactly where no octet trails.
 use Rattle.std.proofs.Common.{◌≡◌, ◌≢◌, ℕ, zero, suc, ◌+◌, ◌-◌, ◌*◌, ◌/◌, ◌%◌, ◌<◌, ◌≤◌, ◌++◌, List, [], ◌∷◌, length, take, drop, replicate, get_or, slice_index, refl, sym, ap, subst, ◌∙◌, arith, append_assoc, inl, inr, ◌⊎◌}
-use Rattle.std.proofs.lemmas.List.{append-nil, length-append, length-take, length-drop, take-append-drop, get_or_append_left, length-replicate}
+use Rattle.std.proofs.lemmas.List.{append-nil, length-append, length-take, length-drop, take-append-drop, length-replicate}
 use Rattle.std.proofs.Math.Seq.{get_or-append_right}
 use Rattle.std.proofs.lemmas.Bool.{cases_lt}
 use Rattle.octet_core.specs.Octets.{AreOctets}
 use Rattle.octet_core.specs.Grammar.{Begins}
-use Rattle.octet_core.proofs.Lists.{octets-append}
+use Rattle.octet_core.proofs.Lists.{octet-at, octets-append, zeros-octets}
 use Rattle.apdu_core.specs.declared.command.Body.{Body}
 use Rattle.apdu_core.specs.declared.command.Body.TheVariants.{Empty, ShortLe, ShortPart, ShortBoth, LongLe, LongPart, LongBoth}
 use Rattle.apdu_core.specs.Command.{IsCommand, FitsFields, IsCount, body_octets, short_of, long_of, IsTrailing, long_count}
@@ -60,10 +60,6 @@ none-trails (LongBoth part k) x lc n h le at two t =
       ]
     ]
 
--- an octet of what begins a list
-octet-at : (c more s : List ℕ) (k : ℕ) → k < length c → c ++ more ≡ s → slice_index c k ≡ slice_index s k
-octet-at c more s k lt e = sym (get_or_append_left c more 0 k lt) ∙ ap (λ (l : List ℕ). get_or l k 0) e
-
 trailing-by : (header : List ℕ) (body : Body) (b more : List ℕ) → length header ≡ 4 → FitsFields body
     → b ++ more ≡ header ++ body_octets body → IsTrailing b → ⊥
 trailing-by [] body b more four h e t = omega arith
@@ -86,11 +82,6 @@ trailing-stuck b t h = trailing-by h.0.header h.0.body b h.1 h.2.proper.header h
 
 abbrev zeros : ℕ → List ℕ
 zeros n = replicate n 0
-
-zeros-octets : (n : ℕ) → AreOctets (zeros n)
-zeros-octets zero i = omega arith
-zeros-octets (suc n) zero = omega arith
-zeros-octets (suc n) (suc i) = zeros-octets n i
 
 begins-by : (header : List ℕ) (body : Body) (b more : List ℕ) → length header ≡ 4 → FitsFields body → AreOctets b
     → AreOctets more → header ++ body_octets body ≡ b ++ more → Begins IsCommand b
@@ -251,6 +242,7 @@ begins-unless (p ∷ q ∷ r ∷ s ∷ suc x ∷ u ∷ rest) o t =
 
 -- ---- responses
 
+-- two octets are a first and a second one
 pub pair-of : (l : List ℕ) → length l ≡ 2 → (x : ℕ) × (y : ℕ) × (l ≡ x ∷ y ∷ [])
 pair-of [] e = absurd (omega arith)
 pair-of (x ∷ []) e = absurd (omega arith)

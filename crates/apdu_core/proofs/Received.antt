@@ -6,7 +6,7 @@ use Rattle.octet_core.specs.declared.stop.Refused.{Refused}
 use Rattle.octet_core.specs.declared.stop.Refused.TheVariants as refusal
 use Rattle.block_core.specs.declared.pcb.Number.{Number}
 use Rattle.chain_core.specs.Chain.{IsChain, message_of}
-use Rattle.chain_core.specs.Taken.{Reception, fresh}
+use Rattle.chain_core.specs.Taking.{Taking, nothing_taken}
 use Rattle.chain_core.specs.Reads.{Reads, ReadsChain, CountsFault}
 use Rattle.chain_core.specs.declared.reading.ReadRefusal.{ReadRefusal}
 use Rattle.chain_core.specs.declared.reading.ReadRefusal.TheVariants as refusals
@@ -14,20 +14,21 @@ use Rattle.chain_core.proofs.Feeds.{taken-fresh}
 use Rattle.apdu_core.specs.Receiving.{ReadsWhole, IsReceived, IsReceiveFault, fault_of_chain, fault_of_apdu}
 
 module _ {Reader : Type 0} (limit ifs : ℕ) (number : Number) (remaining : Reader → Option (List ℕ))
-    (failures : Reader → ℕ) (old new : Reader) (before after : Reception) where
+    (failures : Reader → ℕ) (old new : Reader) (before after : Taking) where
   -- a chain was read, and its message was joined
-  whole-read : before ≡ fresh ifs number limit → ReadsChain (remaining old) (remaining new) before after
+  whole-read : before ≡ nothing_taken ifs number limit → ReadsChain (remaining old) (remaining new) before after
       → failures new ≡ failures old
       → (fields : List (List ℕ)) × ReadsWhole limit ifs number remaining failures old new fields
       × (after.joined ≡ message_of fields)
   whole-read is reads count =
-      let own : ReadsChain (remaining old) (remaining new) (fresh ifs number limit) after =
-      subst (λ (r : Reception). ReadsChain (remaining old) (remaining new) r after) is reads in
+      let own : ReadsChain (remaining old) (remaining new) (nothing_taken ifs number limit) after =
+      subst (λ (r : Taking). ReadsChain (remaining old) (remaining new) r after) is reads in
       let v = own.chain [] (taken-fresh ifs number limit) in
       (v.0, record { read = own.read; from = own.is.from; chain = v.1; none_failed = count }, v.2)
 
   -- a message that is accepted
-  pub received : {V : Type 0} (S : V → List ℕ → Type 0) (message : List ℕ) (v : V) → before ≡ fresh ifs number limit
+  pub received : {V : Type 0} (S : V → List ℕ → Type 0) (message : List ℕ) (v : V)
+      → before ≡ nothing_taken ifs number limit
       → ReadsChain (remaining old) (remaining new) before after → failures new ≡ failures old
       → message ≡ after.joined → Accepts whole S message v (length message)
       → IsReceived S limit ifs number remaining failures old new v
@@ -41,7 +42,7 @@ module _ {Reader : Type 0} (limit ifs : ℕ) (number : Number) (remaining : Read
 
   -- a message that isn't, or of whose part no copy was made
   pub not-received : {V R : Type 0} (S : V → List ℕ → Type 0) (Reason : R → List ℕ → Type 0) (message : List ℕ)
-      (refused : Refused R) → before ≡ fresh ifs number limit
+      (refused : Refused R) → before ≡ nothing_taken ifs number limit
       → ReadsChain (remaining old) (remaining new) before after → failures new ≡ failures old → message ≡ after.joined
       → RefusesUnlessMemory whole S Reason message refused
       → (refused ≡ refusal.Memory → (v : V) × Accepts whole S message v (length message))
@@ -59,18 +60,18 @@ module _ {Reader : Type 0} (limit ifs : ℕ) (number : Number) (remaining : Read
 
   -- octets that are no chain, or a reader that failed
   pub no-chain : {V R : Type 0} (S : V → List ℕ → Type 0) (Reason : R → List ℕ → Type 0) (refusal : ReadRefusal)
-      → before ≡ fresh ifs number limit → Reads (remaining old) (remaining new) before after (Err refusal)
+      → before ≡ nothing_taken ifs number limit → Reads (remaining old) (remaining new) before after (Err refusal)
       → CountsFault (Err refusal) (failures old) (failures new)
       → (after.ifs ≡ before.ifs) × (after.number ≡ before.number) × (after.max ≡ before.max)
       → IsReceiveFault S Reason limit ifs number remaining failures old new (fault_of_chain refusal)
   no-chain S Reason (refusals.Read taken) is reads count kept =
-      let own = subst (λ (r : Reception). Reads (remaining old) (remaining new) r after (Err (refusals.Read taken))) is
+      let own = subst (λ (r : Taking). Reads (remaining old) (remaining new) r after (Err (refusals.Read taken))) is
       reads in
       let begun : Begins (IsChain after.ifs after.number after.max) own.read =
       (own.is.taken [] (taken-fresh ifs number limit)).begun in
-      let size : after.ifs ≡ ifs = kept.0 ∙ ap (λ (r : Reception). r.ifs) is in
-      let first : after.number ≡ number = kept.1 ∙ ap (λ (r : Reception). r.number) is in
-      let most : after.max ≡ limit = kept.2 ∙ ap (λ (r : Reception). r.max) is in
+      let size : after.ifs ≡ ifs = kept.0 ∙ ap (λ (r : Taking). r.ifs) is in
+      let first : after.number ≡ number = kept.1 ∙ ap (λ (r : Taking). r.number) is in
+      let most : after.max ≡ limit = kept.2 ∙ ap (λ (r : Taking). r.max) is in
       record {
         read = own.read;
         from = own.is.from;
@@ -80,7 +81,7 @@ module _ {Reader : Type 0} (limit ifs : ℕ) (number : Number) (remaining : Read
         failed_once = count.1;
       }
   no-chain S Reason (refusals.Stop (Short p)) is reads count kept =
-      let own = subst (λ (r : Reception). Reads (remaining old) (remaining new) r after (Err (refusals.Stop (Short p))))
+      let own = subst (λ (r : Taking). Reads (remaining old) (remaining new) r after (Err (refusals.Stop (Short p))))
       is reads in
       record {
         read = own.read;
@@ -90,7 +91,7 @@ module _ {Reader : Type 0} (limit ifs : ℕ) (number : Number) (remaining : Read
         none_failed = count;
       }
   no-chain S Reason (refusals.Stop (At p r)) is reads count kept =
-      let own = (subst (λ (k : Reception). Reads (remaining old) (remaining new) k after (Err (refusals.Stop (At p r))))
+      let own = (subst (λ (k : Taking). Reads (remaining old) (remaining new) k after (Err (refusals.Stop (At p r))))
       is reads) refl in
       let none = taken-fresh ifs number limit in
       record {

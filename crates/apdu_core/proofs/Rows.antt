@@ -138,40 +138,51 @@ zero_lc = inl (inr (inl (refl, refl, omega arith)), refl)
 
 -- ---- responses
 
+-- 90 00, without data
 pub done : Accepts whole IsResponse (0x90 ∷ 0x00 ∷ []) (record { part = []; sw1 = 0x90; sw2 = 0x00 }) 2
 done = (refl, record { proper = record { part = omega arith }; octets = octets_by (0x90 ∷ 0x00 ∷ []) refl; is = refl })
 
+-- 9000 is normal
 pub class-9000 : IsOfClass Normal 0x90 0x00
 class-9000 = inl (refl, refl)
 
+-- and so is 6110
 pub class-6110 : IsOfClass Normal 0x61 0x10
 class-6110 = inr refl
 
+-- 6283 is a warning
 pub class-6283 : IsOfClass Warning 0x62 0x83
 class-6283 = (omega arith, omega arith)
 
+-- 6400 is an execution error
 pub class-6400 : IsOfClass Execution 0x64 0x00
 class-6400 = (omega arith, omega arith)
 
+-- 6A82 is a checking error
 pub class-6A82 : IsOfClass Checking 0x6A 0x82
 class-6A82 = (omega arith, omega arith)
 
+-- 9101 is left to the card
 pub class-9101 : IsOfClass Proprietary 0x91 0x01
 class-9101 = ((omega arith, omega arith), λ e f. omega (arith, e))
 
+-- 6000 is invalid
 pub class-6000 : IsOfClass Invalid 0x60 0x00
 class-6000 = inl (omega arith)
 
+-- and so is 7000
 pub class-7000 : IsOfClass Invalid 0x70 0x00
 class-7000 = inr (inl (omega arith, omega arith))
 
 -- ---- commands in chains
 
+-- a command of five octets, in fields of two at most
 pub select-chained : chain.spelling Zero (cut_of 2 (spelling (with select (ShortLe 256))))
     ≡ 0x00 ∷ 0x20 ∷ 0x02 ∷ 0x00 ∷ 0xA4 ∷ 0x86 ∷ 0x00 ∷ 0x60 ∷ 0x02 ∷ 0x04 ∷ 0x00 ∷ 0x66 ∷ 0x00 ∷ 0x00 ∷ 0x01 ∷ 0x00 ∷
     0x01 ∷ []
 select-chained = refl
 
+-- a response of two octets, in one field
 pub done-chained : chain.spelling Zero (cut_of 254 (response.spelling (record { part = []; sw1 = 0x90; sw2 = 0x00 })))
     ≡ 0x00 ∷ 0x00 ∷ 0x02 ∷ 0x90 ∷ 0x00 ∷ 0x92 ∷ []
 done-chained = refl

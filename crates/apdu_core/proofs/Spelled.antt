@@ -31,6 +31,7 @@ octets-body (LongBoth part le) h p =
     (octets-append (long_of (length part) ++ part) (long_of le)
     (octets-append (long_of (length part)) part (octets-long (length part)) p) (octets-long le))
 
+-- a header of four octets has a spelling with each body whose numbers fit its length fields
 pub command-spelled : (header : List ℕ) (body : Body) → length header ≡ 4 → AreOctets header → FitsFields body
     → AreOctets (part_of body) → command.HasSpelling (record { header = header; body = body })
 command-spelled header body four octets fits part = (
@@ -42,6 +43,7 @@ command-spelled header body four octets fits part = (
   },
 )
 
+-- and at most 65,536 octets of data have one with each pair of status bytes
 pub response-spelled : (part : List ℕ) (sw1 sw2 : ℕ) → length part ≤ 65536 → AreOctets part → sw1 < 256 → sw2 < 256
     → response.HasSpelling (record { part = part; sw1 = sw1; sw2 = sw2 })
 response-spelled part sw1 sw2 fits octets first second = (

@@ -32,6 +32,7 @@ long_with lc rest =
     then LongPart rest
     else LongBoth (take lc rest) (le_of 65536 (slice_index rest lc * 256 + slice_index rest (lc + 1)))
 
+-- the body that the octets after a header spell, where they spell one
 pub read_body : List ℕ → Body
 read_body [] = Empty
 read_body (x ∷ []) = ShortLe (le_of 256 x)
@@ -43,6 +44,7 @@ read_body (suc x ∷ y ∷ rest) = short_with (suc x) (y ∷ rest)
 zero_sub : (n : ℕ) → n - n ≡ 0
 zero_sub n = omega arith
 
+-- what was added to a number is left when that number is taken away
 pub below_sub : (n m k : ℕ) → n ≡ m + k → n - m ≡ k
 below_sub n m k e = omega arith
 
@@ -66,6 +68,7 @@ long-back : (n : ℕ) → IsCount n 65536 → le_of 65536 (n / 256 % 256 * 256 +
 long-back n h = le_of-back 65536 (n / 256 % 256 * 256 + n % 256) n h.0 h.1 (λ lt. omega (arith, lt))
     (λ ge. omega (arith, ge, h.1))
 
+-- a number of 65,535 at most is the one that its high and its low octet tell
 pub long-same : (n : ℕ) → n ≤ 65535 → n / 256 % 256 * 256 + n % 256 ≡ n
 long-same n le = omega arith
 
@@ -117,6 +120,7 @@ long_with-both lc part le is h =
     (λ e. omega (arith, e, is, length-append part (long_of le)))
     ∙ (λ i. LongBoth (front i) (number i))
 
+-- from the octets of a body that body is read back, where its numbers fit the length fields
 pub read-back : (body : Body) → FitsFields body → read_body (body_octets body) ≡ body
 unfolding read_body
 read-back Empty h = refl

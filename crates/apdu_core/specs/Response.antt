@@ -1,5 +1,5 @@
 -- Response APDUs, and the octets that spell them: ISO/IEC 7816-3, clause 12, and ISO/IEC 7816-4, clause 5.1.
-use Rattle.std.specs.Prelude.{◌≡◌, ℕ, ◌≤◌, List, [], ◌∷◌, ◌++◌, length}
+use Rattle.std.specs.Prelude.{◌≡◌, ℕ, ◌+◌, ◌≤◌, List, [], ◌∷◌, ◌++◌, length}
 use Rattle.octet_core.specs.Octets.{AreOctets}
 use Rattle.octet_core.specs.Grammar.{IsFirst}
 use Rattle.apdu_core.specs.declared.reason.ResponseReason.{ResponseReason}
@@ -8,6 +8,10 @@ use Rattle.apdu_core.specs.declared.reason.ResponseReason.TheVariants.{TooLong}
 -- the longest data field
 abbrev pub longest_part : ℕ
 longest_part = 65536
+
+-- the longest response: that field, SW1 and SW2
+abbrev pub longest_response : ℕ
+longest_response = 65538
 
 -- what a response carries: a data field and the status bytes
 pub record ResponseParts : Type 0 where
@@ -35,7 +39,7 @@ HasSpelling r = (b : List ℕ) × IsResponse r b
 
 -- the first octets b meet this line of the table of reasons
 abbrev pub Meets : List ℕ → ResponseReason → Type 0
-Meets b TooLong = length b ≡ 65539
+Meets b TooLong = length b ≡ longest_response + 1
 
 -- the reason is the first line of the table that the octets up to and with the refused one meet
 abbrev pub IsReason : ResponseReason → List ℕ → Type 0

@@ -1,11 +1,11 @@
 -- What begins a spelling, for any grammar.
-use Rattle.std.proofs.Common.{◌≡◌, ℕ, zero, suc, ◌+◌, ◌<◌, ◌≤◌, List, [], ◌∷◌, ◌++◌, length, take, drop, refl, sym, ap, subst, ◌∙◌, append_assoc, arith, inl, inr, ◌⊎◌}
+use Rattle.std.proofs.Common.{◌≡◌, ℕ, zero, suc, ◌+◌, ◌<◌, ◌≤◌, List, [], ◌∷◌, ◌++◌, length, take, drop, refl, sym, ap, subst, ◌∙◌, append_assoc, arith, inl, inr}
 use Rattle.std.proofs.lemmas.List.{take-append-drop}
 use Rattle.std.proofs.Math.Seq.{take-length, take-append_seam}
 use Rattle.std.proofs.lemmas.List.{append-nil, length-append, take-append-le}
 use Rattle.std.proofs.lemmas.Bool.{cases_lt}
 use Rattle.octet_core.proofs.Lists.{nil_of}
-use Rattle.octet_core.specs.Grammar.{Begins, Accepts, Ending, self_ended, IsStuck, IsShort, Verdict, accepted, short, refused}
+use Rattle.octet_core.specs.Grammar.{Begins, Accepts, Ending, self_ended, IsStuck, IsShort}
 
 -- the first k of the first n octets are the first k
 pub take_take : (k n : ℕ) (b : List ℕ) → k ≤ n → take k (take n b) ≡ take k b
@@ -91,39 +91,3 @@ module _ {V : Type 0} (S : V → List ℕ → Type 0) where
         begun = begun;
         stuck = stuck;
       }
-
--- ---- a verdict for each input
-
--- where it can be told whether a spelling goes on, one input that begins none has a place at which it is refused
-pub stuck-place : {V : Type 0} (e : Ending) (S : V → List ℕ → Type 0) (b : List ℕ) (k : ℕ)
-    → ((v : V) (n : ℕ) → Accepts e S b v n → ⊥) → k ≤ length b → Begins S []
-    → ((n : ℕ) → Begins S (take n b) ⊎ (Begins S (take n b) → ⊥)) → (Begins S (take k b) → ⊥)
-    → (p : ℕ) × IsStuck e S b p
-stuck-place e S b zero none le nothing tell stuck = absurd (stuck nothing)
-stuck-place {V} e S b (suc p) none le nothing tell stuck =
-    let next : suc p ≡ p + 1 = omega arith in
-    elim (tell p) [
-      | inl begun ↦ (
-        p,
-        record {
-          none = none;
-          inside = omega arith;
-          begun = begun;
-          stuck = subst (λ (n : ℕ). Begins S (take n b) → ⊥) next stuck;
-        },
-      )
-      | inr not_so ↦ stuck-place e S b p none (omega arith) nothing tell not_so
-    ]
-
--- where it can be told whether a spelling goes on, and whether one is accepted, there is a verdict
-pub verdict : {V : Type 0} (e : Ending) (S : V → List ℕ → Type 0) (b : List ℕ) → Begins S []
-    → ((n : ℕ) → Begins S (take n b) ⊎ (Begins S (take n b) → ⊥))
-    → ((v : V) × (n : ℕ) × Accepts e S b v n) ⊎ ((v : V) (n : ℕ) → Accepts e S b v n → ⊥) → Verdict e S b
-verdict e S b nothing tell known =
-    elim known [
-      | inl a ↦ accepted a.0 a.1 a.2
-      | inr none ↦ elim (tell (length b)) [
-        | inl begun ↦ short (record { none = none; end = refl; begun = subst (Begins S) (take-length b) begun })
-        | inr not_so ↦ let h = stuck-place e S b (length b) none (omega arith) nothing tell not_so in refused h.0 h.1
-      ]
-    ]

@@ -152,6 +152,7 @@ none-decimal text h n lt e =
     let is : is_decimal text ≡ true = subst (λ (t : List ℕ). is_decimal t ≡ true) (sym e) (decimal-is n lt) in
     cc
 
+-- such a text is UTF-8
 pub is-text : (text : List ℕ) → is_decimal text ≡ true → IsUtf8 text
 is-text text h = IsUtf8-from_ascii text (ascii text (has_digits text h).digits)
 

@@ -3,6 +3,7 @@ pub mod Lists
 pub mod Told
 pub mod Firsts
 pub mod Verdicts
+pub mod Answered
 pub mod Failures
 pub mod HexadecimalLemmas
 pub mod Decimals

@@ -1,13 +1,13 @@
 -- One verdict, for any grammar.
-use Rattle.std.proofs.Common.{◌≡◌, ℕ, zero, suc, ◌+◌, ◌<◌, List, [], ◌∷◌, ◌++◌, length, take, get_or, sym, ap, subst, ◌∙◌, inl, inr, ◌⊎◌, arith}
+use Rattle.std.proofs.Common.{◌≡◌, ℕ, zero, suc, ◌+◌, ◌<◌, ◌≤◌, List, [], ◌∷◌, ◌++◌, length, take, get_or, refl, sym, ap, subst, ◌∙◌, inl, inr, ◌⊎◌, arith}
 use Rattle.std.proofs.lemmas.Bool.{cases_lt}
 use Rattle.std.proofs.lemmas.List.{append-nil, length-append, take_more}
 use Rattle.std.proofs.Math.Seq.{take-length, take-append_seam}
 use Rattle.octet_core.specs.Octets.{AreOctets}
-use Rattle.octet_core.specs.Grammar.{Ending, self_ended, Begins, Accepts, Refuses, RefusesAt, OneVerdict}
+use Rattle.octet_core.specs.Grammar.{Ending, self_ended, whole, Begins, Accepts, Refuses, RefusesAt, OneVerdict}
 use Rattle.octet_core.specs.declared.stop.Stop.{Stop}
 use Rattle.octet_core.specs.declared.stop.Stop.TheVariants.{At, Short}
-use Rattle.octet_core.proofs.Begun.{spelled-begins, stuck-more, one-place, short-not-stuck}
+use Rattle.octet_core.proofs.Begun.{begins-take, spelled-begins, stuck-more, one-place, short-not-stuck}
 use Rattle.octet_core.proofs.Lists.{octets-take}
 
 -- ---- at most one
@@ -35,6 +35,83 @@ pub refuses_at : {V R : Type 0} (e : Ending) (S : V → List ℕ → Type 0) (Re
     (s : Stop R) → RefusesAt e S Reason b s → Refuses e S Reason b s
 refuses_at e S Reason b (Short p) h = absurd h
 refuses_at e S Reason b (At p r) h = h
+
+-- ---- some, where the caller says where a value ends
+
+module _ {V R : Type 0} (S : V → List ℕ → Type 0) (Reason : R → List ℕ → Type 0) where
+  -- where a spelling goes on before an octet, and with the octet there is a reason with which none does, that is the
+  -- verdict on the whole input
+  pub whole-refused : (b : List ℕ) (n : ℕ) (r : R) → n < length b → Begins S (take n b) → Reason r (take (n + 1) b)
+      → (Begins S (take (n + 1) b) → ⊥) → Refuses whole S Reason b (At n r)
+  whole-refused b n r inside begun reason stuck = (
+    record {
+      none = λ v k a. stuck (begins-take S (n + 1) (length b) b (omega arith)
+          (subst (Begins S) (sym (take-length b)) (spelled-begins S v b a.1)));
+      inside = inside;
+      begun = begun;
+      stuck = stuck;
+    },
+    reason,
+  )
+
+-- What has to be known of one input of a grammar whose values are whole inputs. Goes n says of the first n octets that a
+-- spelling goes on from them: from none one does; from one octet more one does too, or there is a reason, with which
+-- none does; and of all octets it is told whether they spell a value. A value is the only one, and so is a reason.
+pub record Scan {V R : Type 0} (S : V → List ℕ → Type 0) (Reason : R → List ℕ → Type 0) (b : List ℕ)
+    (Goes : ℕ → Type 0) : Type 0 where
+  pub one_value : (v w : V) → S v b → S w b → v ≡ w
+  pub one_reason : (r s : R) (c : List ℕ) → Reason r c → Reason s c → r ≡ s
+  pub stops : (r : R) (c : List ℕ) → Reason r c → Begins S c → ⊥
+  pub nothing : Goes 0
+  pub next : (n : ℕ) → n < length b → Goes n → Goes (n + 1) ⊎ ((r : R) × Reason r (take (n + 1) b))
+  pub begun : (n : ℕ) → n ≤ length b → Goes n → Begins S (take n b)
+  pub told : Goes (length b) → ((v : V) × S v b) ⊎ ((v : V) → S v b → ⊥)
+
+module _ {V R : Type 0} (S : V → List ℕ → Type 0) (Reason : R → List ℕ → Type 0) (b : List ℕ) (Goes : ℕ → Type 0)
+    (known : Scan S Reason b Goes) where
+  -- a spelling goes on from the first n octets, or one of them is refused
+  scan : (n : ℕ) → n ≤ length b → Goes n ⊎ ((s : Stop R) × Refuses whole S Reason b s)
+  scan zero le = inl known.nothing
+  scan (suc n) le =
+      let next : n + 1 ≡ suc n = omega arith in
+      elim (scan n (omega arith)) [
+        | inr stop ↦ inr stop
+        | inl goes ↦ elim (known.next n (omega arith) goes) [
+          | inl more ↦ inl (subst Goes next more)
+          | inr bad ↦ inr (
+            At n bad.0,
+            whole-refused S Reason b n bad.0 (omega arith) (known.begun n (omega arith) goes)
+                bad.1 (known.stops bad.0 (take (n + 1) b) bad.1),
+          )
+        ]
+      ]
+
+  -- all octets spell a value, or are short, or one of them is refused
+  scanned : ((v : V) × (n : ℕ) × Accepts whole S b v n) ⊎ ((s : Stop R) × Refuses whole S Reason b s)
+  scanned =
+      elim (scan (length b) (omega arith)) [
+        | inr stop ↦ inr stop
+        | inl goes ↦ elim (known.told goes) [
+          | inl found ↦ inl (found.0, length b, (refl, found.1))
+          | inr none ↦ inr (
+            Short (length b),
+            record {
+              none = λ v n a. none v a.1;
+              end = refl;
+              begun = subst (Begins S) (take-length b) (known.begun (length b) (omega arith) goes);
+            },
+          )
+        ]
+      ]
+
+  -- every input has one verdict
+  pub whole_verdict : OneVerdict whole S Reason b
+  whole_verdict = record {
+    some = scanned;
+    one_value = λ v w n m p q. (known.one_value v w p.1 q.1, p.0 ∙ sym q.0);
+    not_both = not_both whole S Reason b;
+    one_refusal = one_refusal whole S Reason known.one_reason b;
+  }
 
 -- ---- some, where the octets say where a value ends
 

@@ -34,12 +34,6 @@ pub record IsShort {V : Type 0} (e : Ending) (S : V → List ℕ → Type 0) (b 
   pub end : p ≡ length b
   pub begun : Begins S b
 
--- one of the three
-pub data Verdict {V : Type 0} (e : Ending) (S : V → List ℕ → Type 0) (b : List ℕ) : Type 0 where
-  accepted : (v : V) (n : ℕ) → Accepts e S b v n → Verdict e S b
-  short : IsShort e S b (length b) → Verdict e S b
-  refused : (p : ℕ) → IsStuck e S b p → Verdict e S b
-
 -- of the lines of a table, in their order, r is the first that holds
 unfoldable pub IsFirst : {R : Type 0} → List R → (R → Type 0) → R → Type 0
 IsFirst [] Holds r = ⊥

@@ -5,7 +5,8 @@ use Rattle.tlv_core.specs.declared.form.Form.{Form}
 use Rattle.tlv_core.specs.declared.node.Node.{Node}
 use Rattle.tlv_core.specs.declared.node.Node.TheVariants as node
 use Rattle.tlv_core.specs.Form.{further, form_of, form_back}
-use Rattle.tlv_core.specs.Tree.{Tree, End, Filler, Primitive, Constructed, Item, items_of, one_tree, tree_size}
+use Rattle.tlv_core.specs.Tree.{Tree, End, Filler, Primitive, Constructed, tree_size}
+use Rattle.tlv_core.specs.TreeCode.{Item, items_of, one_tree}
 use Rattle.tlv_core.specs.Nodes.{tree_of}
 use Rattle.tlv_core.specs.declared.part.Part.{Part}
 use Rattle.tlv_core.specs.Flat.{PartValue, part_seen}

@@ -16,7 +16,7 @@ use Rattle.tlv_core.specs.declared.form.Form.TheVariants.{One}
 use Rattle.tlv_core.specs.declared.reason.TlvReason.{TlvReason}
 use Rattle.tlv_core.specs.declared.reason.TlvReason.TheVariants.{TooDeep, TagSecond, TagLong, LengthForm, Overrun, TooLong}
 use Rattle.tlv_core.proofs.Forms.{form_cases, field-one, capacity-one}
-use Rattle.octet_core.proofs.Lists.{octets-append}
+use Rattle.octet_core.proofs.Lists.{octets-append, regroup}
 use Rattle.tlv_core.proofs.Numbers.{pow256}
 use Rattle.tlv_core.proofs.One.{head_of}
 use Rattle.tlv_core.proofs.Refused.{refused, needs_one}
@@ -257,9 +257,6 @@ begins_none max b h i r lt m =
           ∙ append_assoc (take (i + 1) b) (drop (i + 1) b) h.1) h.2,
     )
 
-regroup_end : (a b c x : List ℕ) → (a ++ (b ++ c)) ++ x ≡ a ++ (b ++ (c ++ x))
-regroup_end a b c x = simp append_assoc
-
 -- a first tag octet is taken back, and each room is one more
 pub take_back : (rooms : List ℕ) (d x : ℕ) (b : List ℕ) → Opens d rooms (x ∷ []) b → (before : List ℕ) × (more : List ℕ)
     × (b ≡ before ++ x ∷ []) × Opens d more [] before
@@ -279,7 +276,7 @@ take_back (room ∷ rooms) d x b opens =
       before,
       (room + 1) ∷ r.1,
       o.is ∙ ap (λ (l : List ℕ). spelling o.done ++ (header ++ l)) r.2
-          ∙ sym (regroup_end (spelling o.done) header r.0 (x ∷ [])),
+          ∙ sym (regroup (spelling o.done) header r.0 (x ∷ [])),
       (
         r.0,
         record {

@@ -1,9 +1,9 @@
 -- Every input is a data object list or is refused.
-use Rattle.std.proofs.Common.{◌≡◌, ◌≢◌, ℕ, ◌+◌, ◌%◌, ◌<◌, ◌≤◌, List, [], ◌∷◌, ◌++◌, length, get_or, take, refl, sym, ap, subst, ◌∙◌, inl, inr, ◌⊎◌, arith, rules, zero, suc, append-nil, append_assoc, length-append}
+use Rattle.std.proofs.Common.{◌≡◌, ◌≢◌, ℕ, ◌+◌, ◌%◌, ◌<◌, List, [], ◌∷◌, ◌++◌, length, get_or, take, refl, sym, ap, subst, ◌∙◌, inl, inr, ◌⊎◌, arith, rules, append-nil, append_assoc, length-append}
 use Rattle.std.proofs.lemmas.Bool.{cases_lt, cases_eq}
 use Rattle.std.proofs.lemmas.List.{take_more, take_all}
 use Rattle.octet_core.specs.Octets.{AreOctets}
-use Rattle.octet_core.specs.Grammar.{whole, Begins, Accepts, IsFirst, Refuses}
+use Rattle.octet_core.specs.Grammar.{whole, Begins, IsFirst, Refuses}
 use Rattle.tlv_core.specs.Tag.{IsTag}
 use Rattle.tlv_core.specs.TagPart.{part_octets, IsTagPart}
 use Rattle.tlv_core.specs.declared.tag_part.TagPart.{TagPart}
@@ -12,12 +12,10 @@ use Rattle.tlv_core.specs.Dol.{entry_octets, AreEntries, dol_spelling, IsDol, Is
 use Rattle.tlv_core.specs.declared.form.Form.TheVariants.{One}
 use Rattle.tlv_core.specs.declared.reason.DolReason.{DolReason}
 use Rattle.tlv_core.specs.declared.reason.DolReason.TheVariants.{TagZero, TagSecond, TagLong}
-use Rattle.octet_core.specs.declared.stop.Stop.{Stop}
 use Rattle.octet_core.specs.declared.stop.Stop.TheVariants.{At, Short}
 use Rattle.octet_core.proofs.Firsts.{first_once, first_holds, first_dec, some_first}
 use Rattle.octet_core.proofs.Told.{at-most, Dec, and2}
-use Rattle.octet_core.proofs.Verdicts.{one_refusal, not_both}
-use Rattle.tlv_core.proofs.Begins.{begins_all}
+use Rattle.octet_core.proofs.Verdicts.{Scan, whole-refused, whole_verdict}
 use Rattle.tlv_core.proofs.One.{head_of, tail_of, tag_one, header_not_zero, header_not_nil}
 use Rattle.tlv_core.proofs.Refused.{second_header, third_header}
 use Rattle.tlv_core.proofs.Verdict.{nil_dec, second_dec, third_dec, last_of}
@@ -250,13 +248,12 @@ is_line TagZero = inl (refl, refl)
 is_line TagSecond = inr (λ e. cc, inl (refl, refl))
 is_line TagLong = inr (λ e. cc, inr (λ e. cc, inl (refl, refl)))
 
-pub refuses_at : (n : ℕ) (b : List ℕ) (r : DolReason) → n < length b → (s : Stands (take n b))
-    → IsFirst lines (IsWrongEntry (part_octets s.part) (get_or b n 0)) r → Refuses whole IsDol IsDolReason b (At n r)
-refuses_at n b r lt s first =
+reason_at : (n : ℕ) (b : List ℕ) (r : DolReason) → n < length b → (s : Stands (take n b))
+    → IsFirst lines (IsWrongEntry (part_octets s.part) (get_or b n 0)) r → IsDolReason r (take (n + 1) b)
+reason_at n b r lt s first =
     let more : take (n + 1) b ≡ dol_spelling s.done ++ (part_octets s.part ++ get_or b n 0 ∷ []) =
     take_more b n 0 lt ∙ ap (λ (l : List ℕ). l ++ get_or b n 0 ∷ []) s.is
-    ∙ append_assoc (dol_spelling s.done) (part_octets s.part) (get_or b n 0 ∷ []) in
-    let reason : IsDolReason r (take (n + 1) b) = (
+    ∙ append_assoc (dol_spelling s.done) (part_octets s.part) (get_or b n 0 ∷ []) in (
       record {
         done = s.done;
         each = s.each;
@@ -267,86 +264,76 @@ refuses_at n b r lt s first =
         is = more;
       },
       first,
-    ) in
-    let stuck : Begins IsDol (take (n + 1) b) → ⊥ =
-    refused_entry (take (n + 1) b) r (
-      reason.0,
-      first_holds lines (IsWrongEntry (part_octets s.part) (get_or b n 0)) r first,
-    ) in (
-      record {
-        none = λ v k a. stuck (begins_all IsDol (n + 1) b (v, [], subst (IsDol v) (sym (append-nil b)) a.1));
-        inside = lt;
-        begun = stands_begins (take n b) s;
-        stuck = stuck;
-      },
-      reason,
     )
 
-scan : (n : ℕ) (b : List ℕ) → AreOctets b → n ≤ length b → Stands (take n b)
-    ⊎ ((s : Stop DolReason) × Refuses whole IsDol IsDolReason b s)
-scan zero b octets le = inl (record { done = []; each = tt; part = Nothing; ok = tt; is = refl })
-scan (suc n) b octets le =
-    elim (scan n b octets (omega arith)) [
-      | inr stop ↦ inr stop
-      | inl s ↦
-          let x = get_or b n 0 in
-          let next : n + 1 ≡ suc n = omega arith in
-          elim (first_dec lines (IsWrongEntry (part_octets s.part) x) (line_dec (part_octets s.part) x)) [
-            | inl first ↦ inr (At n first.0, refuses_at n b first.0 (omega arith) s first.1)
-            | inr none ↦
-                let on : Stands (take n b ++ x ∷ []) =
-                step s.part (take n b) x s.done s.each s.ok s.is (octets n)
-                (λ r w. some_first lines (IsWrongEntry (part_octets s.part) x) (line_dec (part_octets s.part) x) r
-                (is_line r) none w) in
-                inl (subst Stands (sym (take_more b n 0 (omega arith)) ∙ ap (λ (k : ℕ). take k b) next) on)
-          ]
+-- no list goes on after octets that have a reason
+stops : (r : DolReason) (c : List ℕ) → IsDolReason r c → Begins IsDol c → ⊥
+stops r c reason = refused_entry c r (
+  reason.0,
+  first_holds lines (IsWrongEntry reason.0.header reason.0.octet) r reason.1,
+)
+
+-- an octet that meets a reason is refused
+pub refuses_at : (n : ℕ) (b : List ℕ) (r : DolReason) → n < length b → (s : Stands (take n b))
+    → IsFirst lines (IsWrongEntry (part_octets s.part) (get_or b n 0)) r → Refuses whole IsDol IsDolReason b (At n r)
+refuses_at n b r lt s first =
+    let reason = reason_at n b r lt s first in
+    whole-refused IsDol IsDolReason b n r lt (stands_begins (take n b) s) reason (stops r (take (n + 1) b) reason)
+
+-- one octet more: a list goes on from it, or it meets a reason
+stands_more : (b : List ℕ) → AreOctets b → (n : ℕ) → n < length b → Stands (take n b)
+    → Stands (take (n + 1) b) ⊎ ((r : DolReason) × IsDolReason r (take (n + 1) b))
+stands_more b octets n lt s =
+    let x = get_or b n 0 in
+    elim (first_dec lines (IsWrongEntry (part_octets s.part) x) (line_dec (part_octets s.part) x)) [
+      | inl first ↦ inr (first.0, reason_at n b first.0 lt s first.1)
+      | inr none ↦
+          let on : Stands (take n b ++ x ∷ []) =
+          step s.part (take n b) x s.done s.each s.ok s.is (octets n)
+          (λ r w. some_first lines (IsWrongEntry (part_octets s.part) x) (line_dec (part_octets s.part) x) r
+          (is_line r) none w) in
+          inl (subst Stands (sym (take_more b n 0 lt)) on)
     ]
 
-pub at_end : (b : List ℕ) → Stands b → ((v : List Entry) × (n : ℕ) × Accepts whole IsDol b v n)
-    ⊎ ((s : Stop DolReason) × Refuses whole IsDol IsDolReason b s)
+-- octets that end within an entry are no list
+not_within : (b : List ℕ) (s : Stands b) → (part_octets s.part ≡ [] → ⊥) → (v : List Entry) → IsDol v b → ⊥
+not_within b s under v a =
+    under (sym (same_entries v s.done [] (part_octets s.part) a.each s.each begun_nil (part_begun s.part s.ok)
+    (append-nil (dol_spelling v) ∙ sym a.is ∙ s.is)).1)
+
+at_end : (b : List ℕ) → Stands b → ((v : List Entry) × IsDol v b) ⊎ ((v : List Entry) → IsDol v b → ⊥)
 at_end b s =
     elim (nil_dec (part_octets s.part)) [
       | inl e ↦ inl (
         s.done,
-        length b,
-        (
-          refl,
-          record {
-            each = s.each;
-            is = s.is ∙ ap (λ (l : List ℕ). dol_spelling s.done ++ l) e
-                ∙ append-nil (dol_spelling s.done);
-          },
-        ),
+        record {
+          each = s.each;
+          is = s.is ∙ ap (λ (l : List ℕ). dol_spelling s.done ++ l) e ∙ append-nil (dol_spelling s.done);
+        },
       )
-      | inr ne ↦
-          inr (
-            Short (length b),
-            record {
-              none = λ v n a. ne (sym (same_entries v s.done [] (part_octets s.part) a.1.each s.each begun_nil
-                  (part_begun s.part s.ok) (append-nil (dol_spelling v) ∙ sym a.1.is ∙ s.is)).1);
-              end = refl;
-              begun = stands_begins b s;
-            },
-          )
+      | inr ne ↦ inr (not_within b s ne)
     ]
 
+dol-scan : (b : List ℕ) → AreOctets b → Scan IsDol IsDolReason b (λ n. Stands (take n b))
+dol-scan b octets = record {
+  one_value = λ v w p q. one_dol v w b p q;
+  one_reason = one_entry_reason;
+  stops = stops;
+  nothing = record { done = []; each = tt; part = Nothing; ok = tt; is = refl };
+  next = stands_more b octets;
+  begun = λ n le s. stands_begins (take n b) s;
+  told = λ s. at_end b (subst Stands (take_all (length b) b (omega arith)) s);
+}
+
 pub dol_verdict : (b : List ℕ) → AreOctets b → DolVerdict b
-dol_verdict b octets =
-    record {
-      some = elim (scan (length b) b octets (omega arith))
-          [ inr stop ↦ inr stop | inl s ↦ at_end b (subst Stands (take_all (length b) b (omega arith)) s) ];
-      one_value = λ v w n m p q. (one_dol v w b p.1 q.1, p.0 ∙ sym q.0);
-      not_both = not_both whole IsDol IsDolReason b;
-      one_refusal = one_refusal whole IsDol IsDolReason one_entry_reason b;
-    }
+dol_verdict b octets = whole_verdict IsDol IsDolReason b (λ n. Stands (take n b)) (dol-scan b octets)
 
 -- a list whose octets end within an entry is short
 pub short_entry : (b : List ℕ) (s : Stands b) → (part_octets s.part ≡ [] → ⊥)
     → Refuses whole IsDol IsDolReason b (Short (length b))
 short_entry b s under =
     record {
-      none = λ v n a. under (sym (same_entries v s.done [] (part_octets s.part) a.1.each s.each begun_nil
-          (part_begun s.part s.ok) (append-nil (dol_spelling v) ∙ sym a.1.is ∙ s.is)).1);
+      none = λ v n a. not_within b s under v a.1;
       end = refl;
       begun = stands_begins b s;
     }

@@ -2,6 +2,7 @@
 use Rattle.std.proofs.Common.{◌≡◌, ℕ, ◌+◌, ◌-◌, ◌<◌, ◌≤◌, List, [], ◌∷◌, ◌++◌, length, refl, sym, ap, subst, ◌∙◌, inl, inr, arith, zero, suc, append-nil, append_assoc, length-append}
 use Rattle.std.specs.Prelude.{None}
 use Rattle.std.proofs.lemmas.Bool.{cases_lt}
+use Rattle.octet_core.proofs.Lists.{regroup}
 use Rattle.tlv_core.specs.Number.{zeros}
 use Rattle.tlv_core.specs.Tag.{header_of}
 use Rattle.tlv_core.specs.Tree.{Tree, End, Constructed}
@@ -14,9 +15,6 @@ use Rattle.tlv_core.proofs.Stands.{FitsIn, fits_need, fits_room, spelling-join, 
 use Rattle.tlv_core.proofs.Steps.{spent-more, spent-last, spent-inside, spent-length, fits_more}
 
 -- ---- open objects
-
-regroup : (a b c x : List ℕ) → (a ++ (b ++ c)) ++ x ≡ a ++ (b ++ (c ++ x))
-regroup a b c x = simp append_assoc
 
 -- the rooms after m octets more, before any object is closed
 abbrev pub less : ℕ → List ℕ → List ℕ

@@ -2,7 +2,7 @@
 use Rattle.std.proofs.Common.{◌≡◌, ◌⊎◌, ℕ, ◌+◌, ◌-◌, ◌<◌, ◌≤◌, List, [], ◌∷◌, ◌++◌, length, refl, sym, ap, subst, ◌∙◌, inl, inr, arith, zero, suc, append-nil, append_assoc, length-append}
 use Rattle.std.specs.Prelude.{Option, Some, None}
 use Rattle.octet_core.specs.Octets.{AreOctets}
-use Rattle.octet_core.proofs.Lists.{octets-append}
+use Rattle.octet_core.proofs.Lists.{octets-append, regroup}
 use Rattle.tlv_core.specs.declared.header.Header.{Header}
 use Rattle.tlv_core.specs.declared.header.ObjectHeader.{ObjectHeader}
 use Rattle.tlv_core.specs.declared.header.Next.TheVariants as next
@@ -232,9 +232,6 @@ open_grown b k x o opened list taken z step some bit h =
 
 -- ---- a run of a value
 
-regroup_value : (a b c x : List ℕ) → (a ++ (b ++ c)) ++ x ≡ a ++ (b ++ (c ++ x))
-regroup_value a b c x = simp append_assoc
-
 -- octets of the value, and more of it is to come
 pub part_grown : (b : List ℕ) (k : Kept) (m : ℕ) (add : List ℕ) (opened : List Opened) (list : Tree) (v : ValueSoFar)
     → FitsIn (k.max - length b) k.rooms k.value_left → length add ≡ m → AreOctets add → m < k.value_left
@@ -252,7 +249,7 @@ part_grown b k m add opened list v fits len octets lt h =
     in
     record {
       opened = subst (λ (l : List ℕ). AreOpen 1 opened (spent m k.rooms) l (b ++ add))
-          (regroup_value (spelling list) (header_of v.tag v.form v.len) v.octets add) s.opened_yet;
+          (regroup (spelling list) (header_of v.tag v.form v.len) v.octets add) s.opened_yet;
       proper = subst (λ (n : ℕ). IsProper (1 + n) list) (sym s.level) h.proper;
       under = (
         h.under.0,

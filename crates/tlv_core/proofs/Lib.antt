@@ -1,4 +1,3 @@
-pub mod Begins
 pub mod Numbers
 pub mod Forms
 pub mod One
@@ -37,3 +36,4 @@ pub mod Closes
 pub mod Reading
 pub mod Rows
 pub mod Alike
+pub mod TagTests

@@ -1,7 +1,7 @@
 -- No octets spell two forests.
 use Rattle.std.proofs.Common.{inl, inr, ◌≡◌, ℕ, ◌+◌, ◌%◌, ◌^◌, ◌<◌, List, [], ◌∷◌, ◌++◌, length, refl, sym, ap, subst, ◌∙◌, arith, append-nil, append_assoc}
 use Rattle.octet_core.specs.Octets.{AreOctets}
-use Rattle.octet_core.proofs.Lists.{split_same}
+use Rattle.octet_core.proofs.Lists.{split_same, regroup}
 use Rattle.tlv_core.specs.Number.{number_of, high_first}
 use Rattle.tlv_core.specs.Tag.{IsTag, constructed_bit, length_field, header_of}
 use Rattle.tlv_core.specs.Form.{further, capacity}
@@ -231,9 +231,6 @@ constructed_first (Constructed tag' form' nodes rest) d tag form n more h bit lt
       len = same.lengths;
       more_is = sym same.rests;
     }
-
-pub regroup : (a b c d : List ℕ) → a ++ (b ++ c) ++ d ≡ a ++ (b ++ (c ++ d))
-regroup a b c d = simp append_assoc
 
 pub skip : (s t : Tree) (d e : ℕ) (rest : List ℕ) → IsProper e s → IsProper d t → spelling t ≡ spelling s ++ rest
     → IsAfter d s t rest

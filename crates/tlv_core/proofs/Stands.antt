@@ -11,10 +11,10 @@ use Rattle.tlv_core.specs.Reasons.{OpensOne, EndsIn, Opens, need, need_in_length
 use Rattle.tlv_core.specs.declared.form.Form.{Form}
 use Rattle.tlv_core.specs.declared.form.Form.TheVariants.{One}
 use Rattle.tlv_core.proofs.Forms.{form_cases, field-one, capacity-one}
-use Rattle.octet_core.proofs.Lists.{octets-cons, octets-append}
+use Rattle.octet_core.proofs.Lists.{octets-cons, octets-append, regroup}
 use Rattle.tlv_core.proofs.Numbers.{octets_nil, high_first-number, number_lt}
 use Rattle.tlv_core.proofs.Needs.{need-short, need-long, need_after-last, need_after-more, need_in-one, need_in-more, number-append}
-use Rattle.tlv_core.proofs.One.{join, regroup, head_of}
+use Rattle.tlv_core.proofs.One.{join, head_of}
 
 -- ---- lists of objects, joined
 

@@ -1,10 +1,10 @@
 -- Every input has one verdict.
-use Rattle.std.proofs.Common.{◌≡◌, ℕ, ◌+◌, ◌-◌, ◌%◌, ◌<◌, ◌≤◌, List, [], ◌∷◌, ◌++◌, length, get_or, take, refl, sym, ap, subst, ◌∙◌, inl, inr, ◌⊎◌, arith, zero, suc, append-nil, append_assoc, length-append, length-take}
+use Rattle.std.proofs.Common.{◌≡◌, ℕ, ◌+◌, ◌-◌, ◌%◌, ◌<◌, ◌≤◌, List, [], ◌∷◌, ◌++◌, length, get_or, take, refl, sym, ap, subst, ◌∙◌, inl, inr, ◌⊎◌, arith, suc, append-nil, append_assoc, length-append, length-take}
 use Rattle.std.proofs.lemmas.Bool.{cases_eq}
 use Rattle.std.proofs.lemmas.List.{take_all}
 use Rattle.octet_core.specs.Octets.{AreOctets}
 use Rattle.tlv_core.specs.Number.{zeros}
-use Rattle.octet_core.specs.Grammar.{whole, Begins, IsFirst, Refuses}
+use Rattle.octet_core.specs.Grammar.{Begins, IsFirst}
 use Rattle.tlv_core.specs.Tag.{IsTag, constructed_bit, header_of}
 use Rattle.tlv_core.specs.Form.{capacity}
 use Rattle.tlv_core.specs.Tree.{Tree, End, Filler, Primitive, Constructed}
@@ -14,13 +14,11 @@ use Rattle.tlv_core.specs.Laws.{ForestVerdict}
 use Rattle.tlv_core.specs.declared.form.Form.{Form}
 use Rattle.tlv_core.specs.declared.reason.TlvReason.{TlvReason}
 use Rattle.tlv_core.specs.declared.reason.TlvReason.TheVariants.{TooDeep, TagSecond, TagLong, LengthForm, Overrun, TooLong}
-use Rattle.octet_core.specs.declared.stop.Stop.{Stop}
-use Rattle.octet_core.specs.declared.stop.Stop.TheVariants.{At, Short}
-use Rattle.tlv_core.proofs.One.{split, head_of, tail_of, header_one, header_not_zero, header_not_nil, one_list, one_forest, regroup}
+use Rattle.tlv_core.proofs.One.{split, head_of, tail_of, header_one, header_not_zero, header_not_nil, one_list, one_forest}
 use Rattle.octet_core.proofs.Firsts.{first_once, first_holds, first_dec, some_first}
 use Rattle.octet_core.proofs.Told.{less, at-most, Dec, and2, and3, and4, and5, not_dec}
-use Rattle.octet_core.proofs.Verdicts.{one_refusal, not_both}
-use Rattle.tlv_core.proofs.Begins.{begins_all}
+use Rattle.octet_core.proofs.Lists.{regroup}
+use Rattle.octet_core.proofs.Verdicts.{Scan, whole_verdict}
 use Rattle.tlv_core.proofs.Refused.{refused}
 use Rattle.tlv_core.proofs.Stands.{Stands, Under, Nothing, First, Second, Tagged, Sized, Valued, IsUnder, IsHeader, under_octets, repair}
 use Rattle.tlv_core.proofs.Completion.{begins_cases, stands_more, ends_in_header, under_begun, completed}
@@ -288,31 +286,17 @@ stands_begins max b le s =
     let c = completed max b s le in
     (c.0, repair s.under ++ zeros c.1, subst (IsForest max c.0) (append_assoc b (repair s.under) (zeros c.1)) c.2)
 
--- where the octets before a place stand, and the one there meets a reason, that is the verdict
-pub refuses_at : (max n : ℕ) (b : List ℕ) (r : TlvReason) → n < length b → n ≤ max → (s : Stands 1 (max - n) (take n b))
+-- the reason at a place, where the octets before it are known
+reason_at : (max n : ℕ) (b : List ℕ) (r : TlvReason) → n < length b → (s : Stands 1 (max - n) (take n b))
     → IsHeader s.under → IsFirst lines (IsWrong (length s.rooms) (room_of (max - n) s.rooms) (under_octets s.under)
     (get_or b n 0)) r
-    → Refuses whole (IsForest max) (IsReason max) b (At n r)
-refuses_at max n b r lt le s h first =
-    let count : length (take n b) ≡ n = omega (arith, length-take n b) in
-    let reason : IsReason max r (take (n + 1) b) = (
+    → IsReason max r (take (n + 1) b)
+reason_at max n b r lt s h first =
+    let count : length (take n b) ≡ n = omega (arith, length-take n b) in (
       ends_in_header n max b lt s h,
       subst
           (λ (k : ℕ). IsFirst lines (IsWrong (length s.rooms) (room_of (max - k) s.rooms) (under_octets s.under)
           (get_or b n 0)) r) (sym count) first,
-    ) in
-    let stuck : Begins (IsForest max) (take (n + 1) b) → ⊥ =
-    refused max (take (n + 1) b) r (reason_meets max r (take (n + 1) b) reason) in
-    let begun : Begins (IsForest max) (take n b) =
-    stands_begins max (take n b) (omega arith) (subst (λ (k : ℕ). Stands 1 (max - k) (take n b)) (sym count) s) in (
-      record {
-        none = λ t k a. stuck (begins_all (IsForest max) (n + 1) b
-            (t, [], subst (IsForest max t) (sym (append-nil b)) a.1));
-        inside = lt;
-        begun = begun;
-        stuck = stuck;
-      },
-      reason,
     )
 
 header_dec : (u : Under) → Dec (IsHeader u)
@@ -323,40 +307,25 @@ header_dec (Tagged tag) = inl tt
 header_dec (Sized tag form more) = inl tt
 header_dec (Valued tag form value left) = inr (λ e. e)
 
--- the first octets stand somewhere, or one of them is refused
-scan : (n max : ℕ) (b : List ℕ) → AreOctets b → n ≤ length b → ((n ≤ max) × Stands 1 (max - n) (take n b))
-    ⊎ ((s : Stop TlvReason) × Refuses whole (IsForest max) (IsReason max) b s)
-scan zero max b octets le = inl (
-  omega arith,
-  record {
-    rooms = [];
-    under = Nothing;
-    opens = record { done = End; proper = tt; is = refl };
-    ok =
-        omega arith;
-    fits = omega arith;
-  },
-)
-scan (suc n) max b octets le =
-    elim (scan n max b octets (omega arith)) [
-      | inr stop ↦ inr stop
-      | inl before ↦
-          let s = before.1 in
-          let x = get_or b n 0 in
-          elim (header_dec s.under) [
-            | inr value ↦ inl (stands_more n max b octets (omega arith) before.0 s (λ h r w. value h))
-            | inl h ↦ elim (first_dec lines
+-- what is known of the first n octets, where a forest goes on from them
+abbrev Known : ℕ → List ℕ → ℕ → Type 0
+Known max b n = (n ≤ max) × Stands 1 (max - n) (take n b)
+
+-- one octet more: a forest goes on from it, or it meets a reason
+known_more : (max : ℕ) (b : List ℕ) → AreOctets b → (n : ℕ) → n < length b → Known max b n
+    → Known max b (n + 1) ⊎ ((r : TlvReason) × IsReason max r (take (n + 1) b))
+known_more max b octets n lt (le, s) =
+    let x = get_or b n 0 in
+    let next : suc n ≡ n + 1 = omega arith in
+    elim (header_dec s.under) [
+      | inr value ↦ inl (subst (Known max b) next (stands_more n max b octets lt le s (λ h r w. value h)))
+      | inl h ↦ elim (first_dec lines (IsWrong (length s.rooms) (room_of (max - n) s.rooms) (under_octets s.under) x)
+          (line_dec (length s.rooms) (room_of (max - n) s.rooms) (under_octets s.under) x)) [
+            | inl first ↦ inr (first.0, reason_at max n b first.0 lt s h first.1)
+            | inr none ↦ inl (subst (Known max b) next (stands_more n max b octets lt le s
+                (λ g r w. some_first lines
                 (IsWrong (length s.rooms) (room_of (max - n) s.rooms) (under_octets s.under) x)
-                (line_dec (length s.rooms) (room_of (max - n) s.rooms) (under_octets s.under) x)) [
-                  | inl first ↦ inr (At n first.0, refuses_at max n b first.0 (omega arith) before.0 s h first.1)
-                  | inr none ↦ inl (
-                      stands_more n max b octets (omega arith) before.0 s
-                      (λ g r w. some_first lines
-                      (IsWrong (length s.rooms) (room_of (max - n) s.rooms) (under_octets s.under) x)
-                      (line_dec (length s.rooms) (room_of (max - n) s.rooms) (under_octets s.under) x) r (is_line r)
-                      none w)
-                      )
-                ]
+                (line_dec (length s.rooms) (room_of (max - n) s.rooms) (under_octets s.under) x) r (is_line r) none w)))
           ]
     ]
 
@@ -405,6 +374,7 @@ busy (room ∷ rooms) u b t o ok ht e idle =
     (sym (same_done t p.done 1 1 [] (header ++ o.0) ht p.proper (inl begun_nil) (inr (open_tail 1 room o.0 b p))
     (append-nil (spelling t) ∙ sym e ∙ p.is)).1)
 
+-- whether octets after which nothing or something is open are a forest
 at_end : (rooms : List ℕ) (u : Under) (b : List ℕ) → Opens 1 rooms (under_octets u) b → IsUnder (1 + length rooms) u
     → ((done : Tree) × IsProper 1 done × (b ≡ spelling done)) ⊎ ((t : Tree) → IsProper 1 t → b ≡ spelling t → ⊥)
 at_end [] u b o ok =
@@ -425,28 +395,38 @@ at_end (room ∷ rooms) u b o ok =
     (sym (same_done t p.done 1 1 [] (header ++ o.0) ht p.proper (inl begun_nil) (inr (open_tail 1 room o.0 b p))
     (append-nil (spelling t) ∙ sym e ∙ p.is)).1))
 
-pub some_verdict : (max : ℕ) (b : List ℕ) → AreOctets b → ((t : Tree) × IsForest max t b)
-    ⊎ ((s : Stop TlvReason) × Refuses whole (IsForest max) (IsReason max) b s)
-some_verdict max b octets =
-    elim (scan (length b) max b octets (omega arith)) [
-      | inr stop ↦ inr stop
-      | inl found ↦
-          let s : Stands 1 (max - length b) b =
-          subst (λ (l : List ℕ). Stands 1 (max - length b) l) (take_all (length b) b (omega arith)) found.1 in
-          elim (at_end s.rooms s.under b s.opens s.ok) [
-            | inl done ↦ inl (done.0, record { proper = done.1; is = done.2; size = found.0 })
-            | inr none ↦ inr (
-              Short (length b),
-              record { none = λ t n a. none t a.1.proper a.1.is; end = refl; begun = stands_begins max b found.0 s },
-            )
-          ]
+known_all : (max : ℕ) (b : List ℕ) → Known max b (length b)
+    → ((t : Tree) × IsForest max t b) ⊎ ((t : Tree) → IsForest max t b → ⊥)
+known_all max b (le, stands) =
+    let s : Stands 1 (max - length b) b =
+    subst (λ (l : List ℕ). Stands 1 (max - length b) l) (take_all (length b) b (omega arith)) stands in
+    elim (at_end s.rooms s.under b s.opens s.ok) [
+      | inl done ↦ inl (done.0, record { proper = done.1; is = done.2; size = le })
+      | inr none ↦ inr (λ t h. none t h.proper h.is)
     ]
 
-pub one_verdict : (max : ℕ) (b : List ℕ) → AreOctets b → ForestVerdict max b
-one_verdict max b octets =
+forest-scan : (max : ℕ) (b : List ℕ) → AreOctets b → Scan (IsForest max) (IsReason max) b (Known max b)
+forest-scan max b octets = record {
+  one_value = λ v w p q. one_forest max max v w b p q;
+  one_reason = one_reason max;
+  stops = λ r c reason. refused max c r (reason_meets max r c reason);
+  nothing = (
+    omega arith,
     record {
-      some = elim (some_verdict max b octets) [ inl f ↦ inl (f.0, length b, (refl, f.1)) | inr s ↦ inr s ];
-      one_value = λ v w n m p q. (one_forest max max v w b p.1 q.1, p.0 ∙ sym q.0);
-      not_both = not_both whole (IsForest max) (IsReason max) b;
-      one_refusal = one_refusal whole (IsForest max) (IsReason max) (one_reason max) b;
-    }
+      rooms = [];
+      under = Nothing;
+      opens = record { done = End; proper = tt; is = refl };
+      ok = omega arith;
+      fits = omega arith;
+    },
+  );
+  next = known_more max b octets;
+  begun = λ n le known.
+      let count : n ≡ length (take n b) = omega (arith, length-take n b, le) in
+      stands_begins max (take n b) (omega (arith, count, known.0))
+      (subst (λ (k : ℕ). Stands 1 (max - k) (take n b)) count known.1);
+  told = known_all max b;
+}
+
+pub one_verdict : (max : ℕ) (b : List ℕ) → AreOctets b → ForestVerdict max b
+one_verdict max b octets = whole_verdict (IsForest max) (IsReason max) b (Known max b) (forest-scan max b octets)

@@ -4,6 +4,7 @@ pub mod Tag
 pub mod TagView
 pub mod TagPart
 pub mod Tree
+pub mod TreeCode
 pub mod Nodes
 pub mod NodesFall
 pub mod Forest
@@ -17,6 +18,7 @@ pub mod Steps
 pub mod Short
 pub mod Header
 pub mod Open
+pub mod WellProp
 pub mod Progress
 pub mod Check
 pub mod Checking

@@ -6,7 +6,8 @@ use Rattle.std.proofs.lemmas.Cmp.{on_equiv, and_equiv, lists_equiv, nat_eq_equiv
 use lib.Pointwise.{pointwise}
 use Rattle.tlv_core.specs.declared.node.Node.{Node}
 use Rattle.tlv_core.specs.Form.{further}
-use Rattle.tlv_core.specs.Tree.{Tree, Item, items_of}
+use Rattle.tlv_core.specs.Tree.{Tree}
+use Rattle.tlv_core.specs.TreeCode.{Item, items_of}
 use Rattle.tlv_core.specs.Nodes.{tree_of}
 use Rattle.tlv_core.specs.Flat.{PartValue}
 

@@ -1,5 +1,5 @@
 -- Tags and length fields of BER-TLV data objects (EMV 4.3 Book 3, Annex B; ISO/IEC 7816-4, clause 5.2.2).
-use Rattle.std.specs.Prelude.{◌≡◌, ℕ, ◌+◌, ◌/◌, ◌%◌, ◌<◌, ◌≢◌, List, [], ◌∷◌, ◌++◌}
+use Rattle.std.specs.Prelude.{◌≡◌, ℕ, ◌+◌, ◌/◌, ◌%◌, ◌<◌, ◌≢◌, List, [], ◌∷◌, ◌++◌, Bool, false, ◌&&◌, ◌==◌, not, nat_lt}
 use Rattle.tlv_core.specs.Number.{high_first}
 use Rattle.tlv_core.specs.declared.form.Form.{Form}
 use Rattle.tlv_core.specs.declared.form.Form.TheVariants.{One}
@@ -17,6 +17,13 @@ IsTag (x ∷ []) = (0 < x) × (x < 256) × (x % 32 ≢ 31)
 IsTag (x ∷ y ∷ []) = (x < 256) × IsLong x × (0 < y) × (y < 128)
 IsTag (x ∷ y ∷ z ∷ []) = (x < 256) × IsLong x × (128 < y) × (y < 256) × (z < 128)
 IsTag (x ∷ y ∷ z ∷ w ∷ more) = ⊥
+
+-- whether octets are one whole tag, computed
+abbrev pub is_tag : List ℕ → Bool
+is_tag (x ∷ []) = nat_lt 0 x && not (x % 32 == 31)
+is_tag (x ∷ y ∷ []) = x % 32 == 31 && nat_lt 0 y && nat_lt y 128
+is_tag (x ∷ y ∷ z ∷ []) = x % 32 == 31 && nat_lt 128 y && nat_lt z 128
+is_tag _ = false
 
 -- bit 6 of the first octet: 1 in the tag of a constructed object, 0 in that of a primitive one
 abbrev pub constructed_bit : List ℕ → ℕ

@@ -62,7 +62,8 @@ pub struct Forest {
 }
 
 impl Model for Forest {
-    ghost use Rattle.tlv_core.specs.Tree.{Tree, tree_code};
+    ghost use Rattle.tlv_core.specs.Tree.{Tree};
+    ghost use Rattle.tlv_core.specs.TreeCode.{tree_code};
 
     ghost Value = { Tree };
 

@@ -17,7 +17,8 @@ pub struct Nodes {
 }
 
 impl Model for Nodes {
-    ghost use Rattle.tlv_core.specs.Tree.{Tree, tree_code, tree_size};
+    ghost use Rattle.tlv_core.specs.Tree.{Tree, tree_size};
+    ghost use Rattle.tlv_core.specs.TreeCode.{tree_code};
 
     ghost Value = { Tree };
 

@@ -6,7 +6,8 @@ ghost use Rattle.tlv_core.specs.declared.header.Header.TheVariants.{Nothing};
 ghost use Rattle.tlv_core.specs.Header.{IsWell};
 ghost use Rattle.tlv_core.specs.declared.header.Next.TheVariants.{Filler};
 ghost use Rattle.tlv_core.specs.declared.reason.TlvReason.TheVariants.{TooDeep, TooLong, Overrun};
-ghost use Rattle.tlv_core.specs.Open.{AreEnds, AreFrom, AreNested, IsWell-prop, open_after};
+ghost use Rattle.tlv_core.specs.Open.{AreEnds, AreFrom, AreNested, open_after};
+ghost use Rattle.tlv_core.specs.WellProp.{IsWell-prop};
 
 use crate::header::{Header, Next, ObjectHeader};
 use crate::places::CheckPlaces;

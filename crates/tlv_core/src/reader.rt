@@ -32,7 +32,7 @@ impl Model for ForestReader {
     ghost use Rattle.std.specs.Prelude.{ℕ, List};
     ghost use Rattle.tlv_core.specs.Read.{Reading, HasBegun, reading_of};
     ghost use Rattle.std.specs.Coded.{codes};
-    ghost use Rattle.tlv_core.specs.Tree.{tree_code};
+    ghost use Rattle.tlv_core.specs.TreeCode.{tree_code};
 
     ghost Value = { Reading };
 
