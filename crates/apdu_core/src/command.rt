@@ -18,15 +18,15 @@ pub enum Body {
     Empty,
     /// Case 2 short: `le` is 1 to 256.
     ShortLe { le: u32 },
-    /// Case 3 short: a part of 1 to 255 octets.
+    /// Case 3 short: a data field of 1 to 255 octets.
     ShortPart { part: Octets },
-    /// Case 4 short: a part of 1 to 255 octets, and `le` 1 to 256.
+    /// Case 4 short: a data field of 1 to 255 octets, and `le` 1 to 256.
     ShortBoth { part: Octets, le: u32 },
     /// Case 2 extended: `le` is 1 to 65,536.
     LongLe { le: u32 },
-    /// Case 3 extended: a part of 1 to 65,535 octets.
+    /// Case 3 extended: a data field of 1 to 65,535 octets.
     LongPart { part: Octets },
-    /// Case 4 extended: a part of 1 to 65,535 octets, and `le` 1 to 65,536.
+    /// Case 4 extended: a data field of 1 to 65,535 octets, and `le` 1 to 65,536.
     LongBoth { part: Octets, le: u32 },
 }
 
@@ -71,10 +71,10 @@ impl Model for Command {
 
 impl Command {
     ghost use Rattle.std.specs.Prelude.{◌≡◌, ◌≤◌, OnErr, IfOk, IfErr};
-    ghost use Rattle.apdu_core.specs.Command.{FitsFields, HasSpelling, IsProper, spelling};
+    ghost use Rattle.apdu_core.specs.Command.{FitsFields, HasSpelling, IsProper, longest_command, spelling};
 
     /// The command of this header, CLA, INS, P1 and P2, and this body, exactly where it has a spelling. The
-    /// body comes back where its part or its `le` has none of the lengths or numbers of its shape.
+    /// body comes back where its data field or its `le` has none of the lengths or numbers of its shape.
     pub fn new(header: [u8; 4], body: Body) -> Result<Command, Body>
         ensures value { IfOk result (λ c. c ≡ record { header = header; body = body }) }
         ensures spelled { IfOk result HasSpelling }
@@ -106,7 +106,7 @@ impl Command {
     /// How many octets spell the command, 4 to 65,544.
     pub fn encoded_len(&self) -> usize
         ensures len { result ≡ length (spelling self.now) }
-        ensures most { result ≤ 65544 }
+        ensures most { result ≤ longest_command }
     {
         4 + self.body.encoded_len()
     }

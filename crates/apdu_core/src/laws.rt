@@ -5,8 +5,8 @@ ghost use Rattle.octet_core.specs.Octets.{AreOctets};
 ghost use Rattle.octet_core.specs.Grammar.{Begins, OneVerdict, whole};
 ghost use Rattle.block_core.specs.declared.pcb.Number.{Number};
 ghost use Rattle.apdu_core.specs.Arrival.{ArrivesAs};
-ghost use Rattle.apdu_core.specs.Command.{CommandParts, IsCommand, IsTrailing, IsReason as IsCommandReason};
-ghost use Rattle.apdu_core.specs.Response.{ResponseParts, IsResponse, IsReason as IsResponseReason};
+ghost use Rattle.apdu_core.specs.Command.{CommandParts, IsCommand, IsTrailing, IsReason as IsCommandReason, longest_command};
+ghost use Rattle.apdu_core.specs.Response.{ResponseParts, IsResponse, IsReason as IsResponseReason, longest_response};
 ghost use Rattle.apdu_core.specs.Status.{IsOfClass};
 ghost use Rattle.apdu_core.specs.declared.status.StatusClass.{StatusClass as AnyClass};
 
@@ -19,7 +19,7 @@ pub fn are_equal_commands(a: &Command, b: &Command) -> bool
     a == b
 }
 
-/// What `==` tells of responses: whether they have the same part and status bytes.
+/// What `==` tells of responses: whether they have the same data field and status bytes.
 pub fn are_equal_responses(a: &Response, b: &Response) -> bool
     ensures { IsTrue result ↔ (a.now ≡ b.now) }
 {
@@ -40,16 +40,17 @@ pub fn one_value()
 pub fn goes_on()
     ensures command_stops { (b : List ℕ) → IsTrailing b → Begins IsCommand b → ⊥ }
     ensures command_begins { (b : List ℕ) → AreOctets b → (IsTrailing b → ⊥) → Begins IsCommand b }
-    ensures response_stops { (b : List ℕ) → 65538 < length b → Begins IsResponse b → ⊥ }
-    ensures response_begins { (b : List ℕ) → AreOctets b → length b ≤ 65538 → Begins IsResponse b }
+    ensures response_stops { (b : List ℕ) → longest_response < length b → Begins IsResponse b → ⊥ }
+    ensures response_begins { (b : List ℕ) → AreOctets b → length b ≤ longest_response
+        → Begins IsResponse b }
 {}
 
 /// How many octets spell a command or a response.
 pub fn lengths()
     ensures command { (c : CommandParts) (b : List ℕ) → IsCommand c b
-        → (4 ≤ length b) × (length b ≤ 65544) }
+        → (4 ≤ length b) × (length b ≤ longest_command) }
     ensures response { (r : ResponseParts) (b : List ℕ) → IsResponse r b
-        → (2 ≤ length b) × (length b ≤ 65538) }
+        → (2 ≤ length b) × (length b ≤ longest_response) }
 {}
 
 /// An APDU that is cut into a chain, under any sizes and whatever follows, arrives as that APDU.

@@ -3,9 +3,9 @@
 ghost use Rattle.std.specs.Prelude.{◌≡◌, ◌≤◌, ◌++◌, ℕ, List, Some, IfOk, IfErr};
 ghost use Rattle.chain_core.specs.Chain.{IsChain, message_of};
 ghost use Rattle.apdu_core.specs.Command as command;
-ghost use Rattle.apdu_core.specs.Command.{CommandParts, IsCommand};
+ghost use Rattle.apdu_core.specs.Command.{CommandParts, IsCommand, longest_command};
 ghost use Rattle.apdu_core.specs.Response as response;
-ghost use Rattle.apdu_core.specs.Response.{ResponseParts, IsResponse};
+ghost use Rattle.apdu_core.specs.Response.{ResponseParts, IsResponse, longest_response};
 ghost use Rattle.apdu_core.specs.Receiving.{ArrivesUnlessFault, IsReceived, IsReceiveFault};
 
 use crate::command::Command;
@@ -28,7 +28,7 @@ pub const LONGEST_RESPONSE: usize = 65_538;
 /// Why no APDU was received, with its reasons.
 #[derive(Clone, Copy, Debug, PartialEq, Eq)]
 pub enum ReceiveFault<R> {
-    /// Memory was refused: for the message, and then nothing was read, or for the copy of the part, and
+    /// Memory was refused: for the message, and then nothing was read, or for the copy of the data field, and
     /// then the whole chain was read and no more.
     Memory,
     /// The reader failed, by an interruption too, after `taken` octets.
@@ -103,7 +103,7 @@ impl<R> From<Refused<R>> for ReceiveFault<R> {
 /// out of memory and a reader that fails.
 ///
 /// `Memory` comes where memory was refused: for the message, and then nothing was read, or for the copy
-/// of the part, and then exactly a chain whose message is a command. `Read` comes where a call of the
+/// of the data field, and then exactly a chain whose message is a command. `Read` comes where a call of the
 /// reader failed, which isn't tried again, after `taken` octets with which a chain begins. `Chain` is the
 /// refusal of what was read as a chain: `Short` where the reader ended, `At` the first octet after which no
 /// chain goes on, and then no octet is read past the first three of its block, or past that octet.
@@ -117,11 +117,12 @@ pub fn receive_command<R: Source>(
     requires least { 1 ≤ ifs }
     requires most { ifs ≤ 254 }
     ensures received { IfOk result
-        (IsReceived IsCommand 65544 ifs number R.remaining R.failures reader.old reader.new) }
-    ensures fault { IfErr result (IsReceiveFault IsCommand command.IsReason 65544 ifs number
+        (IsReceived IsCommand longest_command ifs number R.remaining R.failures reader.old reader.new) }
+    ensures fault { IfErr result (IsReceiveFault IsCommand command.IsReason longest_command ifs
+        number
         R.remaining R.failures reader.old reader.new) }
     ensures arrives { (v : CommandParts) (sent : List (List ℕ)) (b more : List ℕ)
-        → IsChain ifs number 65544 sent b → IsCommand v (message_of sent)
+        → IsChain ifs number longest_command sent b → IsCommand v (message_of sent)
         → R.remaining reader.old ≡ Some (b ++ more)
         → ArrivesUnlessFault v more (R.remaining reader.new) result }
 {
@@ -139,11 +140,12 @@ pub fn receive_response<R: Source>(
     requires least { 1 ≤ ifs }
     requires most { ifs ≤ 254 }
     ensures received { IfOk result
-        (IsReceived IsResponse 65538 ifs number R.remaining R.failures reader.old reader.new) }
-    ensures fault { IfErr result (IsReceiveFault IsResponse response.IsReason 65538 ifs number
+        (IsReceived IsResponse longest_response ifs number R.remaining R.failures reader.old reader.new) }
+    ensures fault { IfErr result (IsReceiveFault IsResponse response.IsReason longest_response ifs
+        number
         R.remaining R.failures reader.old reader.new) }
     ensures arrives { (v : ResponseParts) (sent : List (List ℕ)) (b more : List ℕ)
-        → IsChain ifs number 65538 sent b → IsResponse v (message_of sent)
+        → IsChain ifs number longest_response sent b → IsResponse v (message_of sent)
         → R.remaining reader.old ≡ Some (b ++ more)
         → ArrivesUnlessFault v more (R.remaining reader.new) result }
 {
@@ -160,8 +162,9 @@ fn read_command<R: Source>(
     requires least { 1 ≤ ifs }
     requires most { ifs ≤ 254 }
     ensures received { IfOk result
-        (IsReceived IsCommand 65544 ifs number R.remaining R.failures reader.old reader.new) }
-    ensures fault { IfErr result (IsReceiveFault IsCommand command.IsReason 65544 ifs number
+        (IsReceived IsCommand longest_command ifs number R.remaining R.failures reader.old reader.new) }
+    ensures fault { IfErr result (IsReceiveFault IsCommand command.IsReason longest_command ifs
+        number
         R.remaining R.failures reader.old reader.new) }
 {
     let mut receiver = Receiver::new(alloc, ifs, number, LONGEST_COMMAND)?;
@@ -180,8 +183,9 @@ fn read_response<R: Source>(
     requires least { 1 ≤ ifs }
     requires most { ifs ≤ 254 }
     ensures received { IfOk result
-        (IsReceived IsResponse 65538 ifs number R.remaining R.failures reader.old reader.new) }
-    ensures fault { IfErr result (IsReceiveFault IsResponse response.IsReason 65538 ifs number
+        (IsReceived IsResponse longest_response ifs number R.remaining R.failures reader.old reader.new) }
+    ensures fault { IfErr result (IsReceiveFault IsResponse response.IsReason longest_response ifs
+        number
         R.remaining R.failures reader.old reader.new) }
 {
     let mut receiver = Receiver::new(alloc, ifs, number, LONGEST_RESPONSE)?;

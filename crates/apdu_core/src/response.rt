@@ -37,7 +37,7 @@ impl Response {
     ghost use Rattle.apdu_core.specs.Response.{HasSpelling};
 
     /// The response of this data field and these status bytes, whatever they tell, exactly where it has a
-    /// spelling. The part comes back where it has more than 65,536 octets.
+    /// spelling. The data field comes back where it has more than 65,536 octets.
     pub fn new(part: Octets, sw1: u8, sw2: u8) -> Result<Response, Octets>
         ensures value { IfOk result (λ r. r ≡ record { part = part; sw1 = sw1; sw2 = sw2 }) }
         ensures spelled { IfOk result HasSpelling }

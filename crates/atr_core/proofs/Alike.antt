@@ -29,5 +29,6 @@ refusal_back (Some r) = ap (λ (x : AtrReason). Some (record { place = r.place; 
 pub one_refusal : (r s : Option (Refusal AtrReason)) → refusal_numbers r ≡ refusal_numbers s → r ≡ s
 one_refusal r s e = sym (refusal_back r) ∙ ap refusal_of e ∙ refusal_back s
 
+-- the comparison of two readers tells whether they are the same
 pub taking_decides : (s t : Taking) → Decides (same_taking s t) (s ≡ t)
 taking_decides s t = search (rules, octets_decide, one_refusal)

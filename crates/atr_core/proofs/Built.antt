@@ -10,11 +10,13 @@ use Rattle.atr_core.specs.declared.atr.Interface.{Interface}
 use Rattle.atr_core.specs.declared.atr.Indicated.{Indicated}
 use Rattle.atr_core.specs.Atr.{AtrParts, IsProper, IsAtr, ts_of, announcing, goes_on, octets_of, td_octets, interface_octets, needs_tck, tck_of, checked_octets, spelling}
 
+-- the interface bytes are those after T0, and then each TD with those after it
 pub interface-td : (f : Interface) (xs : List Indicated) → interface_octets f xs ≡ octets_of f ++ td_octets xs
 interface-td f [] = sym (append-nil (octets_of f))
 interface-td f (x ∷ xs) = ap (λ (l : List ℕ). octets_of f ++ announcing x.bytes (goes_on xs) x.protocol ∷ l)
     (interface-td x.bytes xs)
 
+-- a TD follows where the list of TDs isn't empty
 pub goes_on-is : (xs : List Indicated) → not (length xs == 0) ≡ goes_on xs
 goes_on-is [] = refl
 goes_on-is (x ∷ xs) = grind (arith, nat_tests)
@@ -37,6 +39,7 @@ td-room old start (x ∷ xs) all some whole room =
       length-append (octets_of x.bytes) (td_octets xs),
     )
 
+-- T0, the bytes after it, the TDs with theirs and the historical bytes, one after another, are what TCK checks
 pub checked-built : (a : AtrParts) (n o p q r : List ℕ) (t0 : ℕ) → n ≡ [] → o ≡ n ++ t0 ∷ [] → p ≡ o
     ++ octets_of a.first → q ≡ p ++ td_octets a.indicated → r ≡ q ++ a.historical
     → t0 ≡ announcing a.first (goes_on a.indicated) (length a.historical) → r ≡ checked_octets a
@@ -53,6 +56,7 @@ checked-built a n o p q r t0 hn ho hp hq hr ht =
 pub checked-room : (a : AtrParts) → IsProper a → 1 + length (checked_octets a) + length (option_to_list (tck_of a)) ≤ 33
 checked-room a h = omega (arith, h.most, length-append (checked_octets a) (option_to_list (tck_of a)))
 
+-- T0, the bytes after it, the TDs with theirs and the historical bytes are 32 octets at most
 pub front-room : (a : AtrParts) → IsProper a
     → 1 + length (octets_of a.first) + length (td_octets a.indicated) + length a.historical ≤ 32
 front-room a h =
@@ -72,6 +76,7 @@ ts-octet : (c : Convention) → ts_of c < 256
 ts-octet Direct = omega arith
 ts-octet Inverse = omega arith
 
+-- where all that TCK checks are octets, so are TS and TCK
 pub spelling-octets : (v : AtrParts) → AreOctets (checked_octets v) → AreOctets (spelling v)
 spelling-octets v octets =
     octets-cons (ts_of v.convention) (checked_octets v ++ option_to_list (tck_of v)) (ts-octet v.convention)
@@ -83,6 +88,7 @@ pub encoded : (a : AtrParts) (b : List ℕ) → IsProper a → AreOctets (checke
     → b ≡ ts_of a.convention ∷ checked_octets a ++ option_to_list (tck_of a) → IsAtr a b
 encoded a b h octets is = record { proper = h; octets = subst AreOctets (sym is) (spelling-octets a octets); is = is }
 
+-- TS and the octets that were put together from T0 on are TS and what TCK checks
 pub front-built : (a : AtrParts) (n o p from_t0 part : List ℕ) (ts : ℕ) (convention : Convention) → n ≡ [] → o ≡ n
     ++ ts ∷ [] → p ≡ o ++ part → part ≡ from_t0 → from_t0 ≡ checked_octets a
     → ts ≡ ts_of convention → convention ≡ a.convention → p ≡ ts_of a.convention ∷ checked_octets a

@@ -6,7 +6,7 @@ use Rattle.std.proofs.Math.ListN.{replicate}
 use Rattle.std.specs.List.{AllByRecursion}
 use Rattle.octet_core.specs.Octets.{AreOctets, xor_of}
 use Rattle.octet_core.specs.Grammar.{Begins, Accepts, IsStuck, IsShort, self_ended}
-use Rattle.octet_core.proofs.Lists.{octets-cons, octets-append}
+use Rattle.octet_core.proofs.Lists.{octets-cons, octets-append, zeros-octets}
 use Rattle.octet_core.proofs.Begun.{take_take, none-stuck}
 use Rattle.octet_core.proofs.Firsts.{first_holds}
 use Rattle.atr_core.specs.declared.atr.Convention.{Convention}
@@ -26,7 +26,7 @@ use Rattle.atr_core.proofs.Unique.{one-spelled}
 use Rattle.atr_core.proofs.Reasons.{meets-stuck}
 use Rattle.atr_core.proofs.Lengths.{spelling-length, tck-length}
 use Rattle.atr_core.proofs.Built.{encoded}
-use Rattle.atr_core.proofs.Goes.{bare, tail_of, goes-tail, goes-mid, interface-mid, zeros-octets}
+use Rattle.atr_core.proofs.Goes.{bare, tail_of, goes-tail, goes-mid, interface-mid}
 use Rattle.atr_core.proofs.Partials.{needs-push, protocols-push, needs-same, protocols-same}
 
 -- more octets make an answer of them
@@ -294,6 +294,7 @@ unspelled c v n le u h =
     let one = one-spelled v u.0 (take n c) (drop n c ++ u.1 ∷ u.2) h (subst (IsAtr u.0) split u.3) in
     omega (arith, ap length one.1, length-append (drop n c) (u.1 ∷ u.2))
 
+-- where more must come, the next octet is refused if it meets a line of the table
 pub refused-at : (b : List ℕ) (p : ℕ) (r : AtrReason) (x : ℕ) → p < length b → x ≡ get_or b p 0 → Unfinished (take p b)
     → IsReason r (take p b ++ x ∷ []) → IsStuck self_ended IsAtr b p × IsReason r (take (p + 1) b)
 refused-at b p r x inside x-is u reason =
@@ -311,5 +312,6 @@ refused-at b p r x inside x-is u reason =
       here,
     )
 
+-- octets after which more must come are short at their end
 pub short : (b : List ℕ) → Unfinished b → IsShort self_ended IsAtr b (length b)
 short b u = record { none = λ v n a. unspelled b v n a.0 u a.1; end = refl; begun = (u.0, u.1 ∷ u.2, u.3) }

@@ -14,9 +14,11 @@ use Rattle.atr_core.specs.declared.partial.Partial.{Partial}
 use Rattle.atr_core.specs.declared.partial.Partial.TheVariants as partial
 use Rattle.atr_core.specs.Atr.{AtrParts, IsAtr, IsReason, interface_octets}
 use Rattle.atr_core.specs.Partial.{Holds, is_whole, taken_of}
-use Rattle.atr_core.specs.Taking.{HasTaken, IsTaken, refusal_kept, taking_of}
+use Rattle.atr_core.specs.Taking.{HasTaken, refusal_of}
+use Rattle.atr_core.specs.Stage.{IsTaken, taking_of}
 use Rattle.atr_core.proofs.Completed.{Unfinished, goes-on, short}
 
+-- at most 33 octets have come
 pub holds-few : (p : Partial) → Holds p → length (taken_of p) ≤ 33
 holds-few partial.Start h = omega arith
 holds-few (partial.Opened convention) h = omega arith
@@ -33,6 +35,7 @@ holds-few (partial.Whole a) h = h.proper.most
 pub begun-open : (p : Partial) → Holds p → is_whole p ≡ false → Begins IsAtr (taken_of p)
 begun-open p h unended = let u = goes-on p h unended in (u.0, u.1 ∷ u.2, u.3)
 
+-- what has come is no answer where it isn't whole
 pub open-not : (p : Partial) (t : List ℕ) → Holds p → is_whole p ≡ false → t ≡ taken_of p → (v : AtrParts) → IsAtr v t
     → ⊥
 open-not p t holds unended is v h =
@@ -56,7 +59,7 @@ joined p t x h = ap (λ (l : List ℕ). l ++ x) (sym h.is)
 
 fed-open : (p q : Partial) (piece : List ℕ) (n : ℕ) → Holds p → is_whole p ≡ false → is_whole q ≡ false
     → IsTaken (taken_of p) piece q (Ok n)
-    → IsFed IsAtr IsReason HasTaken refusal_kept (taking_of (Taken p)) (taking_of (Taken q)) piece (Ok (n, false))
+    → IsFed IsAtr IsReason HasTaken refusal_of (taking_of (Taken p)) (taking_of (Taken q)) piece (Ok (n, false))
 fed-open p q piece n holds unended more h =
     let is : (t : List ℕ) → HasTaken (taking_of (Taken p)) t → t ++ take n piece ≡ taken_of q =
     λ t g. sym (joined p t (take n piece) g) ∙ sym h.1 in
@@ -80,7 +83,7 @@ fed-open p q piece n holds unended more h =
 
 fed-whole : (p q : Partial) (piece : List ℕ) (n : ℕ) → Holds p → is_whole p ≡ false → (v : AtrParts)
     → IsAtr v (taken_of q) → IsTaken (taken_of p) piece q (Ok n)
-    → IsFed IsAtr IsReason HasTaken refusal_kept (taking_of (Taken p)) (taking_of (Taken q)) piece (Ok (n, true))
+    → IsFed IsAtr IsReason HasTaken refusal_of (taking_of (Taken p)) (taking_of (Taken q)) piece (Ok (n, true))
 fed-whole p q piece n holds unended v spelled h =
     let is : (t : List ℕ) → HasTaken (taking_of (Taken p)) t → t ++ take n piece ≡ taken_of q =
     λ t g. sym (joined p t (take n piece) g) ∙ sym h.1 in
@@ -104,17 +107,19 @@ fed-whole p q piece n holds unended v spelled h =
       repeated = λ r e. absurd (cc);
     }
 
+-- a feed of an answer that isn't whole answers how many octets it took, and whether it is whole now
 pub fed : (p q : Partial) (piece : List ℕ) (n : ℕ) → Holds p → is_whole p ≡ false → IsTaken (taken_of p) piece q (Ok n)
-    → IsFed IsAtr IsReason HasTaken refusal_kept (taking_of (Taken p)) (taking_of (Taken q)) piece (Ok (n, is_whole q))
+    → IsFed IsAtr IsReason HasTaken refusal_of (taking_of (Taken p)) (taking_of (Taken q)) piece (Ok (n, is_whole q))
 fed p partial.Start piece n holds unended h = fed-open p partial.Start piece n holds unended refl h
 fed p (partial.Opened c) piece n holds unended h = fed-open p (partial.Opened c) piece n holds unended refl h
 fed p (partial.Header d) piece n holds unended h = fed-open p (partial.Header d) piece n holds unended refl h
 fed p (partial.Tail t) piece n holds unended h = fed-open p (partial.Tail t) piece n holds unended refl h
 fed p (partial.Whole a) piece n holds unended h = fed-whole p (partial.Whole a) piece n holds unended a h.0 h
 
+-- and where an octet of the piece is refused it answers that refusal, and keeps it
 pub fed-refused : (p q : Partial) (piece : List ℕ) (r : Refusal AtrReason) → Holds p → is_whole p ≡ false
     → IsTaken (taken_of p) piece q (Err r)
-    → IsFed IsAtr IsReason HasTaken refusal_kept (taking_of (Taken p)) (taking_of (Refused r)) piece
+    → IsFed IsAtr IsReason HasTaken refusal_of (taking_of (Taken p)) (taking_of (Refused r)) piece
     (Err (At r.place r.reason))
 fed-refused p q piece r holds unended h = record {
   taken = tt;
@@ -131,7 +136,7 @@ fed-refused p q piece r holds unended h = record {
 
 -- where the answer was whole before
 pub fed-full : (p : Partial) (piece : List ℕ) → Holds p → is_whole p ≡ true
-    → IsFed IsAtr IsReason HasTaken refusal_kept (taking_of (Taken p)) (taking_of (Taken p)) piece (Ok (0, true))
+    → IsFed IsAtr IsReason HasTaken refusal_of (taking_of (Taken p)) (taking_of (Taken p)) piece (Ok (0, true))
 fed-full partial.Start piece spelled e = absurd (cc)
 fed-full (partial.Opened c) piece spelled e = absurd (cc)
 fed-full (partial.Header h) piece spelled e = absurd (cc)
@@ -149,6 +154,7 @@ fed-full (partial.Whole a) piece spelled e =
       repeated = λ r e. absurd (cc);
     }
 
+-- as many octets have come as had before the piece and were taken from it
 pub total-few : (p q : Partial) (piece : List ℕ) (n : ℕ) → IsTaken (taken_of p) piece q (Ok n)
     → length (taken_of p) + n ≡ length (taken_of q)
 total-few p q piece n h = omega (
@@ -161,8 +167,9 @@ total-few p q piece n h = omega (
 
 -- ---- a finish
 
+-- a finish of an answer that isn't whole says that it is short after all that have come
 pub finished : (p : Partial) (count : ℕ) → Holds p → is_whole p ≡ false → count ≡ length (taken_of p)
-    → IsFinished IsAtr IsReason HasTaken refusal_kept (taking_of (Taken p)) (Err (Short count))
+    → IsFinished IsAtr IsReason HasTaken refusal_of (taking_of (Taken p)) (Err (Short count))
 finished p count holds unended is = record {
   done = tt;
   short = λ free t h. (ap Short (is ∙ ap length (sym h.is)), λ v g. open-not p t holds unended h.is v g);

@@ -1,12 +1,12 @@
 -- Where an answer to reset goes on, and that every input has one verdict.
 use Rattle.std.proofs.Common.{◌≡◌, ℕ, suc, ◌+◌, ◌/◌, ◌%◌, ◌<◌, ◌≤◌, ◌++◌, List, [], ◌∷◌, length, refl, sym, ap, subst, ◌∙◌, arith, None, Some, option_to_list, append_assoc, Bool, true, false, not, ◌||◌, ◌==◌, if◌then◌else◌, IsTrue, count_ones, inl, inr, ◌⊎◌}
 use Rattle.std.proofs.lemmas.Bool.{cases_lt}
-use Rattle.std.proofs.lemmas.List.{length-append, append-nil, length-replicate, get_or-replicate, get_or_past}
+use Rattle.std.proofs.lemmas.List.{length-append, append-nil, length-replicate}
 use Rattle.std.proofs.Math.ListN.{replicate}
 use Rattle.std.specs.List.{AllByRecursion}
 use Rattle.octet_core.specs.Octets.{AreOctets, xor_of}
 use Rattle.octet_core.specs.Grammar.{Begins, OneVerdict, self_ended, IsFirst}
-use Rattle.octet_core.proofs.Lists.{head_is, tail_is, cut_at, octets-cons, octets-append, octets-left, octets-right}
+use Rattle.octet_core.proofs.Lists.{head_is, tail_is, cut_at, octets-cons, octets-append, octets-left, octets-right, zeros-octets}
 use Rattle.octet_core.proofs.Begun.{begins-front}
 use Rattle.octet_core.proofs.Firsts.{first_once, first_holds}
 use Rattle.octet_core.proofs.Told.{same}
@@ -62,13 +62,16 @@ standing v ts t0 r rest x nibbles ts-is t0-is is octets rest-octets most =
 
 -- ---- a TD that may be announced: one that announces nothing, for T=0
 
+-- a TD for T=0 with no bytes after it
 unfoldable pub bare : Indicated
 bare = record { protocol = 0; bytes = record { ta = None; tb = None; tc = None } }
 
+-- that TD where one is announced, and none where none is
 unfoldable pub tail_of : Bool → List Indicated
 tail_of false = []
 tail_of true = bare ∷ []
 
+-- it follows where it is announced
 pub goes-tail : (t : Bool) → goes_on (tail_of t) ≡ t
 unfolding tail_of
 goes-tail false = refl
@@ -79,6 +82,7 @@ unfolding tail_of bare
 needs-tail false = refl
 needs-tail true = refl
 
+-- its protocol fits into the low nibble
 pub protocols-tail : (t : Bool) → AllByRecursion (λ z. z.protocol < 16) (tail_of t)
 unfolding tail_of bare
 protocols-tail false = tt
@@ -93,14 +97,6 @@ octets-tail : (g : Interface) (t : Bool) → AreOctets (octets_of g) → AreOcte
 unfolding tail_of bare
 octets-tail g false h = h
 octets-tail g true h = octets-append (octets_of g) (0 ∷ []) h (octets-cons 0 [] (omega arith) (λ i. omega arith))
-
-pub zeros-octets : (n : ℕ) → AreOctets (replicate n 0)
-zeros-octets n i =
-    elim (cases_lt i n) [
-      | inl lt ↦ rw (get_or-replicate {A = ℕ} n i 0 0 lt) (omega arith)
-      | inr le ↦ rw (get_or_past {X = ℕ} (replicate n 0) i 0 (omega (arith, length-replicate {A = ℕ} n 0)))
-          (omega arith)
-    ]
 
 -- ---- TS and T0
 
@@ -223,10 +219,12 @@ goes-byte w ts t0 r y x more k octets c =
 
 -- ---- a TD
 
+-- where this TD is among them, one follows
 pub goes-mid : (xs : List Indicated) (n : Indicated) (ys : List Indicated) → goes_on (xs ++ n ∷ ys) ≡ true
 goes-mid [] n ys = refl
 goes-mid (x ∷ xs) n ys = refl
 
+-- the interface bytes are all up to this TD, and then those after it
 pub interface-mid : (f : Interface) (xs : List Indicated) (n : Indicated) (ys : List Indicated)
     → interface_octets f (xs ++ n ∷ ys) ≡ up_to_td f xs (announcing n.bytes (goes_on ys) n.protocol)
     ++ interface_octets n.bytes ys
@@ -237,6 +235,7 @@ interface-mid f (x ∷ xs) n ys =
     (λ i. octets_of f ++ announcing x.bytes (goes-mid xs n ys i) x.protocol ∷ interface-mid x.bytes xs n ys i)
     ∙ sym (append_assoc (octets_of f) (announcing x.bytes true x.protocol ∷ up) (interface_octets n.bytes ys))
 
+-- all protocols fit into the low nibble where that of this TD does, and those before and after it
 pub protocols-mid : (xs : List Indicated) (n : Indicated) (ys : List Indicated)
     → AllByRecursion (λ z. z.protocol < 16) xs → n.protocol < 16 → AllByRecursion (λ z. z.protocol < 16) ys
     → AllByRecursion (λ z. z.protocol < 16) (xs ++ n ∷ ys)
@@ -248,6 +247,7 @@ or-swap false b c = refl
 or-swap true false c = refl
 or-swap true true c = refl
 
+-- where no TD after this one needs TCK, it is needed for this one or for one before it
 pub needs-mid : (xs : List Indicated) (n : Indicated) (ys : List Indicated) → needs_tck ys ≡ false
     → needs_tck (xs ++ n ∷ ys) ≡ (not (n.protocol == 0) || needs_tck xs)
 needs-mid [] n ys none = ap (λ (t : Bool). not (n.protocol == 0) || t) none
@@ -419,6 +419,7 @@ next (ts ∷ t0 ∷ r) x octets w y more h =
       ]
     ]
 
+-- what has to be known of answers to reset so that every input has one verdict
 pub steps : Steps IsAtr IsReason
 steps = record {
   one_value = one-accepted;

@@ -9,10 +9,12 @@ use Rattle.atr_core.specs.Atr.{count_of, AtrParts, announcing, goes_on, octets_o
 use Rattle.atr_core.proofs.Unique.{present-most}
 use Rattle.atr_core.proofs.Reasons.{octets_of-length}
 
+-- TCK is one octet where it is needed, and none where it isn't
 pub tck-length : (t : Bool) (x : ℕ) → length (option_to_list (if t then Some x else None)) ≡ count_of t
 tck-length false x = refl
 tck-length true x = refl
 
+-- an answer has TS, T0, the interface bytes, the historical bytes, and TCK where it is needed
 pub spelling-length : (v : AtrParts) → length (spelling v) ≡ 2 + length (interface_octets v.first v.indicated) + length
     v.historical + count_of (needs_tck v.indicated)
 spelling-length v =
@@ -23,6 +25,7 @@ spelling-length v =
       tck-length (needs_tck v.indicated) (xor_of (checked_octets v)),
     )
 
+-- TA, TB and TC are three octets at most
 pub few-bytes : (g : Interface) → length (octets_of g) ≤ 3
 few-bytes g = omega (arith, octets_of-length g, present-most g.ta, present-most g.tb, present-most g.tc)
 
@@ -30,6 +33,7 @@ few-bytes g = omega (arith, octets_of-length g, present-most g.ta, present-most 
 abbrev pub octet_count : Indicated → ℕ
 octet_count x = 1 + length (octets_of x.bytes)
 
+-- the interface bytes are as many as those after T0, and each TD with those after it
 pub interface-length : (f : Interface) (xs : List Indicated)
     → length (interface_octets f xs) ≡ length (octets_of f) + sum_by octet_count xs
 interface-length f [] = omega arith
@@ -40,6 +44,7 @@ interface-length f (x ∷ xs) = omega (
   length-append (octets_of f) (announcing x.bytes (goes_on xs) x.protocol ∷ interface_octets x.bytes xs),
 )
 
+-- each TD and the bytes after it are four octets at most
 pub after-most : (xs : List Indicated) → sum_by octet_count xs ≤ 4 * length xs
 after-most [] = omega arith
 after-most (x ∷ xs) = omega (arith, after-most xs, sum_by-cons octet_count x xs, few-bytes x.bytes)

@@ -23,9 +23,11 @@ first-and-rest (x ∷ xs) some = ap (λ (s : List ℕ). x ∷ s)
 
 -- ---- the TDs
 
+-- before a TD is read, those read next are all of them
 pub no-td-yet : (td : Bool) (octets : List ℕ) → AreTdsSoFar td octets [] td octets
 no-td-yet td octets = record { protocols = tt; some = λ xs e. e; is = λ xs left e h. h }
 
+-- a TD that is read next, with the bytes after it, is one more of those so far
 pub one-td-more : (td : Bool) (octets : List ℕ) (ys : List Indicated) (more : Bool) (rest : List ℕ) (x : ℕ)
     (after : List ℕ) (bytes : Interface) (next : Bool) (left : List ℕ) → AreTdsSoFar td octets ys more rest
     → more ≡ true → rest ≡ x ∷ after → IsSection x after bytes next left
@@ -46,6 +48,7 @@ one-td-more td octets ys more rest x after bytes next left so stands is section 
           ∙ ap (λ (l : List Indicated). td_octets l ++ end) (sym (joined xs));
     }
 
+-- where no TD follows, those so far are all of them
 pub all-tds : (td : Bool) (octets : List ℕ) (ys : List Indicated) (more : Bool) (rest : List ℕ)
     → AreTdsSoFar td octets ys more rest → more ≡ false → AreTds td octets ys rest
 all-tds td octets ys more rest so none = record {
@@ -73,6 +76,7 @@ checked-read a t0 td after tds tail tck section indicated historical count =
     ∙ ap (λ (s : List ℕ). s ++ tail) (sym (interface-td a.first a.indicated)) in
     λ i. told i ∷ (bytes ∙ ap (λ (s : List ℕ). inter ++ s) historical ∙ sym (append_assoc inter a.historical tck)) i
 
+-- the parts that were read one after another are those of the answer with which the octets begin
 pub whole-read : (a : AtrParts) (octets from after tds tail tck : List ℕ) (ts t0 : ℕ) (td needed : Bool) (count : ℕ)
     → AreOctets octets → octets ≡ ts ∷ from → from ≡ t0 ∷ after
     → ts_of a.convention ≡ ts → IsSection t0 after a.first td tds → AreTds td tds a.indicated tail → tail ≡ a.historical
@@ -159,6 +163,7 @@ section-there octet announced octets rest announces some is =
       },
     )
 
+-- before a TD is passed, those passed next are all of them, and TCK isn't needed yet
 pub no-td-skipped : (td : Bool) (octets : List ℕ) → HasTdsSoFar td octets false td octets
 no-td-skipped td octets = ([], no-td-yet td octets, refl)
 
@@ -168,6 +173,7 @@ either-first false true = refl
 either-first true false = refl
 either-first true true = refl
 
+-- a TD that is passed next is one more of those so far, and makes TCK needed unless its protocol is T=0
 pub one-td-skipped : (td : Bool) (octets : List ℕ) (needed more : Bool) (rest : List ℕ) (x : ℕ) (after : List ℕ)
     (later next : Bool) (left : List ℕ) → HasTdsSoFar td octets needed more rest
     → more ≡ true → rest ≡ x ∷ after → HasSection x after next left → later ≡ (needed || not (x % 16 == 0))
@@ -180,10 +186,12 @@ one-td-skipped td octets needed more rest x after later next left so stands is s
           ∙ sym (needs-push so.0 n),
     )
 
+-- where no TD follows, those passed so far are all of them
 pub all-skipped : (td : Bool) (octets : List ℕ) (needed more : Bool) (rest : List ℕ)
     → HasTdsSoFar td octets needed more rest → more ≡ false → HasTds td octets needed rest
 all-skipped td octets needed more rest so none = (so.0, all-tds td octets so.0 more rest so.1 none, so.2)
 
+-- octets of which each part was passed begin with an answer of so many octets
 pub whole-passed : (convention : Convention) (octets from after tds tail tck : List ℕ) (ts t0 : ℕ) (td needed : Bool)
     (count : ℕ) → AreOctets octets → octets ≡ ts ∷ from → from ≡ t0 ∷ after
     → ts_of convention ≡ ts → HasSection t0 after td tds → HasTds td tds needed tail → t0 % 16 ≤ length tail

@@ -29,15 +29,18 @@ xor_from sum x (y ∷ b) = xor_from (bit_xor sum y) x b
 pub xor_of-push : (b : List ℕ) (x : ℕ) → xor_of (b ++ x ∷ []) ≡ bit_xor (xor_of b) x
 xor_of-push b x = xor_from 0 x b
 
+-- octets and one octet more are octets
 pub octets-push : (b : List ℕ) (x : ℕ) → AreOctets b → x < 256 → AreOctets (b ++ x ∷ [])
 octets-push b x h lt = octets-append b (x ∷ []) h (octets-cons x [] lt (λ i. omega arith))
 
 -- ---- TDs
 
+-- with one TD more, TCK is needed for it or for one before it
 pub needs-push : (xs : List Indicated) (n : Indicated)
     → needs_tck (xs ++ n ∷ []) ≡ (not (n.protocol == 0) || needs_tck xs)
 needs-push xs n = needs-mid xs n [] refl
 
+-- and all protocols fit into the low nibble where its own does, and those before it
 pub protocols-push : (xs : List Indicated) (n : Indicated) → AllByRecursion (λ z. z.protocol < 16) xs → n.protocol < 16
     → AllByRecursion (λ z. z.protocol < 16) (xs ++ n ∷ [])
 protocols-push xs n p q = protocols-mid xs n [] p q tt
@@ -47,12 +50,14 @@ protocols-front : (xs : List Indicated) (n : Indicated) → AllByRecursion (λ z
 protocols-front [] n p = (tt, p.0)
 protocols-front (x ∷ xs) n p = let rest = protocols-front xs n p.1 in ((p.0, rest.0), rest.1)
 
+-- whether TCK is needed is the same whatever bytes come now
 pub needs-same : (u : Option ℕ) (xs : List Indicated) (f g : Interface)
     → needs_tck (tds_under u xs f) ≡ needs_tck (tds_under u xs g)
 needs-same None xs f g = refl
 needs-same (Some p) xs f g = needs-push xs (record { protocol = p; bytes = f })
     ∙ sym (needs-push xs (record { protocol = p; bytes = g }))
 
+-- and where all protocols fit into the low nibble, they do whatever bytes come now
 pub protocols-same : (u : Option ℕ) (xs : List Indicated) (f g : Interface)
     → AllByRecursion (λ z. z.protocol < 16) (tds_under u xs f)
     → AllByRecursion (λ z. z.protocol < 16) (tds_under u xs g)
@@ -63,6 +68,7 @@ protocols-same (Some n) xs f g p =
 
 -- ---- an interface byte comes
 
+-- an interface byte that comes is one octet more from T0 on
 pub from_t0-byte : (u : Option ℕ) (first : Interface) (xs : List Indicated) (f g : Interface) (l m : Announced)
     (k x : ℕ) → ((low : ℕ) → told g m low ≡ told f l low) → octets_of g ≡ octets_of f ++ x ∷ []
     → from_t0 u first xs g m k ≡ from_t0 u first xs f l k ++ x ∷ []
@@ -72,11 +78,13 @@ from_t0-byte (Some p) first xs f g l m k x same is =
     (λ i. a ∷ (up_to_td first xs (same p i) ++ is i))
     ∙ ap (λ (b : List ℕ). a ∷ b) (sym (append_assoc (up_to_td first xs (told f l p)) (octets_of f) (x ∷ [])))
 
+-- so it is one more of all that have come
 pub byte-taken : (h : Header) (g : Interface) (m : Announced) (x s n : ℕ) → Puts h.bytes h.awaited x g m
     → header_taken (record h { bytes = g; awaited = m; sum = s; count = n }) ≡ header_taken h ++ x ∷ []
 byte-taken h g m x s n p = ap (λ (b : List ℕ). ts_of h.convention ∷ b)
     (from_t0-byte h.under h.first h.indicated.items h.bytes g h.awaited m h.historical_len x p.same p.octets)
 
+-- and the fields agree with the octets also after it
 pub byte-holds : (h : Header) (g : Interface) (m : Announced) (x : ℕ) → HeaderHolds h → x < 256
     → Puts h.bytes h.awaited x g m
     → HeaderHolds (record h { bytes = g; awaited = m; sum = bit_xor h.sum x; count = h.count + 1 })
@@ -105,6 +113,7 @@ all f false false true e = absurd (cc)
 all f false true c e = absurd (cc)
 all f true b c e = absurd (cc)
 
+-- where no byte is awaited, the bytes are those that have come
 pub filled-all : (f : Interface) (l : Announced) → awaits_byte l ≡ false → filled f l ≡ f
 filled-all f l e = all f l.ta l.tb l.tc e
 
@@ -173,6 +182,7 @@ announced-count m x is =
     ∙ ones-of (or_awaited m.ta None) (or_awaited m.tb None) (or_awaited m.tc None) m.td (x % 16) (omega arith)
     ∙ (λ i. flag-present m.ta i + flag-present m.tb i + flag-present m.tc i + flag-td m.td i)
 
+-- where no byte has come, none is out of order
 pub fresh : (g : Interface) (m : Announced) → g ≡ no_bytes → InOrder g m
 fresh g m e =
     let a : g.ta ≡ None = ap (λ (f : Interface). f.ta) e in
@@ -180,6 +190,7 @@ fresh g m e =
     let c : g.tc ≡ None = ap (λ (f : Interface). f.tc) e in
     record { ta = λ _. (a, b, c); tb = λ _. (b, c); tc = λ _. c }
 
+-- a TD that comes where one is awaited is one octet more of those that have come
 pub td-taken : (h : Header) (g : Interface) (m : Announced) (x : ℕ) (tck : Bool) (s n : ℕ) → HeaderHolds h
     → AwaitsTd h.awaited → g ≡ no_bytes → Announces m x
     → header_taken (record h {
@@ -201,6 +212,7 @@ td-taken h g m x tck s n holds awaits none told-is =
     ∙ ap (λ (l : List ℕ). ts_of h.convention ∷ l)
     (td-follows h.under h.first h.indicated.items h.bytes h.awaited h.historical_len x holds.none awaits.0 awaits.1)
 
+-- and the fields agree with the octets also after it, where the answer can have 33 octets at most
 pub td-holds : (h : Header) (g : Interface) (m : Announced) (x : ℕ) (tck : Bool) → HeaderHolds h → AwaitsTd h.awaited
     → x < 256 → g ≡ no_bytes → Announces m x → tck ≡ (not (x % 16 == 0) || h.tck)
     → h.count + 1 + count_ones (x / 16) + h.historical_len + count_of tck ≤ 33
@@ -240,6 +252,7 @@ some : (u : Option ℕ) (first : Interface) (xs : List Indicated) (f : Interface
 some None first xs f l k = omega arith
 some (Some p) first xs f l k = omega arith
 
+-- where it can't, the reason is that the answer is too long
 pub td-refused : (h : Header) (x : ℕ) → HeaderHolds h → AwaitsTd h.awaited
     → 33 < h.count + 1 + count_ones (x / 16) + h.historical_len + count_of (not (x % 16 == 0) || h.tck)
     → IsReason TooLong (header_taken h ++ x ∷ [])
@@ -267,10 +280,12 @@ td-refused h x holds awaits over =
       inl ((h.historical_len, tds_of h, x, ends, omega (arith, over, count, tck)), refl),
     )
 
+-- a flag as a byte is 1 where it is set, and 0 where it isn't
 pub byte-count : (b : Bool) → bool_byte b ≡ count_of b
 byte-count false = refl
 byte-count true = refl
 
+-- bytes of which neither TA, TB nor TC stands are none
 pub bare : (f : Interface) → f.ta ≡ None → f.tb ≡ None → f.tc ≡ None → f ≡ no_bytes
 bare f a b c = λ i. record { ta = a i; tb = b i; tc = c i }
 
@@ -280,6 +295,7 @@ goes-push : (xs : List Indicated) (n : Indicated) → goes_on (xs ++ n ∷ []) �
 goes-push [] n = refl
 goes-push (x ∷ xs) n = refl
 
+-- where nothing is awaited, T0 and the interface bytes are the octets that have come from T0 on
 pub all-come : (u : Option ℕ) (first : Interface) (xs : List Indicated) (f : Interface) (l : Announced) (k : ℕ)
     → IfNone u (xs ≡ []) → awaits_byte l ≡ false → l.td ≡ false
     → announcing (first_under u first f) (goes_on (tds_under u xs f)) k ∷ interface_octets (first_under u first f)
@@ -314,6 +330,7 @@ both true b e = absurd (cc)
 none-announced : (l : Announced) → is_announced l ≡ false → (awaits_byte l ≡ false) × (l.td ≡ false)
 none-announced l e = both (awaits_byte l) l.td e
 
+-- where nothing is awaited, the octets from T0 on stay the same when the historical bytes begin
 pub end-checked : (h : Header) → HeaderHolds h → is_announced h.awaited ≡ false
     → tail_checked (ended h) ≡ header_checked h
 unfolding ended
@@ -323,10 +340,12 @@ end-checked h holds none =
     (tds_of h))
     ∙ all-come h.under h.first h.indicated.items h.bytes h.awaited h.historical_len holds.none parts.0 parts.1
 
+-- so do all that have come
 pub end-taken : (h : Header) → HeaderHolds h → is_announced h.awaited ≡ false → tail_taken (ended h) ≡ header_taken h
 unfolding ended
 end-taken h holds none = ap (λ (l : List ℕ). ts_of h.convention ∷ l) (end-checked h holds none)
 
+-- and the fields agree with the octets also then
 pub end-holds : (h : Header) → HeaderHolds h → is_announced h.awaited ≡ false → TailHolds (ended h)
 unfolding ended
 end-holds h holds none =
@@ -344,6 +363,7 @@ end-holds h holds none =
 
 -- ---- historical bytes and TCK
 
+-- a historical byte that comes is one octet more from T0 on
 pub historical-taken : (t : Tail) (v : ArrayVec ℕ) (x s : ℕ) → v.items ≡ t.historical.items ++ x ∷ []
     → tail_checked (record t { historical = v; sum = s }) ≡ tail_checked t ++ x ∷ []
 historical-taken t v x s e =
@@ -351,6 +371,7 @@ historical-taken t v x s e =
     t.indicated.items in
     ap (λ (l : List ℕ). front ++ l) e ∙ sym (append_assoc front t.historical.items (x ∷ []))
 
+-- and the fields agree with the octets also after it, where one more was to come
 pub historical-holds : (t : Tail) (v : ArrayVec ℕ) (x : ℕ) → TailHolds t → length t.historical.items < t.historical_len
     → x < 256 → v.items ≡ t.historical.items ++ x ∷ []
     → TailHolds (record t { historical = v; sum = bit_xor t.sum x })
@@ -373,14 +394,17 @@ pub all-checked : (t : Tail) → length t.historical.items ≡ t.historical_len
 all-checked t e = ap (λ (k : ℕ). announcing t.first (goes_on t.indicated.items) k ∷ interface_octets t.first
     t.indicated.items ++ t.historical.items) e
 
+-- once all historical bytes have come, their number and the protocols fit into the low nibbles
 pub tail-nibbles : (t : Tail) → TailHolds t → length t.historical.items ≡ t.historical_len → HasNibbles (parts_of t)
 tail-nibbles t holds e = record { protocols = holds.protocols; historical = omega (arith, holds.few, e) }
 
+-- so the answer has a spelling, of at most 33 octets
 pub tail-proper : (t : Tail) → TailHolds t → length t.historical.items ≡ t.historical_len → IsProper (parts_of t)
 tail-proper t holds e =
     let same : count_of t.tck ≡ count_of (needs_tck t.indicated.items) = ap count_of holds.tck in
     record { nibbles = tail-nibbles t holds e; most = omega (arith, holds.most, spelling-length (parts_of t), e, same) }
 
+-- where TCK is to come, an octet that isn't the exclusive-or of those from T0 on is a wrong one
 pub tck-refused : (t : Tail) (x : ℕ) → TailHolds t → length t.historical.items ≡ t.historical_len → t.tck ≡ true
     → x ≢ t.sum → IsReason BadTck (tail_taken t ++ x ∷ [])
 unfolding IsFirst
@@ -408,6 +432,7 @@ tck-refused t x holds e tck differs =
       ),
     )
 
+-- and with the octet that is, they are a whole answer
 pub tck-taken : (t : Tail) (x : ℕ) → TailHolds t → length t.historical.items ≡ t.historical_len → t.tck ≡ true
     → x ≡ t.sum → IsAtr (parts_of t) (tail_taken t ++ x ∷ [])
 tck-taken t x holds e tck same =

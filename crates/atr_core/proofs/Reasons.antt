@@ -18,6 +18,7 @@ not_ts : (x : ℕ) (c : Convention) → x ≢ 0x3B → x ≢ 0x3F → x ≡ ts_o
 not_ts x Direct a b e = a e
 not_ts x Inverse a b e = b e
 
+-- no answer begins with an octet that is no TS
 pub bad_ts-stuck : (b : List ℕ) → Meets b BadTs → Begins IsAtr b → ⊥
 bad_ts-stuck [] m h = omega (arith, m.0)
 bad_ts-stuck (x ∷ b) m h = not_ts x h.0.convention m.1 m.2
@@ -27,6 +28,7 @@ tck_stands : (a : AtrParts) → IsTrue (needs_tck a.indicated)
     → option_to_list (tck_of a) ≡ xor_of (checked_octets a) ∷ []
 tck_stands a h = ap (λ (t : Bool). option_to_list (if t then Some (xor_of (checked_octets a)) else None)) h
 
+-- no answer goes on after a wrong TCK
 pub bad_tck-stuck : (b : List ℕ) → Meets b BadTck → Begins IsAtr b → ⊥
 bad_tck-stuck b m h =
     let a : AtrParts = m.0 in
@@ -42,6 +44,7 @@ bad_tck-stuck b m h =
 
 -- ---- the least total
 
+-- an announcing octet has as many ones in its high nibble as it announces octets
 pub ones-of : (a b c : Option ℕ) (t : Bool) (low : ℕ) → low < 16
     → count_ones ((bit_of a 0x10 + bit_of b 0x20 + bit_of c 0x40 + td_bit t + low) / 16) ≡ present a + present b +
     present c + td_of t
@@ -68,11 +71,13 @@ ones-of (Some x) (Some y) (Some z) false low lt = let n : (16 + 32 + 64 + 0 + lo
 ones-of (Some x) (Some y) (Some z) true low lt = let n : (16 + 32 + 64 + 128 + low) / 16 ≡ 15 =
     omega arith in ap count_ones n
 
+-- a byte that stands is one octet, and one that doesn't is none
 pub one : (o : Option ℕ) → length (option_to_list o) ≡ present o
 unfolding present
 one None = refl
 one (Some x) = refl
 
+-- the bytes are as many octets as there are of TA, TB and TC
 pub octets_of-length : (i : Interface) → length (octets_of i) ≡ present i.ta + present i.tb + present i.tc
 octets_of-length i = omega (
   arith,
@@ -157,6 +162,7 @@ counted false true rest x = omega arith
 counted true false rest x = omega arith
 counted true true rest x = omega arith
 
+-- the low nibble of an announcing octet is the number that was given, where that is below 16
 pub low-is : (i : Interface) (t : Bool) (low : ℕ) → low < 16 → announcing i t low % 16 ≡ low
 low-is i t low lt = omega (
   arith,
@@ -166,6 +172,7 @@ low-is i t low lt = omega (
   td_bit-td_of t,
 )
 
+-- no answer goes on after a TD with which it must have more than 33 octets
 pub too_long-stuck : (b : List ℕ) → Meets b TooLong → Begins IsAtr b → ⊥
 too_long-stuck b m h =
     let k : ℕ = m.0 in

@@ -28,6 +28,7 @@ direct i xs h = record { convention = Direct; first = i; indicated = xs; histori
 abbrev least : AtrParts
 least = direct plain [] []
 
+-- 3B 00 is accepted as that
 pub least-accepted : Accepts self_ended IsAtr (0x3B ∷ 0x00 ∷ []) least 2
 least-accepted = (
   omega arith,
@@ -45,6 +46,7 @@ least-accepted = (
 abbrev inverse : AtrParts
 inverse = record { convention = Inverse; first = plain; indicated = []; historical = [] }
 
+-- 3F 00 is accepted as that
 pub inverse-accepted : Accepts self_ended IsAtr (0x3F ∷ 0x00 ∷ []) inverse 2
 inverse-accepted = (
   omega arith,
@@ -63,6 +65,7 @@ abbrev both : AtrParts
 both = direct plain (indicates 0 plain ∷ indicates 1 plain ∷ [])
     (0x80 ∷ 0x4F ∷ 0x0C ∷ 0xA0 ∷ 0x00 ∷ 0x00 ∷ 0x03 ∷ 0x06 ∷ 0x03 ∷ 0x00 ∷ 0x01 ∷ 0x00 ∷ 0x00 ∷ 0x00 ∷ 0x00 ∷ [])
 
+-- the first 20 of 21 octets are accepted as that
 pub both-accepted : Accepts self_ended IsAtr
     (0x3B ∷ 0x8F ∷ 0x80 ∷ 0x01 ∷ 0x80 ∷ 0x4F ∷ 0x0C ∷ 0xA0 ∷ 0x00 ∷ 0x00 ∷ 0x03 ∷ 0x06 ∷ 0x03 ∷ 0x00 ∷ 0x01 ∷ 0x00 ∷
     0x00 ∷ 0x00 ∷ 0x00 ∷ 0x6A ∷ 0xFF ∷ []) both 20
@@ -82,6 +85,7 @@ both-accepted = (
 abbrev falling : AtrParts
 falling = direct plain (indicates 1 plain ∷ indicates 0 plain ∷ []) []
 
+-- 3B 80 81 00 01 is accepted as that
 pub falling-accepted : Accepts self_ended IsAtr (0x3B ∷ 0x80 ∷ 0x81 ∷ 0x00 ∷ 0x01 ∷ []) falling 5
 falling-accepted = (
   omega arith,
@@ -99,6 +103,7 @@ falling-accepted = (
 abbrev waits : AtrParts
 waits = direct plain (indicates 1 plain ∷ indicates 1 (bytes (Some 0x20) (Some 0x45) None) ∷ []) []
 
+-- 3B 80 81 31 20 45 55 is accepted as that
 pub waits-accepted : Accepts self_ended IsAtr (0x3B ∷ 0x80 ∷ 0x81 ∷ 0x31 ∷ 0x20 ∷ 0x45 ∷ 0x55 ∷ []) waits 7
 waits-accepted = (
   omega arith,
@@ -122,6 +127,7 @@ longest = direct (bytes (Some 0) (Some 0) (Some 0))
     (bytes (Some 0) (Some 0) (Some 0)) ∷ [])
     (0x00 ∷ 0x00 ∷ 0x00 ∷ 0x00 ∷ 0x00 ∷ 0x00 ∷ 0x00 ∷ 0x00 ∷ 0x00 ∷ 0x00 ∷ 0x00 ∷ 0x00 ∷ 0x00 ∷ 0x00 ∷ 0x00 ∷ [])
 
+-- all 33 are accepted as that
 pub longest-accepted : Accepts self_ended IsAtr
     (0x3B ∷ 0xFF ∷ 0x00 ∷ 0x00 ∷ 0x00 ∷ 0xF1 ∷ 0x00 ∷ 0x00 ∷ 0x00 ∷ 0xF1 ∷ 0x00 ∷ 0x00 ∷ 0x00 ∷ 0x71 ∷ 0x00 ∷ 0x00 ∷
     0x00 ∷ 0x00 ∷ 0x00 ∷ 0x00 ∷ 0x00 ∷ 0x00 ∷ 0x00 ∷ 0x00 ∷ 0x00 ∷ 0x00 ∷ 0x00 ∷ 0x00 ∷ 0x00 ∷ 0x00 ∷ 0x00 ∷ 0x00 ∷ 0x8E
@@ -140,6 +146,7 @@ longest-accepted = (
 
 -- ---- refusals
 
+-- 3A is no TS
 pub bad_ts : IsReason BadTs (0x3A ∷ [])
 unfolding IsFirst
 bad_ts = inl ((refl, λ e. omega (arith, e), λ e. omega (arith, e)), refl)
@@ -195,30 +202,39 @@ bad_tck = inr (
 
 -- ---- what an answer tells
 
+-- an answer without a TD offers no T=1
 pub least-t1 : t1_params_of least ≡ Err NoT1
 least-t1 = refl
 
+-- TA 20 and TB 45 after TD2 are an IFSC of 32, BWI 4 and CWI 5
 pub waits-t1 : t1_params_of waits ≡ Ok (record { ifsc = 32; bwi = 4; cwi = 5 })
 waits-t1 = refl
 
+-- where no such bytes stand, IFSC is 32, BWI 4 and CWI 13
 pub both-t1 : t1_params_of both ≡ Ok (record { ifsc = 32; bwi = 4; cwi = 13 })
 both-t1 = refl
 
+-- an IFSC of FF is reserved
 pub reserved-t1 : t1_params_of (direct plain (indicates 1 plain ∷ indicates 1 (bytes (Some 0xFF) None None) ∷ []) []) ≡
     Err ReservedIfsc
 reserved-t1 = refl
 
+-- TC 01 after TD2 chooses the CRC
 pub crc-t1 : t1_params_of (direct plain (indicates 1 plain ∷ indicates 1 (bytes None None (Some 1)) ∷ []) []) ≡ Err Crc
 crc-t1 = refl
 
+-- TA1 97 indicates Fi 512 and Di 64
 pub fast-rates : rates_of (direct (bytes (Some 0x97) None None) [] []) ≡ (Some 512, Some 64)
 fast-rates = refl
 
+-- in TA1 7A both are reserved
 pub reserved-rates : rates_of (direct (bytes (Some 0x7A) None None) [] []) ≡ (None, None)
 reserved-rates = refl
 
+-- without TA1 they are 372 and 1
 pub default-rates : rates_of both ≡ (Some 372, Some 1)
 default-rates = refl
 
+-- TCK of the answer for T=0 and T=1 is 6A
 pub both-tck : tck_of both ≡ Some 0x6A
 both-tck = refl

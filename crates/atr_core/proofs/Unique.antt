@@ -15,25 +15,30 @@ unfoldable pub present : Option ℕ → ℕ
 present None = 0
 present (Some x) = 1
 
+-- it is 1 at most
 pub present-most : (o : Option ℕ) → present o ≤ 1
 unfolding present
 present-most None = omega arith
 present-most (Some x) = omega arith
 
+-- the bit that announces a byte has its weight where the byte stands, else 0
 pub bit_of-present : (o : Option ℕ) (weight : ℕ) → bit_of o weight ≡ present o * weight
 unfolding present
 bit_of-present None weight = omega arith
 bit_of-present (Some x) weight = omega arith
 
+-- 1 where a TD follows, 0 where none does
 unfoldable pub td_of : Bool → ℕ
 td_of false = 0
 td_of true = 1
 
+-- it is 1 at most
 pub td_of-most : (x : Bool) → td_of x ≤ 1
 unfolding td_of
 td_of-most false = omega arith
 td_of-most true = omega arith
 
+-- the bit that announces a TD is 128 where one follows, else 0
 pub td_bit-td_of : (x : Bool) → td_bit x ≡ td_of x * 128
 unfolding td_of
 td_bit-td_of false = refl
@@ -60,6 +65,7 @@ bits : (a b c d k e f g h l : ℕ) → a ≤ 1 → b ≤ 1 → c ≤ 1 → d ≤
 bits a b c d k e f g h l pa pb pc pd pe pf pg ph pk pl is =
     (omega arith, omega arith, omega arith, omega arith, omega arith)
 
+-- announcing octets that are the same tell the same, where their low nibbles are below 16
 pub announcing-back : (f g : Interface) (x y : Bool) (k l : ℕ) → k < 16 → l < 16 → announcing f x k ≡ announcing g y l
     → TellSame f g x y k l
 announcing-back f g x y k l pk pl is =
@@ -94,6 +100,7 @@ join : (f : Interface) (s : List ℕ) → octets_of f ++ s ≡ option_to_list f.
 join f s = append_assoc (option_to_list f.ta ++ option_to_list f.tb) (option_to_list f.tc) s
     ∙ append_assoc (option_to_list f.ta) (option_to_list f.tb) (option_to_list f.tc ++ s)
 
+-- where the same of TA, TB and TC stand, octets that are the same have the same bytes, and the same after them
 pub octets_of-split : (f g : Interface) (s t : List ℕ) → present f.ta ≡ present g.ta → present f.tb ≡ present g.tb
     → present f.tc ≡ present g.tc → octets_of f ++ s ≡ octets_of g ++ t → (f ≡ g) × (s ≡ t)
 octets_of-split f g s t pa pb pc e =

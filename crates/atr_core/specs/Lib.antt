@@ -4,6 +4,7 @@ pub mod Waiting
 pub mod Rates
 pub mod Partial
 pub mod Taking
+pub mod Stage
 pub mod Names
 pub mod Same
 pub mod Whole

@@ -1,21 +1,17 @@
 -- Answers to reset that come in pieces: what a reader has taken.
-use Rattle.std.specs.Prelude.{◌≡◌, ℕ, ◌+◌, ◌≤◌, List, [], ◌++◌, length, take, Option, Some, None, false, Result, Ok, Err}
-use Rattle.octet_core.specs.Grammar.{Begins, IsStuck, self_ended}
+use Rattle.std.specs.Prelude.{◌≡◌, ℕ, List, [], Option, None}
+use Rattle.octet_core.specs.Grammar.{Begins}
 use Rattle.octet_core.specs.declared.stop.Refusal.{Refusal}
 use Rattle.atr_core.specs.declared.reason.AtrReason.{AtrReason}
-use Rattle.atr_core.specs.declared.partial.Partial.{Partial}
-use Rattle.atr_core.specs.declared.reader.Stage.{Stage}
-use Rattle.atr_core.specs.declared.reader.Stage.TheVariants.{Taken, Refused}
-use Rattle.atr_core.specs.Atr.{IsAtr, IsReason}
-use Rattle.atr_core.specs.Partial.{Holds, is_whole, taken_of}
+use Rattle.atr_core.specs.Atr.{IsAtr}
 
 -- what a reader shows: the octets that it has taken, and the refusal that it keeps
 pub record Taking : Type 0 where
   pub octets : List ℕ
   pub refusal : Option (Refusal AtrReason)
 
-abbrev pub refusal_kept : Taking → Option (Refusal AtrReason)
-refusal_kept s = s.refusal
+abbrev pub refusal_of : Taking → Option (Refusal AtrReason)
+refusal_of s = s.refusal
 
 abbrev pub nothing_taken : Taking
 nothing_taken = record { octets = []; refusal = None }
@@ -25,21 +21,3 @@ pub record HasTaken (s : Taking) (t : List ℕ) : Type 0 where
   pub free : s.refusal ≡ None
   pub is : t ≡ s.octets
   pub begun : Begins IsAtr t
-
--- ---- inside
-
-abbrev pub taking_of : Stage → Taking
-taking_of (Taken p) = record { octets = taken_of p; refusal = None }
-taking_of (Refused r) = record { octets = []; refusal = Some r }
-
--- what a reader keeps of an answer that goes on, or is whole, agrees with the octets that it has taken
-abbrev pub Agrees : Stage → List ℕ → Type 0
-Agrees (Taken p) octets = Holds p × (octets ≡ taken_of p)
-Agrees (Refused r) octets = Unit {0}
-
--- what a piece makes of the octets before it: so many of it are taken, all unless the answer ends, or one is refused
-abbrev pub IsTaken : List ℕ → List ℕ → Partial → Result ℕ (Refusal AtrReason) → Type 0
-IsTaken t piece p (Ok n) = Holds p × (taken_of p ≡ t ++ take n piece) × (n ≤ length piece)
-    × (is_whole p ≡ false → n ≡ length piece)
-IsTaken t piece p (Err r) = IsStuck self_ended IsAtr (t ++ piece) r.place
-    × IsReason r.reason (take (r.place + 1) (t ++ piece))

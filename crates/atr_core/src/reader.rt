@@ -4,7 +4,8 @@ ghost use Rattle.std.specs.Prelude.{◌≡◌, ◌↔◌, ◌≤◌, ℕ, List, 
 ghost use Rattle.octet_core.specs.Reader.{IsFed, IsFinished};
 ghost use Rattle.atr_core.specs.Atr.{AtrParts, IsAtr, IsReason};
 ghost use Rattle.atr_core.specs.Partial.{Holds, is_whole, taken_of};
-ghost use Rattle.atr_core.specs.Taking.{HasTaken, IsTaken, nothing_taken, refusal_kept};
+ghost use Rattle.atr_core.specs.Taking.{HasTaken, nothing_taken, refusal_of};
+ghost use Rattle.atr_core.specs.Stage.{IsTaken};
 ghost use Rattle.std.specs.Prelude.{IsTrue};
 
 use crate::atr::MOST_OCTETS;
@@ -42,7 +43,7 @@ impl Model for AtrReader {
 
     ghost Value = { Taking };
 
-    ghost use Rattle.atr_core.specs.Taking.{Agrees, taking_of};
+    ghost use Rattle.atr_core.specs.Stage.{Agrees, taking_of};
 
     ghost view = { λ reader. taking_of reader.stage };
 
@@ -107,7 +108,7 @@ impl AtrReader {
     /// nothing, until `reset`.
     #[inline]
     pub fn feed(&mut self, piece: &[u8]) -> Result<(usize, bool), Stop<AtrReason>>
-        ensures { IsFed IsAtr IsReason HasTaken refusal_kept self.old self.new piece.now result }
+        ensures { IsFed IsAtr IsReason HasTaken refusal_of self.old self.new piece.now result }
     {
         let partial = match &mut self.stage {
             Stage::Taken(partial) => partial,
@@ -132,7 +133,7 @@ impl AtrReader {
     pub fn value(&self) -> Option<&Atr>
         ensures value { (t : List ℕ) → HasTaken self.now t
             → MatchOption result ((v : AtrParts) → IsAtr v t → ⊥) (λ atr. IsAtr atr.now t) }
-        ensures refused { IsSome (refusal_kept self.now) → IsNone result }
+        ensures refused { IsSome (refusal_of self.now) → IsNone result }
     {
         match &self.stage {
             Stage::Taken(partial) => partial.answer(),
@@ -143,7 +144,7 @@ impl AtrReader {
     /// That no more octets come: `Ok` where the answer is whole, the refusal that it keeps, or `Short` at
     /// the end of the octets taken. It changes nothing.
     pub fn finish(&self) -> Result<(), Stop<AtrReason>>
-        ensures { IsFinished IsAtr IsReason HasTaken refusal_kept self.now result }
+        ensures { IsFinished IsAtr IsReason HasTaken refusal_of self.now result }
     {
         let partial = match &self.stage {
             Stage::Taken(partial) => partial,

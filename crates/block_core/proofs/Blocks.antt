@@ -1,5 +1,5 @@
 -- What begins a block, and where nothing does.
-use Rattle.std.proofs.Common.{◌≡◌, ◌≢◌, ℕ, suc, ◌+◌, ◌-◌, ◌<◌, ◌≤◌, List, [], ◌∷◌, ◌++◌, length, take, drop, get_or, refl, sym, ap, subst, ◌∙◌, append_assoc, arith, inl, inr, ◌⊎◌, Option, Some, None, true, false, bit_xor, cond, eqb}
+use Rattle.std.proofs.Common.{◌≡◌, ◌≢◌, ℕ, suc, ◌+◌, ◌-◌, ◌<◌, ◌≤◌, List, [], ◌∷◌, ◌++◌, length, take, drop, get_or, refl, sym, ap, subst, ◌∙◌, append_assoc, arith, inl, inr, ◌⊎◌, Option, Some, None, false, bit_xor}
 use Rattle.std.proofs.lemmas.List.{take_more, append-nil, length-append, length-take, get_or-take, get_or_append_left, get_or_past, length-replicate, get_or-replicate}
 use Rattle.std.proofs.Math.ListN.{replicate}
 use Rattle.std.proofs.Math.Seq.{get_or-append_right, take-length, take-append_seam}
@@ -9,8 +9,7 @@ use Rattle.std.proofs.lemmas.List.Sums.{fold-append}
 use Rattle.octet_core.specs.Grammar.{Begins, Accepts, self_ended, IsFirst}
 use Rattle.octet_core.specs.Octets.{AreOctets, xor_of}
 use Rattle.block_core.specs.Block.{Parts, IsBlock, IsProper, Suits, FitsLen, IsLenFault, IsAboutIfs, IsBadLen, IsInfo, IsReason, pcb_octet, supervisory_len, spelling, front_of}
-use Rattle.block_core.specs.declared.pcb.Number.TheVariants.{Zero, One}
-use Rattle.block_core.specs.declared.pcb.Fault.TheVariants.{Free, Redundancy, Other}
+use Rattle.block_core.specs.declared.pcb.Number.TheVariants.{Zero}
 use Rattle.block_core.specs.declared.pcb.S.TheVariants.{Resynch, Ifs, Abort, Wtx}
 use Rattle.block_core.specs.declared.pcb.Pcb.{Pcb}
 use Rattle.block_core.specs.declared.pcb.Pcb.TheVariants.{Info, Ready, Request, Response}
@@ -18,6 +17,8 @@ use Rattle.block_core.specs.declared.reason.BlockReason.{BlockReason}
 use Rattle.block_core.specs.declared.reason.BlockReason.TheVariants.{BadPcb, BadLen, OverIfs, BadIfs, BadLrc}
 use Rattle.octet_core.proofs.Begun.{begins-front, spelled-begins, none-stuck}
 use Rattle.octet_core.proofs.Lists.{nil_of, octets-take}
+use Rattle.block_core.specs.Computed.{all_pcbs, pcb_among}
+use Rattle.block_core.proofs.Computed.{back, pcb-back}
 
 -- ---- spellings
 
@@ -47,6 +48,7 @@ accepted-inf ifs b v n a =
     let lt : 2 < n = omega (arith, accepted-len ifs b v n a) in
     sym (get_or-take n b 2 0 lt) ∙ ap (λ (x : List ℕ). get_or x 2 0) a.1.is
 
+-- where no block goes on after one of the first four octets, none is accepted
 pub none-early : (ifs : ℕ) (b : List ℕ) (p : ℕ) → p < 4 → (Begins (IsBlock ifs) (take (p + 1) b) → ⊥)
     → (v : Parts) (n : ℕ) → Accepts self_ended (IsBlock ifs) b v n → ⊥
 none-early ifs b p lt stuck = none-stuck (IsBlock ifs) b p stuck (λ v n a. omega (arith, accepted-len ifs b v n a))
@@ -58,48 +60,9 @@ none-last ifs n b n-is stuck v m a =
     let same : m ≡ n = omega (arith, accepted-len ifs b v m a, accepted-inf ifs b v m a) in
     stuck (subst (λ (k : ℕ). Begins (IsBlock ifs) (take k b)) same (spelled-begins (IsBlock ifs) v (take m b) a.1))
 
--- ---- control octets
-
-abbrev pub all_pcbs : List Pcb
-all_pcbs = Info Zero false ∷ Info Zero true ∷ Info One false ∷ Info One true
-    ∷ Ready Zero Free ∷ Ready Zero Redundancy ∷ Ready Zero Other ∷ Ready One Free ∷ Ready One Redundancy ∷ Ready One
-    Other
-    ∷ Request Resynch ∷ Response Resynch ∷ Request Ifs ∷ Response Ifs ∷ Request Abort ∷ Response Abort ∷ Request Wtx ∷
-    Response Wtx ∷ []
-
-abbrev pub among : List Pcb → ℕ → Option Pcb
-among [] x = None
-among (p ∷ ps) x = cond (eqb (pcb_octet p) x) (Some p) (among ps x)
-
-pub back : (p : Pcb) → among all_pcbs (pcb_octet p) ≡ Some p
-back (Info Zero false) = refl
-back (Info Zero true) = refl
-back (Info One false) = refl
-back (Info One true) = refl
-back (Ready Zero Free) = refl
-back (Ready Zero Redundancy) = refl
-back (Ready Zero Other) = refl
-back (Ready One Free) = refl
-back (Ready One Redundancy) = refl
-back (Ready One Other) = refl
-back (Request Resynch) = refl
-back (Request Ifs) = refl
-back (Request Abort) = refl
-back (Request Wtx) = refl
-back (Response Resynch) = refl
-back (Response Ifs) = refl
-back (Response Abort) = refl
-back (Response Wtx) = refl
-
-some_is : (p q : Pcb) → Some p ≡ Some q → p ≡ q
-some_is p q e = cc
-
--- control octets tell the kinds apart
-pub pcb-back : (p q : Pcb) → pcb_octet p ≡ pcb_octet q → p ≡ q
-pcb-back p q e = some_is p q (sym (back p) ∙ ap (among all_pcbs) e ∙ back q)
-
 -- ---- what begins a block
 
+-- a field suits a PCB that its length fits, where an information size is from 1 to 254
 pub suits-of : (ifs : ℕ) (p : Pcb) (inf : List ℕ) → FitsLen ifs p (length inf)
     → (IsAboutIfs p → (1 ≤ get_or inf 0 0) × (get_or inf 0 0 ≤ 254)) → Suits ifs p inf
 suits-of ifs (Info number more) inf fits size = fits
@@ -147,6 +110,7 @@ filled-size [] len pos h =
     (omega (arith, e), omega (arith, e))
 filled-size (x ∷ part) len pos h = h (omega arith)
 
+-- the length that fits a PCB about information sizes is 1
 pub len-about : (ifs : ℕ) (p : Pcb) (len : ℕ) → IsAboutIfs p → FitsLen ifs p len → len ≡ 1
 len-about ifs p len about fits =
     elim about [
@@ -158,6 +122,8 @@ len-about ifs p len about fits =
 abbrev pub IsSized : List ℕ → Type 0
 IsSized part = 0 < length part → (1 ≤ get_or part 0 0) × (get_or part 0 0 ≤ 254)
 
+-- NAD, PCB, LEN and the first octets of a field begin a block, where LEN fits PCB
+-- and an information size that is there is from 1 to 254
 pub begun-part : (ifs a len : ℕ) (p : Pcb) (part : List ℕ) → a < 256 → AreOctets part → length part ≤ len
     → FitsLen ifs p len → (IsAboutIfs p → IsSized part) → Begins (IsBlock ifs) (a ∷ pcb_octet p ∷ len ∷ part)
 begun-part ifs a len p part small octets le fits size =
@@ -249,6 +215,7 @@ begun-all ifs p b h least le e fits size =
 
 -- ---- where nothing goes on
 
+-- no block goes on after a second octet that is no PCB
 pub stuck-pcb : (ifs : ℕ) (b : List ℕ) → 2 ≤ length b → ((p : Pcb) → pcb_octet p ≡ get_or b 1 0 → ⊥)
     → Begins (IsBlock ifs) (take 2 b) → ⊥
 stuck-pcb ifs b le unknown h = unknown h.0.pcb (octet_of b h.1 (spelling h.0) 2 1 le h.2.is (omega arith))
@@ -279,6 +246,7 @@ pcb_is : (ifs : ℕ) (b : List ℕ) (n : ℕ) (p : Pcb) (v : Parts) (more : List
     → pcb_octet p ≡ get_or b 1 0 → take n b ++ more ≡ spelling v → v.pcb ≡ p
 pcb_is ifs b n p v more least le e is = pcb-back v.pcb p (octet_of b more (spelling v) n 1 le is (omega arith) ∙ sym e)
 
+-- no block goes on after a LEN that is wrong for its PCB, where the information size is 254 at most
 pub stuck-len : (ifs : ℕ) (b : List ℕ) (p : Pcb) (r : BlockReason) → ifs ≤ 254 → 3 ≤ length b
     → pcb_octet p ≡ get_or b 1 0 → IsLenFault ifs p (get_or b 2 0) r → Begins (IsBlock ifs) (take 3 b) → ⊥
 stuck-len ifs b p r small le e fault h =
@@ -299,6 +267,7 @@ size-of ifs p inf about suits =
       | inr e ↦ let s = subst (λ (q : Pcb). Suits ifs q inf) e suits in (s.0, s.1.0, s.1.1)
     ]
 
+-- no block goes on after an information size of 0 or 255
 pub stuck-size : (ifs : ℕ) (b : List ℕ) (p : Pcb) → 4 ≤ length b → pcb_octet p ≡ get_or b 1 0 → IsAboutIfs p
     → ((get_or b 3 0 ≡ 0) ⊎ (get_or b 3 0 ≡ 255)) → Begins (IsBlock ifs) (take 4 b) → ⊥
 stuck-size ifs b p le e about bad h =
@@ -328,6 +297,7 @@ stuck-lrc ifs n b n-is le bad h =
 
 -- ---- reasons
 
+-- where the second octet is no PCB, that is the reason
 pub reason-pcb : (ifs : ℕ) (b : List ℕ) → 2 ≤ length b → ((p : Pcb) → pcb_octet p ≡ get_or b 1 0 → ⊥)
     → IsReason ifs BadPcb (take 2 b)
 unfolding IsFirst
@@ -345,6 +315,7 @@ info-bad (Ready number f) len info bad = absurd info
 info-bad (Request s) len info bad = absurd info
 info-bad (Response s) len info bad = absurd info
 
+-- where LEN is wrong for its PCB, the reason is what is wrong with it
 pub reason-len : (ifs : ℕ) (b : List ℕ) (p : Pcb) (r : BlockReason) → 3 ≤ length b → pcb_octet p ≡ get_or b 1 0
     → IsLenFault ifs p (get_or b 2 0) r → IsReason ifs r (take 3 b)
 unfolding IsFirst
@@ -388,6 +359,7 @@ octet-about p x e known =
       | inr h ↦ inr (pcb-back p (Response Ifs) (e ∙ sym h))
     ]
 
+-- where an information size is 0 or 255, that is the reason
 pub reason-size : (ifs : ℕ) (b : List ℕ) (p : Pcb) → 4 ≤ length b → pcb_octet p ≡ get_or b 1 0 → IsAboutIfs p
     → ((get_or b 3 0 ≡ 0) ⊎ (get_or b 3 0 ≡ 255)) → IsReason ifs BadIfs (take 4 b)
 unfolding IsFirst
@@ -484,11 +456,12 @@ parts_of : List ℕ → Option Pcb → Parts
 parts_of b None = record { nad = 0; pcb = Info Zero false; inf = [] }
 parts_of b (Some p) = record { nad = get_or b 0 0; pcb = p; inf = take (get_or b 2 0) (drop 3 b) }
 
-parts-back : (v : Parts) → parts_of (spelling v) (among all_pcbs (get_or (spelling v) 1 0)) ≡ v
+parts-back : (v : Parts) → parts_of (spelling v) (pcb_among all_pcbs (get_or (spelling v) 1 0)) ≡ v
 unfolding parts_of
 parts-back v = rw (back v.pcb) (ap (λ (inf : List ℕ). record { nad = v.nad; pcb = v.pcb; inf = inf })
     (take-append_seam v.inf (xor_of (front_of v) ∷ [])))
 
+-- what is accepted under two information sizes is one block and one length
 pub one-accepted : (i j : ℕ) (b : List ℕ) (v w : Parts) (n m : ℕ) → Accepts self_ended (IsBlock i) b v n
     → Accepts self_ended (IsBlock j) b w m → (v ≡ w) × (n ≡ m)
 one-accepted i j b v w n m p q =
@@ -500,4 +473,4 @@ one-accepted i j b v w n m p q =
       accepted-inf j b w m q,
     ) in
     let text : spelling v ≡ spelling w = sym p.1.is ∙ ap (λ (k : ℕ). take k b) same ∙ q.1.is in
-    (sym (parts-back v) ∙ ap (λ (t : List ℕ). parts_of t (among all_pcbs (get_or t 1 0))) text ∙ parts-back w, same)
+    (sym (parts-back v) ∙ ap (λ (t : List ℕ). parts_of t (pcb_among all_pcbs (get_or t 1 0))) text ∙ parts-back w, same)

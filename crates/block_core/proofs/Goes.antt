@@ -1,7 +1,6 @@
 -- Where a block goes on, and that every input has one verdict.
-use Rattle.std.proofs.Common.{◌≡◌, ℕ, ◌+◌, ◌<◌, ◌≤◌, List, [], ◌∷◌, ◌++◌, length, take, drop, get_or, refl, sym, ap, subst, ◌∙◌, arith, inl, inr, ◌⊎◌, Some, None}
+use Rattle.std.proofs.Common.{◌≡◌, ℕ, ◌+◌, ◌<◌, ◌≤◌, List, [], ◌∷◌, ◌++◌, length, take, drop, get_or, refl, sym, ap, subst, ◌∙◌, arith, inl, inr, ◌⊎◌}
 use Rattle.std.proofs.lemmas.Bool.{cases_lt}
-use Rattle.std.proofs.lemmas.Bool.Decides.{eqb_tells}
 use Rattle.std.proofs.lemmas.List.{length-append, get_or_append_left}
 use Rattle.std.proofs.Math.Seq.{take-length}
 use Rattle.octet_core.specs.Grammar.{Begins, OneVerdict, self_ended}
@@ -16,28 +15,10 @@ use Rattle.block_core.specs.declared.pcb.Pcb.{Pcb}
 use Rattle.block_core.specs.declared.pcb.Pcb.TheVariants.{Info, Ready, Request, Response}
 use Rattle.block_core.specs.declared.reason.BlockReason.{BlockReason}
 use Rattle.block_core.specs.declared.reason.BlockReason.TheVariants.{BadPcb, BadLen, OverIfs, BadIfs, BadLrc}
-use Rattle.block_core.proofs.Blocks.{all_pcbs, among, back, pcb-back, fits-of, size-of, begun-lt2, begun-two, begun-from, begun-all, stuck-pcb, stuck-len, stuck-size, stuck-lrc, reason-pcb, reason-len, reason-size, reason-lrc, found, one-accepted}
+use Rattle.block_core.proofs.Computed.{pcb-back, pcb-known}
+use Rattle.block_core.proofs.Blocks.{fits-of, size-of, begun-lt2, begun-two, begun-from, begun-all, stuck-pcb, stuck-len, stuck-size, stuck-lrc, reason-pcb, reason-len, reason-size, reason-lrc, found, one-accepted}
 
 -- ---- what can be told of an octet
-
-sought : (ps : List Pcb) (x : ℕ) → ((p : Pcb) × (pcb_octet p ≡ x)) ⊎ (among ps x ≡ None)
-sought [] x = inr refl
-sought (p ∷ ps) x =
-    elim (eqb_tells (pcb_octet p) x) [
-      | inl h ↦ inl (p, h.1)
-      | inr h ↦ elim (sought ps x) [ inl g ↦ inl g | inr g ↦ inr (rw h.0 g) ]
-    ]
-
-some_none : (p : Pcb) → Some p ≡ None → ⊥
-some_none p e = cc
-
--- whether the octet is a control octet
-pub pcb-known : (x : ℕ) → ((p : Pcb) × (pcb_octet p ≡ x)) ⊎ ((p : Pcb) → pcb_octet p ≡ x → ⊥)
-pcb-known x =
-    elim (sought all_pcbs x) [
-      | inl h ↦ inl h
-      | inr none ↦ inr (λ p e. some_none p (sym (back p) ∙ ap (among all_pcbs) e ∙ none))
-    ]
 
 fits-or : (ifs : ℕ) (p : Pcb) (len : ℕ) → FitsLen ifs p len ⊎ ((r : BlockReason) × IsLenFault ifs p len r)
 fits-or ifs (Info number more) len =
@@ -163,6 +144,7 @@ bad-of (Ready number fault) len info e = absurd info
 bad-of (Request s) len info e = absurd info
 bad-of (Response s) len info e = absurd info
 
+-- octets that meet a line of the table begin no block, where the information size is 254 at most
 pub meets-stuck : (ifs : ℕ) (b : List ℕ) (r : BlockReason) → ifs ≤ 254 → Meets ifs b r → Begins (IsBlock ifs) b → ⊥
 meets-stuck ifs b BadPcb small m h = stuck-pcb ifs b (omega (arith, m.0)) m.1
     (subst (Begins (IsBlock ifs)) (all-of 2 b m.0) h)
@@ -184,6 +166,7 @@ meets-stuck ifs b BadLrc small m h =
     let all : b ≡ take (length b) b = sym (take-length b) in
     stuck-lrc ifs (length b) b m.0 (omega arith) (λ z. m.1 (ap xor_of all ∙ z)) (subst (Begins (IsBlock ifs)) all h)
 
+-- what has to be known of blocks so that every input has one verdict, for information sizes of 254 at most
 pub steps : (ifs : ℕ) → ifs ≤ 254 → Steps (IsBlock ifs) (IsReason ifs)
 steps ifs small = record {
   one_value = one-accepted ifs ifs;

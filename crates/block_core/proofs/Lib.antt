@@ -1,3 +1,4 @@
+pub mod Computed
 pub mod Blocks
 pub mod Goes
 pub mod Rows

@@ -16,6 +16,7 @@ use Rattle.block_core.proofs.Blocks as blocks
 abbrev pub IsRefusedAt : ℕ → List ℕ → ℕ → BlockReason → Type 0
 IsRefusedAt ifs b place reason = RefusesAt self_ended (IsBlock ifs) (IsReason ifs) b (At place reason)
 
+-- a second octet that is no PCB is refused at its place
 pub refused-at-pcb : (ifs : ℕ) (b : List ℕ) → AreOctets b → 2 ≤ length b → ((p : Pcb) → pcb_octet p ≡ get_or b 1 0 → ⊥)
     → IsRefusedAt ifs b 1 BadPcb
 refused-at-pcb ifs b octets long unknown =
@@ -29,6 +30,7 @@ refused-at-pcb ifs b octets long unknown =
       blocks.reason-pcb ifs b long unknown,
     )
 
+-- so is a LEN that is wrong for its PCB, where the information size is 254 at most
 pub refused-at-len : (ifs : ℕ) (b : List ℕ) (p : Pcb) (r : BlockReason) → ifs ≤ 254 → AreOctets b → 3 ≤ length b
     → pcb_octet p ≡ get_or b 1 0 → IsLenFault ifs p (get_or b 2 0) r → IsRefusedAt ifs b 2 r
 refused-at-len ifs b p r small octets long kind fault =
@@ -42,6 +44,7 @@ refused-at-len ifs b p r small octets long kind fault =
       blocks.reason-len ifs b p r long kind fault,
     )
 
+-- so is an information size of 0 or 255, where PCB and LEN fit each other
 pub refused-at-size : (ifs : ℕ) (b : List ℕ) (p : Pcb) → AreOctets b → 4 ≤ length b → IsHeaded ifs p b → IsAboutIfs p
     → (get_or b 3 0 ≡ 0) ⊎ (get_or b 3 0 ≡ 255) → IsRefusedAt ifs b 3 BadIfs
 refused-at-size ifs b p octets long head about bad =
@@ -57,6 +60,7 @@ refused-at-size ifs b p octets long head about bad =
       blocks.reason-size ifs b p long head.kind about bad,
     )
 
+-- so is an LRC with which the exclusive-or isn't 0, where PCB, LEN and an information size suit
 pub refused-at-lrc : (ifs end : ℕ) (b : List ℕ) (p : Pcb) → AreOctets b → end < length b → end ≡ 3 + get_or b 2 0
     → IsHeaded ifs p b → IsSized p (get_or b 3 0) → xor_of (take (end + 1) b) ≢ 0 → IsRefusedAt ifs b end BadLrc
 refused-at-lrc ifs end b p octets long end-is head sized bad =
@@ -71,6 +75,7 @@ refused-at-lrc ifs end b p octets long end-is head sized bad =
       blocks.reason-lrc ifs (end + 1) b p (omega arith) (omega arith) head.kind head.fits bad,
     )
 
+-- and where it is 0, the octets up to the LRC are a block, with the field between LEN and LRC
 pub begun-with : (ifs end : ℕ) (b : List ℕ) (p : Pcb) → AreOctets b → end < length b → end ≡ 3 + get_or b 2 0
     → IsHeaded ifs p b → IsSized p (get_or b 3 0) → xor_of (take (end + 1) b) ≡ 0
     → IsBlock ifs (record { nad = get_or b 0 0; pcb = p; inf = take (end - 3) (drop 3 b) }) (take (end + 1) b)

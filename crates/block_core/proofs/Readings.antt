@@ -2,19 +2,20 @@
 use Rattle.std.proofs.Common.{◌≡◌, ℕ, ◌+◌, ◌≤◌, ◌⊎◌, inl, inr, List, [], ◌∷◌, ◌++◌, length, take, drop, get_or, bit_xor, refl, sym, ap, subst, ◌∙◌, arith, append_assoc, Bool, true, false, Some, None, Result, Ok, Err}
 use Rattle.std.specs.Int.Bits.{xor_assoc, xor_zero_l, xor_zero_r}
 use Rattle.std.specs.List.{fold}
-use Rattle.std.proofs.lemmas.List.{length-append, length-drop, take-append-drop, take-append-le}
+use Rattle.std.proofs.lemmas.List.{take-append-drop}
 use Rattle.std.proofs.lemmas.List.Sums.{fold-append}
 use Rattle.std.proofs.Math.Seq.{take-length}
 use Rattle.octet_core.specs.Octets.{AreOctets, xor_of}
-use Rattle.octet_core.specs.Grammar.{self_ended, Accepts, Begins, IsShort, RefusesAt}
+use Rattle.octet_core.specs.Grammar.{self_ended, Begins, IsShort, RefusesAt}
 use Rattle.octet_core.specs.Reader.{IsFed, IsFinished}
 use Rattle.octet_core.specs.declared.stop.Refusal.{Refusal}
 use Rattle.octet_core.specs.declared.stop.Stop.{Stop}
 use Rattle.octet_core.specs.declared.stop.Stop.TheVariants.{At, Short}
-use Rattle.octet_core.proofs.Begun.{spelled-apart, spelled-begins, stuck-append}
+use Rattle.octet_core.proofs.Answered.{short-of, refuses-append}
+use Rattle.octet_core.proofs.Begun.{spelled-begins}
 use Rattle.octet_core.proofs.Lists.{never}
 use Rattle.block_core.specs.Block.{Parts, IsBlock, IsReason}
-use Rattle.block_core.specs.Reading.{Reading, HasTaken, IsOpen, IsClosed, fresh, refusal_of}
+use Rattle.block_core.specs.Taking.{Taking, HasTaken, IsOpen, IsClosed, nothing_taken, refusal_of}
 use Rattle.block_core.specs.Stage.{IsAt, refusal_at, answer_of}
 use Rattle.block_core.specs.declared.reason.BlockReason.{BlockReason}
 use Rattle.block_core.specs.declared.stage.Stage.{Stage}
@@ -38,37 +39,12 @@ xor-more sum more a b e f =
     ap (λ (x : ℕ). bit_xor x more) e ∙ ap (bit_xor (xor_of a)) f
     ∙ sym (fold-append bit_xor 0 a b ∙ xor-from (xor_of a) b)
 
--- ---- generic: what a reader of a grammar answers
-
--- a refusal stands, whatever follows
-pub refuses-append : {V R : Type 0} (S : V → List ℕ → Type 0) (Reason : R → List ℕ → Type 0) (b more : List ℕ) (p : ℕ)
-    (r : R) → RefusesAt self_ended S Reason b (At p r) → RefusesAt self_ended S Reason (b ++ more) (At p r)
-refuses-append S Reason b more p r h = (
-  stuck-append S b more p h.0,
-  subst (Reason r) (sym (take-append-le (p + 1) b more (omega (arith, h.0.inside)))) h.1,
-)
-
--- what begins a spelling and isn't one is short, where no spelling begins another
-pub short-of : {V : Type 0} (S : V → List ℕ → Type 0)
-    → ((b : List ℕ) (v w : V) (n m : ℕ) → Accepts self_ended S b v n → Accepts self_ended S b w m → (v ≡ w) × (n ≡ m))
-    → (b : List ℕ) → Begins S b → ((v : V) → S v b → ⊥) → IsShort self_ended S b (length b)
-short-of S one b (w, more, h) not_yet = record {
-  none = λ v n a.
-      let parts : take n b ++ (drop n b ++ more) ≡ b ++ more =
-      sym (append_assoc (take n b) (drop n b) more) ∙ ap (λ (l : List ℕ). l ++ more) (take-append-drop n b) in
-      let none : drop n b ++ more ≡ [] = (spelled-apart S S one v w (take n b) (drop n b ++ more) a.1
-      (subst (S w) (sym parts) h)).1 in
-      let all : n ≡ length b = omega (arith, a.0, ap length none, length-append (drop n b) more, length-drop n b) in
-      not_yet v (subst (S v) (ap (λ (k : ℕ). take k b) all ∙ take-length b) a.1);
-  end = refl;
-  begun = (w, more, h);
-}
-
 -- ---- by stages
 
 spelled-len : (ifs : ℕ) (v : Parts) (b : List ℕ) → IsBlock ifs v b → length b ≡ get_or b 2 0 + 4
 spelled-len ifs v b h = omega (arith, ap length h.is, spelling-len v, ap (λ (l : List ℕ). get_or l 2 0) h.is)
 
+-- what a reader holds begins a block, at each stage without a refusal
 pub at-begins : (ifs : ℕ) (stage : Stage) (b : List ℕ) → AreOctets b → IsAt ifs stage b → refusal_at stage ≡ None
     → Begins (IsBlock ifs) b
 at-begins ifs Front b octets at none = begun-lt2 ifs b octets at
@@ -110,14 +86,14 @@ short-under-way ifs stage b octets at way =
     (under-way-open ifs stage b at way)
 
 -- what a reader of a block under way says when no more octets come
-pub finished-short : (ifs : ℕ) (held : List ℕ) (stage : Stage) (r : Reading)
+pub finished-short : (ifs : ℕ) (held : List ℕ) (stage : Stage) (r : Taking)
     → record { ifs = ifs; taken = held; refusal = refusal_at stage } ≡ r → AreOctets held → IsAt ifs stage held
     → answer_of stage ≡ Ok false → IsFinished (IsBlock r.ifs) (IsReason r.ifs) HasTaken refusal_of r
     (Err (Short (length held)))
 finished-short ifs held stage r is octets at way =
-    let own : Reading = record { ifs = ifs; taken = held; refusal = refusal_at stage } in
+    let own : Taking = record { ifs = ifs; taken = held; refusal = refusal_at stage } in
     let free : own.refusal ≡ None = under-way-free stage way in
-    subst (λ (s : Reading). IsFinished (IsBlock s.ifs) (IsReason s.ifs) HasTaken refusal_of s
+    subst (λ (s : Taking). IsFinished (IsBlock s.ifs) (IsReason s.ifs) HasTaken refusal_of s
     (Err (Short (length held)))) is (record {
       done = tt;
       short = λ e t h. (
@@ -134,7 +110,7 @@ with_count n (Ok done) = Ok (n, done)
 with_count n (Err stop) = Err stop
 
 -- what a feed knows when it answers
-pub record Fed (stage : Stage) (old new : Reading) (piece : List ℕ) (n : ℕ) : Type 0 where
+pub record Fed (stage : Stage) (old new : Taking) (piece : List ℕ) (n : ℕ) : Type 0 where
   pub octets : AreOctets new.taken
   pub at : IsAt new.ifs stage new.taken
   pub refusal : refusal_at stage ≡ new.refusal
@@ -145,12 +121,12 @@ pub record Fed (stage : Stage) (old new : Reading) (piece : List ℕ) (n : ℕ) 
   pub size : new.ifs ≡ old.ifs
 
 -- where it had a whole block, it stays as it was
-full-same : (stage : Stage) (old new : Reading) (piece : List ℕ) (n : ℕ) → Fed stage old new piece n
+full-same : (stage : Stage) (old new : Taking) (piece : List ℕ) (n : ℕ) → Fed stage old new piece n
     → (t : List ℕ) (v : Parts) → HasTaken old t → IsBlock new.ifs v t → (new ≡ old) × (n ≡ 0)
 full-same stage old new piece n f t v h s =
     f.closed (inr (v, subst (IsBlock old.ifs v) (sym h.is) (subst (λ (ifs : ℕ). IsBlock ifs v t) f.size s)))
 
-has-taken : (stage : Stage) (old new : Reading) (piece : List ℕ) (n : ℕ) → Fed stage old new piece n
+has-taken : (stage : Stage) (old new : Taking) (piece : List ℕ) (n : ℕ) → Fed stage old new piece n
     → refusal_at stage ≡ None → (t : List ℕ) → HasTaken old t → HasTaken new (t ++ take n piece)
 has-taken stage old new piece n f none t h =
     let is : new.taken ≡ t ++ take n piece = f.taken ∙ ap (λ (l : List ℕ). l ++ take n piece) h.is in
@@ -161,13 +137,13 @@ has-taken stage old new piece n f none t h =
     }
 
 -- it kept no refusal, so it repeats none
-none-kept : {P : Type 0} (stage : Stage) (old new : Reading) (piece : List ℕ) (n : ℕ) → Fed stage old new piece n
+none-kept : {P : Type 0} (stage : Stage) (old new : Taking) (piece : List ℕ) (n : ℕ) → Fed stage old new piece n
     → refusal_at stage ≡ None → (r : Refusal BlockReason) → old.refusal ≡ Some r → P
 none-kept stage old new piece n f none r e =
     let same = (f.closed (inl (rw e refl))).0 in
     absurd (let bad : None ≡ Some r = sym none ∙ f.refusal ∙ ap refusal_of same ∙ e in cc)
 
-fed-under_way : (stage : Stage) (old new : Reading) (piece : List ℕ) (n : ℕ) → Fed stage old new piece n
+fed-under_way : (stage : Stage) (old new : Taking) (piece : List ℕ) (n : ℕ) → Fed stage old new piece n
     → IsUnderWay stage → refusal_at stage ≡ None
     → IsFed (IsBlock new.ifs) (IsReason new.ifs) HasTaken refusal_of old new piece (Ok (n, false))
 fed-under_way stage old new piece n f way none =
@@ -190,11 +166,12 @@ fed-under_way stage old new piece n f way none =
       kept = tt;
       full = λ t v h s.
           let same = (full-same stage old new piece n f t v h s).0 in
-          absurd (not_yet v (subst (IsBlock new.ifs v) (sym (ap (λ (r : Reading). r.taken) same ∙ h.is)) s));
+          absurd (not_yet v (subst (IsBlock new.ifs v) (sym (ap (λ (r : Taking). r.taken) same ∙ h.is)) s));
       repeated = λ r e. none-kept stage old new piece n f none r e;
     }
 
-pub fed : (stage : Stage) (old new : Reading) (piece : List ℕ) (n : ℕ) → Fed stage old new piece n
+-- a feed that knows this may answer what its stage says, after so many octets of the piece
+pub fed : (stage : Stage) (old new : Taking) (piece : List ℕ) (n : ℕ) → Fed stage old new piece n
     → IsFed (IsBlock new.ifs) (IsReason new.ifs) HasTaken refusal_of old new piece (with_count n (answer_of stage))
 fed Front old new piece n f = fed-under_way Front old new piece n f refl refl
 fed (Len p) old new piece n f = fed-under_way (Len p) old new piece n f refl refl
@@ -243,19 +220,20 @@ fed (Refused refusal) old new piece n f =
 
 -- ---- on and on
 
-pub open-not-closed : (r : Reading) → IsOpen r → IsClosed r → ⊥
+-- a reader that takes more octets has no refusal and no whole block
+pub open-not-closed : (r : Taking) → IsOpen r → IsClosed r → ⊥
 open-not-closed r waits (inl some) = never (rw waits.0 at some)
 open-not-closed r waits (inr v) = waits.1 v.0 v.1
 
 -- what a feed knows, from the fields that it leaves
-pub fed-of : (ifs : ℕ) (held : List ℕ) (stage : Stage) (old new : Reading) (piece : List ℕ) (n : ℕ)
+pub fed-of : (ifs : ℕ) (held : List ℕ) (stage : Stage) (old new : Taking) (piece : List ℕ) (n : ℕ)
     → record { ifs = ifs; taken = held; refusal = refusal_at stage } ≡ new → AreOctets held → IsAt ifs stage held
     → n ≤ length piece → new.taken ≡ old.taken ++ take n piece → (IsClosed old → (new ≡ old) × (n ≡ 0))
     → (length piece ≤ n) ⊎ IsClosed new → new.ifs ≡ old.ifs → Fed stage old new piece n
 fed-of ifs held stage old new piece n is octets at inside taken closed exit size =
     record {
-      octets = subst AreOctets (ap (λ (r : Reading). r.taken) is) octets;
-      at = subst (λ (r : Reading). IsAt r.ifs stage r.taken) is at;
+      octets = subst AreOctets (ap (λ (r : Taking). r.taken) is) octets;
+      at = subst (λ (r : Taking). IsAt r.ifs stage r.taken) is at;
       refusal = ap refusal_of is;
       inside = inside;
       taken = taken;
@@ -264,7 +242,8 @@ fed-of ifs held stage old new piece n is octets at inside taken closed exit size
       size = size;
     }
 
-pub fed-answered : (stage : Stage) (old new : Reading) (piece : List ℕ) (n : ℕ)
+-- the same by the information size that the reader had before
+pub fed-answered : (stage : Stage) (old new : Taking) (piece : List ℕ) (n : ℕ)
     (answer : Result Bool (Stop BlockReason)) → Fed stage old new piece n → answer ≡ answer_of stage
     → IsFed (IsBlock old.ifs) (IsReason old.ifs) HasTaken refusal_of old new piece (with_count n answer)
 fed-answered stage old new piece n answer f e =
@@ -275,8 +254,9 @@ fed-answered stage old new piece n answer f e =
     (fed stage old new piece n f))
 
 -- a new reader may have taken no octets
-pub fresh-taken : (ifs : ℕ) → HasTaken (fresh ifs) []
+pub fresh-taken : (ifs : ℕ) → HasTaken (nothing_taken ifs) []
 fresh-taken ifs = record { kept = refl; is = refl; begun = begun-lt2 ifs [] (λ i. omega arith) (omega arith) }
 
-pub one-taken : (r : Reading) (t u : List ℕ) → HasTaken r t → HasTaken r u → t ≡ u
+-- a reader has taken one list of octets only
+pub one-taken : (r : Taking) (t u : List ℕ) → HasTaken r t → HasTaken r u → t ≡ u
 one-taken r t u h g = sym h.is ∙ g.is

@@ -5,7 +5,7 @@ use Rattle.std.proofs.Math.Seq.{take-length}
 use Rattle.octet_core.specs.Octets.{AreOctets, xor_of}
 use Rattle.block_core.specs.Block.{IsBlock, IsAboutIfs, IsLenFault, FitsLen, pcb_octet}
 use Rattle.block_core.specs.Stage.{IsAt, IsHeaded, IsSized, IsRefused, tested_len, refusal_at}
-use Rattle.block_core.specs.Reading.{IsOpen}
+use Rattle.block_core.specs.Taking.{IsOpen}
 use Rattle.block_core.specs.declared.pcb.Pcb.{Pcb}
 use Rattle.block_core.specs.declared.reason.BlockReason.{BlockReason}
 use Rattle.block_core.specs.declared.reason.BlockReason.TheVariants.{BadPcb, BadIfs, BadLrc}
@@ -24,26 +24,32 @@ at-last ifs place b r len refused =
     let last : place ≡ length b - 1 = omega arith in
     subst (λ (p : ℕ). IsRefusedAt ifs b p r) last refused
 
+-- two octets are refused at the last where it is no PCB
 pub refused-pcb : (ifs : ℕ) (b : List ℕ) → AreOctets b → length b ≡ 2 → ((p : Pcb) → pcb_octet p ≡ get_or b 1 0 → ⊥)
     → IsRefused ifs b BadPcb
 refused-pcb ifs b octets len unknown = at-last ifs 1 b BadPcb len (refused-at-pcb ifs b octets (omega arith) unknown)
 
+-- three octets are refused at the last where it is a LEN that is wrong for its PCB,
+-- and the information size is 254 at most
 pub refused-len : (ifs : ℕ) (b : List ℕ) (p : Pcb) (r : BlockReason) → ifs ≤ 254 → AreOctets b → length b ≡ 3
     → pcb_octet p ≡ get_or b 1 0 → IsLenFault ifs p (get_or b 2 0) r → IsRefused ifs b r
 refused-len ifs b p r small octets len kind fault =
     at-last ifs 2 b r len (refused-at-len ifs b p r small octets (omega arith) kind fault)
 
+-- four octets are refused at the last where it is an information size of 0 or 255, and PCB and LEN fit
 pub refused-size : (ifs : ℕ) (b : List ℕ) (p : Pcb) → AreOctets b → length b ≡ 4 → IsHeaded ifs p b → IsAboutIfs p
     → (get_or b 3 0 ≡ 0) ⊎ (get_or b 3 0 ≡ 255) → IsRefused ifs b BadIfs
 refused-size ifs b p octets len head about bad =
     at-last ifs 3 b BadIfs len (refused-at-size ifs b p octets (omega arith) head about bad)
 
+-- octets up to the LRC are refused at it where their exclusive-or isn't 0, and all before it suits
 pub refused-lrc : (ifs end : ℕ) (b : List ℕ) (p : Pcb) → AreOctets b → length b ≡ end + 1 → end ≡ 3 + get_or b 2 0
     → IsHeaded ifs p b → IsSized p (get_or b 3 0) → xor_of b ≢ 0 → IsRefused ifs b BadLrc
 refused-lrc ifs end b p octets len end-is head sized bad =
     at-last ifs end b BadLrc len (refused-at-lrc ifs end b p octets (omega arith) end-is head sized
     (λ e. bad (ap xor_of (sym (all-of (end + 1) b len)) ∙ e)))
 
+-- and where it is 0 they are a block, with the field between LEN and LRC
 pub whole-is : (ifs end : ℕ) (b : List ℕ) (p : Pcb) → AreOctets b → length b ≡ end + 1 → end ≡ 3 + get_or b 2 0
     → IsHeaded ifs p b → IsSized p (get_or b 3 0) → xor_of b ≡ 0
     → IsBlock ifs (record { nad = get_or b 0 0; pcb = p; inf = take (end - 3) (drop 3 b) }) b

@@ -4,7 +4,7 @@ ghost use Rattle.std.specs.Prelude.{◌≡◌, ◌≤◌, ◌++◌, ℕ, List, [
 ghost use Rattle.octet_core.specs.Grammar.{self_ended, Accepts, OneVerdict};
 ghost use Rattle.octet_core.specs.Octets.{AreOctets, xor_of};
 ghost use Rattle.block_core.specs.Block.{Parts, IsBlock, IsReason, spelling};
-ghost use Rattle.block_core.specs.Reading.{Reading, HasTaken, fresh};
+ghost use Rattle.block_core.specs.Taking.{Taking, HasTaken, nothing_taken};
 
 /// Every input is accepted or refused under every information size, with one block, one length, one
 /// place and one reason, and never both.
@@ -39,6 +39,6 @@ pub fn sums_to_zero()
 /// A new or reset reader has taken the empty list and no other, and each other that keeps no refusal one
 /// list too.
 pub fn taken()
-    ensures new { (ifs : ℕ) → HasTaken (fresh ifs) [] }
-    ensures only { (r : Reading) (t u : List ℕ) → HasTaken r t → HasTaken r u → t ≡ u }
+    ensures new { (ifs : ℕ) → HasTaken (nothing_taken ifs) [] }
+    ensures only { (r : Taking) (t u : List ℕ) → HasTaken r t → HasTaken r u → t ≡ u }
 {}

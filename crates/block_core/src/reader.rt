@@ -3,7 +3,7 @@
 ghost use Rattle.std.specs.Prelude.{◌≡◌, ◌+◌, ◌<◌, ◌≤◌, ◌++◌, length, take, Option, IfSome, IfNone, MatchBool};
 ghost use Rattle.octet_core.specs.Reader.{IsFed, IsFinished};
 ghost use Rattle.block_core.specs.Block.{Parts, IsBlock, IsReason};
-ghost use Rattle.block_core.specs.Reading.{HasTaken, IsOpen, IsClosed, fresh, refusal_of};
+ghost use Rattle.block_core.specs.Taking.{HasTaken, IsOpen, IsClosed, nothing_taken, refusal_of};
 
 use crate::block::{Block, LONGEST_BLOCK};
 use crate::reason::BlockReason;
@@ -27,9 +27,9 @@ impl Model for BlockReader {
     ghost use Rattle.std.specs.Prelude.{◌≡◌, ◌≤◌};
     ghost use Rattle.octet_core.specs.Octets.{AreOctets, xor_of};
     ghost use Rattle.block_core.specs.Stage.{IsAt, refusal_at};
-    ghost use Rattle.block_core.specs.Reading.{Reading};
+    ghost use Rattle.block_core.specs.Taking.{Taking};
 
-    ghost Value = { Reading };
+    ghost Value = { Taking };
 
     ghost view = { λ r. record {
       ifs = r.ifs;
@@ -46,7 +46,7 @@ impl BlockReader {
     pub fn new(ifs: u8) -> Self
         requires least { 1 ≤ ifs }
         requires most { ifs ≤ 254 }
-        ensures { result ≡ fresh ifs }
+        ensures { result ≡ nothing_taken ifs }
     {
         BlockReader {
             ifs,
@@ -112,7 +112,7 @@ impl BlockReader {
 
     /// Begins anew, as a new reader of the same information size.
     pub fn reset(&mut self)
-        ensures { self.new ≡ fresh self.old.ifs }
+        ensures { self.new ≡ nothing_taken self.old.ifs }
     {
         self.held.clear();
         self.sum = 0;

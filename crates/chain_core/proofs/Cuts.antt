@@ -9,21 +9,24 @@ use Rattle.octet_core.specs.Grammar.{Accepts, self_ended}
 use Rattle.octet_core.proofs.Begun.{spelled-accepted}
 use Rattle.block_core.specs.declared.pcb.Number.{Number}
 use Rattle.chain_core.proofs.Unique.{one-accepted}
-use Rattle.chain_core.specs.Chain.{message_of, IsChain, spelling, link, links}
+use Rattle.chain_core.specs.Chain.{message_of, IsChain, spelling, chain_block, chain_blocks}
 use Rattle.block_core.specs.Block.{other}
-use Rattle.chain_core.specs.Cut.{pieces, cut_of, first_link, IsFull, IsCut}
-use Rattle.chain_core.proofs.Lengths.{links-length}
+use Rattle.chain_core.specs.Cut.{pieces, cut_of, leading_block, IsFull, IsCut}
+use Rattle.chain_core.proofs.Lengths.{blocks-length}
 use Rattle.std.proofs.lemmas.Bool.{le-ltb, lt-ltb}
 
+-- the pieces of a message, joined again, are the message
 pub message_of-pieces : (size count : ℕ) (m : List ℕ) → message_of (pieces size count m) ≡ m
 message_of-pieces size zero m = append-nil m
 message_of-pieces size (suc count) m = ap (λ (l : List ℕ). take size m ++ l)
     (message_of-pieces size count (drop size m)) ∙ take-append-drop size m
 
+-- full pieces and what is left after them are one more than the full ones
 pub length-pieces : (size count : ℕ) (m : List ℕ) → length (pieces size count m) ≡ count + 1
 length-pieces size zero m = omega arith
 length-pieces size (suc count) m = omega (arith, length-pieces size count (drop size m))
 
+-- no piece has more octets than the size, where what is left for the last one hasn't
 pub pieces-sizes : (size count : ℕ) (m : List ℕ) → length m ≤ count * size + size
     → AllByRecursion (λ f. length f ≤ size) (pieces size count m)
 pieces-sizes size zero m le = (omega arith, tt)
@@ -38,9 +41,11 @@ message_of-cut_of size m = message_of-pieces size ((length m - 1) / size) m
 cover : (size n : ℕ) → 1 ≤ size → n ≤ ((n - 1) / size) * size + size
 cover size n pos = omega arith
 
+-- no field of a cut has more octets than the size, where that isn't 0
 pub cut_of-sizes : (size : ℕ) (m : List ℕ) → 1 ≤ size → AllByRecursion (λ f. length f ≤ size) (cut_of size m)
 cut_of-sizes size m pos = pieces-sizes size ((length m - 1) / size) m (cover size (length m) pos)
 
+-- how many fields a message is cut into
 pub length-cut_of : (size : ℕ) (m : List ℕ) → length (cut_of size m) ≡ (length m - 1) / size + 1
 length-cut_of size m = length-pieces size ((length m - 1) / size) m
 
@@ -87,6 +92,7 @@ full-some size [] pos p = absurd p
 full-some size (f ∷ []) pos p = omega (arith, p.0, length-append f [])
 full-some size (f ∷ g ∷ fs) pos p = omega (arith, p.0, length-append f (message_of (g ∷ fs)))
 
+-- the cut of a message carries it, in full fields but for the last, where the size isn't 0
 pub cut_of-is_cut : (size : ℕ) (m : List ℕ) → 1 ≤ size → IsCut size m (cut_of size m)
 cut_of-is_cut size [] pos = nothing size ((0 - 1) / size) pos
 cut_of-is_cut size (x ∷ m) pos = (
@@ -127,6 +133,7 @@ full-same size (f ∷ k ∷ fs) (g ∷ l ∷ gs) pos p q e =
     let r = full-same size (k ∷ fs) (l ∷ gs) pos p.1 q.1 h.1 in
     λ i. h.0 i ∷ r i
 
+-- and no other fields do
 pub one-cut : (size : ℕ) (m : List ℕ) (fs : List (List ℕ)) → 1 ≤ size → IsCut size m fs → fs ≡ cut_of size m
 one-cut size [] fs pos p = p ∙ sym (cut_of-is_cut size [] pos)
 one-cut size (x ∷ m) fs pos p =
@@ -135,9 +142,11 @@ one-cut size (x ∷ m) fs pos p =
 
 -- ---- the blocks of a cut, one by one
 
+-- a message of no more octets than the size is its only field
 pub cut_of-short : (size : ℕ) (m : List ℕ) → 1 ≤ size → length m ≤ size → cut_of size m ≡ m ∷ []
 cut_of-short size m pos le = ap (λ (k : ℕ). pieces size k m) (last-count size (length m) pos le)
 
+-- a longer one has a full field of its first octets, and then the cut of what is left
 pub cut_of-long : (size : ℕ) (m : List ℕ) → 1 ≤ size → size < length m
     → cut_of size m ≡ take size m ∷ cut_of size (drop size m)
 cut_of-long size m pos lt =
@@ -146,6 +155,7 @@ cut_of-long size m pos lt =
 
 -- ---- what a chain of a cut is
 
+-- the fields of a cut carry octets, where the message has octets
 pub AreOctets-cut_of : (size : ℕ) (m : List ℕ) → AreOctets m → AreOctets (message_of (cut_of size m))
 AreOctets-cut_of size m h = subst AreOctets (sym (message_of-cut_of size m)) h
 
@@ -192,18 +202,22 @@ cut_of-only size ifs max number m more fields n pos le fits few octets a =
 
 -- ---- the first block of a cut
 
-pub links-short : (number : Number) (size : ℕ) (m : List ℕ) → 1 ≤ size → length m ≤ size
-    → links number (cut_of size m) ≡ link number false m ∷ []
-links-short number size m pos le = ap (links number) (cut_of-short size m pos le)
+-- a message of no more octets than the size goes into one block, which says that none follows
+pub blocks-short : (number : Number) (size : ℕ) (m : List ℕ) → 1 ≤ size → length m ≤ size
+    → chain_blocks number (cut_of size m) ≡ chain_block number false m ∷ []
+blocks-short number size m pos le = ap (chain_blocks number) (cut_of-short size m pos le)
 
 more-pieces : (number : Number) (f : List ℕ) (size count : ℕ) (m : List ℕ)
-    → links number (f ∷ pieces size count m) ≡ link number true f ∷ links (other number) (pieces size count m)
+    → chain_blocks number (f ∷ pieces size count m) ≡ chain_block number true f ∷ chain_blocks (other number)
+    (pieces size count m)
 more-pieces number f size zero m = refl
 more-pieces number f size (suc count) m = refl
 
-pub links-long : (number : Number) (size : ℕ) (m : List ℕ) → 1 ≤ size → size < length m
-    → links number (cut_of size m) ≡ link number true (take size m) ∷ links (other number) (cut_of size (drop size m))
-links-long number size m pos lt = ap (links number) (cut_of-long size m pos lt)
+-- a longer one has a full block, which says that more follow, and then the blocks of what is left
+pub blocks-long : (number : Number) (size : ℕ) (m : List ℕ) → 1 ≤ size → size < length m
+    → chain_blocks number (cut_of size m) ≡ chain_block number true (take size m) ∷ chain_blocks (other number)
+    (cut_of size (drop size m))
+blocks-long number size m pos lt = ap (chain_blocks number) (cut_of-long size m pos lt)
     ∙ more-pieces number (take size m) size ((length (drop size m) - 1) / size) (drop size m)
 
 take-all : (n : ℕ) (l : List ℕ) → length l ≤ n → take n l ≡ l
@@ -214,16 +228,19 @@ take-all (suc n) (x ∷ l) le = ap (λ (t : List ℕ). x ∷ t) (take-all n l (o
 
 -- the block of a message that is cut, and those after it
 pub first-short : (number : Number) (size : ℕ) (m : List ℕ) → 1 ≤ size → length m ≤ size
-    → links number (cut_of size m) ≡ first_link size number m ∷ []
+    → chain_blocks number (cut_of size m) ≡ leading_block size number m ∷ []
 first-short number size m pos le =
-    links-short number size m pos le ∙ ap (λ (go : Bool). link number go m ∷ []) (sym (le-ltb size (length m) le))
-    ∙ ap (λ (t : List ℕ). link number (nat_lt size (length m)) t ∷ []) (sym (take-all size m le))
+    blocks-short number size m pos le ∙ ap (λ (go : Bool). chain_block number go m ∷ [])
+    (sym (le-ltb size (length m) le))
+    ∙ ap (λ (t : List ℕ). chain_block number (nat_lt size (length m)) t ∷ []) (sym (take-all size m le))
 
+-- a longer message has this block first, and then the blocks of what is left, from the other number on
 pub first-long : (number : Number) (size : ℕ) (m : List ℕ) → 1 ≤ size → size < length m
-    → links number (cut_of size m) ≡ first_link size number m ∷ links (other number) (cut_of size (drop size m))
+    → chain_blocks number (cut_of size m) ≡ leading_block size number m ∷ chain_blocks (other number)
+    (cut_of size (drop size m))
 first-long number size m pos lt =
-    links-long number size m pos lt ∙ ap (λ (go : Bool).
-    link number go (take size m) ∷ links (other number) (cut_of size (drop size m)))
+    blocks-long number size m pos lt ∙ ap (λ (go : Bool).
+    chain_block number go (take size m) ∷ chain_blocks (other number) (cut_of size (drop size m)))
     (sym (lt-ltb size (length m) lt))
 
 -- a chain of a cut has an octet for each of the message, and four for each block
@@ -231,11 +248,12 @@ pub length-cut : (number : Number) (size : ℕ) (m : List ℕ)
     → length (spelling number (cut_of size m)) ≤ length m + ((length m - 1) / size + 1) * 4
 length-cut number size m = omega (
   arith,
-  links-length number (cut_of size m),
+  blocks-length number (cut_of size m),
   ap length (message_of-cut_of size m),
   length-cut_of size m,
 )
 
+-- and no more than 655,364 octets, where the message has at most 131,072
 pub length-cut-most : (number : Number) (size : ℕ) (m : List ℕ) → length m ≤ 131072
     → length (spelling number (cut_of size m)) ≤ 655364
 length-cut-most number size m le = omega (arith, length-cut number size m, div-most (length m - 1) size)

@@ -10,13 +10,14 @@ use Rattle.octet_core.specs.declared.stop.Stop.{Stop}
 use Rattle.octet_core.specs.declared.stop.Stop.TheVariants.{At, Short}
 use Rattle.octet_core.proofs.Begun.{spelled-accepted}
 use Rattle.block_core.specs.declared.pcb.Number.{Number}
-use Rattle.block_core.proofs.Readings.{short-of, refuses-append}
+use Rattle.octet_core.proofs.Answered.{short-of, refuses-append}
 use Rattle.chain_core.specs.declared.reason.ChainReason.{ChainReason}
 use Rattle.chain_core.specs.declared.reading.ReadRefusal.{ReadRefusal}
 use Rattle.chain_core.specs.declared.reading.ReadRefusal.TheVariants as answers
 use Rattle.chain_core.specs.Chain.{IsChain, IsReason}
-use Rattle.chain_core.specs.Taken.{Reception, HasTaken, IsOpen, IsClosed, refusal_of}
-use Rattle.chain_core.specs.Reads.{EndsNear, MovesOn, HasRead, Reads, ReadsChain, ReadsPart, ReadsShort, ReadsRefused}
+use Rattle.chain_core.specs.Taking.{Taking, HasTaken, IsOpen, IsClosed, refusal_of}
+use Rattle.chain_core.specs.Reads.{EndsNear, Reads, ReadsChain, ReadsPart, ReadsShort, ReadsRefused}
+use Rattle.chain_core.specs.Moving.{MovesOn, HasRead}
 use Rattle.chain_core.proofs.Feeds.{bool_cases, none_some, goes-none, goes-then, chain-at, not-spelled, open-not-closed}
 use Rattle.chain_core.proofs.Moves.{taken-most}
 use Rattle.chain_core.proofs.Taken.{done-spelled, length-taken}
@@ -24,7 +25,8 @@ use Rattle.chain_core.proofs.Unique.{one-accepted}
 
 -- ---- call by call
 
-pub read-none : (held : Option (List ℕ)) (r : Reception) → HasRead held held r r 0
+-- before the first call nothing was read, and the receiver is as it was
+pub read-none : (held : Option (List ℕ)) (r : Taking) → HasRead held held r r 0
 read-none held r = record {
   read = [];
   count = refl;
@@ -34,7 +36,8 @@ read-none held r = record {
   most = λ none. omega arith;
 }
 
-pub read-more : (held mid left : Option (List ℕ)) (old cur new : Reception) (taken count : ℕ)
+-- what one call more brought comes after what was read before, where the receiver was open
+pub read-more : (held mid left : Option (List ℕ)) (old cur new : Taking) (taken count : ℕ)
     → HasRead held mid old cur taken → IsOpen cur → MovesOn mid left cur new count
     → HasRead held left old new (taken + count)
 read-more held mid left old cur new taken count h free m = record {
@@ -57,7 +60,7 @@ read-more held mid left old cur new taken count h free m = record {
 }
 
 -- before a call that moves on there is room for more
-pub read-bound : (held mid left : Option (List ℕ)) (old cur new : Reception) (taken count : ℕ)
+pub read-bound : (held mid left : Option (List ℕ)) (old cur new : Taking) (taken count : ℕ)
     → HasRead held mid old cur taken → IsOpen cur → MovesOn mid left cur new count → taken ≤ old.max + 524288
 read-bound held mid left old cur new taken count h free m =
     omega (
@@ -68,23 +71,26 @@ read-bound held mid left old cur new taken count h free m =
       h.goes.max,
     )
 
-pub read-part : (held mid left : Option (List ℕ)) (old cur new : Reception) (taken : ℕ) → HasRead held mid old cur taken
+-- where the source fails, what was read before that was taken, and is counted
+pub read-part : (held mid left : Option (List ℕ)) (old cur new : Taking) (taken : ℕ) → HasRead held mid old cur taken
     → IsOpen cur → Keeps mid left → new ≡ cur → ReadsPart held left old new taken
 read-part held mid left old cur new taken h free kept same = record {
   read = h.read;
   is = record {
     from = Consumes-kept held mid left h.read h.from kept;
-    taken = λ t g. subst (λ (r : Reception). HasTaken r (t ++ h.read)) (sym same) (h.goes.on free.0 t g);
+    taken = λ t g. subst (λ (r : Taking). HasTaken r (t ++ h.read)) (sym same) (h.goes.on free.0 t g);
   };
   count = h.count;
 }
 
 -- ---- at the end
 
+-- what the receiver says at the end, as the answer of the call that reads
 abbrev pub answer_of : Result Unit (Stop ChainReason) → Result Unit ReadRefusal
 answer_of (Ok done) = Ok done
 answer_of (Err stop) = Err (answers.Stop stop)
 
+-- a result that passes this on is that answer
 pub mapped : (said : Result Unit (Stop ChainReason)) (result : Result Unit ReadRefusal)
     → MatchResult said (λ done. result ≡ Ok done) (λ stop. IsErrAnd result (λ refusal. refusal ≡ answers.Stop stop))
     → answer_of said ≡ result
@@ -93,10 +99,10 @@ mapped (Err stop) (Ok done) h = absurd h
 mapped (Err stop) (Err refusal) h = ap Err (sym h)
 
 -- no octets come any more: the receiver takes none, or the source has none
-abbrev pub IsEnded : Option (List ℕ) → Reception → Type 0
+abbrev pub IsEnded : Option (List ℕ) → Taking → Type 0
 IsEnded left new = IsClosed new ⊎ (IsOpen new × IsAtEnd left)
 
-ended-chain : (held left : Option (List ℕ)) (old new : Reception) (taken : ℕ) → HasRead held left old new taken
+ended-chain : (held left : Option (List ℕ)) (old new : Taking) (taken : ℕ) → HasRead held left old new taken
     → new.refusal ≡ None → new.done ≡ true → ReadsChain held left old new
 ended-chain held left old new taken h none done = record {
   read = h.read;
@@ -112,7 +118,7 @@ ended-chain held left old new taken h none done = record {
   kept = none;
 }
 
-ended-short : (held left : Option (List ℕ)) (old new : Reception) (taken p : ℕ) → HasRead held left old new taken
+ended-short : (held left : Option (List ℕ)) (old new : Taking) (taken p : ℕ) → HasRead held left old new taken
     → IsOpen new → IsAtEnd left → p ≡ length new.joined + new.blocks * 4 + length new.under_way
     → ReadsShort held left old new p
 ended-short held left old new taken p h free end place = record {
@@ -137,7 +143,7 @@ ended-short held left old new taken p h free end place = record {
       begun not_yet);
 }
 
-ended-refused : (held left : Option (List ℕ)) (old new : Reception) (taken : ℕ) (refusal : Refusal ChainReason)
+ended-refused : (held left : Option (List ℕ)) (old new : Taking) (taken : ℕ) (refusal : Refusal ChainReason)
     → HasRead held left old new taken → new.refusal ≡ Some refusal → IsOpen old
     → ReadsRefused held left old new refusal.place refusal.reason
 ended-refused held left old new taken refusal h e free = record {
@@ -153,7 +159,7 @@ told : {A : Type 0} (o : Option A) → (o ≡ None) ⊎ ((x : A) × (o ≡ Some 
 told None = inl refl
 told (Some x) = inr (x, refl)
 
-still-open : (old new : Reception) (refusal : Refusal ChainReason) → (IsClosed old → new ≡ old)
+still-open : (old new : Taking) (refusal : Refusal ChainReason) → (IsClosed old → new ≡ old)
     → new.refusal ≡ Some refusal → old.refusal ≡ None → IsOpen old
 still-open old new refusal same e none = (
   none,
@@ -164,7 +170,7 @@ still-open old new refusal same e none = (
 )
 
 -- the answer follows what the receiver says at the end
-pub finished-reads : (held left : Option (List ℕ)) (old new : Reception) (taken : ℕ) → HasRead held left old new taken
+pub finished-reads : (held left : Option (List ℕ)) (old new : Taking) (taken : ℕ) → HasRead held left old new taken
     → IsEnded left new → (IsClosed old → new ≡ old) → (result : Result Unit (Stop ChainReason))
     → IsFinished (IsChain new.ifs new.number new.max) (IsReason new.ifs new.number new.max) HasTaken refusal_of new
     result → OnOk result ((new.refusal ≡ None) × (new.done ≡ true))
@@ -201,6 +207,7 @@ finished-reads held left old new taken h ended same (Err (At p r)) f ok waits =
 all-is : (t held left read : List ℕ) → held ≡ read ++ left → (t ++ read) ++ left ≡ t ++ held
 all-is t held left read e = append_assoc t read left ∙ ap (λ (l : List ℕ). t ++ l) (sym e)
 
+-- where a whole chain was read, all that the source held is accepted up to the end of the chain
 pub all-accepted : (ifs max : ℕ) (number : Number) (t held left read : List ℕ) (v : List (List ℕ)) → held ≡ read ++ left
     → IsChain ifs number max v (t ++ read)
     → Accepts self_ended (IsChain ifs number max) (t ++ held) v (length (t ++ read))
@@ -208,6 +215,7 @@ all-accepted ifs max number t held left read v e h =
     subst (λ (b : List ℕ). Accepts self_ended (IsChain ifs number max) b v (length (t ++ read)))
     (all-is t held left read e) (spelled-accepted (IsChain ifs number max) v (t ++ read) left h)
 
+-- where what was read is short and nothing is left, all that the source held is short
 pub all-short : (ifs max : ℕ) (number : Number) (t held left read : List ℕ) (s : Stop ChainReason) → held ≡ read ++ left
     → left ≡ [] → Refuses self_ended (IsChain ifs number max) (IsReason ifs number max) (t ++ read) s
     → Refuses self_ended (IsChain ifs number max) (IsReason ifs number max) (t ++ held) s
@@ -215,6 +223,7 @@ all-short ifs max number t held left read s e end h =
     let is : held ≡ read = e ∙ ap (λ (l : List ℕ). read ++ l) end ∙ append-nil read in
     subst (λ (l : List ℕ). Refuses self_ended (IsChain ifs number max) (IsReason ifs number max) (t ++ l) s) (sym is) h
 
+-- and where what was read is refused, so is all that the source held
 pub all-refused : (ifs max : ℕ) (number : Number) (t held left read : List ℕ) (s : Stop ChainReason) → held ≡ read
     ++ left → RefusesAt self_ended (IsChain ifs number max) (IsReason ifs number max) (t ++ read) s
     → Refuses self_ended (IsChain ifs number max) (IsReason ifs number max) (t ++ held) s

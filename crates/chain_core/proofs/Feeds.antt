@@ -8,31 +8,34 @@ use Rattle.octet_core.specs.declared.stop.Stop.{Stop}
 use Rattle.octet_core.specs.declared.stop.Stop.TheVariants.{At, Short}
 use Rattle.octet_core.proofs.Lists.{never}
 use Rattle.block_core.specs.declared.pcb.Number.{Number}
-use Rattle.block_core.proofs.Readings.{refuses-append}
+use Rattle.octet_core.proofs.Answered.{refuses-append}
 use Rattle.chain_core.specs.declared.reason.ChainReason.{ChainReason}
-use Rattle.chain_core.specs.Chain.{IsChain, IsReason, link, message_of}
+use Rattle.chain_core.specs.Chain.{IsChain, IsReason, chain_block, message_of}
 use Rattle.block_core.specs.Block as block
 use Rattle.octet_core.proofs.Begun.{begins-front}
 use Rattle.chain_core.proofs.Goes.{chain-begins}
 use Rattle.chain_core.proofs.Unique.{one-spelled}
-use Rattle.chain_core.specs.Taken.{Reception, HasTaken, AreTaken, AreBefore, IsOpen, IsClosed, fresh, refusal_of}
+use Rattle.chain_core.specs.Taking.{Taking, HasTaken, AreTaken, AreBefore, IsOpen, IsClosed, nothing_taken, refusal_of}
 use Rattle.chain_core.specs.Receiving.{Goes, fed_answer, answer_after, end_answer}
 use Rattle.chain_core.specs.Places.{IsFinishedHere}
 use Rattle.chain_core.proofs.Taken.{done-spelled, length-taken}
 use Rattle.chain_core.proofs.Receiving.{not-chain}
 
+-- a truth value is true or false
 pub bool_cases : (d : Bool) → (d ≡ true) ⊎ (d ≡ false)
 bool_cases true = inl refl
 bool_cases false = inr refl
 
+-- equal options with values have the same value
 pub some_is : {A : Type 0} (x y : A) → Some x ≡ Some y → x ≡ y
 some_is x y e = cc
 
+-- no option is empty and has a value
 pub none_some : {P A : Type 0} (o : Option A) (x : A) → o ≡ None → o ≡ Some x → P
 none_some o x e f = absurd (let bad : None ≡ Some x = sym e ∙ f in cc)
 
 -- no octets change nothing
-pub goes-none : (r : Reception) → Goes r r []
+pub goes-none : (r : Taking) → Goes r r []
 goes-none r = record {
   ifs = refl;
   number = refl;
@@ -43,7 +46,7 @@ goes-none r = record {
 }
 
 -- octets and then more
-pub goes-then : (a b c : Reception) (p q : List ℕ) → Goes a b p → IsOpen b → Goes b c q → Goes a c (p ++ q)
+pub goes-then : (a b c : Taking) (p q : List ℕ) → Goes a b p → IsOpen b → Goes b c q → Goes a c (p ++ q)
 goes-then a b c p q f waits g = record {
   ifs = g.ifs ∙ f.ifs;
   number = g.number ∙ f.number;
@@ -64,26 +67,27 @@ goes-then a b c p q f waits g = record {
       (g.before refusal e (t ++ p) (f.on waits.0 t h)));
 }
 
-pub open-not-closed : (r : Reception) → IsOpen r → IsClosed r → ⊥
+-- a receiver that takes more octets neither refused nor has a whole chain
+pub open-not-closed : (r : Taking) → IsOpen r → IsClosed r → ⊥
 open-not-closed r waits (inl some) = never (rw waits.0 at some)
 open-not-closed r waits (inr done) = let bad : true ≡ false = sym done ∙ waits.1 in cc
 
 -- a receiver that isn't done has taken no chain
-pub not-spelled : (r : Reception) (t : List ℕ) → r.done ≡ false → HasTaken r t → (gs : List (List ℕ))
+pub not-spelled : (r : Taking) (t : List ℕ) → r.done ≡ false → HasTaken r t → (gs : List (List ℕ))
     → IsChain r.ifs r.number r.max gs t → ⊥
 not-spelled r t still h gs g =
     let a = subst (λ (d : Bool). AreTaken d r.number h.fields r.under_way t) still h.taken in
     not-chain r.ifs r.max r.number h.fields r.under_way a.0 gs (subst (IsChain r.ifs r.number r.max gs) a.1 g)
 
 -- what a feed knows when it answers
-pub record Fed (old new : Reception) (piece : List ℕ) (n : ℕ) : Type 0 where
+pub record Fed (old new : Taking) (piece : List ℕ) (n : ℕ) : Type 0 where
   pub goes : Goes old new (take n piece)
   pub inside : n ≤ length piece
   pub closed : IsClosed old → (new ≡ old) × (n ≡ 0)
   pub exit : (length piece ≤ n) ⊎ IsClosed new
 
 -- a receiver that took a chain is done
-pub full-done : (r : Reception) (t : List ℕ) (v : List (List ℕ)) → HasTaken r t → IsChain r.ifs r.number r.max v t
+pub full-done : (r : Taking) (t : List ℕ) (v : List (List ℕ)) → HasTaken r t → IsChain r.ifs r.number r.max v t
     → r.done ≡ true
 full-done r t v h s =
     elim (bool_cases r.done) [
@@ -92,7 +96,7 @@ full-done r t v h s =
     ]
 
 -- with its message
-pub chain-taken : (r : Reception) (t : List ℕ) (v : List (List ℕ)) → HasTaken r t → IsChain r.ifs r.number r.max v t
+pub chain-taken : (r : Taking) (t : List ℕ) (v : List (List ℕ)) → HasTaken r t → IsChain r.ifs r.number r.max v t
     → (r.done ≡ true) × (r.joined ≡ message_of v)
 chain-taken r t v h s =
     let done = full-done r t v h s in
@@ -101,18 +105,20 @@ chain-taken r t v h s =
     (done, sym h.joined ∙ ap message_of same.0)
 
 -- and stays as it was
-full-same : (old new : Reception) (piece : List ℕ) (n : ℕ) → Fed old new piece n → (t : List ℕ) (v : List (List ℕ))
+full-same : (old new : Taking) (piece : List ℕ) (n : ℕ) → Fed old new piece n → (t : List ℕ) (v : List (List ℕ))
     → HasTaken old t → IsChain old.ifs old.number old.max v t → (new ≡ old) × (n ≡ 0)
 full-same old new piece n f t v h s = f.closed (inr (full-done old t v h s))
 
-pub chain-at : (old new : Reception) (gs : List (List ℕ)) (t : List ℕ) → new.ifs ≡ old.ifs → new.number ≡ old.number
+-- a chain under the conditions of the new receiver is one under those of the old one, where they are the same
+pub chain-at : (old new : Taking) (gs : List (List ℕ)) (t : List ℕ) → new.ifs ≡ old.ifs → new.number ≡ old.number
     → new.max ≡ old.max → IsChain new.ifs new.number new.max gs t → IsChain old.ifs old.number old.max gs t
 chain-at old new gs t e f g h =
     subst (λ (m : ℕ). IsChain old.ifs old.number m gs t) g
     (subst (λ (n : Number). IsChain old.ifs n new.max gs t) f
     (subst (λ (i : ℕ). IsChain i new.number new.max gs t) e h))
 
-pub fed-on : (old new : Reception) (piece : List ℕ) (n : ℕ) → Fed old new piece n → new.refusal ≡ None
+-- a receiver that refuses nothing answers how many octets it took, and whether the chain is whole
+pub fed-on : (old new : Taking) (piece : List ℕ) (n : ℕ) → Fed old new piece n → new.refusal ≡ None
     → IsFed (IsChain old.ifs old.number old.max) (IsReason old.ifs old.number old.max) HasTaken refusal_of old new piece
     (Ok (n, new.done))
 fed-on old new piece n f none = record {
@@ -137,10 +143,11 @@ fed-on old new piece n f none = record {
       let same = (f.closed (inl (rw e refl))).0 in
       none_some new.refusal refusal none (ap refusal_of same ∙ e);
   full = λ t v h s. let same = full-same old new piece n f t v h s in
-      (λ i. Ok (same.1 i, (ap (λ (r : Reception). r.done) same.0 ∙ full-done old t v h s) i), same.0);
+      (λ i. Ok (same.1 i, (ap (λ (r : Taking). r.done) same.0 ∙ full-done old t v h s) i), same.0);
 }
 
-pub fed-refused : (old new : Reception) (piece : List ℕ) (n : ℕ) (refusal : Refusal ChainReason) → Fed old new piece n
+-- and one that keeps a refusal answers with that
+pub fed-refused : (old new : Taking) (piece : List ℕ) (n : ℕ) (refusal : Refusal ChainReason) → Fed old new piece n
     → new.refusal ≡ Some refusal
     → IsFed (IsChain old.ifs old.number old.max) (IsReason old.ifs old.number old.max) HasTaken refusal_of old new piece
     (Err (At refusal.place refusal.reason))
@@ -164,13 +171,14 @@ fed-refused old new piece n refusal f some = record {
       (ap (λ (x : Refusal ChainReason). Err (At x.place x.reason)) one, same);
 }
 
-fed-by : (old new : Reception) (piece : List ℕ) (n : ℕ) (o : Option (Refusal ChainReason)) → Fed old new piece n
+fed-by : (old new : Taking) (piece : List ℕ) (n : ℕ) (o : Option (Refusal ChainReason)) → Fed old new piece n
     → new.refusal ≡ o → IsFed (IsChain old.ifs old.number old.max) (IsReason old.ifs old.number old.max) HasTaken
     refusal_of old new piece (fed_answer o new.done n)
 fed-by old new piece n None f e = fed-on old new piece n f e
 fed-by old new piece n (Some refusal) f e = fed-refused old new piece n refusal f e
 
-pub fed-answered : (old new : Reception) (piece : List ℕ) (n : ℕ) (result : Result (ℕ × Bool) (Stop ChainReason))
+-- so what it answers by what it keeps is right, of all octets that it may have taken
+pub fed-answered : (old new : Taking) (piece : List ℕ) (n : ℕ) (result : Result (ℕ × Bool) (Stop ChainReason))
     → Fed old new piece n → result ≡ fed_answer new.refusal new.done n
     → IsFed (IsChain old.ifs old.number old.max) (IsReason old.ifs old.number old.max) HasTaken refusal_of old new piece
     result
@@ -179,7 +187,7 @@ fed-answered old new piece n result f e =
     piece) (sym e) (fed-by old new piece n new.refusal f refl)
 
 -- the octets before the refused one, where the piece goes on after those that were taken
-pub before-all : (old new : Reception) (piece : List ℕ) (n : ℕ) (refusal : Refusal ChainReason) → Fed old new piece n
+pub before-all : (old new : Taking) (piece : List ℕ) (n : ℕ) (refusal : Refusal ChainReason) → Fed old new piece n
     → new.refusal ≡ Some refusal → (t : List ℕ) → HasTaken old t
     → AreBefore old.number new.blocks new.joined (take refusal.place (t ++ piece))
 before-all old new piece n refusal f some t h =
@@ -193,7 +201,7 @@ before-all old new piece n refusal f some t h =
 
 -- ---- the end
 
-ended-by : (r : Reception) (o : Option (Refusal ChainReason)) (d : Bool) → r.refusal ≡ o → r.done ≡ d
+ended-by : (r : Taking) (o : Option (Refusal ChainReason)) (d : Bool) → r.refusal ≡ o → r.done ≡ d
     → IsFinishedHere r (answer_after o d (length r.joined + r.blocks * 4 + length r.under_way))
 ended-by r (Some refusal) d e f = record {
   done = tt;
@@ -211,11 +219,13 @@ ended-by r None false e f = record {
   repeated = λ refusal g. none_some r.refusal refusal e g;
 }
 
-pub ended-here : (r : Reception) (result : Result Unit (Stop ChainReason)) → result ≡ end_answer r
+-- and so is what it says at the end
+pub ended-here : (r : Taking) (result : Result Unit (Stop ChainReason)) → result ≡ end_answer r
     → IsFinishedHere r result
 ended-here r result e = subst (IsFinishedHere r) (sym e) (ended-by r r.refusal r.done refl refl)
 
-pub ended-finished : (r : Reception) (result : Result Unit (Stop ChainReason)) → result ≡ end_answer r
+-- which is what a reader says there, where some octets may have been taken
+pub ended-finished : (r : Taking) (result : Result Unit (Stop ChainReason)) → result ≡ end_answer r
     → (r.refusal ≡ None → (t : List ℕ) × HasTaken r t)
     → IsFinished (IsChain r.ifs r.number r.max) (IsReason r.ifs r.number r.max) HasTaken refusal_of r result
 ended-finished r result e some =
@@ -224,10 +234,11 @@ ended-finished r result e some =
 
 -- ---- a new receiver has taken no octets
 
-pub taken-fresh : (ifs : ℕ) (number : Number) (max : ℕ) → HasTaken (fresh ifs number max) []
+-- the empty list begins a chain, and a new receiver has taken it
+pub taken-fresh : (ifs : ℕ) (number : Number) (max : ℕ) → HasTaken (nothing_taken ifs number max) []
 taken-fresh ifs number max = record {
   kept = refl;
-  begun = begins-front (IsChain ifs number max) [] (block.spelling (link number false []))
+  begun = begins-front (IsChain ifs number max) [] (block.spelling (chain_block number false []))
       (chain-begins ifs number max [] false [] (record { sizes = tt; octets = λ i. omega arith }) (omega arith)
       (omega arith) (λ i. omega arith) (omega arith));
   fields = [];

@@ -5,7 +5,7 @@ use Rattle.octet_core.specs.Grammar.{IsFirst}
 use Rattle.block_core.specs.declared.pcb.Number.{Number}
 use Rattle.block_core.specs.declared.pcb.Pcb.TheVariants.{Info}
 use Rattle.block_core.specs.Block.{other, IsInfo}
-use Rattle.block_core.proofs.Blocks.{pcb-back}
+use Rattle.block_core.proofs.Computed.{pcb-back}
 use Rattle.chain_core.specs.declared.reason.ChainReason.{ChainReason}
 use Rattle.chain_core.specs.declared.reason.ChainReason.TheVariants.{BadPcb, NotInfo, BadSequence, TooManyBlocks, BadLen, OverIfs, TooLong, BadLrc}
 use Rattle.chain_core.specs.declared.part.Part as part
@@ -15,6 +15,7 @@ use Rattle.chain_core.specs.Part.{IsHeadFault, IsPcbFault, IsLenFault}
 use Rattle.chain_core.specs.Places.{under_way_of}
 use Rattle.chain_core.proofs.Stuck.{not-other, same-number}
 
+-- the fault of a control octet is the reason, where only block number 131,072 counts as the last
 pub first-pcb : (ifs : ℕ) (number : Number) (max : ℕ) (before : List (List ℕ)) (c : List ℕ) (last : Bool)
     (r : ChainReason) → length c ≡ 2 → (last ≡ true → length before + 1 ≡ 131072)
     → IsPcbFault (number_after number (length before)) last (slice_index c 1) r
@@ -69,6 +70,7 @@ past-pcb ifs number max before c r le h =
       ),
     )
 
+-- the fault of a length is the reason, where room is what is left of the limit of the message
 pub first-len : (ifs : ℕ) (number : Number) (max : ℕ) (before : List (List ℕ)) (c : List ℕ) (room : ℕ) (r : ChainReason)
     → length c ≡ 3 → length (message_of before) ≤ max → room ≡ max - length (message_of before)
     → IsLenFault ifs room (slice_index c 2) r

@@ -11,31 +11,31 @@ use Rattle.octet_core.specs.declared.stop.Stop.TheVariants.{At}
 use Rattle.octet_core.proofs.Begun.{begins-take}
 use Rattle.octet_core.proofs.Firsts.{first_holds}
 use Rattle.chain_core.specs.declared.reason.ChainReason.{ChainReason}
-use Rattle.chain_core.specs.Chain.{IsChain, IsReason, Meets, all_reasons, open_links, octets_of}
-use Rattle.chain_core.specs.Taken.{Reception, HasTaken, AreBefore, IsOpen, refusal_of}
+use Rattle.chain_core.specs.Chain.{IsChain, IsReason, Meets, all_reasons, open_blocks, octets_of}
+use Rattle.chain_core.specs.Taking.{Taking, HasTaken, AreBefore, IsOpen, refusal_of}
 use Rattle.chain_core.specs.Receiving.{Goes}
 use Rattle.chain_core.specs.Reads.{EndsNear}
 use Rattle.chain_core.proofs.Feeds.{some_is, none_some}
-use Rattle.chain_core.proofs.Lengths.{links-length}
+use Rattle.chain_core.proofs.Lengths.{blocks-length}
 use Rattle.chain_core.proofs.Reasons.{part-under, part-meets, part-split, meets-length}
 use Rattle.chain_core.proofs.Receiving.{not-chain}
 use Rattle.chain_core.proofs.Receptions.{open-is}
 
 -- the octets come in the block under way
-pub record IsInside (old : Reception) (piece : List ℕ) : Type 0 where
+pub record IsInside (old : Taking) (piece : List ℕ) : Type 0 where
   pub head : length old.under_way < 3 → length old.under_way + length piece ≤ 3
   pub rest : 3 ≤ length old.under_way → length old.under_way + length piece ≤ slice_index old.under_way 2 + 4
 
 -- ---- the receiver takes them
 
 -- a chain doesn't end before them
-whole-piece : (old : Reception) (piece : List ℕ) (n : ℕ) (t : List ℕ) (gs : List (List ℕ)) → IsOpen old
+whole-piece : (old : Taking) (piece : List ℕ) (n : ℕ) (t : List ℕ) (gs : List (List ℕ)) → IsOpen old
     → IsInside old piece → n ≤ length piece → HasTaken old t → IsChain old.ifs old.number old.max gs (t ++ take n piece)
     → n ≡ length piece
 whole-piece old piece n t gs free inside le h g =
     let c : List ℕ = old.under_way in
     let d : List ℕ = c ++ take n piece in
-    let opened : List ℕ = octets_of (open_links old.number h.fields) in
+    let opened : List ℕ = octets_of (open_blocks old.number h.fields) in
     let is : t ++ take n piece ≡ opened ++ d =
     ap (λ (l : List ℕ). l ++ take n piece) (open-is old t free.1 h) ∙ append_assoc opened c (take n piece) in
     let long : length d ≡ length c + n = omega (arith, length-append c (take n piece), length-take n piece, le) in
@@ -53,7 +53,8 @@ whole-piece old piece n t gs free inside le h g =
       | inr ge ↦ omega arith
     ]
 
-pub fed-goes : (old new : Reception) (piece : List ℕ) (result : Result (ℕ × Bool) (Stop ChainReason)) → IsOpen old
+-- octets of the block under way that are fed to an open receiver are all taken, or refused
+pub fed-goes : (old new : Taking) (piece : List ℕ) (result : Result (ℕ × Bool) (Stop ChainReason)) → IsOpen old
     → IsInside old piece → (t : List ℕ) → HasTaken old t
     → new.ifs ≡ old.ifs → new.number ≡ old.number → new.max ≡ old.max
     → ((refusal : Refusal ChainReason) → new.refusal ≡ Some refusal → (s : List ℕ) → HasTaken old s
@@ -90,7 +91,8 @@ fed-goes old new piece (Err stop) free inside t h ifs-is number-is max-is before
 
 -- ---- where it refuses them
 
-pub refused-near : (old new : Reception) (piece : List ℕ) (refusal : Refusal ChainReason) → IsOpen old
+-- what came ends with the refused octet, or within the first three of its block
+pub refused-near : (old new : Taking) (piece : List ℕ) (refusal : Refusal ChainReason) → IsOpen old
     → IsInside old piece → Goes old new piece → new.refusal ≡ Some refusal → (t : List ℕ) → HasTaken old t
     → EndsNear old.number (t ++ piece) refusal.place
 refused-near old new piece refusal free inside goes e t h =
@@ -99,7 +101,7 @@ refused-near old new piece refusal free inside goes e t h =
     let d : List ℕ = c ++ piece in
     let b : List ℕ = t ++ piece in
     let p : ℕ = refusal.place in
-    let opened : List ℕ = octets_of (open_links old.number h.fields) in
+    let opened : List ℕ = octets_of (open_blocks old.number h.fields) in
     let t-is : t ≡ opened ++ c = open-is old t free.1 h in
     let b-is : b ≡ opened ++ d = ap (λ (l : List ℕ). l ++ piece) t-is ∙ append_assoc opened c piece in
     let refused = goes.refused refusal e t h in
@@ -156,14 +158,14 @@ refused-near old new piece refusal free inside goes e t h =
 -- ---- how many there can be
 
 -- what begins a chain is no longer than the longest chain
-pub taken-most : (r : Reception) (t : List ℕ) → HasTaken r t → length t ≤ r.max + 524288
+pub taken-most : (r : Taking) (t : List ℕ) → HasTaken r t → length t ≤ r.max + 524288
 taken-most r t h =
     let g = h.begun.2 in
     omega (
       arith,
       ap length g.is,
       length-append t h.begun.1,
-      links-length r.number h.begun.0,
+      blocks-length r.number h.begun.0,
       g.proper.fits,
       g.proper.few,
     )

@@ -7,17 +7,18 @@ use Rattle.octet_core.proofs.Lists.{nil_of}
 use Rattle.octet_core.proofs.Firsts.{IsFirst-alike}
 use Rattle.block_core.specs.declared.pcb.Number.{Number}
 use Rattle.block_core.specs.Block as block
-use Rattle.block_core.specs.Block.{other, Parts, pcb_octet, front_of}
+use Rattle.block_core.specs.Block.{other, Parts}
 use Rattle.block_core.proofs.Blocks.{spelling-len, spelling-xor}
 use Rattle.chain_core.specs.declared.reason.ChainReason.{ChainReason}
 use Rattle.chain_core.specs.declared.reason.ChainReason.TheVariants.{BadLrc}
-use Rattle.chain_core.specs.Chain.{link, open_links, octets_of, MeetsInBlock, Meets, IsReason, all_reasons}
-use Rattle.chain_core.proofs.Unique.{link-split}
+use Rattle.chain_core.specs.Chain.{chain_block, open_blocks, octets_of, MeetsInBlock, Meets, IsReason, all_reasons}
+use Rattle.chain_core.proofs.Unique.{block-split}
 
 -- the octets begin with no whole block
 pub IsPart : List ℕ → Type 0
 IsPart c = (b : Parts) (s : List ℕ) → c ≡ block.spelling b ++ s → ⊥
 
+-- three octets or fewer begin with no whole block
 pub part-short : (c : List ℕ) → length c ≤ 3 → IsPart c
 unfolding IsPart
 part-short c le b s e = omega (arith, ap length e, length-append (block.spelling b) s, spelling-len b)
@@ -37,6 +38,7 @@ part-under c lt b s e = omega (
   len-at b s,
 )
 
+-- nor do as many as LEN tells, where their check sum is wrong
 pub part-sum : (c : List ℕ) → length c ≡ slice_index c 2 + 4 → xor_of c ≢ 0 → IsPart c
 unfolding IsPart
 part-sum c len bad b s e =
@@ -55,24 +57,25 @@ part-sum c len bad b s e =
 
 -- octets come apart in one way into whole blocks that go on and a part of a block
 pub part-split : (number : Number) (fs gs : List (List ℕ)) (c d : List ℕ) → IsPart c → IsPart d
-    → octets_of (open_links number fs) ++ c ≡ octets_of (open_links number gs) ++ d → (fs ≡ gs) × (c ≡ d)
+    → octets_of (open_blocks number fs) ++ c ≡ octets_of (open_blocks number gs) ++ d → (fs ≡ gs) × (c ≡ d)
 unfolding IsPart
 part-split number [] [] c d p q e = (refl, e)
 part-split number [] (g ∷ gs) c d p q e =
-    absurd (p (link number true g) (octets_of (open_links (other number) gs) ++ d)
-    (e ∙ append_assoc (block.spelling (link number true g)) (octets_of (open_links (other number) gs)) d))
+    absurd (p (chain_block number true g) (octets_of (open_blocks (other number) gs) ++ d)
+    (e ∙ append_assoc (block.spelling (chain_block number true g)) (octets_of (open_blocks (other number) gs)) d))
 part-split number (f ∷ fs) [] c d p q e =
-    absurd (q (link number true f) (octets_of (open_links (other number) fs) ++ c)
-    (sym e ∙ append_assoc (block.spelling (link number true f)) (octets_of (open_links (other number) fs)) c))
+    absurd (q (chain_block number true f) (octets_of (open_blocks (other number) fs) ++ c)
+    (sym e ∙ append_assoc (block.spelling (chain_block number true f)) (octets_of (open_blocks (other number) fs)) c))
 part-split number (f ∷ fs) (g ∷ gs) c d p q e =
-    let a : List ℕ = block.spelling (link number true f) in
-    let b : List ℕ = block.spelling (link number true g) in
-    let u : List ℕ = octets_of (open_links (other number) fs) in
-    let v : List ℕ = octets_of (open_links (other number) gs) in
-    let h = link-split number true true f g (u ++ c) (v ++ d) (sym (append_assoc a u c) ∙ e ∙ append_assoc b v d) in
+    let a : List ℕ = block.spelling (chain_block number true f) in
+    let b : List ℕ = block.spelling (chain_block number true g) in
+    let u : List ℕ = octets_of (open_blocks (other number) fs) in
+    let v : List ℕ = octets_of (open_blocks (other number) gs) in
+    let h = block-split number true true f g (u ++ c) (v ++ d) (sym (append_assoc a u c) ∙ e ∙ append_assoc b v d) in
     let r = part-split (other number) fs gs c d p q h.2 in
     (λ i. h.1 i ∷ r.0 i, r.1)
 
+-- octets that meet a line of the table begin with no whole block
 pub part-meets : (ifs : ℕ) (number : Number) (max : ℕ) (fields : List (List ℕ)) (c : List ℕ) (r : ChainReason)
     → MeetsInBlock ifs number max fields c r → IsPart c
 part-meets ifs number max fields c BadLrc h = part-sum c h.0 h.1
@@ -86,7 +89,7 @@ meets-length ifs number max fields c _ h = inl (omega (arith, h.0))
 
 -- the reason is that of the block under way
 pub reason-in_block : (ifs : ℕ) (number : Number) (max : ℕ) (fields : List (List ℕ)) (c b : List ℕ) (r : ChainReason)
-    → b ≡ octets_of (open_links number fields) ++ c → IsPart c
+    → b ≡ octets_of (open_blocks number fields) ++ c → IsPart c
     → IsFirst all_reasons (MeetsInBlock ifs number max fields c) r → IsReason ifs number max r b
 reason-in_block ifs number max fields c b r is part first =
     IsFirst-alike all_reasons

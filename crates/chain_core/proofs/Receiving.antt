@@ -1,58 +1,52 @@
 -- How a chain gets on while its octets come.
-use Rattle.std.proofs.Common.{◌≡◌, ℕ, ◌+◌, ◌-◌, ◌<◌, ◌≤◌, ◌++◌, List, [], ◌∷◌, length, take, drop, refl, sym, ap, subst, ◌∙◌, arith, true, false, append_assoc, slice_index, inl, inr}
-use Rattle.std.proofs.lemmas.List.{length-append, length-replicate, take-append-le}
+use Rattle.std.proofs.Common.{◌≡◌, ℕ, ◌+◌, ◌-◌, ◌<◌, ◌≤◌, ◌++◌, List, [], ◌∷◌, length, drop, refl, sym, ap, subst, ◌∙◌, arith, true, false, append_assoc, slice_index}
+use Rattle.std.proofs.lemmas.List.{length-append, length-replicate}
 use Rattle.std.proofs.Math.ListN.{replicate}
-use Rattle.std.proofs.Math.Seq.{take-length, take-append_seam}
-use Rattle.std.proofs.lemmas.Bool.{cases_lt}
 use Rattle.std.specs.List.{AllByRecursion}
 use Rattle.octet_core.specs.Octets.{AreOctets, xor_of}
-use Rattle.octet_core.specs.Grammar.{Begins, Accepts, RefusesAt, self_ended}
+use Rattle.octet_core.specs.Grammar.{Begins, RefusesAt, self_ended}
 use Rattle.octet_core.specs.declared.stop.Stop.TheVariants.{At}
-use Rattle.octet_core.proofs.Begun.{spelled-begins}
 use Rattle.octet_core.proofs.Firsts.{first_holds}
 use Rattle.octet_core.specs.Grammar.{IsFirst}
-use Rattle.octet_core.proofs.Lists.{octets-append, octets-left, octets-right}
+use Rattle.octet_core.proofs.Lists.{octets-append, octets-left, octets-right, never, zeros-octets}
+use Rattle.octet_core.proofs.Answered.{refused-next}
 use Rattle.block_core.specs.declared.pcb.Number.{Number}
 use Rattle.block_core.specs.declared.pcb.Pcb.TheVariants.{Info}
 use Rattle.block_core.specs.Block as block
 use Rattle.block_core.specs.Block.{other, pcb_octet, front_of}
 use Rattle.block_core.proofs.Blocks.{spelling-len}
-use Rattle.block_core.proofs.Readings.{short-of}
 use Rattle.chain_core.specs.declared.reason.ChainReason.{ChainReason}
 use Rattle.chain_core.specs.declared.part.Part as part
 use Rattle.chain_core.specs.declared.part.Part.TheVariants as parts
-use Rattle.chain_core.specs.Chain.{IsChain, IsReason, MeetsInBlock, all_reasons, message_of, open_links, octets_of, link, number_after, spelling}
+use Rattle.chain_core.specs.Chain.{IsChain, IsReason, MeetsInBlock, all_reasons, message_of, open_blocks, octets_of, chain_block, number_after, spelling}
 use Rattle.chain_core.specs.Places.{under_way_of, IsUnderWay}
-use Rattle.chain_core.proofs.Unique.{link-split, one-accepted}
-use Rattle.chain_core.proofs.Goes.{Taken, part-begins, zeros-octets}
+use Rattle.chain_core.proofs.Unique.{block-split, one-accepted}
+use Rattle.chain_core.proofs.Goes.{Taken, part-begins}
 use Rattle.chain_core.proofs.Reasons.{IsPart, reason-in_block}
 use Rattle.chain_core.proofs.Stuck.{Next, next-block, meets-stuck}
-
-false-true : {P : Type 0} → false ≡ true → P
-false-true {P} e = cc
 
 -- the whole blocks that begin a chain have what its blocks have
 pub opened-taken : (ifs : ℕ) (number : Number) (fields gs : List (List ℕ)) (s : List ℕ)
     → AllByRecursion (λ f. length f ≤ ifs) gs → AreOctets (message_of gs)
-    → spelling number gs ≡ octets_of (open_links number fields) ++ s → Taken ifs fields
+    → spelling number gs ≡ octets_of (open_blocks number fields) ++ s → Taken ifs fields
 opened-taken ifs number [] gs s sizes octets e = record { sizes = tt; octets = λ i. omega arith }
 opened-taken ifs number (f ∷ fs) [] s sizes octets e =
-    let a : List ℕ = block.spelling (link number true f) in
+    let a : List ℕ = block.spelling (chain_block number true f) in
     absurd (omega (
       arith,
       ap length e,
-      length-append (a ++ octets_of (open_links (other number) fs)) s,
-      length-append a (octets_of (open_links (other number) fs)),
-      spelling-len (link number true f),
+      length-append (a ++ octets_of (open_blocks (other number) fs)) s,
+      length-append a (octets_of (open_blocks (other number) fs)),
+      spelling-len (chain_block number true f),
     ))
 opened-taken ifs number (f ∷ fs) (g ∷ []) s sizes octets e =
-    let a : List ℕ = block.spelling (link number true f) in
-    let u : List ℕ = octets_of (open_links (other number) fs) in
-    false-true (link-split number false true g f [] (u ++ s) (e ∙ append_assoc a u s)).0
+    let a : List ℕ = block.spelling (chain_block number true f) in
+    let u : List ℕ = octets_of (open_blocks (other number) fs) in
+    never (block-split number false true g f [] (u ++ s) (e ∙ append_assoc a u s)).0
 opened-taken ifs number (f ∷ fs) (g ∷ k ∷ gs) s sizes octets e =
-    let a : List ℕ = block.spelling (link number true f) in
-    let u : List ℕ = octets_of (open_links (other number) fs) in
-    let h = link-split number true true g f (spelling (other number) (k ∷ gs)) (u ++ s) (e ∙ append_assoc a u s) in
+    let a : List ℕ = block.spelling (chain_block number true f) in
+    let u : List ℕ = octets_of (open_blocks (other number) fs) in
+    let h = block-split number true true g f (spelling (other number) (k ∷ gs)) (u ++ s) (e ∙ append_assoc a u s) in
     let rest : Taken ifs fs = opened-taken ifs (other number) fs (k ∷ gs) s sizes.1
     (octets-right g (message_of (k ∷ gs)) octets) h.2 in
     record {
@@ -61,11 +55,12 @@ opened-taken ifs number (f ∷ fs) (g ∷ k ∷ gs) s sizes octets e =
           rest.octets;
     }
 
+-- and so have those before the octets of a block under way, where all of them begin a chain
 pub begun-taken : (ifs max : ℕ) (number : Number) (fields : List (List ℕ)) (c t : List ℕ)
-    → t ≡ octets_of (open_links number fields) ++ c → Begins (IsChain ifs number max) t → Taken ifs fields
+    → t ≡ octets_of (open_blocks number fields) ++ c → Begins (IsChain ifs number max) t → Taken ifs fields
 begun-taken ifs max number fields c t is (gs, more, h) =
     opened-taken ifs number fields gs (c ++ more) h.proper.sizes h.proper.octets
-    (sym h.is ∙ ap (λ (l : List ℕ). l ++ more) is ∙ append_assoc (octets_of (open_links number fields)) c more)
+    (sym h.is ∙ ap (λ (l : List ℕ). l ++ more) is ∙ append_assoc (octets_of (open_blocks number fields)) c more)
 
 -- ---- the block under way
 
@@ -84,23 +79,24 @@ pub way-begins : (ifs : ℕ) (number : Number) (max : ℕ) (before : List (List 
     (field : List ℕ) → Taken ifs before → length before + 1 ≤ 131072 → length (message_of before) ≤ max
     → length field ≤ came → IsUnderWay ifs max (length before) (length (message_of before)) came p → AreOctets field
     → Begins (IsChain ifs number max)
-    (octets_of (open_links number before) ++ under_way_of (number_after number (length before)) p field)
+    (octets_of (open_blocks number before) ++ under_way_of (number_after number (length before)) p field)
 way-begins ifs number max before came parts.Nad field taken few fits short h octets =
-    part-begins ifs number max before false [] [] (block.spelling (link (number_after number (length before)) false []))
+    part-begins ifs number max before false [] []
+    (block.spelling (chain_block (number_after number (length before)) false []))
     taken (omega arith) (omega arith) (λ i. omega arith) (omega arith) refl
 way-begins ifs number max before came parts.Pcb field taken few fits short h octets =
     part-begins ifs number max before false [] (0 ∷ [])
-    (drop 1 (block.spelling (link (number_after number (length before)) false []))) taken (omega arith)
+    (drop 1 (block.spelling (chain_block (number_after number (length before)) false []))) taken (omega arith)
     (omega arith) (λ i. omega arith) (omega arith) refl
 way-begins ifs number max before came (parts.Len more) field taken few fits short h octets =
     let own : Number = number_after number (length before) in
     part-begins ifs number max before more [] (0 ∷ pcb_octet (Info own more) ∷ [])
-    (drop 2 (block.spelling (link own more []))) taken h (omega arith) (λ i. omega arith) (omega arith) refl
+    (drop 2 (block.spelling (chain_block own more []))) taken h (omega arith) (λ i. omega arith) (omega arith) refl
 way-begins ifs number max before came (parts.Rest more len) field taken few fits short h octets =
     let own : Number = number_after number (length before) in
     let left : List ℕ = replicate (len - length field) 0 in
     let all : List ℕ = field ++ left in
-    let sum : List ℕ = xor_of (front_of (link own more all)) ∷ [] in
+    let sum : List ℕ = xor_of (front_of (chain_block own more all)) ∷ [] in
     let count : len ≡ length all = omega (
       arith,
       length-append field left,
@@ -116,11 +112,11 @@ way-begins ifs number max before came (parts.Rest more len) field taken few fits
 -- and are none
 pub not-chain : (ifs max : ℕ) (number : Number) (before : List (List ℕ)) (c : List ℕ)
     → (3 < length c → length c < slice_index c 2 + 4) → (gs : List (List ℕ))
-    → IsChain ifs number max gs (octets_of (open_links number before) ++ c) → ⊥
+    → IsChain ifs number max gs (octets_of (open_blocks number before) ++ c) → ⊥
 not-chain ifs max number before c part gs h =
     let n : Next ifs max number before gs c =
     next-block ifs max number before gs c h.proper.some h.proper.sizes (sym h.is) in
-    let own = link (number_after number (length before)) n.more n.field in
+    let own = chain_block (number_after number (length before)) n.more n.field in
     let long : length c ≡ length n.field + 4 + length n.rest =
     omega (arith, ap length n.is, length-append (block.spelling own) n.rest, spelling-len own) in
     let two : slice_index c 2 ≡ length n.field = ap (λ (l : List ℕ). slice_index l 2) n.is in
@@ -128,40 +124,16 @@ not-chain ifs max number before c part gs h =
 
 -- ---- refusals
 
--- the next octet is refused, where a spelling goes on before it and none after it
-pub refused-next : {V R : Type 0} (S : V → List ℕ → Type 0) (Reason : R → List ℕ → Type 0)
-    → ((b : List ℕ) (v w : V) (n m : ℕ) → Accepts self_ended S b v n → Accepts self_ended S b w m → (v ≡ w) × (n ≡ m))
-    → (b : List ℕ) (x : ℕ) (r : R) → Begins S b → ((v : V) → S v b → ⊥) → (Begins S (b ++ x ∷ []) → ⊥)
-    → Reason r (b ++ x ∷ []) → RefusesAt self_ended S Reason (b ++ x ∷ []) (At (length b) r)
-refused-next S Reason one b x r begun not_yet stuck reason =
-    let all : List ℕ = b ++ x ∷ [] in
-    let len : length all ≡ length b + 1 = length-append b (x ∷ []) in
-    let whole : take (length b + 1) all ≡ all = ap (λ (k : ℕ). take k all) (sym len) ∙ take-length all in
-    let front : take (length b) all ≡ b = take-append_seam b (x ∷ []) in (
-      record {
-        none = λ v n a. elim (cases_lt (length b) n) [
-          | inl lt ↦ stuck (subst (Begins S)
-              (ap (λ (k : ℕ). take k all) (let e : n ≡ length b + 1 = omega (arith, len, a.0) in e) ∙ whole)
-              (spelled-begins S v (take n all) a.1))
-          | inr le ↦ (short-of S one b begun not_yet).none v n (le, subst (S v) (take-append-le n b (x ∷ []) le) a.1)
-        ];
-        inside = omega (arith, len);
-        begun = subst (Begins S) (sym front) begun;
-        stuck = λ h. stuck (subst (Begins S) whole h);
-      },
-      subst (Reason r) (sym whole) reason,
-    )
-
 -- the next octet of the block under way
 pub refused-in_block : (ifs max : ℕ) (number : Number) (before : List (List ℕ)) (c : List ℕ) (x : ℕ) (r : ChainReason)
-    → ifs ≤ 254 → Begins (IsChain ifs number max) (octets_of (open_links number before) ++ c)
+    → ifs ≤ 254 → Begins (IsChain ifs number max) (octets_of (open_blocks number before) ++ c)
     → (3 < length c → length c < slice_index c 2 + 4) → IsPart (c ++ x ∷ [])
     → IsFirst all_reasons (MeetsInBlock ifs number max before (c ++ x ∷ [])) r
     → RefusesAt self_ended (IsChain ifs number max) (IsReason ifs number max)
-    ((octets_of (open_links number before) ++ c) ++ x ∷ [])
-    (At (length (octets_of (open_links number before) ++ c)) r)
+    ((octets_of (open_blocks number before) ++ c) ++ x ∷ [])
+    (At (length (octets_of (open_blocks number before) ++ c)) r)
 refused-in_block ifs max number before c x r small begun under part first =
-    let opened : List ℕ = octets_of (open_links number before) in
+    let opened : List ℕ = octets_of (open_blocks number before) in
     let parts_is : (opened ++ c) ++ x ∷ [] ≡ opened ++ (c ++ x ∷ []) = append_assoc opened c (x ∷ []) in
     refused-next (IsChain ifs number max) (IsReason ifs number max) (one-accepted ifs ifs max max number) (opened ++ c)
     x r begun (not-chain ifs max number before c under)

@@ -10,9 +10,9 @@ use Rattle.block_core.specs.Block as block
 use Rattle.block_core.specs.Block.{other}
 use Rattle.chain_core.specs.declared.reason.ChainReason.{ChainReason}
 use Rattle.chain_core.specs.declared.part.Part as part
-use Rattle.chain_core.specs.Chain.{IsChain, IsReason, MeetsInBlock, all_reasons, message_of, open_links, octets_of, link, number_after}
+use Rattle.chain_core.specs.Chain.{IsChain, IsReason, MeetsInBlock, all_reasons, message_of, open_blocks, octets_of, chain_block, number_after}
 use Rattle.chain_core.specs.Part.{more_count}
-use Rattle.chain_core.specs.Taken.{Reception, HasTaken, AreTaken, IsOpen}
+use Rattle.chain_core.specs.Taking.{Taking, HasTaken, AreTaken, IsOpen}
 use Rattle.chain_core.specs.Receiving.{Goes}
 use Rattle.chain_core.specs.Places.{under_way_of, IsUnderWay}
 use Rattle.chain_core.proofs.Goes.{chain-begins, spelling-mid, message-append, count-append}
@@ -22,16 +22,17 @@ use Rattle.chain_core.proofs.Feeds.{some_is, none_some}
 use Rattle.chain_core.proofs.Taken.{length-taken}
 
 -- what a receiver under way has taken
-under-way : (r : Reception) (t : List ℕ) → r.done ≡ false → (h : HasTaken r t)
+under-way : (r : Taking) (t : List ℕ) → r.done ≡ false → (h : HasTaken r t)
     → AreTaken false r.number h.fields r.under_way t
 under-way r t still h = subst (λ (d : Bool). AreTaken d r.number h.fields r.under_way t) still h.taken
 
-pub open-is : (r : Reception) (t : List ℕ) → r.done ≡ false → (h : HasTaken r t)
-    → t ≡ octets_of (open_links r.number h.fields) ++ r.under_way
+-- these are its whole blocks, and then the octets of the block under way
+pub open-is : (r : Taking) (t : List ℕ) → r.done ≡ false → (h : HasTaken r t)
+    → t ≡ octets_of (open_blocks r.number h.fields) ++ r.under_way
 open-is r t still h = (under-way r t still h).1
 
 -- more octets of the block under way
-pub more-goes : (r : Reception) (came : ℕ) (p : part.Part) (field xs : List ℕ) → IsOpen r → length field ≤ came
+pub more-goes : (r : Taking) (came : ℕ) (p : part.Part) (field xs : List ℕ) → IsOpen r → length field ≤ came
     → IsUnderWay r.ifs r.max r.blocks (length r.joined) came p → r.blocks + 1 ≤ 131072 → length r.joined ≤ r.max
     → AreOctets field
     → under_way_of (number_after r.number r.blocks) p field ≡ r.under_way ++ xs
@@ -44,7 +45,7 @@ more-goes r came p field xs free short way few fits octets e =
       number = refl;
       max = refl;
       on = λ none t g.
-          let opened : List ℕ = octets_of (open_links r.number g.fields) in
+          let opened : List ℕ = octets_of (open_blocks r.number g.fields) in
           let t-is : t ≡ opened ++ r.under_way = open-is r t free.1 g in
           let all : t ++ xs ≡ opened ++ c =
           ap (λ (l : List ℕ). l ++ xs) t-is ∙ append_assoc opened r.under_way xs
@@ -74,7 +75,7 @@ more-goes r came p field xs free short way few fits octets e =
     }
 
 -- an octet of it that is refused
-pub refused-goes : (r : Reception) (x place : ℕ) (reason : ChainReason) → IsOpen r → r.ifs ≤ 254
+pub refused-goes : (r : Taking) (x place : ℕ) (reason : ChainReason) → IsOpen r → r.ifs ≤ 254
     → IsPart (r.under_way ++ x ∷ []) → place ≡ length r.joined + 4 * r.blocks + length r.under_way
     → ((before : List (List ℕ)) → length before ≡ r.blocks → message_of before ≡ r.joined
     → IsFirst all_reasons (MeetsInBlock r.ifs r.number r.max before (r.under_way ++ x ∷ [])) reason)
@@ -91,7 +92,7 @@ refused-goes r x place reason free most part place-is first =
       on = λ none. absurd (let bad : Some now ≡ None = none in cc);
       refused = λ refusal e t g.
           let own = under-way r t free.1 g in
-          let begun : Begins (IsChain r.ifs r.number r.max) (octets_of (open_links r.number g.fields) ++ r.under_way) =
+          let begun : Begins (IsChain r.ifs r.number r.max) (octets_of (open_blocks r.number g.fields) ++ r.under_way) =
           subst (Begins (IsChain r.ifs r.number r.max)) own.1 g.begun in
           let one = refused-in_block r.ifs r.max r.number g.fields r.under_way x reason most begun own.0 part
           (first g.fields g.blocks g.joined) in
@@ -119,36 +120,37 @@ refused-goes r x place reason free most part place-is first =
 
 -- one block more
 open-mid : (number : Number) (before : List (List ℕ)) (f : List ℕ)
-    → octets_of (open_links number (before ++ f ∷ [])) ≡ octets_of (open_links number before)
-    ++ block.spelling (link (number_after number (length before)) true f)
-open-mid number [] f = append-nil (block.spelling (link number true f))
+    → octets_of (open_blocks number (before ++ f ∷ [])) ≡ octets_of (open_blocks number before)
+    ++ block.spelling (chain_block (number_after number (length before)) true f)
+open-mid number [] f = append-nil (block.spelling (chain_block number true f))
 open-mid number (g ∷ fs) f =
-    let a : List ℕ = block.spelling (link number true g) in
+    let a : List ℕ = block.spelling (chain_block number true g) in
     ap (λ (l : List ℕ). a ++ l) (open-mid (other number) fs f)
-    ∙ sym (append_assoc a (octets_of (open_links (other number) fs))
-    (block.spelling (link (number_after number (length (g ∷ fs))) true f)))
+    ∙ sym (append_assoc a (octets_of (open_blocks (other number) fs))
+    (block.spelling (chain_block (number_after number (length (g ∷ fs))) true f)))
 
 joined-text : (number : Number) (more : Bool) (fields : List (List ℕ)) (inf : List ℕ) (t : List ℕ)
-    → t ≡ octets_of (open_links number fields) ++ block.spelling (link (number_after number (length fields)) more inf)
+    → t ≡ octets_of (open_blocks number fields)
+    ++ block.spelling (chain_block (number_after number (length fields)) more inf)
     → AreTaken (not more) number (fields ++ inf ∷ []) [] t
 joined-text number true fields inf t e = (
   λ lt. absurd (omega arith),
   e ∙ sym (open-mid number fields inf)
-      ∙ sym (append-nil (octets_of (open_links number (fields ++ inf ∷ [])))),
+      ∙ sym (append-nil (octets_of (open_blocks number (fields ++ inf ∷ [])))),
 )
 joined-text number false fields inf t e = (
   omega (arith, count-append fields (inf ∷ [])),
   refl,
   e
-      ∙ ap (λ (l : List ℕ). octets_of (open_links number fields) ++ l)
-      (sym (append-nil (block.spelling (link (number_after number (length fields)) false inf))))
+      ∙ ap (λ (l : List ℕ). octets_of (open_blocks number fields) ++ l)
+      (sym (append-nil (block.spelling (chain_block (number_after number (length fields)) false inf))))
       ∙ sym (spelling-mid number fields inf []),
 )
 
 -- the LRC of a block, whose field then joins the message
-pub joined-goes : (r : Reception) (more : Bool) (field xs : List ℕ) → IsOpen r → length field ≤ r.ifs → AreOctets field
+pub joined-goes : (r : Taking) (more : Bool) (field xs : List ℕ) → IsOpen r → length field ≤ r.ifs → AreOctets field
     → r.blocks + 1 + more_count more ≤ 131072 → length r.joined + length field ≤ r.max
-    → r.under_way ++ xs ≡ block.spelling (link (number_after r.number r.blocks) more field)
+    → r.under_way ++ xs ≡ block.spelling (chain_block (number_after r.number r.blocks) more field)
     → Goes r (record r { blocks = r.blocks + 1; joined = r.joined ++ field; under_way = []; done = not more }) xs
 joined-goes r more field xs free size octets few fits e = record {
   ifs = refl;
@@ -156,11 +158,11 @@ joined-goes r more field xs free size octets few fits e = record {
   max = refl;
   on = λ none t g.
       let fields : List (List ℕ) = g.fields in
-      let opened : List ℕ = octets_of (open_links r.number fields) in
+      let opened : List ℕ = octets_of (open_blocks r.number fields) in
       let t-is : t ≡ opened ++ r.under_way = open-is r t free.1 g in
-      let text : t ++ xs ≡ opened ++ block.spelling (link (number_after r.number (length fields)) more field) =
+      let text : t ++ xs ≡ opened ++ block.spelling (chain_block (number_after r.number (length fields)) more field) =
       ap (λ (l : List ℕ). l ++ xs) t-is ∙ append_assoc opened r.under_way xs ∙ ap (λ (l : List ℕ). opened ++ l) e
-      ∙ ap (λ (n : ℕ). opened ++ block.spelling (link (number_after r.number n) more field)) (sym g.blocks) in
+      ∙ ap (λ (n : ℕ). opened ++ block.spelling (chain_block (number_after r.number n) more field)) (sym g.blocks) in
       record {
         kept = free.0;
         begun = subst (Begins (IsChain r.ifs r.number r.max)) (sym text)

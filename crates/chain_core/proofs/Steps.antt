@@ -21,9 +21,9 @@ use Rattle.chain_core.specs.declared.reason.ChainReason.TheVariants.{BadLrc}
 use Rattle.chain_core.specs.declared.part.Part as part
 use Rattle.chain_core.specs.declared.part.Part.TheVariants as parts
 use Rattle.chain_core.specs.declared.places.ReceiverPlaces.{ReceiverPlaces}
-use Rattle.chain_core.specs.Chain.{MeetsInBlock, all_reasons, link, number_after, message_of}
+use Rattle.chain_core.specs.Chain.{MeetsInBlock, all_reasons, chain_block, number_after, message_of}
 use Rattle.chain_core.specs.Part.{IsHead, IsHeadFault, IsAfter, more_count, place_of, came_of, left_of}
-use Rattle.chain_core.specs.Taken.{Reception, HasTaken, fresh}
+use Rattle.chain_core.specs.Taking.{Taking, HasTaken, nothing_taken}
 use Rattle.chain_core.specs.Receiving.{Goes}
 use Rattle.chain_core.specs.Places.{under_way_of, number_at, field_at, held_at, received_at, IsUnderWay, IsAmong, AreReceiverPlaces, IsReceiver}
 use Rattle.chain_core.proofs.Feeds.{taken-fresh}
@@ -33,6 +33,7 @@ use Rattle.chain_core.proofs.Receptions.{more-goes, refused-goes, joined-goes}
 
 -- ---- the octets that are kept
 
+-- a receiver whose chain isn't whole has a block under way that may come
 pub way-of : (p : ReceiverPlaces) (room : ℕ) → AreReceiverPlaces p room → p.done ≡ false → IsAmong false p
 way-of p room fit still = subst (λ (d : Bool). IsAmong d p) still fit.among
 
@@ -76,6 +77,7 @@ counted true last blocks few some h = omega (arith, few (h refl))
 abbrev pub IsNext : ReceiverPlaces → ℕ → part.Part → Type 0
 IsNext p x next = IsAfter (number_at p) (nat_eq (p.blocks + 1) 131072) p.ifs (p.max - p.joined) p.part x next
 
+-- and what such an octet is refused for
 abbrev pub IsOff : ReceiverPlaces → ℕ → ChainReason → Type 0
 IsOff p x reason = IsHeadFault (number_at p) (nat_eq (p.blocks + 1) 131072) p.ifs (p.max - p.joined) p.part x reason
 
@@ -125,10 +127,12 @@ head-came parts.Pcb came h = refl
 head-came (parts.Len more) came h = refl
 head-came (parts.Rest more len) came h = absurd h
 
+-- such an octet puts nothing into the buffer
 pub head-held : (p : ReceiverPlaces) (next : part.Part) → IsHead p.part
     → held_at (record p { part = next; came = 0 }) ≡ held_at p
 head-held p next head = omega (arith, none-came next, head-came p.part p.came head)
 
+-- a receiver takes such an octet, and goes on to what comes after it
 pub head-on : (p : ReceiverPlaces) (next : part.Part) (x room : ℕ) (m : List ℕ) → AreReceiverPlaces p room
     → held_at p ≤ length m → p.refusal ≡ None → p.done ≡ false → IsNext p x next
     → Goes (received_at p m) (received_at (record p { part = next; came = 0 }) m) (x ∷ [])
@@ -158,6 +162,7 @@ fit-with p next came refusal room more fit grows among = record {
   among = among;
 }
 
+-- and its places stay those of a receiver
 pub head-fit : (p : ReceiverPlaces) (next : part.Part) (x room : ℕ) → p.done ≡ false → IsNext p x next
     → AreReceiverPlaces p room → AreReceiverPlaces (record p { part = next; came = 0 }) room
 head-fit p next x room still after fit =
@@ -167,6 +172,7 @@ head-fit p next x room still after fit =
     fit-with p next 0 p.refusal room room fit (omega arith)
     (subst (λ (d : Bool). IsAmong d (record p { part = next; came = 0 })) (sym still) (way.0, next-way))
 
+-- such an octet is refused at its place, for what is wrong with it
 pub head-off : (p : ReceiverPlaces) (x room : ℕ) (reason : ChainReason) (m : List ℕ) → AreReceiverPlaces p room
     → held_at p ≤ length m → p.refusal ≡ None → p.done ≡ false → IsHead p.part
     → IsOff p x reason
@@ -197,6 +203,7 @@ among-kept : (done : Bool) (p : ReceiverPlaces) (refusal : Refusal ChainReason) 
 among-kept true p refusal h = h
 among-kept false p refusal h = h
 
+-- places that keep a refusal stay those of a receiver
 pub kept-fit : (p : ReceiverPlaces) (refusal : Refusal ChainReason) (room : ℕ) → AreReceiverPlaces p room
     → AreReceiverPlaces (record p { refusal = Some refusal }) room
 kept-fit p refusal room fit =
@@ -218,6 +225,7 @@ more-way ifs max blocks joined came run parts.Pcb some le h = absurd (omega arit
 more-way ifs max blocks joined came run (parts.Len more) some le h = absurd (omega arith)
 more-way ifs max blocks joined came run (parts.Rest more len) some le h = (h.0, h.1, h.2, omega (arith, le, some))
 
+-- while octets of the field come the places stay those of a receiver, in a buffer that has no less room
 pub field-fit : (p : ReceiverPlaces) (run room more : ℕ) → p.done ≡ false → 0 < left_of p.part p.came
     → run ≤ left_of p.part p.came → room ≤ more → AreReceiverPlaces p room
     → AreReceiverPlaces (record p { came = p.came + run }) more
@@ -255,13 +263,14 @@ field-text n k m m' xs inside e =
     ∙ drop-append-le n (take (n + k) m) xs (omega (arith, length-take (n + k) m, inside))
     ∙ ap (λ (l : List ℕ). l ++ xs) (drop-take n k m)
 
+-- a receiver takes octets of the field, where they come after those before them in the buffer
 pub field-on : (p : ReceiverPlaces) (room : ℕ) (m m' xs : List ℕ) → AreOctets m' → AreReceiverPlaces p room
     → p.joined + p.came ≤ length m → p.refusal ≡ None → p.done ≡ false → 0 < left_of p.part p.came
     → length xs ≤ left_of p.part p.came
     → take (p.joined + p.came + length xs) m' ≡ take (p.joined + p.came) m ++ xs
     → Goes (received_at p m) (received_at (record p { came = p.came + length xs }) m') xs
 field-on p room m m' xs all fit inside none still some le text =
-    let r : Reception = received_at p m in
+    let r : Taking = received_at p m in
     let field : List ℕ = take (p.came + length xs) (drop p.joined m') in
     let way = way-of p room fit still in
     let long = joined-len p m (omega (arith, inside)) in
@@ -279,9 +288,11 @@ field-on p room m m' xs all fit inside none still some le text =
 
 -- ---- the LRC
 
+-- the places where the whole field has come, and the LRC comes next
 abbrev pub with_rest : ReceiverPlaces → Bool → ℕ → ReceiverPlaces
 with_rest p more len = record p { part = parts.Rest more len; came = len }
 
+-- the places after the LRC: the field is joined to the message, and the chain is whole where no more follow
 abbrev pub closed_at : ReceiverPlaces → Bool → ℕ → ReceiverPlaces
 closed_at p more len = record p {
   joined = p.joined + len;
@@ -314,17 +325,18 @@ front-sum p more number len pcb a b m own is head field =
 pub sum-off : (front : List ℕ) (x : ℕ) → xor_of front ≢ x → xor_of (front ++ x ∷ []) ≢ 0
 sum-off front x ne = λ e. ne (sym (xor-zero (xor_of front) x (sym (fold-append bit_xor 0 front (x ∷ [])) ∙ e)))
 
+-- the exclusive-or of the octets before it closes the block
 pub lrc-on : (p : ReceiverPlaces) (more : Bool) (len x room : ℕ) (m : List ℕ) → AreOctets m
     → AreReceiverPlaces (with_rest p more len) room → p.joined + len ≤ length m → p.refusal ≡ None → p.done ≡ false
     → x ≡ xor_of (front_at p more len m)
     → Goes (received_at (with_rest p more len) m) (received_at (closed_at p more len) m) (x ∷ [])
 lrc-on p more len x room m all fit inside none still sum =
-    let r : Reception = received_at (with_rest p more len) m in
+    let r : Taking = received_at (with_rest p more len) m in
     let way = way-of (with_rest p more len) room fit still in
     let field : List ℕ = take len (drop p.joined m) in
     let len-is : length field ≡ len = field-len p len m inside in
     let long = joined-len p m (omega (arith, inside)) in
-    let spelled : r.under_way ++ x ∷ [] ≡ block.spelling (link (number_at p) more field) =
+    let spelled : r.under_way ++ x ∷ [] ≡ block.spelling (chain_block (number_at p) more field) =
     ap (λ (y : ℕ). front_at p more len m ++ y ∷ []) sum
     ∙ ap (λ (k : ℕ). (0 ∷ pcb_octet (Info (number_at p) more) ∷ k ∷ field)
     ++ xor_of (0 ∷ pcb_octet (Info (number_at p) more) ∷ k ∷ field) ∷ []) (sym len-is) in
@@ -339,6 +351,7 @@ among-closed : (p : ReceiverPlaces) (more : Bool) (len : ℕ) → p.blocks + 1 +
 among-closed p true len few = (omega (arith, few), tt)
 among-closed p false len few = refl
 
+-- and the places stay those of a receiver
 pub closed-fit : (p : ReceiverPlaces) (more : Bool) (len room : ℕ) → p.done ≡ false
     → AreReceiverPlaces (with_rest p more len) room → AreReceiverPlaces (closed_at p more len) room
 closed-fit p more len room still fit =
@@ -353,6 +366,7 @@ closed-fit p more len room still fit =
       among = among-closed p more len way.1.0;
     }
 
+-- an LRC with which the sum isn't 0 is refused, at its place
 pub lrc-off : (p : ReceiverPlaces) (more : Bool) (len x room : ℕ) (m : List ℕ)
     → AreReceiverPlaces (with_rest p more len) room → p.joined + len ≤ length m → p.refusal ≡ None → p.done ≡ false
     → xor_of (front_at p more len m ++ x ∷ []) ≢ 0
@@ -414,20 +428,21 @@ way-none number (parts.Rest more len) field came e = absurd (omega (arith, ap le
 
 -- and a new one is one, whose message is empty
 pub receiver-fresh : (p : ReceiverPlaces) (m : List ℕ) (room ifs : ℕ) (number : Number) (max : ℕ)
-    → AreReceiverPlaces p room → m ≡ [] → ((l : List ℕ) → received_at p l ≡ fresh ifs number max) → IsReceiver p m room
+    → AreReceiverPlaces p room → m ≡ [] → ((l : List ℕ) → received_at p l ≡ nothing_taken ifs number max)
+    → IsReceiver p m room
 receiver-fresh p m room ifs number max fit none is =
     let zeros : List ℕ = replicate p.joined 0 in
     let joined : p.joined ≡ 0 = omega (
       arith,
-      ap (λ (r : Reception). length r.joined) (is zeros),
+      ap (λ (r : Taking). length r.joined) (is zeros),
       length-take p.joined zeros,
       length-replicate {A = ℕ} p.joined 0,
     ) in
     let came : came_of p.part p.came ≡ 0 =
-    way-none (number_at p) p.part (field_at p []) p.came (ap (λ (r : Reception). r.under_way) (is [])) in
+    way-none (number_at p) p.part (field_at p []) p.came (ap (λ (r : Taking). r.under_way) (is [])) in
     record {
       fit = fit;
       octets = subst AreOctets (sym none) (λ i. omega arith);
       exact = omega (arith, ap length none, joined, came);
-      taken = λ free. ([], subst (λ (r : Reception). HasTaken r []) (sym (is m)) (taken-fresh ifs number max));
+      taken = λ free. ([], subst (λ (r : Taking). HasTaken r []) (sym (is m)) (taken-fresh ifs number max));
     }

@@ -3,12 +3,12 @@ use Rattle.std.proofs.Common.{◌≡◌, ℕ, ◌+◌, ◌<◌, ◌++◌, List, 
 use Rattle.std.proofs.lemmas.List.{append-nil, length-drop, take-append-drop}
 use Rattle.octet_core.specs.Octets.{xor_of}
 use Rattle.octet_core.specs.Grammar.{Accepts, self_ended}
-use Rattle.octet_core.proofs.Lists.{head_is, tail_is, split_same}
+use Rattle.octet_core.proofs.Lists.{head_is, tail_is, split_same, never}
 use Rattle.block_core.specs.declared.pcb.Number.{Number}
 use Rattle.block_core.specs.declared.pcb.Pcb.TheVariants.{Info}
 use Rattle.block_core.specs.Block as block
-use Rattle.block_core.specs.Block.{other, pcb_octet, number_bit, more_bit, front_of}
-use Rattle.chain_core.specs.Chain.{link, spelling, IsChain}
+use Rattle.block_core.specs.Block.{other, pcb_octet, number_bit, front_of}
+use Rattle.chain_core.specs.Chain.{chain_block, spelling, IsChain}
 
 plain : (number : Number) → pcb_octet (Info number false) ≡ number_bit number 64
 plain number = omega arith
@@ -22,11 +22,12 @@ more-back number false true e = absurd (differ number (sym e ∙ plain number))
 more-back number true false e = absurd (differ number (e ∙ plain number))
 more-back number true true e = refl
 
-pub link-split : (number : Number) (m n : Bool) (f g s t : List ℕ) → block.spelling (link number m f)
-    ++ s ≡ block.spelling (link number n g) ++ t → (m ≡ n) × (f ≡ g) × (s ≡ t)
-link-split number m n f g s t e =
-    let sum_f : ℕ = xor_of (front_of (link number m f)) in
-    let sum_g : ℕ = xor_of (front_of (link number n g)) in
+-- the same octets begin with one block of this number, and go on in one way
+pub block-split : (number : Number) (m n : Bool) (f g s t : List ℕ) → block.spelling (chain_block number m f)
+    ++ s ≡ block.spelling (chain_block number n g) ++ t → (m ≡ n) × (f ≡ g) × (s ≡ t)
+block-split number m n f g s t e =
+    let sum_f : ℕ = xor_of (front_of (chain_block number m f)) in
+    let sum_g : ℕ = xor_of (front_of (chain_block number n g)) in
     let pcb_f : ℕ = pcb_octet (Info number m) in
     let pcb_g : ℕ = pcb_octet (Info number n) in
     let rest_f : List ℕ = (f ++ sum_f ∷ []) ++ s in
@@ -41,38 +42,35 @@ link-split number m n f g s t e =
     (sym (append_assoc f (sum_f ∷ []) s) ∙ three ∙ append_assoc g (sum_g ∷ []) t) in
     (more, fields.0, tail_is sum_f sum_g s t fields.1)
 
-never : {P : Type 0} → false ≡ true → P
-never {P} e = cc
-
 -- what two spellings with what follows them have in common
 pub spelling-split : (number : Number) (fs gs : List (List ℕ)) (s t : List ℕ) → 0 < length fs → 0 < length gs
     → spelling number fs ++ s ≡ spelling number gs ++ t → (fs ≡ gs) × (s ≡ t)
 spelling-split number [] gs s t p q e = absurd (omega arith)
 spelling-split number (f ∷ fs) [] s t p q e = absurd (omega arith)
 spelling-split number (f ∷ []) (g ∷ []) s t p q e =
-    let a : List ℕ = block.spelling (link number false f) in
-    let b : List ℕ = block.spelling (link number false g) in
-    let h = link-split number false false f g s t
+    let a : List ℕ = block.spelling (chain_block number false f) in
+    let b : List ℕ = block.spelling (chain_block number false g) in
+    let h = block-split number false false f g s t
     (ap (λ (l : List ℕ). l ++ s) (sym (append-nil a)) ∙ e ∙ ap (λ (l : List ℕ). l ++ t) (append-nil b)) in
     (ap (λ (x : List ℕ). x ∷ []) h.1, h.2)
 spelling-split number (f ∷ []) (g ∷ k ∷ gs) s t p q e =
-    let a : List ℕ = block.spelling (link number false f) in
-    let b : List ℕ = block.spelling (link number true g) in
+    let a : List ℕ = block.spelling (chain_block number false f) in
+    let b : List ℕ = block.spelling (chain_block number true g) in
     let rest : List ℕ = spelling (other number) (k ∷ gs) in
-    never (link-split number false true f g s (rest ++ t)
+    never (block-split number false true f g s (rest ++ t)
     (ap (λ (l : List ℕ). l ++ s) (sym (append-nil a)) ∙ e ∙ append_assoc b rest t)).0
 spelling-split number (f ∷ k ∷ fs) (g ∷ []) s t p q e =
-    let a : List ℕ = block.spelling (link number true f) in
-    let b : List ℕ = block.spelling (link number false g) in
+    let a : List ℕ = block.spelling (chain_block number true f) in
+    let b : List ℕ = block.spelling (chain_block number false g) in
     let rest : List ℕ = spelling (other number) (k ∷ fs) in
-    never (sym (link-split number true false f g (rest ++ s) t
+    never (sym (block-split number true false f g (rest ++ s) t
     (sym (append_assoc a rest s) ∙ e ∙ ap (λ (l : List ℕ). l ++ t) (append-nil b))).0)
 spelling-split number (f ∷ k ∷ fs) (g ∷ l ∷ gs) s t p q e =
-    let a : List ℕ = block.spelling (link number true f) in
-    let b : List ℕ = block.spelling (link number true g) in
+    let a : List ℕ = block.spelling (chain_block number true f) in
+    let b : List ℕ = block.spelling (chain_block number true g) in
     let rest_f : List ℕ = spelling (other number) (k ∷ fs) in
     let rest_g : List ℕ = spelling (other number) (l ∷ gs) in
-    let h = link-split number true true f g (rest_f ++ s) (rest_g ++ t)
+    let h = block-split number true true f g (rest_f ++ s) (rest_g ++ t)
     (sym (append_assoc a rest_f s) ∙ e ∙ append_assoc b rest_g t) in
     let r = spelling-split (other number) (k ∷ fs) (l ∷ gs) s t (omega arith) (omega arith) h.2 in
     (λ i. h.1 i ∷ r.0 i, r.1)

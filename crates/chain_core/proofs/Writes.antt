@@ -8,14 +8,17 @@ module _ (all p rest : List ℕ) (i : ℕ) (inside : i ≤ length all) (left : d
   pub part-inside : i + length p ≤ length all
   part-inside = omega (arith, length-drop i all, ap length left, length-append p rest)
 
+  -- the first i octets and some of p are the front of all
   pub part-taken : (n : ℕ) → n ≤ length p → take (i + n) all ≡ take i all ++ take n p
   part-taken n le = take-add i n all ∙ ap (λ (l : List ℕ). take i all ++ l)
       (ap (take n) left ∙ take-append-le n p rest le)
 
+  -- and so are the first i and all of p
   pub part-all : take (i + length p) all ≡ take i all ++ p
   part-all = take-add i (length p) all ∙ ap (λ (l : List ℕ). take i all ++ l)
       (ap (take (length p)) left ∙ take-append_seam p rest)
 
+  -- and after these comes the rest
   pub part-left : drop (i + length p) all ≡ rest
   part-left =
       let front : length (take i all) ≡ i = omega (arith, length-take i all) in

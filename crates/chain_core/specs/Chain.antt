@@ -25,19 +25,20 @@ number_after number zero = number
 number_after number (suc n) = number_after (other number) n
 
 -- an I-block of a chain
-abbrev pub link : Number → Bool → List ℕ → Parts
-link number more field = record { nad = 0; pcb = Info number more; inf = field }
+abbrev pub chain_block : Number → Bool → List ℕ → Parts
+chain_block number more field = record { nad = 0; pcb = Info number more; inf = field }
 
 -- a block for each field: their numbers alternate, and all but the last say that more follow
-abbrev pub links : Number → List (List ℕ) → List Parts
-links number [] = []
-links number (field ∷ []) = link number false field ∷ []
-links number (field ∷ next ∷ fields) = link number true field ∷ links (other number) (next ∷ fields)
+abbrev pub chain_blocks : Number → List (List ℕ) → List Parts
+chain_blocks number [] = []
+chain_blocks number (field ∷ []) = chain_block number false field ∷ []
+chain_blocks number (field ∷ next ∷ fields) =
+    chain_block number true field ∷ chain_blocks (other number) (next ∷ fields)
 
 -- a block for each field, where all say that more follow
-abbrev pub open_links : Number → List (List ℕ) → List Parts
-open_links number [] = []
-open_links number (field ∷ fields) = link number true field ∷ open_links (other number) fields
+abbrev pub open_blocks : Number → List (List ℕ) → List Parts
+open_blocks number [] = []
+open_blocks number (field ∷ fields) = chain_block number true field ∷ open_blocks (other number) fields
 
 -- the octets of blocks in a row
 abbrev pub octets_of : List Parts → List ℕ
@@ -45,7 +46,7 @@ octets_of [] = []
 octets_of (b ∷ blocks) = block.spelling b ++ octets_of blocks
 
 abbrev pub spelling : Number → List (List ℕ) → List ℕ
-spelling number fields = octets_of (links number fields)
+spelling number fields = octets_of (chain_blocks number fields)
 
 -- the message that the fields carry
 abbrev pub message_of : List (List ℕ) → List ℕ
@@ -82,7 +83,7 @@ MeetsInBlock ifs number max fields c BadLrc = (length c ≡ slice_index c 2 + 4)
 
 -- the octets b, whole blocks and the first octets of one more, meet this line of the table
 abbrev pub Meets : ℕ → Number → ℕ → List ℕ → ChainReason → Type 0
-Meets ifs number max b r = (fields : List (List ℕ)) × (c : List ℕ) × (b ≡ octets_of (open_links number fields) ++ c)
+Meets ifs number max b r = (fields : List (List ℕ)) × (c : List ℕ) × (b ≡ octets_of (open_blocks number fields) ++ c)
     × MeetsInBlock ifs number max fields c r
 
 -- the lines of the table in their order, octet by octet of a block

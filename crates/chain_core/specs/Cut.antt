@@ -3,7 +3,7 @@ use Rattle.std.specs.Prelude.{◌≡◌, ℕ, zero, suc, ◌-◌, ◌/◌, ◌<�
 use denote.Ref.{Bor}
 use Rattle.block_core.specs.declared.pcb.Number.{Number}
 use Rattle.block_core.specs.Block.{Parts}
-use Rattle.chain_core.specs.Chain.{message_of, link, links}
+use Rattle.chain_core.specs.Chain.{message_of, chain_block, chain_blocks}
 
 -- the first count fields of size octets, and then what is left
 abbrev pub pieces : ℕ → ℕ → List ℕ → List (List ℕ)
@@ -26,10 +26,10 @@ IsCut size [] fields = fields ≡ [] ∷ []
 IsCut size (x ∷ message) fields = (message_of fields ≡ x ∷ message) × IsFull size fields
 
 -- the first block of the chain into which a message is cut
-abbrev pub first_link : ℕ → Number → List ℕ → Parts
-first_link size number message = link number (nat_lt size (length message)) (take size message)
+abbrev pub leading_block : ℕ → Number → List ℕ → Parts
+leading_block size number message = chain_block number (nat_lt size (length message)) (take size message)
 
 -- the blocks of what is left of a message, none where all were given
 abbrev pub blocks_left : ℕ → Number → Option (Bor (List ℕ)) → List Parts
 blocks_left size number None = []
-blocks_left size number (Some rest) = links number (cut_of size rest.now)
+blocks_left size number (Some rest) = chain_blocks number (cut_of size rest.now)

@@ -12,7 +12,7 @@ use Rattle.chain_core.specs.declared.part.Part.TheVariants as parts
 use Rattle.chain_core.specs.declared.places.ReceiverPlaces.{ReceiverPlaces}
 use Rattle.chain_core.specs.Chain.{IsChain, most_blocks, longest_message, number_after}
 use Rattle.chain_core.specs.Part.{more_count, came_of}
-use Rattle.chain_core.specs.Taken.{Reception, HasTaken}
+use Rattle.chain_core.specs.Taking.{Taking, HasTaken}
 use Rattle.chain_core.specs.declared.reason.ChainReason.{ChainReason}
 
 -- the octets of the block under way, by what comes next of it and those of its field that came
@@ -35,7 +35,7 @@ abbrev pub held_at : ReceiverPlaces → ℕ
 held_at p = p.joined + came_of p.part p.came
 
 -- the receiver that they are with this buffer
-abbrev pub received_at : ReceiverPlaces → List ℕ → Reception
+abbrev pub received_at : ReceiverPlaces → List ℕ → Taking
 received_at p message = record {
   ifs = p.ifs;
   number = p.first;
@@ -79,7 +79,7 @@ pub record IsReceiver (p : ReceiverPlaces) (message : List ℕ) (room : ℕ) : T
   pub taken : p.refusal ≡ None → (t : List ℕ) × HasTaken (received_at p message) t
 
 -- What a receiver answers when no more octets come, of all octets that it may have taken.
-pub record IsFinishedHere (r : Reception) (result : Result (Unit {0}) (Stop ChainReason)) : Type 0 where
+pub record IsFinishedHere (r : Taking) (result : Result (Unit {0}) (Stop ChainReason)) : Type 0 where
   pub done : OnOk result ((t : List ℕ) → HasTaken r t → (v : List (List ℕ)) × IsChain r.ifs r.number r.max v t)
   pub short : IfErr result (λ stop. r.refusal ≡ None → (t : List ℕ) → HasTaken r t → (stop ≡ Short (length t))
       × ((v : List (List ℕ)) → IsChain r.ifs r.number r.max v t → ⊥))

@@ -1,22 +1,20 @@
 -- What a call that reads a chain from a source answers, and what it leaves.
 --
 -- held and left are the octets that the source held before and after, where they are known.
-use Rattle.std.specs.Prelude.{◌≡◌, ◌⊎◌, ℕ, ◌+◌, ◌*◌, ◌≤◌, List, ◌++◌, length, take, true, Option, Some, None, Result, Ok, Err}
+use Rattle.std.specs.Prelude.{◌≡◌, ◌⊎◌, ℕ, ◌+◌, ◌≤◌, List, ◌++◌, length, take, true, Option, Some, None, Result, Ok, Err}
 use Rattle.std.specs.Io.KnownBytes.{Consumes, IsAtEnd}
 use Rattle.octet_core.specs.Failures.{HasFailed, next_count}
 use Rattle.octet_core.specs.Grammar.{self_ended, Refuses, RefusesAt}
-use Rattle.octet_core.specs.declared.stop.Refusal.{Refusal}
 use Rattle.octet_core.specs.declared.stop.Stop.TheVariants.{Short, At}
 use Rattle.block_core.specs.declared.pcb.Number.{Number}
-use Rattle.chain_core.specs.Chain.{IsChain, IsReason, longest_message, message_of, open_links, octets_of}
-use Rattle.chain_core.specs.Taken.{Reception, HasTaken, AreBefore, IsOpen}
-use Rattle.chain_core.specs.Receiving.{Goes}
+use Rattle.chain_core.specs.Chain.{IsChain, IsReason, message_of, open_blocks, octets_of}
+use Rattle.chain_core.specs.Taking.{Taking, HasTaken, AreBefore}
 use Rattle.chain_core.specs.declared.reason.ChainReason.{ChainReason}
 use Rattle.chain_core.specs.declared.reading.ReadRefusal.{ReadRefusal}
 use Rattle.chain_core.specs.declared.reading.ReadRefusal.TheVariants.{Read, Stop}
 
 -- the octets read were the first that the source held, and the receiver took them after what it took before
-pub record IsTaken (held left : Option (List ℕ)) (old new : Reception) (read : List ℕ) : Type 0 where
+pub record IsTaken (held left : Option (List ℕ)) (old new : Taking) (read : List ℕ) : Type 0 where
   pub from : Consumes held left read
   pub taken : (t : List ℕ) → HasTaken old t → HasTaken new (t ++ read)
 
@@ -24,12 +22,12 @@ pub record IsTaken (held left : Option (List ℕ)) (old new : Reception) (read :
 pub record EndsNear (number : Number) (b : List ℕ) (p : ℕ) : Type 0 where
   pub fields : List (List ℕ)
   pub part : List ℕ
-  pub is : b ≡ octets_of (open_links number fields) ++ part
-  pub place : length (octets_of (open_links number fields)) ≤ p
+  pub is : b ≡ octets_of (open_blocks number fields) ++ part
+  pub place : length (octets_of (open_blocks number fields)) ≤ p
   pub near : (length part ≤ 3) ⊎ (length b ≡ p + 1)
 
 -- the chain was whole: what it took before and what was read are a chain with the message that it joined, so what is left follows the chain
-pub record ReadsChain (held left : Option (List ℕ)) (old new : Reception) : Type 0 where
+pub record ReadsChain (held left : Option (List ℕ)) (old new : Taking) : Type 0 where
   pub read : List ℕ
   pub is : IsTaken held left old new read
   pub chain : (t : List ℕ) → HasTaken old t → (v : List (List ℕ)) × IsChain old.ifs old.number old.max v (t ++ read)
@@ -38,13 +36,13 @@ pub record ReadsChain (held left : Option (List ℕ)) (old new : Reception) : Ty
   pub kept : new.refusal ≡ None
 
 -- the source failed after so many octets
-pub record ReadsPart (held left : Option (List ℕ)) (old new : Reception) (taken : ℕ) : Type 0 where
+pub record ReadsPart (held left : Option (List ℕ)) (old new : Taking) (taken : ℕ) : Type 0 where
   pub read : List ℕ
   pub is : IsTaken held left old new read
   pub count : length read ≡ taken
 
 -- the source ended before the chain was whole, at this place
-pub record ReadsShort (held left : Option (List ℕ)) (old new : Reception) (p : ℕ) : Type 0 where
+pub record ReadsShort (held left : Option (List ℕ)) (old new : Taking) (p : ℕ) : Type 0 where
   pub read : List ℕ
   pub is : IsTaken held left old new read
   pub end : IsAtEnd left
@@ -53,7 +51,7 @@ pub record ReadsShort (held left : Option (List ℕ)) (old new : Reception) (p :
       (Short p)
 
 -- the chain was refused at this place, and no octet past the first three of its block was read, or past the place itself
-pub record ReadsRefused (held left : Option (List ℕ)) (old new : Reception) (p : ℕ) (r : ChainReason) : Type 0 where
+pub record ReadsRefused (held left : Option (List ℕ)) (old new : Taking) (p : ℕ) (r : ChainReason) : Type 0 where
   pub read : List ℕ
   pub from : Consumes held left read
   pub refused : (t : List ℕ) → HasTaken old t
@@ -64,7 +62,7 @@ pub record ReadsRefused (held left : Option (List ℕ)) (old new : Reception) (p
   pub before : (t : List ℕ) → HasTaken old t → AreBefore old.number new.blocks new.joined (take p (t ++ read))
 
 -- each answer; a refusal that the receiver kept before is repeated
-abbrev pub Reads : Option (List ℕ) → Option (List ℕ) → Reception → Reception → Result Unit ReadRefusal → Type 0
+abbrev pub Reads : Option (List ℕ) → Option (List ℕ) → Taking → Taking → Result Unit ReadRefusal → Type 0
 Reads held left old new (Ok done) = ReadsChain held left old new
 Reads held left old new (Err (Read taken)) = ReadsPart held left old new taken
 Reads held left old new (Err (Stop (Short p))) = ReadsShort held left old new p
@@ -75,33 +73,3 @@ abbrev pub CountsFault : Result Unit ReadRefusal → ℕ → ℕ → Type 0
 CountsFault (Ok done) before after = after ≡ before
 CountsFault (Err (Read taken)) before after = HasFailed before after × (after ≡ next_count before)
 CountsFault (Err (Stop stop)) before after = after ≡ before
-
--- ---- one call of the source
-
--- so many octets came, of the block under way, or none, at the end of the input
-pub record MovesOn (held left : Option (List ℕ)) (old new : Reception) (count : ℕ) : Type 0 where
-  pub piece : List ℕ
-  pub long : length piece ≡ count
-  pub few : count ≤ 255
-  pub from : Consumes held left piece
-  pub goes : Goes old new piece
-  pub end : count ≡ 0 → IsAtEnd left
-  pub still : count ≡ 0 → IsOpen new
-  pub near : (refusal : Refusal ChainReason) → new.refusal ≡ Some refusal → (t : List ℕ) → HasTaken old t
-      → EndsNear old.number (t ++ piece) refusal.place
-  -- some octets were taken before
-  pub before : (t : List ℕ) × HasTaken old t
-  pub limit : old.max ≤ longest_message
-
--- ---- the calls so far
-
--- so many octets were read, which the receiver took, or refused where the source was asked for no more
-pub record HasRead (held left : Option (List ℕ)) (old new : Reception) (taken : ℕ) : Type 0 where
-  pub read : List ℕ
-  pub count : length read ≡ taken
-  pub from : Consumes held left read
-  pub goes : Goes old new read
-  pub near : (refusal : Refusal ChainReason) → new.refusal ≡ Some refusal → IsOpen old → (t : List ℕ) → HasTaken old t
-      → EndsNear old.number (t ++ read) refusal.place
-  -- they are some of those that the receiver has taken
-  pub most : new.refusal ≡ None → taken ≤ length new.joined + new.blocks * 4 + length new.under_way

@@ -5,11 +5,11 @@ use Rattle.octet_core.specs.declared.stop.Refusal.{Refusal}
 use Rattle.octet_core.specs.declared.stop.Stop.{Stop}
 use Rattle.octet_core.specs.declared.stop.Stop.TheVariants.{Short, At}
 use Rattle.chain_core.specs.Chain.{IsChain, IsReason}
-use Rattle.chain_core.specs.Taken.{Reception, HasTaken, AreBefore}
+use Rattle.chain_core.specs.Taking.{Taking, HasTaken, AreBefore}
 use Rattle.chain_core.specs.declared.reason.ChainReason.{ChainReason}
 
 -- how a receiver changes over octets that come: it takes them or refuses
-pub record Goes (old new : Reception) (piece : List ℕ) : Type 0 where
+pub record Goes (old new : Taking) (piece : List ℕ) : Type 0 where
   pub ifs : new.ifs ≡ old.ifs
   pub number : new.number ≡ old.number
   pub max : new.max ≡ old.max
@@ -31,5 +31,5 @@ answer_after (Some refusal) done count = Err (At refusal.place refusal.reason)
 answer_after None true count = Ok tt
 answer_after None false count = Err (Short count)
 
-abbrev pub end_answer : Reception → Result Unit (Stop ChainReason)
+abbrev pub end_answer : Taking → Result Unit (Stop ChainReason)
 end_answer r = answer_after r.refusal r.done (length r.joined + r.blocks * 4 + length r.under_way)

@@ -2,8 +2,8 @@
 
 ghost use Rattle.std.specs.Prelude.{◌≡◌, ◌≤◌, length, drop};
 ghost use Rattle.block_core.specs.Block.{Parts};
-ghost use Rattle.chain_core.specs.Chain.{links};
-ghost use Rattle.chain_core.specs.Cut.{cut_of, first_link};
+ghost use Rattle.chain_core.specs.Chain.{chain_blocks};
+ghost use Rattle.chain_core.specs.Cut.{cut_of, leading_block};
 
 use block_core::{Block, Number};
 use std::fmt::{self, Debug, Formatter, Write};
@@ -16,7 +16,7 @@ pub fn block_at(msg: &[u8], start: usize, ifs: u8, number: Number) -> Block
     requires least { 1 ≤ ifs }
     requires most { ifs ≤ 254 }
     requires start { start ≤ length msg.now }
-    ensures { result ≡ first_link ifs number (drop start msg.now) }
+    ensures { result ≡ leading_block ifs number (drop start msg.now) }
 {
     let rest = &msg[start..];
     let len = rest.len().min(ifs as usize);
@@ -48,7 +48,7 @@ impl<'a> Cut<'a> {
     pub(crate) fn of(msg: &'a [u8], ifs: u8, number: Number) -> Cut<'a>
         requires least { 1 ≤ ifs }
         requires most { ifs ≤ 254 }
-        ensures { result ≡ links number (cut_of ifs msg.now) }
+        ensures { result ≡ chain_blocks number (cut_of ifs msg.now) }
     {
         Cut {
             rest: Some(msg),

@@ -1,7 +1,7 @@
 //! A message cut into the blocks of a chain.
 
 ghost use Rattle.std.specs.Prelude.{◌≡◌, ◌≤◌};
-ghost use Rattle.chain_core.specs.Chain.{links};
+ghost use Rattle.chain_core.specs.Chain.{chain_blocks};
 ghost use Rattle.chain_core.specs.Cut.{cut_of};
 
 use crate::blocks::Cut;
@@ -12,7 +12,7 @@ use block_core::Number;
 pub fn cut(msg: &[u8], ifs: u8, number: Number) -> Cut<'_>
     requires least { 1 ≤ ifs }
     requires most { ifs ≤ 254 }
-    ensures { result ≡ links number (cut_of ifs msg.now) }
+    ensures { result ≡ chain_blocks number (cut_of ifs msg.now) }
 {
     Cut::of(msg, ifs, number)
 }

@@ -8,7 +8,7 @@ ghost use Rattle.chain_core.specs.declared.reason.ChainReason.{ChainReason};
 ghost use Rattle.chain_core.specs.declared.part.Part.TheVariants.{Rest};
 ghost use Rattle.chain_core.specs.Chain.{IsChain, IsReason, most_blocks, longest_message, number_after};
 ghost use Rattle.chain_core.specs.Part.{IsHead, left_of};
-ghost use Rattle.chain_core.specs.Taken.{HasTaken, IsOpen, IsClosed, fresh, refusal_of};
+ghost use Rattle.chain_core.specs.Taking.{HasTaken, IsOpen, IsClosed, nothing_taken, refusal_of};
 ghost use Rattle.chain_core.specs.Receiving.{Goes, fed_answer, end_answer};
 ghost use Rattle.chain_core.specs.Places.{AreReceiverPlaces, IsUnderWay, number_at, field_at, under_way_of, received_at, held_at, IsFinishedHere};
 
@@ -55,7 +55,8 @@ impl ReceiverPlaces {
         requires most { ifs ≤ 254 }
         requires limit { max ≤ longest_message }
         ensures fit { (room : ℕ) → max ≤ room → AreReceiverPlaces result room }
-        ensures fresh { (message : List ℕ) → received_at result message ≡ fresh ifs number max }
+        ensures fresh { (message : List ℕ)
+            → received_at result message ≡ nothing_taken ifs number max }
     {
         ReceiverPlaces {
             ifs,

@@ -5,8 +5,9 @@ ghost use Rattle.std.specs.Io.KnownBytes.{Keeps};
 ghost use Rattle.octet_core.specs.Failures.{next_count};
 ghost use Rattle.octet_core.specs.declared.stop.Refusal.{Refusal};
 ghost use Rattle.chain_core.specs.declared.reason.ChainReason.{ChainReason};
-ghost use Rattle.chain_core.specs.Taken.{IsOpen};
-ghost use Rattle.chain_core.specs.Reads.{Reads, CountsFault, MovesOn};
+ghost use Rattle.chain_core.specs.Taking.{IsOpen};
+ghost use Rattle.chain_core.specs.Reads.{Reads, CountsFault};
+ghost use Rattle.chain_core.specs.Moving.{MovesOn};
 
 use crate::reason::ChainReason;
 use crate::receiver::Receiver;

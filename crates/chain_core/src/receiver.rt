@@ -6,7 +6,7 @@ ghost use Rattle.octet_core.specs.declared.stop.Refusal.{Refusal};
 ghost use Rattle.octet_core.specs.declared.stop.Stop.TheVariants.{Short};
 ghost use Rattle.chain_core.specs.declared.reason.ChainReason.{ChainReason};
 ghost use Rattle.chain_core.specs.Chain.{IsChain, IsReason, longest_message};
-ghost use Rattle.chain_core.specs.Taken.{HasTaken, AreBefore, IsOpen, IsClosed, fresh, refusal_of};
+ghost use Rattle.chain_core.specs.Taking.{HasTaken, AreBefore, IsOpen, IsClosed, nothing_taken, refusal_of};
 ghost use Rattle.chain_core.specs.Receiving.{Goes};
 
 use crate::places::ReceiverPlaces;
@@ -35,10 +35,10 @@ pub struct Receiver {
 
 impl Model for Receiver {
     ghost use Rattle.std.specs.Vec.{vec_capacity};
-    ghost use Rattle.chain_core.specs.Taken.{Reception};
+    ghost use Rattle.chain_core.specs.Taking.{Taking};
     ghost use Rattle.chain_core.specs.Places.{received_at, IsReceiver};
 
-    ghost Value = { Reception };
+    ghost Value = { Taking };
 
     ghost view = { λ r. received_at r.places r.message.items };
 
@@ -53,7 +53,7 @@ impl Receiver {
         requires least { 1 ≤ ifs }
         requires most { ifs ≤ 254 }
         requires limit { max ≤ longest_message }
-        ensures { IfOk result (λ r. r ≡ fresh ifs number max) }
+        ensures { IfOk result (λ r. r ≡ nothing_taken ifs number max) }
     {
         let message = Vec::with_capacity(alloc, max)?;
         let places = ReceiverPlaces::begin(ifs, number, max as u32);
@@ -62,7 +62,7 @@ impl Receiver {
 
     /// Begins anew, with a first block of this number.
     pub fn restart(&mut self, number: Number)
-        ensures { self.new ≡ fresh self.old.ifs number self.old.max }
+        ensures { self.new ≡ nothing_taken self.old.ifs number self.old.max }
     {
         self.places = ReceiverPlaces::begin(self.places.ifs, number, self.places.max);
         self.message.clear();

@@ -1,6 +1,7 @@
 use Rattle.std.proofs.Common.{◌≡◌, ◌+◌, ℕ, arith, refl, sym, subst, inl, inr, ◌∙◌, Option, List}
-use Rattle.chain_core.specs.Taken.{Reception, IsOpen, IsClosed}
-use Rattle.chain_core.specs.Reads.{HasRead, MovesOn, Reads}
+use Rattle.chain_core.specs.Taking.{Taking, IsOpen, IsClosed}
+use Rattle.chain_core.specs.Reads.{Reads}
+use Rattle.chain_core.specs.Moving.{HasRead, MovesOn}
 use Rattle.chain_core.proofs.Feeds.{open-not-closed}
 use Rattle.chain_core.proofs.Ends.{IsEnded, read-none, read-more, read-bound, read-part, finished-reads, answer_of, mapped}
 use Rattle.chain_core.proofs.reading.read_chain.Goals as goal
@@ -46,8 +47,8 @@ returns-in-None-clause-reads g c =
 
 pub returns-clause-reads : goal.returns-clause-reads
 returns-clause-reads g c =
-    let old : Reception = c.args.receiver.now in
-    let new : Reception = c.loop-room-test.receiver in
+    let old : Taking = c.args.receiver.now in
+    let new : Taking = c.loop-room-test.receiver in
     let held : Option (List ℕ) = g.R.Source.remaining c.args.reader.now in
     let left : Option (List ℕ) = g.R.Source.remaining c.loop-room-test.reader in
     let so_far : (taken : ℕ) × HasRead held left old new taken × IsEnded left new × (IsClosed old → new ≡ old) =

@@ -1,6 +1,6 @@
 use Rattle.std.proofs.Common.{◌≡◌, ◌+◌, ◌-◌}
-use Rattle.chain_core.specs.Taken.{IsClosed}
-use Rattle.chain_core.specs.Reads.{HasRead}
+use Rattle.chain_core.specs.Taking.{IsClosed}
+use Rattle.chain_core.specs.Moving.{HasRead}
 use Rattle.chain_core.proofs.reading.read_chain.Given as goal
 
 -- what was read so far, by calls that didn't fail; where the receiver took no more, nothing was

@@ -2,15 +2,15 @@ use Rattle.std.proofs.Common.{◌≡◌, ◌≤◌, ℕ, List, length, take, ari
 use Rattle.std.proofs.lemmas.List.{length-take}
 use Rattle.octet_core.specs.Reader.{IsFed}
 use Rattle.chain_core.specs.Chain.{IsChain, IsReason}
-use Rattle.chain_core.specs.Taken.{Reception, HasTaken, refusal_of}
+use Rattle.chain_core.specs.Taking.{Taking, HasTaken, refusal_of}
 use Rattle.chain_core.specs.Receiving.{Goes}
 use Rattle.chain_core.proofs.Moves.{IsInside, fed-goes, refused-near}
 use Rattle.chain_core.proofs.reading.read_some.Goals as goal
 
 pub returns-in-Ok-clause-moved : goal.returns-in-Ok-clause-moved
 returns-in-Ok-clause-moved g c =
-    let old : Reception = c.args.receiver.now in
-    let new : Reception = c.feed-fed.new.self in
+    let old : Taking = c.args.receiver.now in
+    let new : Taking = c.feed-fed.new.self in
     let piece : List ℕ = take c.in-Ok.count c.read.new.room in
     let long : length piece ≡ c.in-Ok.count = sym c.in-Ok.ensures.bound.1 in
     let fits : c.in-Ok.count ≤ c.wanted.result =

@@ -1,6 +1,7 @@
 use Rattle.std.proofs.Common.{◌∙◌, sym, ap}
 use Rattle.atr_core.specs.declared.reader.Stage.{Stage}
-use Rattle.atr_core.specs.Taking.{Taking, taking_of}
+use Rattle.atr_core.specs.Taking.{Taking}
+use Rattle.atr_core.specs.Stage.{taking_of}
 use Rattle.atr_core.proofs.reader.AtrReader.value.Goals as goal
 
 pub returns-in-Taken-clause-value : goal.returns-in-Taken-clause-value

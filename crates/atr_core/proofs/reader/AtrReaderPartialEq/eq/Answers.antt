@@ -4,7 +4,8 @@ use Rattle.atr_core.specs.declared.reader.Stage.{Stage}
 use Rattle.atr_core.specs.declared.reader.Stage.TheVariants.{Taken}
 use Rattle.atr_core.specs.Partial.{taken_of}
 use Rattle.atr_core.specs.Same.{same_taking}
-use Rattle.atr_core.specs.Taking.{Agrees, Taking, taking_of}
+use Rattle.atr_core.specs.Taking.{Taking}
+use Rattle.atr_core.specs.Stage.{Agrees, taking_of}
 use Rattle.atr_core.proofs.Alike.{taking_decides}
 use Rattle.atr_core.proofs.reader.AtrReaderPartialEq.eq.Goals as goal
 

@@ -2,7 +2,7 @@ use Rattle.std.proofs.Common.{◌≡◌, ◌≤◌, ◌-◌, ◌++◌, ◌∙◌
 use Rattle.std.proofs.lemmas.List.{length-drop, take_rest}
 use Rattle.std.proofs.lemmas.Result.{err_from_is_err_and}
 use Rattle.std.proofs.Math.Seq.{take-add}
-use Rattle.block_core.specs.Reading.{IsOpen, IsClosed}
+use Rattle.block_core.specs.Taking.{IsOpen, IsClosed}
 use Rattle.block_core.proofs.Readings.{Fed, fed-of, fed-answered, open-not-closed}
 use Rattle.block_core.proofs.reader.BlockReader.feed.Goals as goal
 use Rattle.block_core.proofs.reader.BlockReader.feed.Goals.{then-loop-taken-test+else-is_open, else-loop-taken-test}

@@ -1,5 +1,5 @@
 use Rattle.std.proofs.Common.{length, ◌-◌, ◌≡◌, ◌≤◌, ◌++◌, take}
-use Rattle.block_core.specs.Reading.{IsClosed}
+use Rattle.block_core.specs.Taking.{IsClosed}
 use Rattle.block_core.proofs.reader.BlockReader.feed.Given as goal
 
 -- what was taken so far; a reader that took no more is as it was

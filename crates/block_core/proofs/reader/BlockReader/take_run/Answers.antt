@@ -2,7 +2,7 @@ use Rattle.std.proofs.Common.{◌≡◌, ◌++◌, ◌<◌, ◌+◌, ◌∙◌, 
 use Rattle.std.proofs.lemmas.List.{length-append, length-take}
 use Rattle.octet_core.specs.Octets.{AreOctets, xor_of}
 use Rattle.octet_core.proofs.Lists.{octets-append, octets-take}
-use Rattle.block_core.specs.Reading.{IsOpen}
+use Rattle.block_core.specs.Taking.{IsOpen}
 use Rattle.block_core.specs.Stage.{IsAt, tested_len}
 use Rattle.block_core.proofs.Readings.{xor-more}
 use Rattle.block_core.proofs.Stages.{at-more, open-wants}

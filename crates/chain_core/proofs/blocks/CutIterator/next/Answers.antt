@@ -2,7 +2,7 @@ use Rattle.std.proofs.Common.{◌∷◌, [], ◌∙◌, ℕ, List, arith, drop, 
 use Rattle.std.proofs.lemmas.List.{take_rest}
 use Rattle.block_core.specs.Block.{Parts, other}
 use Rattle.block_core.specs.declared.pcb.Number.{Number}
-use Rattle.chain_core.specs.Chain.{links}
+use Rattle.chain_core.specs.Chain.{chain_blocks}
 use Rattle.chain_core.specs.Cut.{cut_of, blocks_left}
 use Rattle.chain_core.proofs.Cuts.{first-short, first-long}
 use Rattle.chain_core.proofs.blocks.CutIterator.next.Goals as goal
@@ -17,10 +17,10 @@ returns-clause-steps c =
     elim c.if-rest-len.branch [
       | then-rest-len w ↦
           before ∙ first-long n ifs rest c.self.invariant.0 w.if-rest-len.true
-          ∙ ap (λ (b : Parts). b ∷ links (other n) (cut_of ifs (drop ifs rest))) (sym c.block_at-block.ensures)
-          ∙ ap (λ (m : Number). c.block_at-block.result ∷ links m (cut_of ifs (drop ifs rest)))
+          ∙ ap (λ (b : Parts). b ∷ chain_blocks (other n) (cut_of ifs (drop ifs rest))) (sym c.block_at-block.ensures)
+          ∙ ap (λ (m : Number). c.block_at-block.result ∷ chain_blocks m (cut_of ifs (drop ifs rest)))
           (sym c.other-self-inside.ensures)
-          ∙ ap (λ (t : List ℕ). c.block_at-block.result ∷ links c.other-self-inside.result (cut_of ifs t))
+          ∙ ap (λ (t : List ℕ). c.block_at-block.result ∷ chain_blocks c.other-self-inside.result (cut_of ifs t))
           (sym (take_rest rest ifs))
           ∙ ap (λ o. c.block_at-block.result ∷ blocks_left ifs c.other-self-inside.result o) (sym w.self-is)
       | else-rest-len w ↦

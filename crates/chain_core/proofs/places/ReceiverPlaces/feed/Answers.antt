@@ -1,7 +1,7 @@
 use Rattle.std.proofs.Common.{◌≡◌, ◌≤◌, ◌-◌, ◌∙◌, ◌⊎◌, inl, inr, ℕ, List, length, take, drop, arith, sym, ap, subst}
 use Rattle.std.proofs.lemmas.List.{length-drop, take_rest}
 use Rattle.std.proofs.Math.Seq.{take-add}
-use Rattle.chain_core.specs.Taken.{Reception, IsOpen, IsClosed}
+use Rattle.chain_core.specs.Taking.{Taking, IsOpen, IsClosed}
 use Rattle.chain_core.specs.Receiving.{Goes}
 use Rattle.chain_core.specs.Places.{received_at}
 use Rattle.chain_core.proofs.Feeds.{Fed, goes-then, open-not-closed, fed-answered}
@@ -11,9 +11,9 @@ use Rattle.chain_core.proofs.places.ReceiverPlaces.feed.Goals.{then-loop-taken-t
 pub loop-taken-preserved : goal.loop-taken-preserved
 loop-taken-preserved c =
     let piece : List ℕ = c.args.piece.now in
-    let old : Reception = received_at c.args.self.now c.args.message.now in
-    let mid : Reception = received_at c.loop-taken.self c.loop-taken.message in
-    let new : Reception = received_at c.take_run-taken.new.self c.take_run-taken.new.message in
+    let old : Taking = received_at c.args.self.now c.args.message.now in
+    let mid : Taking = received_at c.loop-taken.self c.loop-taken.message in
+    let new : Taking = received_at c.take_run-taken.new.self c.take_run-taken.new.message in
     let i : ℕ = c.loop-taken.taken in
     let n : ℕ = c.take_run-taken.result in
     let rest-is : take (length piece - i) (drop i piece) ≡ drop i piece = take_rest piece i in
@@ -32,8 +32,8 @@ loop-taken-preserved c =
 
 pub returns-clause-fed : goal.returns-clause-fed
 returns-clause-fed c =
-    let old : Reception = received_at c.args.self.now c.args.message.now in
-    let new : Reception = received_at c.loop-taken.self c.loop-taken.message in
+    let old : Taking = received_at c.args.self.now c.args.message.now in
+    let new : Taking = received_at c.loop-taken.self c.loop-taken.message in
     let exit : (length c.args.piece.now ≤ c.loop-taken.taken) ⊎ IsClosed new =
     elim c.loop-taken-test.branch [
       | then-loop-taken-test+else-is_open w ↦

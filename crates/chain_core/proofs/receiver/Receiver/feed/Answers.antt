@@ -1,7 +1,7 @@
 use Rattle.std.proofs.Common.{◌≡◌, ◌≤◌, ◌-◌, ◌∙◌, ◌⊎◌, inl, inr, ℕ, List, length, take, drop, arith, sym, ap, subst}
 use Rattle.std.proofs.lemmas.List.{length-drop, take_rest}
 use Rattle.std.proofs.Math.Seq.{take-add}
-use Rattle.chain_core.specs.Taken.{Reception, IsOpen, IsClosed}
+use Rattle.chain_core.specs.Taking.{Taking, IsOpen, IsClosed}
 use Rattle.chain_core.specs.Receiving.{Goes, fed_answer}
 use Rattle.chain_core.proofs.Feeds.{Fed, before-all, goes-then, open-not-closed, fed-answered}
 use Rattle.chain_core.proofs.receiver.Receiver.feed.Goals as goal
@@ -41,7 +41,7 @@ returns-clause-fed c =
       closed = c.loop-taken.invariant.closed;
       exit = exit;
     } in
-    let answer = c.answer.ensures ∙ ap (λ (s : Reception). fed_answer s.refusal s.done c.loop-taken.taken)
+    let answer = c.answer.ensures ∙ ap (λ (s : Taking). fed_answer s.refusal s.done c.loop-taken.taken)
     c.self-2.view_is in
     fed-answered c.args.self.now c.loop-taken.self c.args.piece.now c.loop-taken.taken c.answer.result f answer
 

@@ -1,5 +1,5 @@
 use Rattle.std.proofs.Common.{length, ◌-◌, ◌≡◌, ◌≤◌, take}
-use Rattle.chain_core.specs.Taken.{IsClosed}
+use Rattle.chain_core.specs.Taking.{IsClosed}
 use Rattle.chain_core.specs.Receiving.{Goes}
 use Rattle.chain_core.proofs.receiver.Receiver.feed.Given as goal
 

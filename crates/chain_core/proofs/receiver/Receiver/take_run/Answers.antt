@@ -4,7 +4,7 @@ use Rattle.std.proofs.lemmas.List.{length-take}
 use Rattle.octet_core.specs.Octets.{AreOctets}
 use Rattle.octet_core.proofs.Lists.{octets-take}
 use Rattle.chain_core.specs.Part.{left_of}
-use Rattle.chain_core.specs.Taken.{Reception, IsOpen}
+use Rattle.chain_core.specs.Taking.{Taking, IsOpen}
 use Rattle.chain_core.specs.Receiving.{Goes}
 use Rattle.chain_core.specs.Places.{received_at, IsReceiver}
 use Rattle.chain_core.proofs.Steps.{receiver-kept, receiver-field}
@@ -46,6 +46,6 @@ invariant_of-self-2 c = (field c).1
 
 pub returns-clause-goes : goal.returns-clause-goes
 returns-clause-goes c =
-    let new : Reception = received_at (record c.self.inside.places
+    let new : Taking = received_at (record c.self.inside.places
     { came = c.self.inside.places.came + c.min-run.result }) c.extend_from_slice.new.self.items in
-    subst (λ (s : Reception). Goes s new (take c.min-run.result c.args.piece.now)) c.self.view_is (field c).0
+    subst (λ (s : Taking). Goes s new (take c.min-run.result c.args.piece.now)) c.self.view_is (field c).0

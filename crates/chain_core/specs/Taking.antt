@@ -3,12 +3,12 @@ use Rattle.std.specs.Prelude.{◌≡◌, ℕ, ◌<◌, List, [], ◌++◌, lengt
 use Rattle.octet_core.specs.Grammar.{Begins}
 use Rattle.octet_core.specs.declared.stop.Refusal.{Refusal}
 use Rattle.block_core.specs.declared.pcb.Number.{Number}
-use Rattle.chain_core.specs.Chain.{IsChain, message_of, links, open_links, octets_of}
+use Rattle.chain_core.specs.Chain.{IsChain, message_of, chain_blocks, open_blocks, octets_of}
 use Rattle.chain_core.specs.declared.reason.ChainReason.{ChainReason}
 
 -- what a receiver keeps: its conditions, how many whole blocks it took and what it joined of them,
 -- the octets of the block under way, and the refusal that it repeats
-pub record Reception : Type 0 where
+pub record Taking : Type 0 where
   pub ifs : ℕ
   pub number : Number
   pub max : ℕ
@@ -19,8 +19,8 @@ pub record Reception : Type 0 where
   pub refusal : Option (Refusal ChainReason)
 
 -- a receiver that took nothing
-abbrev pub fresh : ℕ → Number → ℕ → Reception
-fresh ifs number max = record {
+abbrev pub nothing_taken : ℕ → Number → ℕ → Taking
+nothing_taken ifs number max = record {
   ifs = ifs;
   number = number;
   max = max;
@@ -34,12 +34,12 @@ fresh ifs number max = record {
 -- the octets t are whole blocks with these fields, and then the octets c of the block under way:
 -- where the chain is done none, else fewer than its LEN tells
 abbrev pub AreTaken : Bool → Number → List (List ℕ) → List ℕ → List ℕ → Type 0
-AreTaken true number fields c t = (0 < length fields) × (c ≡ []) × (t ≡ octets_of (links number fields))
+AreTaken true number fields c t = (0 < length fields) × (c ≡ []) × (t ≡ octets_of (chain_blocks number fields))
 AreTaken false number fields c t = (3 < length c → length c < slice_index c 2 + 4)
-    × (t ≡ octets_of (open_links number fields) ++ c)
+    × (t ≡ octets_of (open_blocks number fields) ++ c)
 
 -- a receiver that refused nothing may have taken the octets t
-pub record HasTaken (r : Reception) (t : List ℕ) : Type 0 where
+pub record HasTaken (r : Taking) (t : List ℕ) : Type 0 where
   pub kept : r.refusal ≡ None
   pub begun : Begins (IsChain r.ifs r.number r.max) t
   pub fields : List (List ℕ)
@@ -55,13 +55,13 @@ pub record AreBefore (number : Number) (blocks : ℕ) (joined t : List ℕ) : Ty
   pub message : message_of fields ≡ joined
   pub taken : AreTaken false number fields part t
 
-abbrev pub refusal_of : Reception → Option (Refusal ChainReason)
+abbrev pub refusal_of : Taking → Option (Refusal ChainReason)
 refusal_of r = r.refusal
 
 -- it takes more octets
-abbrev pub IsOpen : Reception → Type 0
+abbrev pub IsOpen : Taking → Type 0
 IsOpen r = (r.refusal ≡ None) × (r.done ≡ false)
 
 -- it refused, or has a whole chain
-abbrev pub IsClosed : Reception → Type 0
+abbrev pub IsClosed : Taking → Type 0
 IsClosed r = IsSome r.refusal ⊎ (r.done ≡ true)

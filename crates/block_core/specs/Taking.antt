@@ -7,28 +7,28 @@ use Rattle.block_core.specs.declared.reason.BlockReason.{BlockReason}
 
 -- what a reader keeps: the information size, the octets that it took, and the refusal that it repeats, which is of the
 -- last of them
-pub record Reading : Type 0 where
+pub record Taking : Type 0 where
   pub ifs : ℕ
   pub taken : List ℕ
   pub refusal : Option (Refusal BlockReason)
 
 -- a reader that took nothing
-abbrev pub fresh : ℕ → Reading
-fresh ifs = record { ifs = ifs; taken = []; refusal = None }
+abbrev pub nothing_taken : ℕ → Taking
+nothing_taken ifs = record { ifs = ifs; taken = []; refusal = None }
 
-abbrev pub refusal_of : Reading → Option (Refusal BlockReason)
+abbrev pub refusal_of : Taking → Option (Refusal BlockReason)
 refusal_of r = r.refusal
 
 -- a reader that refused nothing took the octets t, which begin a block
-pub record HasTaken (r : Reading) (t : List ℕ) : Type 0 where
+pub record HasTaken (r : Taking) (t : List ℕ) : Type 0 where
   pub kept : r.refusal ≡ None
   pub is : r.taken ≡ t
   pub begun : Begins (IsBlock r.ifs) t
 
 -- it takes more octets
-abbrev pub IsOpen : Reading → Type 0
+abbrev pub IsOpen : Taking → Type 0
 IsOpen r = (r.refusal ≡ None) × ((v : Parts) → IsBlock r.ifs v r.taken → ⊥)
 
 -- it refused, or has a whole block
-abbrev pub IsClosed : Reading → Type 0
+abbrev pub IsClosed : Taking → Type 0
 IsClosed r = IsSome r.refusal ⊎ ((v : Parts) × IsBlock r.ifs v r.taken)
