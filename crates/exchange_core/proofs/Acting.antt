@@ -134,6 +134,7 @@ loss-is l nothing h = absurd h
 loss-is l (to_card block) h = refl
 loss-is l (to_terminal block) h = refl
 
+-- a call that the terminal takes: its line comes after the one of the last turn
 pub called-acts : (r : Recording) (t : TerminalState) (c : CardState) (line : Line) (turn : TerminalTurn)
     (next : TerminalState)
     → IsRecording r t c → MayCall r.last line → Turns t (terminal_input t line) turn next
@@ -169,6 +170,7 @@ called-acts r t c (FromCard sent arrival) turn next h may turns = absurd may
 called-acts r t c (Moment n) turn next h may turns = absurd may
 called-acts r t c (Note text) turn next h may turns = absurd may
 
+-- and a call of its host that the card takes
 pub replied-acts : (r : Recording) (t : TerminalState) (c : CardState) (line : Line) (turn : CardTurn)
     (next : CardState)
     → IsRecording r t c → MayReply line → card_turn c (card_input c line) ≡ Ok (turn, next)
@@ -289,6 +291,7 @@ terminal-class r t c b taken h e =
     (subst (λ (w : UnderWay). IsTaken (link_of r) w) (way-of r t c (Card (Sends b)) h e)
     (taken longest longest r.ifsc (events_of r.lines) h.octets))
 
+-- a block that the card takes, whole or changed: its line tells the terminal's turn
 pub to-card-acts : (r : Recording) (t : TerminalState) (c : CardState) (b : Parts) (change : Change) (turn : CardTurn)
     (next : CardState)
     → AlwaysTaken tables → IsRecording r t c → r.last ≡ Terminal (Send b)
@@ -322,6 +325,7 @@ to-card-acts r t c b change turn next taken h e turns =
           ∙ card-taken (card_turn l.card (card_takes (came_of change b))) turn next at_link;
     }
 
+-- and one that the terminal takes, whose line tells the card's turn
 pub to-terminal-acts : (r : Recording) (t : TerminalState) (c : CardState) (b : Parts) (change : Change)
     (turn : TerminalTurn) (next : TerminalState)
     → AlwaysTaken tables → IsRecording r t c → r.last ≡ Card (Sends b)
@@ -358,6 +362,7 @@ to-terminal-acts r t c b change turn next taken h e turns =
 
 -- ---- the record that is closed
 
+-- the record with the line of the last turn differs nowhere at either end
 pub closes : (r : Recording) (t : TerminalState) (c : CardState) (which : Side) → IsRecording r t c
     → Replays r.atr (r.lines ++ telling t c r.last) which None
 closes r t c side.Terminal h = record {
@@ -373,12 +378,14 @@ closes r t c side.Card h = record {
       (runs-on card_end r.lines (telling t c r.last) _ _ h.at_card ∙ tells-card t c r.last);
 }
 
+-- and its lines may come in an exchange of version 1
 pub closed-proper : (r : Recording) (t : TerminalState) (c : CardState) → IsRecording r t c
     → are_proper One 0 (r.lines ++ telling t c r.last) ≡ true
 closed-proper r t c h = proper-on r.lines (telling t c r.last) h.proper (proper-told t c r.last)
 
 -- ---- what the calls of the recorder leave
 
+-- the record with these lines and this last turn
 abbrev pub with_lines : Recording → List Line → LastTurn → Recording
 with_lines r lines last = record { atr = r.atr; ifsc = r.ifsc; lines = lines; last = last }
 
@@ -406,6 +413,7 @@ refuses : (r : Recording) (event : Event) (outcome : Result LastTurn EventFault)
     → IfNotMemory fault (recorded r event ≡ Err fault)
 refuses r event outcome fault e h = if-not-memory fault (λ named. refused r event fault (e ∙ named)) h
 
+-- where the terminal refuses a call, the event changes nothing, for the same fault
 pub call-refused : (r : Recording) (t : TerminalState) (c : CardState) (line : Line) (fault : EventFault)
     → IsRecording r t c → MayCall r.last line
     → IfNotMemory fault (terminal_outcome (terminal_turn t (terminal_input t line)) ≡ Err fault)
@@ -432,6 +440,7 @@ call-refused r t c (FromCard sent arrival) fault h may named = absurd may
 call-refused r t c (Moment n) fault h may named = absurd may
 call-refused r t c (Note text) fault h may named = absurd may
 
+-- and where the card refuses a call of its host
 pub reply-refused : (r : Recording) (t : TerminalState) (c : CardState) (line : Line) (fault : EventFault)
     → IsRecording r t c → MayReply line → IfNotMemory fault (card_outcome (card_turn c (card_input c line)) ≡ Err fault)
     → IfNotMemory fault (recorded r (call_event line) ≡ Err fault)
@@ -454,6 +463,7 @@ reply-refused r t c (FromCard sent arrival) fault h may named = absurd may
 reply-refused r t c (Moment n) fault h may named = absurd may
 reply-refused r t c (Note text) fault h may named = absurd may
 
+-- and where the card refuses a block that comes to it
 pub to-card-refused : (r : Recording) (t : TerminalState) (c : CardState) (b : Parts) (change : Change)
     (fault : EventFault)
     → AlwaysTaken tables → IsRecording r t c → r.last ≡ Terminal (Send b)
@@ -467,6 +477,7 @@ to-card-refused r t c b change fault taken h e named =
     ∙ ap (λ (x : Came). card_outcome (card_turn c (card_takes x)))
     (sym (came c.ifsc b change (card-class r t c b taken h e)))) named
 
+-- and where the terminal refuses one
 pub to-terminal-refused : (r : Recording) (t : TerminalState) (c : CardState) (b : Parts) (change : Change)
     (fault : EventFault)
     → AlwaysTaken tables → IsRecording r t c → r.last ≡ Card (Sends b)
@@ -499,6 +510,7 @@ to-card-leaves r t c b change sent arrival turn next lines taken h e sent-is arr
     leaves r t t c next (FromTerminal (spelling b) (arrival_of change b) ∷ []) lines (change_event change) (Card turn)
     written h (to-card-acts r t c b change turn next taken h e now)
 
+-- and where the block comes to the terminal
 pub to-terminal-leaves : (r : Recording) (t : TerminalState) (c : CardState) (b : Parts) (change : Change)
     (sent : List ℕ) (arrival : Arrival) (turn : TerminalTurn) (next : TerminalState) (lines : List Line)
     → AlwaysTaken tables → IsRecording r t c → r.last ≡ Card (Sends b) → sent ≡ spelling b
@@ -516,6 +528,7 @@ to-terminal-leaves r t c b change sent arrival turn next lines taken h e sent-is
     leaves r t next c c (FromCard (spelling b) (arrival_of change b) ∷ []) lines (change_event change) (Terminal turn)
     written h (to-terminal-acts r t c b change turn next taken h e now)
 
+-- where the card refuses such a block, the event changes nothing, for the same fault
 pub to-card-refuses : (r : Recording) (t : TerminalState) (c : CardState) (b : Parts) (change : Change) (sent : List ℕ)
     (arrival : Arrival) (fault : EventFault)
     → AlwaysTaken tables → IsRecording r t c → r.last ≡ Terminal (Send b) → sent ≡ spelling b
@@ -529,6 +542,7 @@ to-card-refuses r t c b change sent arrival fault taken h e sent-is arrival-is n
     (subst (λ (s : List ℕ). IfNotMemory fault
     (card_outcome (card_turn c (card_input c (FromTerminal s arrival))) ≡ Err fault)) sent-is named))
 
+-- and where the terminal refuses one
 pub to-terminal-refuses : (r : Recording) (t : TerminalState) (c : CardState) (b : Parts) (change : Change)
     (sent : List ℕ) (arrival : Arrival) (fault : EventFault)
     → AlwaysTaken tables → IsRecording r t c → r.last ≡ Card (Sends b) → sent ≡ spelling b

@@ -57,6 +57,7 @@ card-role c Dead is_call = cc
 card-role c (Moment moment) is_call = cc
 card-role c (Note text) is_call = cc
 
+-- where the terminal answers with a turn, its step gives that turn and the state that it leaves
 pub terminal-turn : (t after : TerminalState) (step : TerminalStep) (outcome : Result TerminalTurn TerminalFault)
     → outcome ≡ turn_of step → after ≡ state_after t step
     → IfOk outcome (λ turn. calls (terminal_gives step) ≡ calls (Ok (turn, after)))
@@ -64,6 +65,7 @@ terminal-turn t after (Ok step) (Ok turn) e f = cc
 terminal-turn t after (Err fault) (Ok turn) e f = cc
 terminal-turn t after step (Err fault) e f = tt
 
+-- and where it answers with a fault, its step is refused by the name of that
 pub terminal-refused : (step : TerminalStep) (outcome : Result TerminalTurn TerminalFault)
     → outcome ≡ turn_of step
     → IfErr outcome (λ fault. calls (terminal_gives step) ≡ calls (Err (terminal_fault_name fault)))
@@ -71,6 +73,7 @@ terminal-refused (Ok step) (Err fault) e = cc
 terminal-refused (Err own) (Err fault) e = cc
 terminal-refused step (Ok turn) e = tt
 
+-- where the card answers with a turn, its step gives that turn and the state that it leaves
 pub card-turn : (c after : CardState) (step : CardStep) (outcome : Result CardTurn CardFault)
     → outcome ≡ card_turn_of step → after ≡ card_state_after c step
     → IfOk outcome (λ turn. calls (card_gives step) ≡ calls (Ok (turn, after)))
@@ -78,6 +81,7 @@ card-turn c after (Ok step) (Ok turn) e f = cc
 card-turn c after (Err fault) (Ok turn) e f = cc
 card-turn c after step (Err fault) e f = tt
 
+-- and where it answers with a fault, its step is refused by the name of that
 pub card-refused : (step : CardStep) (outcome : Result CardTurn CardFault)
     → outcome ≡ card_turn_of step
     → IfErr outcome (λ fault. calls (card_gives step) ≡ calls (Err (card_fault_name fault)))

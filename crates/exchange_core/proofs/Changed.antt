@@ -1,78 +1,22 @@
 -- What a block is to its receiver, whole and changed.
-use Rattle.std.proofs.Common.{◌≡◌, ℕ, ◌+◌, ◌-◌, ◌<◌, ◌≤◌, List, [], ◌∷◌, ◌++◌, length, take, drop, get_or, refl, sym, ap, ◌∙◌, arith, Some, true, false, bit_xor, Bool, nat_lt, nat_le, rules}
+use Rattle.std.proofs.Common.{◌≡◌, ℕ, ◌+◌, ◌-◌, List, [], ◌∷◌, ◌++◌, length, take, drop, get_or, refl, sym, ap, ◌∙◌, arith, true, false, bit_xor, Bool, nat_lt}
 use Rattle.std.specs.Prelude.{◌&&◌, ◌==◌, if◌then◌else◌}
 use Rattle.std.proofs.Math.Seq.{take-append_seam, take-length, get_or-append_seam}
 use Rattle.std.proofs.lemmas.List.{length-append}
 use Rattle.std.specs.Int.Bits.{xor_self, xor_assoc, xor_zero_l}
 use Rattle.std.proofs.lemmas.List.Sums.{fold-append}
 use Rattle.octet_core.specs.Octets.{xor_of}
-use Rattle.block_core.specs.Block.{Parts, Suits, IsSize, pcb_octet, spelling, front_of, supervisory_len}
-use Rattle.block_core.specs.declared.pcb.Number.TheVariants.{Zero, One}
-use Rattle.block_core.specs.declared.pcb.Fault.TheVariants.{Free, Redundancy, Other}
-use Rattle.block_core.specs.declared.pcb.S.{S}
-use Rattle.block_core.specs.declared.pcb.S.TheVariants.{Resynch, Ifs, Abort, Wtx}
+use Rattle.block_core.specs.Block.{Parts, Suits, pcb_octet, spelling, front_of}
 use Rattle.block_core.specs.declared.pcb.Pcb.{Pcb}
-use Rattle.block_core.specs.declared.pcb.Pcb.TheVariants.{Info, Ready, Request, Response}
-use Rattle.t1_core.specs.Came.{Came, got, damaged, invalid, IsClass, class_of, class_with, pcb_among, all_pcbs, suits, suits_about}
+use Rattle.t1_core.specs.Came.{Came, got, damaged, invalid, IsClass, class_of, class_with}
+use Rattle.block_core.specs.Computed.{suits}
+use Rattle.block_core.proofs.Computed.{back, true_suits, both_of, by_lt, by_eq}
 use Rattle.t1_core.specs.Link.{Event, damages, spoils}
 use Rattle.block_core.proofs.Blocks.{spelling-xor}
 use Rattle.exchange_core.specs.Given.{arrived}
 use Rattle.exchange_core.specs.Recording.{damaged_octets, arrival_of, arrival_event, change_event}
 use Rattle.exchange_core.specs.declared.carrying.Change.{Change}
 use Rattle.exchange_core.specs.declared.carrying.Change.TheVariants.{Kept, Damaged, Spoilt}
-
--- the control octets are told apart
-back : (p : Pcb) → pcb_among all_pcbs (pcb_octet p) ≡ Some p
-back (Info Zero false) = refl
-back (Info Zero true) = refl
-back (Info One false) = refl
-back (Info One true) = refl
-back (Ready Zero Free) = refl
-back (Ready Zero Redundancy) = refl
-back (Ready Zero Other) = refl
-back (Ready One Free) = refl
-back (Ready One Redundancy) = refl
-back (Ready One Other) = refl
-back (Request Resynch) = refl
-back (Request Ifs) = refl
-back (Request Abort) = refl
-back (Request Wtx) = refl
-back (Response Resynch) = refl
-back (Response Ifs) = refl
-back (Response Abort) = refl
-back (Response Wtx) = refl
-
-by_le : (a b : ℕ) → a ≤ b → nat_le a b ≡ true
-by_le a b h = search (rules, h)
-
-by_lt : (a b : ℕ) → a < b → nat_lt a b ≡ true
-by_lt a b h = search (rules, h)
-
-by_eq : (a b : ℕ) → a ≡ b → (a == b) ≡ true
-by_eq a b h = search (rules, h)
-
-both_of : (a b : Bool) → a ≡ true → b ≡ true → (a && b) ≡ true
-both_of true b p q = q
-both_of false b p q = p
-
-true_about : (kind : S) (inf : List ℕ) → (length inf ≡ supervisory_len kind) × IsSize kind inf
-    → suits_about kind inf ≡ true
-true_about Resynch [] h = refl
-true_about Resynch (x ∷ inf) h = absurd (omega (arith, h.0))
-true_about Abort [] h = refl
-true_about Abort (x ∷ inf) h = absurd (omega (arith, h.0))
-true_about Ifs [] h = absurd (omega (arith, h.0))
-true_about Ifs (x ∷ []) h = both_of (nat_le 1 x) (nat_le x 254) (by_le 1 x h.1.0) (by_le x 254 h.1.1)
-true_about Ifs (x ∷ y ∷ inf) h = absurd (omega (arith, h.0))
-true_about Wtx [] h = absurd (omega (arith, h.0))
-true_about Wtx (x ∷ []) h = refl
-true_about Wtx (x ∷ y ∷ inf) h = absurd (omega (arith, h.0))
-
-true_suits : (size : ℕ) (p : Pcb) (inf : List ℕ) → Suits size p inf → suits size p inf ≡ true
-true_suits size (Info number more) inf h = by_le (length inf) size h
-true_suits size (Ready number fault) inf h = by_eq (length inf) 0 h
-true_suits size (Request kind) inf h = true_about kind inf h
-true_suits size (Response kind) inf h = true_about kind inf h
 
 -- ---- a front and a check octet
 
@@ -142,6 +86,7 @@ came_of Spoilt v = invalid
 taken-nad : (size : ℕ) (v : Parts) → IsClass size (spelling v) (got v.pcb v.inf) → v.nad ≡ 0
 taken-nad size v h = ap (λ (b : List ℕ). get_or b 0 0) (sym (take-length (spelling v)) ∙ h.1.is)
 
+-- what arrives of a block, whole or changed, is taken for this, where the whole block is taken for itself
 pub came : (size : ℕ) (v : Parts) (change : Change) → IsClass size (spelling v) (got v.pcb v.inf)
     → class_of size (arrived (spelling v) (arrival_of change v)) ≡ came_of change v
 came size v Kept h =
@@ -160,6 +105,7 @@ came size v Spoilt h =
 own : (nad : ℕ) (x y : Event) → nad ≡ 0 → (if nad == 0 then x else y) ≡ x
 own nad x y e = rw e refl
 
+-- the line of a block under way tells the event that made the change
 pub told-change : (size : ℕ) (v : Parts) (change : Change) → IsClass size (spelling v) (got v.pcb v.inf)
     → arrival_event (arrival_of change v) ≡ change_event change
 told-change size v Kept h = refl

@@ -24,6 +24,7 @@ module _ (t : ℕ → Bool) where
   passed true i rest e = cc
   passed false i rest e = (refl, e)
 
+  -- the place of the first octet that passes is such a place
   pub is-cut : (xs : List ℕ) (place : ℕ) → position_from t 0 xs ≡ Some place → IsCut t xs place
   is-cut xs place e =
       let p = placed (nat_lt (position_or_len t xs) (length xs)) (position_or_len t xs) place
@@ -37,9 +38,11 @@ module _ (t : ℕ → Bool) where
       let p = passed (t x) i (position_from t (i + 1) xs) e in
       slice_split-cons_no t x xs p.0 ∙ ap (onto_first x) (more (i + 1) xs p.1)
 
+  -- where no octet passes, the text is one part
   pub none-cut : (xs : List ℕ) → position_from t 0 xs ≡ None → slice_split t xs ≡ xs ∷ []
   none-cut xs e = more 0 xs e
 
+  -- a text has at least one part
   pub some-words : (xs : List ℕ) → slice_split t xs ≡ [] → ⊥
   some-words xs e =
       let l = length-slice_split t xs in
@@ -58,6 +61,7 @@ no-word-of (x ∷ words) h = refl
 pub word-after : (rest : List ℕ) → no_word (slice_split is_space rest) ≡ Err Word
 word-after rest = no-word-of (slice_split is_space rest) (some-words is_space rest)
 
+-- after the first n come as many as the list has more, and no other
 pub all-of : {X : Type 0} (n : ℕ) (xs : List X) → take (length xs - n) (drop n xs) ≡ drop n xs
 all-of n xs = take_all (length xs - n) (drop n xs) (omega (arith, length-drop n xs))
 

@@ -56,6 +56,7 @@ replays-none end (line ∷ lines) number at s e =
 
 -- ---- the line of the last turn
 
+-- octets compare as equal to themselves
 pub equal-octets : (b : List ℕ) → bytes_eq b b ≡ true
 equal-octets b = (bytes_eq-Decides b b).1 refl
 
@@ -63,6 +64,7 @@ met : {A : Type 0} (test : Bool) (x y : Result A (List ℕ)) → test ≡ true �
 met true x y e = refl
 met false x y e = cc
 
+-- a line with the octets that the end gives meets its turn
 pub meets : {S T : Type 0} (at : S × Option T) (b text : List ℕ)
     → onward {A = S × Option T} (λ x. Ok x) (if bytes_eq b b then Ok at else Err text) ≡ Ok at
 meets {S} {T} at b text = ap (λ x. onward {A = S × Option T} (λ y. Ok y) x)
@@ -81,6 +83,7 @@ tells-terminal t c (Terminal Died) = refl
 tells-terminal t c (Card (Sends block)) = refl
 tells-terminal t c (Card AskedHost) = refl
 
+-- and so at the card
 pub tells-card : (t : TerminalState) (c : CardState) (last : LastTurn)
     → runs card_end (telling t c last) (c, card_pending last) ≡ Ok (c, None)
 tells-card t c Nothing = refl
@@ -104,6 +107,7 @@ rests t c (Terminal Died) e = refl
 rests t c (Card (Sends block)) e = cc
 rests t c (Card AskedHost) e = refl
 
+-- where a block is under way, it tells that this is lost
 pub loss : (t : TerminalState) (c : CardState) (last : LastTurn) → IsSent (under_way_of last)
     → events_of (telling t c last) ≡ loses ∷ []
 loss t c Nothing h = absurd h
@@ -115,6 +119,7 @@ loss t c (Terminal Died) h = absurd h
 loss t c (Card (Sends block)) h = refl
 loss t c (Card AskedHost) h = absurd h
 
+-- and it may come in an exchange of version 1
 pub proper-told : (t : TerminalState) (c : CardState) (last : LastTurn) → are_proper One 0 (telling t c last) ≡ true
 proper-told t c Nothing = refl
 proper-told t c (Terminal (Send block)) = refl
@@ -127,6 +132,7 @@ proper-told t c (Card AskedHost) = refl
 
 -- ---- lines after lines
 
+-- lines and more of them may come in an exchange of version 1, where both may
 pub proper-on : (lines more : List Line) → are_proper One 0 lines ≡ true → are_proper One 0 more ≡ true
     → are_proper One 0 (lines ++ more) ≡ true
 proper-on [] more h k = k
@@ -134,15 +140,18 @@ proper-on (Moment moment ∷ lines) more h k = cc
 proper-on (Note text ∷ lines) more h k = cc
 proper-on (line ∷ lines) more h k = proper-on lines more h k
 
+-- they tell the events of the first and then those of the others
 pub events-on : (lines more : List Line) → events_of (lines ++ more) ≡ events_of lines ++ events_of more
 events-on [] more = refl
 events-on (line ∷ lines) more = ap (λ x. line_events line ++ x) (events-on lines more)
     ∙ sym (append_assoc (line_events line) (events_of lines) (events_of more))
 
+-- events and more of them happen one after the other
 pub run-on : (es more : List Event) (l : Link) → run tables (es ++ more) l ≡ run tables more (run tables es l)
 run-on [] more l = refl
 run-on (e ∷ es) more l = run-on es more (happens tables l e)
 
+-- their calls hand over octets, where those of both do
 pub octets-on : (es more : List Event) → AllHandOctets es → AllHandOctets more → AllHandOctets (es ++ more)
 octets-on [] more h k = k
 octets-on (e ∷ es) more h k = (h.0, octets-on es more h.1 k)

@@ -23,6 +23,7 @@ follows-two One least (Note text) h = cc
 follows-two One least line h = refl
 follows-two Two least line h = h
 
+-- lines that may come in an exchange of their version may come in one of version 2, after the same moment
 pub proper-two : (version : Version) (least : ℕ) (lines : List Line) → are_proper version least lines ≡ true
     → are_proper Two least lines ≡ true
 proper-two version least [] h = refl

@@ -4,6 +4,7 @@ use Rattle.std.specs.Str.{bytes_eq}
 use Rattle.exchange_core.specs.Names.{names, named_in, name_of, name_text}
 use Rattle.exchange_core.specs.declared.name.Name.{Name}
 
+-- octets that compare as equal are the same
 pub same-bytes : (a b : List ℕ) → bytes_eq a b ≡ true → a ≡ b
 same-bytes a b e = search (rules, e)
 
@@ -18,9 +19,11 @@ named-in [] w m e = cc
 named-in (n ∷ names) w m e = named w n m (bytes_eq w (name_text n)) (same-bytes w (name_text n)) (named_in names w)
     (named-in names w m) e
 
+-- a word that names something is the text of that name
 pub name-text : (w : List ℕ) (m : Name) → name_of w ≡ Some m → w ≡ name_text m
 name-text w m e = named-in names w m e
 
+-- where two tests hold together, each of them does
 pub both : (a b : Bool) → a && b ≡ true → (a ≡ true) × (b ≡ true)
 both true true h = (refl, refl)
 both true false h = cc

@@ -17,6 +17,7 @@ ascii [] h i = omega arith
 ascii (c ∷ text) h zero = below c (both (is_printable c) (list_all is_printable text) h).0
 ascii (c ∷ text) h (suc i) = ascii text (both (is_printable c) (list_all is_printable text) h).1 i
 
+-- all characters of a note are printable
 pub printable : (text : List ℕ) → is_note text ≡ true → list_all is_printable text ≡ true
 printable text h = (both (nat_le 1 (length text) && nat_le (length text) 200) (list_all is_printable text) h).1
 

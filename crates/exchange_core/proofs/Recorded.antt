@@ -47,6 +47,7 @@ links r more last event e =
     (events-on r.lines more ∙ ap (λ (es : List Event). events_of r.lines ++ es) e)
     ∙ run-on (events_of r.lines) (event ∷ []) (new_link r.ifsc)
 
+-- what holds of a recorder holds after the event, with the lines that tell it
 pub keeps : {r : Recording} {t t' : TerminalState} {c c' : CardState} {more : List Line} {event : Event}
     {last : LastTurn}
     → IsRecording r t c → Acts r t c more event last t' c' → IsRecording (further r more last) t' c'
@@ -70,6 +71,7 @@ pub has-stepped : {r : Recording} {t t' : TerminalState} {c c' : CardState} {mor
     → Acts r t c more event last t' c' → link_of (further r more last) ≡ happens tables (link_of r) event
 has-stepped {r} {t} {t'} {c} {c'} {more} {event} {last} a = links r more last event a.events
 
+-- and the recorder takes the event
 pub has-recorded : {r : Recording} {t t' : TerminalState} {c c' : CardState} {more : List Line} {event : Event}
     {last : LastTurn}
     → Acts r t c more event last t' c' → recorded r event ≡ Ok (further r more last)
@@ -132,32 +134,38 @@ refused-outcome : (r : Recording) (event : Event) (outcome : Result LastTurn Eve
 refused-outcome r event (Ok last) fault e = cc
 refused-outcome r event (Err own) fault e = cc
 
+-- an event that the recorder refuses leaves the link as it was
 pub refused-stays : (r : Recording) (event : Event) (fault : EventFault) → recorded r event ≡ Err fault
     → happens tables (link_of r) event ≡ link_of r
 refused-stays r event fault e = stays (link_of r) event fault
     (refused-outcome r event (outcome_of (link_of r) event) fault e)
 
+-- an event that comes to a fault is refused with it
 pub refused : (r : Recording) (event : Event) (fault : EventFault) → outcome_of (link_of r) event ≡ Err fault
     → recorded r event ≡ Err fault
 refused r event fault e = ap (λ (outcome : Result LastTurn EventFault). with_outcome r event outcome) e
 
 -- ---- what a step leaves
 
+-- a step of the terminal leaves its next state and its block under way, and the card as it was
 pub terminal-made : (before l : Link) (step : TerminalStep) (turn : TerminalTurn) (next : TerminalState) (mark : Mark)
     → step ≡ Ok (turn, next, mark)
     → ((terminal_makes before l step).terminal ≡ next) × ((terminal_makes before l step).card ≡ l.card)
     × ((terminal_makes before l step).under_way ≡ sent_by_terminal turn)
 terminal-made before l step turn next mark e = rw e (refl, refl, refl)
 
+-- and a step of the card the terminal as it was
 pub card-made : (before l : Link) (step : CardStep) (turn : CardTurn) (next : CardState) → step ≡ Ok (turn, next)
     → ((card_makes before l step).terminal ≡ l.terminal) × ((card_makes before l step).card ≡ next)
     × ((card_makes before l step).under_way ≡ sent_by_card turn)
 card-made before l step turn next e = rw e (refl, refl, refl)
 
+-- a step that the terminal takes comes to its turn
 pub terminal-taken : (step : TerminalStep) (turn : TerminalTurn) (next : TerminalState) (mark : Mark)
     → step ≡ Ok (turn, next, mark) → terminal_outcome step ≡ Ok (Terminal turn)
 terminal-taken step turn next mark e = rw e refl
 
+-- and one that the card takes
 pub card-taken : (step : CardStep) (turn : CardTurn) (next : CardState) → step ≡ Ok (turn, next)
     → card_outcome step ≡ Ok (Card turn)
 card-taken step turn next e = rw e refl
@@ -169,6 +177,7 @@ pub terminal-called : (t : TerminalState) (line : Line) (step : TerminalStep) (t
     → runs terminal_end (line ∷ []) (t, None) ≡ Ok (next, Some turn)
 terminal-called t line step turn next mark role e = rw (role, e) refl
 
+-- and one of the card
 pub card-called : (c : CardState) (line : Line) (step : CardStep) (turn : CardTurn) (next : CardState)
     → card_role c line ≡ calls (card_gives step) → step ≡ Ok (turn, next)
     → runs card_end (line ∷ []) (c, None) ≡ Ok (next, Some turn)

@@ -15,6 +15,7 @@ listens : (ear : Ear) → ear_waits ear ≡ idle → ⊥
 listens (first field) e = cc
 listens (further joined) e = cc
 
+-- where the terminal is idle, no block is under way
 pub idle-rests : {P : Type 0} {kt kc : Limits} (l : Link) → Good P kt kc l → l.terminal.waits ≡ idle
     → l.under_way ≡ nothing
 idle-rests _ (at_rest _ _) e = refl
@@ -53,6 +54,7 @@ sending : (field rest : List ℕ) → card_waiting field rest ≡ host → ⊥
 sending field [] e = cc
 sending field (x ∷ rest) e = cc
 
+-- nor where the card's host has its turn
 pub host-rests : {P : Type 0} {kt kc : Limits} (l : Link) → Good P kt kc l → l.card.waits ≡ host → l.under_way ≡ nothing
 host-rests _ (at_rest _ _) e = refl
 host-rests _ (size_asked _ _) e = cc
@@ -91,6 +93,7 @@ taken-idle (ifs size) step turn next mark e = cc
 taken-idle (resynch asked) step turn next mark e = cc
 taken-idle dead step turn next mark e = cc
 
+-- the same of a call of the card's host
 pub taken-host : (w : CardWaits) (step : CardStep) (turn : CardTurn) (next : CardState)
     → if_host w step ≡ Ok (turn, next) → w ≡ host
 taken-host (command joined) step turn next e = cc

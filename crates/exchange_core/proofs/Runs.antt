@@ -177,5 +177,6 @@ found-run atr lines Card (Ok ifsc) is e =
       same = agree card_end (is_said Card) card-says lines 3 (new_card ifsc) None e;
     }
 
+-- lines that differ nowhere at an end are a run of it
 pub agreeing-run : (atr : List ℕ) (lines : List Line) (side : Side) → Replays atr lines side None → IsRun atr lines side
 agreeing-run atr lines side h = found-run atr lines side h.found h.is_found h.is

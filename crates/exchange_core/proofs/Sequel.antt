@@ -28,14 +28,17 @@ pub record IsSequel (version : Version) (text : List ℕ) (lines : List Line) (n
   pub proper : (more : List Line) → are_proper version least more ≡ true → are_proper version 0 (lines ++ more) ≡ true
   pub count : number + length rest ≤ length text + 3
 
+-- where each of two tests holds, both hold together
 pub both-true : (a b : Bool) → a ≡ true → b ≡ true → a && b ≡ true
 both-true true b h k = k
 both-true false b h k = h
 
+-- what is right with the number of its line was right without it
 pub at-ok : {A : Type 0} (number : ℕ) (r : Result A LineFault) (x : A) → at number r ≡ Ok x → r ≡ Ok x
 at-ok number (Ok y) x e = ap Ok (same-ok y x (at number (Ok y)) refl e)
 at-ok number (Err f) x e = cc
 
+-- a line that is let through after a moment is the same line, and doesn't fall below the moment
 pub rising-ok : (number least : ℕ) (x y : Line) (b : Bool) → falls least x ≡ b
     → (if b then Err (fault.Falls number) else Ok x) ≡ Ok y → (falls least x ≡ false) × (x ≡ y)
 rising-ok number least x y true h e = cc
@@ -111,6 +114,7 @@ next-sequel version text lines number least rest line next first h parts shorter
 same-fault : {A : Type 0} (f g : ExchangeFault) (r : Result A ExchangeFault) → r ≡ Err f → r ≡ Err g → f ≡ g
 same-fault f g r d e = let s : r ≡ r = refl in cc
 
+-- a result that is no fault is the expected one
 pub unless-ok : {A : Type 0} (x : A) (r : Result A ExchangeFault) → UnlessMemory (Ok x) r → r ≡ Ok x
 unless-ok x r (inl e) = cc
 unless-ok x r (inr e) = sym e

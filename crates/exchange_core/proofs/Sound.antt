@@ -92,6 +92,7 @@ one-octet : (w : List ℕ) (n : ℕ) (more : List ℕ) → list_all is_upper_dig
 one-octet w n [] h l e = (sym (decode-back w (n ∷ []) h e), (decode_of-ok w (n ∷ []) e).3 0)
 one-octet w n (x ∷ more) h l e = let k = (decode_of-ok w (n ∷ x ∷ more) e).2 in absurd (omega arith)
 
+-- a word that was read as an octet is its text
 pub octet-sound : (w : List ℕ) (n : ℕ) → octet_said w ≡ Ok n → (w ≡ octet_text n) × (n < 256)
 octet-sound w n e =
     let p = octet-by (are_upper_digits w) (decode_sized w 1) n e in
@@ -101,15 +102,18 @@ octet-sound w n e =
 
 -- ---- lists of words
 
+-- words that were read as one word are that one
 pub only : (words : List (List ℕ)) (w : List ℕ) → only_word words ≡ Ok w → words ≡ w ∷ []
 only [] w e = cc
 only (x ∷ []) w e = ap (λ (y : List ℕ). y ∷ []) (same-ok x w (only_word (x ∷ [])) refl e)
 only (x ∷ y ∷ words) w e = cc
 
+-- and words that were read as none are none
 pub none : (words : List (List ℕ)) (u : Unit {0}) → no_word words ≡ Ok u → words ≡ []
 none [] u e = refl
 none (x ∷ words) u e = cc
 
+-- words that were read as octets are one word, their text
 pub octets-word : (words : List (List ℕ)) (o : List ℕ) → one_octets words ≡ Ok o
     → (words ≡ octets_text o ∷ []) × AreOctets o
 octets-word words o e =
@@ -164,6 +168,7 @@ pub record IsBlock (words : List (List ℕ)) (b : List ℕ × Arrival) : Type 0 
   pub octets : AreOctets b.0
   pub arrival : ArriveAsOctets b.1
 
+-- words that were read as a block are its text
 pub block-sound : (words : List (List ℕ)) (b : List ℕ × Arrival) → block_said words ≡ Ok b → IsBlock words b
 block-sound [] b e = cc
 block-sound (word ∷ words) b e =

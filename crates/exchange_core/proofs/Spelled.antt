@@ -17,12 +17,14 @@ use Rattle.exchange_core.proofs.Naming.{both}
 
 -- ---- lists of characters
 
+-- a list whose characters all pass a test passes each weaker one
 pub weaker : (p q : ℕ → Bool) → ((c : ℕ) → p c ≡ true → q c ≡ true) → (xs : List ℕ) → list_all p xs ≡ true
     → list_all q xs ≡ true
 weaker p q f [] h = refl
 weaker p q f (x ∷ xs) h = let k = both (p x) (list_all p xs) h in
     joined (q x) (list_all q xs) (f x k.0) (weaker p q f xs k.1)
 
+-- two lists that pass a test pass it in a row
 pub appended : (p : ℕ → Bool) (xs ys : List ℕ) → list_all p xs ≡ true → list_all p ys ≡ true
     → list_all p (xs ++ ys) ≡ true
 appended p [] ys h k = k
@@ -44,15 +46,18 @@ none-pass p (x ∷ xs) h =
 pub one-part : (p : ℕ → Bool) (xs : List ℕ) → list_all (λ c. not (p c)) xs ≡ true → slice_split p xs ≡ xs ∷ []
 one-part p xs h = slice_split_none p xs (none-pass p xs h)
 
+-- what has no mark, with a mark right after it, is the first part
 pub first-part : (p : ℕ → Bool) (xs : List ℕ) (y : ℕ) (ys : List ℕ) → list_all (λ c. not (p c)) xs ≡ true
     → p y ≡ true → slice_split p (xs ++ y ∷ ys) ≡ xs ∷ slice_split p ys
 first-part p xs y ys h e = slice_split_at p xs y ys (none-pass p xs h) e
 
 -- ---- plain words
 
+-- any character but a space
 abbrev pub no_space : ℕ → Bool
 no_space c = not (is_space c)
 
+-- any character but a line feed
 abbrev pub no_feed : ℕ → Bool
 no_feed c = not (is_line_feed c)
 
@@ -60,9 +65,11 @@ no_feed c = not (is_line_feed c)
 abbrev pub IsWord : List ℕ → Type 0
 IsWord word = list_all is_plain word ≡ true
 
+-- a word has no space
 pub spaceless : (word : List ℕ) → IsWord word → list_all no_space word ≡ true
 spaceless word h = weaker is_plain no_space (λ c k. (both (no_space c) (no_feed c) k).0) word h
 
+-- and no line feed
 pub feedless : (word : List ℕ) → IsWord word → list_all no_feed word ≡ true
 feedless word h = weaker is_plain no_feed (λ c k. (both (no_space c) (no_feed c) k).1) word h
 
@@ -86,9 +93,11 @@ upper-octets (octet ∷ octets) h =
     (joined (is_upper_digit (slice_index upper_digits (octet % 16))) _ (digit-upper (octet % 16) (omega arith))
     (upper-octets octets (λ i. h (suc i))))
 
+-- the digits of octets are a word
 pub word-hex : (octets : List ℕ) → AreOctets octets → IsWord (encode_upper octets)
 word-hex octets h = weaker is_upper_digit is_plain digit-plain (encode_upper octets) (upper-octets octets h)
 
+-- and so is the text of octets, of none too
 pub word-octets : (octets : List ℕ) → AreOctets octets → IsWord (octets_text octets)
 word-octets [] h = refl
 word-octets (octet ∷ octets) h = word-hex (octet ∷ octets) h
@@ -127,6 +136,7 @@ one-octet : (octet : ℕ) → octet < 256 → AreOctets (octet ∷ [])
 one-octet octet lt zero = lt
 one-octet octet lt (suc i) = omega arith
 
+-- the text of one octet is a word
 pub word-octet : (octet : ℕ) → octet < 256 → IsWord (octet_text octet)
 word-octet octet lt = word-hex (octet ∷ []) (one-octet octet lt)
 
@@ -146,6 +156,7 @@ octet-back octet lt =
 decimal-plain : (c : ℕ) → is_ascii_digit c ≡ true → is_plain c ≡ true
 decimal-plain c h = search (rules, h)
 
+-- a number below 1,000,000,000,000,000 in decimal is a word
 pub word-decimal : (n : ℕ) → n < 1000000000000000 → IsWord (decimal n)
 word-decimal n lt = weaker is_ascii_digit is_plain decimal-plain (decimal n)
     (has_digits (decimal n) (decimal-is n lt)).digits

@@ -31,6 +31,7 @@ front-more count more old part rest fits some =
     ap (λ (k : ℕ). take k (front ++ (part ++ rest))) long ∙ take-append-add front (part ++ rest) more
     ∙ ap (λ (l : List ℕ). front ++ l) (take-append-le more part rest some)
 
+-- and its first octets stay
 pub front-kept : (count : ℕ) (old rest : List ℕ) → count ≤ length old
     → take count (take count old ++ rest) ≡ take count old
 front-kept count old rest fits =

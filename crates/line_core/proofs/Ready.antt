@@ -19,6 +19,7 @@ lifted (Err inner) = Err (fault.Refused inner)
 front : (sent : Parts) (old new : List ℕ) (count : ℕ) → IsPut sent old new count → take count new ≡ spelling sent
 front sent old new count is = grind (arith, common_steps, is.counted, is.buffer, is.spells.is)
 
+-- the turn is in the caller's hands: its block is at the front of the buffer, or it ends the exchange
 pub ready : (turn : Result TerminalTurn TerminalFault) (old new : List ℕ) (answer : Result TerminalPut TerminalFault)
     → IsTerminalPut turn old new answer → IsReady (next_of turn) new (lifted answer)
 ready (Ok (Send sent)) old new answer (count, is, placed) = rw is (sent, refl, front sent old new count placed, refl)

@@ -19,6 +19,7 @@ IsGiven turn out (Err inner) = turn ≡ Err inner
 front : (parts : Parts) (old new : List ℕ) (count : ℕ) → IsPut parts old new count → take count new ≡ spelling parts
 front parts old new count is = grind (arith, common_steps, is.counted, is.buffer, is.spells.is)
 
+-- what the call answers tells the turn, whose block is at the front of the buffer
 pub given : (turn : Result CardTurn CardFault) (old new : List ℕ) (answer : Result CardPut CardFault)
     → IsCardPut turn old new answer → IsGiven turn new answer
 given (Ok (Send parts)) old new answer (count, is, placed) = rw is (parts, refl, front parts old new count placed)

@@ -13,6 +13,7 @@ use Rattle.line_core.specs.Line.{Arrival, block, nothing, failure}
 use Rattle.line_core.specs.Service.{Event, came, asked, sent, unsent, on_line, at_host, Happens, Ending, over, line_failed, used_up, refused, ending_of, Doing, hears, says, doing_of, doing_after, left_after, Serves, IsAnswer, IsReply, IsRound}
 use Rattle.line_core.proofs.Replying.{IsGiven}
 
+-- events and more of them have on the line those of the first and then those of the others
 pub on_line-append : (a b : List Event) → on_line (a ++ b) ≡ on_line a ++ on_line b
 on_line-append [] b = refl
 on_line-append (came arrival ∷ a) b = ap (λ l. came arrival ∷ l) (on_line-append a b)
@@ -20,6 +21,7 @@ on_line-append (asked command reply ∷ a) b = on_line-append a b
 on_line-append (sent octets ∷ a) b = ap (λ l. sent octets ∷ l) (on_line-append a b)
 on_line-append (unsent octets ∷ a) b = ap (λ l. unsent octets ∷ l) (on_line-append a b)
 
+-- and the same at the host
 pub at_host-append : (a b : List Event) → at_host (a ++ b) ≡ at_host a ++ at_host b
 at_host-append [] b = refl
 at_host-append (came arrival ∷ a) b = at_host-append a b
@@ -27,6 +29,7 @@ at_host-append (asked command reply ∷ a) b = ap (λ l. asked command reply ∷
 at_host-append (sent octets ∷ a) b = at_host-append a b
 at_host-append (unsent octets ∷ a) b = at_host-append a b
 
+-- where nothing happened, no events were added
 pub none-happen : {A : Type 0} (first : A → List Event → Type 0) → Happens first first []
 none-happen first = λ once before h. rw append-nil h
 
@@ -41,6 +44,7 @@ abbrev pub Answers : {B : Type 0} → (B → List Event → Type 0) → (B → L
 Answers h0 h1 doing c out result c' = (events : List Event) × (on_line events ≡ []) × Happens h0 h1 (at_host events)
     × IsAnswer doing c events out result c'
 
+-- and the round of a block that came, or didn't
 abbrev pub Rounds : {A B : Type 0} → (A → List Event → Type 0) → (A → List Event → Type 0) → (B → List Event → Type 0)
     → (B → List Event → Type 0) → CardState → Result Bool ServeFault → CardState → Type 0
 Rounds l0 l1 h0 h1 c result c' = (events : List Event) × Happens l0 l1 (on_line events) × Happens h0 h1 (at_host events)
@@ -56,6 +60,7 @@ host-alone : {B : Type 0} (h0 h1 : B → List Event → Type 0) (events : List E
     → at_host (last ∷ []) ≡ [] → Happens h0 h1 (at_host events) → Happens h0 h1 (at_host (events ++ last ∷ []))
 host-alone h0 h1 events last is served = rw (at_host-append events (last ∷ []), is, append-nil) served
 
+-- a block came, and its answer was sent: serving may go on
 pub answers-block : {A B : Type 0} (l0 l1 l2 : A → List Event → Type 0) (h0 h1 : B → List Event → Type 0)
     (c c' : CardState) (octets out : List ℕ) (count : ℕ) → Happens l0 l1 (came (block octets) ∷ [])
     → Happens l1 l2 (sent (take count out) ∷ [])
@@ -71,6 +76,7 @@ answers-block l0 l1 l2 h0 h1 c c' octets out count heard said (events, none, ser
   ),
 )
 
+-- a block came, and the line failed to send its answer: serving ends with that
 pub fails-to-say : {A B : Type 0} (l0 l1 l2 : A → List Event → Type 0) (h0 h1 : B → List Event → Type 0)
     (c c' : CardState) (octets out : List ℕ) (count : ℕ) (fault : ServeFault)
     → ending_of {A = Bool} (Err fault) ≡ line_failed → Happens l0 l1 (came (block octets) ∷ [])
@@ -87,6 +93,7 @@ fails-to-say l0 l1 l2 h0 h1 c c' octets out count fault is heard said (events, n
   ),
 )
 
+-- a block came, and its answer is a fault: serving ends with that
 pub refuses : {A B : Type 0} (l0 l1 : A → List Event → Type 0) (h0 h1 : B → List Event → Type 0) (c c' : CardState)
     (octets out : List ℕ) (fault : ServeFault) → Happens l0 l1 (came (block octets) ∷ [])
     → Answers h0 h1 (doing_after c (block octets)) (left_after c (block octets)) out (Err fault) c'
@@ -103,6 +110,7 @@ pub record Serving {A B : Type 0} (l0 l : A → List Event → Type 0) (h0 h : B
   pub serves : (more : List Event) (ending : Ending) (state : CardState) → Serves left hears c more ending state
       → Serves most hears start (events ++ more) ending state
 
+-- events happened that are serving from the start to this end
 abbrev pub HasServed : {A B : Type 0} → (A → List Event → Type 0) → (A → List Event → Type 0)
     → (B → List Event → Type 0) → (B → List Event → Type 0) → ℕ → CardState → Ending → CardState → Type 0
 HasServed l0 l h0 h most start ending c =
@@ -117,6 +125,7 @@ hosts-on : {A : Type 0} (l0 l l' : A → List Event → Type 0) (a b : List Even
     → Happens l l' (at_host b) → Happens l0 l' (at_host (a ++ b))
 hosts-on l0 l l' a b f g = rw at_host-append (after l0 l l' (at_host a) (at_host b) f g)
 
+-- after a round serving goes on with one block less, where one may still come
 pub goes-on : {A B : Type 0} (l0 l l' : A → List Event → Type 0) (h0 h h' : B → List Event → Type 0) (most left : ℕ)
     (start c c' : CardState) → 1 ≤ left → Rounds l l' h h' c (Ok true) c' → Serving l0 l h0 h most left start c
     → Serving l0 l' h0 h' most (left - 1) start c'
@@ -139,18 +148,21 @@ closes l0 l l' h0 h h' most left start c c' ending events line hosts run s = (
   s.serves events ending c' run,
 )
 
+-- a round in which nothing comes any more is the last one, and serving is over
 pub is-over : {A B : Type 0} (l0 l l' : A → List Event → Type 0) (h0 h h' : B → List Event → Type 0) (most left : ℕ)
     (start c c' : CardState) → 1 ≤ left → Rounds l l' h h' c (Ok false) c' → Serving l0 l h0 h most left start c
     → HasServed l0 l' h0 h' most start over c'
 is-over l0 l l' h0 h h' most left start c c' some (events, line, hosts, round) s =
     closes l0 l l' h0 h h' most left start c c' over events line hosts (round left some) s
 
+-- a round with a fault is the last one, and serving ends with that fault
 pub stops : {A B : Type 0} (l0 l l' : A → List Event → Type 0) (h0 h h' : B → List Event → Type 0) (most left : ℕ)
     (start c c' : CardState) (fault : ServeFault) → 1 ≤ left → Rounds l l' h h' c (Err fault) c'
     → Serving l0 l h0 h most left start c → HasServed l0 l' h0 h' most start (ending_of {A = Bool} (Err fault)) c'
 stops l0 l l' h0 h h' most left start c c' fault some (events, line, hosts, round) s =
     closes l0 l l' h0 h h' most left start c c' _ events line hosts (round left some) s
 
+-- where no block may come any more, serving ends: the caller allows no other
 pub runs-out : {A B : Type 0} (l0 l : A → List Event → Type 0) (h0 h : B → List Event → Type 0) (most left : ℕ)
     (start c : CardState) → left ≡ 0 → Serving l0 l h0 h most left start c → HasServed l0 l h0 h most start used_up c
 runs-out l0 l h0 h most left start c none s =
@@ -158,11 +170,13 @@ runs-out l0 l h0 h most left start c none s =
 
 -- ---- the answer to a block
 
+-- the card refuses the block: its host isn't asked, and the fault is the answer
 pub answers-refused : {B : Type 0} (h : B → List Event → Type 0) (turn : Result CardTurn CardFault) (c c' : CardState)
     (out : List ℕ) (inner : CardFault) → IsGiven turn out (Err inner) → c' ≡ c
     → Answers h h (doing_of turn) c out (Err (Refused inner)) c'
 answers-refused h turn c c' out inner is e = ([], refl, none-happen h, λ most. rw is (refl, e))
 
+-- the card sends a block of its own: its host isn't asked
 pub answers-sent : {B : Type 0} (h : B → List Event → Type 0) (turn : Result CardTurn CardFault) (c c' : CardState)
     (out : List ℕ) (count : ℕ) → IsGiven turn out (Ok (put.Send count)) → c' ≡ c
     → Answers h h (doing_of turn) c out (Ok count) c'
@@ -200,6 +214,7 @@ replied-here h h' turn c c' out count is (reply, served, (parts, sends, spells),
   ),
 )
 
+-- the card asks its host, and sends a block of the reply
 pub answers-replied : {B : Type 0} (h h' : B → List Event → Type 0) (turn : Result CardTurn CardFault)
     (c here c' : CardState) (out : List ℕ) (count : ℕ) → turn ≡ Ok Asked → here ≡ c
     → Replied h h' here out (Ok count) c' → Answers h h' (doing_of turn) c out (Ok count) c'
@@ -217,6 +232,7 @@ refused-here h h' turn c c' out inner is (reply, served, refuses-it, e) = (
   λ most. rw is (refl, refused-on (card_turn c (replies reply)) c c' inner most refuses-it e),
 )
 
+-- the card asks its host, and refuses the reply
 pub answers-refused-reply : {B : Type 0} (h h' : B → List Event → Type 0) (turn : Result CardTurn CardFault)
     (c here c' : CardState) (out : List ℕ) (inner : CardFault) → turn ≡ Ok Asked → here ≡ c
     → Replied h h' here out (Err inner) c' → Answers h h' (doing_of turn) c out (Err (Refused inner)) c'
@@ -226,10 +242,12 @@ answers-refused-reply h h' turn c here c' out inner is e replied =
 
 -- ---- a round that ends
 
+-- nothing came, and the card stays as it was
 pub hears-nothing : {A B : Type 0} (l0 l1 : A → List Event → Type 0) (h : B → List Event → Type 0) (c : CardState)
     → Happens l0 l1 (came nothing ∷ []) → Rounds l0 l1 h h c (Ok false) c
 hears-nothing l0 l1 h c heard = (came nothing ∷ [], heard, none-happen h, λ most some. (some, (refl, refl)))
 
+-- the line failed, and the card stays as it was
 pub fails-to-hear : {A B : Type 0} (l0 l1 : A → List Event → Type 0) (h : B → List Event → Type 0) (c : CardState)
     (fault : ServeFault) → ending_of {A = Bool} (Err fault) ≡ line_failed → Happens l0 l1 (came failure ∷ [])
     → Rounds l0 l1 h h c (Err fault) c

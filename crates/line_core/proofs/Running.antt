@@ -29,6 +29,7 @@ abbrev pub IsRun : {A : Type 0} → (A → List Talk → Type 0) → (A → List
 IsRun first now most next start ending t =
     (talks : List Talk) × Adds first now talks × Runs most next start talks ending t
 
+-- at the start nothing was added to the line, and each run from here is the whole run
 pub begins : {A : Type 0} (first : A → List Talk → Type 0) (most : ℕ) (next : Next) (t : TerminalState)
     → Going first first most most next next t t
 begins first most next t = record {
@@ -94,6 +95,7 @@ Talked now after t t' out out' count waiting turn =
     (arrival : Arrival) × Adds now after (record { sent = take count out; waiting = waiting; arrival = arrival } ∷ [])
     × IsReady (next_after t arrival) out' turn × (t' ≡ left_after t arrival)
 
+-- after such a call the next turn is in the caller's hands again, with one block less left
 pub holds-on : {A : Type 0} (first now after : A → List Talk → Type 0) (most left : ℕ) (next : Next)
     (start t t' : TerminalState) (out out' : List ℕ) (count waiting : ℕ) (turn : Result TerminalPut ExchangeFault)
     → 1 ≤ left → Talked now after t t' out out' count waiting turn

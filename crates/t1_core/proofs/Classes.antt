@@ -19,6 +19,7 @@ at_address size b n e proper =
     × IsBlock size (record { nad = m; pcb = b.pcb; inf = b.inf }) (take (length (spelling b)) (spelling b))) e
     (omega arith, record { proper = proper; is = take_all (length (spelling b)) (spelling b) (omega arith) })
 
+-- the octets of a block with node address 0 are that block to a receiver that it suits
 pub whole-class : (size : ℕ) (b : Parts) → b.nad ≡ 0 → IsProper size b → IsClass size (spelling b) (got b.pcb b.inf)
 whole-class size b e proper = at_address size b 0 e proper
 

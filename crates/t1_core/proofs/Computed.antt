@@ -1,7 +1,6 @@
 -- The class of octets, computed, is the class by their verdict as a block.
-use Rattle.std.proofs.Common.{◌≡◌, ◌≢◌, ℕ, suc, ◌+◌, ◌<◌, ◌≤◌, List, [], ◌∷◌, length, take, drop, get_or, refl, sym, ap, subst, ◌∙◌, arith, inl, inr, Option, Some, None, Bool, true, false, IsTrue, nat_lt, nat_le, rules}
+use Rattle.std.proofs.Common.{◌≡◌, ◌≢◌, ℕ, suc, ◌+◌, ◌<◌, ◌≤◌, List, [], ◌∷◌, length, take, drop, get_or, refl, sym, ap, subst, ◌∙◌, arith, inl, inr, Option, Some, None, Bool, true, false, IsTrue, nat_lt}
 use Rattle.std.specs.Prelude.{◌&&◌, ◌==◌, if◌then◌else◌, slice_index}
-use Rattle.std.proofs.lemmas.Bool.Decides.{eqb_tells}
 use Rattle.std.proofs.lemmas.List.{length-take, length-drop, get_or-take, get_or-drop}
 use Rattle.octet_core.specs.Grammar.{self_ended, Accepts, Refuses, Begins}
 use Rattle.octet_core.specs.Octets.{AreOctets, xor_of}
@@ -10,17 +9,14 @@ use Rattle.octet_core.proofs.Begun.{begins-take, spelled-begins}
 use Rattle.octet_core.proofs.Firsts.{first_holds}
 use Rattle.octet_core.proofs.Told.{same}
 use Rattle.octet_core.proofs.Lists.{split_same, never, both_left, both_right}
-use Rattle.block_core.specs.Block.{Parts, IsBlock, IsReason, IsAboutIfs, FitsLen, Meets, Suits, IsSize, pcb_octet, supervisory_len, spelling, front_of}
-use Rattle.block_core.specs.declared.pcb.Number.TheVariants.{Zero, One}
-use Rattle.block_core.specs.declared.pcb.Fault.TheVariants.{Free, Redundancy, Other}
-use Rattle.block_core.specs.declared.pcb.S.{S}
-use Rattle.block_core.specs.declared.pcb.S.TheVariants.{Resynch, Ifs, Abort, Wtx}
+use Rattle.block_core.specs.Block.{Parts, IsBlock, IsReason, IsAboutIfs, FitsLen, Meets, Suits, pcb_octet, spelling, front_of}
 use Rattle.block_core.specs.declared.pcb.Pcb.{Pcb}
-use Rattle.block_core.specs.declared.pcb.Pcb.TheVariants.{Info, Ready, Request, Response}
 use Rattle.block_core.specs.declared.reason.BlockReason.TheVariants.{BadPcb, BadLen, OverIfs, BadIfs, BadLrc}
-use Rattle.block_core.proofs.Blocks.{octet_of, accepted-len, accepted-inf, none-last, pcb-back, begun-by, fits-of, size-of, stuck-lrc, reason-lrc, found}
+use Rattle.block_core.proofs.Blocks.{octet_of, accepted-len, accepted-inf, none-last, begun-by, fits-of, size-of, stuck-lrc, reason-lrc, found}
 use Rattle.block_core.proofs.Goes.{one-verdict}
-use Rattle.t1_core.specs.Came.{Came, got, damaged, invalid, IsClass, class_of, class_with, pcb_among, all_pcbs, suits, suits_about}
+use Rattle.t1_core.specs.Came.{Came, got, damaged, invalid, IsClass, class_of, class_with}
+use Rattle.block_core.specs.Computed.{all_pcbs, pcb_among, suits}
+use Rattle.block_core.proofs.Computed.{pcb-back, among_octet, among_none, suits_true, true_suits, both_of, eq_by, by_eq, lt_by, by_lt}
 
 -- ---- the tests that the class computes
 
@@ -28,108 +24,6 @@ by_test : (P : Came → Type 0) (test : Bool) (x y : Came) → (IsTrue test → 
     → P (if test then x else y)
 by_test P true x y then_so else_so = then_so refl
 by_test P false x y then_so else_so = else_so (λ h. never h)
-
--- the control octets are told apart
-back : (p : Pcb) → pcb_among all_pcbs (pcb_octet p) ≡ Some p
-back (Info Zero false) = refl
-back (Info Zero true) = refl
-back (Info One false) = refl
-back (Info One true) = refl
-back (Ready Zero Free) = refl
-back (Ready Zero Redundancy) = refl
-back (Ready Zero Other) = refl
-back (Ready One Free) = refl
-back (Ready One Redundancy) = refl
-back (Ready One Other) = refl
-back (Request Resynch) = refl
-back (Request Ifs) = refl
-back (Request Abort) = refl
-back (Request Wtx) = refl
-back (Response Resynch) = refl
-back (Response Ifs) = refl
-back (Response Abort) = refl
-back (Response Wtx) = refl
-
-among_octet : (ps : List Pcb) (x : ℕ) (p : Pcb) → pcb_among ps x ≡ Some p → pcb_octet p ≡ x
-among_octet [] x p e = cc
-among_octet (q ∷ ps) x p e =
-    elim (eqb_tells (pcb_octet q) x) [
-      | inl h ↦
-          let t : pcb_among (q ∷ ps) x ≡ Some q = rw h.0 refl in
-          let this : Some q ≡ Some p = sym t ∙ e in
-          let is : q ≡ p = cc in
-          ap pcb_octet (sym is) ∙ h.1
-      | inr h ↦ among_octet ps x p (let t : pcb_among (q ∷ ps) x ≡ pcb_among ps x = rw h.0 refl in sym t ∙ e)
-    ]
-
-among_none : (x : ℕ) (p : Pcb) → pcb_among all_pcbs x ≡ None → pcb_octet p ≡ x → ⊥
-among_none x p e is = let some : Some p ≡ None = sym (back p) ∙ ap (pcb_among all_pcbs) is ∙ e in cc
-
-le_by : (a b : ℕ) → IsTrue (nat_le a b) → a ≤ b
-le_by a b h = search (rules, h)
-
-by_le : (a b : ℕ) → a ≤ b → IsTrue (nat_le a b)
-by_le a b h = search (rules, h)
-
-lt_by : (a b : ℕ) → IsTrue (nat_lt a b) → a < b
-lt_by a b h = search (rules, h)
-
-by_lt : (a b : ℕ) → a < b → IsTrue (nat_lt a b)
-by_lt a b h = search (rules, h)
-
-eq_by : (a b : ℕ) → IsTrue (a == b) → a ≡ b
-eq_by a b h = search (rules, h)
-
-by_eq : (a b : ℕ) → a ≡ b → IsTrue (a == b)
-by_eq a b h = search (rules, h)
-
-about_true : (kind : S) (inf : List ℕ) → IsTrue (suits_about kind inf)
-    → (length inf ≡ supervisory_len kind) × IsSize kind inf
-about_true Resynch [] h = (refl, tt)
-about_true Resynch (x ∷ inf) h = never h
-about_true Abort [] h = (refl, tt)
-about_true Abort (x ∷ inf) h = never h
-about_true Ifs [] h = never h
-about_true Ifs (x ∷ []) h = (
-  refl,
-  (
-    le_by 1 x (both_left (nat_le 1 x) (nat_le x 254) h),
-    le_by x 254 (both_right (nat_le 1 x) (nat_le x 254) h),
-  ),
-)
-about_true Ifs (x ∷ y ∷ inf) h = never h
-about_true Wtx [] h = never h
-about_true Wtx (x ∷ []) h = (refl, tt)
-about_true Wtx (x ∷ y ∷ inf) h = never h
-
-both_of : (a b : Bool) → IsTrue a → IsTrue b → IsTrue (a && b)
-both_of true b p q = q
-both_of false b p q = p
-
-true_about : (kind : S) (inf : List ℕ) → (length inf ≡ supervisory_len kind) × IsSize kind inf
-    → IsTrue (suits_about kind inf)
-true_about Resynch [] h = refl
-true_about Resynch (x ∷ inf) h = absurd (omega (arith, h.0))
-true_about Abort [] h = refl
-true_about Abort (x ∷ inf) h = absurd (omega (arith, h.0))
-true_about Ifs [] h = absurd (omega (arith, h.0))
-true_about Ifs (x ∷ []) h = both_of (nat_le 1 x) (nat_le x 254) (by_le 1 x h.1.0) (by_le x 254 h.1.1)
-true_about Ifs (x ∷ y ∷ inf) h = absurd (omega (arith, h.0))
-true_about Wtx [] h = absurd (omega (arith, h.0))
-true_about Wtx (x ∷ []) h = refl
-true_about Wtx (x ∷ y ∷ inf) h = absurd (omega (arith, h.0))
-
-suits_true : (size : ℕ) (p : Pcb) (inf : List ℕ) → IsTrue (suits size p inf) → Suits size p inf
-suits_true size (Info number more) inf h = le_by (length inf) size h
-suits_true size (Ready number fault) inf h = search (rules, h)
-suits_true size (Request kind) inf h = about_true kind inf h
-suits_true size (Response kind) inf h = about_true kind inf h
-
-true_suits : (size : ℕ) (p : Pcb) (inf : List ℕ) → Suits size p inf → IsTrue (suits size p inf)
-true_suits size (Info number more) inf h = by_le (length inf) size h
-true_suits size (Ready number fault) inf h = search (rules, h)
-true_suits size (Request kind) inf h = true_about kind inf h
-true_suits size (Response kind) inf h = true_about kind inf h
 
 -- ---- the octets before the check octet
 
@@ -302,6 +196,7 @@ with-pcb size n b small octets end (Some p) e =
     (λ h. invalid_class size n b small octets end (λ lt begun. h (both_of inside suited (by_lt n (length b) lt)
     (true_suits size p (drop 3 (take n b)) (begun-suits size n b p end lt octet begun)))))
 
+-- octets have the class that is computed, where the size is at most 254
 pub computed : (size : ℕ) (b : List ℕ) → size ≤ 254 → AreOctets b → IsClass size b (class_of size b)
 computed size b small octets = with-pcb size (slice_index b 2 + 3) b small octets refl
     (pcb_among all_pcbs (slice_index b 1)) refl

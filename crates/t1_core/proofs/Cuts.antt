@@ -8,6 +8,7 @@ some_more : (l : List ℕ) → 0 < length l → is_more l ≡ true
 some_more [] lt = absurd (omega arith)
 some_more (x ∷ l) lt = refl
 
+-- after the first n octets of a longer message more follows
 pub more_follows : (n : ℕ) (l : List ℕ) → n < length l → is_more (drop n l) ≡ true
 more_follows n l lt = some_more (drop n l) (omega (arith, length-drop n l))
 
@@ -16,6 +17,7 @@ pub reply-goes-on : (field rest : List ℕ) → 0 < length rest → reply field 
 reply-goes-on field [] lt = absurd (omega arith)
 reply-goes-on field (x ∷ rest) lt = refl
 
+-- and no field is saved then
 pub none-saved : (field rest : List ℕ) → 0 < length rest → None ≡ saving None field rest
 none-saved field [] lt = absurd (omega arith)
 none-saved field (x ∷ rest) lt = refl

@@ -13,6 +13,7 @@ use Rattle.t1_core.specs.Card.{CardState, Waits as CardWaits, command, host, rep
 use Rattle.t1_core.specs.Link.{Link, UnderWay, nothing, to_card, to_terminal, Exchange, answered, unanswered, given_up}
 use Rattle.t1_core.specs.Promises.{Matches}
 
+-- the state of a terminal, by its parts
 abbrev pub term : Limits → Number → Number → ℕ → ℕ → ℕ → ℕ → List ℕ → Waits → Option (List ℕ) → TerminalState
 term k s r n i j i0 m w a = record {
   number = s;
@@ -27,6 +28,7 @@ term k s r n i j i0 m w a = record {
   limits = k;
 }
 
+-- and of a card
 abbrev pub crd : Limits → Number → Number → Option (List ℕ) → ℕ → ℕ → ℕ → List ℕ → CardWaits → CardState
 crd k c r saved i j i0 m w = record {
   number = c;
@@ -40,6 +42,7 @@ crd k c r saved i j i0 m w = record {
   limits = k;
 }
 
+-- both ends, the block under way, both histories and both counts
 abbrev pub link : TerminalState → CardState → UnderWay → List Exchange → List Exchange → ℕ → ℕ → Link
 link t c w es hs d f = record {
   terminal = t;
@@ -56,12 +59,15 @@ link t c w es hs d f = record {
 abbrev pub Few : Type 0 → ℕ → ℕ → Type 0
 Few P f d = P → f ≤ 2 * d
 
+-- no more failures in a row than in all, and those at most twice the blocks lost or damaged
 abbrev pub Counts : Type 0 → ℕ → ℕ → ℕ → Type 0
 Counts P n f d = P → (n ≤ f) × (f ≤ 2 * d)
 
+-- the same, with room for one failure more
 abbrev pub Spare : Type 0 → ℕ → ℕ → ℕ → Type 0
 Spare P n f d = P → (n ≤ f) × (f + 1 ≤ 2 * d)
 
+-- RESYNCH was asked for, at least once and at least x times less than blocks were lost or damaged
 abbrev pub Asked : Type 0 → ℕ → ℕ → ℕ → ℕ → Type 0
 Asked P k x f d = P → (1 ≤ k) × (k + x ≤ d) × (f ≤ 2 * d)
 
@@ -82,6 +88,7 @@ pub record Fine (es hs : List Exchange) : Type 0 where
   pub matches : Matches es hs
   pub ended : Ended es
 
+-- the same, where the newest exchange may be under way
 pub record Held (es hs : List Exchange) : Type 0 where
   pub matches : Matches es hs
   pub older : OlderEnded es
@@ -110,6 +117,7 @@ abbrev pub ear_waits : Ear → Waits
 ear_waits (first field) = answer field
 ear_waits (further joined) = more joined
 
+-- and the octets of the answer that it has joined
 abbrev pub ear_joined : Ear → List ℕ
 ear_joined (first field) = []
 ear_joined (further joined) = joined

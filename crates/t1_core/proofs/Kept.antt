@@ -29,9 +29,11 @@ by_none : (m : List ℕ) (es hs : List Exchange) → Matches es hs → Matches (
 by_none m es [] ok = ok
 by_none m es (h ∷ hs) ok = inl ok
 
+-- the histories match, with a newest command that the host wasn't given
 pub not_served : (m : List ℕ) (es hs : List Exchange) → Fine es hs → Held (unanswered m ∷ es) hs
 not_served m es hs ok = record { matches = by_none m es hs ok.matches; older = ok.ended }
 
+-- and with one that is the newest of the host's
 pub is_served : {h : Exchange} {es hs : List Exchange} → Fine es hs → Held (unanswered (command_of h) ∷ es) (h ∷ hs)
 is_served ok = record { matches = inr (refl, ok.matches); older = ok.ended }
 
@@ -41,6 +43,7 @@ older_too (answered m a ∷ es) h = h
 older_too (unanswered m ∷ es) h = absurd h
 older_too (given_up m ∷ es) h = h
 
+-- where each exchange ended, each but the newest did
 pub held : {es hs : List Exchange} → Fine es hs → Held es hs
 held {es} ok = record { matches = ok.matches; older = older_too es ok.ended }
 
@@ -512,6 +515,7 @@ begun s c saved n i j i0 tm cm a es hs d f m fits u ok true h =
     (cut_fits i m) ok
 begun s c saved n i j i0 tm cm a es hs d f m fits u ok false h = at_rest u ok
 
+-- a command that is handed to the terminal keeps what is reached, where it fits the card if it is to
 pub kept_transmits : {P : Type 0} {kt kc : Limits} (m : List ℕ) → (P → FitsReceiver kt kc (transmits m)) → (l : Link)
     → Good P kt kc l → Good P kt kc (happens tables l (transmits m))
 kept_transmits {P} {kt} {kc} m fits l (at_rest {s = s} {c = c} {saved = saved} {n = n} {i = i} {j = j} {i0 = i0} {a = a}
@@ -743,6 +747,7 @@ kept_size v l (replies_doubted ear field (x ∷ rest) u e p q ok) = replies_doub
 kept_size v l (joined_told u e p ok) = joined_told u e p ok
 kept_size v l (joined_doubted u e p ok) = joined_doubted u e p ok
 
+-- each event keeps what is reached, where its message fits the receiver if it is to
 pub kept : {P : Type 0} {kt kc : Limits} (e : Event) → (P → FitsReceiver kt kc e) → (l : Link) → Good P kt kc l
     → Good P kt kc (happens tables l e)
 kept delivers fits l g = kept_delivers l g
@@ -755,6 +760,7 @@ kept (host_replies y) fits l g = kept_replies y fits l g
 kept (host_asks_time v) fits l g = kept_time v l g
 kept (host_asks_ifsc v) fits l g = kept_size v l g
 
+-- and so do events one after another
 pub kept_always : {P : Type 0} {kt kc : Limits} (es : List Event) → (P → AllFit kt kc es) → (l : Link) → Good P kt kc l
     → Good P kt kc (run tables es l)
 kept_always [] fits l g = g

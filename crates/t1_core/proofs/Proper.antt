@@ -443,6 +443,7 @@ taking l nothing h k = tt
 taking l (to_card b) h k = whole-class l.card.ifsc b k.nad (proper l.card.ifsc b h k)
 taking l (to_terminal b) h k = whole-class l.terminal.ifsd b k.nad (proper l.terminal.ifsd b h k)
 
+-- the octets of the block under way are that block to its receiver, where the calls hand over octets
 pub always_taken : AlwaysTaken tables
 always_taken kt kc ifsc es h =
     let l = run tables es (link_with kt kc ifsc) in

@@ -22,6 +22,7 @@ abbrev gives_up : Result TerminalTurn TerminalFault → Bool
 gives_up (Ok turn) = is_given_up turn
 gives_up (Err fault) = false
 
+-- whether the terminal waits for the answer to RESYNCH
 abbrev pub is_resynch : Waits → Bool
 is_resynch (resynch asked) = true
 is_resynch waits = false
@@ -110,6 +111,7 @@ turning t (transmit m) e = calling t.waits _ (either (nat_le (length m) t.limits
 turning t (ask_ifs n) e = calling t.waits _ (either (is_reserved n) _ _ refl refl)
 turning t (takes came) e = going t t.waits came e
 
+-- a terminal that gives up has asked for RESYNCH
 pub gives_up-resynch : (t : TerminalState) (input : TerminalInput) → turn_of (terminal_turn t input) ≡ Ok GivenUp
     → is_resynch t.waits ≡ true
 gives_up-resynch t input e = by_test (is_resynch t.waits) (λ h. true≢false (sym (ap gives_up e) ∙ turning t input h))

@@ -28,6 +28,7 @@ keeps_ifsd c (card_takes (got (Request Resynch) inf)) =
     with_ifsd c.ifsd (card_turn c (card_takes (got (Request Resynch) inf)))
 keeps_ifsd c input = card_turn c input
 
+-- so the ends hold different sizes when the terminal is idle again
 pub keeps_ifsd-refuted : InStepWhenIdle (record { terminal = terminal_turn; card = keeps_ifsd }) → ⊥
 keeps_ifsd-refuted h =
     let e : ◌≡◌ {A = ℕ} first_ifsd 2 = (h longest longest 32
@@ -47,6 +48,7 @@ instead t (Err fault) = Err fault
 abbrev hasty : TerminalState → TerminalInput → TerminalStep
 hasty t input = instead t (terminal_turn t input)
 
+-- so it gives up after one lost block
 pub hasty-refuted : AlwaysPatient (record { terminal = hasty; card = card_turn }) → ⊥
 hasty-refuted h =
     let e : 2 ≤ 1 = (h longest longest 32 (transmits [] ∷ loses ∷ delivers ∷ [])
@@ -64,6 +66,7 @@ quits waits step = step
 abbrev impatient : TerminalState → TerminalInput → TerminalStep
 impatient t input = quits t.waits (terminal_turn t input)
 
+-- so it is dead after three lost blocks
 pub impatient-refuted : AlwaysPatient (record { terminal = impatient; card = card_turn }) → ⊥
 impatient-refuted h =
     let e : 5 ≤ 3 = (h longest longest 32
@@ -87,6 +90,7 @@ twice_for_one : (m a : List ℕ) (h : Exchange) → Matches (unanswered m ∷ []
 twice_for_one m a h (inl no_more) = no_more
 twice_for_one m a h (inr served) = served.1
 
+-- so the card's host is given a command twice
 pub sends_again-refuted : AlwaysMatches (record { terminal = sends_again; card = card_turn }) → ⊥
 sends_again-refuted h = twice_for_one (7 ∷ []) (5 ∷ []) (unanswered (7 ∷ []))
     (h longest longest 32 (transmits (7 ∷ []) ∷ delivers ∷ host_replies (5 ∷ []) ∷ loses ∷ loses ∷ loses ∷ loses ∷
@@ -106,6 +110,7 @@ gives_again c (card_takes (got (Ready number fault) inf)) =
     for_command c c.waits number (card_turn c (card_takes (got (Ready number fault) inf)))
 gives_again c input = card_turn c input
 
+-- so the host acts twice for one command
 pub gives_again-refuted : AlwaysMatches (record { terminal = terminal_turn; card = gives_again }) → ⊥
 gives_again-refuted h = twice_for_one [] (5 ∷ []) (unanswered [])
     (h longest longest 32 (transmits [] ∷ delivers ∷ host_replies (5 ∷ []) ∷ loses ∷ delivers ∷ []))
@@ -116,6 +121,7 @@ more_than_taken m a h s =
     let hosts : List (List ℕ) = command_of h ∷ m ∷ [] in
     omega (arith, ap length s.commands.1, length-append s.commands.0 hosts)
 
+-- and what it was given aren't the terminal's commands in their order, though no exchange was given up
 pub gives_again-out_of_order : ServesInOrder (record { terminal = terminal_turn; card = gives_again }) → ⊥
 gives_again-out_of_order h = more_than_taken [] (5 ∷ []) (unanswered [])
     (h longest longest 32 (transmits [] ∷ delivers ∷ host_replies (5 ∷ []) ∷ loses ∷ delivers ∷ []) tt)
@@ -124,6 +130,7 @@ gives_again-out_of_order h = more_than_taken [] (5 ∷ []) (unanswered [])
 abbrev longest_fields : TerminalState → TerminalInput → TerminalStep
 longest_fields t input = terminal_turn (record t { ifsc = 254 }) input
 
+-- so its block doesn't fit the size that the card holds
 pub longest_fields-refuted : AlwaysFits (record { terminal = longest_fields; card = card_turn }) → ⊥
 longest_fields-refuted h =
     let e : 3 ≤ 2 = h longest longest 2 (transmits (1 ∷ 2 ∷ 3 ∷ []) ∷ []) in
@@ -149,6 +156,7 @@ forgets (Err fault) = Err fault
 abbrev forgetful : TerminalState → TerminalInput → TerminalStep
 forgetful t input = forgets (terminal_turn t input)
 
+-- so a turn that tells of an answer leaves none
 pub forgetful-refuted : Tells (record { terminal = forgetful; card = card_turn }) → ⊥
 forgetful-refuted h =
     let by : Tables = record { terminal = forgetful; card = card_turn } in
@@ -169,6 +177,7 @@ stays c (Err fault) = Err fault
 abbrev deaf : CardState → CardInput → CardStep
 deaf c input = stays c (card_turn c input)
 
+-- so a turn that asks the host doesn't leave it its turn
 pub deaf-refuted : Tells (record { terminal = terminal_turn; card = deaf }) → ⊥
 deaf-refuted h =
     let e : command [] ≡ host = h.host (new_card 32) _ (card_takes (got (Info Zero false) [])) refl in

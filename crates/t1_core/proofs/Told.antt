@@ -210,6 +210,7 @@ its_turn (command joined) h = absurd h
 its_turn (reply field rest) h = absurd h
 its_turn (asking q) h = absurd h
 
+-- a turn that tells of an answer leaves one, and a turn that asks the host leaves it its turn
 pub tells : Tells tables
 tells = record {
   answer = λ t next mark input e. an_answer next.answered (subst Tell e (turning t input));

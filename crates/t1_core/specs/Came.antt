@@ -1,10 +1,9 @@
 -- What an end takes from the line (ISO/IEC 7816-3, clause 11.6).
-use Rattle.std.specs.Prelude.{ℕ, ◌+◌, ◌≢◌, ◌⊎◌, List, [], ◌∷◌, length, take, drop, Bool, true, false, ◌&&◌, ◌==◌, nat_lt, nat_le, if◌then◌else◌, Option, Some, None, slice_index}
+use Rattle.std.specs.Prelude.{ℕ, ◌+◌, ◌≢◌, ◌⊎◌, List, [], length, take, drop, Bool, true, false, ◌&&◌, ◌==◌, nat_lt, if◌then◌else◌, Option, Some, None, slice_index}
 use Rattle.octet_core.specs.Grammar.{self_ended, Accepts, Refuses}
-use Rattle.block_core.specs.Block.{Parts, IsBlock, IsReason, pcb_octet}
+use Rattle.block_core.specs.Block.{Parts, IsBlock, IsReason}
+use Rattle.block_core.specs.Computed.{all_pcbs, pcb_among, suits}
 use Rattle.octet_core.specs.Octets.{xor_of}
-use Rattle.block_core.specs.declared.pcb.Fault.TheVariants.{Free, Redundancy, Other}
-use Rattle.block_core.specs.declared.pcb.S.TheVariants.{Resynch, Ifs, Abort, Wtx}
 use Rattle.octet_core.specs.declared.stop.Stop.{Stop}
 use Rattle.octet_core.specs.declared.stop.Stop.TheVariants.{At}
 use Rattle.block_core.specs.declared.pcb.Number.{Number}
@@ -60,35 +59,7 @@ request kind inf = record { nad = 0; pcb = Request kind; inf = inf }
 abbrev pub response : S → List ℕ → Parts
 response kind inf = record { nad = 0; pcb = Response kind; inf = inf }
 
--- The same class, computed. First the tables of the 18 values of PCB and of what fits them.
-abbrev pub all_pcbs : List Pcb
-all_pcbs =
-    Info Zero false ∷ Info Zero true ∷ Info One false ∷ Info One true
-    ∷ Ready Zero Free ∷ Ready Zero Redundancy ∷ Ready Zero Other
-    ∷ Ready One Free ∷ Ready One Redundancy ∷ Ready One Other
-    ∷ Request Resynch ∷ Request Ifs ∷ Request Abort ∷ Request Wtx
-    ∷ Response Resynch ∷ Response Ifs ∷ Response Abort ∷ Response Wtx ∷ []
-
--- the first of them with this octet
-abbrev pub pcb_among : List Pcb → ℕ → Option Pcb
-pcb_among [] octet = None
-pcb_among (pcb ∷ pcbs) octet = if pcb_octet pcb == octet then Some pcb else pcb_among pcbs octet
-
--- the field of an S-block suits it
-abbrev pub suits_about : S → List ℕ → Bool
-suits_about Ifs (size ∷ []) = nat_le 1 size && nat_le size 254
-suits_about Wtx (multiple ∷ []) = true
-suits_about Resynch [] = true
-suits_about Abort [] = true
-suits_about kind inf = false
-
-abbrev pub suits : ℕ → Pcb → List ℕ → Bool
-suits size (Info number goes_on) inf = nat_le (length inf) size
-suits size (Ready number fault) inf = length inf == 0
-suits size (Request kind) inf = suits_about kind inf
-suits size (Response kind) inf = suits_about kind inf
-
--- b has the control byte pcb, and its third octet says that n octets stand before the check octet
+-- The same class, computed: b has the control byte pcb, and its third octet says that n octets stand before the check octet
 abbrev pub class_with : ℕ → List ℕ → ℕ → Option Pcb → Came
 class_with size b n None = invalid
 class_with size b n (Some pcb) =

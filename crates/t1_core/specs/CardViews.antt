@@ -1,8 +1,8 @@
 -- The card's buffers and places, seen as its state.
 use Rattle.std.specs.Prelude.{◌≡◌, ◌≤◌, List, [], ℕ, take, Option, Some, None}
 use Rattle.t1_core.specs.declared.turns.Cut.{Cut}
-use Rattle.t1_core.specs.declared.turns.Request.{Request}
-use Rattle.t1_core.specs.declared.turns.Request.TheVariants.{Size, Time}
+use Rattle.t1_core.specs.declared.turns.CardAsked.{CardAsked}
+use Rattle.t1_core.specs.declared.turns.CardAsked.TheVariants.{Size, Time}
 use Rattle.t1_core.specs.declared.turns.CardWait.{CardWait}
 use Rattle.t1_core.specs.declared.turns.CardWait.TheVariants.{Command, Joining, Host, Reply, Asking}
 use Rattle.t1_core.specs.declared.places.CardPlaces.{CardPlaces}
@@ -14,7 +14,7 @@ abbrev pub saved_of : Option Cut → List ℕ → Option (List ℕ)
 saved_of None message = None
 saved_of (Some cut) message = Some (field_at cut message)
 
-abbrev pub request_of : Request → CardRequest
+abbrev pub request_of : CardAsked → CardRequest
 request_of (Size n) = size n
 request_of (Time n) = time n
 
@@ -59,7 +59,7 @@ IsCardWait (Reply cut) saved octets = IsInner cut octets × (saved ≡ None)
 IsCardWait (Asking (Size n)) saved octets = IsSize n × (saved ≡ None)
 IsCardWait (Asking (Time n)) saved octets = saved ≡ None
 
-abbrev pub IsRequest : Request → Type 0
+abbrev pub IsRequest : CardAsked → Type 0
 IsRequest (Size n) = IsSize n
 IsRequest (Time n) = Unit {0}
 

@@ -1,6 +1,8 @@
 -- The terminal of the T=1 protocol (ISO/IEC 7816-3, clause 11.6). The counts of repeats, and what RESYNCH leaves, are
 -- this project's profile.
 use Rattle.std.specs.Prelude.{ℕ, ◌+◌, List, [], ◌∷◌, ◌++◌, length, take, drop, Bool, true, false, ◌&&◌, ◌||◌, ◌==◌, nat_lt, nat_le, min, if◌then◌else◌, Option, Some, None, Result, Ok, Err}
+use Rattle.apdu_core.specs.Command.{longest_command}
+use Rattle.apdu_core.specs.Response.{longest_response}
 use Rattle.block_core.specs.Block.{Parts}
 use Rattle.block_core.specs.declared.pcb.Number.{Number}
 use Rattle.block_core.specs.declared.pcb.Number.TheVariants.{Zero}
@@ -36,19 +38,13 @@ pub record Limits : Type 0 where
   pub command : ℕ
   pub answer : ℕ
 
--- the longest command and answer (ISO/IEC 7816-4, clause 5.1)
-abbrev pub longest_command : ℕ
-longest_command = 65544
-
-abbrev pub longest_answer : ℕ
-longest_answer = 65538
-
+-- the longest command and response (ISO/IEC 7816-4, clause 5.1)
 abbrev pub longest : Limits
-longest = record { command = longest_command; answer = longest_answer }
+longest = record { command = longest_command; answer = longest_response }
 
 -- So many octets, and no more than the longest have.
 abbrev pub at_most : ℕ → ℕ → Limits
-at_most m n = record { command = min m longest_command; answer = min n longest_answer }
+at_most m n = record { command = min m longest_command; answer = min n longest_response }
 
 -- The most octets of a field that a terminal takes at the start and after RESYNCH (ISO/IEC 7816-3, clause 11.4).
 abbrev pub first_ifsd : ℕ

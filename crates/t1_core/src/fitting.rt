@@ -8,7 +8,7 @@ ghost use Rattle.t1_core.specs.CardViews.{AreCardPlaces, IsSaved, IsCardWait};
 use crate::guards::is_reserved;
 use crate::places::{CardPlaces, TerminalPlaces};
 use crate::terminal::MOST_RESYNCHS;
-use crate::turns::{CardWait, Cut, Request, TerminalWait};
+use crate::turns::{CardAsked, CardWait, Cut, TerminalWait};
 
 /// Whether a block's field may have this size.
 fn is_size(size: u8) -> bool
@@ -79,9 +79,9 @@ impl CardWait {
     {
         match self {
             CardWait::Command | CardWait::Joining => true,
-            CardWait::Host | CardWait::Asking(Request::Time(_)) => saved.is_none(),
+            CardWait::Host | CardWait::Asking(CardAsked::Time(_)) => saved.is_none(),
             CardWait::Reply(cut) => cut.is_inner(octets) && saved.is_none(),
-            CardWait::Asking(Request::Size(size)) => is_size(size) && saved.is_none(),
+            CardWait::Asking(CardAsked::Size(size)) => is_size(size) && saved.is_none(),
         }
     }
 }

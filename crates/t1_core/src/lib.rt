@@ -23,12 +23,11 @@ mod sending;
 pub mod terminal;
 pub mod turns;
 
+pub use apdu_core::{LONGEST_COMMAND, LONGEST_RESPONSE as LONGEST_ANSWER};
 pub use card::Card;
 pub use places::{CardPlaces, TerminalPlaces};
-pub use terminal::{
-    FIRST_IFSD, LONGEST_ANSWER, LONGEST_COMMAND, MOST_REPEATS, MOST_RESYNCHS, Terminal,
-};
+pub use terminal::{FIRST_IFSD, MOST_REPEATS, MOST_RESYNCHS, Terminal};
 pub use turns::{
-    CardAwaits, CardFault, CardPut, CardTurn, CardWait, Cut, Request, TerminalAwaits,
+    CardAsked, CardAwaits, CardFault, CardPut, CardTurn, CardWait, Cut, TerminalAwaits,
     TerminalFault, TerminalPut, TerminalTurn, TerminalWait,
 };

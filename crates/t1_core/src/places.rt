@@ -10,8 +10,9 @@ ghost use Rattle.t1_core.specs.Card.{card_with};
 ghost use Rattle.t1_core.specs.CardViews.{card_held, AreCardPlaces};
 
 use crate::buffers::overwrite;
-use crate::terminal::{FIRST_IFSD, LONGEST_ANSWER, LONGEST_COMMAND};
+use crate::terminal::FIRST_IFSD;
 use crate::turns::{CardWait, Cut, TerminalWait};
+use apdu_core::{LONGEST_COMMAND, LONGEST_RESPONSE as LONGEST_ANSWER};
 use atr_core::T1Params;
 use block_core::Number;
 

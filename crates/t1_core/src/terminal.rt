@@ -13,15 +13,10 @@ mod taking;
 use crate::buffers::{buffer, give_back, overwrite};
 use crate::places::TerminalPlaces;
 use crate::turns::{TerminalFault, TerminalTurn};
+use apdu_core::{LONGEST_COMMAND, LONGEST_RESPONSE as LONGEST_ANSWER};
 use atr_core::T1Params;
 use std::alloc::{AllocError, Global};
 use std::marker::Model;
-
-/// The octets of the longest command (ISO/IEC 7816-4, clause 5.1).
-pub const LONGEST_COMMAND: usize = 65_544;
-
-/// The octets of the longest answer.
-pub const LONGEST_ANSWER: usize = 65_538;
 
 /// The most octets of an information field that a terminal takes, IFSD, at the start of a session and after
 /// RESYNCH, until the card takes another size (ISO/IEC 7816-3, clause 11.4).

@@ -3,6 +3,7 @@
 ghost use Rattle.std.specs.Prelude.{◌≡◌, ◌≤◌};
 ghost use Rattle.t1_core.specs.Waiting.{granted, waiting_times};
 
+use crate::sending::Short;
 use block_core::{Block, Pcb, S};
 use octet_core::Named;
 use std::error::Error;
@@ -231,11 +232,27 @@ pub enum TerminalWait {
 
 /// What the card asked the terminal for on its host's behalf.
 #[derive(Clone, Copy, Debug, PartialEq, Eq)]
-pub enum Request {
+pub enum CardAsked {
     /// The information size that the card is to take.
     Size(u8),
     /// A multiple of the waiting time.
     Time(u8),
+}
+
+impl CardAsked {
+    ghost use Rattle.t1_core.specs.CardViews.{request_of, IsRequest};
+    ghost use Rattle.t1_core.specs.Card.{request_block};
+
+    /// The S-block that asks.
+    pub(crate) fn block(self) -> Short
+        requires { IsRequest self }
+        ensures { result ≡ request_block (request_of self) }
+    {
+        match self {
+            CardAsked::Size(size) => Short::request(S::Ifs, &[size]),
+            CardAsked::Time(multiple) => Short::request(S::Wtx, &[multiple]),
+        }
+    }
 }
 
 /// What the card waits in.
@@ -250,5 +267,5 @@ pub enum CardWait {
     /// An I-block of the reply that isn't its last is under way.
     Reply(Cut),
     /// For the response to a request, while the host still owes its reply.
-    Asking(Request),
+    Asking(CardAsked),
 }

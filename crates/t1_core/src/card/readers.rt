@@ -8,7 +8,7 @@ ghost use Rattle.t1_core.specs.Awaited.{awaited_by_card, card_awaits_block};
 
 use crate::card::Card;
 use crate::places::CardPlaces;
-use crate::turns::{CardAwaits, CardWait, Request};
+use crate::turns::{CardAsked, CardAwaits, CardWait};
 use std::fmt;
 
 impl Card {
@@ -56,8 +56,8 @@ impl CardPlaces {
             CardWait::Command | CardWait::Joining => CardAwaits::Command,
             CardWait::Host => CardAwaits::Host,
             CardWait::Reply(_) => CardAwaits::Acknowledgement,
-            CardWait::Asking(Request::Size(size)) => CardAwaits::Size(size),
-            CardWait::Asking(Request::Time(multiple)) => CardAwaits::Time(multiple),
+            CardWait::Asking(CardAsked::Size(size)) => CardAwaits::Size(size),
+            CardWait::Asking(CardAsked::Time(multiple)) => CardAwaits::Time(multiple),
         }
     }
 

@@ -2,9 +2,9 @@
 
 ghost use Rattle.std.specs.Prelude.{◌≡◌, ◌≤◌, length};
 ghost use Rattle.t1_core.specs.Came.{class_of, info};
-ghost use Rattle.t1_core.specs.CardViews.{card_held, AreCardPlaces, field_of, request_of, IsRequest};
+ghost use Rattle.t1_core.specs.CardViews.{card_held, AreCardPlaces, field_of};
 ghost use Rattle.t1_core.specs.Sending.{field_saved, card_sends, card_answers};
-ghost use Rattle.t1_core.specs.Card.{takes, replies, more_time, ask_ifs, card_turn, request_block, turn_of, state_after};
+ghost use Rattle.t1_core.specs.Card.{takes, replies, more_time, ask_ifs, card_turn, turn_of, state_after};
 
 use crate::buffers::append;
 use crate::class::classify;
@@ -12,9 +12,9 @@ use crate::cutting::field_in;
 use crate::guards::{if_host, is_reserved};
 use crate::places::CardPlaces;
 use crate::replying::next_block;
-use crate::sending::{CardAct, Sent, Short};
-use crate::turns::{CardFault, CardWait, Request};
-use block_core::{BlockRef, Pcb, S};
+use crate::sending::{CardAct, Sent};
+use crate::turns::{CardAsked, CardFault, CardWait};
+use block_core::{BlockRef, Pcb};
 
 impl CardPlaces {
     /// These octets came as one block.
@@ -85,7 +85,7 @@ impl CardPlaces {
             (card_turn (card_held self.old held.now answer.now) (more_time multiple)) }
     {
         if_host(self.wait)?;
-        let request = Request::Time(multiple);
+        let request = CardAsked::Time(multiple);
         self.wait = CardWait::Asking(request);
         Ok(CardAct::Send(Sent::Other(request.block())))
     }
@@ -109,7 +109,7 @@ impl CardPlaces {
         if is_reserved(size) {
             return Err(CardFault::Reserved);
         }
-        let request = Request::Size(size);
+        let request = CardAsked::Size(size);
         self.wait = CardWait::Asking(request);
         Ok(CardAct::Send(Sent::Other(request.block())))
     }
@@ -160,19 +160,6 @@ impl CardPlaces {
         match self.saved {
             Some(cut) => field_in(&answer[..self.reply_len], cut),
             None => &[],
-        }
-    }
-}
-
-impl Request {
-    /// The S-block that asks.
-    pub(super) fn block(self) -> Short
-        requires { IsRequest self }
-        ensures { result ≡ request_block (request_of self) }
-    {
-        match self {
-            Request::Size(size) => Short::request(S::Ifs, &[size]),
-            Request::Time(multiple) => Short::request(S::Wtx, &[multiple]),
         }
     }
 }

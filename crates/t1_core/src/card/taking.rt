@@ -16,7 +16,7 @@ use crate::places::CardPlaces;
 use crate::replying::{acknowledged, next_block};
 use crate::sending::{CardAct, Sent, Short};
 use crate::terminal::FIRST_IFSD;
-use crate::turns::{CardWait, Request};
+use crate::turns::{CardAsked, CardWait};
 use block_core::{Fault, Number, Pcb, S};
 
 impl CardPlaces {
@@ -134,7 +134,7 @@ impl CardPlaces {
         &mut self,
         held: &[u8],
         answer: &[u8],
-        request: Request,
+        request: CardAsked,
         arrived: &Arrived,
     ) -> CardAct
         requires fit { AreCardPlaces self.old (length held.now) (length answer.now) }
@@ -154,15 +154,16 @@ impl CardPlaces {
             Arrived::Damaged | Arrived::Invalid => CardAct::Send(Sent::Other(request.block())),
             Arrived::Whole(block) => match (request, block.pcb()) {
                 (_, Pcb::Request(S::Resynch)) => self.resynched(held, answer),
-                (Request::Size(size), Pcb::Response(S::Ifs)) if block.inf()[0] == size => {
+                (CardAsked::Size(size), Pcb::Response(S::Ifs)) if block.inf()[0] == size => {
                     self.ifsc = size;
                     self.wait = CardWait::Host;
                     CardAct::Asked
                 }
-                (Request::Time(multiple), Pcb::Response(S::Wtx)) if block.inf()[0] == multiple => {
-                    self.wait = CardWait::Host;
-                    CardAct::Asked
-                }
+                (CardAsked::Time(multiple), Pcb::Response(S::Wtx)) if block.inf()[0] == multiple =>
+                    {
+                        self.wait = CardWait::Host;
+                        CardAct::Asked
+                    }
                 _ => CardAct::Send(Sent::Other(request.block())),
             },
         }
