@@ -34,6 +34,7 @@ asks words request (taken free e) ask = MatchResult-at_ok NeedsFile (λ _. ⊥) 
 asks words request (called_for_help among help e) ask = absurd (subst (IsAmong DisplayHelp) ask.0 among)
 asks words request (not_taken other e) ask = cc e
 
+-- where the request needs a file, the words that were read as it ask for one
 pub needs : (words : List (List ℕ)) (request : Request) → IsRead words (Ok request) → NeedsFile request
     → AskForFile words
 needs words request (taken free e) need =
@@ -51,6 +52,7 @@ asks-none words fault (called_for_help among help e) ask = cc e
 asks-none words fault (not_taken other e) ask = let bad = subst HasOther ask.0 other in bad.1
 
 module _ (words : List (List ℕ)) (held left : Option (List ℕ)) (before after : ℕ) where
+  -- what is right of the request is right of the words that were read as it
   pub right : (request : Request) (text : List ℕ) (ended : Status) → IsRead words (Ok request)
       → IsRightTo request held left before after text ended → IsRight words held left before after text ended
   right request text ended read (inl to) = inl (record {
@@ -96,17 +98,7 @@ module _ (request : Request) (given : Given) (Told : List ℕ → List ℕ → S
     (before after : ℕ) (need : NeedsFile request → IsFromReader given)
     (answers : (file : Result (List ℕ) Fault) (text : List ℕ) (ended : Status)
     → IsToldOf Told (octets_given given file) text ended → IsAnswerTo request file text ended) where
-  pub told-octets : (octets text : List ℕ) (ended : Status) → IsTaken given held left before after (Ok octets)
-      → Told octets text ended → IsRightTo request held left before after text ended
-  told-octets octets text ended had told = inl (record {
-    file = had.file;
-    is_file = λ asked. had.is_file (need asked);
-    is_answer = answers had.file text ended (elim had.is_taken [
-      | inl is ↦ subst (λ (r : Result (List ℕ) Fault). IsToldOf Told r text ended) is told
-      | inr memory ↦ absurd (cc memory.0)
-    ]);
-  })
-
+  -- where no octets were taken, the line of that fault is a right answer
   pub told-fault : (fault : Fault) → IsTaken given held left before after (Err fault)
       → IsRightTo request held left before after (fault_text fault) status.Fault
   told-fault fault had =
@@ -122,6 +114,7 @@ module _ (request : Request) (given : Given) (Told : List ℕ → List ℕ → S
         | inr memory ↦ let same : fault ≡ Memory = cc memory.0 in inr (ap fault_text same, refl, memory.1)
       ]
 
+  -- where memory runs out after they were taken, the line of that does
   pub told-wanting : (octets : List ℕ) → IsTaken given held left before after (Ok octets)
       → IsRightTo request held left before after (fault_text Memory) status.Fault
   told-wanting octets had = inr (refl, refl, had.count)
@@ -132,11 +125,7 @@ module _ (request : Request) (given : Given) (Told : List ℕ → List ℕ → S
 module _ (request : Request) (Told : List ℕ → List ℕ → Status → Type 0) (held left : Option (List ℕ)) (before after : ℕ)
     (answers : (file : Result (List ℕ) Fault) (text : List ℕ) (ended : Status) → IsToldOf Told file text ended
     → IsAnswerTo request file text ended) where
-  pub file-told : (file text : List ℕ) (ended : Status) → ReadsWhole held left before after (Ok file)
-      → Told file text ended → IsRightTo request held left before after text ended
-  file-told file text ended had told = inl
-      (record { file = Ok file; is_file = λ asked. had; is_answer = answers (Ok file) text ended told })
-
+  -- the line of a fault in reading it answers the request
   pub file-fault : (fault : Fault) → ReadsWhole held left before after (Err fault)
       → IsRightTo request held left before after (fault_text fault) status.Fault
   file-fault fault had = inl (record {
@@ -146,6 +135,7 @@ module _ (request : Request) (Told : List ℕ → List ℕ → Status → Type 0
         answers (Err fault) (fault_text fault) status.Fault (refl, refl);
   })
 
+  -- and where memory runs out after it was read, the line of that does
   pub file-wanting : (file : List ℕ) → ReadsWhole held left before after (Ok file)
       → IsRightTo request held left before after (fault_text Memory) status.Fault
   file-wanting file had = inr (refl, refl, had.count)

@@ -1,5 +1,5 @@
 -- Which words ask for lines.
-use Rattle.std.proofs.Common.{◌≡◌, ◌∙◌, inl, inr, ℕ, List, [], Option, Result, Ok, Err, IfOk, ap, append-nil, refl, sym, subst}
+use Rattle.std.proofs.Common.{◌≡◌, ◌∙◌, inl, inr, ℕ, List, [], Option, Result, Ok, Err, ap, append-nil, refl, sym, subst}
 use Rattle.clap.specs.Kinds.{IsAmong}
 use Rattle.clap.specs.declared.error.kind.ErrorKind.TheVariants.{DisplayHelp}
 use Rattle.card_words.specs.Words.{AskForLines, HasOther, IsRead, taken, called_for_help, not_taken}
@@ -9,13 +9,14 @@ use Rattle.card_words.specs.declared.request.Request.{Request}
 use Rattle.card_words.specs.declared.request.Request.TheVariants.{CheckLines}
 use Rattle.card_words.specs.declared.fault.Fault.TheVariants.{Memory}
 use Rattle.card_words.specs.Texts.{fault_text}
-use Rattle.card_tool.specs.Answers.{HasOneText, IsReadFrom, IsWritten, Writes}
+use Rattle.card_tool.specs.Answers.{IsReadFrom, IsWritten, Writes}
 use Rattle.card_tool.specs.Explained.{IsRightWith}
-use Rattle.card_tool.specs.LineAnswers.{AskForNoLines, WritesLines, answered, wanting}
+use Rattle.card_tool.specs.LineAnswers.{WritesLines, answered, wanting}
 use Rattle.card_tool.specs.declared.status.Status.{Status}
 use Rattle.card_tool.specs.declared.status.Status.TheVariants as status
 use Rattle.card_tool.proofs.ByLine.{consumes-none}
 
+-- what was read, where it is this request
 abbrev pub read_as : Request → Result Request Fault
 read_as request = Ok request
 
@@ -51,17 +52,11 @@ module _ (words : List (List ℕ)) where
       absurd (let bad : read_as (CheckLines expected) ≡ Err Memory = sym e ∙ memory in cc)
   same-expected read expected asked e (inr is) ask = ap (expected-of asked) (sym e ∙ read-lines asked read ask is)
 
-  -- words that were read as what has one text, or not at all, ask for none
-  pub asked-none : (read : Result Request Fault) → IsReadFrom words read → (read ≡ Err Memory → ⊥)
-      → IfOk read HasOneText → AskForNoLines words
-  asked-none read (inl memory) not one expected ask = absurd (not memory)
-  asked-none read (inr is) not one expected ask =
-      subst (λ (r : Result Request Fault). IfOk r HasOneText) (read-lines expected read ask is) one
-
 -- ---- where memory ran out before the words were read
 
 module _ (held : Option (List ℕ)) (count : ℕ) (old new : Option (List ℕ)) (before after : ℕ) (ended : Status)
     (is : IsWritten (fault_text Memory) status.Fault old new before after ended) where
+  -- the line of that is right of any words, for which nothing was read
   pub no-words : (words : List (List ℕ)) → Writes (IsRightWith words held held count count) old new before after ended
   no-words words = record {
     text = fault_text Memory;
@@ -77,6 +72,7 @@ module _ (held : Option (List ℕ)) (count : ℕ) (old new : Option (List ℕ)) 
     is_written = is;
   }
 
+  -- and of lines, of which none was read
   pub no-lines : (expected : Expected) → WritesLines expected held held count count old new before after ended
   no-lines expected = answered (record {
     text = fault_text Memory;

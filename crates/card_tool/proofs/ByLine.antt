@@ -176,6 +176,7 @@ module _ (expected : Expected) where
     is_told = h.is_told;
   }
 
+  -- and so they are where no octet comes after them
   pub begun-here : (read written line text : List ℕ) (s : Status) → HasSaid expected read written line text s
       → HasBegun expected (all_lines read) (written ++ text)
   begun-here read written line text s h =
@@ -215,15 +216,12 @@ module _ (expected : Expected) where
 
 -- ---- what is written
 
+-- a text and then another are written as both in a row
 pub Appends-then : (a b c : Option (List ℕ)) (x y : List ℕ) → Appends a b x → Appends b c y → Appends a c (x ++ y)
 Appends-then None b c x y p q = tt
 Appends-then (Some a) None c x y p q = absurd p
 Appends-then (Some a) (Some b) None x y p q = absurd q
 Appends-then (Some a) (Some b) (Some c) x y p q = q ∙ ap (λ (l : List ℕ). l ++ y) p ∙ append_assoc a x y
-
-pub appends-none : (a : Option (List ℕ)) → Appends a a []
-appends-none None = tt
-appends-none (Some a) = sym (append-nil a)
 
 -- a text is written after another
 pub written-then : (first text : List ℕ) (right : Status) (a b c : Option (List ℕ)) (before after : ℕ) (ended : Status)
@@ -259,6 +257,7 @@ pub answered-said : (expected : Expected) (line text new : List ℕ) (s q : Stat
 answered-said expected line text new s q x is more u says e f read written h =
     rw (e, f) (line-ended expected read written line text more s u x is h says)
 
+-- and what the answer to the last line does, where that has octets
 pub answered-last : (expected : Expected) (line text new : List ℕ) (s q : Status) → (line ≡ [] → ⊥)
     → (more : List ℕ) (u : Status) → IsLineTold expected line more u → new ≡ text ++ more → q ≡ worse s u
     → (read written : List ℕ) → HasSaid expected read written line text s
@@ -266,14 +265,17 @@ pub answered-last : (expected : Expected) (line text new : List ℕ) (s q : Stat
 answered-last expected line text new s q some more u says e f read written h =
     rw (e, f) (last-told expected read written line text more s u some h says)
 
+-- what follows from what holds where a call succeeds holds there too
 pub if-ok : {A E : Type 0} (r : Result A E) {P Q : Type 0} → (P → Q) → OnOk r P → OnOk r Q
 if-ok (Ok a) f h = f h
 if-ok (Err e) f h = tt
 
+-- and what follows from two such
 pub if-both-ok : {A E : Type 0} (r : Result A E) {P Q S : Type 0} → (P → Q → S) → OnOk r P → OnOk r Q → OnOk r S
 if-both-ok (Ok a) f h g = f h g
 if-both-ok (Err e) f h g = tt
 
+-- what holds anyway holds where a call fails
 pub if-err : {A E : Type 0} (r : Result A E) {Q : Type 0} → Q → OnErr r Q
 if-err (Ok a) q = tt
 if-err (Err e) q = q
@@ -303,23 +305,10 @@ pub record HasAnswered (expected : Expected) (held left : Option (List ℕ)) (be
     pub none_unwritten : failures ≡ unwritten
     pub said : HasSaid expected read written line text ended
 
+-- where no octet was read, the reader holds what it held
 pub consumes-none : (a : Option (List ℕ)) → Consumes a a []
 consumes-none None = tt
 consumes-none (Some a) = refl
-
-pub none-answered : (expected : Expected) (held : Option (List ℕ)) (before : ℕ) (old : Option (List ℕ)) (unwritten : ℕ)
-    (line text : List ℕ) → line ≡ [] → text ≡ []
-    → HasAnswered expected held held before before old old unwritten unwritten line text Accepted 0
-none-answered expected held before old unwritten line text fresh none = record {
-  read = [];
-  written = [];
-  from = consumes-none held;
-  none_failed = refl;
-  many = omega arith;
-  put = appends-none old;
-  none_unwritten = refl;
-  said = record { is_told = (none, refl); is_line = fresh };
-}
 
 module _ (expected : Expected) (held left : Option (List ℕ)) (before after : ℕ) (old new : Option (List ℕ))
     (unwritten failures : ℕ) (line text : List ℕ) (s : Status) (turns : ℕ)
@@ -437,6 +426,7 @@ module _ (expected : Expected) (held left : Option (List ℕ)) (before after : �
           is_written = rest-written rest.text rest.right rest.is_written;
         })
 
+-- a list of length 0 is empty
 pub no-octets : (l : List ℕ) → length l ≡ 0 → l ≡ []
 no-octets [] h = refl
 no-octets (x ∷ l) h = absurd (omega (arith, h))

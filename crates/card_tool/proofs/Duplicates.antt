@@ -35,6 +35,7 @@ up-to known (suc n) le =
       | inr once ↦ subst (λ (m : ℕ). HasDuplicate known ⊎ Once known m) (omega arith) (next known n (omega arith) once)
     ]
 
+-- two of the known values have one tag, or no two have
 pub duplicate-or-not : (known : List Known) → HasDuplicate known ⊎ (HasDuplicate known → ⊥)
 duplicate-or-not known =
     elim (up-to known (length known) (omega arith)) [

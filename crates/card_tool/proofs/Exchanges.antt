@@ -121,6 +121,7 @@ told-said : (Told : ExchangeParts → List ℕ → Status → Type 0) (said : Re
 told-said Told (Ok e) once = once e refl
 told-said Told (Err fault) once = ended-by (file_fault_text fault) status.Fault
 
+-- a file that is replayed comes to one text with one status
 pub replayed-once : (which : End) (file : List ℕ) → OneText (Replays which file)
 replayed-once which file =
     told-said (λ e. IsReplayed e (side_of which)) (exchange_said file) (λ e is. record {
@@ -128,6 +129,7 @@ replayed-once which file =
       some = some-replayed e (side_of which) (text-octets (slice_split is_line_feed file) e is);
     })
 
+-- and so does one that is migrated
 pub migrated-once : (file : List ℕ) → OneText (Migrates file)
 migrated-once file = told-said (λ e text ended. (text ≡ exchange_text (migrated e)) × (ended ≡ status.Accepted))
     (exchange_said file) (λ e is. plain (exchange_text (migrated e)))

@@ -19,10 +19,6 @@ module _ (Right : List ℕ → Status → Type 0) where
   pub plain : (text : List ℕ) (ended : Status) → Right text ended → IsExplained Right text ended
   plain text ended h = record { text = text; note = []; is_right = h; is_whole = sym (append-nil text) }
 
-  pub plainly : (r : Result Answer Fault) → Gives Right r → Gives (IsExplained Right) r
-  plainly (Ok answer) h = plain answer.text answer.status h
-  plainly (Err fault) h = plain (fault_text fault) status.Fault h
-
   -- an answer with a note after its text
   pub with-note : (answer after : Answer) (note : List ℕ) → Right answer.text answer.status → after.text ≡ answer.text
       ++ note → after.status ≡ answer.status → IsExplained Right after.text after.status
@@ -90,6 +86,7 @@ module _ (words : List (List ℕ)) (held left : Option (List ℕ)) (before after
     unasked = λ _. refl;
   }
 
+  -- and the line of a fault, with none
   pub unasked-fault : (fault : Fault) → IsRight words held left before after (fault_text fault) status.Fault
       → IsRightWith words held left before after (fault_text fault) status.Fault
   unasked-fault fault h = record {

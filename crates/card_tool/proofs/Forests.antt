@@ -9,6 +9,7 @@ use Rattle.tlv_core.specs.Reasons.{IsReason}
 use Rattle.tlv_core.specs.Tree.{Tree}
 use Rattle.tlv_core.specs.declared.reason.TlvReason.{TlvReason}
 
+-- where a new check refuses the octets that it is fed, that is the verdict on them
 pub fed-refused : (old : Checked) (b : List ℕ) (stop : Stop TlvReason) → old.kept.max ≡ largest → HasChecked [] old
     → ((t : List ℕ) → HasChecked t old → RefusesAt whole (IsForest old.kept.max) (IsReason old.kept.max) (t ++ b) stop)
     → Refuses whole (IsForest largest) (IsReason largest) b stop
@@ -16,6 +17,7 @@ fed-refused old b stop limit nothing refused =
     refuses_at whole (IsForest largest) (IsReason largest) b stop
     (subst (λ (m : ℕ). RefusesAt whole (IsForest m) (IsReason m) b stop) limit (refused [] nothing))
 
+-- and where it takes them, what it says at the end is
 pub fed-verdict : (old new : Checked) (b : List ℕ) (end : Result Unit (Stop TlvReason)) → old.kept.max ≡ largest
     → HasChecked [] old → new.kept.max ≡ old.kept.max
     → ((t : List ℕ) → HasChecked t old → HasChecked (t ++ b) new)

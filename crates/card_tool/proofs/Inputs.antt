@@ -1,15 +1,11 @@
 -- How a whole input is read, call by call.
-use Rattle.std.proofs.Common.{◌≡◌, ◌≤◌, ◌<◌, ◌∙◌, ◌+◌, inl, inr, ℕ, List, [], ◌++◌, Option, None, Some, Result, Ok, Err, IfOk, ap, arith, sym, subst, refl, append_assoc, drop, take}
+use Rattle.std.proofs.Common.{◌≡◌, ◌≤◌, ◌<◌, ◌∙◌, ◌+◌, inl, ℕ, List, [], ◌++◌, Option, None, Some, Result, Ok, Err, IfOk, ap, arith, sym, subst, refl, append_assoc, drop, take}
 use Rattle.std.proofs.lemmas.List.{length-take}
 use Rattle.std.proofs.Math.Seq.{take-add}
 use Rattle.std.specs.Io.KnownBytes.{Consumes, Keeps}
 use Rattle.octet_core.specs.Failures.{next_count}
 use Rattle.card_words.specs.declared.fault.Fault.{Fault}
 use Rattle.card_words.specs.declared.fault.Fault.TheVariants.{Words, Hex, Memory, Read, TooLarge}
-use Rattle.card_words.specs.Given.{octets_in}
-use Rattle.card_words.specs.Value.{UnlessMemory}
-use Rattle.card_words.specs.declared.given.Form.{Form}
-use Rattle.card_words.specs.declared.given.Given.TheVariants as given
 use Rattle.card_words.specs.declared.given.Given.TheVariants.{Word}
 use Rattle.card_tool.specs.Files.{largest_file, IsBegun, IsHeld, IsMore, IsTaken, IsTooLarge, IsWhole, ReadsMore, ReadsWhole}
 
@@ -32,9 +28,11 @@ Consumes-none : (a : Option (List ℕ)) → Consumes a a []
 Consumes-none None = tt
 Consumes-none (Some a) = refl
 
+-- before the first call no octet was read
 pub none-begun : (held : Option (List ℕ)) (most : ℕ) → IsBegun held held most
 none-begun held most = record { read = []; from = Consumes-none held; few = omega arith }
 
+-- and none is in the buffer
 pub none-held : (held : Option (List ℕ)) (count : ℕ) (items : List ℕ) → items ≡ []
     → IsHeld held held count count items 0
 none-held held count items none = record {
@@ -47,6 +45,7 @@ none-held held count items none = record {
 
 module _ (held between left : Option (List ℕ)) (before middle after : ℕ) (old new : List ℕ) (filled : ℕ)
     (so_far : IsHeld held between before middle old filled) where
+  -- what a call brings comes after the octets before it
   pub more-held : (count : ℕ) → IsMore between left middle after old new filled count
       → IsHeld held left before after new (filled + count)
   more-held count more = record {
@@ -67,6 +66,7 @@ module _ (held between left : Option (List ℕ)) (before middle after : ℕ) (ol
         omega (arith, few, length-take filled old);
   }
 
+  -- a fault of a call is that of reading, where the octets so far fit a file
   pub fault-read : (fault : Fault) → filled ≤ largest_file
       → ReadsMore between left middle after old new filled (Err fault) → ReadsWhole held left before after (Err fault)
   fault-read Words few h = absurd h
@@ -75,6 +75,7 @@ module _ (held between left : Option (List ℕ)) (before middle after : ℕ) (ol
   fault-read Read few h = (begun few h.0, h.1 ∙ ap next_count so_far.count)
   fault-read Memory few h = (begun few h.0, h.1 ∙ so_far.count)
 
+  -- where a call brings no octet, those so far are all, if they fit a file
   pub whole-read : (count : ℕ) → count ≡ 0 → filled ≤ largest_file
       → IsMore between left middle after old new filled count → IsWhole held left before after (take filled new)
   whole-read count none few more = record {
@@ -84,6 +85,7 @@ module _ (held between left : Option (List ℕ)) (before middle after : ℕ) (ol
     count = more.none_failed ∙ so_far.count;
   }
 
+-- more octets than fit a file are too many
 pub too-large : (held left : Option (List ℕ)) (before after : ℕ) (items : List ℕ) (filled : ℕ)
     → IsHeld held left before after items filled → largest_file < filled → IsTooLarge held left before after
 too-large held left before after items filled so_far many = record {
@@ -93,21 +95,9 @@ too-large held left before after items filled so_far many = record {
   count = so_far.count;
 }
 
--- no answer of reading leaves more behind than one octet past the largest file
-pub read-begun : (held left : Option (List ℕ)) (before after : ℕ) (r : Result (List ℕ) Fault)
-    → ReadsWhole held left before after r → IsBegun held left 4194305
-read-begun held left before after (Ok file) h = record { read = file; from = h.from; few = omega (arith, h.fits) }
-read-begun held left before after (Err TooLarge) h =
-    record { read = h.read; from = h.from; few = omega (arith, h.many) }
-read-begun held left before after (Err Read) h =
-    record { read = h.0.read; from = h.0.from; few = omega (arith, h.0.few) }
-read-begun held left before after (Err Memory) h =
-    record { read = h.0.read; from = h.0.from; few = omega (arith, h.0.few) }
-read-begun held left before after (Err Words) h = absurd h
-read-begun held left before after (Err Hex) h = absurd h
-
 -- ---- octets that are given
 
+-- the octets that a word gives are taken, and the reader isn't called
 pub word-taken : (octets : List ℕ) (held : Option (List ℕ)) (count : ℕ)
     → IsTaken (Word octets) held held count count (Ok octets)
 word-taken octets held count = record {
@@ -118,21 +108,6 @@ word-taken octets held count = record {
       refl;
 }
 
-pub read-fault : (form : Form) (held left : Option (List ℕ)) (before after : ℕ) (fault : Fault)
-    → ReadsWhole held left before after (Err fault) → IsTaken (given.Read form) held left before after (Err fault)
-read-fault form held left before after fault h =
-    record { file = Err fault; is_file = λ asked. h; is_taken = inl refl; count = tt }
-
 counted : (before after : ℕ) (taken : Result (List ℕ) Fault) → after ≡ before → IfOk taken (λ _. after ≡ before)
 counted before after (Ok octets) h = h
 counted before after (Err fault) h = tt
-
-pub read-taken : (form : Form) (held left : Option (List ℕ)) (before after : ℕ) (text : List ℕ)
-    (taken : Result (List ℕ) Fault) → ReadsWhole held left before after (Ok text)
-    → UnlessMemory taken (octets_in form text) → IsTaken (given.Read form) held left before after taken
-read-taken form held left before after text taken h said = record {
-  file = Ok text;
-  is_file = λ asked. h;
-  is_taken = elim said [ inl memory ↦ inr (memory, h.count) | inr is ↦ inl is ];
-  count = counted before after taken h.count;
-}

@@ -16,7 +16,7 @@ use Rattle.card_words.specs.declared.fault.Fault.{Fault}
 use Rattle.tlv_core.proofs.Entries.{dol_verdict}
 use Rattle.tlv_core.proofs.Verdict.{one_verdict as forest_verdict}
 use Rattle.card_tool.proofs.Duplicates.{duplicate-or-not}
-use Rattle.chain_core.specs.Chain.{links}
+use Rattle.chain_core.specs.Chain.{chain_blocks}
 use Rattle.chain_core.proofs.Goes as chain_goes
 use Rattle.chain_core.specs.Cut.{cut_of}
 use Rattle.card_tool.specs.ChainTexts.{blocks_text, longest_message}
@@ -226,6 +226,7 @@ module _ (Line : List ℕ → List ℕ → Status → Type 0) (once : (line : Li
   told-each-once : (lines : List (List ℕ)) → OneText (AreTold Line lines)
   told-each-once lines = record { one = one-told-each lines; some = some-told-each lines }
 
+-- a request has one text with one status, where its size is one and what it has and reads for octets are octets
 pub one-answer : (request : Request) (file : Result (List ℕ) Fault) → IsSized request → HasOctets request
     → (NeedsOctets request → IfOk file AreOctets) → OneText (IsAnswerTo request file)
 one-answer (Check input) file sized octets as_read =
@@ -238,7 +239,7 @@ one-answer (Show input) file sized octets as_read =
     told-octets (Shows input.expected.kind input.expected) (λ b. shown input.expected.kind input.expected b sized.1)
     (octets_given input.given file) (octets-given input.given file octets as_read)
 one-answer (BuildChain ifs number message) file sized octets as_read =
-    plain (blocks_text (links number (cut_of ifs message)))
+    plain (blocks_text (chain_blocks number (cut_of ifs message)))
 one-answer (BuildTidy given) file sized octets as_read =
     told-octets Tidies tidied (octets_given given file) (octets-given given file octets as_read)
 one-answer (BuildFill list known) file sized octets as_read = filled-once list known octets

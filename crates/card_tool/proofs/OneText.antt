@@ -59,6 +59,7 @@ read-same words read again (taken free e) (not_taken other f) = absurd (no-other
 read-same words read again (not_taken other e) (taken free f) = absurd (no-other _ free other)
 read-same words read again (not_taken other e) (not_taken another f) = inr (f ∙ sym e)
 
+-- the same words and file, of octets where they are asked for, have one text and status, but for a call for help
 pub one-text : (words : List (List ℕ)) (file : Result (List ℕ) Fault) (text other : List ℕ) (ended different : Status)
     → (AskForOctets words → IfOk file AreOctets) → IsAnswer words file text ended → IsAnswer words file other different
     → IsAmong DisplayHelp (fault_of scard words) ⊎ ((text ≡ other) × (ended ≡ different))
@@ -97,6 +98,7 @@ some-answer words file octets (Ok request) read =
 some-answer words file octets (Err fault) read =
     (fault_text fault, status.Fault, record { read = Err fault; is_read = read; is_answer = (refl, refl) })
 
+-- and they have some
 pub some-text : (words : List (List ℕ)) (file : Result (List ℕ) Fault) → (AskForOctets words → IfOk file AreOctets)
     → (text : List ℕ) × (ended : Status) × IsAnswer words file text ended
 some-text words file octets = let read = some-read words (fault_of scard words) refl in

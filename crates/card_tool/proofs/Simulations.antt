@@ -27,10 +27,12 @@ text-of r = exchange_text (exchange_of r)
 
 -- ---- what holds of an answer
 
+-- what follows from what holds of a success holds of it too
 pub if-ok : {A E : Type 0} (r : Result A E) {P Q : A → Type 0} → ((a : A) → P a → Q a) → IfOk r P → IfOk r Q
 if-ok (Ok a) f h = f a h
 if-ok (Err e) f h = tt
 
+-- and what follows from two such
 pub if-both-ok : {A E : Type 0} (r : Result A E) {P Q S : A → Type 0} → ((a : A) → P a → Q a → S a) → IfOk r P
     → IfOk r Q → IfOk r S
 if-both-ok (Ok a) f h g = f a h g
@@ -120,6 +122,7 @@ module _ (s : Session) where
   some-found (Ok ifsc) f = some-ended ifsc f (simulated largest_file s (start s) (new_recording s.atr ifsc)) refl
   some-found (Err name) f = (refused_as_text name, status.Refused, unusable name f refl refl)
 
+  -- a session comes to one text with one status, where its answer to reset is octets
   pub simulated-once : AreOctets s.atr → OneText (Simulates s)
   simulated-once octets = record {
     one = one-simulated;

@@ -22,6 +22,7 @@ answered P (Ok a) text ended h e f = rw (e, f) h
 answered P (Err e) text ended h f g = tt
 
 module _ {E V R : Type 0} (c : Codec V R) (told : V → ℕ → List ℕ) (b : List ℕ) (r : Result Answer E) where
+  -- where the octets are accepted, and the text is that of their value
   pub tells-accepted : (v : V) (n : ℕ) → Takes c b v n → IfOk r (λ a. a.text ≡ told v n)
       → IfOk r (λ a. a.status ≡ status.Accepted)
       → IfOk r (λ a. Tells c told b a.text a.status)

@@ -8,7 +8,7 @@ use Rattle.card_tool.specs.Texts.{accepted_text, duplicate_text, refused_text}
 use Rattle.card_tool.specs.Codec.{Codec, Stops, Takes}
 use Rattle.card_tool.specs.AtrTexts.{atr_codec}
 use Rattle.card_tool.specs.BlockTexts.{block_codec}
-use Rattle.chain_core.specs.Chain.{links}
+use Rattle.chain_core.specs.Chain.{chain_blocks}
 use Rattle.card_tool.specs.ChainTexts.{blocks_text, chain_codec}
 use Rattle.card_tool.specs.CommandTexts.{command_codec}
 use Rattle.card_tool.specs.ResponseTexts.{response_codec}
@@ -112,7 +112,7 @@ IsAnswerTo (CheckLines expected) file text ended = IsToldOf (λ b. AreLinesTold 
 IsAnswerTo (Show input) file text ended =
     IsToldOf (Shows input.expected.kind input.expected) (octets_given input.given file) text ended
 IsAnswerTo (BuildChain ifs number message) file text ended =
-    (text ≡ blocks_text (links number (cut_of ifs message))) × (ended ≡ status.Accepted)
+    (text ≡ blocks_text (chain_blocks number (cut_of ifs message))) × (ended ≡ status.Accepted)
 IsAnswerTo (BuildTidy given) file text ended = IsToldOf Tidies (octets_given given file) text ended
 IsAnswerTo (BuildFill list known) file text ended = IsFilled list known text ended
 IsAnswerTo (Replay side) file text ended = IsToldOf (Replays side) file text ended

@@ -4,16 +4,13 @@ use Rattle.hex.specs.Hex.{encode_upper}
 use Rattle.octet_core.specs.Grammar.{Accepts, self_ended}
 use Rattle.block_core.specs.Block.{Parts, spelling}
 use Rattle.block_core.specs.declared.pcb.Number.{Number}
+pub use Rattle.chain_core.specs.Chain.{longest_message}
 use Rattle.chain_core.specs.Chain.{IsChain, IsReason, message_of}
-use Rattle.chain_core.specs.Taken.{Reception}
+use Rattle.chain_core.specs.Taking.{Taking}
 pub use Rattle.chain_core.specs.Names.{reason_name as reason_text}
 use Rattle.card_tool.specs.Texts.{octets_text}
 use Rattle.chain_core.specs.declared.reason.ChainReason.{ChainReason}
 use Rattle.card_tool.specs.Codec.{Codec}
-
--- the greatest number of octets of a message
-abbrev pub longest_message : ℕ
-longest_message = 131072
 
 -- the octets of each block, a line a block
 abbrev pub blocks_text : List Parts → List ℕ
@@ -26,7 +23,7 @@ chain_text fields = codes "blocks " ++ (decimal (length fields)
     ++ (codes "\nmessage " ++ (octets_text (message_of fields) ++ codes "\n")))
 
 -- the receiver r has taken the chain with which the octets b begin, which takes n of them
-pub record IsReceived (ifs : ℕ) (number : Number) (b : List ℕ) (r : Reception) (n : ℕ) : Type 0 where
+pub record IsReceived (ifs : ℕ) (number : Number) (b : List ℕ) (r : Taking) (n : ℕ) : Type 0 where
   pub fields : List (List ℕ)
   pub accepted : Accepts self_ended (IsChain ifs number longest_message) b fields n
   pub count : r.blocks ≡ length fields

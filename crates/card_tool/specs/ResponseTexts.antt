@@ -1,8 +1,9 @@
 -- What the program says of a response.
-use Rattle.std.specs.Prelude.{ℕ, List, [], ◌∷◌, ◌++◌, ◌&&◌, ◌==◌, nat_le, codes, if◌then◌else◌}
+use Rattle.std.specs.Prelude.{ℕ, List, [], ◌∷◌, ◌++◌, codes}
 use Rattle.hex.specs.Hex.{encode_upper}
 use Rattle.apdu_core.specs.Response.{ResponseParts, IsResponse, IsReason}
 pub use Rattle.apdu_core.specs.Names.{response_reason_name as reason_text}
+use Rattle.apdu_core.specs.Status.{class_of}
 use Rattle.apdu_core.specs.declared.status.StatusClass.{StatusClass}
 use Rattle.apdu_core.specs.declared.status.StatusClass.TheVariants.{Normal, Warning, Execution, Checking, Proprietary, Invalid}
 use Rattle.card_tool.specs.Texts.{octets_text}
@@ -17,19 +18,6 @@ name_of Execution = codes "execution"
 name_of Checking = codes "checking"
 name_of Proprietary = codes "proprietary"
 name_of Invalid = codes "invalid"
-
--- the class of status bytes, by the first of them in rising order
-abbrev pub class_of : ℕ → ℕ → StatusClass
-class_of sw1 sw2 =
-    if nat_le sw1 0x60 then Invalid
-    else (if sw1 == 0x61 then Normal
-    else (if nat_le sw1 0x63 then Warning
-    else (if nat_le sw1 0x66 then Execution
-    else (if nat_le sw1 0x6F then Checking
-    else (if nat_le sw1 0x8F then Invalid
-    else (if sw1 == 0x90 && sw2 == 0 then Normal
-    else (if nat_le sw1 0x9F then Proprietary
-    else Invalid)))))))
 
 abbrev pub class_text : ℕ → ℕ → List ℕ
 class_text sw1 sw2 = name_of (class_of sw1 sw2)

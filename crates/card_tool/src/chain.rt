@@ -2,7 +2,7 @@
 
 ghost use Rattle.std.specs.Prelude.{◌≡◌, ◌≤◌, ℕ, List, length, true, None, refl, IfOk, IfErr, string_bytes};
 ghost use Rattle.octet_core.specs.Grammar.{self_ended, RefusesUnlessMemory};
-ghost use Rattle.chain_core.specs.Chain.{links, message_of, IsChain, IsReason};
+ghost use Rattle.chain_core.specs.Chain.{chain_blocks, message_of, IsChain, IsReason};
 ghost use Rattle.chain_core.specs.Cut.{cut_of};
 ghost use Rattle.hex.specs.Hex.{encode_upper};
 ghost use Rattle.block_core.specs.Block.{spelling};
@@ -84,7 +84,7 @@ pub(crate) fn blocks(
     requires least { 1 ≤ ifs }
     requires most { ifs ≤ 254 }
     ensures { IfOk result (λ text.
-        string_bytes text ≡ blocks_text (links number (cut_of ifs message.now))) }
+        string_bytes text ≡ blocks_text (chain_blocks number (cut_of ifs message.now))) }
 {
     let mut lines = String::new(alloc);
     for block in cut(message, ifs, number) {

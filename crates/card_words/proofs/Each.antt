@@ -11,6 +11,7 @@ then values rest = rest >>= (λ more. Ok (values ++ more))
 abbrev done : {A : Type 0} → List A → Result (List A) Fault
 done values = Ok values
 
+-- a value that was said comes after those that were read, and the words after it are left
 pub then-one : {A : Type 0} (said : List ℕ → Result A Fault) (values : List A) (one : A) (word : List ℕ)
     (words : List (List ℕ)) → said word ≡ Ok one
     → then values (each said (word ∷ words)) ≡ then (values ++ one ∷ []) (each said words)
@@ -21,6 +22,7 @@ then-one {A = A} said values one word words h = rw h (go (each said words))
     go (Ok more) = ap done (sym (append_assoc values (one ∷ []) more))
     go (Err fault) = refl
 
+-- where the next word is at fault, that is the fault of all
 pub then-fault : {A : Type 0} (said : List ℕ → Result A Fault) (values : List A) (fault : Fault) (word : List ℕ)
     (words : List (List ℕ)) → said word ≡ Err fault
     → then values (each said (word ∷ words)) ≡ Err fault

@@ -36,6 +36,7 @@ loosely : (r : Result (List ℕ) Fault) → ((octets : List ℕ) → r ≡ Ok oc
 loosely (Ok octets) h = h octets refl
 loosely (Err fault) h = tt
 
+-- the octets that are given are octets, where those of a word are, and those that are taken as they are read
 pub octets-given : (given : Given) (file : Result (List ℕ) Fault) → GivesOctets given
     → (IsAsRead given → IfOk file AreOctets) → IfOk (octets_given given file) AreOctets
 octets-given (Word octets) file h as_read = h

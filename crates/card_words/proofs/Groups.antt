@@ -42,6 +42,7 @@ next-group octets longer group groups i all at (one, said, is) kept =
     drop_more groups i group at.0 ∙ ap (λ (g : List ℕ). g ∷ drop (i + 1) groups) (sym at.1) in
     rw is (sym (one-more octets one group (drop (i + 1) groups) said) ∙ ap (after octets) (sym next) ∙ kept)
 
+-- or it is at fault, and that is the fault of the text, or memory ran out
 pub next-fault : (octets longer group : List ℕ) (groups : List (List ℕ)) (i : ℕ) (all : Result (List ℕ) Fault)
     (fault : Fault) → (i < length groups) × (group ≡ get_or groups i group)
     → AddsGroup group octets longer (Err fault) → after octets (drop i groups) ≡ all → UnlessMemory (Err fault) all

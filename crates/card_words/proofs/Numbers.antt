@@ -16,6 +16,7 @@ first-number numbers longer n word rest first after e free said is kept =
     ∙ ap (λ words. then numbers (each block_number words)) (sym (slice_split-at 44 first after free))
     ∙ ap (λ r. then numbers (block_numbers r)) (sym e) ∙ kept)
 
+-- a fault before a comma is the fault of the word
 pub first-fault : (numbers : List ℕ) (fault : Fault) (word rest first after : List ℕ) → rest ≡ first ++ 44 ∷ after
     → Lacks 44 first → block_number first ≡ Err fault
     → then numbers (block_numbers rest) ≡ block_numbers word
@@ -35,6 +36,7 @@ last-number numbers longer n word rest free said is kept =
     ∙ sym (then-one block_number numbers n rest [] said)
     ∙ ap (λ words. then numbers (each block_number words)) (sym (slice_split-Lacks 44 rest free)) ∙ kept))
 
+-- and so is one after the last comma
 pub last-fault : (numbers : List ℕ) (fault : Fault) (word rest : List ℕ) → Lacks 44 rest → block_number rest ≡ Err fault
     → then numbers (block_numbers rest) ≡ block_numbers word
     → UnlessMemory {X = List ℕ} (Err fault) (block_numbers word)

@@ -39,9 +39,11 @@ byte-read otherwise word (Err e) h = go (is_unsigned_in 0 255 word) refl
     go false t = rw t refl
     go true t = let a = accepts-Accepts false (parser.Unsigned 0 255) word t in absurd (h (a.0, omega (arith, a.3)))
 
+-- a number from 1 to 254 is the information size that the word says
 pub size-in : (word : List ℕ) (z : ℕ) → z ≡ byte_or 0 word → 1 ≤ z → z ≤ 254 → Ok z ≡ size_of (Some word)
 size-in word z e low high = rw e (grind (arith, nat_tests))
 
+-- and with any other the words are at fault
 pub size-out : (word : List ℕ) (z : ℕ) → z ≡ byte_or 0 word → (z < 1) ⊎ (254 < z) → Err Words ≡ size_of (Some word)
 size-out word z e out = rw (← e) (grind (arith, nat_tests))
 
@@ -62,14 +64,17 @@ refused-word word hex.Memory h other = inl refl
 
 -- ---- a parse
 
+-- where a parse succeeds, nothing is wrong with the words
 pub fails-ok : {T : Type 0} (kinds : Kinds) (r : Result T Error) → FailsBy kinds r → IfOk r (λ _. kinds ≡ [])
 fails-ok kinds (Ok x) h = h
 fails-ok kinds (Err e) h = tt
 
+-- where it fails, its error is of a kind that is wrong with them
 pub fails-err : {T : Type 0} (kinds : Kinds) (r : Result T Error) → FailsBy kinds r → IfErr r (HasKind kinds)
 fails-err kinds (Ok x) h = tt
 fails-err kinds (Err e) h = h
 
+-- what a failed parse comes to by its kind is what the words are read as, or memory ran out
 pub help-or-fault : (words : List (List ℕ)) (kind : ErrorKind) (read : Result Request Fault) → (kind ≡ OutOfMemory)
     ⊎ IsAmong kind (fault_of scard words) → IsHelpOrFault kind read → (read ≡ Err Memory) ⊎ IsRead words read
 help-or-fault words OutOfMemory read known h = inl h
@@ -82,18 +87,22 @@ help-or-fault words DisplayHelp read (inr among) h =
 help-or-fault words kind read (inl e) h = absurd (cc)
 help-or-fault words kind read (inr among) h = inr (not_taken (kind, among, λ e. cc) h)
 
+-- a word for 0 says the number zero
 pub number-zero : (word : List ℕ) (n : ℕ) → n ≡ byte_or 2 word → n ≡ 0 → Ok Zero ≡ number_of_word word
 number-zero word n e z = rw (← e, z) refl
 
+-- and one for 1 the number one
 pub number-one : (word : List ℕ) (n : ℕ) → n ≡ byte_or 2 word → n ≡ 1 → Ok One ≡ number_of_word word
 number-one word n e z = rw (← e, z) refl
 
+-- with any other the words are at fault
 pub number-none : (word : List ℕ) (n : ℕ) → n ≡ byte_or 2 word → (n ≡ 0 → ⊥) → (n ≡ 1 → ⊥)
     → Err Words ≡ number_of_word word
 number-none word n e nz other = rw (← e) (grind (arith, nat_tests))
 
 -- ---- chains
 
+-- three words are the information size, the number and the octets of a chain
 pub chain-is : (words : List (Bor (List ℕ))) (d : Bor (List ℕ)) → length words ≡ 3
     → chain_of (map (λ word. word.now) words) ≡ chain_by (get_or words 0 d).now (get_or words 1 d).now
     (get_or words 2 d).now
@@ -103,14 +112,7 @@ chain-is (a ∷ b ∷ []) d e = absurd (omega arith)
 chain-is (a ∷ b ∷ c ∷ []) d e = refl
 chain-is (a ∷ b ∷ c ∷ w ∷ words) d e = absurd (omega arith)
 
-pub chain-other : (words : List (Bor (List ℕ))) → (length words ≡ 3 → ⊥)
-    → Err Words ≡ chain_of (map (λ word. word.now) words)
-chain-other [] h = refl
-chain-other (a ∷ []) h = refl
-chain-other (a ∷ b ∷ []) h = refl
-chain-other (a ∷ b ∷ c ∷ []) h = absurd (h (omega arith))
-chain-other (a ∷ b ∷ c ∷ w ∷ words) h = refl
-
+-- where all three are read, and the octets are 131,072 at most, they ask for that chain
 pub chain-built : (size number_word hex : List ℕ) (ifs : ℕ) (number : Number) (message : List ℕ)
     (octets : Result (List ℕ) Fault) → size_of (Some size) ≡ Ok ifs → number_of_word number_word ≡ Ok number
     → octets ≡ Ok message → UnlessMemory octets (octets_of_word hex) → length message ≤ 131072

@@ -22,6 +22,7 @@ use Rattle.card_words.specs.declared.request.Input.{Input}
 use Rattle.card_words.specs.declared.request.Request.{Request}
 use Rattle.card_words.specs.declared.request.Request.TheVariants.{BuildTidy, CheckLines, Migrate, Help}
 
+-- where two steps come to a value, the first comes to one, and from that the second to this
 pub both-steps : {A B : Type 0} (r : Result A Fault) (f : A → Result B Fault) (b : B) → r >>= f ≡ Ok b → (a : A)
     × (r ≡ Ok a) × (f a ≡ Ok b)
 both-steps (Ok a) f b h = (a, refl, h)
@@ -31,14 +32,17 @@ one-of : {A : Type 0} (b : Bool) (x y : Result A Fault) (a : A) → (if b then x
 one-of true x y a h = inl h
 one-of false x y a h = inr h
 
+-- what came to this value
 abbrev pub read_as : {A : Type 0} → A → Result A Fault
 read_as a = Ok a
 
+-- what came to the same has the same value
 pub same : {A : Type 0} (a b : A) → read_as a ≡ read_as b → a ≡ b
 same {A = A} a b h = ap (λ (r : Result A Fault). result_unwrap_or r b) h
 
 -- ---- words
 
+-- octets that came from a decoder are those that it gave
 pub read-hex : (read : Result (List ℕ) FromHexError) (octets : List ℕ) → hex_octets read ≡ Ok octets → read ≡ Ok octets
 read-hex (Ok b) octets h = ap Ok (same b octets h)
 read-hex (Err e) octets h = cc h
@@ -257,6 +261,7 @@ named-proper name rows request h =
           ]
     ]
 
+-- in a request that words make, an information size is one, and octets are octets
 pub request-proper : (entered : Option (List ℕ × List Row)) (request : Request) → request_of entered ≡ Ok request
     → IsSized request × HasOctets request
 request-proper None request h = cc h
@@ -269,10 +274,7 @@ read-proper words request (taken free e) = request-proper (subcommand_of scard w
 read-proper words request (called_for_help among help e) = subst IsProper (sym (same request (Help help) e)) (tt, tt)
 read-proper words request (not_taken other e) = absurd (cc)
 
-pub read-octets : (words : List (List ℕ)) (read : Result Request Fault) → IsRead words read → IfOk read HasOctets
-read-octets words (Ok request) h = (read-proper words request h).1
-read-octets words (Err fault) h = tt
-
+-- and what is made of words, unless memory runs out, has octets for its octets
 pub request-octets : (entered : Option (List ℕ × List Row)) (result : Result Request Fault)
     → UnlessMemory result (request_of entered) → IfOk result HasOctets
 request-octets entered (Ok request) (inl memory) = absurd (cc)

@@ -1,7 +1,6 @@
 -- How known values are read.
-use Rattle.std.proofs.Common.{◌≡◌, ◌<◌, inl, inr, ℕ, List, [], ◌∷◌, false, true, Bool, Option, Some, None, Result, Ok, Err, arith, refl}
+use Rattle.std.proofs.Common.{◌≡◌, inl, inr, ℕ, List, false, true, Bool, Option, Some, None, Result, Ok, Err, refl}
 use Rattle.std.specs.Option.{MatchOption, ok_or}
-use Rattle.std.proofs.lemmas.Bool.Decides.{nat_tests}
 use Rattle.hex.specs.Hex.{decode_of}
 use Rattle.hex.specs.declared.error.FromHexError.{FromHexError}
 use Rattle.octet_core.specs.Octets.{AreOctets}
@@ -9,28 +8,14 @@ use Rattle.octet_core.specs.Hexadecimal.{IsHexFault}
 use Rattle.octet_core.specs.declared.hexadecimal.HexFault.{HexFault}
 use Rattle.octet_core.specs.declared.hexadecimal.HexFault.TheVariants as hex
 use Rattle.octet_core.proofs.HexadecimalLemmas.{fault-refused}
-use Rattle.tlv_core.specs.Tag.{IsTag}
+use Rattle.tlv_core.specs.Tag.{IsTag, is_tag}
+use Rattle.tlv_core.proofs.TagTests.{tested-tag, tag-tests}
 use Rattle.card_words.specs.Faults.{fault_of_hex}
-use Rattle.card_words.specs.Known.{is_tag, tag_of, tag_of_word}
+use Rattle.card_words.specs.Known.{tag_of, tag_of_word}
 use Rattle.card_words.specs.Value.{◌>>=◌, hex_octets, UnlessMemory}
 use Rattle.card_words.specs.declared.fault.Fault.TheVariants.{Words, Hex}
 
 -- ---- tags
-
-tested-tag : (b : List ℕ) → AreOctets b → is_tag b ≡ true → IsTag b
-tested-tag [] octets h = absurd (cc)
-tested-tag (x ∷ []) octets h = let o : x < 256 = octets 0 in grind (arith, nat_tests)
-tested-tag (x ∷ y ∷ []) octets h = let o : x < 256 = octets 0 in grind (arith, nat_tests)
-tested-tag (x ∷ y ∷ z ∷ []) octets h = let o : x < 256 = octets 0 in let p : y < 256 =
-    octets 1 in grind (arith, nat_tests)
-tested-tag (x ∷ y ∷ z ∷ w ∷ more) octets h = absurd (cc)
-
-tag-tests : (b : List ℕ) → IsTag b → is_tag b ≡ true
-tag-tests [] h = absurd h
-tag-tests (x ∷ []) h = grind (arith, nat_tests)
-tag-tests (x ∷ y ∷ []) h = grind (arith, nat_tests)
-tag-tests (x ∷ y ∷ z ∷ []) h = grind (arith, nat_tests)
-tag-tests (x ∷ y ∷ z ∷ w ∷ more) h = absurd h
 
 -- the tag of octets, where they are one
 pub tag-is : (b : List ℕ) (r : Option (List ℕ)) → AreOctets b → MatchOption r (IsTag b → ⊥) (λ tag. IsTag b × (tag ≡ b))

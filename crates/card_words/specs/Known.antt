@@ -1,9 +1,10 @@
 -- Known values as words, each F:TAG:VALUE.
-use Rattle.std.specs.Prelude.{◌&&◌, ◌==◌, not, ℕ, nat_lt, ◌%◌, List, [], ◌∷◌, codes, Bool, false, Result, Ok, Err, if◌then◌else◌}
+use Rattle.std.specs.Prelude.{ℕ, List, codes, Result, Ok, Err, if◌then◌else◌}
 use Rattle.std.specs.Str.{bytes_eq}
 use Rattle.hex.specs.Hex.{decode_of}
 use Rattle.octet_core.specs.declared.format.Format.{Format}
 use Rattle.octet_core.specs.declared.format.Format.TheVariants.{Numeric, CompressedNumeric, Other}
+use Rattle.tlv_core.specs.Tag.{is_tag}
 use Rattle.tlv_core.specs.declared.known.Known.{Known}
 use Rattle.card_words.specs.Value.{◌>>=◌, each, hex_octets, octets_of_word, parted}
 use Rattle.card_words.specs.declared.fault.Fault.{Fault}
@@ -16,13 +17,6 @@ format_of word =
     else (if bytes_eq word (codes "c") then Ok CompressedNumeric
     else (if bytes_eq word (codes "o") then Ok Other
     else Err Words))
-
--- whether octets are one whole tag (EMV 4.3 Book 3, Annex B)
-abbrev pub is_tag : List ℕ → Bool
-is_tag (x ∷ []) = nat_lt 0 x && not (x % 32 == 31)
-is_tag (x ∷ y ∷ []) = x % 32 == 31 && nat_lt 0 y && nat_lt y 128
-is_tag (x ∷ y ∷ z ∷ []) = x % 32 == 31 && nat_lt 128 y && nat_lt z 128
-is_tag _ = false
 
 abbrev pub tag_of : List ℕ → Result (List ℕ) Fault
 tag_of octets = if is_tag octets then Ok octets else Err Words

@@ -10,6 +10,7 @@ use Rattle.clap.specs.declared.builder.value_parser.ValueParser.TheVariants as p
 use Rattle.clap.specs.declared.error.kind.ErrorKind.{ErrorKind}
 use Rattle.clap.specs.declared.error.kind.ErrorKind.TheVariants.{DisplayHelp, OutOfMemory}
 use Rattle.octet_core.specs.Octets.{AreOctets}
+use Rattle.chain_core.specs.Chain.{longest_message}
 use Rattle.card_words.specs.Given.{asks_for_lines, given_of, GivesOctets, IsAsRead, IsFromReader}
 use Rattle.card_words.specs.Known.{knowns_of}
 use Rattle.card_words.specs.Session.{blocks_of, pairs_of, AreOctetPairs, IsSize}
@@ -188,7 +189,7 @@ check_of rows = expected_of rows >>= (λ expected.
 
 -- a message that a chain can carry
 abbrev pub short_message : List ℕ → Result (List ℕ) Fault
-short_message octets = if nat_le (length octets) 131072 then Ok octets else Err Words
+short_message octets = if nat_le (length octets) longest_message then Ok octets else Err Words
 
 -- IFS NUMBER HEX
 abbrev pub chain_by : List ℕ → List ℕ → List ℕ → Result Request Fault
@@ -282,7 +283,7 @@ abbrev pub IsSized : Request → Type 0
 IsSized (Check input) = (1 ≤ input.expected.ifs) × (input.expected.ifs ≤ 254)
 IsSized (CheckLines expected) = (1 ≤ expected.ifs) × (expected.ifs ≤ 254)
 IsSized (Show input) = (1 ≤ input.expected.ifs) × (input.expected.ifs ≤ 254)
-IsSized (BuildChain ifs number message) = (1 ≤ ifs) × (ifs ≤ 254) × (length message ≤ 131072)
+IsSized (BuildChain ifs number message) = (1 ≤ ifs) × (ifs ≤ 254) × (length message ≤ longest_message)
 IsSized (BuildTidy given) = Unit {0}
 IsSized (BuildFill list known) = Unit {0}
 IsSized (Replay side) = Unit {0}

@@ -16,6 +16,7 @@ use crate::request::{End, Expected, Input, Kind, Request};
 use crate::session::{Session, read_blocks, read_pairs};
 use crate::value::octets;
 use block_core::Number;
+use chain_core::LONGEST_MESSAGE;
 use clap::error::ErrorKind;
 use clap::{ArgMatches, Error};
 use octet_core::Text;
@@ -198,7 +199,7 @@ fn chain(alloc: Global, words: &[&str]) -> Result<Request, Fault>
     let ifs = size(Some(words[0]))?;
     let number = number(words[1])?;
     let message = octets(alloc, words[2])?;
-    if message.get().len() > 131_072 {
+    if message.get().len() > LONGEST_MESSAGE {
         return Err(Fault::Words);
     }
     Ok(Request::BuildChain {

@@ -40,6 +40,7 @@ module _ {V R State : Type 0} (S : V → List ℕ → Type 0) (Reason : R → Li
       let all : take n x ≡ x = ap (λ (k : ℕ). take k x) (f.whole refl) ∙ take-length x in
       inl (subst (λ (l : List ℕ). HasTaken new (t ++ l)) all (f.taken.1 t h))
 
+  -- a reader that has taken nothing, and is fed what v spells in two pieces, has taken all of it
   pub two-pieces : (old mid new : State) (x y : List ℕ) (v : V) (first second : Result (ℕ × Bool) (Stop R))
       → HasTaken old [] → S v (x ++ y)
       → IsFed S Reason HasTaken refusal_of old mid x first → IsFed S Reason HasTaken refusal_of mid new y second

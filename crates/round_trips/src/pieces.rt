@@ -2,18 +2,18 @@
 
 ghost use Rattle.std.specs.Prelude.{◌≡◌, ◌≤◌, ◌<◌, ℕ, List, length, IfOk, None, true};
 ghost use Rattle.octet_core.specs.Octets.{AreOctets};
-ghost use Rattle.apdu_core.specs.Command.{IsCommand};
+ghost use Rattle.apdu_core.specs.Command.{IsCommand, longest_command};
 ghost use Rattle.apdu_core.specs.Response.{IsResponse};
 ghost use Rattle.apdu_core.specs.Sending.{chain_of};
 
-use apdu_core::{Command, Response, decode_command, decode_response, send_command, send_response};
+use apdu_core::{
+    Command, LONGEST_COMMAND, Response, decode_command, decode_response, send_command,
+    send_response,
+};
 use block_core::Number;
 use chain_core::Receiver;
 use octet_core::{Counted, Refused};
 use std::alloc::{AllocError, Global};
-
-/// The octets of the longest message of an APDU.
-const LONGEST_APDU: usize = 65_544;
 
 /// The command that arrives where one is sent as a chain and a receiver is fed this chain in two pieces, of
 /// which the first ends at the place `cut`, or with the chain.
@@ -102,7 +102,7 @@ fn response_chain(
 }
 
 /// A receiver that was fed octets in two pieces: where they are the cut of a message it is done, with this
-/// message.
+/// message. The longest message of an APDU is that of a command.
 fn fed_in_two(
     alloc: Global,
     chain: &[u8],
@@ -112,14 +112,14 @@ fn fed_in_two(
 ) -> Result<Receiver, AllocError>
     requires least { 1 ≤ ifs }
     requires most { ifs ≤ 254 }
-    ensures { IfOk result (λ r. (b : List ℕ) → AreOctets b → length b ≤ 65544
+    ensures { IfOk result (λ r. (b : List ℕ) → AreOctets b → length b ≤ longest_command
         → chain.now ≡ chain_of ifs number b → (r.refusal ≡ None) × (r.done ≡ true)
         × (r.joined ≡ b)) }
 {
     chain_core::laws::taken();
     chain_core::laws::one_spelled();
     chain_core::laws::cut_is_a_chain();
-    let mut receiver = Receiver::new(alloc, ifs, number, LONGEST_APDU)?;
+    let mut receiver = Receiver::new(alloc, ifs, number, LONGEST_COMMAND)?;
     let (front, back) = chain.split_at(cut.min(chain.len()));
     let _front = receiver.feed(front);
     let _back = receiver.feed(back);

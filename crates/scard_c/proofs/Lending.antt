@@ -17,7 +17,7 @@ use Rattle.tlv_core.specs.Check.{Checked}
 use Rattle.tlv_core.specs.Places.{checked_at}
 use Rattle.scard_c.specs.declared.kept_check.CCheck.{CCheck}
 use Rattle.chain_core.specs.declared.places.ReceiverPlaces.{ReceiverPlaces}
-use Rattle.chain_core.specs.Taken.{Reception}
+use Rattle.chain_core.specs.Taking.{Taking}
 use Rattle.chain_core.specs.Places.{received_at}
 use Rattle.scard_c.specs.KeptReceiver.{IsReceiver, receiver_of}
 use Rattle.scard_c.specs.declared.kept_receiver.CReceiver.{CReceiver}
@@ -55,7 +55,7 @@ same-receiver : (spelled : Option ReceiverPlaces) (p q : ReceiverPlaces) → spe
 same-receiver spelled p q e f = cc
 
 -- the receiver that a state and a buffer are has the places that the state spells
-pub receiver-held-by : (c : CReceiver) (message : List ℕ) (r : Reception) (p : ReceiverPlaces) → receiver_of c ≡ Some p
+pub receiver-held-by : (c : CReceiver) (message : List ℕ) (r : Taking) (p : ReceiverPlaces) → receiver_of c ≡ Some p
     → IsReceiver c message r → r ≡ received_at p message
 receiver-held-by c message r p e is = is.held
     ∙ ap (λ (q : ReceiverPlaces). received_at q message) (same-receiver (receiver_of c) is.places p is.spelled e)

@@ -2,7 +2,6 @@ pub mod Firsts
 pub mod Lending
 pub mod Loosed
 pub mod Puts
-pub mod Refusals
 pub mod Turns
 pub mod Values
 pub mod Placing

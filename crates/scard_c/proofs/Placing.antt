@@ -12,6 +12,7 @@ use Rattle.scard_c.specs.Parts.{placed_of, part_shown, part_put, AreShallow}
 
 -- ---- places
 
+-- the parts of a forest without the octets of their values are its objects, each before those inside it
 pub placed-tree : (t : Tree) (d at : ℕ) → map placed_of (parts_of d at t) ≡ preorder d at t
 placed-tree End d at = refl
 placed-tree (Filler rest) d at = placed-tree rest d (at + 1)
@@ -44,6 +45,7 @@ shallow-append : (ps qs : List PartValue) → AreShallow ps → AreShallow qs �
 shallow-append [] qs h k = k
 shallow-append (p ∷ ps) qs h k = (h.0, shallow-append ps qs h.1 k)
 
+-- each part of a forest is at most 16 deep
 pub shallow-tree : (t : Tree) (d at : ℕ) → IsProper d t → AreShallow (parts_of d at t)
 shallow-tree End d at proper = tt
 shallow-tree (Filler rest) d at proper = shallow-tree rest d (at + 1) proper
@@ -62,6 +64,7 @@ shallow-at [] i p h inside = absurd (omega (arith, inside))
 shallow-at (q ∷ ps) zero p h inside = h.0
 shallow-at (q ∷ ps) (suc i) p h inside = shallow-at ps i p h.1 (omega (arith, inside))
 
+-- and so is the one at any place among them
 pub shallow-part : (parts : List Part) (i : ℕ) (x : Part) → AreShallow (map part_seen parts) → i < length parts
     → x ≡ get_or parts i x → x.depth ≤ 16
 shallow-part parts i x h inside is =

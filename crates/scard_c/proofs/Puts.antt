@@ -35,16 +35,19 @@ pub verdict-fits : {A : Type 0} (given buffer : List A) → length given ≤ len
 verdict-fits given buffer h = ap (λ (b : Bool). if b then ok_at (length given) else wrong_argument (length given))
     (le-leb (length given) (length buffer) h)
 
+-- where there is too little room, C is told how much is needed
 pub verdict-lacks : {A : Type 0} (given buffer : List A) → length buffer < length given
     → put_verdict given buffer ≡ wrong_argument (length given)
 verdict-lacks given buffer h = ap (λ (b : Bool). if b then ok_at (length given) else wrong_argument (length given))
     (lt-leb (length given) (length buffer) h)
 
+-- where there is room, the buffer holds what was put in, and what was after it
 pub buffer-fits : {A : Type 0} (given buffer : List A) → length given ≤ length buffer → put_into given buffer ≡ given
     ++ drop (length given) buffer
 buffer-fits given buffer h = ap (λ (b : Bool). if b then given ++ drop (length given) buffer else buffer)
     (le-leb (length given) (length buffer) h)
 
+-- where there is too little, it stays
 pub buffer-lacks : {A : Type 0} (given buffer : List A) → length buffer < length given → put_into given buffer ≡ buffer
 buffer-lacks given buffer h = ap (λ (b : Bool). if b then given ++ drop (length given) buffer else buffer)
     (lt-leb (length given) (length buffer) h)

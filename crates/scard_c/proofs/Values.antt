@@ -30,19 +30,24 @@ use Rattle.scard_c.specs.Held.{held}
 use Rattle.scard_c.specs.contracts.engine.Engine as engine
 use Rattle.scard_c.specs.contracts.handle.Handle as handle
 
+-- the machine value of a struct of three fields
 abbrev pub three : Val → Val → Val → Val
 three v w x = vstruct (vcons v (vcons w (vcons x vnil)))
 
+-- the type of the program's allocator
 abbrev pub Z : RattleType
 Z = heap.the_row
 
+-- the type of a handle
 abbrev pub Handle : RattleType
 Handle = handle.the_row
 
+-- the program's allocator, with its laws
 abbrev pub al : Al
 al = record { row = Z; laws = heap_laws.the_row_laws; g = ghosts; d = impl [] tnil dnil; drops = impl [] tnil dnil }
 
 module _ {M : Type 1} {𝓤 : Ura M} {𝓛 : Logic 𝓤} {K : Type 0} {Γ : List (Item 𝓤)} {G : Goal 𝓤 𝓛.H} where
+  -- what a handle holds and its allocator make a handle
   pub handle_in : K → (p : Ptr) (f : Bool) (a : Z.Denot) (e : Option engine.the_row.Denot) (h : Val)
       → Step K 𝓛 (‵ (Handle.own_val (record { at = p; is_full = f; alloc = a; engine = e })
       (three (ptr_val p) (vbool f) h ∷ [])) ∷ Γ) G (‵ (held f p a e) ∷ ‵ (Z.own_val a (h ∷ [])) ∷ Γ) G
@@ -55,6 +60,7 @@ module _ {M : Type 1} {𝓤 : Ura M} {𝓛 : Logic 𝓤} {K : Type 0} {Γ : List
       (ptr_val p ∷ [], (vbool f ∷ [], (h ∷ [], tt))) $ fjoin t $ s)
 
 module _ {M : Type 1} {𝓤 : Ura M} {𝓛 : Logic 𝓤} {K : Type 0} {Γ : List (Item 𝓤)} {G : Goal 𝓤 𝓛.H} where
+  -- a handle is taken apart into what it holds and its allocator
   pub handle_out : K → (d : Handle.Denot) (vs : List Val)
       → ((h : Val) → vs ≡ three (ptr_val d.at) (vbool d.is_full) h ∷ [] → Good (layout Z) h
       → Seq K 𝓛 (‵ (held d.is_full d.at d.alloc d.engine) ∷ ‵ (Z.own_val d.alloc (h ∷ [])) ∷ Γ) G)

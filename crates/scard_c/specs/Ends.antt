@@ -19,7 +19,7 @@ use Rattle.scard_c.specs.declared.turn.CTurn.{CTurn}
 use Rattle.scard_c.specs.declared.engine.Engine.{Engine}
 use Rattle.scard_c.specs.declared.engine.Engine.TheVariants.{Terminal, Card, InPieces}
 use Rattle.scard_c.specs.declared.reader.Reader.TheVariants.{Atr, Block, Chain, Forest}
-use Rattle.chain_core.specs.Taken.{Reception}
+use Rattle.chain_core.specs.Taking.{Taking}
 
 -- a turn that sends nothing
 abbrev pub turned : ℕ → CTurn
@@ -99,7 +99,7 @@ CardTakes input (Some (InPieces r)) now old new turn = IsNoEnd (Some (InPieces r
 CardTakes input (Some (Card c)) now old new turn = TakesCardTurn c (input c) now old new turn
 
 -- the message of a chain, once it is whole
-abbrev pub joined_of : Reception → Option (List ℕ)
+abbrev pub joined_of : Taking → Option (List ℕ)
 joined_of r = if is_none r.refusal && r.done then Some r.joined else None
 
 -- the answer of a terminal, the command for which a card's host owes the reply, or the message of a whole chain

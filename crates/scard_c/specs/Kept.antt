@@ -4,7 +4,7 @@ use Rattle.block_core.specs.declared.pcb.Number.{Number}
 use Rattle.t1_core.specs.declared.turns.Cut.{Cut}
 use Rattle.t1_core.specs.declared.turns.TerminalWait.{TerminalWait}
 use Rattle.t1_core.specs.declared.turns.TerminalWait.TheVariants as terminal_wait
-use Rattle.t1_core.specs.declared.turns.Request.TheVariants.{Size, Time}
+use Rattle.t1_core.specs.declared.turns.CardAsked.TheVariants.{Size, Time}
 use Rattle.t1_core.specs.declared.turns.CardWait.{CardWait}
 use Rattle.t1_core.specs.declared.turns.CardWait.TheVariants as card_wait
 use Rattle.t1_core.specs.declared.places.TerminalPlaces.{TerminalPlaces}

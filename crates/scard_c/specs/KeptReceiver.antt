@@ -7,7 +7,7 @@ use Rattle.chain_core.specs.declared.part.Part.TheVariants.{Nad, Pcb, Len, Rest}
 use Rattle.chain_core.specs.declared.places.ReceiverPlaces.{ReceiverPlaces}
 use Rattle.chain_core.specs.declared.reason.ChainReason.{ChainReason}
 use Rattle.chain_core.specs.declared.reason.ChainReason.TheVariants.{BadNad, BadPcb, NotInfo, BadSequence, TooManyBlocks, BadLen, OverIfs, TooLong, BadLrc}
-use Rattle.chain_core.specs.Taken.{Reception}
+use Rattle.chain_core.specs.Taking.{Taking}
 use Rattle.chain_core.specs.Places.{AreReceiverPlaces, received_at}
 use Rattle.scard_c.specs.Number.{number_of}
 use Rattle.scard_c.specs.Kept.{mark_of}
@@ -64,7 +64,7 @@ receiver_of c = receiver_from c (number_of c.number) (part_from c (mark_of c.mor
     (refusal_from c.refused c.refused_at)
 
 -- A state and a buffer are this receiver. Where they are none, no receiver is it.
-pub record IsReceiver (c : CReceiver) (message : List ℕ) (r : Reception) : Type 0 where
+pub record IsReceiver (c : CReceiver) (message : List ℕ) (r : Taking) : Type 0 where
   pub places : ReceiverPlaces
   pub spelled : receiver_of c ≡ Some places
   pub fit : AreReceiverPlaces places (length message)

@@ -4,16 +4,16 @@ use Rattle.octet_core.specs.Grammar.{whole, Refuses, RefusesAt}
 use Rattle.octet_core.specs.Reader.{IsFed, IsFinished}
 use Rattle.octet_core.specs.declared.stop.Stop.{Stop}
 use Rattle.atr_core.specs.Atr.{AtrParts, IsAtr, IsReason as IsAtrReason, tck_of}
-use Rattle.atr_core.specs.Taking as taking
-use Rattle.atr_core.specs.Taking.{Taking}
+use Rattle.atr_core.specs.Taking as atr_reader
+use Rattle.atr_core.specs.Taking.{Taking as AtrTaking}
 use Rattle.atr_core.specs.declared.reason.AtrReason.{AtrReason}
 use Rattle.block_core.specs.Block.{Parts, IsBlock, IsReason as IsBlockReason}
-use Rattle.block_core.specs.Reading as reading
-use Rattle.block_core.specs.Reading.{Reading}
+use Rattle.block_core.specs.Taking as block_reader
+use Rattle.block_core.specs.Taking.{Taking as BlockTaking}
 use Rattle.block_core.specs.declared.reason.BlockReason.{BlockReason}
 use Rattle.chain_core.specs.Chain.{IsChain, IsReason as IsChainReason}
-use Rattle.chain_core.specs.Taken as taken
-use Rattle.chain_core.specs.Taken.{Reception}
+use Rattle.chain_core.specs.Taking as receiver
+use Rattle.chain_core.specs.Taking.{Taking as ChainTaking}
 use Rattle.chain_core.specs.declared.reason.ChainReason.{ChainReason}
 use Rattle.tlv_core.specs.Tree.{Tree}
 use Rattle.tlv_core.specs.Forest.{IsForest}
@@ -35,21 +35,22 @@ use Rattle.scard_c.specs.declared.reader.Reader.TheVariants.{Atr, Block, Chain, 
 
 -- ---- what a reader does with a piece
 
-pub record FeedsAtr (old new : Taking) (piece : List ℕ) (v : Verdict) : Type 0 where
+pub record FeedsAtr (old new : AtrTaking) (piece : List ℕ) (v : Verdict) : Type 0 where
   pub answer : Result (ℕ × Bool) (Stop AtrReason)
-  pub fed : IsFed IsAtr IsAtrReason taking.HasTaken taking.refusal_kept old new piece answer
+  pub fed : IsFed IsAtr IsAtrReason atr_reader.HasTaken atr_reader.refusal_of old new piece answer
   pub verdict : v ≡ told_fed atr_reason answer
 
-pub record FeedsBlock (old new : Reading) (piece : List ℕ) (v : Verdict) : Type 0 where
+pub record FeedsBlock (old new : BlockTaking) (piece : List ℕ) (v : Verdict) : Type 0 where
   pub answer : Result (ℕ × Bool) (Stop BlockReason)
-  pub fed : IsFed (IsBlock old.ifs) (IsBlockReason old.ifs) reading.HasTaken reading.refusal_of old new piece answer
+  pub fed : IsFed (IsBlock old.ifs) (IsBlockReason old.ifs) block_reader.HasTaken block_reader.refusal_of old new piece
+      answer
   pub size : new.ifs ≡ old.ifs
   pub verdict : v ≡ told_fed block_reason answer
 
-pub record FeedsChain (old new : Reception) (piece : List ℕ) (v : Verdict) : Type 0 where
+pub record FeedsChain (old new : ChainTaking) (piece : List ℕ) (v : Verdict) : Type 0 where
   pub answer : Result (ℕ × Bool) (Stop ChainReason)
-  pub fed : IsFed (IsChain old.ifs old.number old.max) (IsChainReason old.ifs old.number old.max) taken.HasTaken
-      taken.refusal_of old new piece answer
+  pub fed : IsFed (IsChain old.ifs old.number old.max) (IsChainReason old.ifs old.number old.max) receiver.HasTaken
+      receiver.refusal_of old new piece answer
   pub kept : (new.ifs ≡ old.ifs) × (new.number ≡ old.number) × (new.max ≡ old.max)
   pub verdict : v ≡ told_fed chain_reason answer
 
@@ -67,9 +68,9 @@ pub record FeedsForest (old new : Checked) (piece : List ℕ) (v : Verdict) : Ty
   pub verdict : v ≡ told_checked (length piece) (answer_of new.refusal)
 
 abbrev pub ReaderFeeds : Reader → List ℕ → Reader → Verdict → Type 0
-ReaderFeeds (Atr old) piece now v = (new : Taking) × (now ≡ Atr new) × FeedsAtr old new piece v
-ReaderFeeds (Block old) piece now v = (new : Reading) × (now ≡ Block new) × FeedsBlock old new piece v
-ReaderFeeds (Chain old) piece now v = (new : Reception) × (now ≡ Chain new) × FeedsChain old new piece v
+ReaderFeeds (Atr old) piece now v = (new : AtrTaking) × (now ≡ Atr new) × FeedsAtr old new piece v
+ReaderFeeds (Block old) piece now v = (new : BlockTaking) × (now ≡ Block new) × FeedsBlock old new piece v
+ReaderFeeds (Chain old) piece now v = (new : ChainTaking) × (now ≡ Chain new) × FeedsChain old new piece v
 ReaderFeeds (Forest old) piece now v = (new : Checked) × (now ≡ Forest new) × FeedsForest old new piece v
 
 -- the handle holds no reader
@@ -84,20 +85,20 @@ Feeds (Some (InPieces r)) piece now v = (s : Reader) × (now ≡ Some (InPieces 
 
 -- ---- what it says where no more octets come
 
-pub record EndsAtr (s : Taking) (v : Verdict) : Type 0 where
+pub record EndsAtr (s : AtrTaking) (v : Verdict) : Type 0 where
   pub answer : Result (Unit {0}) (Stop AtrReason)
-  pub finished : IsFinished IsAtr IsAtrReason taking.HasTaken taking.refusal_kept s answer
+  pub finished : IsFinished IsAtr IsAtrReason atr_reader.HasTaken atr_reader.refusal_of s answer
   pub verdict : v ≡ told_end atr_reason answer
 
-pub record EndsBlock (s : Reading) (v : Verdict) : Type 0 where
+pub record EndsBlock (s : BlockTaking) (v : Verdict) : Type 0 where
   pub answer : Result (Unit {0}) (Stop BlockReason)
-  pub finished : IsFinished (IsBlock s.ifs) (IsBlockReason s.ifs) reading.HasTaken reading.refusal_of s answer
+  pub finished : IsFinished (IsBlock s.ifs) (IsBlockReason s.ifs) block_reader.HasTaken block_reader.refusal_of s answer
   pub verdict : v ≡ told_end block_reason answer
 
-pub record EndsChain (s : Reception) (v : Verdict) : Type 0 where
+pub record EndsChain (s : ChainTaking) (v : Verdict) : Type 0 where
   pub answer : Result (Unit {0}) (Stop ChainReason)
-  pub finished : IsFinished (IsChain s.ifs s.number s.max) (IsChainReason s.ifs s.number s.max) taken.HasTaken
-      taken.refusal_of s answer
+  pub finished : IsFinished (IsChain s.ifs s.number s.max) (IsChainReason s.ifs s.number s.max) receiver.HasTaken
+      receiver.refusal_of s answer
   pub verdict : v ≡ told_end chain_reason answer
 
 pub record EndsCheck (s : Checked) (v : Verdict) : Type 0 where
@@ -127,12 +128,12 @@ Ends (Some (InPieces r)) v = ReaderEnds r v
 -- ---- what it has read
 
 -- the answer to reset that it has, once it is whole
-pub record GivesAtr (s : Taking) (old new : CAtr) (v : Verdict) : Type 0 where
+pub record GivesAtr (s : AtrTaking) (old new : CAtr) (v : Verdict) : Type 0 where
   pub answer : (v ≡ ok_at 0) ⊎ (v ≡ wrong_argument 0)
-  pub value : v.status ≡ 0 → (t : List ℕ) → taking.HasTaken s t → IsAtr (atr_of new) t
+  pub value : v.status ≡ 0 → (t : List ℕ) → atr_reader.HasTaken s t → IsAtr (atr_of new) t
       × (byte_of new.has_tck new.tck ≡ tck_of (atr_of new))
-  pub none : v.status ≢ 0 → (new ≡ old) × ((t : List ℕ) → taking.HasTaken s t → (a : AtrParts) → IsAtr a t → ⊥)
-  pub refused : IsSome (taking.refusal_kept s) → v ≡ wrong_argument 0
+  pub none : v.status ≢ 0 → (new ≡ old) × ((t : List ℕ) → atr_reader.HasTaken s t → (a : AtrParts) → IsAtr a t → ⊥)
+  pub refused : IsSome (atr_reader.refusal_of s) → v ≡ wrong_argument 0
 
 abbrev pub HasNone : {A : Type 0} → A → A → Verdict → Type 0
 HasNone old new v = (v ≡ wrong_argument 0) × (new ≡ old)
@@ -147,16 +148,16 @@ AtrOf (Some (InPieces (Chain s))) old new v = HasNone old new v
 AtrOf (Some (InPieces (Forest s))) old new v = HasNone old new v
 
 -- the block that it has, once it is whole, and its octets
-pub record WholeBlock (s : Reading) (old new : CBlock) (room out : List ℕ) (v : Verdict) : Type 0 where
+pub record WholeBlock (s : BlockTaking) (old new : CBlock) (room out : List ℕ) (v : Verdict) : Type 0 where
   pub block : Parts
-  pub kept : reading.HasTaken s s.taken
+  pub kept : block_reader.HasTaken s s.taken
   pub is : IsBlock s.ifs block s.taken
   pub octets : Puts (IsBlock 254 block) room out v
   pub seen : v.status ≡ 0 → new ≡ block_seen block
   pub stays : v.status ≢ 0 → new ≡ old
 
-pub record NoBlock (s : Reading) (old new : CBlock) (room out : List ℕ) (v : Verdict) : Type 0 where
-  pub none : (b : Parts) → reading.HasTaken s s.taken → IsBlock s.ifs b s.taken → ⊥
+pub record NoBlock (s : BlockTaking) (old new : CBlock) (room out : List ℕ) (v : Verdict) : Type 0 where
+  pub none : (b : Parts) → block_reader.HasTaken s s.taken → IsBlock s.ifs b s.taken → ⊥
   pub verdict : v ≡ wrong_argument 0
   pub stays : new ≡ old
   pub buffer : out ≡ room

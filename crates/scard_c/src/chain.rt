@@ -2,8 +2,8 @@
 
 ghost use Rattle.std.specs.Prelude.{◌≡◌, ◌≢◌, ◌≤◌, ◌<◌, ◌+◌, ◌++◌, length, take, drop, IfSome, IfNone};
 ghost use Rattle.block_core.specs.Block.{IsBlock};
-ghost use Rattle.chain_core.specs.Chain.{spelling};
-ghost use Rattle.chain_core.specs.Cut.{cut_of, first_link};
+ghost use Rattle.chain_core.specs.Chain.{longest_message, spelling};
+ghost use Rattle.chain_core.specs.Cut.{cut_of, leading_block};
 ghost use Rattle.scard_c.specs.Verdict.{Puts, put_verdict, put_into, wrong_argument};
 ghost use Rattle.scard_c.specs.Number.{IsReserved, number_of};
 ghost use Rattle.scard_c.specs.Chain.{chain_reason};
@@ -27,7 +27,7 @@ pub extern "C" fn scard_chain_block(
 ) -> Verdict
     ensures written { (IsReserved ifs → ⊥) → start ≤ length message.now →
         IfSome (number_of ns) (λ number.
-        Puts (IsBlock 254 (first_link ifs number (drop start message.now))) out.old out.new result) }
+        Puts (IsBlock 254 (leading_block ifs number (drop start message.now))) out.old out.new result) }
     ensures size { IsReserved ifs → result ≡ wrong_argument 0 }
     ensures number { IfNone (number_of ns) (result ≡ wrong_argument 0) }
     ensures start { length message.now < start → result ≡ wrong_argument 0 }
@@ -49,13 +49,13 @@ pub extern "C" fn scard_chain_block(
 /// `ARGUMENT` with place 0 where `ifs` is 0 or 255, `ns` is neither 0 nor 1, or the message is longer.
 #[unsafe(no_mangle)]
 pub extern "C" fn scard_chain_cut(message: &[u8], ifs: u8, ns: u8, out: &mut [u8]) -> Verdict
-    ensures written { (IsReserved ifs → ⊥) → length message.now ≤ 131072 →
+    ensures written { (IsReserved ifs → ⊥) → length message.now ≤ longest_message →
         IfSome (number_of ns) (λ number.
         (result ≡ put_verdict (spelling number (cut_of ifs message.now)) out.old)
         × (out.new ≡ put_into (spelling number (cut_of ifs message.now)) out.old)) }
     ensures size { IsReserved ifs → result ≡ wrong_argument 0 }
     ensures number { IfNone (number_of ns) (result ≡ wrong_argument 0) }
-    ensures long { 131072 < length message.now → result ≡ wrong_argument 0 }
+    ensures long { longest_message < length message.now → result ≡ wrong_argument 0 }
     ensures stays { result.status ≢ 0 → out.new ≡ out.old }
 {
     if is_reserved(ifs) || message.len() > LONGEST_MESSAGE {
@@ -76,7 +76,7 @@ pub extern "C" fn scard_chain_cut(message: &[u8], ifs: u8, ns: u8, out: &mut [u8
 fn chain_len(message: &[u8], ifs: u8, number: Number) -> usize
     requires least { 1 ≤ ifs }
     requires most { ifs ≤ 254 }
-    requires limit { length message.now ≤ 131072 }
+    requires limit { length message.now ≤ longest_message }
     ensures { result ≡ length (spelling number (cut_of ifs message.now)) }
 {
     let mut count = 0;
@@ -91,7 +91,7 @@ fn chain_len(message: &[u8], ifs: u8, number: Number) -> usize
 fn put_chain(message: &[u8], ifs: u8, number: Number, out: &mut [u8])
     requires least { 1 ≤ ifs }
     requires most { ifs ≤ 254 }
-    requires limit { length message.now ≤ 131072 }
+    requires limit { length message.now ≤ longest_message }
     requires room { length (spelling number (cut_of ifs message.now)) ≤ length out.old }
     ensures { out.new ≡ spelling number (cut_of ifs message.now)
         ++ drop (length (spelling number (cut_of ifs message.now))) out.old }

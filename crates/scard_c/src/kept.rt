@@ -10,7 +10,7 @@ ghost use Rattle.scard_c.specs.Kept.{mark_of, saved_from, cut_at, terminal_wait_
 
 use crate::number::number_of;
 use block_core::Number;
-use t1_core::{CardPlaces, CardWait, Cut, Request, TerminalPlaces, TerminalWait};
+use t1_core::{CardAsked, CardPlaces, CardWait, Cut, TerminalPlaces, TerminalWait};
 
 /// The state of a terminal. Its fields are the library's own: no other value than those that a call left is
 /// of use, and each call tests them.
@@ -122,8 +122,8 @@ fn card_wait_of(kind: u8, size: u8, place: usize) -> Option<CardWait>
         1 => Some(CardWait::Joining),
         2 => Some(CardWait::Host),
         3 => Some(CardWait::Reply(Cut { place, size })),
-        4 => Some(CardWait::Asking(Request::Size(size))),
-        5 => Some(CardWait::Asking(Request::Time(size))),
+        4 => Some(CardWait::Asking(CardAsked::Size(size))),
+        5 => Some(CardWait::Asking(CardAsked::Time(size))),
         _ => None,
     }
 }
@@ -137,8 +137,8 @@ fn card_waiting(wait: CardWait) -> (u8, u8, usize)
         CardWait::Joining => (1, 0, 0),
         CardWait::Host => (2, 0, 0),
         CardWait::Reply(cut) => (3, cut.size, cut.place),
-        CardWait::Asking(Request::Size(size)) => (4, size, 0),
-        CardWait::Asking(Request::Time(multiple)) => (5, multiple, 0),
+        CardWait::Asking(CardAsked::Size(size)) => (4, size, 0),
+        CardWait::Asking(CardAsked::Time(multiple)) => (5, multiple, 0),
     }
 }
 

@@ -1,6 +1,7 @@
 //! A check of a forest that comes in pieces, without an allocator: the caller keeps the state.
 
 ghost use Rattle.std.specs.Prelude.{◌≡◌, ◌≤◌, ◌<◌};
+ghost use Rattle.tlv_core.specs.Forest.{largest};
 ghost use Rattle.scard_c.specs.Verdict.{wrong_argument};
 ghost use Rattle.scard_c.specs.LentCheck.{IsBegunCheck, CheckFed, CheckEnded};
 
@@ -13,8 +14,8 @@ use tlv_core::{CheckPlaces, LARGEST_FOREST};
 /// then nothing changes.
 #[unsafe(no_mangle)]
 pub extern "C" fn scard_lent_check_begin(state: &mut CCheck, max: usize) -> Verdict
-    ensures ok { max ≤ 1048576 → IsBegunCheck max state.new result }
-    ensures argument { 1048576 < max → (result ≡ wrong_argument 0) × (state.new ≡ state.old) }
+    ensures ok { max ≤ largest → IsBegunCheck max state.new result }
+    ensures argument { largest < max → (result ≡ wrong_argument 0) × (state.new ≡ state.old) }
 {
     if max > LARGEST_FOREST {
         return Verdict::argument();

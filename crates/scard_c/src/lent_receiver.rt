@@ -2,7 +2,8 @@
 //! and the buffer of the message to each call.
 
 ghost use Rattle.std.specs.Prelude.{◌≡◌, ◌≢◌, ◌≤◌, ◌<◌, ℕ, List, length, IfSome, IfNone};
-ghost use Rattle.chain_core.specs.Taken.{Reception, fresh};
+ghost use Rattle.chain_core.specs.Chain.{longest_message};
+ghost use Rattle.chain_core.specs.Taking.{Taking, nothing_taken};
 ghost use Rattle.scard_c.specs.Verdict.{ok_at, wrong_argument};
 ghost use Rattle.scard_c.specs.Number.{IsReserved, number_of};
 ghost use Rattle.scard_c.specs.Lent.{IsAtFront};
@@ -26,11 +27,11 @@ pub extern "C" fn scard_lent_receiver_begin(
     max: usize,
 ) -> Verdict
     ensures ok { (IsReserved ifs → ⊥)
-        → IfSome (number_of ns) (λ number. max ≤ 131072 → (result ≡ ok_at 0) ×
-        ((message : List ℕ) → max ≤ length message → IsReceiver state.new message (fresh ifs number max))) }
+        → IfSome (number_of ns) (λ number. max ≤ longest_message → (result ≡ ok_at 0) ×
+        ((message : List ℕ) → max ≤ length message → IsReceiver state.new message (nothing_taken ifs number max))) }
     ensures size { IsReserved ifs → result ≡ wrong_argument 0 }
     ensures number { IfNone (number_of ns) (result ≡ wrong_argument 0) }
-    ensures long { 131072 < max → result ≡ wrong_argument 0 }
+    ensures long { longest_message < max → result ≡ wrong_argument 0 }
     ensures stays { result.status ≢ 0 → state.new ≡ state.old }
 {
     if is_reserved(ifs) || max > LONGEST_MESSAGE {
@@ -78,9 +79,9 @@ pub extern "C" fn scard_lent_receiver_finish(state: &CReceiver, message: &[u8]) 
 /// How many octets at the front of the buffer are the message, once the chain is whole. `ARGUMENT` where it isn't.
 #[unsafe(no_mangle)]
 pub extern "C" fn scard_lent_receiver_message(state: &CReceiver, message: &[u8]) -> Verdict
-    ensures message { (r : Reception) → IsReceiver state.now message.now r
+    ensures message { (r : Taking) → IsReceiver state.now message.now r
         → IsAtFront (joined_of r) message.now result }
-    ensures none { ((r : Reception) → IsReceiver state.now message.now r → ⊥)
+    ensures none { ((r : Taking) → IsReceiver state.now message.now r → ⊥)
         → result ≡ wrong_argument 0 }
 {
     let Some(places) = state.places(message.len()) else {

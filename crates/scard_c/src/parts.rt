@@ -2,7 +2,7 @@
 
 ghost use Rattle.std.specs.Prelude.{◌≡◌, ◌≢◌, ◌≤◌, ◌<◌, length, map, drop, slice_get};
 ghost use Rattle.octet_core.specs.Grammar.{whole, Refuses};
-ghost use Rattle.tlv_core.specs.Forest.{IsForest, IsProper};
+ghost use Rattle.tlv_core.specs.Forest.{IsForest, IsProper, largest};
 ghost use Rattle.tlv_core.specs.Tree.{Tree};
 ghost use Rattle.tlv_core.specs.Reasons.{IsReason};
 ghost use Rattle.tlv_core.specs.Flat.{part_seen};
@@ -50,12 +50,12 @@ pub extern "C" fn scard_tlv_parts(
     max: usize,
     out: &mut [CPart],
 ) -> Verdict
-    ensures parts { max ≤ 1048576 → (IsRefusal result → ⊥) → result.status ≢ 3 →
+    ensures parts { max ≤ largest → (IsRefusal result → ⊥) → result.status ≢ 3 →
         PutsParts max octets.now out.old out.new result }
     ensures refused { IsRefusal result →
         Tells tlv_reason (Refuses whole (IsForest max) (IsReason max) octets.now) result }
     ensures memory { result.status ≡ 3 → result ≡ no_memory }
-    ensures argument { 1048576 < max → result ≡ wrong_argument 0 }
+    ensures argument { largest < max → result ≡ wrong_argument 0 }
     ensures stays { result.status ≢ 0 → out.new ≡ out.old }
 {
     if max > LARGEST_FOREST {

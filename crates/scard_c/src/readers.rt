@@ -1,9 +1,11 @@
 //! Readers of octets that come in pieces, in handles.
 
 ghost use Rattle.std.specs.Prelude.{◌≡◌, ◌≢◌, ◌≤◌, ◌<◌, ℕ, Some, IfSome, IfNone};
-ghost use Rattle.atr_core.specs.Taking.{nothing_taken};
-ghost use Rattle.block_core.specs.Reading.{fresh};
-ghost use Rattle.chain_core.specs.Taken.{fresh as fresh_receiver};
+ghost use Rattle.atr_core.specs.Taking.{nothing_taken as no_atr};
+ghost use Rattle.block_core.specs.Taking.{nothing_taken as no_block};
+ghost use Rattle.chain_core.specs.Chain.{longest_message};
+ghost use Rattle.chain_core.specs.Taking.{nothing_taken as no_chain};
+ghost use Rattle.tlv_core.specs.Forest.{largest};
 ghost use Rattle.tlv_core.specs.Check.{Checked, HasChecked};
 ghost use Rattle.scard_c.specs.declared.engine.Engine.TheVariants.{InPieces};
 ghost use Rattle.scard_c.specs.declared.reader.Reader.TheVariants.{Atr as AtrIn, Block as BlockIn, Chain as ChainIn, Forest as ForestIn};
@@ -31,7 +33,7 @@ use tlv_core::{ForestCheck, LARGEST_FOREST};
 #[unsafe(no_mangle)]
 pub extern "C" fn scard_atr_reader_open(alloc: Global, handle: &mut Handle) -> Verdict
     ensures ok { result.status ≡ 0 →
-        (result ≡ ok_at 0) × (handle.new.engine ≡ Some (InPieces (AtrIn nothing_taken))) }
+        (result ≡ ok_at 0) × (handle.new.engine ≡ Some (InPieces (AtrIn no_atr))) }
     ensures memory { result.status ≢ 0 → result ≡ no_memory }
     ensures stays { result.status ≢ 0 → handle.new.engine ≡ handle.old.engine }
 {
@@ -44,7 +46,7 @@ pub extern "C" fn scard_atr_reader_open(alloc: Global, handle: &mut Handle) -> V
 #[unsafe(no_mangle)]
 pub extern "C" fn scard_block_reader_open(alloc: Global, handle: &mut Handle, ifs: u8) -> Verdict
     ensures ok { result.status ≡ 0 →
-        (result ≡ ok_at 0) × (handle.new.engine ≡ Some (InPieces (BlockIn (fresh ifs)))) }
+        (result ≡ ok_at 0) × (handle.new.engine ≡ Some (InPieces (BlockIn (no_block ifs)))) }
     ensures argument { IsReserved ifs → result ≡ wrong_argument 0 }
     ensures memory { (IsReserved ifs → ⊥) → result.status ≢ 0 → result ≡ no_memory }
     ensures stays { result.status ≢ 0 → handle.new.engine ≡ handle.old.engine }
@@ -69,11 +71,11 @@ pub extern "C" fn scard_receiver_open(
     max: usize,
 ) -> Verdict
     ensures ok { result.status ≡ 0 → IfSome (number_of ns) (λ number.
-        (result ≡ ok_at 0) × (handle.new.engine ≡ Some (InPieces (ChainIn (fresh_receiver ifs number max))))) }
+        (result ≡ ok_at 0) × (handle.new.engine ≡ Some (InPieces (ChainIn (no_chain ifs number max))))) }
     ensures size { IsReserved ifs → result ≡ wrong_argument 0 }
     ensures number { IfNone (number_of ns) (result ≡ wrong_argument 0) }
-    ensures long { 131072 < max → result ≡ wrong_argument 0 }
-    ensures memory { (IsReserved ifs → ⊥) → IfSome (number_of ns) (λ _. max ≤ 131072 →
+    ensures long { longest_message < max → result ≡ wrong_argument 0 }
+    ensures memory { (IsReserved ifs → ⊥) → IfSome (number_of ns) (λ _. max ≤ longest_message →
         result.status ≢ 0 → result ≡ no_memory) }
     ensures stays { result.status ≢ 0 → handle.new.engine ≡ handle.old.engine }
 {
@@ -95,8 +97,8 @@ pub extern "C" fn scard_receiver_open(
 pub extern "C" fn scard_tlv_check_open(alloc: Global, handle: &mut Handle, max: usize) -> Verdict
     ensures ok { result.status ≡ 0 →
         (result ≡ ok_at 0) × IsNewCheck max handle.new.engine }
-    ensures argument { 1048576 < max → result ≡ wrong_argument 0 }
-    ensures memory { max ≤ 1048576 → result.status ≢ 0 → result ≡ no_memory }
+    ensures argument { largest < max → result ≡ wrong_argument 0 }
+    ensures memory { max ≤ largest → result.status ≢ 0 → result ≡ no_memory }
     ensures stays { result.status ≢ 0 → handle.new.engine ≡ handle.old.engine }
 {
     if max > LARGEST_FOREST {

@@ -24,9 +24,9 @@ use tlv_core::{
 pub extern "C" fn scard_tlv_check(octets: &[u8], max: usize) -> Verdict
     ensures ok { result.status ≡ 0 → IsSomeForest max octets.now }
     ensures place { result.status ≡ 0 → result ≡ ok_at (length octets.now) }
-    ensures refused { max ≤ 1048576 → result.status ≢ 0 →
+    ensures refused { max ≤ largest → result.status ≢ 0 →
         Tells tlv_reason (Refuses whole (IsForest max) (IsReason max) octets.now) result }
-    ensures argument { 1048576 < max → result ≡ wrong_argument 0 }
+    ensures argument { largest < max → result ≡ wrong_argument 0 }
 {
     if max > LARGEST_FOREST {
         return Verdict::argument();
@@ -52,12 +52,12 @@ pub extern "C" fn scard_tlv_tidy(
     max: usize,
     out: &mut [u8],
 ) -> Verdict
-    ensures tidied { max ≤ 1048576 → (IsRefusal result → ⊥) → result.status ≢ 3 →
+    ensures tidied { max ≤ largest → (IsRefusal result → ⊥) → result.status ≢ 3 →
         IsTidied max octets.now out.old out.new result }
     ensures refused { IsRefusal result →
         Tells tlv_reason (Refuses whole (IsForest max) (IsReason max) octets.now) result }
     ensures memory { result.status ≡ 3 → result ≡ no_memory }
-    ensures argument { 1048576 < max → result ≡ wrong_argument 0 }
+    ensures argument { largest < max → result ≡ wrong_argument 0 }
     ensures stays { result.status ≢ 0 → out.new ≡ out.old }
 {
     if max > LARGEST_FOREST {

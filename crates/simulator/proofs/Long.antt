@@ -2,7 +2,7 @@
 use Rattle.std.proofs.Common.{◌≡◌, ◌<◌, ◌≤◌, ◌+◌, ◌++◌, ℕ, zero, suc, List, [], ◌∷◌, Option, Some, None, Result, Ok, Err, refl, ap, arith, length, length-append, codes}
 use Rattle.std.specs.Result.{result_unwrap_or}
 use Rattle.t1_core.specs.Link as link
-use Rattle.t1_core.specs.Link.{Link, UnderWay, nothing, to_card, to_terminal}
+use Rattle.t1_core.specs.Link.{UnderWay, nothing, to_card, to_terminal}
 use Rattle.card_words.specs.declared.session.Session.{Session}
 use Rattle.exchange_core.specs.Recording.{Recording, added, arrival_outcome, closed, outcome_of, recorded, untold, with_outcome, link_of, whole}
 use Rattle.exchange_core.specs.Text.{exchange_text, header_text, line_text, lines_text, octets_text}
@@ -147,6 +147,7 @@ text-long r =
       length-append (codes "\n") lines,
     )
 
+-- where a session hasn't ended after so many events, the text of its end has more octets than that
 pub too-long : (n : ℕ) (s : Session) (ifsc : ℕ) (final : Recording)
     → simulated n s (start s) (new_recording s.atr ifsc) ≡ None → EndsAs s ifsc final
     → n < length (exchange_text (exchange_of final))
@@ -175,5 +176,6 @@ once (suc n) zero s at r a b h g = cc g
 once (suc n) (suc m) s at r a b h g = once-further (simulated n s) (simulated m s)
     (λ after new x y. once n m s after new x y) r a b (next s at r.last) h g
 
+-- a session ends in one record
 pub one-end : (s : Session) (ifsc : ℕ) (a b : Recording) → EndsAs s ifsc a → EndsAs s ifsc b → a ≡ b
 one-end s ifsc a b (n, h) (m, g) = once n m s (start s) (new_recording s.atr ifsc) a b h g

@@ -87,12 +87,14 @@ runs-out most done s at r le =
     let e : most - done ≡ zero = omega arith in
     rw e refl
 
+-- what is said of each fault but memory is so where the fault isn't memory
 pub not-memory : (fault : EventFault) (P : Type 0) → fault ≢ Memory → IfNotMemory fault P → P
 not-memory NothingUnderWay P other h = h
 not-memory (AtTerminal fault) P other h = h
 not-memory (AtCard fault) P other h = h
 not-memory Memory P other h = absurd (other refl)
 
+-- what is said of a success may be changed for what follows from it
 pub on-ok : {A E : Type 0} (r : Result A E) {P Q : Type 0} → (P → Q) → OnOk r P → OnOk r Q
 on-ok (Ok x) f h = f h
 on-ok (Err e) f h = tt
@@ -116,10 +118,12 @@ module _ (most : ℕ) (s : Session) (atr : List ℕ) (same : atr ≡ s.atr) (r :
   is-found : IsFound s.atr (Ok r.ifsc)
   is-found = subst (λ (x : List ℕ). IsFound x (Ok r.ifsc)) same found
 
+  -- where the run ends, the session comes to the exchange of its last record
   pub made : (final : Recording) (e : ExchangeParts) → simulated most s (start s) r ≡ Some final → e ≡ exchange_of final
       → IsSimulated most s (Ok e)
   made final e h is = (r.ifsc, final, is-found, (most, sym (ap (simulated most s (start s)) begun) ∙ h), is)
 
+  -- and where it had no end in time, the session is too large
   pub not-made : (fault : SimulationFault) → IfTooLarge fault (simulated most s (start s) r ≡ None)
       → IsSimulated most s (Err fault)
   not-made (Refused name) h = absurd h

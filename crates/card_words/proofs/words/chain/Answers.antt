@@ -9,5 +9,5 @@ returns-clause-read c =
     inr (chain-built (word 0) (word 1) (word 2) c.in_ok-ifs.ifs c.in_ok-number.number c.in_ok-message.message
     c.octets.result (sym c.size.ensures ∙ c.in_ok-ifs.was) (sym c.number.ensures ∙ c.in_ok-number.was)
     c.in_ok-message.was c.octets.ensures
-    (omega (arith, c.if-get-gt131072.false, ap length c.get.ensures))
+    (omega (arith, c.if-get-gt-LONGEST_MESSAGE.false, ap length c.get.ensures))
     ∙ sym (chain-is c.args.words.now none (omega arith)))

@@ -1,7 +1,7 @@
 use Rattle.std.proofs.Common.{◌≡◌, ◌∙◌, ℕ, List, length, sym, subst, refl, arith}
 use Rattle.octet_core.specs.Grammar.{RefusesUnlessMemory, whole}
 use Rattle.apdu_core.specs.Command.{IsCommand, IsReason}
-use Rattle.round_trips.proofs.Readings.{not-refused}
+use Rattle.octet_core.proofs.Verdicts.{not_both}
 use Rattle.round_trips.proofs.pieces.command_in_two_pieces.Goals as goal
 
 pub unreachable-requires : goal.unreachable-requires
@@ -16,5 +16,5 @@ unreachable-requires c =
     let is : m ≡ b = message.2 ∙ arrived.2 in
     let refused = subst (RefusesUnlessMemory whole IsCommand IsReason m) c.in-Err-Stop.field-0-is
     c.in-Err-Stop.ensures.refused in
-    not-refused whole IsCommand IsReason m c.in-Err-Stop.field-0-0 c.args.command.now (length m)
+    not_both whole IsCommand IsReason m c.args.command.now (length m) c.in-Err-Stop.field-0-0
     (refl, subst (IsCommand c.args.command.now) (sym is) sent.1) refused

@@ -1,5 +1,6 @@
 use Rattle.std.proofs.Common.{◌≡◌, ◌++◌, ◌∙◌, ℕ, List, sym, subst, arith}
 use Rattle.std.proofs.lemmas.List.{take-append-drop}
+use Rattle.apdu_core.specs.Command.{longest_command}
 use Rattle.block_core.specs.declared.pcb.Number.{Number}
 use Rattle.chain_core.specs.Chain.{IsChain}
 use Rattle.chain_core.specs.Cut.{cut_of}
@@ -16,11 +17,13 @@ returns c = λ b octets few is.
     let parts : x ++ y ≡ c.args.chain.now =
     (λ j. c.split_at.ensures.front j ++ c.split_at.ensures.back j)
     ∙ take-append-drop c.min.result c.args.chain.now in
-    let chained : IsChain i k 65544 v (x ++ y) =
-    subst (IsChain i k 65544 v) (sym (parts ∙ is))
-    (c.cut_is_a_chain.ensures.chain i i 65544 k b c.requires.least (omega arith) few (omega (arith, few)) octets) in
-    let all = arrived c.one_spelled.ensures c.taken.ensures.chain i k 65544 c.in_ok-receiver.receiver
+    let chained : IsChain i k longest_command v (x ++ y) =
+    subst (IsChain i k longest_command v) (sym (parts ∙ is))
+    (c.cut_is_a_chain.ensures.chain i i longest_command k b c.requires.least (omega arith) few (omega (arith, few))
+    octets) in
+    let all = arrived c.one_spelled.ensures c.taken.ensures.chain i k longest_command c.in_ok-receiver.receiver
     c.feed-front.new.self c.feed-back.new.self x y v c.feed-front.result c.feed-back.result c.in_ok-receiver.ensures
-    (c.taken.ensures.new i k 65544) chained c.feed-front.ensures.fed c.feed-front.ensures.kept c.feed-back.ensures.fed
+    (c.taken.ensures.new i k longest_command) chained c.feed-front.ensures.fed c.feed-front.ensures.kept
+    c.feed-back.ensures.fed
     c.feed-back.ensures.kept in
     (all.0, all.1, all.2 ∙ c.cut_is_a_chain.ensures.message i b)

@@ -1,7 +1,7 @@
 use Rattle.std.proofs.Common.{◌≡◌, ◌∙◌, ℕ, List, length, sym, subst, refl, arith}
 use Rattle.octet_core.specs.Grammar.{RefusesUnlessMemory, whole}
 use Rattle.apdu_core.specs.Response.{IsResponse, IsReason}
-use Rattle.round_trips.proofs.Readings.{not-refused}
+use Rattle.octet_core.proofs.Verdicts.{not_both}
 use Rattle.round_trips.proofs.pieces.response_in_two_pieces.Goals as goal
 
 pub unreachable-requires : goal.unreachable-requires
@@ -16,5 +16,5 @@ unreachable-requires c =
     let is : m ≡ b = message.2 ∙ arrived.2 in
     let refused = subst (RefusesUnlessMemory whole IsResponse IsReason m) c.in-Err-Stop.field-0-is
     c.in-Err-Stop.ensures.refused in
-    not-refused whole IsResponse IsReason m c.in-Err-Stop.field-0-0 c.args.response.now (length m)
+    not_both whole IsResponse IsReason m c.args.response.now (length m) c.in-Err-Stop.field-0-0
     (refl, subst (IsResponse c.args.response.now) (sym is) sent.1) refused

@@ -1,5 +1,5 @@
 use Rattle.std.proofs.Common.{refl, sym, subst}
-use Rattle.chain_core.specs.Taken.{Reception}
+use Rattle.chain_core.specs.Taking.{Taking}
 use Rattle.chain_core.specs.Places.{received_at}
 use Rattle.scard_c.specs.LentReceiver.{FeedsReceiver}
 use Rattle.scard_c.proofs.Lending.{receiver-held-by}
@@ -8,7 +8,7 @@ use Rattle.scard_c.proofs.lent_receiver.scard_lent_receiver_feed.Goals as goal
 pub returns : goal.returns
 returns c =
     let p = c.in-Some.places in
-    let old : Reception = received_at p c.args.message.now in
+    let old : Taking = received_at p c.args.message.now in
     let after = c.feed-answer.new.message in
     record {
       none = λ none. absurd (none old (record {
@@ -18,7 +18,7 @@ returns c =
         held = refl;
       }));
       fed = λ r is.
-          subst (λ (s : Reception). FeedsReceiver s c.args.piece.now c.of.result after c.fed.result)
+          subst (λ (s : Taking). FeedsReceiver s c.args.piece.now c.of.result after c.fed.result)
           (sym (receiver-held-by c.args.state.now c.args.message.now r p c.in-Some.ensures.some.0 is))
           (record {
             new = received_at c.feed-answer.new.self after;

@@ -1,5 +1,5 @@
 use Rattle.std.proofs.Common.{refl, sym, subst}
-use Rattle.chain_core.specs.Taken.{Reception}
+use Rattle.chain_core.specs.Taking.{Taking}
 use Rattle.chain_core.specs.Places.{received_at}
 use Rattle.scard_c.specs.LentReceiver.{EndsReceiver}
 use Rattle.scard_c.proofs.Lending.{receiver-held-by}
@@ -17,7 +17,7 @@ returns-in-Some c =
         held = refl;
       }));
       ended = λ r is.
-          subst (λ (s : Reception). EndsReceiver s c.ended.result)
+          subst (λ (s : Taking). EndsReceiver s c.ended.result)
           (sym (receiver-held-by c.args.state.now message r p c.in-Some.ensures.some.0 is))
           (record {
             answer = c.finish.result;

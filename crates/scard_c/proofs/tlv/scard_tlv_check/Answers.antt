@@ -2,7 +2,7 @@ use Rattle.std.proofs.Common.{[], refl, ◌∙◌}
 use Rattle.octet_core.specs.Grammar.{whole}
 use Rattle.tlv_core.specs.Forest.{IsForest}
 use Rattle.tlv_core.specs.Reasons.{IsReason}
-use Rattle.scard_c.proofs.Refusals.{refused_at}
+use Rattle.octet_core.proofs.Verdicts.{refuses_at}
 use Rattle.scard_c.proofs.tlv.scard_tlv_check.Goals as goal
 
 pub returns-in-Err-clause-refused : goal.returns-in-Err-clause-refused
@@ -11,7 +11,7 @@ returns-in-Err-clause-refused c = λ _ _.
     let refused = rw c.new-check.ensures.limit at (c.in-Err.ensures.refused [] nothing) in (
       c.in-Err.stop,
       c.stopped.ensures,
-      refused_at whole (IsForest c.args.max) (IsReason c.args.max) c.args.octets.now
+      refuses_at whole (IsForest c.args.max) (IsReason c.args.max) c.args.octets.now
           c.in-Err.stop refused,
     )
 
