@@ -37,6 +37,7 @@ pub record Before (b : List ℕ) (k : Kept) (x : ℕ) (next : Next) : Type 0 whe
   pub is_header : IsHeader held.under
   pub room : next_need next < room_of (k.max - length b) k.rooms
 
+-- all this follows from what was taken, where no value is under way and the octet may come
 pub before_of : (b : List ℕ) (k : Kept) (x : ℕ) (next : Next) → HasTaken b k → k.value_left ≡ 0 → IsStep k x next
     → Before b k x next
 before_of b k x next h z step =
@@ -77,11 +78,13 @@ begun_of longer well = subst IsBegun (octets_under longer)
 zero_of : (h : List ℕ) (x : ℕ) → x ≡ 0 → h ≡ [] → h ++ x ∷ [] ≡ 0 ∷ []
 zero_of h x z empty = ap (λ (l : List ℕ). l ++ x ∷ []) empty ∙ ap (λ (y : ℕ). y ∷ []) z
 
+-- the octet 00 alone is no part of a header
 pub not_filler : (h : List ℕ) (x : ℕ) (longer : Header) → IsWell longer → header_octets longer ≡ h ++ x ∷ [] → x ≡ 0
     → h ≡ [] → ⊥
 not_filler h x longer well e z empty = partial_not_zero (header_octets longer) [] (inl (begun_of longer well))
     (e ∙ zero_of h x z empty)
 
+-- nor is it the header of an object
 pub object_not_filler : (h : List ℕ) (x : ℕ) (tag : List ℕ) (form : Form) (n : ℕ) → IsTag tag → header_of tag form n ≡ h
     ++ x ∷ [] → x ≡ 0 → h ≡ [] → ⊥
 object_not_filler h x tag form n is_tag e z empty =
@@ -153,6 +156,7 @@ next_taken b k x (next.Object o) h z step =
     (depth_of b k x (next.Object o) p step
     (object_not_filler k.header x o.tag o.form o.len step.follows.0 step.follows.2)) refl (bit_cases o.tag)
 
+-- an octet that may come is taken, where no value is under way
 pub take_taken : (b : List ℕ) (k : Kept) (x : ℕ) (next : Next) → k.value_left ≡ 0 → IsStep k x next → HasTaken b k
     → HasTaken (b ++ x ∷ []) (after_next k next)
 take_taken b k x next z step h = next_taken b k x next h z step
@@ -245,6 +249,7 @@ run_taken b k m add s (Valued tag form value left) e len octets some le =
           )
     ]
 
+-- a run of the value under way is taken, where as many octets of it are still to come
 pub skip_taken : (b : List ℕ) (k : Kept) (m : ℕ) (add : List ℕ) → length add ≡ m → AreOctets add → 0 < m
     → m ≤ k.value_left → HasTaken b k → HasTaken (b ++ add) (after_run k m)
 skip_taken b k m add len octets some le h = let s =
@@ -252,6 +257,7 @@ skip_taken b k m add len octets some le h = let s =
 
 -- ---- an octet that is refused
 
+-- the first line of the table that the next octet meets is its reason, where no value is under way
 pub refused_taken : (b : List ℕ) (k : Kept) (x : ℕ) (r : TlvReason) → k.value_left ≡ 0
     → IsFirst tlv_reasons (IsWrongAfter k x) r → HasTaken b k → IsReason k.max r (b ++ x ∷ [])
 refused_taken b k x r z first h =

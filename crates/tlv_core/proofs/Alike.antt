@@ -12,6 +12,7 @@ use Rattle.tlv_core.specs.declared.part.Part.{Part}
 use Rattle.tlv_core.specs.Flat.{PartValue, part_seen}
 use Rattle.tlv_core.specs.Same.{same_item, same_tree, same_node, same_part}
 
+-- comparing two lists of octets tells whether they are one
 pub octets_decide : (xs ys : List ℕ) → Decides (pointwise nat_eq xs ys) (xs ≡ ys)
 octets_decide = pointwise_decides (λ x y. search rules)
 
@@ -41,6 +42,7 @@ one_list xs ys e = sym (nodes_back xs) ∙ ap nodes_of e ∙ nodes_back ys
 first_node : {x y : Node} {xs ys : List Node} → x ∷ xs ≡ y ∷ ys → x ≡ y
 first_node e = cc
 
+-- and nodes whose lists of one make one tree are one
 pub one_node : (x y : Node) → tree_of (x ∷ []) ≡ tree_of (y ∷ []) → x ≡ y
 one_node x y e = first_node (one_list (x ∷ []) (y ∷ []) e)
 
@@ -64,10 +66,12 @@ lighter (y ∷ xs) (suc i) x lt e = omega (arith, lighter xs i x (omega arith) e
 item_decides : (x y : Item) → Decides (same_item x y) (x ≡ y)
 item_decides x y = search (rules, octets_decide, one_form)
 
+-- comparing two lists of objects tells whether they are one
 pub tree_decides : (s t : Tree) → Decides (same_tree s t) (s ≡ t)
 tree_decides s t = let d = pointwise_decides item_decides (items_of s) (items_of t) in
     (λ e. one_tree s t (d.0 e), λ e. d.1 (ap items_of e))
 
+-- and so it does with two nodes
 pub node_decides : (x y : Node) → Decides (same_node x y) (x ≡ y)
 node_decides x y = let d = tree_decides (tree_of (x ∷ [])) (tree_of (y ∷ [])) in
     (λ e. one_node x y (d.0 e), λ e. d.1 (ap (λ (z : Node). tree_of (z ∷ [])) e))
@@ -77,6 +81,7 @@ node_decides x y = let d = tree_decides (tree_of (x ∷ [])) (tree_of (y ∷ [])
 part_decides : (x y : PartValue) → Decides (same_part x y) (x ≡ y)
 part_decides x y = search (rules, octets_decide, one_form)
 
+-- comparing two lists of parts tells whether they are one
 pub parts_decide : (xs ys : List PartValue) → Decides (pointwise same_part xs ys) (xs ≡ ys)
 parts_decide = pointwise_decides part_decides
 

@@ -46,6 +46,7 @@ apart_push tag (y ∷ xs) x other = ap (cond (bytes_eq tag y.tag) (Some y)) (apa
 other_tag : (a b c : List ℕ) → bytes_eq a b ≡ false → a ≡ c → bytes_eq b c ≡ false
 other_tag a b c other e = ap (bytes_eq b) (sym e) ∙ nat_list_eq_equiv.symm b a ∙ other
 
+-- the first i + 1 values are the first i and the one at place i
 pub more_known : (xs : List Known) (i : ℕ) (x : Known) → i < length xs → x ≡ get_or xs i x → take (i + 1) xs ≡ take i xs
     ++ x ∷ []
 more_known xs i x lt is = take_more xs i x lt ∙ ap (λ (y : Known). take i xs ++ y ∷ []) (sym is)
@@ -64,6 +65,7 @@ take_upto (y ∷ xs) (suc n) (suc j) lt = omega (arith, take_upto xs n j (omega 
 
 -- ---- the map
 
+-- an empty map has all of no values
 pub none_placed : (placed : Placed) → IsEmpty placed → HasAll [] placed
 none_placed placed empty tag = ap (λ (es : List (Bor (List ℕ) × Bor Known)).
     option_copied (lookup (is_at (tag_cmp tag)) es)) empty
@@ -81,6 +83,7 @@ module _ (xs : List Known) (old : Placed) (k : Bor (List ℕ)) (x : Known) (has 
   added_at v value q false b = has q ∙ sym
       (apart_push q.now xs x (other_tag k.now q.now x.tag (sym (tied k.now q.now) ∙ b) key))
 
+  -- with the value put under its tag, where the map had none, the map has one value more
   pub added : (now : Placed) {v : Bor Known} → Updates tag_cmp old now k (Some v) → v.now ≡ x
       → HasAll (xs ++ x ∷ []) now
   added now {v} up value q = ap option_copied (up.0 q) ∙ added_at v value q (is_at (tag_cmp k) q) refl
@@ -91,6 +94,7 @@ module _ (xs : List Known) (old : Placed) (k : Bor (List ℕ)) (x : Known) (has 
 abbrev pub Once : List Known → ℕ → Type 0
 Once known n = (j : ℕ) (l : Known) → j < n → slice_get known j ≡ Some l → known_for l.tag (take j known) ≡ None
 
+-- with the value at place n, where none before it has its tag, the first n + 1 are so too
 pub once_more : (known : List Known) (n : ℕ) (x : Known) → n < length known → x ≡ get_or known n x
     → known_for x.tag (take n known) ≡ None → Once known n → Once known (n + 1)
 once_more known n x lt is none once j l less g =
@@ -104,10 +108,12 @@ once_more known n x lt is none once j l less g =
           ∙ sym (ap (λ (y : Known). known_for y.tag (take n known)) same) ∙ none
     ]
 
+-- where all values are so, no tag comes twice
 pub never : (known : List Known) (n : ℕ) → length known ≤ n → Once known n → HasDuplicate known → ⊥
 never known n le once (i, j, less, inside, k, l, gk, gl, same) =
     none_at l.tag (take j known) i k (once j l (omega arith) gl) (get_before known j i less ∙ gk) (sym same)
 
+-- where one before the value at place n has its tag, a tag comes twice
 pub again : (known : List Known) (n : ℕ) (x l : Known) → n < length known → x ≡ get_or known n x
     → known_for x.tag (take n known) ≡ Some l → HasDuplicate known
 again known n x l lt is some =
@@ -115,6 +121,7 @@ again known n x l lt is some =
     let less : f.place < n = take_upto known n f.place f.inside in
     (f.place, n, less, lt, l, x, sym (get_before known n f.place less) ∙ f.is, get_at known n x lt is, sym f.same)
 
+-- a map that has the first n values has all, where there are no more
 pub all_placed : (known : List Known) (n : ℕ) (placed : Placed) → length known ≤ n → HasAll (take n known) placed
     → HasAll known placed
 all_placed known n placed le has tag = has tag ∙ ap (known_for tag.now) (take_all n known le)

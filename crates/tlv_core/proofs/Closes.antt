@@ -89,6 +89,7 @@ item_done b k old new y item item_is none z idle h close =
     (sym idle) (closing_done b k (map opened_of new.opened.items) (tree_of new.list.items) none z
     (close h.closed before))
 
+-- a node that is a whole object is a whole item of a tree
 pub whole_tree : (h : ObjectHeader) (value : List ℕ) (y : Node) → IsWholeNode h value y
     → IsWholeItem h value (tree_of (y ∷ []))
 whole_tree h value y (inl e) = inl (e.0, ap (λ (n : Node). tree_of (n ∷ [])) e.1)

@@ -28,6 +28,7 @@ one_zero : (k : ℕ) → 0 < k → zeros k ≡ 0 ∷ zeros (k - 1)
 one_zero zero lt = absurd (omega arith)
 one_zero (suc k) lt = let e : k ≡ suc k - 1 = omega arith in ap (λ (n : ℕ). 0 ∷ zeros n) e
 
+-- what is under way before an octet of a header is a part of one
 pub under_begun : (u : Under) (d : ℕ) → IsUnder d u → IsHeader u → IsBegun (under_octets u)
 under_begun Nothing d ok h = record {
   tag = 1 ∷ [];
@@ -120,6 +121,7 @@ begins_form x form some e =
       )
     ]
 
+-- a length field begins with the octet, or none does
 pub begins_cases : (x : ℕ) → BeginsLength x ⊎ (BeginsLength x → ⊥)
 begins_cases x =
     elim (cases_lt x 128) [
@@ -204,6 +206,7 @@ ends_in_header n max b lt s h = record {
       under_begun s.under (1 + length s.rooms) s.ok h;
 }
 
+-- where no octet meets a reason, the first n are within the limit, and leave open what fits
 pub stands_all : (n max : ℕ) (b : List ℕ) → AreOctets b → MeetsNone max b → n ≤ length b → (n ≤ max)
     × Stands 1 (max - n) (take n b)
 stands_all zero max b octets none le = (
@@ -228,6 +231,7 @@ stands_all (suc n) max b octets none le =
           (sym count) w,
     ))
 
+-- and so do all of them
 pub stands_of : (max : ℕ) (b : List ℕ) → AreOctets b → MeetsNone max b → (length b ≤ max) × Stands 1 (max - length b) b
 stands_of max b octets none =
     let s = stands_all (length b) max b octets none (omega arith) in
@@ -235,18 +239,21 @@ stands_of max b octets none =
 
 -- ---- the law
 
+-- what is left open is completed by zeros, after 01 where a first tag octet awaits a second
 pub completed : (max : ℕ) (b : List ℕ) (s : Stands 1 (max - length b) b) → length b ≤ max
     → IsCompletedBy max b (repair s.under)
 completed max b s le =
     let c = complete s.rooms 1 (max - length b) s.under b s.opens s.ok s.fits in
     (c.list, c.count, record { proper = c.proper; is = sym c.is; size = omega (arith, c.size, ap length c.is) })
 
+-- a forest begins with octets of which none meets a reason
 pub none_begins : (max : ℕ) (b : List ℕ) → AreOctets b → MeetsNone max b → Begins (IsForest max) b
 none_begins max b octets none =
     let s = stands_of max b octets none in
     let c = completed max b s.1 s.0 in
     (c.0, repair s.1.under ++ zeros c.1, subst (IsForest max c.0) (append_assoc b (repair s.1.under) (zeros c.1)) c.2)
 
+-- and no octet of what begins a forest meets one
 pub begins_none : (max : ℕ) (b : List ℕ) → Begins (IsForest max) b → MeetsNone max b
 begins_none max b h i r lt m =
     let parts : take (i + 1) b ++ drop (i + 1) b ≡ b = take-append-drop (i + 1) b in
@@ -315,6 +322,7 @@ either max b (Tagged tag) d rooms opens ok c = plain max b c
 either max b (Sized tag form more) d rooms opens ok c = plain max b c
 either max b (Valued tag form value left) d rooms opens ok c = plain max b c
 
+-- the law of completion holds of all octets
 pub completion : (max : ℕ) (b : List ℕ) → AreOctets b → Completion max b
 completion max b octets = (
   (begins_none max b, none_begins max b octets),

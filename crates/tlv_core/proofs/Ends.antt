@@ -43,11 +43,13 @@ rooms-open count m (e ∷ ends) =
           ∙ sym (spent-last m (e - count) (rooms_to count ends) (omega arith))
     ]
 
+-- an end n octets after the count adds a room of n
 pub rooms-push : (count n : ℕ) (ends : List ℕ) → rooms_to count (ends ++ (count + n) ∷ []) ≡ rooms_to count ends
     ++ n ∷ []
 rooms-push count n [] = let e : count + n - count ≡ n = omega arith in ap (λ (r : ℕ). r ∷ []) e
 rooms-push count n (e ∷ ends) = ap (λ (l : List ℕ). (e - count) ∷ l) (rooms-push count n ends)
 
+-- there are as many rooms as ends
 pub length-rooms : (count : ℕ) (ends : List ℕ) → length (rooms_to count ends) ≡ length ends
 length-rooms count [] = refl
 length-rooms count (e ∷ ends) = ap suc (length-rooms count ends)
@@ -63,6 +65,7 @@ room-last left count e (f ∷ g ∷ ends) h =
 
 -- ---- within the limit
 
+-- objects that are open after another count end after it, within the limit
 pub ends-open : (max count now : ℕ) (ends : List ℕ) → AreEnds max count ends → AreEnds max now (open_after now ends)
 ends-open max count now ends h i lt =
     let p : ℕ → Bool = λ end. nat_lt now end in
@@ -72,6 +75,7 @@ ends-open max count now ends h i lt =
     let old = h i (omega (arith, prefix_len-le-length p ends)) in
     (omega (arith, same, ltb-true now (get_or ends i 0) passes), omega (arith, same, old.1))
 
+-- one end more may come, after the count and within the limit
 pub ends-push : (max count e : ℕ) (ends : List ℕ) → AreEnds max count ends → count < e → e ≤ max
     → AreEnds max count (ends ++ e ∷ [])
 ends-push max count e ends h lt le i inside =
@@ -138,6 +142,7 @@ open-front count (suc k) (e ∷ ends) same le =
       | inr ge ↦ open-last count e (take k ends) ge ∙ sym (open-last count e ends ge)
     ]
 
+-- the outermost n of nested ends are nested
 pub nested-take : (n : ℕ) (ends : List ℕ) → AreNested ends → AreNested (take n ends)
 nested-take n ends h i lt =
     let inside : suc i < n = omega (arith, length-take n ends) in
@@ -149,10 +154,12 @@ nested-take n ends h i lt =
       h i within,
     )
 
+-- and so are the ends of objects that are open yet
 pub nested-now : (count : ℕ) (ends now : List ℕ) → AreNested ends → now ≡ open_after count ends → AreNested now
 nested-now count ends now h e =
     subst AreNested (sym e) (nested-take (prefix_len (λ end. nat_lt count end) ends) ends h)
 
+-- where none ends before a place, none of those open yet does
 pub from-now : (place count : ℕ) (ends now : List ℕ) → AreFrom place ends → now ≡ open_after count ends
     → AreFrom place now
 from-now place count ends now h e =
@@ -165,6 +172,7 @@ from-now place count ends now h e =
       h i (omega (arith, length-take n ends)),
     ))
 
+-- an end that is no later than the others is nested in them
 pub nested-push : (e : ℕ) (ends : List ℕ) → AreNested ends → AreFrom e ends → AreNested (ends ++ e ∷ [])
 nested-push e ends h from i lt =
     elim (cases_lt (suc i) (length ends)) [
@@ -198,17 +206,21 @@ from-room max count left (e ∷ f ∷ ends) h nested (suc i) lt =
     from-room max count (e - count) (f ∷ ends) (λ k lt. h (suc k) (omega arith)) (nested-tail e (f ∷ ends) nested) i
     (omega arith)
 
+-- what doesn't end before a place doesn't end before an earlier one
 pub from-less : (place more : ℕ) (ends : List ℕ) → place ≤ more → AreFrom more ends → AreFrom place ends
 from-less place more ends le h i lt = omega (arith, le, h i lt)
 
 -- ---- what is kept
 
+-- what is kept, field by field
 abbrev pub kept : ℕ → ℕ → List ℕ → List ℕ → ℕ → Kept
 kept max count rooms h left = record { max = max; count = count; rooms = rooms; header = h; value_left = left }
 
+-- with equal rooms, what is kept is the same
 pub same_rooms : (max count left : ℕ) (h l m : List ℕ) → l ≡ m → kept max count l h left ≡ kept max count m h left
 same_rooms max count left h l m e = ap (λ (r : List ℕ). kept max count r h left) e
 
+-- and so it is with as many octets of a value to come
 pub same_left : (max count : ℕ) (rooms h : List ℕ) (left now : ℕ) → left ≡ now
     → kept max count rooms h left ≡ kept max count rooms h now
 same_left max count rooms h left now e = ap (λ (n : ℕ). kept max count rooms h n) e
@@ -221,15 +233,18 @@ same_open max count m left h ends now e =
     same_rooms max (count + m) left h (rooms_to (count + m) now) (spent m (rooms_to count ends))
     (ap (rooms_to (count + m)) e ∙ rooms-open count m ends)
 
+-- objects that are open after m octets more end after these, within the limit
 pub ends-now : (max count m : ℕ) (ends now : List ℕ) → AreEnds max count ends → now ≡ open_after (count + m) ends
     → AreEnds max (count + m) now
 ends-now max count m ends now h e = subst (AreEnds max (count + m)) (sym e) (ends-open max count (count + m) ends h)
 
+-- no more objects are open than were before
 pub fewer-now : (now ends : List ℕ) (count : ℕ) → now ≡ open_after count ends → length now ≤ length ends
 fewer-now now ends count e = omega (arith, ap length e, length-take (prefix_len (λ end. nat_lt count end) ends) ends)
 
 -- ---- an octet is allowed only where there is room for an object
 
+-- an octet that isn't a filler comes only where fewer than 16 objects are open
 pub shallow_next : (before : Header) (x level : ℕ) (follow : Next) → IsWell before
     → (before ≢ header.Nothing → level < 16) → IsNext (header_octets before) x follow
     → (header_octets before ≡ [] → 16 ≤ level → x ≡ 0) → follow ≢ next.Filler → level < 16
@@ -251,27 +266,32 @@ shallow_next (header.Sized g f read number) x level follow well old is step some
 
 -- ---- what an octet makes of the header
 
+-- where a header is under way then, the octet was no filler
 pub some_header : (follow : Next) → header_in follow ≢ header.Nothing → follow ≢ next.Filler
 some_header next.Filler h e = h refl
 some_header (next.Under longer) h e = cc
 some_header (next.Object o) h e = cc
 
+-- the header under way is of the kind that is said, where what comes next is
 pub well_header : (follow : Next) → IsWellNext follow → IsWell (header_in follow)
 well_header next.Filler h = tt
 well_header (next.Under longer) h = h
 well_header (next.Object o) h = tt
 
+-- the header of an object is whole only where that is what the octet made
 pub some_object : (follow : Next) (o : ObjectHeader) → object_in follow ≡ Some o → follow ≡ next.Object o
 some_object next.Filler o e = cc
 some_object (next.Under longer) o e = cc
 some_object (next.Object p) o e = let same : p ≡ o = cc in ap next.Object same
 
+-- where none is whole, the octet is counted, and the header under way is kept
 pub after-none : (k : Kept) (follow : Next) → ((o : ObjectHeader) → object_in follow ≡ Some o → ⊥)
     → after_next k follow ≡ after_octet k (header_octets (header_in follow))
 after-none k next.Filler none = refl
 after-none k (next.Under longer) none = refl
 after-none k (next.Object o) none = absurd (none o refl)
 
+-- the first octet of a list that isn't empty, as a list
 pub take_one : (l : List ℕ) → 0 < length l → take 1 l ≡ get_or l 0 0 ∷ []
 take_one [] lt = absurd (omega arith)
 take_one (x ∷ l) lt = refl

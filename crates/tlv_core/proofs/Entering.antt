@@ -37,6 +37,7 @@ pub record Fits (b : List ℕ) (k : Kept) (m n : ℕ) (tag : List ℕ) (form : F
   pub fits : FitsIn (k.max - length b) k.rooms (m + n)
   pub at : AtHeader b k outer list
 
+-- where an object with a short header may come, its header and its value fit
 pub short_fits : (b octets : List ℕ) (k : Kept) (o : ShortHeader) (g : Grown) → HasTaken b k → MayCome k octets o
     → HasGrown b k g → Fits b k o.header o.len (take o.tag octets) o.form g.opened g.list
 short_fits b octets k o g taken may h =

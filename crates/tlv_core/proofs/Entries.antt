@@ -20,6 +20,7 @@ use Rattle.tlv_core.proofs.One.{head_of, tail_of, tag_one, header_not_zero, head
 use Rattle.tlv_core.proofs.Refused.{second_header, third_header}
 use Rattle.tlv_core.proofs.Verdict.{nil_dec, second_dec, third_dec, last_of}
 
+-- a tag and a length
 abbrev pub Entry : Type 0
 Entry = List ℕ × ℕ
 
@@ -64,6 +65,7 @@ same_entries (e ∷ es) (f ∷ fs) h k ae af bh bk q =
 begun_nil : IsBegunEntry []
 begun_nil = record { entry = (0x5A ∷ [], 0); next = 0x5A; more = 0 ∷ []; is_tag = search rules; is = refl }
 
+-- no octets spell two lists
 pub one_dol : (es fs : List Entry) (b : List ℕ) → IsDol es b → IsDol fs b → es ≡ fs
 one_dol es fs b h g = (same_entries es fs [] [] h.each g.each begun_nil begun_nil
     (append-nil (dol_spelling es) ∙ sym h.is ∙ g.is ∙ sym (append-nil (dol_spelling fs)))).0
@@ -104,6 +106,7 @@ wrong_entry (e ∷ es) (y ∷ z ∷ v ∷ h) more x TagLong a q w = w.0
 regroup_end : (a h : List ℕ) (x : ℕ) (c : List ℕ) → (a ++ (h ++ x ∷ [])) ++ c ≡ a ++ (h ++ x ∷ c)
 regroup_end a h x c = simp append_assoc
 
+-- no list goes on after an octet that meets a reason
 pub refused_entry : (b : List ℕ) (r : DolReason) → MeetsEntry b r → Begins IsDol b → ⊥
 refused_entry b r m h =
     let e = m.0 in
@@ -112,6 +115,7 @@ refused_entry b r m h =
     let left = skip e.done h.0 (e.header ++ e.octet ∷ h.1) e.each h.2.each is in
     wrong_entry left.0 e.header h.1 e.octet r left.1 left.2 m.1
 
+-- a refusal has one reason
 pub one_entry_reason : (r s : DolReason) (b : List ℕ) → IsDolReason r b → IsDolReason s b → r ≡ s
 one_entry_reason r s b h g =
     let e = h.0 in
@@ -148,6 +152,7 @@ part_begun (Second x y) h = record {
 }
 part_begun (Tagged tag) h = record { entry = (tag, 0); next = 0; more = []; is_tag = h; is = refl }
 
+-- the octets b are whole entries, and then a part of a tag
 pub record Stands (b : List ℕ) : Type 0 where
   pub done : List Entry
   pub each : AreEntries done
@@ -155,10 +160,12 @@ pub record Stands (b : List ℕ) : Type 0 where
   pub ok : IsTagPart part
   pub is : b ≡ dol_spelling done ++ part_octets part
 
+-- entries and one more, of a tag and an octet of length, are entries
 pub entries_append : (es : List Entry) (e : Entry) → AreEntries es → IsTag e.0 → e.1 < 256 → AreEntries (es ++ e ∷ [])
 entries_append [] e h tag lt = (tag, lt, tt)
 entries_append (f ∷ es) e h tag lt = (h.0, h.1, entries_append es e h.2 tag lt)
 
+-- the octets of the last entry come after those of the others
 pub spelling_append : (es : List Entry) (e : Entry) → dol_spelling (es ++ e ∷ []) ≡ dol_spelling es ++ entry_octets e
 spelling_append [] e = append-nil (entry_octets e)
 spelling_append (f ∷ es) e = ap (λ (l : List ℕ). entry_octets f ++ l) (spelling_append es e)
@@ -177,6 +184,7 @@ begins_with b done e h more each tag lt is q = (
   },
 )
 
+-- a list begins with whole entries and a part of a tag
 pub begins_of : (p : TagPart) (b : List ℕ) (done : List Entry) → AreEntries done → IsTagPart p → b ≡ dol_spelling done
     ++ part_octets p → Begins IsDol b
 begins_of Nothing b done each ok is = (
@@ -191,6 +199,7 @@ begins_of (Second x y) b done each ok is =
     (omega arith) is refl
 begins_of (Tagged tag) b done each ok is = begins_with b done (tag, 0) tag (0 ∷ []) each ok (omega arith) is refl
 
+-- so a list begins with octets that are such
 pub stands_begins : (b : List ℕ) → Stands b → Begins IsDol b
 stands_begins b s = begins_of s.part b s.done s.each s.ok s.is
 
@@ -325,6 +334,7 @@ dol-scan b octets = record {
   told = λ s. at_end b (subst Stands (take_all (length b) b (omega arith)) s);
 }
 
+-- every input is a data object list or is refused, in one way
 pub dol_verdict : (b : List ℕ) → AreOctets b → DolVerdict b
 dol_verdict b octets = whole_verdict IsDol IsDolReason b (λ n. Stands (take n b)) (dol-scan b octets)
 

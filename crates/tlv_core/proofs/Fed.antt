@@ -15,6 +15,7 @@ use Rattle.octet_core.proofs.Lists.{nil_of}
 use Rattle.tlv_core.proofs.Taken.{taken_of, held_idle}
 use Rattle.tlv_core.proofs.Advances.{refuses_next}
 
+-- so many octets of the piece are taken after all that was taken before, and then this is kept
 pub record Fed (before now : Kept) (piece : List ℕ) (taken : ℕ) : Type 0 where
   pub within : taken ≤ length piece
   pub limit : now.max ≡ before.max
@@ -24,6 +25,7 @@ nothing_of : (m : ℕ) → take {A = ℕ} m [] ≡ []
 nothing_of zero = refl
 nothing_of (suc m) = refl
 
+-- the first n items and the m after them are the first n + m
 pub take_taken_more : (n m : ℕ) (l : List ℕ) → take n l ++ take m (drop n l) ≡ take (n + m) l
 take_taken_more zero m l = let e : m ≡ zero + m = omega arith in ap (λ (k : ℕ). take k l) e
 take_taken_more (suc n) m [] = nothing_of m ∙ sym (nothing_of (suc n + m))
@@ -34,6 +36,7 @@ take_taken_more (suc n) m (x ∷ l) = let e : suc (n + m) ≡ suc n + m =
 pub rest_of : (piece : List ℕ) (taken : ℕ) → take (length piece - taken) (drop taken piece) ≡ drop taken piece
 rest_of piece taken = take_all (length piece - taken) (drop taken piece) (omega (arith, length-drop taken piece))
 
+-- n octets more are taken, of the rest of the piece
 pub fed_more : (before now after : Kept) (piece rest : List ℕ) (taken n : ℕ) → Fed before now piece taken
     → rest ≡ drop taken piece → n ≤ length rest → after.max ≡ now.max
     → ((b : List ℕ) → HasTaken b now → HasTaken (b ++ take n rest) after) → Fed before after piece (taken + n)
@@ -54,6 +57,7 @@ pub fed_some : (before now : Kept) (piece : List ℕ) (taken : ℕ) (own : Kept)
     → ((b : List ℕ) × HasTaken b own) → (b : List ℕ) × HasTaken b now
 fed_some before now piece taken own is fed (b, h) = (b ++ take taken piece, fed.stands b (subst (HasTaken b) is h))
 
+-- where octets of the piece are left, there is a first one
 pub first_left : (taken : ℕ) (piece rest : List ℕ) → taken < length piece → rest ≡ drop taken piece → (more : List ℕ)
     × (rest ≡ get_or rest 0 0 ∷ more)
 first_left taken piece [] lt is = absurd (omega (arith, ap length is, length-drop taken piece))
@@ -77,14 +81,17 @@ fed_refused before now piece rest taken r b fed lt is idle first h =
 
 -- ---- the verdict at the end
 
+-- where nothing is under way, the octets are a forest
 pub idle_end : (b : List ℕ) (k : Kept) → HasTaken b k → IsIdle k → (t : Tree) × IsForest k.max t b
 idle_end b k h idle = (held_idle b k h).1 idle
 
+-- where something is, they are short
 pub busy_end : (b : List ℕ) (k : Kept) → HasTaken b k → (IsIdle k → ⊥) → IsShort whole (IsForest k.max) b k.count
 busy_end b k h busy = record { none = λ t n a. busy ((held_idle b k h).0 (t, a.1)); end = sym h.count; begun = h.begun }
 
 -- ---- the beginning
 
+-- with what is kept at first, octets were taken exactly where they are none
 pub nothing_taken : (max : ℕ) (k : Kept) → k ≡ record { max = max; count = 0; rooms = []; header = []; value_left = 0 }
     → (b : List ℕ) → HasTaken b k ↔ (b ≡ [])
 nothing_taken max k is b = (

@@ -49,7 +49,7 @@ placed_next d count next.Filler = []
 placed_next d count (next.Under longer) = []
 placed_next d count (next.Object o) = record { depth = d; tag = o.tag; form = o.form; place = count; len = o.len } ∷ []
 
--- an octet comes after these lists, in which so much is placed
+-- an octet may come after these octets: the open objects, the list, and a part of a header
 record Comes (b : List ℕ) (k : Kept) (x : ℕ) (next : Next) (opened : List Opened) (list : Tree) : Type 0 where
   pub taken : HasTaken b k
   pub zero_left : k.value_left ≡ 0
@@ -102,10 +102,11 @@ filler_placed : (list : Tree) (d place : ℕ)
 filler_placed list d place = append-nil (preorder d place (join list (Filler End)))
     ∙ preorder-join list (Filler End) d place
 
--- so it is with each kind of object
+-- what is placed in open objects and the innermost list, where no value is under way
 abbrev pub All : List Opened → Tree → List Placed
 All opened list = placed_in 1 0 opened (placed_list list None)
 
+-- so it is with each kind of object
 empty_grew : (b : List ℕ) (k : Kept) (x : ℕ) (o : ObjectHeader) (item : Tree) (opened : List Opened) (list : Tree)
     → Comes b k x (next.Object o) opened list → o.len ≡ 0
     → ((constructed_bit o.tag ≡ 0) × (item ≡ Primitive o.tag o.form [] End))
@@ -186,11 +187,13 @@ next_grew b k x (next.Object o) opened list h =
           ]
     ]
 
+-- where no octet of a value is to come, that is all that is placed
 pub none_placed : (b : List ℕ) (k : Kept) (g : Grown) → HasGrown b k g → k.value_left ≡ 0
     → placed g ≡ All g.opened g.list
 none_placed b k g h z = ap (λ (v : Option ValueSoFar). placed_in 1 0 g.opened (placed_list g.list v))
     (none_under (1 + length k.rooms) g.value k.header k.value_left h.under z)
 
+-- the tree grows by an octet that may come; an object is placed where its header is whole then
 pub octet_grew : (b : List ℕ) (k : Kept) (x : ℕ) (next : Next) (g : Grown) → HasTaken b k → k.value_left ≡ 0
     → IsStep k x next → HasGrown b k g → Grew (b ++ x ∷ []) (after_next k next)
     (placed g ++ placed_next (1 + length k.rooms) (k.count + 1) next)
@@ -236,6 +239,7 @@ run_of b k m add opened list (Some v) taken len octets some le h =
           (placed-same opened 1 0 (placed_list (join list item) None) (placed_list list (Some v)) same)
     ]
 
+-- the tree grows by a run of the value, and what is placed stays the same
 pub run_grew : (b : List ℕ) (k : Kept) (m : ℕ) (add : List ℕ) (g : Grown) → HasTaken b k → length add ≡ m
     → AreOctets add → 0 < m → m ≤ k.value_left → HasGrown b k g → Grew (b ++ add) (after_run k m) (placed g)
 run_grew b k m add g taken len octets some le h = run_of b k m add g.opened g.list g.value taken len octets some le h

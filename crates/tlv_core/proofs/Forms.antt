@@ -19,6 +19,7 @@ pub record IsLongForm (form : Form) : Type 0 where
 
 -- ---- by cases
 
+-- a form is that of one octet, or its first octet counts the others
 pub form_cases : (form : Form) → (form ≡ One) ⊎ IsLongForm form
 form_cases One = inl refl
 form_cases Two = inr (record { some = omega arith; capacity_is = refl; field = λ n. refl })
@@ -36,15 +37,19 @@ last_form Five = omega arith
 
 -- ---- from these
 
+-- forms with as many further octets are one
 pub further_one : (f g : Form) → further f ≡ further g → f ≡ g
 further_one f g e = sym (form_back f) ∙ ap form_of e ∙ form_back g
 
+-- in the form of one octet the length field is the length itself
 pub field-one : (form : Form) (n : ℕ) → form ≡ One → length_field form n ≡ n ∷ []
 field-one form n e = ap (λ (f : Form). length_field f n) e
 
+-- this form can say the lengths below 128
 pub capacity-one : (form : Form) → form ≡ One → capacity form ≡ 128
 capacity-one form e = ap capacity e
 
+-- a length field has one octet more than its further ones
 pub length-field : (form : Form) (n : ℕ) → length (length_field form n) ≡ 1 + further form
 length-field form n =
     elim (form_cases form) [

@@ -21,6 +21,7 @@ abbrev pub less : ℕ → List ℕ → List ℕ
 less m [] = []
 less m (room ∷ rooms) = (room - m) ∷ less m rooms
 
+-- octets that fit are added to the innermost list, and each room is less by as many
 pub open_more : (opened : List Opened) (rooms : List ℕ) (d m left : ℕ) (inner add b : List ℕ) → length add ≡ m
     → FitsIn left rooms m → AreOpen d opened rooms inner b → AreOpen d opened (less m rooms) (inner ++ add) (b ++ add)
 open_more [] [] d m left inner add b len fits h = ap (λ (l : List ℕ). l ++ add) h
@@ -44,6 +45,7 @@ pub record LessIs (m : ℕ) (rooms : List ℕ) : Type 0 where
   pub is : less m rooms ≡ spent m rooms ++ zeros closed
   pub len : length rooms ≡ length (spent m rooms) + closed
 
+-- so it is where m octets fit
 pub less_is : (m left : ℕ) (rooms : List ℕ) → FitsIn left rooms m → LessIs m rooms
 less_is m left [] fits = record { closed = 0; is = refl; len = refl }
 less_is m left (room ∷ rooms) fits =
@@ -71,6 +73,7 @@ less_is m left (room ∷ rooms) fits =
           }
     ]
 
+-- there are as many open objects as rooms
 pub open_length : (opened : List Opened) (rooms : List ℕ) (d : ℕ) (inner b : List ℕ) → AreOpen d opened rooms inner b
     → length opened ≡ length rooms
 open_length [] [] d inner b h = refl
@@ -87,6 +90,7 @@ pub record IsClosed (d : ℕ) (opened : List Opened) (rooms : List ℕ) (o : Ope
   pub object : IsObject (d + length rooms) 1 o.tag o.form (length inner)
   pub full : o.len ≡ length inner
 
+-- so it is where no room is left in it
 pub close_last : (opened : List Opened) (rooms : List ℕ) (d : ℕ) (o : Opened) (inner b : List ℕ)
     → AreOpen d (opened ++ o ∷ []) (rooms ++ 0 ∷ []) inner b → IsClosed d opened rooms o inner b
 close_last [] [] d o inner b h =
@@ -150,6 +154,7 @@ zeros_last (suc n) = ap (λ (l : List ℕ). 0 ∷ l) (zeros_last n)
 abbrev pub closed_list : Opened → Tree → Tree
 closed_list o list = join o.before (Constructed o.tag o.form list End)
 
+-- one of the objects to be closed is closed, and its nodes have as many octets as its header says
 pub close_one : (b rooms : List ℕ) (closed : ℕ) (opened : List Opened) (o : Opened) (list : Tree)
     → Closing b rooms (suc closed) (opened ++ o ∷ []) list → Closing b rooms closed opened (closed_list o list)
     × (o.len ≡ length (spelling list))
@@ -177,6 +182,7 @@ close_one b rooms closed opened o list h =
 
 -- ---- more octets after the innermost list
 
+-- the octets b are what this tree spells, and some number of objects are to be closed
 pub record ClosingSome (b rooms : List ℕ) (opened : List Opened) (list : Tree) : Type 0 where
   pub closed : ℕ
   pub closing : Closing b rooms closed opened list
@@ -215,6 +221,7 @@ pub record Stays (opened : List Opened) (rooms inner b : List ℕ) (count : ℕ)
   pub opened_yet : AreOpen 1 opened rooms inner b
   pub level : length rooms ≡ count
 
+-- so it is where more octets must come after these, and all of them fit
 pub all_stay : (opened : List Opened) (rooms inner b : List ℕ) (m left need : ℕ) (add : List ℕ)
     → AreOpen 1 opened rooms inner b → length add ≡ m → 0 < need → FitsIn left rooms (m + need)
     → Stays opened (spent m rooms) (inner ++ add) (b ++ add) (length rooms)

@@ -29,11 +29,13 @@ pub record AtHeader (b : List ℕ) (k : Kept) (opened : List Opened) (list : Tre
   pub opened_yet : AreOpen 1 opened k.rooms (spelling list ++ k.header) b
   pub proper : IsProper (1 + length k.rooms) list
 
+-- where no octet of a value is to come, none is under way
 pub none_under : (d : ℕ) (value : Option ValueSoFar) (header : List ℕ) (left : ℕ) → IsUnderWay d value header left
     → left ≡ 0 → value ≡ None
 none_under d None header left h z = refl
 none_under d (Some v) header left h z = absurd (omega (arith, h.3))
 
+-- and then the octets are those of the tree so far and of the header under way
 pub at_header : (b : List ℕ) (k : Kept) (g : Grown) → HasGrown b k g → k.value_left ≡ 0 → AtHeader b k g.opened g.list
 at_header b k g h z =
     let none = none_under (1 + length k.rooms) g.value k.header k.value_left h.under z in
@@ -49,12 +51,14 @@ pub none_kept : (b : List ℕ) (k : Kept) (g : Grown) → HasGrown b k g → k.v
 none_kept b k g h z = ap (λ (v : Option ValueSoFar). record { opened = g.opened; list = g.list; value = v })
     (none_under (1 + length k.rooms) g.value k.header k.value_left h.under z)
 
+-- what fits into the innermost room fits into each room
 pub step_fits : (b : List ℕ) (k : Kept) (s : Held b k) (m : ℕ) → m ≤ room_of (k.max - length b) k.rooms
     → FitsIn (k.max - length b) k.rooms m
 step_fits b k s m le = fits_more (k.max - length b) k.rooms _ m s.fits le
 
 -- ---- after it
 
+-- a filler is added to the innermost list, and then objects are to be closed, or none
 pub filler_grown : (b : List ℕ) (k : Kept) (x : ℕ) (opened : List Opened) (list : Tree) → HasTaken b k
     → k.value_left ≡ 0 → IsStep k x next.Filler → AtHeader b k opened list
     → ClosingSome (b ++ x ∷ []) (spent 1 k.rooms) opened (join list (Filler End))
@@ -65,6 +69,7 @@ filler_grown b k x opened list taken z step h =
     item_grown opened k.rooms list k.header b 1 (k.max - length b) (x ∷ []) (Filler End) h.opened_yet h.proper refl
     (step_fits b k p.held 1 (omega (arith, p.room))) octets tt
 
+-- while a header is under way the tree stays the same
 pub under_grown : (b : List ℕ) (k : Kept) (x : ℕ) (longer : Header) (opened : List Opened) (list : Tree) → HasTaken b k
     → k.value_left ≡ 0 → IsStep k x (next.Under longer) → AtHeader b k opened list
     → HasGrown (b ++ x ∷ []) (after_next k (next.Under longer)) (record { opened = opened; list = list; value = None })
@@ -84,10 +89,12 @@ under_grown b k x longer opened list taken z step h =
 
 -- ---- the header of an object is whole
 
+-- an object may be at this depth, and the last octet of its header and its value fit
 pub record AtObject (b : List ℕ) (k : Kept) (x : ℕ) (o : ObjectHeader) : Type 0 where
   pub deep : 1 + length k.rooms ≤ deepest
   pub fits : FitsIn (k.max - length b) k.rooms (1 + o.len)
 
+-- so it is where an octet that may come makes a header whole
 pub at_object : (b : List ℕ) (k : Kept) (x : ℕ) (o : ObjectHeader) → HasTaken b k → k.value_left ≡ 0
     → IsStep k x (next.Object o) → AtObject b k x o
 at_object b k x o taken z step =
@@ -99,6 +106,7 @@ at_object b k x o taken z step =
           step_fits b k p.held (1 + o.len) (omega (arith, p.room));
     }
 
+-- and then it is an object, of the kind that bit 6 of its tag says
 pub object_is : (b : List ℕ) (k : Kept) (x : ℕ) (o : ObjectHeader) (bit : ℕ) → AtObject b k x o
     → IsStep k x (next.Object o) → constructed_bit o.tag ≡ bit → IsObject (1 + length k.rooms) bit o.tag o.form o.len
 object_is b k x o bit at step e = record { depth = at.deep; is_tag = step.follows.0; is_bit = e; fits = step.follows.1 }
@@ -120,6 +128,7 @@ empty_item d o item (inr e) object = (
   sym (append-nil (header_of o.tag o.form 0)) ∙ ap spelling (sym e.1),
 )
 
+-- an object whose value is empty is whole, and is added to the innermost list
 pub empty_grown : (b : List ℕ) (k : Kept) (x : ℕ) (o : ObjectHeader) (item : Tree) (opened : List Opened) (list : Tree)
     → HasTaken b k → k.value_left ≡ 0 → IsStep k x (next.Object o) → o.len ≡ 0 → IsWholeItem o [] item
     → AtHeader b k opened list
@@ -166,9 +175,11 @@ entered_none : (k : Kept) (n bit : ℕ) → n ≡ 0 → k ≡ entered k n bit
 entered_none k zero bit e = refl
 entered_none k (suc n) bit e = absurd (omega arith)
 
+-- where the value is empty, nothing is under way after the header
 pub empty_kept : (k : Kept) (o : ObjectHeader) → o.len ≡ 0 → after_octet k [] ≡ after_next k (next.Object o)
 empty_kept k o e = entered_none (after_octet k []) o.len (constructed_bit o.tag) e
 
+-- the value of a primitive object is under way, with no octets yet
 pub value_grown : (b : List ℕ) (k : Kept) (x : ℕ) (o : ObjectHeader) (opened : List Opened) (list : Tree) → HasTaken b k
     → k.value_left ≡ 0 → IsStep k x (next.Object o) → 0 < o.len → constructed_bit o.tag ≡ 0 → AtHeader b k opened list
     → HasGrown (b ++ x ∷ []) (after_next k (next.Object o))
@@ -203,6 +214,7 @@ value_grown b k x o opened list taken z step some bit h =
       );
     })
 
+-- a constructed object is open, with an empty list inside
 pub open_grown : (b : List ℕ) (k : Kept) (x : ℕ) (o : ObjectHeader) (opened : List Opened) (list : Tree) → HasTaken b k
     → k.value_left ≡ 0 → IsStep k x (next.Object o) → 0 < o.len → constructed_bit o.tag ≡ 1 → AtHeader b k opened list
     → HasGrown (b ++ x ∷ []) (after_next k (next.Object o))
@@ -286,6 +298,7 @@ none_open : (opened : List Opened) (list b : List ℕ) → AreOpen 1 opened [] (
 none_open [] list b h = h ∙ append-nil list
 none_open (o ∷ opened) list b h = absurd h
 
+-- where nothing is under way, the octets are the forest that the list is
 pub idle_grown : (b : List ℕ) (k : Kept) (g : Grown) → HasTaken b k → HasGrown b k g → IsIdle k
     → IsForest k.max g.list b
 idle_grown b k g taken h idle =
@@ -323,5 +336,6 @@ under_left b k s (Valued tag form value left) e =
     subst (FitsIn (k.max - length b) k.rooms) left_is
     (subst (λ (w : Under). FitsIn (k.max - length b) k.rooms (under_need w)) e s.fits)
 
+-- what is to come of a value fits into each room
 pub value_fits : (b : List ℕ) (k : Kept) → HasTaken b k → FitsIn (k.max - length b) k.rooms k.value_left
 value_fits b k taken = let s = held_of b k taken in under_left b k s s.under refl

@@ -55,6 +55,7 @@ none_of max t h improper.Tag s = none_some IsOtherKind (λ d bit tag form n o ne
 none_of max t h improper.Form s = none_some IsUnfit (λ d bit tag form n o le. omega (arith, o.fits)) 1 t h.proper s
 none_of max t h improper.Size s = omega (arith, h.size)
 
+-- a list of tags and octets has a spelling exactly where nothing is improper
 pub improper_law : (max : ℕ) (t : Tree) → AreObjects t → ImproperLaw max t
 improper_law max t h = (
   none_of max t,
@@ -67,25 +68,30 @@ improper_law max t h = (
 
 -- ---- the first that holds
 
+-- where some object is too deep, that is the first that holds
 pub first_depth : (max : ℕ) (t : Tree) → SomeObject IsDeep 1 t → IsFirstImproper max t improper.Depth
 unfolding IsFirst
 first_depth max t h = inl (h, refl)
 
+-- else, where bit 6 of some tag disagrees with its kind, that is
 pub first_tag : (max : ℕ) (t : Tree) → (SomeObject IsDeep 1 t → ⊥) → SomeObject IsOtherKind 1 t
     → IsFirstImproper max t improper.Tag
 unfolding IsFirst
 first_tag max t a h = inr (a, inl (h, refl))
 
+-- else, where some length doesn't fit its form, that is
 pub first_form : (max : ℕ) (t : Tree) → (SomeObject IsDeep 1 t → ⊥) → (SomeObject IsOtherKind 1 t → ⊥)
     → SomeObject IsUnfit 1 t → IsFirstImproper max t improper.Form
 unfolding IsFirst
 first_form max t a b h = inr (a, inr (b, inl (h, refl)))
 
+-- else, where the whole is too long, that is
 pub first_size : (max : ℕ) (t : Tree) → (SomeObject IsDeep 1 t → ⊥) → (SomeObject IsOtherKind 1 t → ⊥)
     → (SomeObject IsUnfit 1 t → ⊥) → max < length (spelling t) → IsFirstImproper max t improper.Size
 unfolding IsFirst
 first_size max t a b c h = inr (a, inr (b, inr (c, inl (h, refl))))
 
+-- and where none of them holds, the list has a spelling
 pub none_improper : (max : ℕ) (t : Tree) → AreObjects t → (SomeObject IsDeep 1 t → ⊥) → (SomeObject IsOtherKind 1 t → ⊥)
     → (SomeObject IsUnfit 1 t → ⊥) → length (spelling t) ≤ max → HasSpelling max t
 none_improper max t h a b c le = record { proper = proper_of 1 t h a b c; is = refl; size = le }

@@ -14,11 +14,13 @@ use Rattle.tlv_core.proofs.Listing.{more_entries}
 same_yes : (a b : List ℕ) → a ≡ b → bytes_eq a b ≡ true
 same_yes a b e = (bytes_eq-Decides a b).1 e
 
+-- there is a value at each place inside, and this is it
 pub get_at : (xs : List Known) (i : ℕ) (x : Known) → i < length xs → x ≡ get_or xs i x → slice_get xs i ≡ Some x
 get_at [] i x lt e = absurd (omega arith)
 get_at (y ∷ xs) zero x lt e = ap Some (sym e)
 get_at (y ∷ xs) (suc i) x lt e = get_at xs i x (omega arith) e
 
+-- what is at place j after the first n values is at place n + j
 pub get_behind : (xs : List Known) (n j : ℕ) → slice_get (drop n xs) j ≡ slice_get xs (n + j)
 get_behind xs zero j = let e : j ≡ zero + j = omega arith in ap (slice_get xs) e
 get_behind [] (suc n) j = refl
@@ -47,6 +49,7 @@ found_in tag x xs l true b rest e = let same : x ≡ l =
     }
 found_in tag x xs l false b rest e = found_behind tag x xs l (rest e)
 
+-- the known value for a tag is at some place, and has that tag
 pub found_at : (tag : List ℕ) (xs : List Known) (l : Known) → known_for tag xs ≡ Some l → Found tag xs l
 found_at tag [] l e = cc
 found_at tag (x ∷ xs) l e = found_in tag x xs l (bytes_eq tag x.tag) refl (found_at tag xs l) e
@@ -56,6 +59,7 @@ none_tail : (tag : List ℕ) (x : Known) (t : Bool) (o : Option Known) → cond 
 none_tail tag x true o e = cc
 none_tail tag x false o e = (refl, e)
 
+-- where there is none, no value has the tag
 pub none_at : (tag : List ℕ) (xs : List Known) (j : ℕ) (l : Known) → known_for tag xs ≡ None → slice_get xs j ≡ Some l
     → tag ≡ l.tag → ⊥
 none_at tag [] j l n g same = cc
@@ -99,6 +103,7 @@ twice known place x lt e some =
       f.same,
     )
 
+-- where the tag of the value at a place doesn't come after it, no tag up to there comes again
 pub once_more : (known : List Known) (place : ℕ) (x : Known) → place < length known → x ≡ get_or known place x
     → is_some (known_for x.tag (drop (place + 1) known)) ≡ false
     → ((i : ℕ) (k : Known) → i < place → slice_get known i ≡ Some k → known_for k.tag (drop (i + 1) known) ≡ None)
@@ -115,6 +120,7 @@ once_more known place x lt e none before i k less g =
           ∙ none_of (known_for x.tag (drop (place + 1) known)) none
     ]
 
+-- where none of all the tags comes again, no tag comes twice
 pub never_twice : (known : List Known) (n : ℕ) → length known ≤ n
     → ((i : ℕ) (k : Known) → i < n → slice_get known i ≡ Some k → known_for k.tag (drop (i + 1) known) ≡ None)
     → HasDuplicate known → ⊥
@@ -131,6 +137,7 @@ filled_append known [] e = append-nil (entry_part known e)
 filled_append known (f ∷ es) e = ap (λ (l : List ℕ). entry_part known f ++ l) (filled_append known es e)
     ∙ sym (append_assoc (entry_part known f) (filled known es) (entry_part known e))
 
+-- the part of one entry more comes after what is filled
 pub filled_more : (known : List Known) (es : List Entry) (i : ℕ) (e : Entry) (old now : List ℕ) → i < length es
     → e ≡ get_or es i e → old ≡ filled known (take i es) → now ≡ old ++ entry_part known e
     → now ≡ filled known (take (i + 1) es)
@@ -140,9 +147,11 @@ filled_more known es i e old now lt is before q =
 
 -- ---- the rest of a slice, and what is found there
 
+-- as many values as are left after the first n are all the rest
 pub rest_is : (known : List Known) (n : ℕ) → take (length known - n) (drop n known) ≡ drop n known
 rest_is known n = take_all (length known - n) (drop n known) (omega (arith, length-drop n known))
 
+-- a copy of an option has a value exactly where the option has
 pub copied_some : (o : Option (Bor Known)) → is_some (option_copied o) ≡ is_some o
 copied_some None = refl
 copied_some (Some k) = refl

@@ -20,6 +20,7 @@ use Rattle.tlv_core.specs.Tidy.{tidy}
 use Rattle.tlv_core.proofs.One.{join, join-end}
 use Rattle.tlv_core.proofs.Stands.{spelling-join}
 
+-- the tree of two lists joined is that of the second after that of the first
 pub tree-append : (xs ys : List Node) → tree_of (xs ++ ys) ≡ join (tree_of xs) (tree_of ys)
 tree-append [] ys = refl
 tree-append (node.Filler ∷ xs) ys = ap Filler (tree-append xs ys)
@@ -39,6 +40,7 @@ pub tree_more : (xs : List Node) (i : ℕ) (x : Node) → i < length xs → x �
     → tree_of (take (i + 1) xs) ≡ join (tree_of (take i xs)) (tree_of (x ∷ []))
 tree_more xs i x lt e = ap tree_of (take-more xs i x lt e) ∙ tree-append (take i xs) (x ∷ [])
 
+-- the octets of one node more come after those of the others
 pub spelling_more : (xs : List Node) (i : ℕ) (x : Node) → i < length xs → x ≡ get_or xs i x
     → spelling (tree_of (take (i + 1) xs)) ≡ spelling (tree_of (take i xs)) ++ spelling (tree_of (x ∷ []))
 spelling_more xs i x lt e = ap spelling (tree_more xs i x lt e) ∙ spelling-join (tree_of (take i xs)) (tree_of (x ∷ []))
@@ -60,9 +62,11 @@ child_fewer (y ∷ xs) (suc i) tag form nodes x lt e is =
 
 -- ---- lengths
 
+-- a header has the octets of its tag, one more, and the further ones of its form
 pub length-header : (tag : List ℕ) (form : Form) (n : ℕ) → length (header_of tag form n) ≡ length tag + 1 + further form
 length-header tag form n = omega (arith, length-append tag (length_field form n), length-field form n)
 
+-- a primitive object has the octets of its header and its value
 pub length_primitive : (tag : List ℕ) (form : Form) (value : List ℕ)
     → length (spelling (tree_of (node.Primitive tag form value ∷ []))) ≡ length (header_of tag form (length value)) +
     length value
@@ -72,6 +76,7 @@ length_primitive tag form value = omega (
   length-append value [],
 )
 
+-- a constructed object has the octets of its header and its nodes
 pub length_constructed : (tag : List ℕ) (form : Form) (nodes : Tree)
     → length (spelling (tree_of (node.Constructed tag form nodes ∷ []))) ≡ length
     (header_of tag form (length (spelling nodes))) + length (spelling nodes)
@@ -81,6 +86,7 @@ length_constructed tag form nodes = omega (
   length-append (spelling nodes) [],
 )
 
+-- one node more adds as many octets as it has
 pub more_octets : (xs : List Node) (i : ℕ) (x : Node) → i < length xs → x ≡ get_or xs i x
     → length (spelling (tree_of (take (i + 1) xs))) ≡ length (spelling (tree_of (take i xs))) + length
     (spelling (tree_of (x ∷ [])))
@@ -89,6 +95,7 @@ more_octets xs i x lt e = ap length (spelling_more xs i x lt e)
 
 -- ---- one node of a list
 
+-- each node of a proper list is proper by itself
 pub proper_at : (xs : List Node) (i d : ℕ) (x : Node) → i < length xs → x ≡ get_or xs i x → IsProper d (tree_of xs)
     → IsProper d (tree_of (x ∷ []))
 proper_at [] i d x lt e h = absurd (omega arith)
@@ -105,6 +112,7 @@ spelling_behind : (y : Node) (xs : List Node) → spelling (tree_of (y ∷ xs)) 
     ++ spelling (tree_of xs)
 spelling_behind y xs = ap spelling (tree-append (y ∷ []) xs) ∙ spelling-join (tree_of (y ∷ [])) (tree_of xs)
 
+-- no node has more octets than the list
 pub size_at : (xs : List Node) (i : ℕ) (x : Node) → i < length xs → x ≡ get_or xs i x
     → length (spelling (tree_of (x ∷ []))) ≤ length (spelling (tree_of xs))
 size_at [] i x lt e = absurd (omega arith)
@@ -127,6 +135,7 @@ pub record Inside (d : ℕ) (xs : List Node) (tag : List ℕ) (form : Form) (nod
   pub proper : IsProper (d + 1) nodes
   pub size : length (spelling nodes) ≤ length (spelling (tree_of xs))
 
+-- each constructed node of a proper list is such an object
 pub inside_at : (xs : List Node) (i d : ℕ) (x : Node) (tag : List ℕ) (form : Form) (nodes : Tree) → i < length xs
     → x ≡ get_or xs i x → x ≡ node.Constructed tag form nodes → IsProper d (tree_of xs) → Inside d xs tag form nodes
 inside_at xs i d x tag form nodes lt e is h =
@@ -144,6 +153,7 @@ inside_at xs i d x tag form nodes lt e is h =
           );
     }
 
+-- each primitive node of a proper list is an object
 pub value_at : (xs : List Node) (i d : ℕ) (x : Node) (tag : List ℕ) (form : Form) (value : List ℕ) → i < length xs
     → x ≡ get_or xs i x → x ≡ node.Primitive tag form value → IsProper d (tree_of xs)
     → IsObject d 0 tag form (length value)
@@ -161,22 +171,26 @@ added_node now old front xs i x lt e is front_is =
     ∙ ap (λ (l : List ℕ). old ++ (l ++ spelling (tree_of (x ∷ [])))) front_is
     ∙ ap (λ (l : List ℕ). old ++ l) (sym (spelling_more xs i x lt e))
 
+-- a header and a value, added one after the other, are a primitive object
 pub added_primitive : (a : List ℕ) (tag : List ℕ) (form : Form) (value : List ℕ)
     → (a ++ header_of tag form (length value)) ++ value ≡ a ++ spelling (tree_of (node.Primitive tag form value ∷ []))
 added_primitive a tag form value = append_assoc a (header_of tag form (length value)) value
     ∙ ap (λ (l : List ℕ). a ++ (header_of tag form (length value) ++ l)) (sym (append-nil value))
 
+-- a header and the octets of nodes, added so, are a constructed object
 pub added_constructed : (a : List ℕ) (tag : List ℕ) (form : Form) (nodes : Tree)
     → (a ++ header_of tag form (length (spelling nodes))) ++ spelling nodes ≡ a
     ++ spelling (tree_of (node.Constructed tag form nodes ∷ []))
 added_constructed a tag form nodes = append_assoc a (header_of tag form (length (spelling nodes))) (spelling nodes)
     ∙ ap (λ (l : List ℕ). a ++ (header_of tag form (length (spelling nodes)) ++ l)) (sym (append-nil (spelling nodes)))
 
+-- for a filler 00 is added
 pub by_filler : (now start a : List ℕ) (x : Node) → now ≡ start ++ 0 ∷ [] → start ≡ a → x ≡ node.Filler → now ≡ a
     ++ spelling (tree_of (x ∷ []))
 by_filler now start a x p q e = p ∙ ap (λ (l : List ℕ). l ++ 0 ∷ []) q
     ∙ ap (λ (z : Node). a ++ spelling (tree_of (z ∷ []))) (sym e)
 
+-- for a primitive object its header and its value are added
 pub by_primitive : (now mid start a v w : List ℕ) (tag : List ℕ) (form : Form) (value : List ℕ) (x : Node) → now ≡ mid
     ++ w → mid ≡ start ++ header_of tag form (length v) → start ≡ a → v ≡ value → w ≡ value
     → x ≡ node.Primitive tag form value → now ≡ a ++ spelling (tree_of (x ∷ []))
@@ -186,6 +200,7 @@ by_primitive now mid start a v w tag form value x p q s ev ew e =
     ∙ ap (λ (l : List ℕ). (a ++ header_of tag form (length value)) ++ l) ew
     ∙ added_primitive a tag form value ∙ ap (λ (z : Node). a ++ spelling (tree_of (z ∷ []))) (sym e)
 
+-- for a constructed object its header and the octets of its nodes are added
 pub by_constructed : (now mid start a : List ℕ) (n : ℕ) (tag : List ℕ) (form : Form) (nodes : Tree) (x : Node)
     → now ≡ mid ++ spelling nodes → mid ≡ start ++ header_of tag form n → start ≡ a → n ≡ length (spelling nodes)
     → x ≡ node.Constructed tag form nodes → now ≡ a ++ spelling (tree_of (x ∷ []))
@@ -203,6 +218,7 @@ objects_join (Filler rest) t h g = objects_join rest t h g
 objects_join (Primitive tag form value rest) t h g = (h.0, h.1, objects_join rest t h.2 g)
 objects_join (Constructed tag form nodes rest) t h g = (h.0, h.1, objects_join rest t h.2 g)
 
+-- where the nodes so far and one more are of tags and octets, so are all of them
 pub objects_more : (xs : List Node) (i : ℕ) (x : Node) → i < length xs → x ≡ get_or xs i x
     → AreObjects (tree_of (take i xs)) → AreObjects (tree_of (x ∷ [])) → AreObjects (tree_of (take (i + 1) xs))
 objects_more xs i x lt e h g = subst AreObjects (sym (tree_more xs i x lt e))
@@ -217,10 +233,12 @@ tidy_join (Primitive tag form value rest) t = ap (Primitive tag (shortest (lengt
 tidy_join (Constructed tag form nodes rest) t =
     ap (Constructed tag (shortest (length (spelling (tidy nodes)))) (tidy nodes)) (tidy_join rest t)
 
+-- the tidy form of one node more comes after that of the others
 pub tidy_more : (xs : List Node) (i : ℕ) (x : Node) → i < length xs → x ≡ get_or xs i x
     → tidy (tree_of (take (i + 1) xs)) ≡ join (tidy (tree_of (take i xs))) (tidy (tree_of (x ∷ [])))
 tidy_more xs i x lt e = ap tidy (tree_more xs i x lt e) ∙ tidy_join (tree_of (take i xs)) (tree_of (x ∷ []))
 
+-- a filler adds nothing to the tidy list
 pub tidy_filler : (xs : List Node) (i : ℕ) (x : Node) (done now : List Node) → i < length xs → x ≡ get_or xs i x
     → x ≡ node.Filler → now ≡ done → tree_of done ≡ tidy (tree_of (take i xs))
     → tree_of now ≡ tidy (tree_of (take (i + 1) xs))

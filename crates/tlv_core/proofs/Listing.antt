@@ -17,21 +17,25 @@ use Rattle.tlv_core.proofs.Entries.{Entry, Stands, entries_append, spelling_appe
 
 -- ---- the line of the table
 
+-- where an option that is empty shows something of a reason, so does the refusal that is made of it
 pub err_of : {X : Type 0} (P : Type 0) (Q : X → Type 0) (F : DolReason → Type 0) (o : Option X) (e : DolReason)
     (r : Result X DolReason) → MatchOption o P Q → (P → F e) → r ≡ ok_or o e → IfErr r F
 err_of P Q F None e r h f is = subst (λ s. IfErr s F) (sym is) (f h)
 err_of P Q F (Some x) e r h f is = subst (λ s. IfErr s F) (sym is) tt
 
+-- an octet 00 at the beginning of an entry meets that line first
 pub line_zero : (h : List ℕ) (x : ℕ) → h ≡ [] → x ≡ 0 → IsFirst dol_reasons (IsWrongEntry h x) TagZero
 unfolding IsFirst
 line_zero h x e z = inl ((e, z), refl)
 
+-- a second tag octet whose low seven bits are all 0 meets that line first
 pub line_second : (a x : ℕ) (h : List ℕ) → h ≡ a ∷ [] → IsLong a → x % 128 ≡ 0
     → IsFirst dol_reasons (IsWrongEntry h x) TagSecond
 unfolding IsFirst
 line_second a x h e long z = subst (λ (l : List ℕ). IsFirst dol_reasons (IsWrongEntry l x) TagSecond) (sym e)
     (inr (λ w. let bad : a ∷ [] ≡ [] = w.0 in cc, inl ((long, z), refl)))
 
+-- a third tag octet with bit 8 set meets that line first
 pub line_third : (a b x : ℕ) (h : List ℕ) → h ≡ a ∷ b ∷ [] → IsLong a → 128 ≤ b → 128 ≤ x
     → IsFirst dol_reasons (IsWrongEntry h x) TagLong
 unfolding IsFirst
@@ -91,11 +95,13 @@ listing_longer b i old now p next lt l more is after =
           ∙ ap (λ (k : List ℕ). dol_spelling old ++ k) (sym longer.1);
     })
 
+-- an octet is refused at its place, for the first line of the table that it meets
 pub listing_refused : (b : List ℕ) (i : ℕ) (entries : List Entry) (p : TagPart) (r : DolReason) → i < length b
     → Listing (take i b) entries p → IsFirst dol_reasons (IsWrongEntry (part_octets p) (get_or b i 0)) r
     → Refuses whole IsDol IsDolReason b (At i r)
 listing_refused b i entries p r lt l first = refuses_at i b r lt (stands_of (take i b) entries p l) first
 
+-- entries with no part of a tag after them are a list
 pub listing_whole : (b : List ℕ) (entries : List Entry) (p : TagPart) → Listing b entries p → p ≡ part.Nothing
     → IsDol entries b
 listing_whole b entries p l e = record {
@@ -110,12 +116,14 @@ not_nil (part.First a) ok some e = cc
 not_nil (part.Second a b) ok some e = cc
 not_nil (part.Tagged tag) ok some e = subst IsTag e ok
 
+-- with a part of a tag after them they are short
 pub listing_short : (b : List ℕ) (entries : List Entry) (p : TagPart) → Listing b entries p → (p ≡ part.Nothing → ⊥)
     → Refuses whole IsDol IsDolReason b (Short (length b))
 listing_short b entries p l some = short_entry b (stands_of b entries p l) (not_nil p l.part some)
 
 -- ---- entry by entry
 
+-- the first i + 1 entries are the first i and the one at place i
 pub more_entries : (es : List Entry) (i : ℕ) (e : Entry) → i < length es → e ≡ get_or es i e
     → take (i + 1) es ≡ take i es ++ e ∷ []
 more_entries [] i e lt is = absurd (omega arith)
@@ -124,17 +132,20 @@ more_entries (f ∷ es) (suc i) e lt is = let next : suc i + 1 ≡ suc (i + 1) =
     omega arith in ap (λ (k : ℕ). take k (f ∷ es)) next
     ∙ ap (λ (l : List Entry). f ∷ l) (more_entries es i e (omega arith) is)
 
+-- with the tag and the length of one entry more, the octets spell one entry more
 pub spelled_more : (es : List Entry) (i : ℕ) (e : Entry) (old now : List ℕ) → i < length es → e ≡ get_or es i e
     → old ≡ dol_spelling (take i es) → now ≡ (old ++ e.0) ++ e.1 ∷ [] → now ≡ dol_spelling (take (i + 1) es)
 spelled_more es i e old now lt is before q =
     q ∙ append_assoc old e.0 (e.1 ∷ []) ∙ ap (λ (l : List ℕ). l ++ entry_octets e) before
     ∙ sym (spelling_append (take i es) e) ∙ ap dol_spelling (sym (more_entries es i e lt is))
 
+-- with a tag and an octet of length more, there is one entry more
 pub each_more : (es : List Entry) (i : ℕ) (e : Entry) → i < length es → e ≡ get_or es i e → AreEntries (take i es)
     → IsTag e.0 → e.1 < 256 → AreEntries (take (i + 1) es)
 each_more es i e lt is before tag small =
     subst AreEntries (sym (more_entries es i e lt is)) (entries_append (take i es) e before tag small)
 
+-- a push that didn't fail has added the entry
 pub pushed : (ok failed : Bool) (old now : List Entry) (e : Entry) → now ≡ cond ok (old ++ e ∷ []) old → ok ≡ not failed
     → failed ≡ false → now ≡ old ++ e ∷ []
 pushed true failed old now e is n f = is

@@ -13,32 +13,40 @@ use Rattle.tlv_core.proofs.One.{head_of, tail_of}
 
 -- ---- what need computes to
 
+-- after a filler nothing is needed
 pub need-zero : (more : List ℕ) → need (0 ∷ more) ≡ 0
 need-zero more = refl
 
+-- after a tag octet that no other follows, the length field says what is needed
 pub need-short : (x : ℕ) (more : List ℕ) → 0 < x → x % 32 ≢ 31 → need (x ∷ more) ≡ need_in_length more
 need-short zero more lt ne = absurd (omega arith)
 need-short (suc x) more lt ne = ap (λ (b : Bool). cond b (need_after_one more) (need_in_length more))
     (ne_eqb (suc x % 32) 31 ne)
 
+-- a first tag octet that others follow isn't 00
 pub long_positive : (x : ℕ) → IsLong x → 0 < x
 long_positive zero h = let long : 0 % 32 ≡ 31 = h in omega (arith, long)
 long_positive (suc x) h = omega arith
 
+-- after such an octet, the octets that follow it say what is needed
 pub need-long : (x : ℕ) (more : List ℕ) → IsLong x → need (x ∷ more) ≡ need_after_one more
 need-long zero more h = let long : 0 % 32 ≡ 31 = h in absurd (omega (arith, long))
 need-long (suc x) more h = ap (λ (b : Bool). cond b (need_after_one more) (need_in_length more))
     (eq-eqb (suc x % 32) 31 h)
 
+-- after a second tag octet below 128, the length field does
 pub need_after-last : (y : ℕ) (more : List ℕ) → y < 128 → need_after_one (y ∷ more) ≡ need_in_length more
 need_after-last y more lt = ap (λ (b : Bool). cond b (need_in_length more) (need_after_two more)) (lt-ltb y 128 lt)
 
+-- after any other second octet, a third follows
 pub need_after-more : (y : ℕ) (more : List ℕ) → 128 ≤ y → need_after_one (y ∷ more) ≡ need_after_two more
 need_after-more y more le = ap (λ (b : Bool). cond b (need_in_length more) (need_after_two more)) (le-ltb y 128 le)
 
+-- a length field of one octet needs what it says
 pub need_in-one : (n : ℕ) → n < 128 → need_in_length (n ∷ []) ≡ n
 need_in-one n lt = ap (λ (b : Bool). cond b n ((n - 128 - 0) + 0 * 256 ^ (n - 128 - 0))) (lt-ltb n 128 lt)
 
+-- a longer one needs its octets that are left, and the least length that it can say with them
 pub need_in-more : (k : ℕ) (more : List ℕ)
     → need_in_length ((128 + k) ∷ more) ≡ (k - length more) + number_of more * 256 ^ (k - length more)
 need_in-more k more =
@@ -49,6 +57,7 @@ need_in-more k more =
 
 -- ---- least
 
+-- in joined octets, the first ones count 256 times as much for each of those after them
 pub number-append : (a b : List ℕ) → number_of (a ++ b) ≡ number_of a * 256 ^ length b + number_of b
 number-append [] b = omega arith
 number-append (x ∷ a) b =

@@ -19,10 +19,12 @@ use Rattle.tlv_core.proofs.Forms.{form_cases}
 
 -- ---- the line of the table
 
+-- a second tag octet whose low seven bits are all 0 meets that line first
 pub first_second : (x y : ℕ) → IsLong x → y % 128 ≡ 0 → IsFirst octet_reasons (IsWrong 0 0 (x ∷ []) y) TagSecond
 unfolding IsFirst
 first_second x y long zeros = inl ((long, zeros), refl)
 
+-- a third tag octet with bit 8 set meets that line first
 pub first_third : (x y z : ℕ) → IsLong x → 128 ≤ y → 128 ≤ z
     → IsFirst octet_reasons (IsWrong 0 0 (x ∷ y ∷ []) z) TagLong
 unfolding IsFirst
@@ -40,6 +42,7 @@ tag_not_third (x ∷ []) h w = w
 tag_not_third (x ∷ y ∷ []) h w = omega (arith, h.3, w.1)
 tag_not_third (x ∷ y ∷ z ∷ tag) h w = w
 
+-- after a tag, an octet that begins no length field meets that line first
 pub first_length : (tag : List ℕ) (x : ℕ) → IsTag tag → (BeginsLength x → ⊥)
     → IsFirst octet_reasons (IsWrong 0 0 tag x) LengthForm
 unfolding IsFirst
@@ -84,6 +87,7 @@ high_first-suc (suc k) number x h lt =
     ap (λ (y : ℕ). y ∷ high_first (suc k) ((number * 256 + x) % 256 ^ suc k)) high
     ∙ ap (λ (n : ℕ). q ∷ high_first (suc k) n) rest ∙ ap (λ (l : List ℕ). q ∷ l) (high_first-suc k r x small lt)
 
+-- the octets of a number and one octet more are those of the longer number
 pub high_first-next : (read number x : ℕ) → number < 256 ^ read → x < 256
     → high_first (read + 1) (number * 256 + x) ≡ high_first read number ++ x ∷ []
 high_first-next read number x h lt = let e : read + 1 ≡ suc read =

@@ -57,9 +57,11 @@ field_high k n n' rest rest' lt lt' e =
     (length-high_first k n ∙ sym (length-high_first k n')) e in
     (sym (number-high_first k n lt) ∙ ap number_of both.0 ∙ number-high_first k n' lt', both.1)
 
+-- equal lists have the same first octet
 pub head_of : {x y : ℕ} {a b : List ℕ} → x ∷ a ≡ y ∷ b → x ≡ y
 head_of e = cc
 
+-- and the same rest
 pub tail_of : {x y : ℕ} {a b : List ℕ} → x ∷ a ≡ y ∷ b → a ≡ b
 tail_of e = cc
 
@@ -101,6 +103,7 @@ field_one form form' n n' rest rest' lt lt' e =
       ]
     ]
 
+-- no header begins another
 pub header_one : (tag tag' : List ℕ) (form form' : Form) (n n' : ℕ) (rest rest' : List ℕ) → IsTag tag → IsTag tag'
     → n < capacity form → n' < capacity form'
     → header_of tag form n ++ rest ≡ header_of tag' form' n' ++ rest' → IsSame tag tag' form form' n n' rest rest'
@@ -119,6 +122,7 @@ join (Filler rest) t = Filler (join rest t)
 join (Primitive tag form value rest) t = Primitive tag form value (join rest t)
 join (Constructed tag form nodes rest) t = Constructed tag form nodes (join rest t)
 
+-- the empty list after another adds nothing
 pub join-end : (t : Tree) → join t End ≡ t
 join-end End = refl
 join-end (Filler rest) = ap Filler (join-end rest)
@@ -136,11 +140,13 @@ header_not_zero (x ∷ y ∷ z ∷ []) form n rest more h e = let zero_is : x �
     ap (λ (z : ℕ). z % 32) (sym zero_is) ∙ h.1 in omega (arith, long)
 header_not_zero (x ∷ y ∷ z ∷ w ∷ m) form n rest more h e = h
 
+-- octets that begin with a header aren't none
 pub header_not_nil : (tag : List ℕ) (form : Form) (n : ℕ) (rest : List ℕ) → IsTag tag → header_of tag form n
     ++ rest ≡ [] → ⊥
 header_not_nil [] form n rest h e = h
 header_not_nil (x ∷ tag) form n rest h e = cc
 
+-- a list with no octets is empty
 pub nil_end : (t : Tree) (d : ℕ) → IsProper d t → spelling t ≡ [] → t ≡ End
 nil_end End d h e = refl
 nil_end (Filler rest) d h e = cc
@@ -178,6 +184,7 @@ pub record FirstConstructed (d : ℕ) (tag : List ℕ) (form : Form) (n : ℕ) (
   pub len : length (spelling nodes) ≡ n
   pub more_is : more ≡ spelling nodes ++ spelling rest
 
+-- a proper list whose octets begin with the header of a primitive object has that object first
 pub primitive_first : (t : Tree) (d : ℕ) (tag : List ℕ) (form : Form) (n : ℕ) (more : List ℕ) → IsTag tag
     → constructed_bit tag ≡ 0 → n < capacity form → IsProper d t
     → spelling t ≡ header_of tag form n ++ more → FirstPrimitive d tag form n more t
@@ -205,6 +212,7 @@ primitive_first (Constructed tag' form' nodes rest) d tag form n more h bit lt h
     let bits : constructed_bit tag' ≡ constructed_bit tag = ap constructed_bit same.tags in
     absurd (omega (arith, bits, bit, ht.0.is_bit))
 
+-- and one whose octets begin with the header of a constructed object has that
 pub constructed_first : (t : Tree) (d : ℕ) (tag : List ℕ) (form : Form) (n : ℕ) (more : List ℕ) → IsTag tag
     → constructed_bit tag ≡ 1 → n < capacity form → IsProper d t
     → spelling t ≡ header_of tag form n ++ more → FirstConstructed d tag form n more t
@@ -232,6 +240,7 @@ constructed_first (Constructed tag' form' nodes rest) d tag form n more h bit lt
       more_is = sym same.rests;
     }
 
+-- a list whose octets begin with those of another has that one first
 pub skip : (s t : Tree) (d e : ℕ) (rest : List ℕ) → IsProper e s → IsProper d t → spelling t ≡ spelling s ++ rest
     → IsAfter d s t rest
 skip End t d e rest hs ht eq = record { left = t; proper = ht; is = eq; whole = refl }

@@ -17,6 +17,7 @@ further_place : (place n : ℕ) (header value rest : List ℕ)
     → place + length header + length value + length rest ≡ place + length (header ++ (value ++ rest))
 further_place place n header value rest = omega (arith, length-append header (value ++ rest), length-append value rest)
 
+-- the objects of a list come before those of the list after it, which begins where its octets end
 pub preorder-join : (s t : Tree) (d place : ℕ) → preorder d place (join s t) ≡ preorder d place s
     ++ preorder d (place + length (spelling s)) t
 preorder-join End t d place = let e : place ≡ place + 0 = omega arith in ap (λ (p : ℕ). preorder d p t) e
@@ -48,6 +49,7 @@ inner_place place [] = place
 inner_place place (o ∷ opened) = inner_place (value_place (place + length (spelling o.before)) o.tag o.form o.len)
     opened
 
+-- the innermost list ends where all the octets end
 pub inner_place-is : (opened : List Opened) (rooms : List ℕ) (d place : ℕ) (inner b : List ℕ)
     → AreOpen d opened rooms inner b → inner_place place opened + length inner ≡ place + length b
 inner_place-is [] [] d place inner b h = omega (arith, ap length h)
@@ -82,6 +84,7 @@ placed-more (o ∷ opened) d place now before add h =
     ap (λ (l : List Placed). preorder d place o.before ++ (p ∷ l)) more
     ∙ regroup_placed (preorder d place o.before) p (placed_in (d + 1) at opened before) add
 
+-- what is the same there is the same in the whole
 pub placed-same : (opened : List Opened) (d place : ℕ) (now before : ℕ → ℕ → List Placed)
     → now (d + length opened) (inner_place place opened) ≡ before (d + length opened) (inner_place place opened)
     → placed_in d place opened now ≡ placed_in d place opened before
@@ -94,6 +97,7 @@ placed-same opened d place now before h =
 abbrev pub inside : Opened → (ℕ → ℕ → List Placed) → ℕ → ℕ → List Placed
 inside o inner d place = placed_in d place (o ∷ []) inner
 
+-- the last open object is in the innermost list of the others
 pub placed-last : (opened : List Opened) (d place : ℕ) (o : Opened) (inner : ℕ → ℕ → List Placed)
     → placed_in d place (opened ++ o ∷ []) inner ≡ placed_in d place opened (inside o inner)
 placed-last [] d place o inner = refl
@@ -116,6 +120,7 @@ closed_same o list d place e =
     ∙ preorder-join o.before (Constructed o.tag o.form list End) d place
     ∙ ap (λ (m : ℕ). preorder d place o.before ++ (placed_at d at o.tag o.form m ∷ (inner m ++ []))) (sym e)
 
+-- once the innermost open object is closed, all objects are placed as before
 pub close_placed : (opened : List Opened) (o : Opened) (list : Tree) → o.len ≡ length (spelling list)
     → placed_in 1 0 opened (placed_list (closed_list o list) None) ≡ placed_in 1 0 (opened ++ o ∷ [])
     (placed_list list None)
@@ -142,6 +147,7 @@ has_last (o ∷ []) some = record { before = []; last = o; is = refl }
 has_last (o ∷ p ∷ opened) some = let h = has_last (p ∷ opened) (omega arith) in
     record { before = o ∷ h.before; last = h.last; is = ap (λ (l : List Opened). o ∷ l) h.is }
 
+-- all the objects that are to be closed can be
 pub all_closed : (closed : ℕ) (b rooms : List ℕ) (opened : List Opened) (list : Tree)
     → Closing b rooms closed opened list → AllClosed b rooms opened list
 all_closed zero b rooms opened list h = record { opened_now = opened; list_now = list; closing = h; placed_same = refl }

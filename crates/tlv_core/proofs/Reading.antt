@@ -38,6 +38,7 @@ none_grown max k g is tree =
     (λ (l : Kept). HasGrown [] l (record { opened = []; list = End; value = None })) (sym is)
     (record { opened = refl; proper = tt; under = refl }))
 
+-- a new reader has taken no octets
 pub none_begun : (max : ℕ) (k : Kept) (g : Grown) (refusal : Option (Refusal TlvReason))
     → k ≡ record { max = max; count = 0; rooms = []; header = []; value_left = 0 }
     → g ≡ record { opened = []; list = End; value = None }
@@ -45,6 +46,7 @@ pub none_begun : (max : ℕ) (k : Kept) (g : Grown) (refusal : Option (Refusal T
 none_begun max k g refusal is tree = record
     { taken = (nothing_taken max k is []).1 refl; grown = none_grown max k g is tree }
 
+-- and it has read octets exactly where they are none
 pub none_read : (max : ℕ) (k : Kept) (g : Grown) (b : List ℕ)
     → k ≡ record { max = max; count = 0; rooms = []; header = []; value_left = 0 }
     → g ≡ record { opened = []; list = End; value = None }
@@ -146,6 +148,7 @@ whole_begun b k old mid new m add refusal len octets some is e idle close h =
 
 -- ---- an octet of a header
 
+-- an octet that may come has been taken, once the tree has grown by it
 pub octet_begun : (b : List ℕ) (k : Kept) (x : ℕ) (next : Next) (old room : Partial) (new : Grown)
     (refusal : Option (Refusal TlvReason)) → k.value_left ≡ 0 → IsStep k x next → grown_of room ≡ grown_of old
     → (TakesNext b k x next (grown_of room) → HasGrown (b ++ x ∷ []) (after_next k next) new)
@@ -169,6 +172,7 @@ octet_refused b k octets r some z first h =
 
 -- ---- a piece
 
+-- octets of the rest are read after those of the piece so far
 pub read_more : (b piece rest : List ℕ) (taken n : ℕ) (now after : Reading) → rest ≡ drop taken piece
     → HasRead (b ++ take taken piece) now → ((c : List ℕ) → HasRead c now → HasRead (c ++ take n rest) after)
     → HasRead (b ++ take (taken + n) piece) after
@@ -177,6 +181,7 @@ read_more b piece rest taken n now after is h step =
     (append_assoc b (take taken piece) (take n rest) ∙ ap (λ (l : List ℕ). b ++ (take taken piece ++ take n l)) is
     ∙ ap (λ (l : List ℕ). b ++ l) (take_taken_more taken n piece)) (step (b ++ take taken piece) h)
 
+-- a feed of the rest that ends at once ends the feed of the piece after what was read before
 pub read_ended : (max : ℕ) (b piece rest : List ℕ) (taken : ℕ) (new : Reading) (r : Refused TlvReason)
     → rest ≡ drop taken piece → taken ≤ length piece → IsEndedFeed max (b ++ take taken piece) rest new 0 r
     → IsEndedFeed max b piece new taken r
@@ -201,6 +206,7 @@ whole_ended max piece new n (refused.Stop stop) h = refuses_at whole (IsForest m
 
 -- ---- answers of calls
 
+-- a result that is no error shows what follows at success
 pub of_ok : {A B P : Type 0} (r : Result A B) → is_err r ≡ false → OnOk r P → P
 of_ok (Ok x) e h = h
 of_ok (Err y) e h = cc

@@ -24,11 +24,13 @@ use Rattle.tlv_core.proofs.Stands.{need-tag, of_zeros, complete_under, under_oct
 use Rattle.tlv_core.proofs.Taking.{under_of, octets_under, well_under}
 use Rattle.tlv_core.proofs.Advances.{begun_of}
 
+-- where an object would be too deep, that line is the first
 pub first_deep : (level room : ℕ) (h : List ℕ) (x : ℕ) → IsWrong level room h x TooDeep
     → IsFirst tlv_reasons (IsWrong level room h x) TooDeep
 unfolding IsFirst
 first_deep level room h x w = inl (w, refl)
 
+-- else the first of the lines on octets that the octet meets is the first of all
 pub first_octet : (level room : ℕ) (h : List ℕ) (x : ℕ) (r : TlvReason) → (IsWrong level room h x TooDeep → ⊥)
     → IsFirst octet_reasons (IsWrong 0 0 h x) r → IsFirst tlv_reasons (IsWrong level room h x) r
 unfolding IsFirst
@@ -89,6 +91,7 @@ bottom_of h x (next.Object o) is some =
       },
     )
 
+-- the octet x after h meets none of the lines on octets
 pub record MeetsNoOctet (h : List ℕ) (x : ℕ) : Type 0 where
   pub second : IsWrong 0 0 h x TagSecond → ⊥
   pub third : IsWrong 0 0 h x TagLong → ⊥
@@ -111,6 +114,7 @@ next_none h x next begun is some =
       length_form = wrong 1 0 (1 + length b.0) h x LengthForm refl b.1 begun;
     }
 
+-- so it is with each octet that makes something of a header
 pub next_right : (before : Header) (x : ℕ) (next : Next) → IsWell before → IsNext (header_octets before) x next
     → MeetsNoOctet (header_octets before) x
 next_right before x next.Filler well is = empty_none (header_octets before) x is.0
@@ -167,6 +171,7 @@ need_field form n lt =
           ∙ none_left n (f - f) (omega arith)
     ]
 
+-- as many octets must come after the octet as what it makes of the header needs
 pub need_is : (h : List ℕ) (x : ℕ) (next : Next) → IsNext h x next → need (h ++ x ∷ []) ≡ next_need next
 need_is h x next.Filler is = ap need (ap (λ (l : List ℕ). l ++ x ∷ []) is.0 ∙ ap (λ (y : ℕ). y ∷ []) is.1)
 need_is h x (next.Under longer) is = ap need (sym is.1) ∙ need_header longer is.0
@@ -175,12 +180,14 @@ need_is h x (next.Object o) is = ap need (sym is.2) ∙ need-tag o.tag (length_f
 
 -- ---- the lines on room
 
+-- where no line above is met, an object is open and there is no room, this line is the first
 pub first_overrun : (level room : ℕ) (h : List ℕ) (x : ℕ) → (IsWrong level room h x TooDeep → ⊥) → MeetsNoOctet h x
     → 0 < level → room ≤ need (h ++ x ∷ []) → IsFirst tlv_reasons (IsWrong level room h x) Overrun
 unfolding IsFirst
 first_overrun level room h x deep none some le =
     inr (deep, inr (none.second, inr (none.third, inr (none.length_form, inl ((some, omega arith), refl)))))
 
+-- and where no object is open, the line on the whole is
 pub first_long : (level room : ℕ) (h : List ℕ) (x : ℕ) → (IsWrong level room h x TooDeep → ⊥) → MeetsNoOctet h x
     → level ≡ 0 → room ≤ need (h ++ x ∷ []) → IsFirst tlv_reasons (IsWrong level room h x) TooLong
 unfolding IsFirst
@@ -196,6 +203,7 @@ first_long level room h x deep none empty le =
       ),
     )
 
+-- so the line is that on the whole, or on an object, as none or some is open
 pub first_room : (ends level room : ℕ) (h : List ℕ) (x : ℕ) → level ≡ ends → (IsWrong level room h x TooDeep → ⊥)
     → MeetsNoOctet h x → room ≤ need (h ++ x ∷ [])
     → IsFirst tlv_reasons (IsWrong level room h x) (cond (eqb ends 0) TooLong Overrun)

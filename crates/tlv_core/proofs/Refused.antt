@@ -39,6 +39,7 @@ front (z ∷ a) b (y ∷ c) d x e lt =
 regrouped : (before a b c d : List ℕ) → before ≡ a ++ (b ++ c) → before ++ d ≡ a ++ (b ++ (c ++ d))
 regrouped before a b c d e = ap (λ (l : List ℕ). l ++ d) e ∙ simp append_assoc
 
+-- a list that goes on with the octet x after `before` has an innermost open list that does
 pub descend : (rooms : List ℕ) (d left : ℕ) (t : Tree) (before h more : List ℕ) (x : ℕ) → IsProper d t
     → spelling t ≡ before ++ x ∷ more → 1 + length more ≤ left → Opens d rooms h before
     → Bottom (d + length rooms) (room_of left rooms) h x more
@@ -97,6 +98,7 @@ pub record FirstObject (d : ℕ) (b : List ℕ) : Type 0 where
   pub is : b ≡ header_of tag form n ++ rest
   pub size : n ≤ length rest
 
+-- a list that has octets begins with 00, or with an object
 pub first_of : (t : Tree) (d x : ℕ) (more : List ℕ) → IsProper d t → spelling t ≡ x ∷ more → (x ≡ 0)
     ⊎ FirstObject d (x ∷ more)
 first_of End d x more ht e = cc
@@ -134,6 +136,7 @@ not_long_zero x h e = omega (arith, long_positive x h)
 
 -- ---- each reason
 
+-- no header has a second tag octet whose low seven bits are all 0
 pub second_header : (tag : List ℕ) (form : Form) (n x y : ℕ) (rest more : List ℕ) → IsTag tag → IsLong x → y % 128 ≡ 0
     → x ∷ y ∷ more ≡ header_of tag form n ++ rest → ⊥
 second_header [] form n x y rest more h long bad e = h
@@ -142,6 +145,7 @@ second_header (t ∷ u ∷ []) form n x y rest more h long bad e = let same : y 
 second_header (t ∷ u ∷ v ∷ []) form n x y rest more h long bad e = let same : y ≡ u = head_of (tail_of e) in omega arith
 second_header (t ∷ u ∷ v ∷ w ∷ m) form n x y rest more h long bad e = h
 
+-- no header has a third tag octet with bit 8 set
 pub third_header : (tag : List ℕ) (form : Form) (n x y z : ℕ) (rest more : List ℕ) → IsTag tag → IsLong x → 128 ≤ y
     → 128 ≤ z → x ∷ y ∷ z ∷ more ≡ header_of tag form n ++ rest → ⊥
 third_header [] form n x y z rest more h long two bad e = h
@@ -170,6 +174,7 @@ field_begins form n x rest more lt e =
           )
     ]
 
+-- no tag begins with 00
 pub tag_not_zero : (x : ℕ) (h : List ℕ) → IsTag (x ∷ h) → x ≡ 0 → ⊥
 tag_not_zero x [] h e = omega arith
 tag_not_zero x (y ∷ []) h e = not_long_zero x h.1 e
@@ -235,6 +240,7 @@ need_comes t d (y ∷ h) more x ht begun e = elim (first_of t d y (h ++ x ∷ mo
   | inr o ↦ need_object d (y ∷ h) more x o begun
 ]
 
+-- where the innermost list goes on with an octet, that octet meets no reason
 pub wrong : (d level room : ℕ) (h : List ℕ) (x : ℕ) (r : TlvReason) {all : List ℕ} → d ≡ 1 + level
     → Bottom d room h x all → IsBegun h → IsWrong level room h x r → ⊥
 wrong d level room h x TooDeep de b begun w =
@@ -311,6 +317,7 @@ long_zeros d room n x (y ∷ more) after t ht long e z =
       | inr o ↦ second_header o.tag o.form o.n x y o.rest more o.is_tag long (omega arith) o.is
     ]
 
+-- octets that end in a first tag octet which others follow, and then zeros, are no forest
 pub needs_one : (max n : ℕ) (b : List ℕ) (t : Tree) → EndsInLong b → IsForest max t (b ++ zeros n) → ⊥
 needs_one max n b t e h =
     let is : spelling t ≡ e.before ++ e.octet ∷ zeros n =

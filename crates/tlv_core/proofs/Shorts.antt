@@ -254,6 +254,7 @@ pub record IsMade (l : List ℕ) (count a b : ℕ) : Type 0 where
   pub whole : IsWholeTag (record { octets = slice_index l 0 ∷ a ∷ b ∷ []; count = count })
   pub same : take count (slice_index l 0 ∷ a ∷ b ∷ []) ≡ take count l
 
+-- so it is where they are the octets of the tag, and 0 after it
 pub tag_made : (l : List ℕ) (count a b : ℕ) → length l ≡ 3 → count ≤ 3 → IsTag (take count l)
     → (1 < count → a ≡ slice_index l 1) → (count ≤ 1 → a ≡ 0) → (2 < count → b ≡ slice_index l 2)
     → (count ≤ 2 → b ≡ 0) → IsMade l count a b

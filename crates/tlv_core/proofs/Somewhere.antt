@@ -65,16 +65,19 @@ module _ (Is : ℕ → ℕ → List ℕ → Form → ℕ → Type 0) where
   own_one d (node.Primitive tag form value) h = inl h
   own_one d (node.Constructed tag form nodes) h = inl h
 
+  -- where a node of a list is so by itself, some object of the list is
   pub some_own : (d : ℕ) (xs : List Node) (i : ℕ) (x : Node) → i < length xs → x ≡ get_or xs i x → OwnIs Is d x
       → SomeObject Is d (tree_of xs)
   some_own d xs i x lt e h = some_at d xs i x lt e (own_one d x h)
 
+  -- and where some object is so in the nodes of one
   pub some_inner : (d : ℕ) (xs : List Node) (i : ℕ) (x : Node) (tag : List ℕ) (form : Form) (nodes : Tree)
       → i < length xs → x ≡ get_or xs i x → x ≡ node.Constructed tag form nodes → SomeObject Is (d + 1) nodes
       → SomeObject Is d (tree_of xs)
   some_inner d xs i x tag form nodes lt e is h =
       some_at d xs i x lt e (subst (λ (z : Node). SomeObject Is d (tree_of (z ∷ []))) (sym is) (inr (inl h)))
 
+  -- where none so far is so, nor one node more, nor any object inside it, none of them all is
   pub none_more : (d : ℕ) (xs : List Node) (i : ℕ) (x : Node) → i < length xs → x ≡ get_or xs i x
       → (SomeObject Is d (tree_of (take i xs)) → ⊥) → (OwnIs Is d x → ⊥)
       → ((tag : List ℕ) (form : Form) (nodes : Tree) → x ≡ node.Constructed tag form nodes → SomeObject Is (d + 1) nodes
@@ -86,6 +89,7 @@ module _ (Is : ℕ → ℕ → List ℕ → Form → ℕ → Type 0) where
         | inr a ↦ elim (some_one d x a) [ inl b ↦ own b | inr b ↦ inner b.0 b.1 b.2 b.3 b.4 ]
       ]
 
+-- a constructed node has one list of nodes
 pub same_nodes : (tag tag' : List ℕ) (form form' : Form) (nodes nodes' : Tree) (x : Node)
     → x ≡ node.Constructed tag form nodes → x ≡ node.Constructed tag' form' nodes' → nodes ≡ nodes'
 same_nodes tag tag' form form' nodes nodes' x p q = cc

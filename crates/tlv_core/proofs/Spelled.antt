@@ -11,6 +11,7 @@ use Rattle.tlv_core.specs.Forest.{spelling, IsProper, IsForest}
 use Rattle.tlv_core.proofs.Forms.{octets-field}
 use Rattle.tlv_core.proofs.Numbers.{octets_nil}
 
+-- a tag is octets
 pub octets-tag : (tag : List ℕ) → IsTag tag → AreOctets tag
 octets-tag [] h = absurd h
 octets-tag (x ∷ []) h = octets-cons x [] h.1 octets_nil
@@ -19,10 +20,12 @@ octets-tag (x ∷ y ∷ z ∷ []) h = octets-cons x (y ∷ z ∷ []) h.0
     (octets-cons y (z ∷ []) h.3 (octets-cons z [] (omega arith) octets_nil))
 octets-tag (x ∷ y ∷ z ∷ w ∷ more) h = absurd h
 
+-- a header is octets
 pub octets-header : (tag : List ℕ) (form : Form) (n : ℕ) → IsTag tag → n < capacity form
     → AreOctets (header_of tag form n)
 octets-header tag form n h lt = octets-append tag (length_field form n) (octets-tag tag h) (octets-field form n lt)
 
+-- the spelling of a proper list is octets
 pub octets-spelling : (t : Tree) (d : ℕ) → IsProper d t → AreOctets (spelling t)
 octets-spelling End d h = octets_nil
 octets-spelling (Filler rest) d h = octets-cons 0 (spelling rest) (omega arith) (octets-spelling rest d h)

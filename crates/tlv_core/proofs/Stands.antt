@@ -18,6 +18,7 @@ use Rattle.tlv_core.proofs.One.{join, head_of}
 
 -- ---- lists of objects, joined
 
+-- the octets of one list after another are those of both, joined
 pub spelling-join : (s t : Tree) → spelling (join s t) ≡ spelling s ++ spelling t
 spelling-join End t = refl
 spelling-join (Filler rest) t = ap (λ (l : List ℕ). 0 ∷ l) (spelling-join rest t)
@@ -28,6 +29,7 @@ spelling-join (Constructed tag form nodes rest) t =
     ap (λ (l : List ℕ). header_of tag form (length (spelling nodes)) ++ (spelling nodes ++ l)) (spelling-join rest t)
     ∙ sym (regroup (header_of tag form (length (spelling nodes))) (spelling nodes) (spelling rest) (spelling t))
 
+-- and where both are proper, so is this
 pub proper-join : (s t : Tree) (d : ℕ) → IsProper d s → IsProper d t → IsProper d (join s t)
 proper-join End t d hs ht = ht
 proper-join (Filler rest) t d hs ht = proper-join rest t d hs ht
@@ -39,29 +41,35 @@ abbrev pub fillers : ℕ → Tree
 fillers zero = End
 fillers (suc n) = Filler (fillers n)
 
+-- their octets are zeros
 pub spelling-fillers : (n : ℕ) → spelling (fillers n) ≡ zeros n
 spelling-fillers zero = refl
 spelling-fillers (suc n) = ap (λ (l : List ℕ). 0 ∷ l) (spelling-fillers n)
 
+-- they are proper at each depth
 pub proper-fillers : (n d : ℕ) → IsProper d (fillers n)
 proper-fillers zero d = tt
 proper-fillers (suc n) d = proper-fillers n d
 
+-- n zeros are n octets
 pub length-zeros : (n : ℕ) → length (zeros n) ≡ n
 length-zeros zero = refl
 length-zeros (suc n) = ap suc (length-zeros n)
 
+-- m zeros and n more are m + n zeros
 pub zeros-append : (m n : ℕ) → zeros m ++ zeros n ≡ zeros (m + n)
 zeros-append zero n = let e : n ≡ zero + n = omega arith in ap zeros e
 zeros-append (suc m) n = let e : suc (m + n) ≡ suc m + n =
     omega arith in ap (λ (l : List ℕ). 0 ∷ l) (zeros-append m n) ∙ ap zeros e
 
+-- zeros are octets
 pub octets-zeros : (n : ℕ) → AreOctets (zeros n)
 octets-zeros zero = octets_nil
 octets-zeros (suc n) = octets-cons 0 (zeros n) (omega arith) (octets-zeros n)
 
 -- ---- one object with an empty value or one of zeros
 
+-- bit 6 of a tag is 0 or 1
 pub bit_cases : (tag : List ℕ) → (constructed_bit tag ≡ 0) ⊎ (constructed_bit tag ≡ 1)
 bit_cases [] = inl refl
 bit_cases (x ∷ more) = elim (cases_lt (x / 32 % 2) 1) [ inl h ↦ inl (omega arith) | inr h ↦ inr (omega arith) ]
@@ -72,6 +80,7 @@ pub record IsZeros (d : ℕ) (tag : List ℕ) (form : Form) (n : ℕ) : Type 0 w
   pub proper : IsProper d list
   pub is : spelling list ≡ header_of tag form n ++ zeros n
 
+-- there is one for each tag, and each length that fits the form, at each depth of objects
 pub of_zeros : (d : ℕ) (tag : List ℕ) (form : Form) (n : ℕ) → d ≤ deepest → IsTag tag → n < capacity form
     → IsZeros d tag form n
 of_zeros d tag form n le h lt =
@@ -115,6 +124,7 @@ of_zeros d tag form n le h lt =
 
 -- ---- what is under way in the innermost open list
 
+-- what is under way: nothing, a part of a header, or a header with a part of a primitive value
 pub data Under : Type 0 where
   Nothing : Under
   First : (x : ℕ) → Under
@@ -123,6 +133,7 @@ pub data Under : Type 0 where
   Sized : (tag : List ℕ) (form : Form) (more : List ℕ) → Under
   Valued : (tag : List ℕ) (form : Form) (value : List ℕ) (left : ℕ) → Under
 
+-- its octets
 abbrev pub under_octets : Under → List ℕ
 under_octets Nothing = []
 under_octets (First x) = x ∷ []
@@ -131,6 +142,7 @@ under_octets (Tagged tag) = tag
 under_octets (Sized tag form more) = tag ++ (128 + further form) ∷ more
 under_octets (Valued tag form value left) = header_of tag form (length value + left) ++ value
 
+-- it is of the kind that is said, in a list at depth d
 abbrev pub IsUnder : ℕ → Under → Type 0
 IsUnder d Nothing = d ≤ 17
 IsUnder d (First x) = (d ≤ deepest) × (x < 256) × IsLong x
@@ -139,6 +151,7 @@ IsUnder d (Tagged tag) = (d ≤ deepest) × IsTag tag
 IsUnder d (Sized tag form more) = (d ≤ deepest) × IsTag tag × (length more < further form) × AreOctets more
 IsUnder d (Valued tag form value left) = IsObject d 0 tag form (length value + left) × AreOctets value × (0 < left)
 
+-- the least number of octets that must still come of it
 abbrev pub under_need : Under → ℕ
 under_need Nothing = 0
 under_need (First x) = 2
@@ -158,6 +171,7 @@ repair (Valued tag form value left) = []
 
 -- ---- from each place zeros lead to a list
 
+-- the octets b, and some zeros after them, spell a list at depth d, with at most so many octets
 pub record Completes (d most : ℕ) (b : List ℕ) : Type 0 where
   pub list : Tree
   pub count : ℕ
@@ -165,11 +179,11 @@ pub record Completes (d most : ℕ) (b : List ℕ) : Type 0 where
   pub is : spelling list ≡ b ++ zeros count
   pub size : length (spelling list) ≤ most
 
--- the length that a length field with these further octets says, where zeros follow
 number-zeros : (n : ℕ) → number_of (zeros n) ≡ 0
 number-zeros zero = refl
 number-zeros (suc n) = omega (arith, number-zeros n)
 
+-- the length that further octets say, as many as the form has: it fits the form, and they are those of its field
 pub field_more : (form : Form) (more : List ℕ) → length more ≡ further form → 0 < further form → AreOctets more
     → (number_of more < capacity form) × (length_field form (number_of more) ≡ (128 + further form) ∷ more)
 field_more form more len pos h =
@@ -187,6 +201,7 @@ field_more form more len pos h =
 regroup_sized : (t g : List ℕ) (x : ℕ) (a b : List ℕ) → (t ++ x ∷ (g ++ a)) ++ b ≡ (t ++ x ∷ g) ++ (a ++ b)
 regroup_sized t g x a b = simp append_assoc
 
+-- what is under way and its repair are completed by zeros, with no more octets than must still come
 pub complete_under : (d : ℕ) (u : Under) → IsUnder d u
     → Completes d (length (under_octets u) + under_need u) (under_octets u ++ repair u)
 complete_under d Nothing h = record { list = End; count = 0; proper = tt; is = refl; size = omega arith }
@@ -272,10 +287,12 @@ abbrev pub FitsIn : ℕ → List ℕ → ℕ → Type 0
 FitsIn left [] k = k ≤ left
 FitsIn left (room ∷ rooms) k = (room ≤ left) × FitsIn room rooms k
 
+-- what fits all the rooms fits the innermost one
 pub fits_need : (rooms : List ℕ) (left k : ℕ) → FitsIn left rooms k → k ≤ room_of left rooms
 fits_need [] left k h = h
 fits_need (room ∷ rooms) left k h = fits_need rooms room k h.1
 
+-- the innermost room is no more than the whole
 pub fits_room : (rooms : List ℕ) (left k : ℕ) → FitsIn left rooms k → room_of left rooms ≤ left
 fits_room [] left k h = omega arith
 fits_room (room ∷ rooms) left k h = omega (arith, h.0, fits_room rooms room k h.1)
@@ -294,6 +311,7 @@ regroup_done a b c d = simp append_assoc
 regroup_open : (a b c d e : List ℕ) → a ++ (b ++ ((c ++ d) ++ e)) ≡ ((a ++ (b ++ c)) ++ d) ++ e
 regroup_open a b c d e = simp append_assoc
 
+-- octets that leave objects open, with that repair, are completed by zeros, within what is left of the whole
 pub complete : (rooms : List ℕ) (d left : ℕ) (u : Under) (b : List ℕ) → Opens d rooms (under_octets u) b
     → IsUnder (d + length rooms) u → FitsIn left rooms (under_need u)
     → Completes d (length b + left) (b ++ repair u)
@@ -385,12 +403,14 @@ pub record Allowed (d room : ℕ) (h : List ℕ) (x : ℕ) : Type 0 where
   pub length_form : IsTag h → BeginsLength x
   pub room_left : 1 + need (h ++ x ∷ []) ≤ room
 
+-- the octets h are something under way in a list at depth d, which needs what they need
 pub record NextUnder (d : ℕ) (h : List ℕ) : Type 0 where
   pub under : Under
   pub ok : IsUnder d under
   pub octets : under_octets under ≡ h
   pub needs : under_need under ≡ need h
 
+-- the octets h are the header of an object at depth d, whose value has as many octets as they need
 pub record Whole (d : ℕ) (h : List ℕ) : Type 0 where
   pub tag : List ℕ
   pub form : Form
@@ -401,9 +421,11 @@ pub record Whole (d : ℕ) (h : List ℕ) : Type 0 where
   pub is : h ≡ header_of tag form n
   pub needs : n ≡ need h
 
+-- the octets h are a filler, something under way, or a whole header
 abbrev pub Next : ℕ → List ℕ → Type 0
 Next d h = (h ≡ 0 ∷ []) ⊎ (NextUnder d h ⊎ Whole d h)
 
+-- after a tag, the octets of the length field say what is needed
 pub need-tag : (tag f : List ℕ) → IsTag tag → need (tag ++ f) ≡ need_in_length f
 need-tag [] f h = absurd h
 need-tag (x ∷ []) f h = need-short x f h.0 h.2
@@ -546,6 +568,8 @@ next_sized d x tag form more le h lt octets small =
 
 -- ---- one octet more
 
+-- what the octets b leave open in a list at depth d: the rooms, and what is under way in the innermost list;
+-- what must still come of it fits, with `left` octets left of the whole
 pub record Stands (d left : ℕ) (b : List ℕ) : Type 0 where
   pub rooms : List ℕ
   pub under : Under
@@ -814,6 +838,7 @@ step_open d left room value b x le o fits s =
           }
     ]
 
+-- one octet more leaves open what fits, where an octet of a header is allowed
 pub step : (rooms : List ℕ) (d left : ℕ) (u : Under) (b : List ℕ) (x : ℕ) → d ≤ 17 → Opens d rooms (under_octets u) b
     → IsUnder (d + length rooms) u → FitsIn left rooms (under_need u) → x < 256
     → (IsHeader u → Allowed (d + length rooms) (room_of left rooms) (under_octets u) x)

@@ -12,9 +12,11 @@ use Rattle.tlv_core.proofs.Stands.{FitsIn, fits_need, fits_room, spelling-join, 
 
 -- ---- rooms
 
+-- a room of more than m octets is less by m
 pub spent-more : (m room : ℕ) (rooms : List ℕ) → m < room → spent m (room ∷ rooms) ≡ (room - m) ∷ spent m rooms
 spent-more m room rooms lt = ap (λ (b : Bool). cond b ((room - m) ∷ spent m rooms) []) (lt-ltb m room lt)
 
+-- any other is used up, and so are those inside it
 pub spent-last : (m room : ℕ) (rooms : List ℕ) → room ≤ m → spent m (room ∷ rooms) ≡ []
 spent-last m room rooms le = ap (λ (b : Bool). cond b ((room - m) ∷ spent m rooms) []) (le-ltb m room le)
 
@@ -23,6 +25,7 @@ pub spent-inside : (m room : ℕ) (rooms : List ℕ) (k : ℕ) → FitsIn room r
 spent-inside m room [] k h le = refl
 spent-inside m room (inner ∷ rooms) k h le = spent-last m inner rooms (omega (arith, h.0))
 
+-- where something fits into all the rooms, so does all that fits into the innermost one
 pub fits_more : (left : ℕ) (rooms : List ℕ) (j k : ℕ) → FitsIn left rooms j → k ≤ room_of left rooms
     → FitsIn left rooms k
 fits_more left [] j k h le = le
@@ -36,6 +39,7 @@ spent-length m left k (room ∷ rooms) pos h =
     let lt : m < room = omega (arith, fits_need rooms room (m + k) h.1, fits_room rooms room (m + k) h.1) in
     omega (arith, ap length (spent-more m room rooms lt), spent-length m room k rooms pos h.1)
 
+-- what fits together with m octets fits into the rooms after these
 pub spent-fits : (m left k : ℕ) (rooms : List ℕ) → FitsIn left rooms (m + k) → FitsIn (left - m) (spent m rooms) k
 spent-fits m left k [] h = omega arith
 spent-fits m left k (room ∷ rooms) h =

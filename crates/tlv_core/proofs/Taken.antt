@@ -184,6 +184,7 @@ kept_at max count rooms (Sized tag form more) =
 kept_at max count rooms (Valued tag form value left) =
     record { max = max; count = count; rooms = rooms; header = []; value_left = left }
 
+-- octets that begin a forest are taken, and what they leave open is kept
 pub taken_at : (max : ℕ) (b rooms : List ℕ) (u : Under) → Begins (IsForest max) b → Opens 1 rooms (under_octets u) b
     → IsUnder (1 + length rooms) u → HasTaken b (kept_at max (length b) rooms u)
 taken_at max b rooms Nothing h o ok = record
@@ -262,6 +263,7 @@ held_at max b (Sized tag form more) rooms le o ok fits =
 held_at max b (Valued tag form value left) rooms le o ok fits =
     record { size = le; under = Valued tag form value left; opens = o; ok = ok; fits = fits; is = refl }
 
+-- so it is with each check that has taken octets
 pub held_of : (b : List ℕ) (k : Kept) → HasTaken b k → Held b k
 held_of b k h =
     let s = stands_of k.max b (octets-begins k.max b h.begun) (begins_none k.max b h.begun) in
@@ -284,6 +286,7 @@ held_idle b k h = (
   λ i. idle_forest k.max k.rooms k.header k.value_left h.last b (begun_size k.max b h.begun) h.opens h.kept i.0 i.1 i.2,
 )
 
+-- the laws of what a check keeps hold of all octets
 pub taken_laws : (max : ℕ) (b : List ℕ) → AreOctets b → TakenLaws max b
 taken_laws max b octets =
     record {

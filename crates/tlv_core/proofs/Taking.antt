@@ -19,6 +19,7 @@ use Rattle.tlv_core.proofs.Taken.{kept_at, Held, taken_of}
 
 -- ---- a header of the code
 
+-- a header of the code, as it is under way
 abbrev pub under_of : Header → Under
 under_of header.Nothing = Nothing
 under_of (header.First first) = First first
@@ -26,6 +27,7 @@ under_of (header.Second first second) = Second first second
 under_of (header.Tagged tag) = Tagged tag
 under_of (header.Sized tag form read number) = Sized tag form (high_first read number)
 
+-- it has the same octets
 pub octets_under : (longer : Header) → under_octets (under_of longer) ≡ header_octets longer
 octets_under header.Nothing = refl
 octets_under (header.First first) = refl
@@ -33,6 +35,7 @@ octets_under (header.Second first second) = refl
 octets_under (header.Tagged tag) = refl
 octets_under (header.Sized tag form read number) = refl
 
+-- it is of the kind that is said, at each depth of objects
 pub well_under : (longer : Header) (d : ℕ) → IsWell longer → d ≤ deepest → IsUnder d (under_of longer)
 well_under header.Nothing d h le = omega arith
 well_under (header.First first) d h le = (le, h.0, h.1)
@@ -41,6 +44,7 @@ well_under (header.Tagged tag) d h le = (le, h)
 well_under (header.Sized tag form read number) d h le =
     (le, h.0, omega (arith, length-high_first read number, h.1), octets-high_first read number h.2)
 
+-- as many octets must still come of it
 pub need_under : (longer : Header) → IsWell longer → under_need (under_of longer) ≡ header_need longer
 need_under header.Nothing h = refl
 need_under (header.First first) h = refl
@@ -51,6 +55,7 @@ need_under (header.Sized tag form read number) h =
     (length-high_first read number)
     ∙ ap (λ (n : ℕ). (further form - read) + n * 256 ^ (further form - read)) (number-high_first read number h.2)
 
+-- some must, where it isn't empty
 pub some_need : (longer : Header) → IsWell longer → (header_octets longer ≡ [] → ⊥) → 0 < header_need longer
 some_need header.Nothing h some = absurd (some refl)
 some_need (header.First first) h some = omega arith
@@ -58,6 +63,7 @@ some_need (header.Second first second) h some = omega arith
 some_need (header.Tagged tag) h some = omega arith
 some_need (header.Sized tag form read number) h some = omega (arith, h.1)
 
+-- with it under way its octets are kept as the part of a header, and no octet of a value is to come
 pub kept_under : (max count : ℕ) (rooms : List ℕ) (longer : Header)
     → kept_at max count rooms (under_of longer) ≡ record
     { max = max; count = count; rooms = rooms; header = header_octets longer; value_left = 0 }
@@ -69,10 +75,12 @@ kept_under max count rooms (header.Sized tag form read number) = refl
 
 -- ---- what is under way before an octet of a header
 
+-- what is under way is the part of a header that is kept, and an octet of a header is to come next
 pub record HeldHeader (k : Kept) (u : Under) : Type 0 where
   pub header : k.header ≡ under_octets u
   pub is_header : IsHeader u
 
+-- so it is where no octet of a value is to come
 pub held_header : (k : Kept) (d max count : ℕ) (rooms : List ℕ) (u : Under) → IsUnder d u
     → k ≡ kept_at max count rooms u → k.value_left ≡ 0 → HeldHeader k u
 held_header k d max count rooms Nothing ok e z = record { header = ap (λ (j : Kept). j.header) e; is_header = tt }
@@ -92,6 +100,7 @@ kept_count max count rooms (Tagged tag) = refl
 kept_count max count rooms (Sized tag form more) = refl
 kept_count max count rooms (Valued tag form value left) = refl
 
+-- as many octets are counted as were taken
 pub held_count : (b : List ℕ) (k : Kept) (s : Held b k) → k.count ≡ length b
 held_count b k s = ap (λ (j : Kept). j.count) s.is ∙ kept_count k.max (length b) k.rooms s.under
 
@@ -116,6 +125,7 @@ ends_with d add last next v ends e = record {
       ∙ ap (λ (l : List ℕ). spelling ends.done ++ l) e;
 }
 
+-- the innermost list ends in what it ended in, and one octet more
 pub ends_more : (d x : ℕ) (last next v : List ℕ) → EndsIn d last v → last ++ x ∷ [] ≡ next → EndsIn d next (v ++ x ∷ [])
 ends_more d x last next v ends e = ends_with d (x ∷ []) last next v ends e
 
@@ -237,6 +247,7 @@ opens_object b k m add s tag form n len some le object e =
     (subst (λ (j : ℕ). FitsIn j (spent m k.rooms ++ n ∷ []) 0) left_is after)
     )
 
+-- and so it is where one octet completes its header
 pub taken_open : (b : List ℕ) (k : Kept) (x : ℕ) (s : Held b k) (tag : List ℕ) (form : Form) (n : ℕ) → 0 < n
     → n < room_of (k.max - length b) k.rooms → IsObject (1 + length k.rooms) 1 tag form n → under_octets s.under
     ++ x ∷ [] ≡ header_of tag form n

@@ -41,6 +41,7 @@ size tag form n value rest = omega (
   length-field form n,
 )
 
+-- the tidy form of a proper list is proper, and has no more octets
 pub shorter : (d : ℕ) (t : Tree) → IsProper d t → IsProper d (tidy t)
     × (length (spelling (tidy t)) ≤ length (spelling t))
 shorter d End h = (tt, omega arith)
@@ -128,13 +129,13 @@ parted d (x ∷ xs) ys (z ∷ zs) ws hx hz hy hw e =
     let r = parted d xs ys zs ws hx.1 hz.1 hy hw (rest_same e) in
     (ap (λ (s : Said). s ∷ xs) (first_same e) ∙ ap (λ (l : List Said). z ∷ l) r.0, r.1)
 
--- lists that say the same have one tidy form
 value_same : {x y : Said} → x ≡ y → x.value ≡ y.value
 value_same e = ap (λ (s : Said). s.value) e
 
 some_same : {v w : List ℕ} → Some v ≡ Some w → v ≡ w
 some_same e = cc
 
+-- lists that say the same have one tidy form
 one_tidy : (s t : Tree) (d : ℕ) → said d s ≡ said d t → tidy s ≡ tidy t
 one_tidy End End d e = refl
 one_tidy End (Filler t) d e = one_tidy End t d e
@@ -169,5 +170,6 @@ least : (d : ℕ) (s t : Tree) → IsProper d s → IsProper d t → said d s �
     → length (spelling (tidy t)) ≤ length (spelling s)
 least d s t hs ht e = omega (arith, (shorter d s hs).1, ap (λ (u : Tree). length (spelling u)) (one_tidy s t d e))
 
+-- the laws of tidying hold
 pub tidy_laws : TidyLaws
 tidy_laws = record { twice = twice; stays = stays; proper = λ d t h. (shorter d t h).0; least = least }

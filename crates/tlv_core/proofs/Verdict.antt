@@ -40,6 +40,7 @@ pub record IsOpenTail (a : List ℕ) : Type 0 where
 abbrev pub IsPartial : List ℕ → Type 0
 IsPartial a = IsBegun a ⊎ IsOpenTail a
 
+-- less than an object doesn't begin with 00
 pub partial_not_zero : (a l : List ℕ) → IsPartial a → a ≡ 0 ∷ l → ⊥
 partial_not_zero a l p e =
     elim p [
@@ -48,6 +49,7 @@ partial_not_zero a l p e =
       | inr o ↦ header_not_zero o.tag o.form o.n o.value l o.is_tag (sym o.is ∙ e)
     ]
 
+-- a part of a header doesn't begin with a whole one
 pub begun_not_object : (a : List ℕ) (h : IsBegun a) (tag : List ℕ) (form : Form) (n : ℕ) (rest : List ℕ) → IsTag tag
     → n < capacity form → a ≡ header_of tag form n ++ rest → ⊥
 begun_not_object a h tag form n rest is_tag fits e =
@@ -66,6 +68,7 @@ partial_not_object a tag form n rest is_tag fits le p e =
           omega (arith, same.lengths, ap length same.rests, o.less)
     ]
 
+-- octets are a list, and then less than an object, in one way only
 pub same_done : (s t : Tree) (d e : ℕ) (a b : List ℕ) → IsProper d s → IsProper e t → IsPartial a → IsPartial b
     → spelling s ++ a ≡ spelling t ++ b → (s ≡ t) × (a ≡ b)
 same_done End End d e a b hs ht pa pb q = (refl, q)
@@ -151,6 +154,7 @@ same_done (Constructed tag form nodes s) (Constructed tag' form' nodes' t) d e a
       r.1,
     )
 
+-- the header of an open object and its value so far are less than an object
 pub open_tail : (d room : ℕ) (value b : List ℕ) (o : OpensOne d room value b)
     → IsOpenTail (header_of o.tag o.form (length value + room) ++ value)
 open_tail d room value b o = record {
@@ -165,6 +169,7 @@ open_tail d room value b o = record {
   is = refl;
 }
 
+-- octets leave rooms open, and a part of a header, in one way only
 pub one_opening : (rooms rooms' : List ℕ) (d : ℕ) (h h' b : List ℕ) → Opens d rooms h b → Opens d rooms' h' b
     → IsBegun h → IsBegun h' → (rooms ≡ rooms') × (h ≡ h')
 one_opening [] [] d h h' b o o' g g' = (
@@ -203,6 +208,7 @@ one_opening (room ∷ rooms) (room' ∷ rooms') d h h' b o o' g g' =
 abbrev lines : List TlvReason
 lines = tlv_reasons
 
+-- the reason of a refusal is a line that the octet meets
 pub reason_meets : (max : ℕ) (r : TlvReason) (b : List ℕ) → IsReason max r b → Meets max b r
 reason_meets max r b h = (
   h.0,
@@ -210,6 +216,7 @@ reason_meets max r b h = (
       (IsWrong (length h.0.rooms) (room_of (max - length h.0.before) h.0.rooms) h.0.header h.0.octet) r h.1,
 )
 
+-- equal lists have the same last octet, and the same before it
 pub last_of : (a c : List ℕ) (x y : ℕ) → a ++ x ∷ [] ≡ c ++ y ∷ [] → (a ≡ c) × (x ≡ y)
 last_of a c x y e =
     let len : length a ≡ length c = omega (arith, ap length e, length-append a (x ∷ []), length-append c (y ∷ [])) in
@@ -224,6 +231,7 @@ same_lines level level' room room' h h' x x' r a b c d w =
     (subst (λ (l : List ℕ). IsFirst lines (IsWrong level' room' l x) r) (sym c)
     (subst (λ (k : ℕ). IsFirst lines (IsWrong level' room' h' k) r) (sym d) w)))
 
+-- a refusal has one reason
 pub one_reason : (max : ℕ) (r s : TlvReason) (b : List ℕ) → IsReason max r b → IsReason max s b → r ≡ s
 one_reason max r s b h g =
     let e = h.0 in
@@ -240,21 +248,25 @@ one_reason max r s b h g =
 
 -- ---- some verdict
 
+-- octets are none or some
 pub nil_dec : (h : List ℕ) → Dec (h ≡ [])
 nil_dec [] = inl refl
 nil_dec (x ∷ h) = inr (λ e. cc)
 
+-- a second tag octet is awaited or isn't
 pub second_dec : (h : List ℕ) → Dec (AwaitsSecond h)
 second_dec [] = inr (λ e. e)
 second_dec (x ∷ []) = cases_eq (x % 32) 31
 second_dec (x ∷ y ∷ h) = inr (λ e. e)
 
+-- and so it is with a third
 pub third_dec : (h : List ℕ) → Dec (AwaitsThird h)
 third_dec [] = inr (λ e. e)
 third_dec (x ∷ []) = inr (λ e. e)
 third_dec (x ∷ y ∷ []) = and2 (cases_eq (x % 32) 31) (at-most 128 y)
 third_dec (x ∷ y ∷ z ∷ h) = inr (λ e. e)
 
+-- octets are a tag or aren't
 pub tag_dec : (h : List ℕ) → Dec (IsTag h)
 tag_dec [] = inr (λ e. e)
 tag_dec (x ∷ []) = and3 (less 0 x) (less x 256) (not_dec (cases_eq (x % 32) 31))
@@ -281,6 +293,7 @@ is_line TooLong = inr (λ e. cc, inr (λ e. cc, inr (λ e. cc, inr (λ e. cc, in
 
 -- ---- the whole input
 
+-- a forest begins with octets that leave open what fits the limit
 pub stands_begins : (max : ℕ) (b : List ℕ) → length b ≤ max → Stands 1 (max - length b) b → Begins (IsForest max) b
 stands_begins max b le s =
     let c = completed max b s le in
@@ -428,5 +441,6 @@ forest-scan max b octets = record {
   told = known_all max b;
 }
 
+-- every input is a forest or is refused, in one way
 pub one_verdict : (max : ℕ) (b : List ℕ) → AreOctets b → ForestVerdict max b
 one_verdict max b octets = whole_verdict (IsForest max) (IsReason max) b (Known max b) (forest-scan max b octets)

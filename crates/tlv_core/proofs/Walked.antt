@@ -59,6 +59,7 @@ flat_grew b k now all parts le is taken g e =
       parts_are = e ∙ ap (map (part_in b)) (sym g.placed_is);
     }
 
+-- a run of a value adds no part
 pub flat_run : (b : List ℕ) (k : Kept) (parts : List Part) (m : ℕ) → AreOctets b → 0 < m → m ≤ k.value_left
     → m ≤ length b - k.count → HasFlat b k parts → HasFlat b (after_run k m) parts
 flat_run b k parts m octets some le fits h =
@@ -74,6 +75,7 @@ entered_count k zero bit = refl
 entered_count k (suc n) zero = refl
 entered_count k (suc n) (suc bit) = refl
 
+-- an octet counts as one, whatever it makes of the header
 pub after_count : (k : Kept) (next : Next) → (after_next k next).count ≡ k.count + 1
 after_count k next.Filler = refl
 after_count k (next.Under longer) = refl
@@ -101,6 +103,7 @@ some_none o e = cc
 same_some : (p o : ObjectHeader) → Some p ≡ Some o → p ≡ o
 same_some p o e = cc
 
+-- an octet that makes the header of an object whole adds its part
 pub flat_object : (b : List ℕ) (k : Kept) (old new : List Part) (next : Next) (o : ObjectHeader) → k.count < length b
     → k.value_left ≡ 0 → IsStep k (get_or b k.count 0) next → object_in next ≡ Some o
     → IsKeptPart b (record { depth = 1 + length k.rooms; tag = o.tag; form = o.form; place = k.count + 1; len = o.len })
@@ -113,6 +116,7 @@ flat_object b k old new (next.Object p) o lt z step is e h =
     ++ part_in b (record { depth = 1 + length k.rooms; tag = q.tag; form = q.form; place = k.count + 1; len = q.len }) ∷
     []) (sym (same_some p o is))) h
 
+-- each other octet that may come adds none
 pub flat_other : (b : List ℕ) (k : Kept) (parts : List Part) (next : Next) → k.count < length b → k.value_left ≡ 0
     → IsStep k (get_or b k.count 0) next → object_in next ≡ None → HasFlat b k parts
     → HasFlat b (after_next k next) parts
@@ -122,6 +126,7 @@ flat_other b k parts (next.Under longer) lt z step is h =
     flat_octet b k parts parts (next.Under longer) lt z step (sym (append-nil (map part_seen parts))) h
 flat_other b k parts (next.Object o) lt z step is h = absurd (some_none o is)
 
+-- an octet is refused at its place, for the first line of the table that it meets
 pub flat_refused : (b : List ℕ) (k : Kept) (parts : List Part) (r : TlvReason) → k.count < length b → k.value_left ≡ 0
     → IsFirst tlv_reasons (IsWrongAfter k (get_or b k.count 0)) r → HasFlat b k parts
     → Refuses whole (IsForest k.max) (IsReason k.max) b (At k.count r)
@@ -144,6 +149,7 @@ pub record IsWholeFlat (b : List ℕ) (max : ℕ) (parts : List Part) : Type 0 w
   pub forest : IsForest max tree b
   pub parts_are : (t : Tree) → IsForest max t b → map part_seen parts ≡ parts_in b t
 
+-- so it is where nothing is under way at the end
 pub flat_whole : (b : List ℕ) (k : Kept) (parts : List Part) → HasFlat b k parts → length b ≤ k.count → IsIdle k
     → IsWholeFlat b k.max parts
 flat_whole b k parts h le idle =
@@ -164,6 +170,7 @@ flat_whole b k parts h le idle =
           ∙ ap (parts_in b) (one_forest k.max k.max g.list t b forest u);
     }
 
+-- where something is, the octets are short
 pub flat_short : (b : List ℕ) (k : Kept) (parts : List Part) → HasFlat b k parts → length b ≤ k.count → (IsIdle k → ⊥)
     → IsShort whole (IsForest k.max) b k.count
 flat_short b k parts h le busy = let all : take k.count b ≡ b =

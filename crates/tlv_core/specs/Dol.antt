@@ -13,10 +13,12 @@ use Rattle.tlv_core.specs.declared.reason.DolReason.TheVariants.{TagZero, TagSec
 abbrev pub entry_octets : List ℕ × ℕ → List ℕ
 entry_octets e = e.0 ++ e.1 ∷ []
 
+-- each has a tag, and a length in one octet
 abbrev pub AreEntries : List (List ℕ × ℕ) → Type 0
 AreEntries [] = Unit {0}
 AreEntries (e ∷ entries) = IsTag e.0 × (e.1 < 256) × AreEntries entries
 
+-- the octets of a list are those of its entries, in their order
 abbrev pub dol_spelling : List (List ℕ × ℕ) → List ℕ
 dol_spelling [] = []
 dol_spelling (e ∷ entries) = entry_octets e ++ dol_spelling entries

@@ -18,6 +18,7 @@ fitted Other n value = take n value ++ replicate (n - length value) 0
 abbrev pub known_for : List ℕ → List Known → Option Known
 known_for tag known = find (λ k. bytes_eq tag k.tag) known
 
+-- n octets: the known value, fitted, or zeros where there is none
 abbrev pub part_of : ℕ → Option Known → List ℕ
 part_of n None = replicate n 0
 part_of n (Some k) = fitted k.format n k.value
@@ -26,6 +27,7 @@ part_of n (Some k) = fitted k.format n k.value
 abbrev pub entry_part : List Known → List ℕ × ℕ → List ℕ
 entry_part known e = if constructed_bit e.0 == 1 then replicate e.1 0 else part_of e.1 (known_for e.0 known)
 
+-- the parts of the entries, in their order
 abbrev pub filled : List Known → List (List ℕ × ℕ) → List ℕ
 filled known [] = []
 filled known (e ∷ entries) = entry_part known e ++ filled known entries

@@ -78,6 +78,7 @@ placed_at d place tag form n = record {
       n;
 }
 
+-- the object whose value is under way, with its header at this place, if there is one
 abbrev pub placed_value : ℕ → ℕ → Option ValueSoFar → List Placed
 placed_value d place None = []
 placed_value d place (Some v) = placed_at d place v.tag v.form v.len ∷ []
@@ -94,6 +95,7 @@ placed_in d place (o ∷ opened) inner =
 abbrev pub placed_list : Tree → Option ValueSoFar → ℕ → ℕ → List Placed
 placed_list list value d place = preorder d place list ++ placed_value d (place + length (spelling list)) value
 
+-- the objects of the tree so far, also those that are open or whose value is under way
 abbrev pub placed : Grown → List Placed
 placed g = placed_in 1 0 g.opened (placed_list g.list g.value)
 

@@ -31,6 +31,7 @@ shortest n =
     cond (nat_lt n (capacity One)) One (cond (nat_lt n (capacity Two)) Two
     (cond (nat_lt n (capacity Three)) Three (cond (nat_lt n (capacity Four)) Four Five)))
 
+-- the form with as many octets after the first one is the form itself
 pub form_back : (form : Form) → form_of (further form) ≡ form
 form_back One = refl
 form_back Two = refl
@@ -38,5 +39,6 @@ form_back Three = refl
 form_back Four = refl
 form_back Five = refl
 
+-- contracts tell forms apart by the number of octets after the first one
 abbrev pub form_code : Coded Form
 form_code = code_by ℕ coded_ℕ further form_of form_back

@@ -49,6 +49,7 @@ header_need (header.Second first second) = 2
 header_need (header.Tagged tag) = 1
 header_need (header.Sized tag form read number) = (further form - read) + number * 256 ^ (further form - read)
 
+-- and that after what an octet makes of a header
 abbrev pub next_need : Next → ℕ
 next_need next.Filler = 0
 next_need (next.Under longer) = header_need longer

@@ -9,6 +9,7 @@ use Rattle.tlv_core.specs.declared.forest.Improper.TheVariants as improper
 use Rattle.tlv_core.specs.declared.filling.FillFault.{FillFault}
 use Rattle.tlv_core.specs.declared.filling.FillFault.TheVariants as fill
 
+-- the name of a reason for which octets are no forest
 abbrev pub reason_name : TlvReason → List ℕ
 reason_name tlv.TooDeep = codes "TooDeep"
 reason_name tlv.TagSecond = codes "TagSecond"
@@ -17,17 +18,20 @@ reason_name tlv.LengthForm = codes "LengthForm"
 reason_name tlv.Overrun = codes "Overrun"
 reason_name tlv.TooLong = codes "TooLong"
 
+-- the name of a reason for which octets are no data object list
 abbrev pub dol_reason_name : DolReason → List ℕ
 dol_reason_name dol.TagZero = codes "TagZero"
 dol_reason_name dol.TagSecond = codes "TagSecond"
 dol_reason_name dol.TagLong = codes "TagLong"
 
+-- the name of what is improper in a list of nodes
 abbrev pub improper_name : Improper → List ℕ
 improper_name improper.Depth = codes "Depth"
 improper_name improper.Tag = codes "Tag"
 improper_name improper.Form = codes "Form"
 improper_name improper.Size = codes "Size"
 
+-- what is written where a list isn't filled
 abbrev pub fill_fault_text : FillFault → List ℕ
 fill_fault_text fill.Duplicate = codes "Duplicate"
 fill_fault_text fill.Memory = codes "memory"

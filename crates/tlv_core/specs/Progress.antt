@@ -4,6 +4,7 @@ use Rattle.tlv_core.specs.Header.{header_octets}
 use Rattle.tlv_core.specs.Reasons.{Kept}
 use Rattle.tlv_core.specs.Open.{rooms_to}
 
+-- its places at which objects end are kept as rooms, its header as octets
 abbrev pub kept_of : Progress → Kept
 kept_of p = record {
   max = p.max;

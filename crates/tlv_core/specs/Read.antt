@@ -29,9 +29,11 @@ use Rattle.tlv_core.specs.Grown.{Opened, ValueSoFar, Grown, HasGrown}
 
 -- ---- the tree in the code
 
+-- an open object
 abbrev pub opened_of : OpenObject → Opened
 opened_of o = record { before = tree_of o.before.items; tag = o.header.tag; form = o.header.form; len = o.header.len }
 
+-- the value under way, if there is one
 abbrev pub value_of : Option OpenValue → Option ValueSoFar
 value_of None = None
 value_of (Some v) = Some (record {
@@ -42,6 +44,7 @@ value_of (Some v) = Some (record {
       v.octets.items;
 })
 
+-- the tree so far
 abbrev pub grown_of : Partial → Grown
 grown_of p = record { opened = map opened_of p.opened.items; list = tree_of p.list.items; value = value_of p.value }
 
@@ -50,6 +53,7 @@ abbrev pub longer_value : Option ValueSoFar → List ℕ → Option ValueSoFar
 longer_value None add = None
 longer_value (Some v) add = Some (record { tag = v.tag; form = v.form; len = v.len; octets = v.octets ++ add })
 
+-- the tree with more octets of the value under way
 abbrev pub extended : Grown → List ℕ → Grown
 extended g add = record { opened = g.opened; list = g.list; value = longer_value g.value add }
 
@@ -89,6 +93,7 @@ pub record Reading : Type 0 where
   pub tree : Grown
   pub refusal : Option (Refusal TlvReason)
 
+-- what a reader keeps that has these
 abbrev pub reading_of : Progress → Partial → Option (Refusal TlvReason) → Reading
 reading_of progress tree refusal = record { kept = kept_of progress; tree = grown_of tree; refusal = refusal }
 
@@ -102,9 +107,9 @@ pub record HasRead (b : List ℕ) (r : Reading) : Type 0 where
   pub begun : HasBegun b r
   pub none : r.refusal ≡ None
 
--- Behind the octets b a feed of the piece ended after n octets of it. Where memory was wanted, they were taken and no more,
--- and the reader can be fed the rest. Else they were taken, and the next octet is refused: that is the verdict on b and the
--- piece, and it is kept.
+-- After the octets b a feed of the piece ended after n octets of it. Where memory was wanted, they were taken and no
+-- more, and the reader can be fed the rest. Else they were taken, and the next octet is refused: that is the verdict on
+-- b and the piece, and it is kept.
 abbrev pub IsEndedFeed : ℕ → List ℕ → List ℕ → Reading → ℕ → Refused TlvReason → Type 0
 IsEndedFeed max b piece new n refused.Memory = (n ≤ length piece) × HasRead (b ++ take n piece) new
 IsEndedFeed max b piece new n (refused.Stop stop) =

@@ -39,12 +39,15 @@ items_equiv = lists_equiv (and_equiv (on_equiv (λ i. i.0) nat_eq_equiv)
     (and_equiv (on_equiv (λ i. i.1.0) nat_list_eq_equiv)
     (and_equiv (on_equiv (λ i. further i.1.1.0) nat_eq_equiv) (on_equiv (λ i. i.1.1.1) nat_list_eq_equiv))))
 
+-- being the same is an equivalence of lists of objects
 pub tree_equiv : IsEquivalence same_tree
 tree_equiv = on_equiv items_of items_equiv
 
+-- and of nodes
 pub node_equiv : IsEquivalence same_node
 node_equiv = on_equiv (λ node. tree_of (node ∷ [])) tree_equiv
 
+-- and of lists of parts
 pub parts_equiv : IsEquivalence (pointwise same_part)
 parts_equiv = lists_equiv (and_equiv (on_equiv (λ p. p.depth) nat_eq_equiv)
     (and_equiv (on_equiv (λ p. p.tag) nat_list_eq_equiv)

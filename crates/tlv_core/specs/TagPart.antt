@@ -4,6 +4,7 @@ use Rattle.tlv_core.specs.Tag.{IsTag, IsLong}
 use Rattle.tlv_core.specs.declared.tag_part.TagPart.{TagPart}
 use Rattle.tlv_core.specs.declared.tag_part.TagPart.TheVariants as part
 
+-- the octets of a tag so far
 abbrev pub part_octets : TagPart → List ℕ
 part_octets part.Nothing = []
 part_octets (part.First first) = first ∷ []

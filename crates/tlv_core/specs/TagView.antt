@@ -4,6 +4,7 @@ use Rattle.std.proofs.Common.{ap, ◌∙◌}
 use Rattle.tlv_core.specs.Tag.{IsTag}
 use Rattle.tlv_core.specs.declared.tag.Tag.TheInside.{Inside}
 
+-- as many of its octets as it counts
 abbrev pub octets_of_tag : Inside → List ℕ
 octets_of_tag a = take a.count a.octets
 
@@ -17,9 +18,11 @@ pub record IsWholeTag (a : Inside) : Type 0 where
   pub count : length (octets_of_tag a) ≡ a.count
   pub octets : padded (octets_of_tag a) ≡ a.octets
 
+-- the fields of a tag that has these octets
 abbrev pub tag_of_octets : List ℕ → Inside
 tag_of_octets b = record { octets = padded b; count = length b }
 
+-- a whole tag is the one that its octets make
 pub tag_back : (a : Inside) → IsWholeTag a → tag_of_octets (octets_of_tag a) ≡ a
 tag_back a h = ap (λ (o : List ℕ). record { octets = o; count = length (octets_of_tag a) }) h.octets
     ∙ ap (λ (n : ℕ). record { octets = a.octets; count = n }) h.count

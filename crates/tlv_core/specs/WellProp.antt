@@ -14,6 +14,7 @@ IsTag-prop (x ∷ y ∷ []) = hlevel (le_prop, ℕ_set)
 IsTag-prop (x ∷ y ∷ z ∷ []) = hlevel (le_prop, ℕ_set)
 IsTag-prop (x ∷ y ∷ z ∷ w ∷ more) = hlevel (le_prop, ℕ_set)
 
+-- a part of a header is of the kind that is said in one way only
 pub IsWell-prop : (h : Header) → IsProp (IsWell h)
 IsWell-prop header.Nothing = hlevel (le_prop, ℕ_set)
 IsWell-prop (header.First first) = hlevel (le_prop, ℕ_set)
