@@ -155,11 +155,8 @@ fn shown(part: &Part<'_>) -> CPart
 fn tag_shown(tag: &Tag) -> CTag
     ensures { result ≡ tag_shown tag.now }
 {
-    let given = tag.octets();
-    let mut octets = [0; 3];
-    octets[..given.len()].copy_from_slice(given);
     CTag {
-        octets,
-        count: given.len() as u8,
+        octets: tag.padded(),
+        count: tag.octets().len() as u8,
     }
 }

@@ -2,6 +2,7 @@
 
 ghost use Rattle.std.specs.Prelude.{◌≡◌, ◌<◌, ◌≤◌, ◌/◌, ◌%◌, ◌↔◌, IsTrue, MatchOption, take};
 ghost use Rattle.tlv_core.specs.Tag.{IsTag, IsLong, constructed_bit};
+ghost use Rattle.tlv_core.specs.TagView.{padded};
 
 use std::marker::Model;
 
@@ -123,6 +124,15 @@ impl Tag {
         ensures tag { IsTag result.now }
     {
         &self.octets[..self.count as usize]
+    }
+
+    /// The octets of the tag, and zeros after them up to three.
+    #[inline(always)]
+    pub fn padded(&self) -> [u8; 3]
+        ensures { result ≡ padded self.now }
+    {
+        let Tag { octets, .. } = *self;
+        octets
     }
 
     /// Whether the tag is that of a constructed object: bit 6 of its first octet.

@@ -158,16 +158,17 @@ fn tags_are_whole(rt: HostRuntime) -> Result<(), Fail> {
     ] {
         assert!(rt; Tag::new(octets).is_none(), "{octets:?}");
     }
-    const ROWS: [(&str, bool); 5] = [
-        ("5A", false),
-        ("6F", true),
-        ("9F02", false),
-        ("BF0C", true),
-        ("DF8101", false),
+    const ROWS: [(&str, bool, [u8; 3]); 5] = [
+        ("5A", false, [0x5A, 0x00, 0x00]),
+        ("6F", true, [0x6F, 0x00, 0x00]),
+        ("9F02", false, [0x9F, 0x02, 0x00]),
+        ("BF0C", true, [0xBF, 0x0C, 0x00]),
+        ("DF8101", false, [0xDF, 0x81, 0x01]),
     ];
-    for (text, constructed) in ROWS {
+    for (text, constructed, padded) in ROWS {
         let tag = tag(&rt, text)?;
         assert!(rt; same(tag.is_constructed(), constructed), "{text}");
+        assert!(rt; same(tag.padded(), padded), "{text}");
         assert!(rt; same(hex_upper(rt.alloc(), tag.octets())?.as_str(), text));
     }
     assert!(rt; tag(&rt, "5A")? == tag(&rt, "5A")?);
