@@ -1,6 +1,6 @@
 -- The places at which open objects end, and their rooms.
 use Rattle.std.proofs.Common.{◌≡◌, ℕ, ◌+◌, ◌-◌, ◌<◌, ◌≤◌, List, [], ◌∷◌, ◌++◌, length, take, get_or, refl, sym, ap, subst, ◌∙◌, inl, inr, arith, zero, suc, cond, Bool, true, nat_lt}
-use Rattle.std.specs.Prelude.{slice_get, Some}
+use Rattle.std.specs.Prelude.{Some}
 use Rattle.std.specs.List.{prefix_len}
 use borrow.Author.Tests.{lt-ltb, le-ltb, ltb-true}
 use Rattle.std.proofs.lemmas.Bool.{cases_lt}
@@ -19,11 +19,13 @@ use Rattle.tlv_core.proofs.Advances.{not_filler, object_not_filler}
 use Rattle.tlv_core.specs.Open.{AreEnds, AreNested, AreFrom, rooms_to, open_after}
 use Rattle.tlv_core.proofs.Steps.{spent-more, spent-last}
 
-open-more : (count e : ℕ) (ends : List ℕ) → count < e → open_after count (e ∷ ends) ≡ e ∷ open_after count ends
+-- an object that ends later is open yet
+pub open-more : (count e : ℕ) (ends : List ℕ) → count < e → open_after count (e ∷ ends) ≡ e ∷ open_after count ends
 open-more count e ends lt = take_while-cons (λ end. nat_lt count end) e ends
     ∙ ap (λ (b : Bool). cond b (e ∷ open_after count ends) []) (lt-ltb count e lt)
 
-open-last : (count e : ℕ) (ends : List ℕ) → e ≤ count → open_after count (e ∷ ends) ≡ []
+-- one whose end is reached is not, nor any inside it
+pub open-last : (count e : ℕ) (ends : List ℕ) → e ≤ count → open_after count (e ∷ ends) ≡ []
 open-last count e ends le = take_while-cons (λ end. nat_lt count end) e ends
     ∙ ap (λ (b : Bool). cond b (e ∷ open_after count ends) []) (le-ltb count e le)
 
@@ -54,14 +56,13 @@ pub length-rooms : (count : ℕ) (ends : List ℕ) → length (rooms_to count en
 length-rooms count [] = refl
 length-rooms count (e ∷ ends) = ap suc (length-rooms count ends)
 
--- the room of the innermost object
-pub room-last : (left count e : ℕ) (ends : List ℕ) → slice_get ends (length ends - 1) ≡ Some e
-    → room_of left (rooms_to count ends) ≡ e - count
-room-last left count e [] h = cc
-room-last left count e (f ∷ []) h = let same : f ≡ e = cc in ap (λ (n : ℕ). n - count) same
-room-last left count e (f ∷ g ∷ ends) h =
-    let more : length (f ∷ g ∷ ends) - 1 ≡ suc (length (g ∷ ends) - 1) = omega arith in
-    room-last (f - count) count e (g ∷ ends) (ap (λ (n : ℕ). slice_get (f ∷ g ∷ ends) n) (sym more) ∙ h)
+-- the innermost of the first places
+pub room-at : (left count k : ℕ) (places : List ℕ) → k < length places
+    → get_or places k 0 - count ≡ room_of left (rooms_to count (take (suc k) places))
+room-at left count k [] inside = absurd (omega arith)
+room-at left count zero (e ∷ places) inside = refl
+room-at left count (suc k) (e ∷ []) inside = absurd (omega arith)
+room-at left count (suc k) (e ∷ f ∷ places) inside = room-at (e - count) count k (f ∷ places) (omega arith)
 
 -- ---- within the limit
 
@@ -105,42 +106,6 @@ room-within max count (e ∷ ends) h le = let first =
 
 nested-tail : (e : ℕ) (ends : List ℕ) → AreNested (e ∷ ends) → AreNested ends
 nested-tail e ends h i lt = h (suc i) (omega arith)
-
--- an outer end is no earlier than the innermost
-outer_from : (e place : ℕ) (ends : List ℕ) → AreNested (e ∷ ends)
-    → place ≤ get_or (e ∷ ends) (length ends) 0 → place ≤ e
-outer_from e place [] h le = le
-outer_from e place (f ∷ ends) h le =
-    omega (arith, h 0 (omega arith), outer_from f place ends (nested-tail e (f ∷ ends) h) le)
-
--- where the innermost object is open, all are
-pub open-all : (count : ℕ) (ends : List ℕ) → AreNested ends
-    → (0 < length ends → count < get_or ends (length ends - 1) 0) → open_after count ends ≡ ends
-open-all count [] h lt = refl
-open-all count (e ∷ []) h lt = open-more count e [] (lt (omega arith))
-open-all count (e ∷ f ∷ ends) h lt =
-    let at : length (e ∷ f ∷ ends) - 1 ≡ suc (length ends) = omega arith in
-    let last : count < get_or (f ∷ ends) (length ends) 0 =
-    subst (λ (k : ℕ). count < get_or (e ∷ f ∷ ends) k 0) at (lt (omega arith)) in
-    let at_inner : length (f ∷ ends) - 1 ≡ length ends = omega arith in
-    let first : suc count ≤ e = outer_from e (suc count) (f ∷ ends) h last in
-    open-more count e (f ∷ ends) (omega arith)
-    ∙ ap (λ (l : List ℕ). e ∷ l) (open-all count (f ∷ ends) (nested-tail e (f ∷ ends) h)
-    (λ some. subst (λ (k : ℕ). count < get_or (f ∷ ends) k 0) (sym at_inner) last))
-
--- an innermost object whose end is reached is closed
-pub open-front : (count k : ℕ) (ends : List ℕ) → length ends ≡ suc k → get_or ends k 0 ≤ count
-    → open_after count (take k ends) ≡ open_after count ends
-open-front count k [] same le = absurd (omega arith)
-open-front count zero (e ∷ []) same le = sym (open-last count e [] le)
-open-front count zero (e ∷ f ∷ ends) same le = absurd (omega arith)
-open-front count (suc k) (e ∷ ends) same le =
-    elim (cases_lt count e) [
-      | inl lt ↦ open-more count e (take k ends) lt
-          ∙ ap (λ (l : List ℕ). e ∷ l) (open-front count k ends (omega arith) le)
-          ∙ sym (open-more count e ends lt)
-      | inr ge ↦ open-last count e (take k ends) ge ∙ sym (open-last count e ends ge)
-    ]
 
 -- the outermost n of nested ends are nested
 pub nested-take : (n : ℕ) (ends : List ℕ) → AreNested ends → AreNested (take n ends)
@@ -210,6 +175,19 @@ from-room max count left (e ∷ f ∷ ends) h nested (suc i) lt =
 pub from-less : (place more : ℕ) (ends : List ℕ) → place ≤ more → AreFrom more ends → AreFrom place ends
 from-less place more ends le h i lt = omega (arith, le, h i lt)
 
+-- and what ends no later than they fits into the room
+pub from-fits : (place count left : ℕ) (ends : List ℕ) → AreFrom place ends → place - count ≤ left
+    → place - count ≤ room_of left (rooms_to count ends)
+from-fits place count left [] from le = le
+from-fits place count left (e ∷ ends) from le =
+    from-fits place count (e - count) ends (λ i lt. from (suc i) (omega arith)) (omega (arith, from 0 (omega arith)))
+
+-- all of them are open
+pub ends-all : (max count : ℕ) (ends : List ℕ) → AreEnds max count ends → open_after count ends ≡ ends
+ends-all max count [] h = refl
+ends-all max count (e ∷ ends) h = open-more count e ends (h 0 (omega arith)).0
+    ∙ ap (λ (l : List ℕ). e ∷ l) (ends-all max count ends (λ i lt. h (suc i) (omega arith)))
+
 -- ---- what is kept
 
 -- what is kept, field by field
@@ -226,11 +204,13 @@ pub same_left : (max count : ℕ) (rooms h : List ℕ) (left now : ℕ) → left
 same_left max count rooms h left now e = ap (λ (n : ℕ). kept max count rooms h n) e
 
 -- after m octets more, with the ends of objects that are open yet
-pub same_open : (max count m left : ℕ) (h ends now : List ℕ) → now ≡ open_after (count + m) ends
-    → kept max (count + m) (rooms_to (count + m) now) h left ≡ kept max (count + m) (spent m (rooms_to count ends)) h
-    left
-same_open max count m left h ends now e =
-    same_rooms max (count + m) left h (rooms_to (count + m) now) (spent m (rooms_to count ends))
+pub same_open : (max count m left limit place : ℕ) (h ends now : List ℕ) → limit ≡ max → place ≡ count + m
+    → now ≡ open_after (count + m) ends
+    → kept limit place (rooms_to place now) h left ≡ kept max (count + m) (spent m (rooms_to count ends)) h left
+same_open max count m left limit place h ends now limit_is place_is e =
+    ap (λ (n : ℕ). kept n place (rooms_to place now) h left) limit_is
+    ∙ ap (λ (n : ℕ). kept max n (rooms_to n now) h left) place_is
+    ∙ same_rooms max (count + m) left h (rooms_to (count + m) now) (spent m (rooms_to count ends))
     (ap (rooms_to (count + m)) e ∙ rooms-open count m ends)
 
 -- objects that are open after m octets more end after these, within the limit

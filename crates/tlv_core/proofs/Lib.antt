@@ -16,6 +16,7 @@ pub mod Octet
 pub mod Taking
 pub mod Advances
 pub mod Ends
+pub mod Counting
 pub mod Shorts
 pub mod Refusals
 pub mod Fed

@@ -10,9 +10,6 @@ use Rattle.tlv_core.specs.declared.form.Form.{Form}
 use Rattle.tlv_core.specs.Form.{capacity}
 use Rattle.tlv_core.specs.declared.short.ShortHeader.{ShortHeader}
 use Rattle.tlv_core.specs.declared.short.ShortLength.{ShortLength}
-use Rattle.tlv_core.specs.declared.header.Header.{Header}
-use Rattle.tlv_core.specs.declared.header.Header.TheVariants.{Nothing}
-use Rattle.tlv_core.specs.Header.{header_octets}
 use Rattle.tlv_core.specs.Tag.{IsTag, constructed_bit, header_of}
 use Rattle.tlv_core.specs.TagView.{IsWholeTag}
 use Rattle.tlv_core.specs.Tree.{End, Primitive, Constructed}
@@ -20,8 +17,9 @@ use Rattle.tlv_core.specs.Forest.{spelling, IsObject, deepest}
 use Rattle.tlv_core.specs.Reasons.{Kept, HasTaken, room_of}
 use Rattle.tlv_core.specs.Short.{IsShort, IsShortLength, MayCome, taken_of, whole_of, opened, after_short}
 use Rattle.tlv_core.specs.Steps.{spent}
-use Rattle.tlv_core.specs.Open.{rooms_to, open_after}
+use Rattle.tlv_core.specs.Open.{AreFrom, rooms_to, open_after}
 use Rattle.tlv_core.proofs.Ends.{kept, rooms-open, rooms-push}
+use Rattle.tlv_core.proofs.Counting.{open_pushed, open_reached}
 use Rattle.tlv_core.proofs.Stands.{under_octets, bit_cases}
 use Rattle.tlv_core.proofs.Taken.{Held, held_of}
 use Rattle.tlv_core.proofs.Taking.{held_count, held_header, taken_item, opens_object}
@@ -120,7 +118,7 @@ short_taken b octets k o may are h =
 -- ---- what is kept then
 
 -- after m octets, with one object more that is open
-pub kept_opened : (max count m n len : ℕ) (c : Bool) (ends now more : List ℕ) → now ≡ open_after (count + m) ends
+kept_opened : (max count m n len : ℕ) (c : Bool) (ends now more : List ℕ) → now ≡ open_after (count + m) ends
     → more ≡ now ++ (count + m + n) ∷ [] → opened c len ≡ n ∷ []
     → kept max (count + m) (rooms_to (count + m) more) [] 0 ≡ kept max (count + m)
     (spent m (rooms_to count ends) ++ opened c len) [] 0
@@ -133,13 +131,44 @@ kept_opened max count m n len c ends now more now_is more_is is =
     )
 
 -- or with none
-pub kept_passed : (max count m n : ℕ) (c : Bool) (ends now : List ℕ) → now ≡ open_after (count + m) ends
+kept_passed : (max count m n : ℕ) (c : Bool) (ends now : List ℕ) → now ≡ open_after (count + m) ends
     → opened c n ≡ [] → kept max (count + m) (rooms_to (count + m) now) [] 0 ≡ kept max (count + m)
     (spent m (rooms_to count ends) ++ opened c n) [] 0
 kept_passed max count m n c ends now now_is none =
     ap (λ (rooms : List ℕ). kept max (count + m) rooms [] 0)
     (ap (rooms_to (count + m)) now_is ∙ rooms-open count m ends ∙ sym (append-nil (spent m (rooms_to count ends)))
     ∙ ap (λ (l : List ℕ). spent m (rooms_to count ends) ++ l) (sym none))
+
+-- an end that is reached once so many octets were taken is that of an object that is not open; else it is
+kept_by_kind : (max count h len : ℕ) (c : Bool) (ends now : List ℕ) → AreFrom (count + (h + len)) ends
+    → now ≡ open_after (count + cond c h (h + len)) (ends ++ (count + (h + len)) ∷ [])
+    → kept max (count + cond c h (h + len)) (rooms_to (count + cond c h (h + len)) now) [] 0 ≡ kept max
+    (count + cond c h (h + len))
+    (spent (cond c h (h + len)) (rooms_to count ends) ++ opened c len) [] 0
+kept_by_kind max count h len false ends now from is =
+    kept_passed max count (h + len) len false ends now
+    (is ∙ open_reached (count + (h + len)) (count + (h + len)) ends (omega arith)) refl
+kept_by_kind max count h zero true ends now from is =
+    kept_passed max count h 0 true ends now (is ∙ open_reached (count + h) (count + (h + 0)) ends (omega arith)) refl
+kept_by_kind max count h (suc n) true ends now from is =
+    let more : count + (h + suc n) ≡ count + h + suc n = omega arith in
+    kept_opened max count h (suc n) (suc n) true ends (open_after (count + h) ends) now refl
+    (
+    is ∙ open_pushed (count + h) (count + (h + suc n)) ends from (omega arith)
+    ∙ ap (λ (e : ℕ). open_after (count + h) ends ++ e ∷ []) more
+    ) refl
+
+-- what is kept once an object with a short header was entered
+pub kept_short : (max count m c t w : ℕ) (o : ShortHeader) (ends now : List ℕ) → AreFrom (count + whole_of o) ends
+    → m ≡ max → c ≡ count + t → t ≡ taken_of o → w ≡ whole_of o
+    → now ≡ open_after (count + t) (ends ++ (count + w) ∷ [])
+    → kept m c (rooms_to c now) [] 0 ≡ after_short (kept max count (rooms_to count ends) [] 0) o
+kept_short max count m c t w o ends now from m_is c_is t_is w_is is =
+    let place : c ≡ count + taken_of o = c_is ∙ ap (λ (n : ℕ). count + n) t_is in
+    ap (λ (n : ℕ). kept n c (rooms_to c now) [] 0) m_is ∙ ap (λ (n : ℕ). kept max n (rooms_to n now) [] 0) place
+    ∙ kept_by_kind max count o.header o.len o.is_constructed ends now from
+    (is ∙ ap (λ (n : ℕ). open_after (count + n) (ends ++ (count + w) ∷ [])) t_is
+    ∙ ap (λ (n : ℕ). open_after (count + taken_of o) (ends ++ (count + n) ∷ [])) w_is)
 
 kind_within : (c : Bool) (h n : ℕ) → cond c h (h + n) ≤ h + n
 kind_within true h n = omega arith
@@ -148,28 +177,6 @@ kind_within false h n = omega arith
 -- of what is taken none is more than the object has
 pub taken_within : (o : ShortHeader) → taken_of o ≤ whole_of o
 taken_within o = kind_within o.is_constructed o.header o.len
-
-kind_some : (c : Bool) (h n : ℕ) → 0 < h → 0 < cond c h (h + n)
-kind_some true h n some = some
-kind_some false h n some = omega arith
-
--- and some of it is taken
-pub taken_some : (octets : List ℕ) (o : ShortHeader) → IsShort octets o → 0 < taken_of o
-taken_some octets o short = kind_some o.is_constructed o.header o.len (omega (arith, short.longer))
-
--- the same, with what was under way before: nothing
-pub was_nothing : (max count left : ℕ) (rooms : List ℕ) (h : Header) → h ≡ Nothing → left ≡ 0
-    → kept max count rooms (header_octets h) left ≡ kept max count rooms [] 0
-was_nothing max count left rooms h none empty =
-    ap (λ (l : List ℕ). kept max count rooms l left) (ap header_octets none)
-    ∙ ap (λ (n : ℕ). kept max count rooms [] n) empty
-
--- the count as the header gives it
-pub by_header : (max count m : ℕ) (rooms : List ℕ) (o : ShortHeader) → m ≡ taken_of o
-    → kept max (count + m) (spent m rooms ++ opened o.is_constructed o.len) [] 0 ≡ kept max (count + taken_of o)
-    (spent (taken_of o) rooms ++ opened o.is_constructed o.len) [] 0
-by_header max count m rooms o e = ap (λ (n : ℕ).
-    kept max (count + n) (spent n rooms ++ opened o.is_constructed o.len) [] 0) e
 
 -- ---- the header at the front of octets
 
@@ -200,12 +207,12 @@ joined octets t c l is_tag some inside e h =
     }
 
 -- a header at the front of octets, with zeros after them, is theirs where they have all of it
-pub at_front : (octets front : List ℕ) (o : ShortHeader) → take (length octets) front ≡ take 6 octets
-    → length front ≤ 6 → o.header ≤ length octets → IsShort front o → IsShort octets o
+pub at_front : (octets front : List ℕ) (o : ShortHeader) → take (length octets) front ≡ take 8 octets
+    → length front ≤ 8 → o.header ≤ length octets → IsShort front o → IsShort octets o
 at_front octets front o same few inside h =
     let alike : (n : ℕ) → n ≤ o.header → take n front ≡ take n octets =
     λ n le. sym (take-take n (length octets) front (omega (arith, le)))
-    ∙ ap (take n) same ∙ take-take n 6 octets (omega (arith, le, h.within)) in
+    ∙ ap (take n) same ∙ take-take n 8 octets (omega (arith, le, h.within)) in
     let tag : take o.tag front ≡ take o.tag octets = alike o.tag (omega (arith, h.longer)) in
     record {
       is_tag = subst IsTag tag h.is_tag;
@@ -238,14 +245,14 @@ few_in_tag octets o h =
     omega (arith, tag_few (take o.tag octets) h.is_tag, length-take o.tag octets, h.longer, h.within)
 
 -- it is at the front, among the first three octets
-pub tag_in_front : (octets front : List ℕ) (o : ShortHeader) → take (length octets) front ≡ take 6 octets
+pub tag_in_front : (octets front : List ℕ) (o : ShortHeader) → take (length octets) front ≡ take 8 octets
     → 3 ≤ length front → IsShort octets o
     → take o.tag (slice_index front 0 ∷ slice_index front 1 ∷ slice_index front 2 ∷ []) ≡ take o.tag octets
 tag_in_front octets front o same three h =
     let few : o.tag ≤ 3 = few_in_tag octets o h in
     ap (take o.tag) (first_three front three) ∙ take-take o.tag 3 front few
     ∙ sym (take-take o.tag (length octets) front (omega (arith, h.longer, h.within))) ∙ ap (take o.tag) same
-    ∙ take-take o.tag 6 octets (omega (arith, few))
+    ∙ take-take o.tag 8 octets (omega (arith, few))
 
 -- ---- the tag that is made of three octets and a count
 

@@ -5,4 +5,4 @@ use Rattle.tlv_core.specs.Check.{Checked, refusal_at}
 
 -- what it keeps, and a refusal at the octet after those that came, if there is one
 abbrev pub checked_of : Checking → Checked
-checked_of c = record { kept = kept_of c.progress; refusal = refusal_at c.progress.count c.refused }
+checked_of c = record { kept = kept_of c.progress; refusal = refusal_at c.progress.ends.count c.refused }

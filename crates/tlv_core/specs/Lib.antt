@@ -19,6 +19,7 @@ pub mod Short
 pub mod Header
 pub mod Open
 pub mod WellProp
+pub mod OpenEnds
 pub mod Progress
 pub mod Check
 pub mod Checking

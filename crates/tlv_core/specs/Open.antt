@@ -15,6 +15,10 @@ AreNested ends = (i : ℕ) → suc i < length ends → slice_index ends (suc i) 
 abbrev pub AreFrom : ℕ → List ℕ → Type 0
 AreFrom place ends = (i : ℕ) → i < length ends → place ≤ slice_index ends i
 
+-- of the kept places none from this level on is after the octets that came
+abbrev pub AreReached : ℕ → ℕ → List ℕ → Type 0
+AreReached count level places = (i : ℕ) → level ≤ i → slice_index places i ≤ count
+
 -- the rooms of objects that end at these places
 abbrev pub rooms_to : ℕ → List ℕ → List ℕ
 rooms_to count ends = map (λ end. end - count) ends

@@ -24,13 +24,14 @@ impl Checking {
     /// Takes the next piece, or refuses an octet of it. It says nothing of octets that nobody fed: some of
     /// the clauses are about all those that it may have taken.
     pub(crate) fn feed(&mut self, piece: &[u8]) -> Result<(), Stop<TlvReason>>
-        ensures limit { (kept_of self.new.progress).max ≡ (kept_of self.old.progress).max }
+        ensures limit { self.new.progress.ends.max ≡ self.old.progress.ends.max }
         ensures answer { result ≡ answer_of (checked_of self.new).refusal }
         ensures repeats { OnSome self.old.refused (self.new ≡ self.old) }
         ensures taken { (b : List ℕ) → HasChecked b (checked_of self.old)
             → OnOk result (HasChecked (b ++ piece.now) (checked_of self.new)) }
         ensures refused { (b : List ℕ) → HasChecked b (checked_of self.old) →
-            IfErr result (RefusesAt whole (IsForest self.old.progress.max) (IsReason self.old.progress.max) (b ++ piece.now)) }
+            IfErr result (RefusesAt whole (IsForest self.old.progress.ends.max)
+            (IsReason self.old.progress.ends.max) (b ++ piece.now)) }
         ensures some { (b : List ℕ) × HasTaken b (kept_of self.old.progress) → (b : List ℕ)
             × HasTaken b (kept_of self.new.progress) }
     {
@@ -56,8 +57,9 @@ impl Checking {
         ensures repeats { OnSome self.now.refused
             (result ≡ answer_of (checked_of self.now).refusal) }
         ensures verdict { (b : List ℕ) → HasChecked b (checked_of self.now)
-            → MatchResult result (λ _. (t : Tree) × IsForest self.now.progress.max t b)
-            (Refuses whole (IsForest self.now.progress.max) (IsReason self.now.progress.max) b) }
+            → MatchResult result (λ _. (t : Tree) × IsForest self.now.progress.ends.max t b)
+            (Refuses whole (IsForest self.now.progress.ends.max)
+            (IsReason self.now.progress.ends.max) b) }
     {
         if let Some(refusal) = self.refusal() {
             return Err(refusal.stop());

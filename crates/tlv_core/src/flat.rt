@@ -7,10 +7,12 @@ ghost use Rattle.tlv_core.specs.Tree.{Tree};
 ghost use Rattle.tlv_core.specs.Forest.{IsForest};
 ghost use Rattle.tlv_core.specs.Reasons.{IsReason};
 ghost use Rattle.tlv_core.specs.Progress.{kept_of};
+ghost use Rattle.tlv_core.specs.OpenEnds.{kept_idle};
 ghost use Rattle.octet_core.specs.declared.stop.Refused.TheVariants.{Memory};
 ghost use Rattle.tlv_core.specs.Flat.{part_seen, parts_in, parts_of, IsKeptPart, HasFlat};
 
 use crate::header::ObjectHeader;
+use crate::open_ends::OpenEnds;
 use crate::part::Part;
 use crate::progress::Progress;
 use crate::reason::TlvReason;
@@ -134,34 +136,80 @@ fn is_same(one: &Part<'_>, other: &Part<'_>) -> bool
         && value == other_value
 }
 
-/// Takes the next octets of a forest: a run of the value under way, an object with a short header, or
-/// one octet of a header. Where that completes the header of an object, its part is kept.
+/// Takes the next octets of a forest: a run of the value under way, or objects with short headers and the octet of
+/// a header after them. Where that completes the header of an object, its part is kept.
 fn advance<'a>(
     progress: &mut Progress,
     parts: &mut Vec<Part<'a>>,
     octets: &'a [u8],
 ) -> Result<(), Refused<TlvReason>>
-    requires { progress.old.count < length octets.now }
-    ensures limit { progress.new.max ≡ progress.old.max }
-    ensures more { OnOk result (progress.old.count < progress.new.count) }
+    requires { progress.old.ends.count < length octets.now }
+    ensures limit { progress.new.ends.max ≡ progress.old.ends.max }
+    ensures more { OnOk result (progress.old.ends.count < progress.new.ends.count) }
     ensures ok { OnOk result (HasFlat octets.now (kept_of progress.old) parts.old.items
         → HasFlat octets.now (kept_of progress.new) parts.new.items) }
     ensures err { IfErr result (λ refused. HasFlat octets.now (kept_of progress.old) parts.old.items
-        → RefusesUnlessMemory whole (IsForest progress.old.max) (IsReason progress.old.max)
-        octets.now refused) }
+        → RefusesUnlessMemory whole
+        (IsForest progress.old.ends.max) (IsReason progress.old.ends.max) octets.now refused) }
 {
     let left = progress.value_left();
     if left > 0 {
         progress.skip(left.min(octets.len() - progress.count()));
         return Ok(());
     }
-    let depth = progress.level() + 1;
-    let start = progress.count();
-    let here = &octets[start..];
-    if let Some(short) = progress.take_short(here) {
-        let place = start + usize::from(short.header);
-        return keep(parts, depth, short.object(here), octets, place);
+    if !progress.is_between() {
+        return take_first(progress, parts, octets);
     }
+    let ends = take_shorts(progress.ends(), parts, octets)?;
+    *progress = Progress::between(ends);
+    if progress.count() == octets.len() {
+        return Ok(());
+    }
+    take_first(progress, parts, octets)
+}
+
+/// Takes as many objects with a short header as come one after another, and keeps the part of each.
+fn take_shorts<'a>(
+    from: OpenEnds,
+    parts: &mut Vec<Part<'a>>,
+    octets: &'a [u8],
+) -> Result<OpenEnds, Refused<TlvReason>>
+    requires { from.count ≤ length octets.now }
+    ensures limit { IfOk result (λ ends. ends.max ≡ from.max) }
+    ensures within { IfOk result
+        (λ ends. (from.count ≤ ends.count) × (ends.count ≤ length octets.now)) }
+    ensures ok { IfOk result (λ ends. HasFlat octets.now (kept_idle from) parts.old.items
+        → HasFlat octets.now (kept_idle ends) parts.new.items) }
+    ensures err { IfErr result (λ refused. refused ≡ Memory) }
+{
+    let mut ends = from;
+    while let Some(short) = ends.next_short(&octets[ends.count()..]) {
+        let depth = ends.level() + 1;
+        let start = ends.count();
+        let place = start + usize::from(short.header);
+        ends.pass(short);
+        keep(parts, depth, short.object(&octets[start..]), octets, place)?;
+    }
+    Ok(ends)
+}
+
+/// Takes one octet of a header, or a filler. Where that completes the header of an object, its part is kept.
+fn take_first<'a>(
+    progress: &mut Progress,
+    parts: &mut Vec<Part<'a>>,
+    octets: &'a [u8],
+) -> Result<(), Refused<TlvReason>>
+    requires here { progress.old.ends.count < length octets.now }
+    requires idle { progress.old.value_left ≡ 0 }
+    ensures limit { progress.new.ends.max ≡ progress.old.ends.max }
+    ensures more { OnOk result (progress.old.ends.count < progress.new.ends.count) }
+    ensures ok { OnOk result (HasFlat octets.now (kept_of progress.old) parts.old.items
+        → HasFlat octets.now (kept_of progress.new) parts.new.items) }
+    ensures err { IfErr result (λ refused. HasFlat octets.now (kept_of progress.old) parts.old.items
+        → RefusesUnlessMemory whole
+        (IsForest progress.old.ends.max) (IsReason progress.old.ends.max) octets.now refused) }
+{
+    let depth = progress.level() + 1;
     match progress.take(octets[progress.count()]) {
         Ok(next) => match next.object() {
             Some(object) => keep(parts, depth, object, octets, progress.count()),

@@ -18,6 +18,7 @@ pub mod header;
 pub mod known;
 pub mod laws;
 pub mod node;
+mod open_ends;
 pub mod part;
 mod partial;
 pub mod path;

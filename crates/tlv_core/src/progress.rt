@@ -1,19 +1,18 @@
 //! How far the octets of a forest have come, and what they leave open.
 
 ghost use Rattle.std.specs.Prelude.{nat_eq, if◌then◌else◌, ◌≡◌, ◌≢◌, ℕ, ◌+◌, ◌<◌, ◌≤◌, List, ◌++◌, length, take, slice_index, IfOk, IfErr, IfSome, IfNone, IsTrue, ◌↔◌, ◌-◌, true, false};
-ghost use Rattle.arrayvec.specs.ArrayVec.{array_vec_len};
 ghost use Rattle.tlv_core.specs.declared.header.Header.TheVariants.{Nothing};
 ghost use Rattle.tlv_core.specs.Header.{IsWell};
 ghost use Rattle.tlv_core.specs.declared.header.Next.TheVariants.{Filler};
 ghost use Rattle.tlv_core.specs.declared.reason.TlvReason.TheVariants.{TooDeep, TooLong, Overrun};
-ghost use Rattle.tlv_core.specs.Open.{AreEnds, AreFrom, AreNested, open_after};
+ghost use Rattle.tlv_core.specs.OpenEnds.{ends_of, kept_idle};
 ghost use Rattle.tlv_core.specs.WellProp.{IsWell-prop};
 
 use crate::header::{Header, Next, ObjectHeader};
+use crate::open_ends::OpenEnds;
 use crate::places::CheckPlaces;
 use crate::reason::TlvReason;
-use crate::short::{ShortHeader, short_header};
-use arrayvec::ArrayVec;
+use crate::short::ShortHeader;
 use octet_core::Refusal;
 
 /// The greatest depth of an object; the outermost objects have depth 1.
@@ -22,23 +21,15 @@ pub(crate) const DEEPEST: usize = 16;
 /// What is kept of the octets of a forest that were taken so far.
 #[derive(Drop)]
 pub(crate) struct Progress {
-    /// The limit of the whole, in octets.
-    max: usize,
-    /// How many octets were taken.
-    count: usize,
-    /// The places at which the open constructed objects end, outermost first.
-    ends: ArrayVec<u32, DEEPEST>,
+    /// How many octets were taken, and where the open constructed objects end.
+    ends: OpenEnds,
     /// The header under way.
     header: Header,
     /// How many octets are to come of the primitive value under way.
     value_left: usize,
-    ghost limit: { max ≤ 1048576 },
-    ghost within: { count + value_left ≤ max },
-    ghost ahead: { AreEnds max count ends.items },
-    ghost nested: { AreNested ends.items },
+    ghost within: { ends.count + value_left ≤ ends.max },
     ghost well: { IsWell header } by { IsWell-prop header },
-    ghost levels: { array_vec_len ends ≤ 16 },
-    ghost shallow: { header ≢ Nothing → array_vec_len ends < 16 },
+    ghost shallow: { header ≢ Nothing → length (ends_of ends) < 16 },
 }
 
 impl Progress {
@@ -59,10 +50,16 @@ impl Progress {
         ensures { kept_of result ≡ record
             { max = max; count = 0; rooms = []; header = []; value_left = 0 } }
     {
+        Progress::between(OpenEnds::new(max))
+    }
+
+    /// Between objects, where these are open.
+    pub(crate) fn between(ends: OpenEnds) -> Self
+        ensures kept { kept_of result ≡ kept_idle ends }
+        ensures ends { result.ends ≡ ends }
+    {
         Progress {
-            max,
-            count: 0,
-            ends: ArrayVec::new(),
+            ends,
             header: Header::Nothing,
             value_left: 0,
         }
@@ -73,13 +70,9 @@ impl Progress {
         requires { AreCheckPlaces places.now }
         ensures { kept_of result ≡ kept_at places.now }
     {
-        let mut ends = ArrayVec::new();
-        let all = ends.try_extend_from_slice(&places.ends[..places.level as usize]);
-        all.unwrap();
+        let ends = &places.ends[..places.level as usize];
         Progress {
-            max: places.max as usize,
-            count: places.count as usize,
-            ends,
+            ends: OpenEnds::of(places.max as usize, places.count as usize, ends),
             header: places.header,
             value_left: places.value_left as usize,
         }
@@ -91,12 +84,12 @@ impl Progress {
         ensures kept { kept_at result ≡ kept_of self.now }
         ensures reason { result.refused ≡ refused }
     {
-        let level = self.ends.len();
+        let level = self.ends.level();
         let mut ends = [0; DEEPEST];
-        ends[..level].copy_from_slice(self.ends.as_slice());
+        ends[..level].copy_from_slice(self.ends.places());
         CheckPlaces {
-            max: self.max as u32,
-            count: self.count as u32,
+            max: self.ends.max() as u32,
+            count: self.ends.count() as u32,
             ends,
             level: level as u8,
             header: self.header,
@@ -107,16 +100,16 @@ impl Progress {
 
     /// How many octets were taken.
     pub(crate) fn count(&self) -> usize
-        ensures { result ≡ self.now.count }
+        ensures { result ≡ self.now.ends.count }
     {
-        self.count
+        self.ends.count()
     }
 
     /// How many objects are open.
     pub(crate) fn level(&self) -> usize
         ensures { result ≡ length (kept_of self.now).rooms }
     {
-        self.ends.len()
+        self.ends.level()
     }
 
     /// How many octets are to come of the primitive value under way, or 0.
@@ -130,24 +123,38 @@ impl Progress {
     pub(crate) fn is_idle(&self) -> bool
         ensures { IsTrue result ↔ IsIdle (kept_of self.now) }
     {
-        self.ends.is_empty() && self.header.is_nothing() && self.value_left == 0
+        self.ends.level() == 0 && self.header.is_nothing() && self.value_left == 0
+    }
+
+    /// Whether no header and no value is under way.
+    pub(crate) fn is_between(&self) -> bool
+        ensures { result ≡ true → kept_of self.now ≡ kept_idle self.now.ends }
+    {
+        self.header.is_nothing() && self.value_left == 0
+    }
+
+    /// How many octets were taken, and where the open objects end.
+    pub(crate) fn ends(&self) -> OpenEnds
+        ensures { result ≡ self.now.ends }
+    {
+        self.ends
     }
 
     /// The refusal of the next octet.
     pub(crate) fn refusal(&self, reason: TlvReason) -> Refusal<TlvReason>
-        ensures { result ≡ record { place = self.now.count; reason = reason } }
+        ensures { result ≡ record { place = self.now.ends.count; reason = reason } }
     {
         Refusal {
-            place: self.count,
+            place: self.ends.count(),
             reason,
         }
     }
 
-    /// Takes octets: a run of the value under way, an object that is here with a short header, or one octet
+    /// Takes octets: a run of the value under way, the objects that are here with short headers, or one octet
     /// of a header. How many were taken, at least one; or why the first one is refused, which changes nothing.
     pub(crate) fn advance(&mut self, octets: &[u8]) -> Result<usize, TlvReason>
         requires { 0 < length octets.now }
-        ensures max { self.new.max ≡ self.old.max }
+        ensures max { self.new.ends.max ≡ self.old.ends.max }
         ensures some { IfOk result (λ n. (0 < n) × (n ≤ length octets.now)) }
         ensures ok { IfOk result (λ n. (b : List ℕ) → HasTaken b (kept_of self.old)
             → HasTaken (b ++ take n octets.now) (kept_of self.new)) }
@@ -160,45 +167,70 @@ impl Progress {
             self.skip(run);
             return Ok(run);
         }
-        if let Some(object) = self.take_short(octets) {
-            return Ok(object.taken());
+        if !self.header.is_nothing() {
+            return self.take_first(octets);
         }
-        self.take(octets[0])?;
-        Ok(1)
+        if let Some(taken) = self.take_shorts(octets) {
+            return Ok(taken);
+        }
+        self.take_first(octets)
     }
 
-    /// Takes a primitive object, or the header of a constructed one, where its length field has at most three
-    /// octets, and all of that is here and fits. The header that was taken; where there
-    /// is nothing of the kind, nothing changes.
-    #[inline(always)]
-    pub(crate) fn take_short(&mut self, octets: &[u8]) -> Option<ShortHeader>
-        requires { self.old.value_left ≡ 0 }
-        ensures max { self.new.max ≡ self.old.max }
-        ensures some { IfSome result (MayCome (kept_of self.old) octets.now) }
-        ensures after { IfSome result (λ o. kept_of self.new ≡ after_short (kept_of self.old) o) }
+    /// Takes the first octet, which is one of a header, or a filler.
+    fn take_first(&mut self, octets: &[u8]) -> Result<usize, TlvReason>
+        requires some { 0 < length octets.now }
+        requires idle { self.old.value_left ≡ 0 }
+        ensures max { self.new.ends.max ≡ self.old.ends.max }
+        ensures one { IfOk result (λ n. n ≡ 1) }
+        ensures ok { IfOk result (λ _. (b : List ℕ) → HasTaken b (kept_of self.old)
+            → HasTaken (b ++ take 1 octets.now) (kept_of self.new)) }
+        ensures err { IfErr result
+            (λ r. (self.new ≡ self.old)
+            × IsFirst tlv_reasons (IsWrongAfter (kept_of self.old) (slice_index octets.now 0)) r) }
+    {
+        match self.take(octets[0]) {
+            Ok(_next) => Ok(1),
+            Err(reason) => Err(reason),
+        }
+    }
+
+    /// Takes as many objects with a short header as are here one after another: of a primitive one all, of a
+    /// constructed one the header. How many octets were taken; where there is no such object, nothing changes.
+    fn take_shorts(&mut self, octets: &[u8]) -> Option<usize>
+        requires idle { self.old.value_left ≡ 0 }
+        requires nothing { self.old.header ≡ Nothing }
+        ensures max { self.new.ends.max ≡ self.old.ends.max }
+        ensures some { IfSome result (λ n. (0 < n) × (n ≤ length octets.now)) }
+        ensures taken { IfSome result (λ n. (b : List ℕ) → HasTaken b (kept_of self.old)
+            → HasTaken (b ++ take n octets.now) (kept_of self.new)) }
         ensures none { IfNone result (self.new ≡ self.old) }
     {
-        let object = self.next_short(octets)?;
-        self.pass(object);
-        Some(object)
+        let mut ends = self.ends;
+        let mut taken = 0;
+        while let Some(object) = ends.next_short(&octets[taken..]) {
+            ends.pass(object);
+            taken += object.taken();
+        }
+        if taken == 0 {
+            return None;
+        }
+        self.ends = ends;
+        Some(taken)
     }
 
-    /// The header of the object that `take_short` would take, if there is one.
+    /// The header of an object that comes next, where its length field has at most three octets, and all of it is here
+    /// and fits; and the value too where it is primitive.
     #[inline(always)]
     pub(crate) fn next_short(&self, octets: &[u8]) -> Option<ShortHeader>
         requires { self.now.value_left ≡ 0 }
         ensures some { IfSome result (MayCome (kept_of self.now) octets.now) }
         ensures nothing { IfSome result (λ _. self.now.header ≡ Nothing) }
-        ensures shallow { IfSome result (λ _. array_vec_len self.now.ends < 16) }
+        ensures shallow { IfSome result (λ _. length (ends_of self.now.ends) < 16) }
     {
-        if !self.header.is_nothing() || self.ends.len() >= DEEPEST {
+        if !self.header.is_nothing() {
             return None;
         }
-        let object = short_header(octets)?;
-        if object.taken() > octets.len() || object.whole() > self.room() {
-            return None;
-        }
-        Some(object)
+        self.ends.next_short(octets)
     }
 
     /// Passes over an object with a short header, or enters it where it is constructed and not empty.
@@ -206,18 +238,14 @@ impl Progress {
     pub(crate) fn pass(&mut self, object: ShortHeader)
         requires idle { self.old.value_left ≡ 0 }
         requires nothing { self.old.header ≡ Nothing }
-        requires shallow { array_vec_len self.old.ends < 16 }
-        requires fits { whole_of object ≤ room_of (self.old.max - self.old.count)
-            (rooms_to self.old.count self.old.ends.items) }
+        requires shallow { length (ends_of self.old.ends) < 16 }
+        requires fits { whole_of object ≤ room_of (self.old.ends.max - self.old.ends.count)
+            (rooms_to self.old.ends.count (ends_of self.old.ends)) }
         requires some { 0 < object.header }
-        ensures max { self.new.max ≡ self.old.max }
+        ensures max { self.new.ends.max ≡ self.old.ends.max }
         ensures after { kept_of self.new ≡ after_short (kept_of self.old) object }
     {
-        self.count += object.taken();
-        close(&mut self.ends, self.count);
-        if let Some(len) = object.opens() {
-            self.ends.push((self.count + len) as u32);
-        }
+        self.ends.pass(object);
     }
 
     /// Takes a run of the value under way.
@@ -226,8 +254,7 @@ impl Progress {
         ensures { kept_of self.new ≡ after_run (kept_of self.old) run }
     {
         self.value_left -= run;
-        self.count += run;
-        close(&mut self.ends, self.count);
+        self.ends.go(run);
     }
 
     /// Takes one octet of a header, or a filler, and says what it made of the header. A refused octet
@@ -250,13 +277,12 @@ impl Progress {
     fn accept(&mut self, next: &Next)
         requires idle { self.old.value_left ≡ 0 }
         requires well { IsWellNext next.now }
-        requires room { next_need next.now < room_of (self.old.max - self.old.count)
-            (rooms_to self.old.count self.old.ends.items) }
-        requires shallow { next.now ≢ Filler → array_vec_len self.old.ends < 16 }
+        requires room { next_need next.now < room_of (self.old.ends.max - self.old.ends.count)
+            (rooms_to self.old.ends.count (ends_of self.old.ends)) }
+        requires shallow { next.now ≢ Filler → length (ends_of self.old.ends) < 16 }
         ensures { kept_of self.new ≡ after_next (kept_of self.old) next.now }
     {
-        self.count += 1;
-        close(&mut self.ends, self.count);
+        self.ends.go(1);
         self.header = next.header();
         if let Some(object) = next.object() {
             self.enter(object);
@@ -272,7 +298,7 @@ impl Progress {
             return Err(TlvReason::TooDeep);
         }
         let next = self.header.next(octet)?;
-        if self.room() <= next.need() {
+        if self.ends.room() <= next.need() {
             return Err(self.overrun());
         }
         Ok(next)
@@ -283,40 +309,30 @@ impl Progress {
         ensures { IsTrue result ↔ IsWrongAfter (kept_of self.now) octet TooDeep }
     {
         match self.header {
-            Header::Nothing => self.ends.is_full() && octet != 0,
+            Header::Nothing => self.ends.level() == DEEPEST && octet != 0,
             _ => false,
         }
     }
 
     /// Why more octets than there is room for are refused.
     fn overrun(&self) -> TlvReason
-        ensures { result ≡ (if nat_eq (length self.now.ends.items) 0 then TooLong else Overrun) }
+        ensures { result ≡
+            (if nat_eq (length (ends_of self.now.ends)) 0 then TooLong else Overrun) }
     {
-        if self.ends.is_empty() {
+        if self.ends.level() == 0 {
             TlvReason::TooLong
         } else {
             TlvReason::Overrun
         }
     }
 
-    /// The octets from the next one to the end of the innermost open object, or to the limit.
-    fn room(&self) -> usize
-        ensures { result ≡ room_of (self.now.max - self.now.count)
-            (rooms_to self.now.count self.now.ends.items) }
-    {
-        match self.ends.as_slice().last() {
-            Some(end) => *end as usize - self.count,
-            None => self.max - self.count,
-        }
-    }
-
     /// Enters an object whose header is whole.
     fn enter(&mut self, object: ObjectHeader)
-        requires shallow { array_vec_len self.old.ends < 16 }
+        requires shallow { length (ends_of self.old.ends) < 16 }
         requires idle { self.old.value_left ≡ 0 }
         requires whole { self.old.header ≡ Nothing }
-        requires fits { self.old.count + object.len ≤ self.old.max }
-        requires inside { AreFrom (self.old.count + object.len) self.old.ends.items }
+        requires fits { object.len ≤ room_of (self.old.ends.max - self.old.ends.count)
+            (rooms_to self.old.ends.count (ends_of self.old.ends)) }
         ensures { kept_of self.new ≡ entered (kept_of self.old) object.len
             (constructed_bit object.tag) }
     {
@@ -325,35 +341,9 @@ impl Progress {
             return;
         }
         if object.tag.is_constructed() {
-            self.ends.push((self.count + len) as u32);
+            self.ends.enter(len, 0);
         } else {
             self.value_left = len;
         }
-    }
-}
-
-/// Closes the objects whose end is reached after `count` octets, the innermost first: none ends after the one that it
-/// is in.
-#[inline(always)]
-fn close(ends: &mut ArrayVec<u32, DEEPEST>, count: usize)
-    requires { AreNested ends.old.items }
-    ensures { ends.new.items ≡ open_after count ends.old.items }
-{
-    while is_reached(ends.as_slice(), count) {
-        let _end = ends.pop();
-    }
-}
-
-/// Whether an object is open, and the end of the innermost one is reached after `count` octets.
-#[inline(always)]
-fn is_reached(ends: &[u32], count: usize) -> bool
-    ensures yes { result ≡ true → (0 < length ends.now)
-        × (slice_index ends.now (length ends.now - 1) ≤ count) }
-    ensures no { result ≡ false → 0 < length ends.now
-        → count < slice_index ends.now (length ends.now - 1) }
-{
-    match ends.last() {
-        Some(end) => *end as usize <= count,
-        None => false,
     }
 }

@@ -94,8 +94,8 @@ impl ShortHeader {
     }
 }
 
-/// A short header is at most so long.
-const LONGEST_SHORT: usize = 6;
+/// So many octets are copied to read a short header, which has at most six: eight are copied at once.
+const FRONT: usize = 8;
 
 /// The short header with which these octets begin, if they do.
 #[inline(always)]
@@ -112,20 +112,20 @@ pub(crate) fn short_header(octets: &[u8]) -> Option<ShortHeader>
 /// The first octets, with zeros after the last where there are fewer. They are copied, so that the header is read
 /// from places that are always there: read from the octets themselves it takes a quarter longer.
 #[inline(always)]
-fn front_of(octets: &[u8]) -> [u8; LONGEST_SHORT]
-    ensures { take (length octets.now) result ≡ take 6 octets.now }
+fn front_of(octets: &[u8]) -> [u8; FRONT]
+    ensures { take (length octets.now) result ≡ take 8 octets.now }
 {
-    if let Some(front) = octets.first_chunk::<LONGEST_SHORT>() {
+    if let Some(front) = octets.first_chunk::<FRONT>() {
         return *front;
     }
-    let mut front = [0; LONGEST_SHORT];
+    let mut front = [0; FRONT];
     front[..octets.len()].copy_from_slice(octets);
     front
 }
 
 /// The short header with which so many octets begin, if they do.
 #[inline(always)]
-fn header_at(front: &[u8; LONGEST_SHORT]) -> Option<ShortHeader>
+fn header_at(front: &[u8; FRONT]) -> Option<ShortHeader>
     ensures { IfSome result (IsShort front.now) }
 {
     let tag = tag_at(front)?;
@@ -141,7 +141,7 @@ fn header_at(front: &[u8; LONGEST_SHORT]) -> Option<ShortHeader>
 
 /// The number of octets of the tag at the front. Objects differ in it with no rule, so it is counted without a branch.
 #[inline(always)]
-fn tag_at(front: &[u8; LONGEST_SHORT]) -> Option<u8>
+fn tag_at(front: &[u8; FRONT]) -> Option<u8>
     ensures tag { IfSome result (λ n. IsTag (take n front.now)) }
     ensures few { IfSome result (λ n. (0 < n) × (n ≤ 3)) }
 {
@@ -157,7 +157,7 @@ fn tag_at(front: &[u8; LONGEST_SHORT]) -> Option<u8>
 
 /// The length field of at most three octets after a tag of so many.
 #[inline(always)]
-fn length_at(front: &[u8; LONGEST_SHORT], tag: u8) -> Option<ShortLength>
+fn length_at(front: &[u8; FRONT], tag: u8) -> Option<ShortLength>
     requires { tag ≤ 3 }
     ensures { IfSome result (IsShortLength (drop tag front.now)) }
 {

@@ -27,8 +27,8 @@ returns-in-Err-clause-refused c b h =
     let piece = c.args.piece.now in
     let before = kept_of c.args.self.now.progress in
     let err = c.in-Err.ensures.err in
-    let stop : At l.self.progress.count c.in-Err.reason ≡ c.stop-in-Err.result =
-    ap (λ (p : Progress). At p.count c.in-Err.reason) (sym err.0)
+    let stop : At l.self.progress.ends.count c.in-Err.reason ≡ c.stop-in-Err.result =
+    ap (λ (p : Progress). At p.ends.count c.in-Err.reason) (sym err.0)
     ∙ ap (λ (r : Refusal TlvReason). At r.place r.reason) (sym c.refusal-in-Err.ensures) ∙ sym c.stop-in-Err.ensures in
     subst (RefusesAt whole (IsForest before.max) (IsReason before.max) (b ++ piece)) stop
     (fed_refused before (kept_of l.self.progress) piece (take (length piece - l.taken) (drop l.taken piece)) l.taken

@@ -39,7 +39,7 @@ returns-clause-refused c =
     let b = c.args.octets.now in
     let l = c.loop-progress in
     subst (λ (max : ℕ). IsShort whole (IsForest max) b c.count-2.result) l.invariant.1
-    (subst (IsShort whole (IsForest l.progress.max) b) (sym c.count-2.ensures)
+    (subst (IsShort whole (IsForest l.progress.ends.max) b) (sym c.count-2.ensures)
     (flat_short b (kept_of l.progress) l.parts.items l.invariant.0
     (omega (arith, c.loop-progress-test.false, c.count.ensures))
     (λ idle. false≢true (sym c.if-is_idle.false ∙ c.is_idle.ensures.1 idle))))

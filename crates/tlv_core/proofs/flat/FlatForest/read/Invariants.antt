@@ -4,7 +4,7 @@ use Rattle.tlv_core.specs.Flat.{HasFlat}
 use Rattle.tlv_core.proofs.flat.FlatForest.read.Given as goal
 
 abbrev pub invariant-loop-progress : goal.invariant-loop-progress
-invariant-loop-progress l = HasFlat l.octets (kept_of l.progress) l.parts.items × (l.progress.max ≡ l.max)
+invariant-loop-progress l = HasFlat l.octets (kept_of l.progress) l.parts.items × (l.progress.ends.max ≡ l.max)
 
 abbrev pub decreases-loop-progress : goal.decreases-loop-progress
-decreases-loop-progress l = length l.octets - l.progress.count
+decreases-loop-progress l = length l.octets - l.progress.ends.count

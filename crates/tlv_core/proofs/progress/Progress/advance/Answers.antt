@@ -1,18 +1,15 @@
-use Rattle.std.proofs.Common.{◌≡◌, ℕ, ◌++◌, ◌∷◌, [], List, take, get_or, subst, sym, arith}
+use Rattle.std.proofs.Common.{◌≡◌, ◌<◌, ◌≤◌, ℕ, ◌++◌, List, length, take, subst, sym, arith}
 use Rattle.std.proofs.lemmas.List.{length-take}
+use Rattle.std.specs.Prelude.{slice_index, Result, Ok, Err, IfOk, IfErr}
 use Rattle.octet_core.proofs.Lists.{octets-take}
 use Rattle.octet_core.specs.Octets.{AreOctets}
-use Rattle.std.specs.Prelude.{slice_index}
-use Rattle.std.proofs.lemmas.Result.{err_from_is_err_and}
 use Rattle.octet_core.specs.Grammar.{IsFirst}
-use Rattle.tlv_core.specs.Reasons.{HasTaken, tlv_reasons}
+use Rattle.tlv_core.specs.Reasons.{Kept, HasTaken, tlv_reasons}
 use Rattle.tlv_core.specs.Steps.{IsWrongAfter}
 use Rattle.tlv_core.specs.declared.progress.Progress.{Progress}
+use Rattle.tlv_core.specs.declared.reason.TlvReason.{TlvReason}
 use Rattle.tlv_core.specs.Progress.{kept_of}
-use Rattle.tlv_core.specs.Short.{taken_of}
-use Rattle.tlv_core.proofs.Shorts.{short_taken, taken_some}
-use Rattle.tlv_core.proofs.Advances.{skip_taken, take_taken}
-use Rattle.tlv_core.proofs.Ends.{take_one}
+use Rattle.tlv_core.proofs.Advances.{skip_taken}
 use Rattle.tlv_core.proofs.progress.Progress.advance.Goals as goal
 
 pub returns-then-self-gt0-clause-ok : goal.returns-then-self-gt0-clause-ok
@@ -26,48 +23,42 @@ returns-then-self-gt0-clause-ok c b h =
     (octets-take run c.args.octets.now octets) (omega (arith, c.min-run.ensures, c.requires))
     (omega (arith, c.min-run.ensures)) h)
 
-pub returns-in-Some-clause-some : goal.returns-in-Some-clause-some
-returns-in-Some-clause-some c =
-    let may = c.in-Some.ensures.some in (
-      omega (arith, c.taken.ensures, taken_some c.args.octets.now c.in-Some.object may.short),
-      omega (arith, c.taken.ensures, may.here),
-    )
+one_some : (r : Result ℕ TlvReason) (l : List ℕ) → IfOk r (λ n. n ≡ 1) → 0 < length l
+    → IfOk r (λ n. (0 < n) × (n ≤ length l))
+one_some (Ok n) l e lt = (omega (arith, e), omega (arith, e))
+one_some (Err r) l e lt = tt
 
-pub returns-in-Some-clause-ok : goal.returns-in-Some-clause-ok
-returns-in-Some-clause-ok c b h =
-    let k = kept_of c.args.self.now in
-    let o = c.in-Some.object in
-    let now = kept_of c.take_short.new.self in
-    let octets : AreOctets c.args.octets.now = λ i. omega (arith, c.type_inv.octets i) in
-    let taken : HasTaken (b ++ take (taken_of o) c.args.octets.now) now =
-    subst (HasTaken (b ++ take (taken_of o) c.args.octets.now)) (sym c.in-Some.ensures.after)
-    (short_taken b c.args.octets.now k o c.in-Some.ensures.some octets h) in
-    subst (λ (m : ℕ). HasTaken (b ++ take m c.args.octets.now) now) (sym c.taken.ensures) taken
+one_taken : (r : Result ℕ TlvReason) (l : List ℕ) (k j : Kept) → IfOk r (λ n. n ≡ 1)
+    → IfOk r (λ n. (b : List ℕ) → HasTaken b k → HasTaken (b ++ take 1 l) j)
+    → IfOk r (λ n. (b : List ℕ) → HasTaken b k → HasTaken (b ++ take n l) j)
+one_taken (Ok n) l k j e h = λ b taken. subst (λ (m : ℕ). HasTaken (b ++ take m l) j) (sym e) (h b taken)
+one_taken (Err r) l k j e h = tt
 
-pub returns-clause-ok : goal.returns-clause-ok
-returns-clause-ok c b h =
+first_wrong : (r : Result ℕ TlvReason) (old new : Progress) (x : ℕ) → old.value_left ≡ 0
+    → IfErr r (λ e. (new ≡ old) × IsFirst tlv_reasons (IsWrongAfter (kept_of old) x) e)
+    → IfErr r (λ e. (new ≡ old) × (old.value_left ≡ 0) × IsFirst tlv_reasons (IsWrongAfter (kept_of old) x) e)
+first_wrong (Ok n) old new x idle h = tt
+first_wrong (Err e) old new x idle h = (h.0, idle, h.1)
+
+pub returns-then-not-is_nothing-clause-some : goal.returns-then-not-is_nothing-clause-some
+returns-then-not-is_nothing-clause-some c =
+    one_some c.take_first.result c.args.octets.now c.take_first.ensures.one c.requires
+
+pub returns-then-not-is_nothing-clause-ok : goal.returns-then-not-is_nothing-clause-ok
+returns-then-not-is_nothing-clause-ok c =
+    one_taken c.take_first.result c.args.octets.now (kept_of c.args.self.now) (kept_of c.take_first.new.self)
+    c.take_first.ensures.one c.take_first.ensures.ok
+
+pub returns-then-not-is_nothing-clause-err : goal.returns-then-not-is_nothing-clause-err
+returns-then-not-is_nothing-clause-err c =
+    first_wrong c.take_first.result c.args.self.now c.take_first.new.self (slice_index c.args.octets.now 0)
+    (omega (arith, c.if-self-gt0.false)) c.take_first.ensures.err
+
+pub returns-clause-err : goal.returns-clause-err
+returns-clause-err c =
     let old = c.args.self.now in
-    let s = c.take_short.new.self in
-    let same : s ≡ old = c.in_default.ensures.none in
-    let x = get_or c.args.octets.now 0 0 in
-    let left : s.value_left ≡ 0 = subst (λ (p : Progress). p.value_left ≡ 0) (sym same)
-    (omega (arith, c.if-self-gt0.false)) in
-    let taken : HasTaken (b ++ x ∷ []) (kept_of c.take.new.self) =
-    subst (HasTaken (b ++ x ∷ [])) (sym c.in_ok-take.ensures.after)
-    (take_taken b (kept_of s) x c.in_ok-take.field-0 left c.in_ok-take.ensures.ok
-    (subst (λ (p : Progress). HasTaken b (kept_of p)) (sym same) h)) in
-    subst (λ (l : List ℕ). HasTaken (b ++ l) (kept_of c.take.new.self)) (sym (take_one c.args.octets.now c.requires))
-    taken
-
-pub returns-in_err-take-clause-err : goal.returns-in_err-take-clause-err
-returns-in_err-take-clause-err c =
-    let old = c.args.self.now in
-    let s = c.take_short.new.self in
-    let same : s ≡ old = c.in_default.ensures.none in
-    let left : s.value_left ≡ 0 = subst (λ (p : Progress). p.value_left ≡ 0) (sym same)
-    (omega (arith, c.if-self-gt0.false)) in
-    let x = slice_index c.args.octets.now 0 in
-    let p = err_from_is_err_and c.from_residual.result c.from_residual.ensures.1 in
-    let err = c.in_err-take.ensures.err in
-    rw (p.1, p.2) (subst (λ (q : Progress). (c.take.new.self ≡ q) × (q.value_left ≡ 0)
-    × IsFirst tlv_reasons (IsWrongAfter (kept_of q) x) c.in_err-take.field-0.0) same (err.0, left, err.1))
+    subst (λ (s : Progress). IfErr c.take_first-2.result (λ e. (c.take_first-2.new.self ≡ s) × (s.value_left ≡ 0)
+    × IsFirst tlv_reasons (IsWrongAfter (kept_of s) (slice_index c.args.octets.now 0)) e)) c.in_default.ensures.none
+    (first_wrong c.take_first-2.result c.take_shorts.new.self c.take_first-2.new.self (slice_index c.args.octets.now 0)
+    (subst (λ (s : Progress). s.value_left ≡ 0) (sym c.in_default.ensures.none) (omega (arith, c.if-self-gt0.false)))
+    c.take_first-2.ensures.err)

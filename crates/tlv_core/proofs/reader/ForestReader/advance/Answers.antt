@@ -158,11 +158,11 @@ returns-in-Err-clause-err c b h =
     let z : k.value_left ≡ 0 = omega (arith, c.if-left-gt0.false, c.value_left-left.ensures) in
     let r = c.refusal-refusal.result in
     let stop : At k.count c.in-Err.reason ≡ c.stop.result =
-    ap (λ (q : Progress). At q.count c.in-Err.reason) (sym err.0)
+    ap (λ (q : Progress). At q.ends.count c.in-Err.reason) (sym err.0)
     ∙ ap (λ (q : Refusal TlvReason). At q.place q.reason) (sym c.refusal-refusal.ensures) ∙ sym c.stop.ensures in
     let max : k.max ≡ c.args.self.now.kept.max = ap (λ (q : Reading). q.kept.max) c.self.view_is in
     let place : r.place ≡ length b + 0 = ap (λ (q : Refusal TlvReason). q.place) c.refusal-refusal.ensures
-    ∙ ap (λ (q : Progress). q.count) err.0 ∙ sym o.begun.taken.count ∙ omega arith in
+    ∙ ap (λ (q : Progress). q.ends.count) err.0 ∙ sym o.begun.taken.count ∙ omega arith in
     let same : reading_of p c.self.inside.tree (Some r) ≡ reading_of c.take.new.self c.reserve.new.self (Some r) =
     ap (λ (q : Progress). reading_of q c.self.inside.tree (Some r)) (sym err.0)
     ∙ ap (λ (g : Grown). record { kept = kept_of c.take.new.self; tree = g; refusal = Some r })

@@ -22,7 +22,7 @@ of-requires c =
       proper = forest.proper;
       is = refl;
       size =
-          omega (arith, forest.size, ap length forest.is, c.self.inside.progress.limit);
+          omega (arith, forest.size, ap length forest.is, c.self.inside.progress.ends.limit);
     } in
     subst (HasSpelling largest) (sym c.into_nodes.ensures) spelled
 

@@ -1,0 +1,40 @@
+use Rattle.std.proofs.Common.{◌≡◌, ◌+◌, ℕ, take, refl, nat_lt, arith}
+use Rattle.std.specs.Prelude.{count_by}
+use Rattle.std.proofs.lemmas.List.{length-take}
+use Rattle.tlv_core.specs.declared.open_ends.OpenEnds.{OpenEnds}
+use Rattle.tlv_core.specs.Open.{open_after}
+use Rattle.tlv_core.specs.OpenEnds.{ends_of}
+use Rattle.tlv_core.proofs.Ends.{ends-now, nested-now, fewer-now}
+use Rattle.tlv_core.proofs.Counting.{Counted, counted}
+use Rattle.tlv_core.proofs.open_ends.OpenEnds.go.Goals as goal
+
+-- the places after so many octets more
+counted_then : (s : OpenEnds) (taken k : ℕ) → k ≡ count_by (λ place. nat_lt (s.count + taken) place) s.places
+    → Counted (s.count + taken) k s.places (ends_of s)
+counted_then s taken k is =
+    counted (s.count + taken) s.level k s.places (ends_of s) refl s.nested (λ i le. omega (arith, s.reached i le)) is
+
+pub invariant_of-self : goal.invariant_of-self
+invariant_of-self c =
+    let s = c.args.self.now in
+    let k = c.number_after-self.result in
+    let now = s.count + c.args.taken in
+    let then = counted_then s c.args.taken k c.number_after-self.ensures in
+    record {
+      limit = s.limit;
+      within = c.requires;
+      levels = omega (
+        arith,
+        then.number,
+        fewer-now (open_after now (ends_of s)) (ends_of s) now refl,
+        length-take s.level s.places,
+        s.levels,
+      );
+      ahead = ends-now s.max s.count c.args.taken (ends_of s) (take k s.places) s.ahead then.front;
+      nested = nested-now now (ends_of s) (take k s.places) s.nested then.front;
+      reached = then.reached;
+    }
+
+pub returns-clause-ends : goal.returns-clause-ends
+returns-clause-ends c =
+    (counted_then c.args.self.now c.args.taken c.number_after-self.result c.number_after-self.ensures).front

@@ -1,0 +1,188 @@
+//! How far the octets of a forest have come, and where the open objects end.
+
+ghost use Rattle.std.specs.Prelude.{nat_lt, ◌≡◌, ◌+◌, ◌-◌, ◌<◌, ◌≤◌, length, take, IfSome, count_by, []};
+ghost use Rattle.tlv_core.specs.Open.{AreEnds, AreNested, AreReached};
+
+use crate::progress::DEEPEST;
+use crate::short::{ShortHeader, short_header};
+
+/// How many octets were taken, and the places at which open objects end.
+#[derive(Clone, Copy)]
+pub(crate) struct OpenEnds {
+    /// The limit of the whole, in octets.
+    max: usize,
+    /// How many octets were taken.
+    count: usize,
+    /// The places at which the open constructed objects end, outermost first. No place after these is after `count`.
+    places: [u32; DEEPEST],
+    /// How many objects are open.
+    level: usize,
+    ghost limit: { max ≤ 1048576 },
+    ghost within: { count ≤ max },
+    ghost levels: { level ≤ 16 },
+    ghost ahead: { AreEnds max count (take level places) },
+    ghost nested: { AreNested (take level places) },
+    ghost reached: { AreReached count level places },
+}
+
+impl OpenEnds {
+    ghost use Rattle.tlv_core.specs.Reasons.{room_of};
+    ghost use Rattle.tlv_core.specs.Open.{rooms_to, open_after};
+    ghost use Rattle.tlv_core.specs.Short.{after_short, whole_of, MayCome};
+    ghost use Rattle.std.specs.Prelude.{◌++◌, ◌∷◌};
+    ghost use Rattle.tlv_core.specs.OpenEnds.{ends_of, kept_idle};
+
+    /// Before the first octet of a forest of at most `max` octets.
+    pub(crate) fn new(max: usize) -> Self
+        requires { max ≤ 1048576 }
+        ensures { kept_idle result ≡ record
+            { max = max; count = 0; rooms = []; header = []; value_left = 0 } }
+    {
+        OpenEnds {
+            max,
+            count: 0,
+            places: [0; DEEPEST],
+            level: 0,
+        }
+    }
+
+    /// After `count` octets that leave objects open which end at these places.
+    pub(crate) fn of(max: usize, count: usize, ends: &[u32]) -> Self
+        requires limit { max ≤ 1048576 }
+        requires within { count ≤ max }
+        requires levels { length ends.now ≤ 16 }
+        requires ahead { AreEnds max count ends.now }
+        requires nested { AreNested ends.now }
+        ensures max { result.max ≡ max }
+        ensures count { result.count ≡ count }
+        ensures ends { ends_of result ≡ ends.now }
+    {
+        let level = ends.len();
+        let mut places = [0; DEEPEST];
+        places[..level].copy_from_slice(ends);
+        OpenEnds {
+            max,
+            count,
+            places,
+            level,
+        }
+    }
+
+    /// The limit of the whole.
+    pub(crate) fn max(&self) -> usize
+        ensures { result ≡ self.now.max }
+    {
+        self.max
+    }
+
+    /// How many octets were taken.
+    pub(crate) fn count(&self) -> usize
+        ensures { result ≡ self.now.count }
+    {
+        self.count
+    }
+
+    /// How many objects are open.
+    pub(crate) fn level(&self) -> usize
+        ensures { result ≡ length (ends_of self.now) }
+    {
+        self.level
+    }
+
+    /// The places at which they end, outermost first.
+    pub(crate) fn places(&self) -> &[u32]
+        ensures { result.now ≡ ends_of self.now }
+    {
+        &self.places[..self.level]
+    }
+
+    /// The octets from the next one to the end of the innermost open object, or to the limit.
+    #[inline(always)]
+    pub(crate) fn room(&self) -> usize
+        ensures { result ≡ room_of (self.now.max - self.now.count)
+            (rooms_to self.now.count (ends_of self.now)) }
+    {
+        if self.level == 0 {
+            return self.max - self.count;
+        }
+        self.places[self.level - 1] as usize - self.count
+    }
+
+    /// The header of an object that comes next, where its length field has at most three octets, and all of it is here
+    /// and fits; and the value too where it is primitive.
+    #[inline(always)]
+    pub(crate) fn next_short(&self, octets: &[u8]) -> Option<ShortHeader>
+        ensures { IfSome result (MayCome (kept_idle self.now) octets.now) }
+    {
+        if self.level >= DEEPEST {
+            return None;
+        }
+        let object = short_header(octets)?;
+        if object.taken() > octets.len() || object.whole() > self.room() {
+            return None;
+        }
+        Some(object)
+    }
+
+    /// Passes over an object with a short header, or enters it where it is constructed and not empty.
+    #[inline(always)]
+    pub(crate) fn pass(&mut self, object: ShortHeader)
+        requires shallow { length (ends_of self.old) < 16 }
+        requires some { 0 < object.header }
+        requires fits { whole_of object ≤ room_of (self.old.max - self.old.count)
+            (rooms_to self.old.count (ends_of self.old)) }
+        ensures { kept_idle self.new ≡ after_short (kept_idle self.old) object }
+    {
+        self.enter(object.whole(), object.taken());
+    }
+
+    /// Enters an object of so many octets, of which some are taken. It is open then where it has more.
+    #[inline(always)]
+    pub(crate) fn enter(&mut self, whole: usize, taken: usize)
+        requires shallow { length (ends_of self.old) < 16 }
+        requires some { 0 < whole }
+        requires within { taken ≤ whole }
+        requires fits { whole ≤ room_of (self.old.max - self.old.count)
+            (rooms_to self.old.count (ends_of self.old)) }
+        ensures max { self.new.max ≡ self.old.max }
+        ensures count { self.new.count ≡ self.old.count + taken }
+        ensures ends { ends_of self.new ≡ open_after (self.old.count + taken)
+            (ends_of self.old ++ (self.old.count + whole) ∷ []) }
+    {
+        if self.level == 0 && taken == whole {
+            // nothing was open, and nothing is
+            self.count += taken;
+            return;
+        }
+        self.places[self.level] = (self.count + whole) as u32;
+        self.count += taken;
+        self.level = number_after(&self.places, self.count);
+    }
+
+    /// Takes so many octets. The objects that end there are closed.
+    #[inline(always)]
+    pub(crate) fn go(&mut self, taken: usize)
+        requires { self.old.count + taken ≤ self.old.max }
+        ensures max { self.new.max ≡ self.old.max }
+        ensures count { self.new.count ≡ self.old.count + taken }
+        ensures ends { ends_of self.new ≡ open_after (self.old.count + taken) (ends_of self.old) }
+    {
+        self.count += taken;
+        self.level = number_after(&self.places, self.count);
+    }
+}
+
+/// How many of these places are after `count` octets. Objects end with no rule, so all places are looked at, without a
+/// branch.
+#[inline(always)]
+fn number_after(places: &[u32; DEEPEST], count: usize) -> usize
+    requires { count ≤ 1048576 }
+    ensures { result ≡ count_by (λ place. nat_lt count place) places.now }
+{
+    let count = count as u32;
+    let mut number = 0;
+    for index in 0..DEEPEST {
+        number += u32::from(places[index] > count);
+    }
+    number as usize
+}
