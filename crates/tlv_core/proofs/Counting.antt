@@ -1,12 +1,12 @@
 -- How many objects are open: as many as there are kept places after the octets that came.
 use Rattle.std.proofs.Common.{◌≡◌, ℕ, ◌+◌, ◌<◌, ◌≤◌, List, [], ◌∷◌, ◌++◌, length, take, refl, sym, ap, subst, ◌∙◌, inl, inr, arith, zero, suc, cond, Bool, nat_lt}
-use Rattle.std.specs.Prelude.{count_by}
+use Rattle.std.specs.Prelude.{count_by, slice_set, slice_index}
 use Rattle.std.specs.List.{prefix_len}
 use borrow.Author.Tests.{lt-ltb, le-ltb}
-use Rattle.std.proofs.lemmas.Bool.{cases_lt}
-use Rattle.std.proofs.lemmas.List.{length-take, take-take}
+use Rattle.std.proofs.lemmas.Bool.{cases_lt, cases_eq}
+use Rattle.std.proofs.lemmas.List.{length-take, take-take, get_or-take, get_or-set_same, get_or-set_other}
 use Rattle.std.proofs.lemmas.List.Sums.{sum_by-cons, prefix_len-le-length}
-use Rattle.tlv_core.specs.Open.{AreEnds, AreFrom, AreNested, AreReached, open_after, rooms_to}
+use Rattle.tlv_core.specs.Open.{AreEnds, AreFrom, AreNested, AreReached, AreUpTo, open_after, rooms_to}
 use Rattle.tlv_core.specs.Steps.{entered}
 use Rattle.tlv_core.proofs.Ends.{kept, same_rooms, ends-all, rooms-push, open-more, open-last}
 
@@ -101,6 +101,22 @@ counted count n k places ends begins nested h is =
       reached = subst (λ (j : ℕ). AreReached count j places) (sym is) (rest_reached count n places inner h);
     }
 
+-- a last place that isn't after the octets doesn't count
+pub but_last : (count n : ℕ) (places : List ℕ) → length places ≡ suc n → slice_index places n ≤ count
+    → count_by (λ place. nat_lt count place) (take n places) ≡ count_by (λ place. nat_lt count place) places
+but_last count n [] len h = absurd (omega (arith, len))
+but_last count zero (e ∷ []) len h = sym (after-not count e [] h)
+but_last count zero (e ∷ f ∷ places) len h = absurd (omega (arith, len))
+but_last count (suc n) (e ∷ places) len h =
+    elim (cases_lt count e) [
+      | inl lt ↦ after-more count e (take n places) lt
+          ∙ ap suc (but_last count n places (omega (arith, len)) h)
+          ∙ sym (after-more count e places lt)
+      | inr le ↦ after-not count e (take n places) le
+          ∙ but_last count n places (omega (arith, len)) h
+          ∙ sym (after-not count e places le)
+    ]
+
 -- ---- one end more
 
 -- an end that is after these octets, and no later than any other, is that of one object more that is open
@@ -125,6 +141,19 @@ open_reached place e (f ∷ ends) le =
       | inr ge ↦ open-last place f (ends ++ e ∷ []) ge ∙ sym (open-last place f ends ge)
     ]
 
+-- so it needs no place among those that are counted
+pub counted_reached : (count n k e : ℕ) (places ends : List ℕ) → take n places ≡ ends → AreNested ends
+    → AreReached count n places → e ≤ count → k ≡ count_by (λ place. nat_lt count place) places
+    → Counted count k places (ends ++ e ∷ [])
+counted_reached count n k e places ends begins nested h le is =
+    let inner = counted count n k places ends begins nested h is in
+    let same = sym (open_reached count e ends le) in
+    record {
+      front = inner.front ∙ same;
+      number = inner.number ∙ ap length same;
+      reached = inner.reached;
+    }
+
 -- where an object is entered that is not empty, its end is one more
 pub same_entered : (max count left limit place n bit : ℕ) (h ends now : List ℕ) → limit ≡ max → place ≡ count + 0
     → now ≡ open_after (count + 0) (ends ++ (count + n) ∷ []) → AreEnds max count ends → AreFrom (count + n) ends
@@ -143,3 +172,30 @@ same_entered max count left limit place (suc n) (suc bit) h ends now limit_is pl
     ∙ ap (λ (p : ℕ). kept max p (rooms_to p now) h left) (place_is ∙ none)
     ∙ same_rooms max count left h (rooms_to count now) (rooms_to count ends ++ suc n ∷ [])
     (ap (rooms_to count) all ∙ rooms-push count (suc n) ends)
+
+-- no kept place is after the limit: an open object ends within it, and the other places aren't after the octets
+pub kept_up_to : (max count n : ℕ) (places : List ℕ) → n ≤ length places → AreEnds max count (take n places)
+    → AreReached count n places → count ≤ max → AreUpTo max places
+kept_up_to max count n places most ends h within i =
+    elim (cases_lt i n) [
+      | inl lt ↦ omega (
+        arith,
+        ends i (omega (arith, lt, most, length-take n places)),
+        get_or-take n places i 0 lt,
+      )
+      | inr le ↦ omega (arith, h i le, within)
+    ]
+
+-- nor one more place that is written
+pub set_up_to : (max n e : ℕ) (places : List ℕ) → n < length places → AreUpTo max places → e ≤ max
+    → AreUpTo max (slice_set places n e)
+set_up_to max n e places room h most i =
+    elim (cases_eq i n) [
+      | inl same ↦ omega (
+        arith,
+        ap (λ (j : ℕ). slice_index (slice_set places n e) j) same,
+        get_or-set_same places n e 0 room,
+        most,
+      )
+      | inr other ↦ omega (arith, get_or-set_other places n i e 0 other, h i)
+    ]

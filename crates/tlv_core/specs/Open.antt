@@ -19,6 +19,10 @@ AreFrom place ends = (i : ℕ) → i < length ends → place ≤ slice_index end
 abbrev pub AreReached : ℕ → ℕ → List ℕ → Type 0
 AreReached count level places = (i : ℕ) → level ≤ i → slice_index places i ≤ count
 
+-- none of them is after this place
+abbrev pub AreUpTo : ℕ → List ℕ → Type 0
+AreUpTo most places = (i : ℕ) → slice_index places i ≤ most
+
 -- the rooms of objects that end at these places
 abbrev pub rooms_to : ℕ → List ℕ → List ℕ
 rooms_to count ends = map (λ end. end - count) ends

@@ -1,10 +1,16 @@
 //! How far the octets of a forest have come, and where the open objects end.
 
-ghost use Rattle.std.specs.Prelude.{nat_lt, ◌≡◌, ◌+◌, ◌-◌, ◌<◌, ◌≤◌, length, take, IfSome, count_by, []};
-ghost use Rattle.tlv_core.specs.Open.{AreEnds, AreNested, AreReached};
+ghost use Rattle.std.specs.Prelude.{nat_lt, ◌≡◌, ◌+◌, ◌-◌, ◌<◌, ◌≤◌, length, take, IfSome, count_by, slice_index, []};
+ghost use Rattle.tlv_core.specs.Open.{AreEnds, AreNested, AreReached, AreUpTo};
 
 use crate::progress::DEEPEST;
 use crate::short::{ShortHeader, short_header};
+
+/// The spare place, after one for each object that may be open. There goes the end of an object that isn't.
+const SPARE: usize = DEEPEST;
+
+/// How many places are kept.
+const PLACES: usize = SPARE + 1;
 
 /// How many octets were taken, and the places at which open objects end.
 #[derive(Clone, Copy)]
@@ -14,7 +20,7 @@ pub(crate) struct OpenEnds {
     /// How many octets were taken.
     count: usize,
     /// The places at which the open constructed objects end, outermost first. No place after these is after `count`.
-    places: [u32; DEEPEST],
+    places: [u32; PLACES],
     /// How many objects are open.
     level: usize,
     ghost limit: { max ≤ 1048576 },
@@ -41,7 +47,7 @@ impl OpenEnds {
         OpenEnds {
             max,
             count: 0,
-            places: [0; DEEPEST],
+            places: [0; PLACES],
             level: 0,
         }
     }
@@ -58,7 +64,7 @@ impl OpenEnds {
         ensures ends { ends_of result ≡ ends.now }
     {
         let level = ends.len();
-        let mut places = [0; DEEPEST];
+        let mut places = [0; PLACES];
         places[..level].copy_from_slice(ends);
         OpenEnds {
             max,
@@ -154,9 +160,21 @@ impl OpenEnds {
             self.count += taken;
             return;
         }
-        self.places[self.level] = (self.count + whole) as u32;
+        let place = self.place_for(whole, taken);
+        self.places[place] = (self.count + whole) as u32;
         self.count += taken;
         self.level = number_after(&self.places, self.count);
+    }
+
+    /// Which place is for the end of an object of so many octets, of which some are taken: the spare one where it is
+    /// taken whole, since the others are counted next, and a processor that reads four places at once waits for one
+    /// that was just written.
+    #[inline(always)]
+    fn place_for(&self, whole: usize, taken: usize) -> usize
+        ensures open { taken < whole → result ≡ self.now.level }
+        ensures taken { whole ≤ taken → result ≡ 16 }
+    {
+        if taken < whole { self.level } else { SPARE }
     }
 
     /// Takes so many octets. The objects that end there are closed.
@@ -172,17 +190,18 @@ impl OpenEnds {
     }
 }
 
-/// How many of these places are after `count` octets. Objects end with no rule, so all places are looked at, without a
-/// branch.
+/// How many of these places are after `count` octets; the spare one isn't. Objects end with no rule, so all the others
+/// are looked at, without a branch, and as signed numbers, of which a processor compares four in one step.
 #[inline(always)]
-fn number_after(places: &[u32; DEEPEST], count: usize) -> usize
-    requires { count ≤ 1048576 }
+fn number_after(places: &[u32; PLACES], count: usize) -> usize
+    requires count { count ≤ 1048576 }
+    requires places { AreUpTo 1048576 places.now }
+    requires spare { slice_index places.now 16 ≤ count }
     ensures { result ≡ count_by (λ place. nat_lt count place) places.now }
 {
-    let count = count as u32;
     let mut number = 0;
     for index in 0..DEEPEST {
-        number += u32::from(places[index] > count);
+        number += u32::from(places[index] as i32 > count as i32);
     }
     number as usize
 }

@@ -1,12 +1,13 @@
-use Rattle.std.proofs.Common.{◌≡◌, ◌<◌, ◌≤◌, ◌+◌, ◌-◌, ◌++◌, ◌∷◌, [], List, ℕ, take, length, refl, nat_lt, arith}
-use Rattle.std.specs.Prelude.{slice_set, count_by}
-use Rattle.std.proofs.lemmas.List.{length-take, length-append, take_more_set, get_or-set_other}
+use Rattle.std.proofs.Common.{◌≡◌, ◌<◌, ◌≤◌, ◌+◌, ◌-◌, ◌++◌, ◌∷◌, [], List, ℕ, take, length, refl, sym, ap, subst, inl, inr, nat_lt, arith}
+use Rattle.std.specs.Prelude.{slice_set, slice_index, count_by}
+use Rattle.std.proofs.lemmas.Bool.{cases_lt, cases_eq}
+use Rattle.std.proofs.lemmas.List.{length-take, length-append, take_more_set, take-set-le, get_or-set_same, get_or-set_other}
 use Rattle.tlv_core.specs.declared.open_ends.OpenEnds.{OpenEnds}
-use Rattle.tlv_core.specs.Open.{AreNested, open_after, rooms_to}
+use Rattle.tlv_core.specs.Open.{AreNested, AreReached, AreUpTo, open_after, rooms_to}
 use Rattle.tlv_core.specs.Reasons.{room_of}
 use Rattle.tlv_core.specs.OpenEnds.{ends_of}
 use Rattle.tlv_core.proofs.Ends.{ends-now, ends-push, nested-now, nested-push, from-room, from-less, fewer-now, room-within}
-use Rattle.tlv_core.proofs.Counting.{Counted, counted}
+use Rattle.tlv_core.proofs.Counting.{Counted, counted, counted_reached, kept_up_to, set_up_to}
 use Rattle.tlv_core.proofs.open_ends.OpenEnds.enter.Goals as goal
 
 -- an object of so many octets fits
@@ -28,22 +29,103 @@ nested s whole fits =
     (from-less (s.count + whole) (s.count + room_of (s.max - s.count) (rooms_to s.count (ends_of s))) (ends_of s)
     (omega (arith, fits)) (from-room s.max s.count (s.max - s.count) (ends_of s) s.ahead s.nested))
 
--- the places with its end, after some of its octets
-counted_then : (s : OpenEnds) (whole taken k : ℕ) → Fits s whole → s.level < length s.places
-    → k ≡ count_by (λ place. nat_lt (s.count + taken) place) (slice_set s.places s.level (s.count + whole))
-    → Counted (s.count + taken) k (slice_set s.places s.level (s.count + whole)) (with_end s whole)
-counted_then s whole taken k fits room is =
-    let e = s.count + whole in
-    counted (s.count + taken) (s.level + 1) k (slice_set s.places s.level e) (with_end s whole)
-    (take_more_set s.places s.level e room) (nested s whole fits)
-    (λ i le. omega (
-      arith,
-      s.reached i (omega (arith, le)),
-      get_or-set_other s.places s.level i e 0 (λ same. omega (arith, same, le)),
-    )) is
+-- where that goes, and what it is then
+record Placed (s : OpenEnds) (whole taken place : ℕ) : Type 0 where
+  fits : Fits s whole
+  within : taken ≤ whole
+  shallow : s.level < 16
+  all : length s.places ≡ 17
+  opens : taken < whole → place ≡ s.level
+  passes : whole ≤ taken → place ≡ 16
 
-shallow : (s : OpenEnds) → length s.places ≡ 16 → length (ends_of s) < 16 → s.level < length s.places
-shallow s len h = omega (arith, len, h, length-take s.level s.places)
+placed : (s : OpenEnds) (whole taken place : ℕ) → Fits s whole → taken ≤ whole → length (ends_of s) < 16
+    → length s.places ≡ 17 → (taken < whole → place ≡ s.level) → (whole ≤ taken → place ≡ 16)
+    → Placed s whole taken place
+placed s whole taken place fits within shallow all opens passes = record {
+  fits = fits;
+  within = within;
+  shallow = omega (arith, shallow, all, s.levels, length-take s.level s.places);
+  all = all;
+  opens = opens;
+  passes = passes;
+}
+
+-- the places with its end
+abbrev with_place : OpenEnds → ℕ → ℕ → List ℕ
+with_place s whole place = slice_set s.places place (s.count + whole)
+
+-- where all of it is taken, none of the other places is after the octets
+reached_then : (s : OpenEnds) (whole taken place : ℕ) → Placed s whole taken place → whole ≤ taken
+    → AreReached (s.count + taken) s.level (with_place s whole place)
+reached_then s whole taken place h le i after =
+    elim (cases_eq i place) [
+      | inl same ↦ omega (
+        arith,
+        ap (λ (j : ℕ). slice_index (with_place s whole place) j) same,
+        get_or-set_same s.places place (s.count + whole) 0 (omega (arith, h.passes le, h.all)),
+        le,
+      )
+      | inr other ↦ omega (
+        arith,
+        get_or-set_other s.places place i (s.count + whole) 0 other,
+        s.reached i after,
+      )
+    ]
+
+-- after some of its octets
+counted_then : (s : OpenEnds) (whole taken place k : ℕ) → Placed s whole taken place
+    → k ≡ count_by (λ place. nat_lt (s.count + taken) place) (with_place s whole place)
+    → Counted (s.count + taken) k (with_place s whole place) (with_end s whole)
+counted_then s whole taken place k h is =
+    let e = s.count + whole in
+    let now = s.count + taken in
+    elim (cases_lt taken whole) [
+      | inl lt ↦ subst (λ (p : ℕ). k ≡ count_by (λ place. nat_lt now place) (with_place s whole p)
+          → Counted now k (with_place s whole p) (with_end s whole)) (sym (h.opens lt))
+          (λ is. counted now (s.level + 1) k (with_place s whole s.level) (with_end s whole)
+          (take_more_set s.places s.level e (omega (arith, h.all, h.shallow))) (nested s whole h.fits)
+          (λ i le. omega (
+            arith,
+            s.reached i (omega (arith, le)),
+            get_or-set_other s.places s.level i e 0 (λ same. omega (arith, same, le)),
+          )) is) is
+      | inr le ↦ counted_reached now s.level k e (with_place s whole place) (ends_of s)
+          (take-set-le s.level s.places place e (omega (arith, h.passes le, h.shallow))) s.nested
+          (reached_then s whole taken place h le) (omega (arith, le)) is
+    ]
+
+-- the place is one of those
+placed_at : (s : OpenEnds) (whole taken place : ℕ) → Placed s whole taken place → place < length s.places
+placed_at s whole taken place h =
+    elim (cases_lt taken whole) [
+      | inl lt ↦ omega (arith, h.opens lt, h.all, h.shallow)
+      | inr le ↦ omega (arith, h.passes le, h.all)
+    ]
+
+-- the spare place isn't after the octets
+spare_then : (s : OpenEnds) (whole taken place : ℕ) → Placed s whole taken place
+    → slice_index (with_place s whole place) 16 ≤ s.count + taken
+spare_then s whole taken place h =
+    elim (cases_lt taken whole) [
+      | inl lt ↦ omega (
+        arith,
+        get_or-set_other s.places place 16 (s.count + whole) 0 (λ same. omega (arith, same, h.opens lt, h.shallow)),
+        s.reached 16 s.levels,
+      )
+      | inr le ↦ reached_then s whole taken place h le 16 s.levels
+    ]
+
+-- and none is after the limit
+up_to_then : (s : OpenEnds) (whole taken place : ℕ) → Placed s whole taken place
+    → AreUpTo 1048576 (with_place s whole place)
+up_to_then s whole taken place h i =
+    let here : AreUpTo s.max s.places =
+    kept_up_to s.max s.count s.level s.places (omega (arith, h.all, h.shallow)) s.ahead s.reached s.within in
+    omega (
+      arith,
+      set_up_to s.max place (s.count + whole) s.places (placed_at s whole taken place h) here (within s whole h.fits) i,
+      s.limit,
+    )
 
 pub overflow_add-self-2 : goal.overflow_add-self-2
 overflow_add-self-2 c = omega (arith, within c.args.self.now c.args.whole c.requires.fits, c.args.self.now.limit)
@@ -51,10 +133,24 @@ overflow_add-self-2 c = omega (arith, within c.args.self.now c.args.whole c.requ
 pub overflow_cast-self : goal.overflow_cast-self
 overflow_cast-self c = omega (arith, within c.args.self.now c.args.whole c.requires.fits, c.args.self.now.limit)
 
-pub number_after-self-requires : goal.number_after-self-requires
-number_after-self-requires c =
+pub number_after-self-requires-clause-count : goal.number_after-self-requires-clause-count
+number_after-self-requires-clause-count c =
     let s = c.args.self.now in
     omega (arith, within s c.args.whole c.requires.fits, c.requires.within, s.limit)
+
+pub number_after-self-requires-clause-places : goal.number_after-self-requires-clause-places
+number_after-self-requires-clause-places c =
+    let s = c.args.self.now in
+    let h = placed s c.args.whole c.args.taken c.place_for-place.result c.requires.fits c.requires.within
+    c.requires.shallow (omega arith) c.place_for-place.ensures.open c.place_for-place.ensures.taken in
+    up_to_then s c.args.whole c.args.taken c.place_for-place.result h
+
+pub number_after-self-requires-clause-spare : goal.number_after-self-requires-clause-spare
+number_after-self-requires-clause-spare c =
+    let s = c.args.self.now in
+    let h = placed s c.args.whole c.args.taken c.place_for-place.result c.requires.fits c.requires.within
+    c.requires.shallow (omega arith) c.place_for-place.ensures.open c.place_for-place.ensures.taken in
+    spare_then s c.args.whole c.args.taken c.place_for-place.result h
 
 pub invariant_of-self : goal.invariant_of-self
 invariant_of-self c =
@@ -74,9 +170,10 @@ invariant_of-self-2 c =
     let k = c.number_after-self.result in
     let now = s.count + c.args.taken in
     let all : List ℕ = with_end s c.args.whole in
-    let places : List ℕ = slice_set s.places s.level (s.count + c.args.whole) in
-    let then = counted_then s c.args.whole c.args.taken k c.requires.fits (shallow s (omega arith) c.requires.shallow)
-    c.number_after-self.ensures in
+    let places : List ℕ = with_place s c.args.whole c.place_for-place.result in
+    let h = placed s c.args.whole c.args.taken c.place_for-place.result c.requires.fits c.requires.within
+    c.requires.shallow (omega arith) c.place_for-place.ensures.open c.place_for-place.ensures.taken in
+    let then = counted_then s c.args.whole c.args.taken c.place_for-place.result k h c.number_after-self.ensures in
     let most = within s c.args.whole c.requires.fits in
     record {
       limit = s.limit;
@@ -98,6 +195,7 @@ invariant_of-self-2 c =
 pub returns-clause-ends : goal.returns-clause-ends
 returns-clause-ends c =
     let s = c.args.self.now in
-    let then = counted_then s c.args.whole c.args.taken c.number_after-self.result c.requires.fits
-    (shallow s (omega arith) c.requires.shallow) c.number_after-self.ensures in
-    then.front
+    let h = placed s c.args.whole c.args.taken c.place_for-place.result c.requires.fits c.requires.within
+    c.requires.shallow (omega arith) c.place_for-place.ensures.open c.place_for-place.ensures.taken in
+    (counted_then s c.args.whole c.args.taken c.place_for-place.result c.number_after-self.result h
+    c.number_after-self.ensures).front

@@ -5,7 +5,7 @@ use Rattle.tlv_core.specs.declared.open_ends.OpenEnds.{OpenEnds}
 use Rattle.tlv_core.specs.Open.{open_after}
 use Rattle.tlv_core.specs.OpenEnds.{ends_of}
 use Rattle.tlv_core.proofs.Ends.{ends-now, nested-now, fewer-now}
-use Rattle.tlv_core.proofs.Counting.{Counted, counted}
+use Rattle.tlv_core.proofs.Counting.{Counted, counted, kept_up_to}
 use Rattle.tlv_core.proofs.open_ends.OpenEnds.go.Goals as goal
 
 -- the places after so many octets more
@@ -13,6 +13,12 @@ counted_then : (s : OpenEnds) (taken k : ℕ) → k ≡ count_by (λ place. nat_
     → Counted (s.count + taken) k s.places (ends_of s)
 counted_then s taken k is =
     counted (s.count + taken) s.level k s.places (ends_of s) refl s.nested (λ i le. omega (arith, s.reached i le)) is
+
+pub number_after-self-requires-clause-places : goal.number_after-self-requires-clause-places
+number_after-self-requires-clause-places c =
+    let s = c.args.self.now in
+    let here = kept_up_to s.max s.count s.level s.places (omega (arith, s.levels)) s.ahead s.reached s.within in
+    λ i. omega (arith, here i, s.limit)
 
 pub invariant_of-self : goal.invariant_of-self
 invariant_of-self c =
