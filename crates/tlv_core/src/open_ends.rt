@@ -185,7 +185,12 @@ impl OpenEnds {
         ensures count { self.new.count ≡ self.old.count + taken }
         ensures ends { ends_of self.new ≡ open_after (self.old.count + taken) (ends_of self.old) }
     {
+        let is_open_yet = taken < self.room();
         self.count += taken;
+        if is_open_yet {
+            // no object ends here
+            return;
+        }
         self.level = number_after(&self.places, self.count);
     }
 }

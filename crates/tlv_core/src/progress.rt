@@ -167,7 +167,7 @@ impl Progress {
             self.skip(run);
             return Ok(run);
         }
-        if !self.header.is_nothing() {
+        if !self.header.is_nothing() || octets.len() < 2 {
             return self.take_first(octets);
         }
         if let Some(taken) = self.take_shorts(octets) {
