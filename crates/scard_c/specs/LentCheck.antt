@@ -1,14 +1,7 @@
 -- What the calls of a check of a forest do whose state the caller keeps.
-use Rattle.std.specs.Prelude.{◌≡◌, ℕ, ◌↔◌, List, [], ◌++◌, Result, OnSome, MatchResult}
-use Rattle.octet_core.specs.Grammar.{whole, Refuses}
-use Rattle.octet_core.specs.declared.stop.Stop.{Stop}
-use Rattle.tlv_core.specs.Tree.{Tree}
-use Rattle.tlv_core.specs.Forest.{IsForest}
-use Rattle.tlv_core.specs.Reasons.{IsReason}
-use Rattle.tlv_core.specs.Check.{Checked, HasChecked, answer_of}
-use Rattle.tlv_core.specs.declared.reason.TlvReason.{TlvReason}
-use Rattle.scard_c.specs.Verdict.{ok_at, told_end, wrong_argument}
-use Rattle.scard_c.specs.Tlv.{tlv_reason}
+use Rattle.std.specs.Prelude.{◌≡◌, ℕ, ◌↔◌, List, []}
+use Rattle.tlv_core.specs.Check.{Checked, HasChecked}
+use Rattle.scard_c.specs.Verdict.{ok_at, wrong_argument}
 use Rattle.scard_c.specs.Readers.{FeedsForest, EndsCheck}
 use Rattle.scard_c.specs.KeptCheck.{IsCheck}
 use Rattle.scard_c.specs.declared.verdict.Verdict.{Verdict}

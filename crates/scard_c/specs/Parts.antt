@@ -1,10 +1,10 @@
 -- The parts of a forest as C sees them.
-use Rattle.std.specs.Prelude.{◌≡◌, ℕ, ◌+◌, ◌-◌, ◌≤◌, ◌==◌, ◌&&◌, min, Bool, false, List, [], ◌∷◌, length, take, drop, map, cond, if◌then◌else◌, bytes_eq, slice_get, Option, Some, None}
-use Rattle.tlv_core.specs.Tag.{constructed_bit, header_of}
+use Rattle.std.specs.Prelude.{◌≡◌, ℕ, ◌+◌, ◌-◌, ◌≤◌, ◌==◌, ◌&&◌, min, Bool, false, List, [], ◌∷◌, length, take, map, cond, if◌then◌else◌, bytes_eq, slice_get, Option, Some, None}
+use Rattle.tlv_core.specs.Tag.{constructed_bit}
 use Rattle.tlv_core.specs.TagView.{padded}
 use Rattle.tlv_core.specs.Form.{further}
 use Rattle.tlv_core.specs.Tree.{Tree, End, Filler, Primitive, Constructed}
-use Rattle.tlv_core.specs.Forest.{IsForest, IsProper, spelling, largest}
+use Rattle.tlv_core.specs.Forest.{IsForest, spelling}
 use Rattle.tlv_core.specs.Parts.{Placed, value_place, preorder, first_on}
 use Rattle.tlv_core.specs.declared.node.Node.{Node}
 use Rattle.tlv_core.specs.declared.node.Node.TheVariants as node

@@ -133,23 +133,22 @@ fn put_parts(parts: &[Part<'_>], out: &mut [CPart]) -> Verdict
         return Verdict::lacking(parts.len());
     }
     for (index, part) in parts.iter().enumerate() {
-        out[index] = shown(part);
+        put_part(part, &mut out[index]);
     }
     Verdict::ok(parts.len())
 }
 
-fn shown(part: &Part<'_>) -> CPart
+/// Puts a part into its place, field by field: as a whole, the octets between fields would be written too.
+fn put_part(part: &Part<'_>, place: &mut CPart)
     requires { part.now.depth ≤ 16 }
-    ensures { result ≡ part_put part.now }
+    ensures { place.new ≡ part_put part.now }
 {
-    CPart {
-        depth: part.depth as u8,
-        is_constructed: u8::from(part.tag.is_constructed()),
-        len_octets: part.form.octets() as u8,
-        tag: tag_shown(&part.tag),
-        place: part.place,
-        len: part.value.len(),
-    }
+    place.depth = part.depth as u8;
+    place.is_constructed = u8::from(part.tag.is_constructed());
+    place.len_octets = part.form.octets() as u8;
+    place.tag = tag_shown(&part.tag);
+    place.place = part.place;
+    place.len = part.value.len();
 }
 
 fn tag_shown(tag: &Tag) -> CTag

@@ -133,13 +133,13 @@ kind_grew b octets k m (suc n) true tag form outer list h are bit inside is =
 at_once_grew : (b octets : List ℕ) (k : Kept) (o : ShortHeader) (g : Grown) → HasTaken b k → MayCome k octets o
     → AreOctets octets → HasGrown b k g
     → Grew (b ++ take (taken_of o) octets) (after_short k o)
-    (placed g ++ added k o.header o.len (take o.tag octets) o.form)
+    (placed g ++ added k o.header o.len o.tag o.form)
 at_once_grew b octets k o g taken may are h =
     let short = may.short in
     let fits = short_fits b octets k o g taken may h in
     subst (λ (l : List Placed). Grew (b ++ take (taken_of o) octets) (after_short k o)
-    (l ++ added k o.header o.len (take o.tag octets) o.form)) (sym (none_placed b k g h may.idle))
-    (kind_grew b octets k o.header o.len o.is_constructed (take o.tag octets) o.form g.opened g.list fits are short.bit
+    (l ++ added k o.header o.len o.tag o.form)) (sym (none_placed b k g h may.idle))
+    (kind_grew b octets k o.header o.len o.is_constructed o.tag o.form g.opened g.list fits are short.bit
     may.here short.is)
 
 -- the parts so far, with that of the object
@@ -147,7 +147,7 @@ pub flat_at_once : (b : List ℕ) (k : Kept) (old new : List Part) (o : ShortHea
     → MayCome k (drop k.count b) o
     → IsKeptPart b (record {
       depth = 1 + length k.rooms;
-      tag = take o.tag (drop k.count b);
+      tag = o.tag;
       form = o.form;
       place =
           k.count + o.header;
@@ -157,7 +157,7 @@ flat_at_once b k old new o octets may e h =
     let rest = drop k.count b in
     let are : AreOctets rest = octets-drop k.count b octets in
     let now = take k.count b in
-    let more = added k o.header o.len (take o.tag rest) o.form in
+    let more = added k o.header o.len o.tag o.form in
     flat_grew b (after_short k o) (now ++ take (taken_of o) rest) (placed h.tree ++ more) new
     (omega (arith, may.here, length-drop k.count b, h.within)) (take_taken_more k.count (taken_of o) b)
     (short_taken now rest k o may are h.taken)

@@ -39,11 +39,10 @@ pub record Fits (b : List ℕ) (k : Kept) (m n : ℕ) (tag : List ℕ) (form : F
 
 -- where an object with a short header may come, its header and its value fit
 pub short_fits : (b octets : List ℕ) (k : Kept) (o : ShortHeader) (g : Grown) → HasTaken b k → MayCome k octets o
-    → HasGrown b k g → Fits b k o.header o.len (take o.tag octets) o.form g.opened g.list
+    → HasGrown b k g → Fits b k o.header o.len o.tag o.form g.opened g.list
 short_fits b octets k o g taken may h =
     let short = may.short in
-    let tag = take o.tag octets in
-    let len : length (header_of tag o.form o.len) ≡ o.header =
+    let len : length (header_of o.tag o.form o.len) ≡ o.header =
     omega (arith, ap length short.is, length-take o.header octets, short.within) in
     let room : o.header + o.len ≤ room_of (k.max - length b) k.rooms =
     subst (λ (c : ℕ). o.header + o.len ≤ room_of (k.max - c) k.rooms) (sym taken.count) may.room in
@@ -171,24 +170,24 @@ kind_open b octets k m (suc n) true o outer list room h same bit inside is some 
       value = None;
     })) (sym same) now
 
--- the header with its tag
-abbrev pub header_in : List ℕ → ShortHeader → ObjectHeader
-header_in octets o = record { tag = take o.tag octets; form = o.form; len = o.len }
+-- what a short header says of its object
+abbrev pub object_of : ShortHeader → ObjectHeader
+object_of o = record { tag = o.tag; form = o.form; len = o.len }
 
 -- an object with a short header is whole
 pub short_item : (b octets : List ℕ) (k : Kept) (o : ShortHeader) (g : Grown) (item : Tree) → TakesShort b k octets o g
-    → opened o.is_constructed o.len ≡ [] → IsWholeItem (header_in octets o) (value_in octets o) item
+    → opened o.is_constructed o.len ≡ [] → IsWholeItem (object_of o) (value_in octets o) item
     → ClosingSome (b ++ take (taken_of o) octets) (after_short k o).rooms g.opened (join g.list item)
 short_item b octets k o g item t none is =
     let short = t.may.short in
-    kind_item b octets k o.header o.len o.is_constructed (header_in octets o) g.opened g.list item
+    kind_item b octets k o.header o.len o.is_constructed (object_of o) g.opened g.list item
     (short_fits b octets k o g t.taken t.may t.grown) t.are short.bit t.may.here short.is none is
 
 -- or it is open
 pub short_open : (b octets : List ℕ) (k : Kept) (o : ShortHeader) (g : Grown) (room : ℕ) → TakesShort b k octets o g
     → opened o.is_constructed o.len ≡ room ∷ []
-    → HasGrown (b ++ take (taken_of o) octets) (after_short k o) (entering g (header_in octets o))
+    → HasGrown (b ++ take (taken_of o) octets) (after_short k o) (entering g (object_of o))
 short_open b octets k o g room t some =
     let short = t.may.short in
-    kind_open b octets k o.header o.len o.is_constructed (header_in octets o) g.opened g.list room
+    kind_open b octets k o.header o.len o.is_constructed (object_of o) g.opened g.list room
     (short_fits b octets k o g t.taken t.may t.grown) refl short.bit t.may.here short.is some

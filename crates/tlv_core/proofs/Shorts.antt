@@ -7,7 +7,7 @@ use Rattle.std.proofs.Math.Seq.{take-add}
 use Rattle.octet_core.specs.Octets.{AreOctets}
 use Rattle.octet_core.proofs.Lists.{octets-take, octets-drop}
 use Rattle.tlv_core.specs.declared.form.Form.{Form}
-use Rattle.tlv_core.specs.Form.{capacity}
+use Rattle.tlv_core.specs.Form.{capacity, further}
 use Rattle.tlv_core.specs.declared.short.ShortHeader.{ShortHeader}
 use Rattle.tlv_core.specs.declared.short.ShortLength.{ShortLength}
 use Rattle.tlv_core.specs.Tag.{IsTag, constructed_bit, header_of}
@@ -112,7 +112,7 @@ pub short_taken : (b octets : List ℕ) (k : Kept) (o : ShortHeader) → MayCome
     → HasTaken b k → HasTaken (b ++ take (taken_of o) octets) (after_short k o)
 short_taken b octets k o may are h =
     let short = may.short in
-    by_kind b octets k o.header o.len o.is_constructed (take o.tag octets) o.form (ready b k h may.nothing may.idle) are
+    by_kind b octets k o.header o.len o.is_constructed o.tag o.form (ready b k h may.nothing may.idle) are
     (omega (arith, may.shallow)) short.is_tag short.bit short.fits may.here short.is may.room
 
 -- ---- what is kept then
@@ -170,6 +170,14 @@ kept_short max count m c t w o ends now from m_is c_is t_is w_is is =
     (is ∙ ap (λ (n : ℕ). open_after (count + n) (ends ++ (count + w) ∷ [])) t_is
     ∙ ap (λ (n : ℕ). open_after (count + taken_of o) (ends ++ (count + n) ∷ [])) w_is)
 
+header_first : (c : Bool) (h n : ℕ) → h ≤ cond c h (h + n)
+header_first true h n = omega arith
+header_first false h n = omega arith
+
+-- what is taken has the header
+pub header_taken : (o : ShortHeader) → o.header ≤ taken_of o
+header_taken o = header_first o.is_constructed o.header o.len
+
 kind_within : (c : Bool) (h n : ℕ) → cond c h (h + n) ≤ h + n
 kind_within true h n = omega arith
 kind_within false h n = omega arith
@@ -193,16 +201,19 @@ bit_of (x ∷ octets) (suc t) false some is_tag e =
     ]
 
 -- a tag and a length field are a header
-pub joined : (octets : List ℕ) (t : ℕ) (c : Bool) (l : ShortLength) → IsTag (take t octets) → 0 < t → t ≤ length octets
+pub joined : (octets : List ℕ) (t m : ℕ) (c : Bool) (l : ShortLength) → IsTag (take t octets) → 0 < t
+    → t ≤ length octets → m ≡ t + (1 + further l.form)
     → IsTrue c ↔ (slice_index octets 0 / 32 % 2 ≡ 1) → IsShortLength (drop t octets) l
-    → IsShort octets (record { tag = t; form = l.form; header = t + l.octets; is_constructed = c; len = l.len })
-joined octets t c l is_tag some inside e h =
+    → IsShort octets
+    (record { tag = take t octets; form = l.form; header = m; is_constructed = c; len = l.len })
+joined octets t m c l is_tag some inside more e h =
     record {
       is_tag = is_tag;
-      longer = omega (arith, h.some);
-      within = omega (arith, h.within, length-drop t octets);
+      longer = omega (arith, more, length-take t octets);
+      within = omega (arith, more, h.within, length-drop t octets);
       fits = h.fits;
-      is = take-add t l.octets octets ∙ ap (λ (rest : List ℕ). take t octets ++ rest) h.is;
+      is = ap (λ (n : ℕ). take n octets) more ∙ take-add t (1 + further l.form) octets
+          ∙ ap (λ (rest : List ℕ). take t octets ++ rest) h.is;
       bit = bit_of octets t c some is_tag e;
     }
 
@@ -213,24 +224,14 @@ at_front octets front o same few inside h =
     let alike : (n : ℕ) → n ≤ o.header → take n front ≡ take n octets =
     λ n le. sym (take-take n (length octets) front (omega (arith, le)))
     ∙ ap (take n) same ∙ take-take n 8 octets (omega (arith, le, h.within)) in
-    let tag : take o.tag front ≡ take o.tag octets = alike o.tag (omega (arith, h.longer)) in
     record {
-      is_tag = subst IsTag tag h.is_tag;
+      is_tag = h.is_tag;
       longer = h.longer;
       within = inside;
       fits = h.fits;
-      is =
-          sym (alike o.header (omega arith)) ∙ h.is ∙ ap (λ (t : List ℕ). header_of t o.form o.len) tag;
-      bit = ap constructed_bit (sym tag) ∙ h.bit;
+      is = sym (alike o.header (omega arith)) ∙ h.is;
+      bit = h.bit;
     }
-
--- a tag has at most three octets
-pub tag_few : (tag : List ℕ) → IsTag tag → length tag ≤ 3
-tag_few [] h = absurd h
-tag_few (x ∷ []) h = omega arith
-tag_few (x ∷ y ∷ []) h = omega arith
-tag_few (x ∷ y ∷ z ∷ []) h = omega arith
-tag_few (x ∷ y ∷ z ∷ w ∷ more) h = absurd h
 
 first_three : (front : List ℕ) → 3 ≤ length front
     → slice_index front 0 ∷ slice_index front 1 ∷ slice_index front 2 ∷ [] ≡ take 3 front
@@ -239,20 +240,10 @@ first_three (x ∷ []) le = absurd (omega arith)
 first_three (x ∷ y ∷ []) le = absurd (omega arith)
 first_three (x ∷ y ∷ z ∷ more) le = refl
 
--- and so has that of a short header
-pub few_in_tag : (octets : List ℕ) (o : ShortHeader) → IsShort octets o → o.tag ≤ 3
-few_in_tag octets o h =
-    omega (arith, tag_few (take o.tag octets) h.is_tag, length-take o.tag octets, h.longer, h.within)
-
--- it is at the front, among the first three octets
-pub tag_in_front : (octets front : List ℕ) (o : ShortHeader) → take (length octets) front ≡ take 8 octets
-    → 3 ≤ length front → IsShort octets o
-    → take o.tag (slice_index front 0 ∷ slice_index front 1 ∷ slice_index front 2 ∷ []) ≡ take o.tag octets
-tag_in_front octets front o same three h =
-    let few : o.tag ≤ 3 = few_in_tag octets o h in
-    ap (take o.tag) (first_three front three) ∙ take-take o.tag 3 front few
-    ∙ sym (take-take o.tag (length octets) front (omega (arith, h.longer, h.within))) ∙ ap (take o.tag) same
-    ∙ take-take o.tag 8 octets (omega (arith, few))
+-- a tag is among the first three octets
+pub tag_in_front : (front : List ℕ) (t : ℕ) → 3 ≤ length front → t ≤ 3
+    → take t (slice_index front 0 ∷ slice_index front 1 ∷ slice_index front 2 ∷ []) ≡ take t front
+tag_in_front front t three few = ap (take t) (first_three front three) ∙ take-take t 3 front few
 
 -- ---- the tag that is made of three octets and a count
 

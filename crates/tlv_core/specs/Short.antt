@@ -3,7 +3,7 @@ use Rattle.std.specs.Prelude.{◌≡◌, ℕ, ◌+◌, ◌-◌, ◌<◌, ◌≤�
 use Rattle.std.proofs.Common.{zero, suc}
 use Rattle.tlv_core.specs.declared.short.ShortHeader.{ShortHeader}
 use Rattle.tlv_core.specs.declared.short.ShortLength.{ShortLength}
-use Rattle.tlv_core.specs.Form.{capacity}
+use Rattle.tlv_core.specs.Form.{capacity, further}
 use Rattle.tlv_core.specs.Tag.{IsTag, constructed_bit, header_of, length_field}
 use Rattle.tlv_core.specs.Reasons.{Kept, room_of}
 use Rattle.tlv_core.specs.Steps.{spent}
@@ -22,20 +22,18 @@ whole_of o = o.header + o.len
 
 -- the octets begin with this length field
 pub record IsShortLength (octets : List ℕ) (l : ShortLength) : Type 0 where
-  pub some : 0 < l.octets
-  pub few : l.octets ≤ 3
-  pub within : l.octets ≤ length octets
+  pub within : 1 + further l.form ≤ length octets
   pub fits : l.len < capacity l.form
-  pub is : take l.octets octets ≡ length_field l.form l.len
+  pub is : take (1 + further l.form) octets ≡ length_field l.form l.len
 
 -- the octets begin with this header
 pub record IsShort (octets : List ℕ) (o : ShortHeader) : Type 0 where
-  pub is_tag : IsTag (take o.tag octets)
-  pub longer : o.tag < o.header
+  pub is_tag : IsTag o.tag
+  pub longer : length o.tag < o.header
   pub within : o.header ≤ length octets
   pub fits : o.len < capacity o.form
-  pub is : take o.header octets ≡ header_of (take o.tag octets) o.form o.len
-  pub bit : constructed_bit (take o.tag octets) ≡ cond o.is_constructed 1 0
+  pub is : take o.header octets ≡ header_of o.tag o.form o.len
+  pub bit : constructed_bit o.tag ≡ cond o.is_constructed 1 0
 
 -- the room in the object, where it is open then
 abbrev pub opened : Bool → ℕ → List ℕ

@@ -185,10 +185,9 @@ fn take_shorts<'a>(
     let mut ends = from;
     while let Some(short) = ends.next_short(&octets[ends.count()..]) {
         let depth = ends.level() + 1;
-        let start = ends.count();
-        let place = start + usize::from(short.header);
+        let place = ends.count() + usize::from(short.header);
         ends.pass(short);
-        keep(parts, depth, short.object(&octets[start..]), octets, place)?;
+        keep(parts, depth, short.object(), octets, place)?;
     }
     Ok(ends)
 }

@@ -124,7 +124,7 @@ impl OpenEnds {
             return None;
         }
         let object = short_header(octets)?;
-        if object.taken() > octets.len() || object.whole() > self.room() {
+        if object.whole() > self.room() {
             return None;
         }
         Some(object)

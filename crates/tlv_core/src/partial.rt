@@ -116,24 +116,17 @@ impl Partial {
         Vec::from_slice(self.alloc, octets)
     }
 
-    /// Takes an object with a short header at the front of the octets, with this for the octets of its
-    /// value, or the header of a constructed one. After it `level` objects are open.
-    pub(crate) fn take_short(
-        &mut self,
-        short: ShortHeader,
-        octets: &[u8],
-        value: Vec<u8>,
-        level: usize,
-    )
+    /// Takes an object with a short header, with these for the octets of its value, or the header of a
+    /// constructed one. After it `level` objects are open.
+    pub(crate) fn take_short(&mut self, short: ShortHeader, value: Vec<u8>, level: usize)
         requires room { vec_len self.old.list < vec_capacity self.old.list }
-        requires value { value.items ≡ value_in octets.now short }
-        requires step { (b : List ℕ) × (k : Kept)
-            × TakesShort b k octets.now short (grown_of self.old) }
-        ensures { (b : List ℕ) (k : Kept) → TakesShort b k octets.now short (grown_of self.old)
-            → length (after_short k short).rooms ≡ level
-            → HasGrown (b ++ take (taken_of short) octets.now) (after_short k short) (grown_of self.new) }
+        requires step { (b octets : List ℕ) × (k : Kept)
+            × TakesShort b k octets short (grown_of self.old) }
+        ensures { (b octets : List ℕ) (k : Kept) → TakesShort b k octets short (grown_of self.old)
+            → value.items ≡ value_in octets short → length (after_short k short).rooms ≡ level
+            → HasGrown (b ++ take (taken_of short) octets) (after_short k short) (grown_of self.new) }
     {
-        let header = short.object(octets);
+        let header = short.object();
         match short.opens() {
             Some(_) => self.open(header),
             None => {

@@ -145,8 +145,7 @@ impl ForestReader {
         if let Some(short) = self.progress.next_short(octets) {
             let value = self.tree.copied(short.value(octets))?;
             self.progress.pass(short);
-            self.tree
-                .take_short(short, octets, value, self.progress.level());
+            self.tree.take_short(short, value, self.progress.level());
             return Ok(short.taken());
         }
         match self.progress.take(octets[0]) {

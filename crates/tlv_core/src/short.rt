@@ -11,8 +11,8 @@ use crate::tag::{Tag, is_constructed, is_long};
 /// The header of an object whose length field has at most three octets.
 #[derive(Clone, Copy)]
 pub(crate) struct ShortHeader {
-    /// The number of its tag's octets, 1 to 3.
-    pub(crate) tag: u8,
+    /// Its tag.
+    pub(crate) tag: Tag,
     /// The form of its length field.
     pub(crate) form: Form,
     /// The number of its octets, 2 to 6.
@@ -26,8 +26,6 @@ pub(crate) struct ShortHeader {
 #[derive(Clone, Copy)]
 pub(crate) struct ShortLength {
     pub(crate) form: Form,
-    /// The number of its octets, 1 to 3.
-    pub(crate) octets: u8,
     /// The length that it says.
     pub(crate) len: u16,
 }
@@ -75,19 +73,12 @@ impl ShortHeader {
         &octets[usize::from(self.header)..self.taken()]
     }
 
-    /// The same header, with its tag, which is at the front of these octets.
-    pub(crate) fn object(&self, octets: &[u8]) -> ObjectHeader
-        requires { IsShort octets.now self.now }
-        ensures { result ≡ record {
-          tag = take self.now.tag octets.now;
-          form = self.now.form;
-          len =
-              self.now.len;
-        } }
+    /// What the header says of its object.
+    pub(crate) fn object(&self) -> ObjectHeader
+        ensures { result ≡ record { tag = self.now.tag; form = self.now.form; len = self.now.len } }
     {
-        let front = front_of(octets);
         ObjectHeader {
-            tag: Tag::front([front[0], front[1], front[2]], self.tag),
+            tag: self.tag,
             form: self.form,
             len: u32::from(self.len),
         }
@@ -97,13 +88,14 @@ impl ShortHeader {
 /// So many octets are copied to read a short header, which has at most six: eight are copied at once.
 const FRONT: usize = 8;
 
-/// The short header with which these octets begin, if they do.
+/// The short header with which these octets begin, where all of the object that is taken at once is here.
 #[inline(always)]
 pub(crate) fn short_header(octets: &[u8]) -> Option<ShortHeader>
-    ensures { IfSome result (IsShort octets.now) }
+    ensures { IfSome result
+        (λ object. IsShort octets.now object × (taken_of object ≤ length octets.now)) }
 {
     let found = header_at(&front_of(octets))?;
-    if usize::from(found.header) > octets.len() {
+    if found.taken() > octets.len() {
         return None;
     }
     Some(found)
@@ -118,6 +110,16 @@ fn front_of(octets: &[u8]) -> [u8; FRONT]
     if let Some(front) = octets.first_chunk::<FRONT>() {
         return *front;
     }
+    front_of_few(octets)
+}
+
+/// Fewer octets, with zeros after them. It is a function of its own: in line, its array is cleared for every header.
+#[cold]
+#[inline(never)]
+fn front_of_few(octets: &[u8]) -> [u8; FRONT]
+    requires { length octets.now < 8 }
+    ensures { take (length octets.now) result ≡ take 8 octets.now }
+{
     let mut front = [0; FRONT];
     front[..octets.len()].copy_from_slice(octets);
     front
@@ -128,12 +130,12 @@ fn front_of(octets: &[u8]) -> [u8; FRONT]
 fn header_at(front: &[u8; FRONT]) -> Option<ShortHeader>
     ensures { IfSome result (IsShort front.now) }
 {
-    let tag = tag_at(front)?;
-    let length = length_at(front, tag)?;
+    let count = tag_at(front)?;
+    let length = length_at(front, count)?;
     Some(ShortHeader {
-        tag,
+        tag: Tag::front([front[0], front[1], front[2]], count),
         form: length.form,
-        header: tag + length.octets,
+        header: count + 1 + length.form.further(),
         is_constructed: is_constructed(front[0]),
         len: length.len,
     })
@@ -166,18 +168,15 @@ fn length_at(front: &[u8; FRONT], tag: u8) -> Option<ShortLength>
     match first {
         0x81 => Some(ShortLength {
             form: Form::Two,
-            octets: 2,
             len: u16::from(second),
         }),
         0x82 => Some(ShortLength {
             form: Form::Three,
-            octets: 3,
             len: u16::from(second) * 0x100 + u16::from(third),
         }),
         0x80.. => None,
         _ => Some(ShortLength {
             form: Form::One,
-            octets: 1,
             len: u16::from(first),
         }),
     }

@@ -18,8 +18,8 @@ returns-then-parts-out-clause-array c =
     sym (buffer-lacks (map part_put c.args.parts.now) c.args.out.now
     (omega (arith, length-map c.args.parts.now part_put, c.if-parts-out.true)))
 
-pub shown-requires : goal.shown-requires
-shown-requires c = shallow-part c.args.parts.now c.loop-index.index c.index-parts-index.result c.requires
+pub put_part-requires : goal.put_part-requires
+put_part-requires c = shallow-part c.args.parts.now c.loop-index.index c.index-parts-index.result c.requires
     c.loop-index-test.true c.index-parts-index.is
 
 pub loop-index-preserved : goal.loop-index-preserved
@@ -30,18 +30,19 @@ loop-index-preserved c =
     let inside = c.loop-index-test.true in
     let all : List CPart = map part_put parts in
     let size = length-map parts part_put in
-    let shown : c.shown.result ≡ get_or all i c.shown.result =
-    c.shown.ensures ∙ ap part_put c.index-parts-index.is
-    ∙ sym (get_or-map part_put parts i x c.shown.result inside) in
+    let shown : c.put_part.new.place ≡ get_or all i c.put_part.new.place =
+    c.put_part.ensures ∙ ap part_put c.index-parts-index.is
+    ∙ sym (get_or-map part_put parts i x c.put_part.new.place inside) in
     let out = c.loop-index.out in
     let room : i < length out = omega (arith, inside, c.loop-index.invariant.size, c.if-parts-out.false) in
     record {
-      size = length-set c.loop-index.out i c.shown.result ∙ c.loop-index.invariant.size;
-      done = take_more_set out i c.shown.result room
-          ∙ ap (λ (l : List CPart). l ++ c.shown.result ∷ []) c.loop-index.invariant.done
+      size = length-set c.loop-index.out i c.put_part.new.place ∙ c.loop-index.invariant.size;
+      done = take_more_set out i c.put_part.new.place room
+          ∙ ap (λ (l : List CPart). l ++ c.put_part.new.place ∷ []) c.loop-index.invariant.done
           ∙ ap (λ (y : CPart). take i all ++ y ∷ []) shown
-          ∙ sym (take_more all i c.shown.result (omega (arith, size, inside)));
-      rest = drop-set-lt (i + 1) c.loop-index.out i c.shown.result (omega arith) ∙ sym (drop-drop 1 i c.loop-index.out)
+          ∙ sym (take_more all i c.put_part.new.place (omega (arith, size, inside)));
+      rest = drop-set-lt (i + 1) c.loop-index.out i c.put_part.new.place (omega arith)
+          ∙ sym (drop-drop 1 i c.loop-index.out)
           ∙ ap (drop 1) c.loop-index.invariant.rest ∙ drop-drop 1 i c.args.out.now;
     }
 

@@ -1,5 +1,4 @@
 use Rattle.std.proofs.Common.{List, ap, subst, sym, ◌∙◌}
-use Rattle.tlv_core.specs.Flat.{PartValue}
 use Rattle.scard_c.specs.declared.parts.CPart.{CPart}
 use Rattle.scard_c.specs.Parts.{AreShallow}
 use Rattle.scard_c.specs.Verdict.{put_verdict, put_into}

@@ -19,22 +19,18 @@ loop-short-preserved c =
     let o = c.in-Some.short in
     let old = l.parts.items in
     let new = c.keep.new.parts.items in
-    let start = c.count-start.result in
     let octets : AreOctets b = λ i. omega (arith, c.type_inv.octets i) in
     let from = c.count.result in
-    let here : take (length b - start) (drop start b) ≡ drop k.count b =
-    take_rest b start ∙ ap (λ (n : ℕ). drop n b) c.count-start.ensures in
     let first : take (length b - from) (drop from b) ≡ drop k.count b =
     take_rest b from ∙ ap (λ (n : ℕ). drop n b) c.count.ensures in
     let may : MayCome k (drop k.count b) o = subst (λ (l : List ℕ). MayCome k l o) first c.in-Some.ensures in
     let depth : c.level-depth.result + 1 ≡ 1 + length k.rooms =
     omega (arith, c.level-depth.ensures, length-rooms k.count (ends_of l.ends)) in
-    let place : start + c.from.result ≡ k.count + o.header = omega (arith, c.count-start.ensures, c.from.ensures) in
-    let object : c.object.result ≡ record { tag = take o.tag (drop k.count b); form = o.form; len = o.len } =
-    c.object.ensures ∙ ap (λ (l : List ℕ). record { tag = take o.tag l; form = o.form; len = o.len }) here in
+    let start = c.count-in-Some.result in
+    let place : start + c.from.result ≡ k.count + o.header = omega (arith, c.count-in-Some.ensures, c.from.ensures) in
     let at : Placed = record {
       depth = 1 + length k.rooms;
-      tag = take o.tag (drop k.count b);
+      tag = o.tag;
       form = o.form;
       place =
           k.count + o.header;
@@ -55,10 +51,10 @@ loop-short-preserved c =
       place =
           start + c.from.result;
       len = p.len;
-    }) object
+    }) c.object.ensures
     ∙ ap (λ (d : ℕ). record {
       depth = d;
-      tag = take o.tag (drop k.count b);
+      tag = o.tag;
       form = o.form;
       place =
           start + c.from.result;
@@ -66,7 +62,7 @@ loop-short-preserved c =
     }) depth
     ∙ ap (λ (p : ℕ). record {
       depth = 1 + length k.rooms;
-      tag = take o.tag (drop k.count b);
+      tag = o.tag;
       form = o.form;
       place =
           p;

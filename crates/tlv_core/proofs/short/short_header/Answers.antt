@@ -1,8 +1,11 @@
-use Rattle.std.proofs.Common.{arith}
-use Rattle.tlv_core.proofs.Shorts.{at_front}
+use Rattle.std.proofs.Common.{◌≤◌, length, arith}
+use Rattle.tlv_core.specs.Short.{taken_of}
+use Rattle.tlv_core.proofs.Shorts.{at_front, header_taken}
 use Rattle.tlv_core.proofs.short.short_header.Goals as goal
 
 pub returns : goal.returns
 returns c =
-    at_front c.args.octets.now c.front_of.result c.in_ok-found.found c.front_of.ensures (omega arith)
-    (omega (arith, c.from.ensures, c.if-from-octets.false)) c.in_ok-found.ensures
+    let o = c.in_ok-found.found in
+    let here : taken_of o ≤ length c.args.octets.now = omega (arith, c.taken.ensures, c.if-taken-octets.false) in
+    let inside : o.header ≤ length c.args.octets.now = omega (arith, header_taken o, here) in
+    (at_front c.args.octets.now c.front_of.result o c.front_of.ensures (omega arith) inside c.in_ok-found.ensures, here)

@@ -15,32 +15,30 @@ pub open-requires-clause-shallow : goal.open-requires-clause-shallow
 open-requires-clause-shallow c =
     let old = c.args.self.now in
     let g = grown_of old in
-    let t = c.requires.step.2 in
+    let t = c.requires.step.3 in
     omega (
       arith,
       t.may.shallow,
-      open_length g.opened c.requires.step.1.rooms 1 _ c.requires.step.0 t.grown.opened,
+      open_length g.opened c.requires.step.2.rooms 1 _ c.requires.step.0 t.grown.opened,
       length-map old.opened.items opened_of,
     )
 
 pub returns-in-Some : goal.returns-in-Some
-returns-in-Some c b k t e =
+returns-in-Some c b octets k t v e =
     let g = grown_of c.args.self.now in
     let o = c.args.short in
-    let octets = c.args.octets.now in
     subst (HasGrown (b ++ take (taken_of o) octets) (after_short k o))
     (sym (c.open.ensures ∙ ap (entering g) c.object-header.ensures))
     (short_open b octets k o g _ t c.in-Some.ensures.some.2)
 
 pub returns-in-None : goal.returns-in-None
-returns-in-None c b k t e =
+returns-in-None c b octets k t v e =
     let old = c.args.self.now in
     let new = c.add.new.self in
     let o = c.args.short in
-    let octets = c.args.octets.now in
     let y = c.whole-node.result in
     let all = b ++ take (taken_of o) octets in
-    let whole = subst (λ (v : List ℕ). IsWholeItem c.object-header.result v (tree_of (y ∷ []))) c.requires.value
+    let whole = subst (λ (v : List ℕ). IsWholeItem c.object-header.result v (tree_of (y ∷ []))) v
     (whole_tree c.object-header.result c.args.value.items y c.whole-node.ensures) in
     let is = subst (λ (h : ObjectHeader). IsWholeItem h (value_in octets o) (tree_of (y ∷ []))) c.object-header.ensures
     whole in

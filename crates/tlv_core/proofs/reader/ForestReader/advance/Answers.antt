@@ -97,9 +97,9 @@ at_once c b h =
     let octets : AreOctets c.args.octets.now = λ i. omega (arith, c.type_inv.octets i) in
     let level : length (after_short k o).rooms ≡ c.level-in-Some.result =
     ap (λ (l : Kept). length l.rooms) (sym c.pass.ensures.after) ∙ sym c.level-in-Some.ensures in
-    let grown = c.take_short.ensures b k (record
+    let grown = c.take_short.ensures b c.args.octets.now k (record
     { taken = h.taken; are = octets; may = may; grown = subst (HasGrown b k) (sym c.reserve.ensures.same) h.grown })
-    level in
+    (c.in_ok-value.ensures ∙ c.value.ensures) level in
     subst (λ (m : ℕ). HasBegun (b ++ take m c.args.octets.now)
     (reading_of c.pass.new.self c.take_short.new.self c.self.inside.refusal)) (sym c.taken.ensures)
     (subst (λ (l : Kept). HasBegun (b ++ take (taken_of o) c.args.octets.now)

@@ -1,6 +1,6 @@
 use Rattle.std.proofs.Common.{◌≡◌, length, rules}
 use Rattle.tlv_core.specs.Tag.{length_field}
-use Rattle.scard_c.proofs.parts.shown.Goals as goal
+use Rattle.scard_c.proofs.parts.put_part.Goals as goal
 
 pub returns : goal.returns
 returns c =
