@@ -29,6 +29,7 @@ fn main(rt: HostRuntime) -> io::Result<ExitCode> {
         ("forests", objects::forests(rt.alloc())),
         ("forests in pieces", objects::pieces(rt.alloc())),
         ("parts", objects::parts(rt.alloc())),
+        ("placed parts", objects::places(rt.alloc())),
         ("lists", objects::lists(rt.alloc())),
         ("session", session::longest(rt.alloc())),
         ("recorder", exchanges::recorded(rt.alloc())),

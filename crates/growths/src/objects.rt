@@ -4,7 +4,8 @@ use crate::outcome::Outcome;
 use octet_core::{Format, Octets, Refused};
 use std::alloc::{AllocError, Global};
 use tlv_core::{
-    Dol, FillFault, FlatForest, Forest, ForestReader, Known, Tag, decode, encode, fill, tidy,
+    Dol, FillFault, FlatForest, Forest, ForestReader, Known, Tag, decode, encode, fill,
+    placed_parts, tidy,
 };
 
 /// A forest with fillers, nested objects and a long form.
@@ -78,6 +79,15 @@ fn is_spelled(alloc: Global, forest: &Forest) -> Result<bool, AllocError> {
 pub(crate) fn parts(alloc: Global) -> Outcome {
     match FlatForest::read(alloc, &FOREST, FOREST.len()) {
         Ok(forest) if forest.parts().len() == 6 => Outcome::Right,
+        Err(Refused::Memory) => Outcome::Memory,
+        _ => Outcome::Wrong,
+    }
+}
+
+/// The parts of a forest are placed.
+pub(crate) fn places(alloc: Global) -> Outcome {
+    match placed_parts(alloc, &FOREST, FOREST.len()) {
+        Ok(parts) if parts.len() == 6 => Outcome::Right,
         Err(Refused::Memory) => Outcome::Memory,
         _ => Outcome::Wrong,
     }

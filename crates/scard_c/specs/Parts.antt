@@ -8,8 +8,8 @@ use Rattle.tlv_core.specs.Forest.{IsForest, spelling}
 use Rattle.tlv_core.specs.Parts.{Placed, value_place, preorder, first_on}
 use Rattle.tlv_core.specs.declared.node.Node.{Node}
 use Rattle.tlv_core.specs.declared.node.Node.TheVariants as node
-use Rattle.tlv_core.specs.declared.part.Part.{Part}
-use Rattle.tlv_core.specs.Flat.{PartValue, part_seen}
+use Rattle.tlv_core.specs.declared.part.PlacedPart.{PlacedPart}
+use Rattle.tlv_core.specs.Flat.{placed_of}
 use Rattle.scard_c.specs.Verdict.{put_verdict, put_into}
 use Rattle.scard_c.specs.declared.verdict.Verdict.{Verdict}
 use Rattle.scard_c.specs.declared.parts.CTag.{CTag}
@@ -44,18 +44,9 @@ pub record PutsParts (max : ℕ) (octets : List ℕ) (old new : List CPart) (v :
 
 -- ---- one part after another
 
--- an object with its place, without the octets of its value
-abbrev pub placed_of : PartValue → Placed
-placed_of p = record { depth = p.depth; tag = p.tag; form = p.form; place = p.place; len = length p.value }
-
 -- a part as it is put into the array
-abbrev pub part_put : Part → CPart
-part_put part = part_shown (placed_of (part_seen part))
-
--- none is deeper than an object of a forest
-abbrev pub AreShallow : List PartValue → Type 0
-AreShallow [] = Unit {0}
-AreShallow (p ∷ parts) = (p.depth ≤ 16) × AreShallow parts
+abbrev pub part_put : PlacedPart → CPart
+part_put part = part_shown (placed_of part)
 
 -- ---- the first object on a path of tags
 

@@ -5,14 +5,13 @@ ghost use Rattle.octet_core.specs.Grammar.{whole, Refuses};
 ghost use Rattle.tlv_core.specs.Forest.{IsForest, IsProper, largest};
 ghost use Rattle.tlv_core.specs.Tree.{Tree};
 ghost use Rattle.tlv_core.specs.Reasons.{IsReason};
-ghost use Rattle.tlv_core.specs.Flat.{part_seen};
 ghost use Rattle.scard_c.specs.Verdict.{IsRefusal, Tells, put_verdict, put_into, no_memory, wrong_argument};
 ghost use Rattle.scard_c.specs.Tlv.{tlv_reason};
-ghost use Rattle.scard_c.specs.Parts.{PutsParts, AreShallow, part_put, tag_shown, tag_of, tag_is, is_on, found, parts_shown, FindsFirst};
+ghost use Rattle.scard_c.specs.Parts.{PutsParts, part_put, tag_shown, tag_of, tag_is, is_on, found, parts_shown, FindsFirst};
 
 use crate::verdict::Verdict;
 use std::alloc::Global;
-use tlv_core::{FlatForest, LARGEST_FOREST, Part, Tag};
+use tlv_core::{LARGEST_FOREST, PlacedPart, Tag, placed_parts};
 
 /// A tag: `count` octets, 1 to 3, and 0 after them.
 #[repr(C)]
@@ -61,8 +60,8 @@ pub extern "C" fn scard_tlv_parts(
     if max > LARGEST_FOREST {
         return Verdict::argument();
     }
-    match FlatForest::read(alloc, octets, max) {
-        Ok(forest) => put_parts(forest.parts(), out),
+    match placed_parts(alloc, octets, max) {
+        Ok(parts) => put_parts(parts.as_slice(), out),
         Err(refused) => Verdict::refused(refused),
     }
 }
@@ -123,8 +122,7 @@ pub(crate) fn octets_of(tag: &CTag) -> &[u8]
 }
 
 /// Puts parts into an array, if it has room for them.
-fn put_parts(parts: &[Part<'_>], out: &mut [CPart]) -> Verdict
-    requires { AreShallow (map part_seen parts.now) }
+fn put_parts(parts: &[PlacedPart], out: &mut [CPart]) -> Verdict
     ensures verdict { result ≡ put_verdict (map part_put parts.now) out.old }
     ensures array { out.new ≡ put_into (map part_put parts.now) out.old }
     ensures stays { result.status ≢ 0 → out.new ≡ out.old }
@@ -139,16 +137,15 @@ fn put_parts(parts: &[Part<'_>], out: &mut [CPart]) -> Verdict
 }
 
 /// Puts a part into its place, field by field: as a whole, the octets between fields would be written too.
-fn put_part(part: &Part<'_>, place: &mut CPart)
-    requires { part.now.depth ≤ 16 }
+fn put_part(part: &PlacedPart, place: &mut CPart)
     ensures { place.new ≡ part_put part.now }
 {
-    place.depth = part.depth as u8;
+    place.depth = part.depth;
     place.is_constructed = u8::from(part.tag.is_constructed());
     place.len_octets = part.form.octets() as u8;
     place.tag = tag_shown(&part.tag);
-    place.place = part.place;
-    place.len = part.value.len();
+    place.place = part.place as usize;
+    place.len = part.len as usize;
 }
 
 fn tag_shown(tag: &Tag) -> CTag

@@ -5,7 +5,6 @@ use Rattle.std.proofs.lemmas.List.{length-take, length-drop, map-append}
 use Rattle.octet_core.specs.Octets.{AreOctets}
 use Rattle.octet_core.proofs.Lists.{octets-take, octets-drop}
 use Rattle.tlv_core.specs.declared.form.Form.{Form}
-use Rattle.tlv_core.specs.declared.part.Part.{Part}
 use Rattle.tlv_core.specs.declared.short.ShortHeader.{ShortHeader}
 use Rattle.tlv_core.specs.Tag.{constructed_bit, header_of}
 use Rattle.tlv_core.specs.Tree.{Tree, End, Primitive, Constructed}
@@ -15,7 +14,7 @@ use Rattle.tlv_core.specs.Reasons.{Kept, HasTaken}
 use Rattle.tlv_core.specs.Short.{MayCome, taken_of, opened, after_short}
 use Rattle.tlv_core.specs.Steps.{spent}
 use Rattle.tlv_core.specs.Grown.{Opened, Grown, HasGrown}
-use Rattle.tlv_core.specs.Flat.{PartValue, part_in, placed_at, placed_list, placed, IsKeptPart, HasFlat}
+use Rattle.tlv_core.specs.Flat.{placed_at, placed_list, placed, IsKept, HasFlat}
 use Rattle.tlv_core.proofs.One.{join}
 use Rattle.tlv_core.proofs.Ends.{kept}
 use Rattle.tlv_core.proofs.Fed.{take_taken_more}
@@ -143,24 +142,22 @@ at_once_grew b octets k o g taken may are h =
     may.here short.is)
 
 -- the parts so far, with that of the object
-pub flat_at_once : (b : List ℕ) (k : Kept) (old new : List Part) (o : ShortHeader) → AreOctets b
-    → MayCome k (drop k.count b) o
-    → IsKeptPart b (record {
+pub flat_at_once : {P V : Type 0} (see : P → V) (at : Placed → V) (b : List ℕ) (k : Kept) (old new : List P)
+    (o : ShortHeader) → AreOctets b → MayCome k (drop k.count b) o
+    → IsKept see (at (record {
       depth = 1 + length k.rooms;
       tag = o.tag;
       form = o.form;
-      place =
-          k.count + o.header;
+      place = k.count + o.header;
       len = o.len;
-    }) old new → HasFlat b k old → HasFlat b (after_short k o) new
-flat_at_once b k old new o octets may e h =
+    })) old new → HasFlat see at b k old → HasFlat see at b (after_short k o) new
+flat_at_once {V = V} see at b k old new o octets may e h =
     let rest = drop k.count b in
     let are : AreOctets rest = octets-drop k.count b octets in
     let now = take k.count b in
     let more = added k o.header o.len o.tag o.form in
-    flat_grew b (after_short k o) (now ++ take (taken_of o) rest) (placed h.tree ++ more) new
+    flat_grew see at b (after_short k o) (now ++ take (taken_of o) rest) (placed h.tree ++ more) new
     (omega (arith, may.here, length-drop k.count b, h.within)) (take_taken_more k.count (taken_of o) b)
     (short_taken now rest k o may are h.taken)
     (at_once_grew now rest k o h.tree h.taken may are h.grown)
-    (e ∙ ap (λ (l : List PartValue). l ++ map (part_in b) more) h.parts_are
-    ∙ sym (map-append (part_in b) (placed h.tree) more))
+    (e ∙ ap (λ (l : List V). l ++ map at more) h.parts_are ∙ sym (map-append at (placed h.tree) more))

@@ -6,7 +6,6 @@ use Rattle.octet_core.specs.Octets.{AreOctets}
 use Rattle.octet_core.specs.Grammar.{Refuses, IsFirst, IsShort, whole}
 use Rattle.octet_core.specs.declared.stop.Stop.TheVariants.{At}
 use Rattle.octet_core.proofs.Lists.{octets-take, octets-drop}
-use Rattle.tlv_core.specs.declared.part.Part.{Part}
 use Rattle.tlv_core.specs.declared.header.ObjectHeader.{ObjectHeader}
 use Rattle.tlv_core.specs.declared.header.Next.{Next}
 use Rattle.tlv_core.specs.declared.header.Next.TheVariants as next
@@ -19,7 +18,7 @@ use Rattle.tlv_core.specs.Tag.{constructed_bit}
 use Rattle.tlv_core.specs.Header.{object_in}
 use Rattle.tlv_core.specs.Steps.{after_octet, entered, after_next, after_run, IsStep, IsWrongAfter}
 use Rattle.tlv_core.specs.Grown.{Opened, ValueSoFar, AreOpen, HasGrown}
-use Rattle.tlv_core.specs.Flat.{PartValue, part_in, part_seen, parts_in, placed_in, placed_list, placed, IsKeptPart, HasFlat}
+use Rattle.tlv_core.specs.Flat.{placed_in, placed_list, placed, IsKept, HasFlat}
 use Rattle.tlv_core.proofs.One.{one_forest}
 use Rattle.tlv_core.proofs.Stands.{Nothing}
 use Rattle.tlv_core.proofs.Taken.{taken_of}
@@ -33,10 +32,10 @@ split_at b i lt = sym (take-append-drop (i + 1) b) ∙ ap (λ (l : List ℕ). l 
     ∙ append_assoc (take i b) (get_or b i 0 ∷ []) (drop (i + 1) b)
 
 -- before the first octet
-pub flat_none : (max : ℕ) (k : Kept) (b : List ℕ)
-    → k ≡ record { max = max; count = 0; rooms = []; header = []; value_left = 0 } → HasFlat b k []
-flat_none max k b is =
-    subst (λ (l : Kept). HasFlat b l []) (sym is)
+pub flat_none : {P V : Type 0} (see : P → V) (at : Placed → V) (max : ℕ) (k : Kept) (b : List ℕ)
+    → k ≡ record { max = max; count = 0; rooms = []; header = []; value_left = 0 } → HasFlat see at b k []
+flat_none see at max k b is =
+    subst (λ (l : Kept). HasFlat see at b l []) (sym is)
     (record {
       within = omega arith;
       taken = taken_of max [] [] Nothing (omega arith) (record { done = End; proper = tt; is = refl }) (omega arith)
@@ -47,26 +46,27 @@ flat_none max k b is =
     })
 
 -- what grew, with its parts
-pub flat_grew : (b : List ℕ) (k : Kept) (now : List ℕ) (all : List Placed) (parts : List Part) → k.count ≤ length b
-    → now ≡ take k.count b → HasTaken now k → Grew now k all → map part_seen parts ≡ map (part_in b) all
-    → HasFlat b k parts
-flat_grew b k now all parts le is taken g e =
+pub flat_grew : {P V : Type 0} (see : P → V) (at : Placed → V) (b : List ℕ) (k : Kept) (now : List ℕ)
+    (all : List Placed) (parts : List P) → k.count ≤ length b → now ≡ take k.count b → HasTaken now k → Grew now k all
+    → map see parts ≡ map at all → HasFlat see at b k parts
+flat_grew see at b k now all parts le is taken g e =
     record {
       within = le;
       taken = subst (λ (l : List ℕ). HasTaken l k) is taken;
       tree = g.tree;
       grown = subst (λ (l : List ℕ). HasGrown l k g.tree) is g.grown;
-      parts_are = e ∙ ap (map (part_in b)) (sym g.placed_is);
+      parts_are = e ∙ ap (map at) (sym g.placed_is);
     }
 
 -- a run of a value adds no part
-pub flat_run : (b : List ℕ) (k : Kept) (parts : List Part) (m : ℕ) → AreOctets b → 0 < m → m ≤ k.value_left
-    → m ≤ length b - k.count → HasFlat b k parts → HasFlat b (after_run k m) parts
-flat_run b k parts m octets some le fits h =
+pub flat_run : {P V : Type 0} (see : P → V) (at : Placed → V) (b : List ℕ) (k : Kept) (parts : List P) (m : ℕ)
+    → AreOctets b → 0 < m → m ≤ k.value_left → m ≤ length b - k.count → HasFlat see at b k parts
+    → HasFlat see at b (after_run k m) parts
+flat_run see at b k parts m octets some le fits h =
     let add = take m (drop k.count b) in
     let len : length add ≡ m = omega (arith, length-take m (drop k.count b), length-drop k.count b) in
     let add_octets : AreOctets add = octets-take m (drop k.count b) (octets-drop k.count b octets) in
-    flat_grew b (after_run k m) (take k.count b ++ add) (placed h.tree) parts (omega (arith, h.within))
+    flat_grew see at b (after_run k m) (take k.count b ++ add) (placed h.tree) parts (omega (arith, h.within))
     (take_taken_more k.count m b) (skip_taken (take k.count b) k m add len add_octets some le h.taken)
     (run_grew (take k.count b) k m add h.tree h.taken len add_octets some le h.grown) h.parts_are
 
@@ -81,21 +81,20 @@ after_count k next.Filler = refl
 after_count k (next.Under longer) = refl
 after_count k (next.Object o) = entered_count (after_octet k []) o.len (constructed_bit o.tag)
 
-flat_octet : (b : List ℕ) (k : Kept) (old new : List Part) (next : Next) → k.count < length b → k.value_left ≡ 0
-    → IsStep k (get_or b k.count 0) next → map part_seen new ≡ map part_seen old
-    ++ map (part_in b) (placed_next (1 + length k.rooms) (k.count + 1) next) → HasFlat b k old
-    → HasFlat b (after_next k next) new
-flat_octet b k old new next lt z step e h =
+flat_octet : {P V : Type 0} (see : P → V) (at : Placed → V) (b : List ℕ) (k : Kept) (old new : List P) (next : Next)
+    → k.count < length b → k.value_left ≡ 0 → IsStep k (get_or b k.count 0) next
+    → map see new ≡ map see old ++ map at (placed_next (1 + length k.rooms) (k.count + 1) next)
+    → HasFlat see at b k old → HasFlat see at b (after_next k next) new
+flat_octet {V = V} see at b k old new next lt z step e h =
     let x = get_or b k.count 0 in
     let more = placed_next (1 + length k.rooms) (k.count + 1) next in
     let count = after_count k next in
     let is : take k.count b ++ x ∷ [] ≡ take (after_next k next).count b =
     sym (take_more b k.count 0 lt) ∙ ap (λ (n : ℕ). take n b) (sym count) in
-    flat_grew b (after_next k next) (take k.count b ++ x ∷ []) (placed h.tree ++ more) new (omega arith) is
+    flat_grew see at b (after_next k next) (take k.count b ++ x ∷ []) (placed h.tree ++ more) new (omega arith) is
     (take_taken (take k.count b) k x next z step h.taken)
     (octet_grew (take k.count b) k x next h.tree h.taken z step h.grown)
-    (e ∙ ap (λ (l : List PartValue). l ++ map (part_in b) more) h.parts_are
-    ∙ sym (map-append (part_in b) (placed h.tree) more))
+    (e ∙ ap (λ (l : List V). l ++ map at more) h.parts_are ∙ sym (map-append at (placed h.tree) more))
 
 some_none : (o : ObjectHeader) → Some o ≡ None → ⊥
 some_none o e = cc
@@ -104,33 +103,37 @@ same_some : (p o : ObjectHeader) → Some p ≡ Some o → p ≡ o
 same_some p o e = cc
 
 -- an octet that makes the header of an object whole adds its part
-pub flat_object : (b : List ℕ) (k : Kept) (old new : List Part) (next : Next) (o : ObjectHeader) → k.count < length b
-    → k.value_left ≡ 0 → IsStep k (get_or b k.count 0) next → object_in next ≡ Some o
-    → IsKeptPart b (record { depth = 1 + length k.rooms; tag = o.tag; form = o.form; place = k.count + 1; len = o.len })
-    old new → HasFlat b k old → HasFlat b (after_next k next) new
-flat_object b k old new next.Filler o lt z step is e h = absurd (some_none o (sym is))
-flat_object b k old new (next.Under longer) o lt z step is e h = absurd (some_none o (sym is))
-flat_object b k old new (next.Object p) o lt z step is e h =
-    flat_octet b k old new (next.Object p) lt z step
-    (e ∙ ap (λ (q : ObjectHeader). map part_seen old
-    ++ part_in b (record { depth = 1 + length k.rooms; tag = q.tag; form = q.form; place = k.count + 1; len = q.len }) ∷
-    []) (sym (same_some p o is))) h
+pub flat_object : {P V : Type 0} (see : P → V) (at : Placed → V) (b : List ℕ) (k : Kept) (old new : List P)
+    (next : Next)
+    (o : ObjectHeader) → k.count < length b → k.value_left ≡ 0 → IsStep k (get_or b k.count 0) next
+    → object_in next ≡ Some o
+    → IsKept see
+    (at (record { depth = 1 + length k.rooms; tag = o.tag; form = o.form; place = k.count + 1; len = o.len })) old new
+    → HasFlat see at b k old → HasFlat see at b (after_next k next) new
+flat_object see at b k old new next.Filler o lt z step is e h = absurd (some_none o (sym is))
+flat_object see at b k old new (next.Under longer) o lt z step is e h = absurd (some_none o (sym is))
+flat_object see at b k old new (next.Object p) o lt z step is e h =
+    flat_octet see at b k old new (next.Object p) lt z step
+    (e ∙ ap (λ (q : ObjectHeader). map see old
+    ++ at (record { depth = 1 + length k.rooms; tag = q.tag; form = q.form; place = k.count + 1; len = q.len }) ∷ [])
+    (sym (same_some p o is))) h
 
 -- each other octet that may come adds none
-pub flat_other : (b : List ℕ) (k : Kept) (parts : List Part) (next : Next) → k.count < length b → k.value_left ≡ 0
-    → IsStep k (get_or b k.count 0) next → object_in next ≡ None → HasFlat b k parts
-    → HasFlat b (after_next k next) parts
-flat_other b k parts next.Filler lt z step is h =
-    flat_octet b k parts parts next.Filler lt z step (sym (append-nil (map part_seen parts))) h
-flat_other b k parts (next.Under longer) lt z step is h =
-    flat_octet b k parts parts (next.Under longer) lt z step (sym (append-nil (map part_seen parts))) h
-flat_other b k parts (next.Object o) lt z step is h = absurd (some_none o is)
+pub flat_other : {P V : Type 0} (see : P → V) (at : Placed → V) (b : List ℕ) (k : Kept) (parts : List P) (next : Next)
+    → k.count < length b → k.value_left ≡ 0 → IsStep k (get_or b k.count 0) next → object_in next ≡ None
+    → HasFlat see at b k parts → HasFlat see at b (after_next k next) parts
+flat_other see at b k parts next.Filler lt z step is h =
+    flat_octet see at b k parts parts next.Filler lt z step (sym (append-nil (map see parts))) h
+flat_other see at b k parts (next.Under longer) lt z step is h =
+    flat_octet see at b k parts parts (next.Under longer) lt z step (sym (append-nil (map see parts))) h
+flat_other see at b k parts (next.Object o) lt z step is h = absurd (some_none o is)
 
 -- an octet is refused at its place, for the first line of the table that it meets
-pub flat_refused : (b : List ℕ) (k : Kept) (parts : List Part) (r : TlvReason) → k.count < length b → k.value_left ≡ 0
-    → IsFirst tlv_reasons (IsWrongAfter k (get_or b k.count 0)) r → HasFlat b k parts
+pub flat_refused : {P V : Type 0} (see : P → V) (at : Placed → V) (b : List ℕ) (k : Kept) (parts : List P)
+    (r : TlvReason) → k.count < length b → k.value_left ≡ 0
+    → IsFirst tlv_reasons (IsWrongAfter k (get_or b k.count 0)) r → HasFlat see at b k parts
     → Refuses whole (IsForest k.max) (IsReason k.max) b (At k.count r)
-flat_refused b k parts r lt z first h =
+flat_refused see at b k parts r lt z first h =
     let x = get_or b k.count 0 in
     subst (λ (l : List ℕ). Refuses whole (IsForest k.max) (IsReason k.max) l (At k.count r))
     (sym (split_at b k.count lt)) (refuses_next (take k.count b) k x (drop (k.count + 1) b) r z first h.taken)
@@ -144,15 +147,16 @@ none_open_of (o ∷ opened) [] inner b h e = absurd h
 none_open_of (o ∷ opened) (room ∷ rooms) inner b h e = absurd (omega (arith, ap length e))
 
 -- all the octets were taken
-pub record IsWholeFlat (b : List ℕ) (max : ℕ) (parts : List Part) : Type 0 where
-  pub tree : Tree
-  pub forest : IsForest max tree b
-  pub parts_are : (t : Tree) → IsForest max t b → map part_seen parts ≡ parts_in b t
+pub record IsWholeFlat {P V : Type 0} (see : P → V) (at : Placed → V) (b : List ℕ) (max : ℕ) (parts : List P) : Type 0
+  where
+    pub tree : Tree
+    pub forest : IsForest max tree b
+    pub parts_are : (t : Tree) → IsForest max t b → map see parts ≡ map at (preorder 1 0 t)
 
 -- so it is where nothing is under way at the end
-pub flat_whole : (b : List ℕ) (k : Kept) (parts : List Part) → HasFlat b k parts → length b ≤ k.count → IsIdle k
-    → IsWholeFlat b k.max parts
-flat_whole b k parts h le idle =
+pub flat_whole : {P V : Type 0} (see : P → V) (at : Placed → V) (b : List ℕ) (k : Kept) (parts : List P)
+    → HasFlat see at b k parts → length b ≤ k.count → IsIdle k → IsWholeFlat see at b k.max parts
+flat_whole see at b k parts h le idle =
     let g = h.tree in
     let all : take k.count b ≡ b = take_all k.count b le in
     let forest : IsForest k.max g.list b =
@@ -166,14 +170,14 @@ flat_whole b k parts h le idle =
       tree = g.list;
       forest = forest;
       parts_are =
-          λ t u. h.parts_are ∙ ap (map (part_in b)) placed_is
-          ∙ ap (parts_in b) (one_forest k.max k.max g.list t b forest u);
+          λ t u. h.parts_are ∙ ap (map at) placed_is
+          ∙ ap (λ (r : Tree). map at (preorder 1 0 r)) (one_forest k.max k.max g.list t b forest u);
     }
 
 -- where something is, the octets are short
-pub flat_short : (b : List ℕ) (k : Kept) (parts : List Part) → HasFlat b k parts → length b ≤ k.count → (IsIdle k → ⊥)
-    → IsShort whole (IsForest k.max) b k.count
-flat_short b k parts h le busy = let all : take k.count b ≡ b =
+pub flat_short : {P V : Type 0} (see : P → V) (at : Placed → V) (b : List ℕ) (k : Kept) (parts : List P)
+    → HasFlat see at b k parts → length b ≤ k.count → (IsIdle k → ⊥) → IsShort whole (IsForest k.max) b k.count
+flat_short see at b k parts h le busy = let all : take k.count b ≡ b =
     take_all k.count b le in subst (λ (l : List ℕ). IsShort whole (IsForest k.max) l k.count) all
     (busy_end (take k.count b) k h.taken busy)
 

@@ -2,6 +2,7 @@
 use Rattle.std.specs.Prelude.{◌≡◌, ℕ, ◌+◌, ◌≤◌, List, [], ◌∷◌, ◌++◌, length, take, drop, map, Option, Some, None}
 use Rattle.tlv_core.specs.declared.form.Form.{Form}
 use Rattle.tlv_core.specs.declared.part.Part.{Part}
+use Rattle.tlv_core.specs.declared.part.PlacedPart.{PlacedPart}
 use Rattle.tlv_core.specs.Tree.{Tree, End, Filler, Primitive, Constructed}
 use Rattle.tlv_core.specs.Forest.{spelling}
 use Rattle.tlv_core.specs.Parts.{Placed, value_place, preorder}
@@ -61,9 +62,13 @@ part_seen part = record {
       part.value.now;
 }
 
--- the part of this object comes after the others
-abbrev pub IsKeptPart : List ℕ → Placed → List Part → List Part → Type 0
-IsKeptPart b p old new = map part_seen new ≡ map part_seen old ++ part_in b p ∷ []
+-- and of those that are kept by their places alone
+abbrev pub placed_of : PlacedPart → Placed
+placed_of part = record { depth = part.depth; tag = part.tag; form = part.form; place = part.place; len = part.len }
+
+-- what is seen of one object comes after what is seen of the others
+abbrev pub IsKept : {P V : Type 0} → (P → V) → V → List P → List P → Type 0
+IsKept see v old new = map see new ≡ map see old ++ v ∷ []
 
 -- ---- the objects so far, in a list at depth d whose octets begin at this place
 
@@ -99,10 +104,11 @@ placed_list list value d place = preorder d place list ++ placed_value d (place 
 abbrev pub placed : Grown → List Placed
 placed g = placed_in 1 0 g.opened (placed_list g.list g.value)
 
--- the first octets of b were taken, and these are the parts whose header is among them
-pub record HasFlat (b : List ℕ) (k : Kept) (parts : List Part) : Type 0 where
-  pub within : k.count ≤ length b
-  pub taken : HasTaken (take k.count b) k
-  pub tree : Grown
-  pub grown : HasGrown (take k.count b) k tree
-  pub parts_are : map part_seen parts ≡ map (part_in b) (placed tree)
+-- the first octets of b were taken, and these are the parts whose header is among them, by what is seen of each
+pub record HasFlat {P V : Type 0} (see : P → V) (at : Placed → V) (b : List ℕ) (k : Kept) (parts : List P) : Type 0
+  where
+    pub within : k.count ≤ length b
+    pub taken : HasTaken (take k.count b) k
+    pub tree : Grown
+    pub grown : HasGrown (take k.count b) k tree
+    pub parts_are : map see parts ≡ map at (placed tree)

@@ -24,6 +24,21 @@ pub struct Part<'a> {
     ghost fits: { length value.now < capacity form },
 }
 
+/// An object of a forest by its place alone, in 16 octets: its value is the `len` octets from `place` on.
+#[derive(Clone, Copy, Debug, PartialEq, Eq)]
+pub struct PlacedPart {
+    /// Its tag.
+    pub tag: Tag,
+    /// The form of its length field.
+    pub form: Form,
+    /// The depth of the object, 1 to 16.
+    pub depth: u8,
+    /// The place of its value in the octets of the forest, counted from 0.
+    pub place: u32,
+    /// How many octets its value has.
+    pub len: u32,
+}
+
 impl Part<'_> {
     ghost use Rattle.tlv_core.specs.Tag.{header_of, length_field};
     ghost use Rattle.tlv_core.specs.Parts.{value_place};

@@ -5,7 +5,7 @@ use std::alloc::Global;
 use std::process::Abort;
 use std::test::Fail;
 use testing::same;
-use tlv_core::{FlatForest, Form, LARGEST_FOREST, TlvReason};
+use tlv_core::{FlatForest, Form, LARGEST_FOREST, TlvReason, placed_parts};
 
 /// What is wanted of a part: its depth, its tag, and the place of its value with its octets.
 type Wanted = (usize, &'static str, usize, &'static str);
@@ -24,6 +24,27 @@ fn check_parts(alloc: Global, rt: &impl Abort, text: &str, wanted: &[Wanted]) ->
         assert!(rt; same(hex_upper(alloc, part.value)?.as_str(), *value));
         let rest = octets.as_slice().get(*place..).ok_or("a place")?;
         assert!(rt; rest.starts_with(part.value), "{text} at {place}");
+    }
+    check_placed(alloc, rt, octets.as_slice(), &flat)
+}
+
+/// Whether the parts by their places alone are those of a forest.
+fn check_placed(
+    alloc: Global,
+    rt: &impl Abort,
+    octets: &[u8],
+    flat: &FlatForest,
+) -> Result<(), Fail> {
+    let placed = placed_parts(alloc, octets, LARGEST_FOREST)
+        .ok()
+        .ok_or("a forest")?;
+    assert!(rt; same(placed.len(), flat.parts().len()));
+    for (part, lent) in placed.as_slice().iter().zip(flat.parts()) {
+        assert!(rt; same(usize::from(part.depth), lent.depth));
+        assert!(rt; same(part.tag, lent.tag));
+        assert!(rt; same(part.form, lent.form));
+        assert!(rt; same(part.place as usize, lent.place));
+        assert!(rt; same(part.len as usize, lent.value.len()));
     }
     Ok(())
 }
@@ -136,6 +157,8 @@ fn other_octets_have_no_parts(rt: HostRuntime) -> Result<(), Fail> {
         let octets = octets_of(rt.alloc(), text)?;
         let refused = FlatForest::read(rt.alloc(), octets.as_slice(), LARGEST_FOREST).err();
         assert!(rt; same(refused, Some(Refused::Stop(stop))), "{text}");
+        let unplaced = placed_parts(rt.alloc(), octets.as_slice(), LARGEST_FOREST).err();
+        assert!(rt; same(unplaced, Some(Refused::Stop(stop))), "{text}");
     }
     Ok(())
 }

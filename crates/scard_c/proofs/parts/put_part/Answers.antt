@@ -5,6 +5,5 @@ use Rattle.scard_c.proofs.parts.put_part.Goals as goal
 pub returns : goal.returns
 returns c =
     let part = c.args.part.now in
-    let field : c.octets.result ≡ length (length_field part.form (length part.value.now)) =
-    c.octets.ensures.field (length part.value.now) in
+    let field : c.octets.result ≡ length (length_field part.form part.len) = c.octets.ensures.field part.len in
     search rules

@@ -4,7 +4,6 @@ use Rattle.scard_c.specs.declared.parts.CPart.{CPart}
 use Rattle.scard_c.specs.Parts.{part_put}
 use Rattle.scard_c.specs.Verdict.{wrong_argument, ok_at}
 use Rattle.scard_c.proofs.Puts.{verdict-fits, verdict-lacks, buffer-fits, buffer-lacks}
-use Rattle.scard_c.proofs.Placing.{shallow-part}
 use Rattle.scard_c.proofs.parts.put_parts.Goals as goal
 
 pub returns-then-parts-out-clause-verdict : goal.returns-then-parts-out-clause-verdict
@@ -17,10 +16,6 @@ pub returns-then-parts-out-clause-array : goal.returns-then-parts-out-clause-arr
 returns-then-parts-out-clause-array c =
     sym (buffer-lacks (map part_put c.args.parts.now) c.args.out.now
     (omega (arith, length-map c.args.parts.now part_put, c.if-parts-out.true)))
-
-pub put_part-requires : goal.put_part-requires
-put_part-requires c = shallow-part c.args.parts.now c.loop-index.index c.index-parts-index.result c.requires
-    c.loop-index-test.true c.index-parts-index.is
 
 pub loop-index-preserved : goal.loop-index-preserved
 loop-index-preserved c =

@@ -6,19 +6,21 @@ use Rattle.tlv_core.specs.Parts.{Placed}
 use Rattle.tlv_core.specs.Reasons.{Kept}
 use Rattle.tlv_core.specs.OpenEnds.{ends_of, kept_idle}
 use Rattle.tlv_core.specs.Short.{MayCome, taken_of}
-use Rattle.tlv_core.specs.Flat.{IsKeptPart, HasFlat}
+use Rattle.tlv_core.specs.Flat.{IsKept, HasFlat}
 use Rattle.tlv_core.proofs.Ends.{length-rooms}
 use Rattle.tlv_core.proofs.AtOnce.{flat_at_once}
-use Rattle.tlv_core.proofs.flat.take_shorts.Goals as goal
+use Rattle.tlv_core.proofs.walk.take_shorts.Goals as goal
 
 pub loop-short-preserved : goal.loop-short-preserved
-loop-short-preserved c =
+loop-short-preserved g c =
     let b = c.args.octets.now in
+    let see = g.K.Keep.seen in
+    let in_b = g.K.Keep.seen_in b in
     let l = c.loop-short in
     let k = kept_idle l.ends in
     let o = c.in-Some.short in
     let old = l.parts.items in
-    let new = c.keep.new.parts.items in
+    let new = c.add_kept.new.parts.items in
     let octets : AreOctets b = λ i. omega (arith, c.type_inv.octets i) in
     let from = c.count.result in
     let first : take (length b - from) (drop from b) ≡ drop k.count b =
@@ -74,7 +76,7 @@ loop-short-preserved c =
       more = omega (arith, count, l.invariant.more);
       within = omega (arith, count, may.here, length-drop k.count b, l.invariant.within);
       flat = λ h.
-          subst (λ (j : Kept). HasFlat b j new) (sym c.pass.ensures)
-          (flat_at_once b k old new o octets may
-          (subst (λ (p : Placed). IsKeptPart b p old new) same c.in_ok-keep.ensures.ok) (l.invariant.flat h));
+          subst (λ (j : Kept). HasFlat see in_b b j new) (sym c.pass.ensures)
+          (flat_at_once see in_b b k old new o octets may
+          (subst (λ (p : Placed). IsKept see (in_b p) old new) same c.in_ok-add_kept.ensures.ok) (l.invariant.flat h));
     }

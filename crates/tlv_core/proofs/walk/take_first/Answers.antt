@@ -1,4 +1,7 @@
-use Rattle.std.proofs.Common.{◌≡◌, ℕ, ◌+◌, ◌<◌, length, get_or, sym, ap, subst, ◌∙◌, arith}
+use Rattle.std.proofs.Common.{◌≡◌, ℕ, ◌+◌, ◌<◌, ◌≤◌, length, get_or, sym, ap, subst, ◌∙◌, arith, rules}
+use Rattle.std.proofs.lemmas.List.{length-take}
+use Rattle.tlv_core.specs.OpenEnds.{ends_of}
+use Rattle.tlv_core.proofs.Ends.{length-rooms}
 use Rattle.octet_core.specs.Grammar.{IsFirst, Refuses, whole}
 use Rattle.octet_core.specs.declared.stop.Stop.TheVariants.{At}
 use Rattle.octet_core.specs.declared.stop.Refusal.{Refusal}
@@ -9,18 +12,20 @@ use Rattle.tlv_core.specs.Parts.{Placed}
 use Rattle.tlv_core.specs.Reasons.{Kept, IsReason, tlv_reasons}
 use Rattle.tlv_core.specs.Progress.{kept_of}
 use Rattle.tlv_core.specs.Steps.{IsStep, IsWrongAfter}
-use Rattle.tlv_core.specs.Flat.{IsKeptPart, HasFlat}
+use Rattle.tlv_core.specs.Flat.{IsKept, HasFlat}
 use Rattle.tlv_core.proofs.Walked.{after_count, flat_object, flat_other, flat_refused, on_ok}
-use Rattle.tlv_core.proofs.flat.take_first.Goals as goal
+use Rattle.tlv_core.proofs.walk.take_first.Goals as goal
 
 pub returns-in-Some-clause-ok : goal.returns-in-Some-clause-ok
-returns-in-Some-clause-ok c =
+returns-in-Some-clause-ok g c =
     let b = c.args.octets.now in
+    let see = g.K.Keep.seen in
+    let in_b = g.K.Keep.seen_in b in
     let s = c.args.progress.now in
     let k = kept_of s in
     let o = c.in-Some.object in
     let old = c.args.parts.now.items in
-    let new = c.keep.new.parts.items in
+    let new = c.add_kept.new.parts.items in
     let less : k.count < length b = c.requires.here in
     let z : k.value_left ≡ 0 = c.requires.idle in
     let step : IsStep k (get_or b k.count 0) c.in-Ok.next =
@@ -54,15 +59,17 @@ returns-in-Some-clause-ok c =
       len =
           o.len;
     }) place in
-    on_ok c.keep.result (λ kept h.
-    subst (λ (l : Kept). HasFlat b l new) (sym c.in-Ok.ensures.after)
-    (flat_object b k old new c.in-Ok.next o less z step (sym c.object.ensures ∙ c.in-Some.is)
-    (subst (λ (p : Placed). IsKeptPart b p old new) placed kept)
-    h)) c.keep.ensures.ok
+    on_ok c.add_kept.result (λ kept h.
+    subst (λ (l : Kept). HasFlat see in_b b l new) (sym c.in-Ok.ensures.after)
+    (flat_object see in_b b k old new c.in-Ok.next o less z step (sym c.object.ensures ∙ c.in-Some.is)
+    (subst (λ (p : Placed). IsKept see (in_b p) old new) placed kept)
+    h)) c.add_kept.ensures.ok
 
 pub returns-in-None-clause-ok : goal.returns-in-None-clause-ok
-returns-in-None-clause-ok c h =
+returns-in-None-clause-ok g c h =
     let b = c.args.octets.now in
+    let see = g.K.Keep.seen in
+    let in_b = g.K.Keep.seen_in b in
     let s = c.args.progress.now in
     let k = kept_of s in
     let parts = c.args.parts.now.items in
@@ -70,12 +77,14 @@ returns-in-None-clause-ok c h =
     let z : k.value_left ≡ 0 = c.requires.idle in
     let step : IsStep k (get_or b k.count 0) c.in-Ok.next =
     subst (λ (n : ℕ). IsStep k (get_or b n 0) c.in-Ok.next) c.count.ensures c.in-Ok.ensures.ok in
-    subst (λ (l : Kept). HasFlat b l parts) (sym c.in-Ok.ensures.after)
-    (flat_other b k parts c.in-Ok.next less z step (sym c.object.ensures ∙ c.in-None.is) h)
+    subst (λ (l : Kept). HasFlat see in_b b l parts) (sym c.in-Ok.ensures.after)
+    (flat_other see in_b b k parts c.in-Ok.next less z step (sym c.object.ensures ∙ c.in-None.is) h)
 
 pub returns-in-Err-clause-err : goal.returns-in-Err-clause-err
-returns-in-Err-clause-err c h =
+returns-in-Err-clause-err g c h =
     let b = c.args.octets.now in
+    let see = g.K.Keep.seen in
+    let in_b = g.K.Keep.seen_in b in
     let s = c.args.progress.now in
     let k = kept_of s in
     let parts = c.args.parts.now.items in
@@ -88,4 +97,19 @@ returns-in-Err-clause-err c h =
     ap (λ (p : Progress). At p.ends.count c.in-Err.reason) (sym err.0)
     ∙ ap (λ (r : Refusal TlvReason). At r.place r.reason) (sym c.refusal.ensures) ∙ sym c.stop.ensures in
     subst (Refuses whole (IsForest k.max) (IsReason k.max) b) stop
-    (flat_refused b k parts c.in-Err.reason less z first h)
+    (flat_refused see in_b b k parts c.in-Err.reason less z first h)
+
+pub add_kept-requires : goal.add_kept-requires
+add_kept-requires g c κs =
+    let s = c.args.progress.now in
+    let ends = c.take.new.self.ends in
+    let depth : c.level-depth.result + 1 < 256 =
+    omega (
+      arith,
+      c.level-depth.ensures,
+      length-rooms s.ends.count (ends_of s.ends),
+      length-take s.ends.level s.ends.places,
+      s.ends.levels,
+    ) in
+    let limit : c.count-in-Some.result ≤ 1048576 = omega (arith, c.count-in-Some.ensures, ends.within, ends.limit) in
+    search (rules, depth, limit)
