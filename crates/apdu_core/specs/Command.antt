@@ -9,10 +9,6 @@ use Rattle.apdu_core.specs.declared.command.Shape.TheVariants as shapes
 use Rattle.apdu_core.specs.declared.reason.CommandReason.{CommandReason}
 use Rattle.apdu_core.specs.declared.reason.CommandReason.TheVariants.{Trailing}
 
--- the longest command: the header, Lc in three octets, a data field of 65,535 octets, and Le in two
-abbrev pub longest_command : ℕ
-longest_command = 65544
-
 -- what a command carries: CLA, INS, P1 and P2, and a body
 pub record CommandParts : Type 0 where
   pub header : List ℕ

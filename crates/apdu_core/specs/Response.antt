@@ -2,16 +2,13 @@
 use Rattle.std.specs.Prelude.{◌≡◌, ℕ, ◌+◌, ◌≤◌, List, [], ◌∷◌, ◌++◌, length}
 use Rattle.octet_core.specs.Octets.{AreOctets}
 use Rattle.octet_core.specs.Grammar.{IsFirst}
+use Rattle.chain_core.specs.Longest.{longest_response}
 use Rattle.apdu_core.specs.declared.reason.ResponseReason.{ResponseReason}
 use Rattle.apdu_core.specs.declared.reason.ResponseReason.TheVariants.{TooLong}
 
 -- the longest data field
 abbrev pub longest_part : ℕ
 longest_part = 65536
-
--- the longest response: that field, SW1 and SW2
-abbrev pub longest_response : ℕ
-longest_response = 65538
 
 -- what a response carries: a data field and the status bytes
 pub record ResponseParts : Type 0 where

@@ -71,7 +71,8 @@ impl Model for Command {
 
 impl Command {
     ghost use Rattle.std.specs.Prelude.{◌≡◌, ◌≤◌, OnErr, IfOk, IfErr};
-    ghost use Rattle.apdu_core.specs.Command.{FitsFields, HasSpelling, IsProper, longest_command, spelling};
+    ghost use Rattle.apdu_core.specs.Command.{FitsFields, HasSpelling, IsProper, spelling};
+    ghost use Rattle.chain_core.specs.Longest.{longest_command};
 
     /// The command of this header, CLA, INS, P1 and P2, and this body, exactly where it has a spelling. The
     /// body comes back where its data field or its `le` has none of the lengths or numbers of its shape.

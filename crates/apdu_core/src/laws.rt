@@ -4,9 +4,10 @@ ghost use Rattle.std.specs.Prelude.{◌≡◌, ◌<◌, ◌≤◌, ◌↔◌, �
 ghost use Rattle.octet_core.specs.Octets.{AreOctets};
 ghost use Rattle.octet_core.specs.Grammar.{Begins, OneVerdict, whole};
 ghost use Rattle.block_core.specs.declared.pcb.Number.{Number};
+ghost use Rattle.chain_core.specs.Longest.{longest_command, longest_response};
 ghost use Rattle.apdu_core.specs.Arrival.{ArrivesAs};
-ghost use Rattle.apdu_core.specs.Command.{CommandParts, IsCommand, IsTrailing, IsReason as IsCommandReason, longest_command};
-ghost use Rattle.apdu_core.specs.Response.{ResponseParts, IsResponse, IsReason as IsResponseReason, longest_response};
+ghost use Rattle.apdu_core.specs.Command.{CommandParts, IsCommand, IsTrailing, IsReason as IsCommandReason};
+ghost use Rattle.apdu_core.specs.Response.{ResponseParts, IsResponse, IsReason as IsResponseReason};
 ghost use Rattle.apdu_core.specs.Status.{IsOfClass};
 ghost use Rattle.apdu_core.specs.declared.status.StatusClass.{StatusClass as AnyClass};
 

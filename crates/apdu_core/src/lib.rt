@@ -22,14 +22,13 @@ pub mod response_ref;
 pub mod sending;
 pub mod status;
 
+pub use chain_core::{LONGEST_COMMAND, LONGEST_RESPONSE};
 pub use command::{Body, Command, Shape};
 pub use command_ref::CommandRef;
 pub use decoding::{decode_command, decode_response};
 pub use encoding::{encode_command, encode_command_into, encode_response};
 pub use reason::{CommandReason, ResponseReason};
-pub use receiving::{
-    LONGEST_COMMAND, LONGEST_RESPONSE, ReceiveFault, receive_command, receive_response,
-};
+pub use receiving::{ReceiveFault, receive_command, receive_response};
 pub use response::Response;
 pub use response_ref::ResponseRef;
 pub use sending::{SendFault, send_command, send_response};

@@ -2,10 +2,11 @@
 
 ghost use Rattle.std.specs.Prelude.{◌≡◌, ◌≤◌, ◌++◌, ℕ, List, Some, IfOk, IfErr};
 ghost use Rattle.chain_core.specs.Chain.{IsChain, message_of};
+ghost use Rattle.chain_core.specs.Longest.{longest_command, longest_response};
 ghost use Rattle.apdu_core.specs.Command as command;
-ghost use Rattle.apdu_core.specs.Command.{CommandParts, IsCommand, longest_command};
+ghost use Rattle.apdu_core.specs.Command.{CommandParts, IsCommand};
 ghost use Rattle.apdu_core.specs.Response as response;
-ghost use Rattle.apdu_core.specs.Response.{ResponseParts, IsResponse, longest_response};
+ghost use Rattle.apdu_core.specs.Response.{ResponseParts, IsResponse};
 ghost use Rattle.apdu_core.specs.Receiving.{ArrivesUnlessFault, IsReceived, IsReceiveFault};
 
 use crate::command::Command;
@@ -13,17 +14,13 @@ use crate::decoding::{decode_command, decode_response};
 use crate::reason::{CommandReason, ResponseReason};
 use crate::response::Response;
 use block_core::Number;
-use chain_core::{ChainReason, ReadRefusal, Receiver, read_chain};
+use chain_core::{
+    ChainReason, LONGEST_COMMAND, LONGEST_RESPONSE, ReadRefusal, Receiver, read_chain,
+};
 use octet_core::{Refused, Source, Stop};
 use std::alloc::{AllocError, Global};
 use std::error::Error;
 use std::fmt::{self, Debug, Display, Formatter, Write};
-
-/// The octets of the longest command.
-pub const LONGEST_COMMAND: usize = 65_544;
-
-/// The octets of the longest response.
-pub const LONGEST_RESPONSE: usize = 65_538;
 
 /// Why no APDU was received, with its reasons.
 #[derive(Clone, Copy, Debug, PartialEq, Eq)]

@@ -14,9 +14,9 @@ use Rattle.card_words.specs.declared.request.Request.{Request}
 use Rattle.card_words.specs.declared.request.Request.TheVariants.{Help}
 use Rattle.card_tool.specs.Answers.{Answers, AnswersTo, IsAnswerTo, IsRight, IsRightTo, IsToldOf}
 use Rattle.card_tool.specs.Files.{IsTaken, ReadsWhole}
-use Rattle.card_tool.specs.declared.answer.Answer.{Answer}
-use Rattle.card_tool.specs.declared.status.Status.{Status}
-use Rattle.card_tool.specs.declared.status.Status.TheVariants as status
+use Rattle.card_kinds.specs.declared.answer.Answer.{Answer}
+use Rattle.card_kinds.specs.declared.status.Status.{Status}
+use Rattle.card_kinds.specs.declared.status.Status.TheVariants as status
 
 abbrev read_as : Fault → Result Request Fault
 read_as fault = Err fault

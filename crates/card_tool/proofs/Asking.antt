@@ -12,8 +12,8 @@ use Rattle.card_words.specs.Texts.{fault_text}
 use Rattle.card_tool.specs.Answers.{IsReadFrom, IsWritten, Writes}
 use Rattle.card_tool.specs.Explained.{IsRightWith}
 use Rattle.card_tool.specs.LineAnswers.{WritesLines, answered, wanting}
-use Rattle.card_tool.specs.declared.status.Status.{Status}
-use Rattle.card_tool.specs.declared.status.Status.TheVariants as status
+use Rattle.card_kinds.specs.declared.status.Status.{Status}
+use Rattle.card_kinds.specs.declared.status.Status.TheVariants as status
 use Rattle.card_tool.proofs.ByLine.{consumes-none}
 
 -- what was read, where it is this request

@@ -11,14 +11,15 @@ use Rattle.card_words.specs.Texts.{fault_text}
 use Rattle.card_words.specs.declared.fault.Fault.{Fault}
 use Rattle.card_words.specs.declared.fault.Fault.TheVariants.{Memory, Read, TooLarge}
 use Rattle.card_words.specs.declared.request.Expected.{Expected}
-use Rattle.card_tool.specs.Answers.{AreLinesTold, IsLineTold, Checks, IsToldOf, IsWritten, Writes, all, cut}
+use Rattle.card_tool.specs.Answers.{AreLinesTold, IsLineTold, IsToldOf, IsWritten, Writes, all, cut}
+use Rattle.card_kinds.specs.Verdicts.{Checks}
 use Rattle.card_tool.specs.Files.{largest_file}
 use Rattle.card_tool.specs.Lines.{all_lines, ended_lines, last_line, line_octets, lines_after, rest_after, worse}
 use Rattle.card_tool.specs.LineAnswers.{most_read, HasBegun, HasSaid, IsRest, TellsLines, WritesLines, all_told, first_told, whole, failed, wanting, endless, answered, stopped}
 use Rattle.card_tool.proofs.Inputs.{Consumes-kept, Consumes-then}
-use Rattle.card_tool.specs.declared.status.Status.{Status}
-use Rattle.card_tool.specs.declared.status.Status.TheVariants.{Accepted, Refused}
-use Rattle.card_tool.specs.declared.status.Status.TheVariants as status
+use Rattle.card_kinds.specs.declared.status.Status.{Status}
+use Rattle.card_kinds.specs.declared.status.Status.TheVariants.{Accepted, Refused}
+use Rattle.card_kinds.specs.declared.status.Status.TheVariants as status
 
 -- ---- lines of joined octets
 

@@ -17,9 +17,9 @@ use Rattle.exchange_core.specs.declared.replaying.Side.{Side}
 use Rattle.exchange_core.proofs.Found.{one-replay, some-replay}
 use Rattle.exchange_core.proofs.Sound.{bind, octets-sound, same-ok}
 use Rattle.card_tool.specs.ExchangeTexts.{agrees_text, differs_text, file_fault_text, side_of, IsReplayed, Migrates, Replays, agrees, differs}
-use Rattle.card_tool.specs.declared.status.Status.{Status}
-use Rattle.card_tool.specs.declared.status.Status.TheVariants as status
-use Rattle.card_tool.proofs.OneOf.{OneText, ended-by, plain}
+use Rattle.card_kinds.specs.declared.status.Status.{Status}
+use Rattle.card_kinds.specs.declared.status.Status.TheVariants as status
+use Rattle.card_kinds.proofs.OneOf.{OneText, ended-by, plain}
 
 -- ---- the answer to reset of a file is octets
 

@@ -9,9 +9,9 @@ use Rattle.card_words.specs.declared.fault.Fault.TheVariants.{Memory}
 use Rattle.card_words.specs.declared.request.Request.{Request}
 use Rattle.card_tool.specs.Answers.{Gives, IsRight, IsRightTo}
 use Rattle.card_tool.specs.Explained.{IsExplained, IsRightWith}
-use Rattle.card_tool.specs.declared.answer.Answer.{Answer}
-use Rattle.card_tool.specs.declared.status.Status.{Status}
-use Rattle.card_tool.specs.declared.status.Status.TheVariants as status
+use Rattle.card_kinds.specs.declared.answer.Answer.{Answer}
+use Rattle.card_kinds.specs.declared.status.Status.{Status}
+use Rattle.card_kinds.specs.declared.status.Status.TheVariants as status
 use Rattle.card_tool.proofs.Answering.{right}
 
 module _ (Right : List ℕ → Status → Type 0) where

@@ -1,12 +1,7 @@
-pub mod Telling
-pub mod OneOf
 pub mod Exchanges
 pub mod Simulations
 pub mod OneAnswer
 pub mod OneText
-pub mod Chains
-pub mod Forests
-pub mod Duplicates
 pub mod Inputs
 pub mod ByLine
 pub mod Asking

@@ -18,8 +18,8 @@ use Rattle.card_words.specs.declared.request.Request.{Request}
 use Rattle.card_words.specs.declared.request.Request.TheVariants.{Help}
 use Rattle.card_tool.specs.Answers.{IsAnswer, IsAnswerTo}
 use Rattle.card_tool.specs.Files.{file_of, largest_file, ReadsWhole}
-use Rattle.card_tool.specs.declared.status.Status.{Status}
-use Rattle.card_tool.specs.declared.status.Status.TheVariants as status
+use Rattle.card_kinds.specs.declared.status.Status.{Status}
+use Rattle.card_kinds.specs.declared.status.Status.TheVariants as status
 use Rattle.card_tool.proofs.Answering.{needs-octets}
 use Rattle.card_tool.proofs.OneAnswer.{one-answer}
 

@@ -17,10 +17,10 @@ use Rattle.simulator.specs.Simulation.{EndsAs, IsSimulated, exchange_of, new_rec
 use Rattle.simulator.proofs.Long.{one-end, too-long}
 use Rattle.card_tool.specs.Files.{largest_file}
 use Rattle.card_tool.specs.SimulationTexts.{IsFile, Simulates, fits, over, too_large, unusable, whole}
-use Rattle.card_tool.specs.Texts.{refused_as_text}
-use Rattle.card_tool.specs.declared.status.Status.{Status}
-use Rattle.card_tool.specs.declared.status.Status.TheVariants as status
-use Rattle.card_tool.proofs.OneOf.{OneText}
+use Rattle.card_kinds.specs.Texts.{refused_as_text}
+use Rattle.card_kinds.specs.declared.status.Status.{Status}
+use Rattle.card_kinds.specs.declared.status.Status.TheVariants as status
+use Rattle.card_kinds.proofs.OneOf.{OneText}
 
 abbrev text-of : Recording → List ℕ
 text-of r = exchange_text (exchange_of r)

@@ -10,8 +10,8 @@ use Rattle.exchange_core.specs.Text.{exchange_text}
 use Rattle.exchange_core.specs.declared.fault.ExchangeFault.{ExchangeFault}
 use Rattle.exchange_core.specs.declared.replaying.Side.{Side}
 use Rattle.exchange_core.specs.declared.replaying.Side.TheVariants as side
-use Rattle.card_tool.specs.declared.status.Status.{Status}
-use Rattle.card_tool.specs.declared.status.Status.TheVariants as status
+use Rattle.card_kinds.specs.declared.status.Status.{Status}
+use Rattle.card_kinds.specs.declared.status.Status.TheVariants as status
 
 -- the end that is replayed
 abbrev pub side_of : End → Side

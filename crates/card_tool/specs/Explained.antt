@@ -1,7 +1,7 @@
 -- The text that words have where they ask for an explanation.
 use Rattle.std.specs.Prelude.{◌≡◌, ◌++◌, ℕ, List, [], Option, false}
 use Rattle.card_tool.specs.Answers.{IsRight}
-use Rattle.card_tool.specs.declared.status.Status.{Status}
+use Rattle.card_kinds.specs.declared.status.Status.{Status}
 use Rattle.card_words.specs.Explain.{asks_to_explain}
 
 -- a text that is right without an explanation, and after it one; the status is that text's

@@ -1,16 +1,6 @@
-pub mod Statuses
 pub mod Files
 pub mod ExchangeTexts
 pub mod SimulationTexts
-pub mod Texts
-pub mod Codec
-pub mod AtrTexts
-pub mod ChainTexts
-pub mod CommandTexts
-pub mod ResponseTexts
-pub mod ForestTexts
-pub mod ListTexts
-pub mod BlockTexts
 pub mod Lines
 pub mod Answers
 pub mod LineAnswers

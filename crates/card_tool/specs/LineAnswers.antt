@@ -12,8 +12,8 @@ use Rattle.card_words.specs.declared.request.Expected.{Expected}
 use Rattle.card_tool.specs.Answers.{AreLinesTold, Writes}
 use Rattle.card_tool.specs.Files.{largest_file}
 use Rattle.card_tool.specs.Lines.{all_lines, ended_lines, rest_after}
-use Rattle.card_tool.specs.declared.status.Status.{Status}
-use Rattle.card_tool.specs.declared.status.Status.TheVariants as status
+use Rattle.card_kinds.specs.declared.status.Status.{Status}
+use Rattle.card_kinds.specs.declared.status.Status.TheVariants as status
 
 -- words that ask for no lines
 abbrev pub AskForNoLines : List (List ℕ) → Type 0

@@ -4,9 +4,9 @@ use Rattle.card_words.specs.Loose.{loose_octets}
 use Rattle.card_words.specs.declared.fault.Fault.{Fault}
 use Rattle.card_words.specs.declared.fault.Fault.TheVariants.{TooLarge}
 use Rattle.card_tool.specs.Files.{largest_file}
-use Rattle.card_tool.specs.declared.status.Status.{Status}
-use Rattle.card_tool.specs.declared.status.Status.TheVariants.{Accepted, Refused}
-use Rattle.card_tool.specs.declared.status.Status.TheVariants as status
+use Rattle.card_kinds.specs.declared.status.Status.{Status}
+use Rattle.card_kinds.specs.declared.status.Status.TheVariants.{Accepted, Refused}
+use Rattle.card_kinds.specs.declared.status.Status.TheVariants as status
 
 -- ---- the lines of octets
 

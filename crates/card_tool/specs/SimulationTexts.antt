@@ -9,9 +9,9 @@ use Rattle.exchange_core.specs.Replay.{IsFound}
 use Rattle.exchange_core.specs.Text.{exchange_text}
 use Rattle.simulator.specs.Simulation.{EndsAs, exchange_of}
 use Rattle.card_tool.specs.Files.{largest_file}
-use Rattle.card_tool.specs.Texts.{refused_as_text}
-use Rattle.card_tool.specs.declared.status.Status.{Status}
-use Rattle.card_tool.specs.declared.status.Status.TheVariants as status
+use Rattle.card_kinds.specs.Texts.{refused_as_text}
+use Rattle.card_kinds.specs.declared.status.Status.{Status}
+use Rattle.card_kinds.specs.declared.status.Status.TheVariants as status
 
 -- the text of an exchange, where it isn't larger than a file
 pub data IsFile (e : ExchangeParts) (text : List ℕ) (ended : Status) : Type 0 where

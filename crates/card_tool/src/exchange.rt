@@ -4,10 +4,9 @@ ghost use Rattle.std.specs.Prelude.{◌≡◌, ◌≢◌, IfOk};
 ghost use Rattle.exchange_core.specs.Text.{exchange_text};
 ghost use Rattle.exchange_core.specs.declared.fault.ExchangeFault.TheVariants.{Memory};
 ghost use Rattle.card_tool.specs.ExchangeTexts.{file_fault_text, side_of, IsReplayed, Migrates, Replays};
-ghost use Rattle.card_tool.specs.declared.status.Status.TheVariants as ended;
+ghost use Rattle.card_kinds.specs.declared.status.Status.TheVariants as ended;
 
-use crate::answer::Answer;
-use crate::status::Status;
+use card_kinds::{Answer, Status};
 use card_words::End;
 use exchange_core::{
     Exchange, ExchangeFault, ReplayFault, Side, migrate, read_exchange, replay, write_exchange,

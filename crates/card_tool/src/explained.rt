@@ -7,19 +7,18 @@ ghost use Rattle.std.specs.Prelude.{◌≡◌, ◌++◌, List, ℕ, IfOk, MatchR
 ghost use Rattle.card_tool.specs.Answers.{Gives, HasOneText, IsReadFrom, IsRight, IsRightTo};
 ghost use Rattle.card_tool.specs.Explained.{IsExplained};
 ghost use Rattle.card_tool.specs.Files.{IsBegun};
-ghost use Rattle.card_tool.specs.declared.status.Status.TheVariants as ended;
+ghost use Rattle.card_kinds.specs.declared.status.Status.TheVariants as ended;
 ghost use Rattle.card_words.specs.Texts.{fault_text};
 ghost use Rattle.card_words.specs.Words.{texts, AskForFile, IsSized, NeedsFile};
 
-use crate::answer::Answer;
 use crate::file::{LARGEST_FILE, octets_given, read_whole};
-use crate::program::{answer_to, check, show};
-use crate::status::Status;
-use crate::{exchange, forest, list, simulation};
+use crate::file_notes::{file_note, replay_note};
+use crate::program::answer_to;
+use crate::{exchange, simulation};
+use card_kinds::{Answer, Status, check, fill, show, tidy};
 use card_words::{Fault, Request, Session};
 use explainer::{
-    file_note, forest_note, known_note, large_note, list_note, octets_note, replay_note,
-    session_note, words_note,
+    forest_note, known_note, large_note, list_note, octets_note, session_note, words_note,
 };
 use octet_core::{Octets, Source};
 use std::alloc::{AllocError, Global};
@@ -96,12 +95,12 @@ fn answered_to<R: Source>(
         }
         Request::BuildTidy(given) => {
             let octets = octets_given(alloc, given, reader)?;
-            let answer = forest::tidy(alloc, octets.get())?;
+            let answer = tidy(alloc, octets.get())?;
             let note = forest_note(alloc, octets.get());
             Ok(noted(answer, note))
         }
         Request::BuildFill { list, known } => {
-            let answer = list::fill(alloc, list.get(), &known)?;
+            let answer = fill(alloc, list.get(), &known)?;
             let note = if known.is_ok() {
                 list_note(alloc, list.get())
             } else {

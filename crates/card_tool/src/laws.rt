@@ -12,7 +12,7 @@ ghost use Rattle.card_words.specs.Words.{scard, AskForOctets, HasOctets, IsSized
 ghost use Rattle.card_words.specs.declared.fault.Fault.{Fault as AnyFault};
 ghost use Rattle.card_words.specs.declared.fault.Fault.TheVariants.{Memory};
 ghost use Rattle.card_words.specs.declared.request.Request.{Request as AnyRequest};
-ghost use Rattle.card_tool.specs.declared.status.Status.{Status as AnyStatus};
+ghost use Rattle.card_kinds.specs.declared.status.Status.{Status as AnyStatus};
 
 /// Every request has one text and one status, and no other, with what reading standard input gave. What is
 /// taken as it was read has to be octets.

@@ -4,14 +4,13 @@ ghost use Rattle.std.specs.Prelude.{◌≡◌, ◌≤◌, ◌++◌, ◌∷◌, [
 ghost use Rattle.card_tool.specs.Answers.{AreLinesTold, IsLineTold, IsWritten, Writes};
 ghost use Rattle.card_tool.specs.LineAnswers.{HasBegun, HasSaid, IsRest, WritesLines};
 ghost use Rattle.card_tool.specs.Lines.{all_lines, worse};
-ghost use Rattle.card_tool.specs.declared.status.Status.TheVariants as ended;
+ghost use Rattle.card_kinds.specs.declared.status.Status.TheVariants as ended;
 ghost use Rattle.card_words.specs.Texts.{fault_text};
-ghost use Rattle.card_tool.specs.declared.status.Status.{Status as AnyStatus};
+ghost use Rattle.card_kinds.specs.declared.status.Status.{Status as AnyStatus};
 
-use crate::answer::Answer;
 use crate::file::LARGEST_FILE;
-use crate::program::{check, report, write};
-use crate::status::Status;
+use crate::program::{report, write};
+use card_kinds::{Answer, Status, check};
 use card_words::{Expected, Fault, loose_octets};
 use octet_core::{Sink, Source, write_octets};
 use std::alloc::{AllocError, Global};

@@ -1,7 +1,7 @@
 //! The program: from its words to the text that it writes.
 
-ghost use Rattle.std.specs.Prelude.{◌≡◌, ◌≤◌, IfOk, IfErr};
-ghost use Rattle.card_tool.specs.Answers.{AnswersTo, Checks, Gives, HasOneText, IsReadFrom, IsWritten, Shows, Writes};
+ghost use Rattle.std.specs.Prelude.{◌≡◌, IfOk, IfErr};
+ghost use Rattle.card_tool.specs.Answers.{AnswersTo, Gives, HasOneText, IsReadFrom, IsWritten, Writes};
 ghost use Rattle.card_tool.specs.Explained.{IsRightWith};
 ghost use Rattle.card_tool.specs.Files.{IsBegun};
 ghost use Rattle.card_tool.specs.LineAnswers.{AskForNoLines, WritesLines};
@@ -9,22 +9,16 @@ ghost use Rattle.card_words.specs.Texts.{fault_text};
 ghost use Rattle.card_words.specs.Words.{texts, AskForFile, AskForLines, IsSized, NeedsFile};
 ghost use Rattle.card_words.specs.declared.request.Expected.{Expected as AnyExpected};
 ghost use Rattle.card_words.specs.declared.request.Request.TheVariants.{CheckLines};
-ghost use Rattle.card_tool.specs.declared.status.Status.TheVariants as ended;
+ghost use Rattle.card_kinds.specs.declared.status.Status.TheVariants as ended;
 
-use crate::answer::Answer;
 use crate::explained::explained;
 use crate::file::{octets_given, read_whole};
 use crate::lines::check_lines;
-use crate::status::Status;
-use crate::{chain, codec, exchange, forest, list, simulation};
-use apdu_core::{Command, Response};
-use atr_core::Atr;
-use block_core::Block;
-use card_words::{Expected, Fault, Kind, Request, asks_to_explain};
-use chain_core::Receiver;
+use crate::{exchange, simulation};
+use card_kinds::{Answer, Status, blocks, check, fill, show, tidy};
+use card_words::{Expected, Fault, Request, asks_to_explain};
 use octet_core::{Sink, Source, write_octets};
 use std::alloc::{AllocError, Global};
-use tlv_core::{Dol, Forest};
 
 /// Does what the words ask for, of which the first is the program's name, and writes one text: with an
 /// explanation after it where they have `--explain`, which is left out where memory for it is refused.
@@ -172,14 +166,14 @@ pub(crate) fn answer_to<R: Source>(
             number,
             message,
         } => {
-            let text = chain::blocks(alloc, message.get(), ifs, number)?;
+            let text = blocks(alloc, message.get(), ifs, number)?;
             Ok(Answer::told(text))
         }
         Request::BuildTidy(given) => {
             let octets = octets_given(alloc, given, reader)?;
-            Ok(forest::tidy(alloc, octets.get())?)
+            Ok(tidy(alloc, octets.get())?)
         }
-        Request::BuildFill { list, known } => Ok(list::fill(alloc, list.get(), &known)?),
+        Request::BuildFill { list, known } => Ok(fill(alloc, list.get(), &known)?),
         Request::Replay(side) => {
             let file = read_whole(alloc, reader)?;
             Ok(exchange::replayed(alloc, file, side)?)
@@ -190,41 +184,5 @@ pub(crate) fn answer_to<R: Source>(
         }
         Request::Simulate(session) => Ok(simulation::simulated(alloc, &session)?),
         Request::Help(text) => Ok(Answer::told(text.into_inner())),
-    }
-}
-
-/// How many octets the value takes.
-pub(crate) fn check(alloc: Global, expected: Expected, octets: &[u8]) -> Result<Answer, AllocError>
-    requires least { 1 ≤ expected.ifs }
-    requires most { expected.ifs ≤ 254 }
-    ensures { IfOk result (λ answer.
-        Checks expected.kind expected octets.now answer.text answer.status) }
-{
-    match expected.kind {
-        Kind::Atr => codec::check::<Atr>(alloc, octets, expected),
-        Kind::Block => codec::check::<Block>(alloc, octets, expected),
-        Kind::Chain => codec::check::<Receiver>(alloc, octets, expected),
-        Kind::Command => codec::check::<Command>(alloc, octets, expected),
-        Kind::Response => codec::check::<Response>(alloc, octets, expected),
-        Kind::Tlv => codec::check::<Forest>(alloc, octets, expected),
-        Kind::Dol => codec::check::<Dol>(alloc, octets, expected),
-    }
-}
-
-/// The value itself.
-pub(crate) fn show(alloc: Global, expected: Expected, octets: &[u8]) -> Result<Answer, AllocError>
-    requires least { 1 ≤ expected.ifs }
-    requires most { expected.ifs ≤ 254 }
-    ensures { IfOk result (λ answer.
-        Shows expected.kind expected octets.now answer.text answer.status) }
-{
-    match expected.kind {
-        Kind::Atr => codec::show::<Atr>(alloc, octets, expected),
-        Kind::Block => codec::show::<Block>(alloc, octets, expected),
-        Kind::Chain => codec::show::<Receiver>(alloc, octets, expected),
-        Kind::Command => codec::show::<Command>(alloc, octets, expected),
-        Kind::Response => codec::show::<Response>(alloc, octets, expected),
-        Kind::Tlv => codec::show::<Forest>(alloc, octets, expected),
-        Kind::Dol => codec::show::<Dol>(alloc, octets, expected),
     }
 }

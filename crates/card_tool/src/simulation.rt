@@ -3,9 +3,9 @@
 ghost use Rattle.std.specs.Prelude.{IfOk};
 ghost use Rattle.card_tool.specs.SimulationTexts.{IsFile, Simulates};
 
-use crate::answer::Answer;
 use crate::exchange::written;
 use crate::file::LARGEST_FILE;
+use card_kinds::Answer;
 use card_words::{Fault, Session};
 use exchange_core::Exchange;
 use simulator::{SimulationFault, simulate};

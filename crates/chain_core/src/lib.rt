@@ -11,6 +11,7 @@
 pub mod blocks;
 pub mod cutting;
 pub mod laws;
+pub mod longest;
 pub mod part;
 pub mod places;
 pub mod reading;
@@ -20,6 +21,7 @@ pub mod writing;
 
 pub use blocks::{Cut, block_at};
 pub use cutting::cut;
+pub use longest::{LONGEST_COMMAND, LONGEST_RESPONSE};
 pub use part::Part;
 pub use places::ReceiverPlaces;
 pub use reading::{ReadRefusal, read_chain};

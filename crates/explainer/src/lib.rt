@@ -2,12 +2,11 @@
 //! there.
 //!
 //! `octets_note` says it of octets that are checked or shown, `forest_note` and `list_note` of octets that are built
-//! from, `words_note` of words that are no request, `file_note` and `replay_note` of the file of an exchange,
-//! `session_note` of an answer to reset from which no session begins, and `large_note` of what is too large. The texts
-//! are defined in `specs/Notes.antt`; which words a sentence has is open.
+//! from, `words_note` of words that are no request, `session_note` of an answer to reset from which no session begins,
+//! and `large_note` of what is too large. The texts are defined in `specs/Notes.antt`; which words a sentence has is
+//! open.
 #![tactic(auto)]
 
-pub mod file;
 mod known;
 mod mark;
 pub mod octets;
@@ -17,7 +16,6 @@ pub mod session;
 mod word;
 mod words;
 
-pub use file::{file_note, replay_note};
 pub use known::known_note;
 pub use octets::{forest_note, list_note, octets_note};
 pub use session::{large_note, session_note};

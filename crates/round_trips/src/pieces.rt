@@ -2,7 +2,8 @@
 
 ghost use Rattle.std.specs.Prelude.{◌≡◌, ◌≤◌, ◌<◌, ℕ, List, length, IfOk, None, true};
 ghost use Rattle.octet_core.specs.Octets.{AreOctets};
-ghost use Rattle.apdu_core.specs.Command.{IsCommand, longest_command};
+ghost use Rattle.apdu_core.specs.Command.{IsCommand};
+ghost use Rattle.chain_core.specs.Longest.{longest_command};
 ghost use Rattle.apdu_core.specs.Response.{IsResponse};
 ghost use Rattle.apdu_core.specs.Sending.{chain_of};
 

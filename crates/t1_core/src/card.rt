@@ -15,8 +15,8 @@ mod taking;
 use crate::buffers::{buffer, give_back, overwrite};
 use crate::places::CardPlaces;
 use crate::turns::{CardFault, CardTurn};
-use apdu_core::{LONGEST_COMMAND, LONGEST_RESPONSE as LONGEST_ANSWER};
 use atr_core::T1Params;
+use chain_core::{LONGEST_COMMAND, LONGEST_RESPONSE as LONGEST_ANSWER};
 use std::alloc::{AllocError, Global};
 use std::marker::Model;
 

@@ -23,8 +23,8 @@ mod sending;
 pub mod terminal;
 pub mod turns;
 
-pub use apdu_core::{LONGEST_COMMAND, LONGEST_RESPONSE as LONGEST_ANSWER};
 pub use card::Card;
+pub use chain_core::{LONGEST_COMMAND, LONGEST_RESPONSE as LONGEST_ANSWER};
 pub use places::{CardPlaces, TerminalPlaces};
 pub use terminal::{FIRST_IFSD, MOST_REPEATS, MOST_RESYNCHS, Terminal};
 pub use turns::{

@@ -12,9 +12,9 @@ ghost use Rattle.t1_core.specs.CardViews.{card_held, AreCardPlaces};
 use crate::buffers::overwrite;
 use crate::terminal::FIRST_IFSD;
 use crate::turns::{CardWait, Cut, TerminalWait};
-use apdu_core::{LONGEST_COMMAND, LONGEST_RESPONSE as LONGEST_ANSWER};
 use atr_core::T1Params;
 use block_core::Number;
+use chain_core::{LONGEST_COMMAND, LONGEST_RESPONSE as LONGEST_ANSWER};
 
 /// The terminal's numbers, sizes and limits, and what it waits in: a whole terminal, where its caller keeps
 /// the two buffers and lends them to each call.

@@ -13,8 +13,8 @@ mod taking;
 use crate::buffers::{buffer, give_back, overwrite};
 use crate::places::TerminalPlaces;
 use crate::turns::{TerminalFault, TerminalTurn};
-use apdu_core::{LONGEST_COMMAND, LONGEST_RESPONSE as LONGEST_ANSWER};
 use atr_core::T1Params;
+use chain_core::{LONGEST_COMMAND, LONGEST_RESPONSE as LONGEST_ANSWER};
 use std::alloc::{AllocError, Global};
 use std::marker::Model;
 

@@ -2,8 +2,9 @@ use Rattle.std.proofs.lemmas.Result.{err_from_is_err_and}
 use Rattle.card_words.specs.Texts.{fault_text}
 use Rattle.card_words.specs.declared.fault.Fault.TheVariants.{Memory}
 use Rattle.card_words.specs.declared.request.Request.TheVariants.{BuildFill, BuildTidy, Check, Show}
-use Rattle.card_tool.specs.Answers.{Checks, IsRightTo, Shows, Tidies}
-use Rattle.card_tool.specs.declared.status.Status.TheVariants as status
+use Rattle.card_tool.specs.Answers.{IsRightTo}
+use Rattle.card_kinds.specs.Verdicts.{Checks, Shows, Tidies}
+use Rattle.card_kinds.specs.declared.status.Status.TheVariants as status
 use Rattle.card_tool.proofs.Answering.{told-at_once, told-fault, told-wanting}
 use Rattle.card_tool.proofs.Explaining.{plain, wanting, with-note}
 use Rattle.card_tool.proofs.explained.answered_to.Goals as goal

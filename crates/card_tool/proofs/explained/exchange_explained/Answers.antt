@@ -4,7 +4,7 @@ use Rattle.card_words.specs.declared.fault.Fault.TheVariants.{Memory}
 use Rattle.card_words.specs.declared.request.Request.TheVariants.{Migrate, Replay, Simulate}
 use Rattle.card_tool.specs.Answers.{IsRightTo}
 use Rattle.card_tool.specs.ExchangeTexts.{Migrates, Replays}
-use Rattle.card_tool.specs.declared.status.Status.TheVariants as status
+use Rattle.card_kinds.specs.declared.status.Status.TheVariants as status
 use Rattle.card_tool.proofs.Answering.{file-fault, file-wanting, told-at_once}
 use Rattle.card_tool.proofs.Explaining.{plain, wanting, with-note}
 use Rattle.card_tool.proofs.Inputs.{none-begun}

@@ -1,6 +1,6 @@
 use Rattle.std.proofs.Common.{◌∙◌, ℕ, List, subst}
 use Rattle.card_tool.specs.Answers.{IsWritten}
-use Rattle.card_tool.specs.declared.status.Status.TheVariants as ended
+use Rattle.card_kinds.specs.declared.status.Status.TheVariants as ended
 use Rattle.card_tool.proofs.program.report.Goals as goal
 
 pub returns : goal.returns

@@ -1,6 +1,6 @@
 use Rattle.std.proofs.Common.{◌≡◌, ◌++◌, ◌∙◌, ℕ, List, sym, subst, arith}
 use Rattle.std.proofs.lemmas.List.{take-append-drop}
-use Rattle.apdu_core.specs.Command.{longest_command}
+use Rattle.chain_core.specs.Longest.{longest_command}
 use Rattle.block_core.specs.declared.pcb.Number.{Number}
 use Rattle.chain_core.specs.Chain.{IsChain}
 use Rattle.chain_core.specs.Cut.{cut_of}

@@ -3,7 +3,7 @@ use Rattle.card_words.specs.Texts.{fault_text}
 use Rattle.card_words.specs.declared.fault.Fault.TheVariants.{Memory}
 use Rattle.card_tool.specs.Answers.{IsWritten}
 use Rattle.card_tool.specs.LineAnswers.{all_told, first_told}
-use Rattle.card_tool.specs.declared.status.Status.TheVariants as ended
+use Rattle.card_kinds.specs.declared.status.Status.TheVariants as ended
 use Rattle.card_tool.proofs.ByLine.{begun-here}
 use Rattle.card_tool.proofs.lines.Told.ended.Goals as goal
 

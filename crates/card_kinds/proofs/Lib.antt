@@ -1,0 +1,6 @@
+pub mod Telling
+pub mod OneOf
+pub mod Chains
+pub mod Forests
+pub mod Duplicates
+pub mod OneVerdict

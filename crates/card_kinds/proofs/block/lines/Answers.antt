@@ -1,0 +1,26 @@
+use Rattle.std.proofs.Common.{◌≡◌, ◌∙◌, ◌∷◌, [], ℕ, List, drop, length, ◌-◌, ap, refl, sym, string_bytes}
+use Rattle.std.proofs.lemmas.Result.{IfOk-weaker}
+use Rattle.std.proofs.lemmas.List.{take_rest}
+use Rattle.hex.specs.Hex.{encode_upper}
+use Rattle.octet_core.specs.Octets.{xor_of}
+use Rattle.block_core.specs.Block.{front_of}
+use Rattle.card_kinds.specs.Texts.{octets_text}
+use Rattle.card_kinds.specs.BlockTexts.{pcb_text}
+use Rattle.card_kinds.proofs.Telling.{last-of}
+use Rattle.card_kinds.proofs.block.lines.Goals as goal
+
+pub returns : goal.returns
+returns c =
+    let nad : string_bytes c.in_ok-nad.nad ≡ encode_upper (c.args.block.now.nad ∷ []) =
+    c.in_ok-nad.ensures ∙ ap (λ (x : ℕ). encode_upper (x ∷ [])) c.nad.ensures in
+    let pcb : string_bytes c.in_ok-pcb.pcb ≡ pcb_text c.args.block.now.pcb =
+    c.in_ok-pcb.ensures ∙ ap pcb_text c.pcb.ensures in
+    let inf : string_bytes c.in_ok-inf.inf ≡ octets_text c.args.block.now.inf =
+    c.in_ok-inf.ensures ∙ ap octets_text c.inf.ensures.octets in
+    let b : List ℕ = c.deref.result.now in
+    let len : c.len.result ≡ length b = c.len.ensures.value ∙ ap length (sym c.deref.ensures.0) in
+    let lrc : string_bytes c.in_ok-lrc.lrc ≡ encode_upper (xor_of (front_of c.args.block.now) ∷ []) =
+    c.in_ok-lrc.ensures
+    ∙ ap encode_upper (take_rest b (c.len.result - 1) ∙ ap (λ (n : ℕ). drop (n - 1) b) len
+    ∙ last-of c.args.block.now b (c.deref.ensures.0 ∙ c.encode-octets.ensures.is)) in
+    IfOk-weaker c.format.result _ _ (λ text h. h ∙ rw (nad, pcb, inf, lrc) refl) c.format.ensures.ok

@@ -1,0 +1,50 @@
+-- What the program says of a block.
+use Rattle.std.specs.Prelude.{ℕ, List, [], ◌∷◌, ◌++◌, Bool, true, false, codes, decimal}
+use Rattle.hex.specs.Hex.{encode_upper}
+use Rattle.octet_core.specs.Octets.{xor_of}
+use Rattle.block_core.specs.Block.{Parts, IsBlock, IsReason, front_of, number_bit, fault_code}
+use Rattle.block_core.specs.declared.pcb.Pcb.{Pcb}
+use Rattle.block_core.specs.declared.pcb.Pcb.TheVariants.{Info, Ready, Request, Response}
+use Rattle.block_core.specs.declared.pcb.S.{S}
+use Rattle.block_core.specs.declared.pcb.S.TheVariants.{Resynch, Ifs, Abort, Wtx}
+pub use Rattle.block_core.specs.Names.{reason_name as reason_text}
+use Rattle.card_kinds.specs.Texts.{octets_text}
+use Rattle.octet_core.specs.Grammar.{self_ended}
+use Rattle.block_core.specs.declared.reason.BlockReason.{BlockReason}
+use Rattle.card_kinds.specs.Codec.{Codec}
+
+abbrev pub supervisory_text : S → List ℕ
+supervisory_text Resynch = codes "RESYNCH"
+supervisory_text Ifs = codes "IFS"
+supervisory_text Abort = codes "ABORT"
+supervisory_text Wtx = codes "WTX"
+
+abbrev pub more_number : Bool → ℕ
+more_number false = 0
+more_number true = 1
+
+abbrev pub pcb_text : Pcb → List ℕ
+pcb_text (Info number more) = codes "I number "
+    ++ (decimal (number_bit number 1) ++ (codes " more " ++ decimal (more_number more)))
+pcb_text (Ready number fault) = codes "R number "
+    ++ (decimal (number_bit number 1) ++ (codes " error " ++ decimal (fault_code fault)))
+pcb_text (Request about) = codes "S request " ++ supervisory_text about
+pcb_text (Response about) = codes "S response " ++ supervisory_text about
+
+-- a block, line by line
+abbrev pub block_text : Parts → List ℕ
+block_text v = codes "nad " ++ (encode_upper (v.nad ∷ [])
+    ++ (codes "\npcb " ++ (pcb_text v.pcb
+    ++ (codes "\ninf " ++ (octets_text v.inf
+    ++ (codes "\nlrc " ++ (encode_upper (xor_of (front_of v) ∷ []) ++ codes "\n")))))))
+
+-- of an information size
+abbrev pub block_codec : ℕ → Codec Parts BlockReason
+block_codec ifs = record {
+  ending = self_ended;
+  Spells = IsBlock ifs;
+  IsReason = IsReason ifs;
+  name =
+      reason_text;
+  lines = block_text;
+}

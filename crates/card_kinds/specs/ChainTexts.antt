@@ -1,0 +1,43 @@
+-- What the program says of a chain.
+use Rattle.std.specs.Prelude.{◌≡◌, ℕ, List, [], ◌∷◌, ◌++◌, length, codes, decimal, true, None}
+use Rattle.hex.specs.Hex.{encode_upper}
+use Rattle.octet_core.specs.Grammar.{Accepts, self_ended}
+use Rattle.block_core.specs.Block.{Parts, spelling}
+use Rattle.block_core.specs.declared.pcb.Number.{Number}
+pub use Rattle.chain_core.specs.Chain.{longest_message}
+use Rattle.chain_core.specs.Chain.{IsChain, IsReason, message_of}
+use Rattle.chain_core.specs.Taking.{Taking}
+pub use Rattle.chain_core.specs.Names.{reason_name as reason_text}
+use Rattle.card_kinds.specs.Texts.{octets_text}
+use Rattle.chain_core.specs.declared.reason.ChainReason.{ChainReason}
+use Rattle.card_kinds.specs.Codec.{Codec}
+
+-- the octets of each block, a line a block
+abbrev pub blocks_text : List Parts → List ℕ
+blocks_text [] = []
+blocks_text (b ∷ blocks) = encode_upper (spelling b) ++ (codes "\n" ++ blocks_text blocks)
+
+-- a chain with these fields, line by line
+abbrev pub chain_text : List (List ℕ) → List ℕ
+chain_text fields = codes "blocks " ++ (decimal (length fields)
+    ++ (codes "\nmessage " ++ (octets_text (message_of fields) ++ codes "\n")))
+
+-- the receiver r has taken the chain with which the octets b begin, which takes n of them
+pub record IsReceived (ifs : ℕ) (number : Number) (b : List ℕ) (r : Taking) (n : ℕ) : Type 0 where
+  pub fields : List (List ℕ)
+  pub accepted : Accepts self_ended (IsChain ifs number longest_message) b fields n
+  pub count : r.blocks ≡ length fields
+  pub joined : r.joined ≡ message_of fields
+  pub done : r.done ≡ true
+  pub none : r.refusal ≡ None
+
+-- of an information size and the number of the first block
+abbrev pub chain_codec : ℕ → Number → Codec (List (List ℕ)) ChainReason
+chain_codec ifs number = record {
+  ending = self_ended;
+  Spells = IsChain ifs number longest_message;
+  IsReason =
+      IsReason ifs number longest_message;
+  name = reason_text;
+  lines = chain_text;
+}

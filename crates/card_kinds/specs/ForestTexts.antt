@@ -1,0 +1,51 @@
+-- What the program says of a forest of data objects.
+use Rattle.std.specs.Prelude.{ℕ, List, [], ◌∷◌, ◌++◌, ◌-◌, ◌==◌, length, codes, decimal, if◌then◌else◌}
+use Rattle.std.specs.List.{repeat}
+use Rattle.hex.specs.Hex.{encode_upper}
+use Rattle.tlv_core.specs.Tag.{constructed_bit, length_field}
+use Rattle.tlv_core.specs.Flat.{PartValue, parts_of}
+use Rattle.tlv_core.specs.Tree.{Tree}
+use Rattle.tlv_core.specs.Forest.{largest, spelling, IsForest}
+use Rattle.tlv_core.specs.Tidy.{tidy}
+pub use Rattle.tlv_core.specs.Names.{reason_name as reason_text}
+use Rattle.card_kinds.specs.Texts.{octets_text}
+use Rattle.octet_core.specs.Grammar.{whole}
+use Rattle.tlv_core.specs.Reasons.{IsReason}
+use Rattle.tlv_core.specs.declared.reason.TlvReason.{TlvReason}
+use Rattle.card_kinds.specs.Codec.{Codec}
+
+-- the octets of the tidied forest
+abbrev pub tidied_text : Tree → List ℕ
+tidied_text t = octets_text (spelling (tidy t)) ++ codes "\n"
+
+-- the octets of a value, or that it is constructed
+abbrev pub value_text : PartValue → List ℕ
+value_text p = if constructed_bit p.tag == 1 then codes "constructed" else octets_text p.value
+
+-- an object, behind two spaces for each depth above 1
+abbrev pub part_text : PartValue → List ℕ
+part_text p = repeat (p.depth - 1) (codes "  ")
+    ++ (encode_upper p.tag ++ (codes " " ++
+    (encode_upper (length_field p.form (length p.value)) ++ (codes " " ++ (value_text p ++ codes "\n")))))
+
+abbrev pub lines_text : List PartValue → List ℕ
+lines_text [] = []
+lines_text (p ∷ parts) = part_text p ++ lines_text parts
+
+-- the count of objects, and each of them
+abbrev pub parts_text : List PartValue → List ℕ
+parts_text parts = codes "objects " ++ (decimal (length parts) ++ (codes "\n" ++ lines_text parts))
+
+-- the objects of a forest, each before those inside it
+abbrev pub forest_text : Tree → List ℕ
+forest_text t = parts_text (parts_of 1 0 t)
+
+abbrev pub forest_codec : Codec Tree TlvReason
+forest_codec = record {
+  ending = whole;
+  Spells = IsForest largest;
+  IsReason = IsReason largest;
+  name =
+      reason_text;
+  lines = forest_text;
+}

@@ -1,0 +1,11 @@
+pub mod Statuses
+pub mod Texts
+pub mod Codec
+pub mod AtrTexts
+pub mod ChainTexts
+pub mod CommandTexts
+pub mod ResponseTexts
+pub mod ForestTexts
+pub mod ListTexts
+pub mod BlockTexts
+pub mod Verdicts

@@ -1,0 +1,28 @@
+-- What the program says of a data object list.
+use Rattle.std.specs.Prelude.{ℕ, List, [], ◌∷◌, ◌++◌, length, codes, decimal}
+use Rattle.hex.specs.Hex.{encode_upper}
+pub use Rattle.tlv_core.specs.Names.{dol_reason_name as reason_text}
+use Rattle.card_kinds.specs.Texts.{octets_text}
+use Rattle.octet_core.specs.Grammar.{whole}
+use Rattle.tlv_core.specs.Dol.{IsDol, IsDolReason}
+use Rattle.tlv_core.specs.declared.reason.DolReason.{DolReason}
+use Rattle.card_kinds.specs.Codec.{Codec}
+
+-- the tag and the length of an entry
+abbrev pub entry_text : List ℕ × ℕ → List ℕ
+entry_text e = encode_upper e.0 ++ (codes " " ++ (decimal e.1 ++ codes "\n"))
+
+abbrev pub entries_text : List (List ℕ × ℕ) → List ℕ
+entries_text [] = []
+entries_text (e ∷ entries) = entry_text e ++ entries_text entries
+
+-- a list, line by line
+abbrev pub dol_text : List (List ℕ × ℕ) → List ℕ
+dol_text entries = codes "entries " ++ (decimal (length entries) ++ (codes "\n" ++ entries_text entries))
+
+-- the octets that fill a list
+abbrev pub filled_text : List ℕ → List ℕ
+filled_text octets = octets_text octets ++ codes "\n"
+
+abbrev pub list_codec : Codec (List (List ℕ × ℕ)) DolReason
+list_codec = record { ending = whole; Spells = IsDol; IsReason = IsDolReason; name = reason_text; lines = dol_text }

@@ -1,0 +1,40 @@
+-- What the program says of a response.
+use Rattle.std.specs.Prelude.{ℕ, List, [], ◌∷◌, ◌++◌, codes}
+use Rattle.hex.specs.Hex.{encode_upper}
+use Rattle.apdu_core.specs.Response.{ResponseParts, IsResponse, IsReason}
+pub use Rattle.apdu_core.specs.Names.{response_reason_name as reason_text}
+use Rattle.apdu_core.specs.Status.{class_of}
+use Rattle.apdu_core.specs.declared.status.StatusClass.{StatusClass}
+use Rattle.apdu_core.specs.declared.status.StatusClass.TheVariants.{Normal, Warning, Execution, Checking, Proprietary, Invalid}
+use Rattle.card_kinds.specs.Texts.{octets_text}
+use Rattle.octet_core.specs.Grammar.{whole}
+use Rattle.apdu_core.specs.declared.reason.ResponseReason.{ResponseReason}
+use Rattle.card_kinds.specs.Codec.{Codec}
+
+abbrev pub name_of : StatusClass → List ℕ
+name_of Normal = codes "normal"
+name_of Warning = codes "warning"
+name_of Execution = codes "execution"
+name_of Checking = codes "checking"
+name_of Proprietary = codes "proprietary"
+name_of Invalid = codes "invalid"
+
+abbrev pub class_text : ℕ → ℕ → List ℕ
+class_text sw1 sw2 = name_of (class_of sw1 sw2)
+
+-- a response, line by line
+abbrev pub response_text : ResponseParts → List ℕ
+response_text r =
+    codes "part " ++ (octets_text r.part ++
+    (codes "\nstatus " ++ (encode_upper (r.sw1 ∷ r.sw2 ∷ [])
+    ++ (codes " " ++ (class_text r.sw1 r.sw2 ++ codes "\n")))))
+
+abbrev pub response_codec : Codec ResponseParts ResponseReason
+response_codec = record {
+  ending = whole;
+  Spells = IsResponse;
+  IsReason = IsReason;
+  name = reason_text;
+  lines =
+      response_text;
+}

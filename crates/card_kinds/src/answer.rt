@@ -1,0 +1,105 @@
+//! A text that the program writes, and how it then ends.
+
+ghost use Rattle.std.specs.Prelude.{◌≡◌, ◌++◌, IfOk, string_bytes, codes, decimal};
+ghost use Rattle.card_words.specs.Texts.{fault_text};
+ghost use Rattle.card_kinds.specs.Texts.{accepted_text, duplicate_text, refused_as_text, refused_at_text, refused_text, short_text};
+ghost use Rattle.card_kinds.specs.declared.status.Status.TheVariants as ended;
+
+use crate::status::Status;
+use card_words::Fault;
+use octet_core::{Named, Octets, Stop};
+use std::alloc::{AllocError, Global};
+
+/// A text to be written, and how the program then ends.
+#[derive(Debug, Drop)]
+pub struct Answer {
+    /// The text's octets in UTF-8.
+    pub text: Octets,
+    pub status: Status,
+}
+
+impl Answer {
+    /// This text, and how the program then ends.
+    pub fn of(text: String, status: Status) -> Answer
+        ensures text { result.text ≡ string_bytes text }
+        ensures status { result.status ≡ status }
+    {
+        Answer {
+            text: Octets::of(text.into_bytes()),
+            status,
+        }
+    }
+
+    /// The octets are a value, which takes `taken` of them.
+    pub fn accepted(alloc: Global, taken: usize) -> Result<Answer, AllocError>
+        ensures text { IfOk result (λ answer. answer.text ≡ accepted_text taken) }
+        ensures status { IfOk result (λ answer. answer.status ≡ ended.Accepted) }
+    {
+        let text = format!(in alloc; "ok {taken} octets\n")?;
+        Ok(Answer::of(text, Status::Accepted))
+    }
+
+    /// The octets ended at `place`.
+    fn short(alloc: Global, place: usize) -> Result<Answer, AllocError>
+        ensures text { IfOk result (λ answer. answer.text ≡ short_text place) }
+        ensures status { IfOk result (λ answer. answer.status ≡ ended.Refused) }
+    {
+        let text = format!(in alloc; "short at {place}\n")?;
+        Ok(Answer::of(text, Status::Refused))
+    }
+
+    /// The octet at `place` is refused.
+    fn refused_at(alloc: Global, place: usize, reason: &str) -> Result<Answer, AllocError>
+        ensures text { IfOk result (λ answer. answer.text ≡ refused_at_text place reason.now) }
+        ensures status { IfOk result (λ answer. answer.status ≡ ended.Refused) }
+    {
+        let text = format!(in alloc; "refused at {place}: {reason}\n")?;
+        Ok(Answer::of(text, Status::Refused))
+    }
+
+    /// The octets are refused.
+    pub fn refused<R: Named>(alloc: Global, stop: Stop<R>) -> Result<Answer, AllocError>
+        ensures text { IfOk result (λ answer. answer.text ≡ refused_text R.text stop) }
+        ensures status { IfOk result (λ answer. answer.status ≡ ended.Refused) }
+    {
+        match stop {
+            Stop::Short { place } => Answer::short(alloc, place),
+            Stop::At { place, reason } => Answer::refused_at(alloc, place, reason.name()),
+        }
+    }
+
+    /// The whole is refused, by this name.
+    pub fn refused_as(alloc: Global, name: &str) -> Result<Answer, AllocError>
+        ensures text { IfOk result (λ answer. answer.text ≡ refused_as_text name.now) }
+        ensures status { IfOk result (λ answer. answer.status ≡ ended.Refused) }
+    {
+        let text = format!(in alloc; "refused: {name}\n")?;
+        Ok(Answer::of(text, Status::Refused))
+    }
+
+    /// Two known values have one tag.
+    pub fn duplicate(alloc: Global) -> Result<Answer, AllocError>
+        ensures text { IfOk result (λ answer. answer.text ≡ duplicate_text) }
+        ensures status { IfOk result (λ answer. answer.status ≡ ended.Refused) }
+    {
+        let text = String::from_str(alloc, "refused: Duplicate\n")?;
+        Ok(Answer::of(text, Status::Refused))
+    }
+
+    /// The line of a fault.
+    pub fn faulted(alloc: Global, fault: Fault) -> Result<Answer, AllocError>
+        ensures text { IfOk result (λ answer. answer.text ≡ fault_text fault) }
+        ensures status { IfOk result (λ answer. answer.status ≡ ended.Fault) }
+    {
+        let text = String::from_str(alloc, fault.text())?;
+        Ok(Answer::of(text, Status::Fault))
+    }
+
+    /// A value, told by a text.
+    pub fn told(text: String) -> Answer
+        ensures text { result.text ≡ string_bytes text }
+        ensures status { result.status ≡ ended.Accepted }
+    {
+        Answer::of(text, Status::Accepted)
+    }
+}

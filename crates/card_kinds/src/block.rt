@@ -1,0 +1,106 @@
+//! What the program says of a block.
+
+ghost use Rattle.std.specs.Prelude.{◌≡◌, IfOk, refl, string_bytes};
+ghost use Rattle.block_core.specs.Block.{fault_code, number_bit, Parts};
+ghost use Rattle.card_kinds.specs.BlockTexts.{block_codec, block_text, more_number, pcb_text, supervisory_text};
+
+use crate::codec::{Codec, Outcome};
+use crate::text::octets_word;
+use block_core::{Block, BlockReason, Fault, Number, Pcb, S, decode, encode};
+use card_words::Expected;
+use octet_core::hex_upper;
+use std::alloc::{AllocError, Global};
+
+impl Codec for Block {
+    type Reason = BlockReason;
+
+    ghost Value = { Parts };
+
+    ghost codec = { λ expected. block_codec expected.ifs };
+
+    ghost named = { λ _. refl };
+
+    fn taken(_alloc: Global, octets: &[u8], expected: Expected) -> Outcome<usize, BlockReason> {
+        let (_, taken) = decode(octets, expected.ifs)?;
+        Ok(taken)
+    }
+
+    fn shown(alloc: Global, octets: &[u8], expected: Expected) -> Outcome<String, BlockReason> {
+        let (block, _) = decode(octets, expected.ifs)?;
+        Ok(lines(alloc, &block)?)
+    }
+}
+
+/// A block, line by line: its node address, what it is, its information field and its LRC.
+pub(crate) fn lines(alloc: Global, block: &Block) -> Result<String, AllocError>
+    ensures { IfOk result (λ text. string_bytes text ≡ block_text block.now) }
+{
+    let nad = hex_upper(alloc, &[block.nad()])?;
+    let pcb = pcb_words(alloc, block.pcb())?;
+    let inf = octets_word(alloc, block.inf())?;
+    let octets = encode(block);
+    let lrc = hex_upper(alloc, &octets[octets.len() - 1..])?;
+    format!(in alloc; "nad {nad}\npcb {pcb}\ninf {inf}\nlrc {lrc}\n")
+}
+
+/// What a block is, in words.
+fn pcb_words(alloc: Global, pcb: Pcb) -> Result<String, AllocError>
+    ensures { IfOk result (λ text. string_bytes text ≡ pcb_text pcb) }
+{
+    match pcb {
+        Pcb::Info { number, more } => {
+            let number = number_digit(number);
+            let more = more_digit(more);
+            format!(in alloc; "I number {number} more {more}")
+        }
+        Pcb::Ready { number, fault } => {
+            let number = number_digit(number);
+            let error = error_digit(fault);
+            format!(in alloc; "R number {number} error {error}")
+        }
+        Pcb::Request(about) => {
+            let name = supervisory_name(about);
+            format!(in alloc; "S request {name}")
+        }
+        Pcb::Response(about) => {
+            let name = supervisory_name(about);
+            format!(in alloc; "S response {name}")
+        }
+    }
+}
+
+fn number_digit(number: Number) -> u8
+    ensures { result ≡ number_bit number 1 }
+{
+    match number {
+        Number::Zero => 0,
+        Number::One => 1,
+    }
+}
+
+fn more_digit(more: bool) -> u8
+    ensures { result ≡ more_number more }
+{
+    if more { 1 } else { 0 }
+}
+
+fn error_digit(fault: Fault) -> u8
+    ensures { result ≡ fault_code fault }
+{
+    match fault {
+        Fault::Free => 0,
+        Fault::Redundancy => 1,
+        Fault::Other => 2,
+    }
+}
+
+fn supervisory_name(about: S) -> &'static str
+    ensures { result.now ≡ supervisory_text about }
+{
+    match about {
+        S::Resynch => "RESYNCH",
+        S::Ifs => "IFS",
+        S::Abort => "ABORT",
+        S::Wtx => "WTX",
+    }
+}

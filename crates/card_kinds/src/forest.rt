@@ -1,0 +1,111 @@
+//! What the program says of a forest of data objects.
+
+ghost use Rattle.std.specs.Prelude.{◌≡◌, List, ℕ, IfOk, MatchResult, map, refl, string_bytes};
+ghost use Rattle.octet_core.specs.Grammar.{whole, Refuses};
+ghost use Rattle.tlv_core.specs.Tree.{Tree};
+ghost use Rattle.tlv_core.specs.Forest.{largest, IsForest};
+ghost use Rattle.tlv_core.specs.Reasons.{IsReason};
+ghost use Rattle.tlv_core.specs.Flat.{part_seen};
+ghost use Rattle.card_kinds.specs.Verdicts.{Tells};
+ghost use Rattle.card_kinds.specs.ForestTexts.{forest_codec, lines_text, part_text, parts_text, tidied_text, value_text};
+
+use crate::answer::Answer;
+use crate::codec::{Codec, Outcome};
+use crate::text::octets_word;
+use card_words::Expected;
+use octet_core::{Refused, Stop, hex_upper};
+use std::alloc::{AllocError, Global};
+use tlv_core::{FlatForest, Forest, ForestCheck, LARGEST_FOREST, Part, TlvReason, decode, encode};
+
+impl Codec for Forest {
+    type Reason = TlvReason;
+
+    ghost Value = { Tree };
+
+    ghost codec = { λ _. forest_codec };
+
+    ghost named = { λ _. refl };
+
+    fn taken(_alloc: Global, octets: &[u8], _expected: Expected) -> Outcome<usize, TlvReason> {
+        verdict(octets)?;
+        Ok(octets.len())
+    }
+
+    fn shown(alloc: Global, octets: &[u8], _expected: Expected) -> Outcome<String, TlvReason> {
+        let forest = FlatForest::read(alloc, octets, LARGEST_FOREST)?;
+        Ok(lines(alloc, forest.parts())?)
+    }
+}
+
+/// The forest that the octets spell, in the shortest octets that say the same.
+pub fn tidy(alloc: Global, octets: &[u8]) -> Result<Answer, AllocError>
+    ensures { IfOk result (λ answer.
+        Tells forest_codec (λ v n. tidied_text v) octets.now answer.text answer.status) }
+{
+    match decode(alloc, octets, LARGEST_FOREST) {
+        Ok(forest) => Ok(Answer::told(tidied(alloc, &forest)?)),
+        Err(Refused::Stop(stop)) => Answer::refused(alloc, stop),
+        Err(Refused::Memory) => Err(AllocError),
+    }
+}
+
+fn verdict(octets: &[u8]) -> Result<(), Stop<TlvReason>>
+    ensures { MatchResult result (λ _. (t : Tree) × IsForest largest t octets.now)
+        (Refuses whole (IsForest largest) (IsReason largest) octets.now) }
+{
+    let mut check = ForestCheck::new(LARGEST_FOREST);
+    check.feed(octets)?;
+    check.finish()
+}
+
+/// The octets of the tidied forest, a line.
+fn tidied(alloc: Global, forest: &Forest) -> Result<String, AllocError>
+    ensures { IfOk result (λ text. string_bytes text ≡ tidied_text forest.now) }
+{
+    let tidied = tlv_core::tidy(alloc, forest)?;
+    let octets = encode(alloc, &tidied)?;
+    let word = octets_word(alloc, octets.as_slice())?;
+    format!(in alloc; "{word}\n")
+}
+
+/// The count of objects, and each of them.
+fn lines(alloc: Global, parts: &[Part<'_>]) -> Result<String, AllocError>
+    ensures { IfOk result (λ text. string_bytes text ≡ parts_text (map part_seen parts.now)) }
+{
+    let count = parts.len();
+    let lines = part_lines(alloc, parts)?;
+    format!(in alloc; "objects {count}\n{lines}")
+}
+
+fn part_lines(alloc: Global, parts: &[Part<'_>]) -> Result<String, AllocError>
+    ensures { IfOk result (λ text. string_bytes text ≡ lines_text (map part_seen parts.now)) }
+{
+    let mut lines = String::new(alloc);
+    for part in parts {
+        let line = part_line(alloc, part)?;
+        lines.push_str(line.as_str())?;
+    }
+    Ok(lines)
+}
+
+/// An object, after two spaces for each depth above 1: its tag, its length field and its value.
+fn part_line(alloc: Global, part: &Part<'_>) -> Result<String, AllocError>
+    ensures { IfOk result (λ text. string_bytes text ≡ part_text (part_seen part.now)) }
+{
+    let indent = "  ".repeat(alloc, part.depth.saturating_sub(1))?;
+    let tag = hex_upper(alloc, part.tag.octets())?;
+    let length = hex_upper(alloc, part.length_field().as_slice())?;
+    let value = value_word(alloc, part)?;
+    format!(in alloc; "{indent}{tag} {length} {value}\n")
+}
+
+/// The octets of a value, or that it is constructed.
+fn value_word(alloc: Global, part: &Part<'_>) -> Result<String, AllocError>
+    ensures { IfOk result (λ text. string_bytes text ≡ value_text (part_seen part.now)) }
+{
+    if part.tag.is_constructed() {
+        String::from_str(alloc, "constructed")
+    } else {
+        octets_word(alloc, part.value)
+    }
+}

@@ -1,0 +1,106 @@
+//! What the program says of a data object list.
+
+ghost use Rattle.std.specs.Prelude.{◌≡◌, ◌++◌, List, ℕ, IfOk, OnOk, length, refl, string_bytes};
+ghost use Rattle.tlv_core.specs.Fill.{filled, HasDuplicate};
+ghost use Rattle.card_kinds.specs.Verdicts.{IsFilled, IsFilledBy};
+ghost use Rattle.card_kinds.specs.ListTexts.{dol_text, entries_text, entry_text, filled_text, list_codec};
+
+use crate::answer::Answer;
+use crate::codec::{Codec, Outcome};
+use crate::text::octets_word;
+use card_words::{Expected, Fault, Knowns};
+use octet_core::{Refused, hex_upper};
+use std::alloc::{AllocError, Global};
+use tlv_core::{Dol, DolReason, FillFault, Tag};
+
+impl Codec for Dol {
+    type Reason = DolReason;
+
+    ghost Value = { List (List ℕ × ℕ) };
+
+    ghost codec = { λ _. list_codec };
+
+    ghost named = { λ _. refl };
+
+    fn taken(alloc: Global, octets: &[u8], _expected: Expected) -> Outcome<usize, DolReason> {
+        Dol::decode(alloc, octets)?;
+        Ok(octets.len())
+    }
+
+    fn shown(alloc: Global, octets: &[u8], _expected: Expected) -> Outcome<String, DolReason> {
+        let dol = Dol::decode(alloc, octets)?;
+        Ok(lines(alloc, &dol)?)
+    }
+}
+
+/// What the octets of a list ask for, of what is known. A fault of what is known counts only where they
+/// are a list.
+pub fn fill(
+    alloc: Global,
+    octets: &[u8],
+    known: &Result<Knowns, Fault>,
+) -> Result<Answer, AllocError>
+    ensures { IfOk result (λ answer. IsFilled octets.now known.now answer.text answer.status) }
+{
+    match Dol::decode(alloc, octets) {
+        Ok(dol) => fill_by(alloc, &dol, known),
+        Err(Refused::Stop(stop)) => Answer::refused(alloc, stop),
+        Err(Refused::Memory) => Err(AllocError),
+    }
+}
+
+/// What a list asks for.
+fn fill_by(alloc: Global, dol: &Dol, known: &Result<Knowns, Fault>) -> Result<Answer, AllocError>
+    ensures { IfOk result (λ answer. IsFilledBy known.now dol.now answer.text answer.status) }
+{
+    match known {
+        Ok(known) => filled(alloc, dol, known),
+        Err(fault) => Answer::faulted(alloc, *fault),
+    }
+}
+
+fn filled(alloc: Global, dol: &Dol, known: &Knowns) -> Result<Answer, AllocError>
+    ensures { IfOk result (λ answer. IsFilledBy (Ok known.now) dol.now answer.text answer.status) }
+{
+    match tlv_core::fill(alloc, dol, known.get()) {
+        Ok(octets) => Ok(Answer::told(line(alloc, octets.as_slice())?)),
+        Err(FillFault::Duplicate) => Answer::duplicate(alloc),
+        Err(FillFault::Memory) => Err(AllocError),
+    }
+}
+
+/// Octets, a line.
+fn line(alloc: Global, octets: &[u8]) -> Result<String, AllocError>
+    ensures { IfOk result (λ text. string_bytes text ≡ filled_text octets.now) }
+{
+    let word = octets_word(alloc, octets)?;
+    format!(in alloc; "{word}\n")
+}
+
+/// A list, line by line: the count of its entries, and the tag and the length of each.
+fn lines(alloc: Global, dol: &Dol) -> Result<String, AllocError>
+    ensures { IfOk result (λ text. string_bytes text ≡ dol_text dol.now) }
+{
+    let entries = dol.entries();
+    let count = entries.len();
+    let lines = entry_lines(alloc, entries)?;
+    format!(in alloc; "entries {count}\n{lines}")
+}
+
+fn entry_lines(alloc: Global, entries: &[(Tag, u8)]) -> Result<String, AllocError>
+    ensures { IfOk result (λ text. string_bytes text ≡ entries_text entries.now) }
+{
+    let mut lines = String::new(alloc);
+    for (tag, length) in entries {
+        let line = entry_line(alloc, tag, *length)?;
+        lines.push_str(line.as_str())?;
+    }
+    Ok(lines)
+}
+
+fn entry_line(alloc: Global, tag: &Tag, length: u8) -> Result<String, AllocError>
+    ensures { IfOk result (λ text. string_bytes text ≡ entry_text (tag.now, length)) }
+{
+    let tag = hex_upper(alloc, tag.octets())?;
+    format!(in alloc; "{tag} {length}\n")
+}

@@ -1,0 +1,164 @@
+//! Notes on the file of a recorded exchange: the line that is wrong, with its text, and what is expected there.
+
+ghost use Rattle.std.specs.Prelude.{◌≡◌, IfOk, string_bytes};
+ghost use Rattle.explainer.specs.Notes.{line_note};
+
+use card_words::End;
+use exchange_core::{Exchange, ExchangeFault, ReplayFault, Side, read_exchange, replay};
+use explainer::session_note;
+use std::alloc::{AllocError, Global};
+
+/// How many characters of a line are shown, at most.
+const SHOWN: usize = 80;
+
+/// The number of the line with the answer to reset.
+const ATR_LINE: usize = 2;
+
+/// What a person wants to know of a text that is the file of no exchange: the line with its first fault, and what is
+/// expected there; nothing of a text that is.
+pub(crate) fn file_note(alloc: Global, text: &[u8]) -> Result<String, AllocError> {
+    match read_exchange(alloc, text) {
+        Ok(_) => Ok(String::new(alloc)),
+        Err(fault) => fault_note(alloc, text, fault),
+    }
+}
+
+/// What a person wants to know of a file that is replayed at an end: its fault, or the first line that the end does
+/// otherwise, and why; nothing where the end does all of it.
+pub(crate) fn replay_note(alloc: Global, text: &[u8], end: End) -> Result<String, AllocError> {
+    match read_exchange(alloc, text) {
+        Ok(exchange) => difference_note(alloc, text, &exchange, end),
+        Err(fault) => fault_note(alloc, text, fault),
+    }
+}
+
+/// A line of a file by its number, with its text, and what is to be said of it.
+fn line_said(alloc: Global, number: usize, line: &str, what: &str) -> Result<String, AllocError>
+    ensures { IfOk result (λ text. string_bytes text ≡ line_note number line.now what.now) }
+{
+    format!(in alloc; "line {number} of the file: {line}\n{what}\n")
+}
+
+/// The line with the first fault of a text, and what is expected there.
+fn fault_note(alloc: Global, text: &[u8], fault: ExchangeFault) -> Result<String, AllocError> {
+    match fault {
+        ExchangeFault::Header => {
+            let what = "expected: scard-exchange 1 or scard-exchange 2, and a line feed";
+            noted(alloc, text, 1, what)
+        }
+        ExchangeFault::End { line } => {
+            let what = "expected: a line feed at its end, and a line atr OCTETS after the header";
+            noted(alloc, text, line, what)
+        }
+        ExchangeFault::Word { line } => noted(alloc, text, line, form_at(text, line)),
+        ExchangeFault::Hex { line } => {
+            let what =
+                "expected: OCTETS in upper-case hexadecimal, two digits each, or none; HH is one octet";
+            noted(alloc, text, line, what)
+        }
+        ExchangeFault::Falls { line } => {
+            let what = "expected: a number that isn't below that of an earlier line at N";
+            noted(alloc, text, line, what)
+        }
+        ExchangeFault::Memory => Err(AllocError),
+    }
+}
+
+/// The first line that an end does otherwise, and why.
+fn difference_note(
+    alloc: Global,
+    text: &[u8],
+    exchange: &Exchange,
+    end: End,
+) -> Result<String, AllocError> {
+    match replay(alloc, exchange, side(end)) {
+        Ok(()) => Ok(String::new(alloc)),
+        Err(ReplayFault::Differs { line, gives }) => {
+            let lines = exchange.lines().get().len().saturating_add(ATR_LINE);
+            if line == ATR_LINE {
+                let note = session_note(alloc, exchange.atr())?;
+                return noted(alloc, text, line, note.as_str().trim_end());
+            }
+            noted(alloc, text, line, reason(gives.get(), line > lines))
+        }
+        Err(ReplayFault::Memory) => Err(AllocError),
+    }
+}
+
+fn side(end: End) -> Side {
+    match end {
+        End::Terminal => Side::Terminal,
+        End::Card => Side::Card,
+    }
+}
+
+/// Why an end differs from a line after that of the answer to reset, by what it gives there.
+fn reason(gives: &str, is_past: bool) -> &'static str {
+    if gives.starts_with("refused ") {
+        "the end refuses this call in the state that it is in"
+    } else if gives == "nothing" {
+        "this line has a turn of the end, which has none to give here"
+    } else if is_past {
+        "the file ends here, and no line has the last turn of the end"
+    } else {
+        "the end's turn has to be met by a line before anything else happens to it, and this is another line"
+    }
+}
+
+/// A line of a text, and what is to be said of it.
+fn noted(alloc: Global, text: &[u8], number: usize, what: &str) -> Result<String, AllocError> {
+    let line = shown(alloc, line_at(text, number))?;
+    line_said(alloc, number, line.as_str(), what)
+}
+
+/// The line with a number, counted from 1, without its line feed; empty where there is none.
+fn line_at(text: &[u8], number: usize) -> &[u8] {
+    let mut left = number;
+    for line in text.split(|octet| *octet == b'\n') {
+        if left == 1 {
+            return line;
+        }
+        left = left.saturating_sub(1);
+    }
+    &[]
+}
+
+/// The front of a line, with a question mark for each octet that is no printable character.
+fn shown(alloc: Global, line: &[u8]) -> Result<String, AllocError> {
+    let mut text = String::new(alloc);
+    for octet in &line[..line.len().min(SHOWN)] {
+        if b' ' <= *octet && *octet <= b'~' {
+            text.push(char::from(*octet))?;
+        } else {
+            text.push('?')?;
+        }
+    }
+    Ok(text)
+}
+
+/// The form of a line, by its first word.
+fn form_at(text: &[u8], number: usize) -> &'static str {
+    if number == ATR_LINE {
+        return "expected: atr OCTETS";
+    }
+    match first_word(line_at(text, number)) {
+        b"command" | b"answer" | b"reply" | b"asked" => "expected: this word and OCTETS",
+        b"ifsd" | b"time" | b"ifsc" => "expected: this word and HH",
+        b"t" => "expected: t OCTETS, t OCTETS lost or t OCTETS as OCTETS",
+        b"c" => "expected: c OCTETS, c OCTETS lost or c OCTETS as OCTETS",
+        b"quiet" | b"ifs-set" | b"given-up" | b"dead" => "expected: this word alone",
+        b"at" => "expected: at N, N in 1 to 15 decimal digits, in version 2",
+        b"note" => "expected: note TEXT, TEXT of 1 to 200 printable characters, in version 2",
+        _ => {
+            "expected: a first word that a line can have, as command, t, c, asked, reply, answer or quiet"
+        }
+    }
+}
+
+/// What is before the first space of a line.
+fn first_word(line: &[u8]) -> &[u8] {
+    match line.iter().position(|octet| *octet == b' ') {
+        Some(end) => &line[..end],
+        None => line,
+    }
+}
