@@ -10,19 +10,45 @@
  * in a buffer that the same call writes. What a call writes, and when, is said at the call; in all other cases it
  * leaves what its pointers point to as it was.
  *
- * The library has no state of its own: two threads may be in any calls at a time, each with its own handles and
- * buffers.
+ * The library has no state of its own: two threads may be in any calls at a time, each with its own handles, states
+ * and buffers. Each of these is in one call at a time, and may go to another thread between two calls, where the
+ * program orders them, by a lock or by a thread's start or join.
  */
 #ifndef SCARD_H
 #define SCARD_H
+
+/* The version of this header. scard_version() is that of the library that is linked; both are one number where the
+ * header is the library's.
+ */
+#define SCARD_VERSION_MAJOR 1
+#define SCARD_VERSION_MINOR 0
+#define SCARD_VERSION_PATCH 0
+#define SCARD_VERSION (SCARD_VERSION_MAJOR * 1000000 + SCARD_VERSION_MINOR * 1000 + SCARD_VERSION_PATCH)
+#define SCARD_VERSION_TEXT "1.0.0"
 
 #include <stdbool.h>
 #include <stddef.h>
 #include <stdint.h>
 
+/* At each call whose answer says what happened: the compiler warns where it is thrown away. Where that isn't wanted,
+ * define it as nothing before this header is included.
+ */
+#ifndef SCARD_MUST_USE
+#if defined(__cplusplus) && __cplusplus >= 201703L
+#define SCARD_MUST_USE [[nodiscard]]
+#elif defined(__GNUC__)
+#define SCARD_MUST_USE __attribute__((warn_unused_result))
+#else
+#define SCARD_MUST_USE
+#endif
+#endif
+
 #ifdef __cplusplus
 extern "C" {
 #endif
+
+/* The version of the library, as SCARD_VERSION. */
+uint32_t scard_version(void);
 
 /* ---- verdicts ---- */
 
@@ -46,7 +72,8 @@ enum scard_status {
 struct scard_verdict {
     uint8_t status; /* enum scard_status */
     uint8_t reason; /* the reason by the codec, below; 0 unless the status is SCARD_AT */
-    size_t place;
+    size_t place;   /* what the status says: at SCARD_OK the octets that were written or taken, at SCARD_ARGUMENT the
+                       room that is needed, while nothing was written. So look at the status first. */
 };
 
 /* The codecs, for scard_reason_name. */
@@ -115,23 +142,42 @@ enum scard_hex_reason {
     SCARD_HEX_ODD = 2    /* the text has an odd number of digits; `place` is its length */
 };
 
-/* The name of a reason, "" where the codec has none with this number. */
+/* ---- names ---- */
+
+/* A text that the library has, and that never changes. */
+struct scard_text {
+    const char *text; /* a 0 is after it */
+    size_t size;      /* its octets, with the 0 */
+};
+
+/* Write where a name is: of a status ("SHORT"), of a turn's kind ("SEND"), of a reason of a codec ("BadTck"). It is ""
+ * where nothing has this number.
+ */
+void scard_status_text(uint8_t status, struct scard_text *out);
+void scard_turn_text(uint8_t kind, struct scard_text *out);
+void scard_reason_text(uint8_t codec, uint8_t reason, struct scard_text *out);
+
+/* The same names, for C and C++. */
+static inline const char *scard_status_name(int status)
+{
+    struct scard_text name;
+    scard_status_text((uint8_t)(status < 0 || status > 255 ? 255 : status), &name);
+    return name.text;
+}
+
+static inline const char *scard_turn_name(int kind)
+{
+    struct scard_text name;
+    scard_turn_text((uint8_t)(kind < 0 || kind > 255 ? 255 : kind), &name);
+    return name.text;
+}
+
 static inline const char *scard_reason_name(int codec, int reason)
 {
-    static const char *const names[9][10] = {
-        {""},
-        {"", "BadTs", "TooLong", "BadTck"},
-        {"", "BadPcb", "BadLen", "OverIfs", "BadIfs", "BadLrc"},
-        {"", "BadNad", "BadPcb", "NotInfo", "BadSequence", "TooManyBlocks", "BadLen", "OverIfs", "TooLong", "BadLrc"},
-        {"", "Trailing"},
-        {"", "TooLong"},
-        {"", "TooDeep", "TagSecond", "TagLong", "LengthForm", "Overrun", "TooLong"},
-        {"", "TagZero", "TagSecond", "TagLong"},
-        {"", "Digit", "Odd"}};
-    if (codec < 1 || codec > 8 || reason < 1 || reason > 9 || names[codec][reason] == NULL) {
-        return "";
-    }
-    return names[codec][reason];
+    struct scard_text name;
+    int is_number = codec >= 0 && codec <= 255 && reason >= 0 && reason <= 255;
+    scard_reason_text((uint8_t)(is_number ? codec : 0), (uint8_t)(is_number ? reason : 0), &name);
+    return name.text;
 }
 
 /* ---- octets ---- */
@@ -141,11 +187,13 @@ uint8_t scard_lrc(const uint8_t *octets, size_t count);
 
 /* Writes octets as hexadecimal text in upper case, two digits each, with no 0 after it. Room: 2 * count.
  * OK, MEMORY, ARGUMENT. */
+SCARD_MUST_USE
 struct scard_verdict scard_hex_encode(const uint8_t *octets, size_t count, char *text, size_t room);
 
 /* Writes the octets of a hexadecimal text in either case. Room: length / 2. The first octet that is no digit is
  * refused; a text of an odd length is refused at its end. OK, AT (enum scard_hex_reason), MEMORY, ARGUMENT.
  */
+SCARD_MUST_USE
 struct scard_verdict scard_hex_decode(const char *text, size_t length, uint8_t *out, size_t room);
 
 /* ---- answers to reset (ISO/IEC 7816-3, clause 8) ---- */
@@ -174,14 +222,17 @@ struct scard_atr {
 };
 
 /* The verdict on octets as an answer to reset; what follows the answer isn't looked at. OK, SHORT, AT. */
+SCARD_MUST_USE
 struct scard_verdict scard_atr_check(const uint8_t *octets, size_t count);
 
 /* The same, and the answer is written to *out at OK. */
+SCARD_MUST_USE
 struct scard_verdict scard_atr_decode(const uint8_t *octets, size_t count, struct scard_atr *out);
 
 /* Writes the octets of an answer. Room: at most 33. ARGUMENT with place 0: a count is too large, a protocol is
  * above 15, or it would have more than 33 octets. OK, ARGUMENT.
  */
+SCARD_MUST_USE
 struct scard_verdict scard_atr_encode(const struct scard_atr *atr, uint8_t *out, size_t room);
 
 /* What scard_atr_t1_params says; any other number is SCARD_ARGUMENT, where the struct says no answer. */
@@ -194,11 +245,12 @@ enum scard_t1_fault {
 
 struct scard_t1 {
     uint8_t ifsc; /* the information size of the card, 1 to 254 */
-    uint8_t bwi;  /* the indexes of its waiting times, 0 to 15 */
+    uint8_t bwi;  /* the indexes of its block waiting time and its character waiting time, 0 to 15 */
     uint8_t cwi;
 };
 
 /* The parameters of T=1 that an answer gives (ISO/IEC 7816-3, clause 11.4), or their defaults 32, 4 and 13. */
+SCARD_MUST_USE
 uint8_t scard_atr_t1_params(const struct scard_atr *atr, struct scard_t1 *out);
 
 struct scard_rates {
@@ -208,7 +260,21 @@ struct scard_rates {
 
 /* The integers Fi and Di of TA1 (clause 8.3), or 372 and 1. SCARD_OK, or SCARD_ARGUMENT where the struct says no
    answer. */
+SCARD_MUST_USE
 uint8_t scard_atr_rates(const struct scard_atr *atr, struct scard_rates *out);
+
+/* The waiting times of these parameters (clause 11.4), with nothing rounded; 0 where the struct says none: `ifsc` is 0
+ * or 255, or an index is above 15. An elementary time unit, etu, is `fi` / `di` cycles of the card's clock; `fi` and
+ * `di` are the integers that are in use, 372 and 1 until others are agreed. docs/C.md makes microseconds of them.
+ *
+ * CWT, the longest time between the beginnings of two characters of one block, in etu: 11 + 2^cwi, so 12 to 32,779.
+ */
+uint32_t scard_t1_cwt(const struct scard_t1 *params);
+
+/* BWT, the longest time between the beginnings of the last character that the card received and of the first that it
+ * sends back, in cycles of the card's clock times `di`: 11 * fi + 2^bwi * 960 * 372 * di. `fi` of these are an etu.
+ */
+uint64_t scard_t1_bwt(const struct scard_t1 *params, uint16_t fi, uint16_t di);
 
 /* ---- blocks of T=1 (ISO/IEC 7816-3, clause 11.3) ---- */
 
@@ -231,20 +297,26 @@ enum scard_block_about { SCARD_S_RESYNCH = 0, SCARD_S_IFS = 1, SCARD_S_ABORT = 2
 /* The block with which the octets begin, where I-blocks have at most `ifs` octets, 1 to 254; it is written to *out
  * at OK. OK, SHORT, AT, ARGUMENT.
  */
+SCARD_MUST_USE
 struct scard_verdict scard_block_decode(const uint8_t *octets, size_t count, uint8_t ifs, struct scard_block *out);
 
 /* Write a block. `ns` and `nr` are 0 or 1, an information field has at most 254 octets. Room: SCARD_BLOCK_ROOM, or
  * the field's octets and 4. ARGUMENT with place 0: there is no such block. OK, ARGUMENT.
  */
+SCARD_MUST_USE
 struct scard_verdict scard_block_i(uint8_t nad, uint8_t ns, bool more, const uint8_t *inf, size_t count,
                                    uint8_t *out, size_t room);
+SCARD_MUST_USE
 struct scard_verdict scard_block_r(uint8_t nad, uint8_t nr, uint8_t fault, uint8_t *out, size_t room);
+SCARD_MUST_USE
 struct scard_verdict scard_block_s_request(uint8_t nad, uint8_t about, const uint8_t *inf, size_t count,
                                            uint8_t *out, size_t room);
+SCARD_MUST_USE
 struct scard_verdict scard_block_s_response(uint8_t nad, uint8_t about, const uint8_t *inf, size_t count,
                                             uint8_t *out, size_t room);
 
 /* The same by the control octet, one of 18. */
+SCARD_MUST_USE
 struct scard_verdict scard_block_encode(uint8_t nad, uint8_t pcb, const uint8_t *inf, size_t count,
                                         uint8_t *out, size_t room);
 
@@ -254,12 +326,14 @@ struct scard_verdict scard_block_encode(uint8_t nad, uint8_t pcb, const uint8_t 
  * with more to come where any are left after them, and the number `ns`. Room: SCARD_BLOCK_ROOM. ARGUMENT with
  * place 0: `ifs` is 0 or 255, `ns` isn't 0 or 1, or `start` is past the message. OK, ARGUMENT.
  */
+SCARD_MUST_USE
 struct scard_verdict scard_chain_block(const uint8_t *message, size_t count, size_t start, uint8_t ifs, uint8_t ns,
                                        uint8_t *out, size_t room);
 
 /* Writes the whole chain of a message of at most 131,072 octets, the first block with the number `ns`. Room: the
  * message and 4 octets a block; the empty message has one block. OK, ARGUMENT.
  */
+SCARD_MUST_USE
 struct scard_verdict scard_chain_cut(const uint8_t *message, size_t count, uint8_t ifs, uint8_t ns,
                                      uint8_t *out, size_t room);
 
@@ -290,17 +364,21 @@ struct scard_response {
 };
 
 /* The command, or the response, that all the octets are; it is written to *out at OK. OK, SHORT, AT. */
+SCARD_MUST_USE
 struct scard_verdict scard_command_decode(const uint8_t *octets, size_t count, struct scard_command *out);
+SCARD_MUST_USE
 struct scard_verdict scard_response_decode(const uint8_t *octets, size_t count, struct scard_response *out);
 
 /* Writes the command with the header, shape and Le of a struct, and this data field; the struct's other fields
  * aren't looked at. Give an Le of 0 and no data field to a shape that hasn't them. Room: at most the data field
  * and 9. ARGUMENT with place 0: its length fields can't tell them. OK, MEMORY, ARGUMENT.
  */
+SCARD_MUST_USE
 struct scard_verdict scard_command_encode(const struct scard_command *command, const uint8_t *data, size_t count,
                                           uint8_t *out, size_t room);
 
 /* Writes a response. Room: the data field, at most 65,536 octets, and 2. OK, MEMORY, ARGUMENT. */
+SCARD_MUST_USE
 struct scard_verdict scard_response_encode(const uint8_t *data, size_t count, uint8_t sw1, uint8_t sw2,
                                            uint8_t *out, size_t room);
 
@@ -324,10 +402,12 @@ uint8_t scard_status_class(uint8_t sw1, uint8_t sw2);
 /* The verdict on octets as a forest: a list of data objects and filler octets 00, at most `max` octets, itself at
  * most SCARD_TLV_LARGEST. OK, SHORT, AT, ARGUMENT.
  */
+SCARD_MUST_USE
 struct scard_verdict scard_tlv_check(const uint8_t *octets, size_t count, size_t max);
 
 /* Writes the same objects without fillers and with each length in its shortest form. Room: `count` suffices.
  * OK, SHORT, AT, MEMORY, ARGUMENT. */
+SCARD_MUST_USE
 struct scard_verdict scard_tlv_tidy(const uint8_t *octets, size_t count, size_t max, uint8_t *out, size_t room);
 
 /* A tag: its octets, 1 to 3, and 0 after them; and how many they are. As an argument the octets after `count` aren't
@@ -354,6 +434,7 @@ struct scard_part {
  * array `parts`; `place` is how many there are. Room, in parts: what the verdict's place says; half of `count`
  * suffices. OK, SHORT, AT, MEMORY, ARGUMENT.
  */
+SCARD_MUST_USE
 struct scard_verdict scard_tlv_parts(const uint8_t *octets, size_t count, size_t max,
                                      struct scard_part *parts, size_t room);
 
@@ -364,6 +445,7 @@ struct scard_verdict scard_tlv_parts(const uint8_t *octets, size_t count, size_t
 size_t scard_tlv_first(const struct scard_part *parts, size_t count, const struct scard_tag *path, size_t tags);
 
 /* The verdict on octets as a data object list: tags, each with a length octet. OK, SHORT, AT, MEMORY. */
+SCARD_MUST_USE
 struct scard_verdict scard_dol_check(const uint8_t *octets, size_t count);
 
 /* How a value is cut and padded to a length. */
@@ -388,6 +470,7 @@ struct scard_known {
  * list doesn't name it. ARGUMENT with place 0: a known tag is none, or a format is above 2.
  * OK, SHORT, AT, MEMORY, ARGUMENT, DUPLICATE.
  */
+SCARD_MUST_USE
 struct scard_verdict scard_dol_fill(const uint8_t *list, size_t count, const struct scard_known *known,
                                     size_t known_count, uint8_t *out, size_t room);
 
@@ -427,14 +510,24 @@ enum scard_turn_kind {
 
 struct scard_turn {
     uint8_t kind; /* enum scard_turn_kind */
-    size_t count;
+    uint8_t wait; /* terminal: how many block waiting times to wait, after SCARD_SEND, for the block that comes: 1, or
+                     the multiple that was granted to the card, 1 to 255. 0 where no time is set: at a card, which
+                     waits for its terminal without end, and in a turn that sends nothing. */
+    size_t count; /* the octets to be sent; at SCARD_NO_ROOM the room needed; else 0 */
 };
 
 /* Open an end for these parameters of T=1. All the memory of an end is taken here, some 131 KB; what the handle
  * held is freed. Unless it is OK the handle stays as it was. OK, MEMORY, ARGUMENT (`ifsc` is 0 or 255, or an index
- * is above 15).
+ * is above 15). An end measures no time, so it only looks whether the indexes are in range.
+ *
+ * A terminal and a card begin together, at a reset of the card. A terminal that is opened while its card goes on has
+ * lost the number of the next block. The card may then take its first command for a repeat of the last one, not hand
+ * it to its host, and answer it with the last answer, which looks like a good exchange. So keep one terminal for as
+ * long as its card isn't reset, and open it again at each reset.
  */
+SCARD_MUST_USE
 struct scard_verdict scard_terminal_open(struct scard_handle *handle, uint8_t ifsc, uint8_t bwi, uint8_t cwi);
+SCARD_MUST_USE
 struct scard_verdict scard_card_open(struct scard_handle *handle, uint8_t ifsc, uint8_t bwi, uint8_t cwi);
 
 /*
@@ -445,20 +538,29 @@ void scard_close(struct scard_handle *handle);
 
 /* The calls of an end. Each wants a buffer of SCARD_BLOCK_ROOM octets, and writes the octets of a block to it at
  * SCARD_SEND alone. `received` takes what the line delivered as one block, whatever it is; `quiet` says that
- * nothing came within the waiting time, which this library doesn't measure.
+ * nothing came within the waiting time, `wait` times BWT, which this library doesn't measure. Don't say so earlier: all
+ * that is promised of both ends rests on their taking turns.
  */
+SCARD_MUST_USE
 struct scard_turn scard_terminal_transmit(struct scard_handle *handle, const uint8_t *command, size_t count,
                                           uint8_t *out, size_t room);
+SCARD_MUST_USE
 struct scard_turn scard_terminal_received(struct scard_handle *handle, const uint8_t *octets, size_t count,
                                           uint8_t *out, size_t room);
+SCARD_MUST_USE
 struct scard_turn scard_terminal_quiet(struct scard_handle *handle, uint8_t *out, size_t room);
+SCARD_MUST_USE
 struct scard_turn scard_terminal_ask_ifs(struct scard_handle *handle, uint8_t size, uint8_t *out, size_t room);
 
+SCARD_MUST_USE
 struct scard_turn scard_card_received(struct scard_handle *handle, const uint8_t *octets, size_t count,
                                       uint8_t *out, size_t room);
+SCARD_MUST_USE
 struct scard_turn scard_card_reply(struct scard_handle *handle, const uint8_t *reply, size_t count,
                                    uint8_t *out, size_t room);
+SCARD_MUST_USE
 struct scard_turn scard_card_more_time(struct scard_handle *handle, uint8_t multiple, uint8_t *out, size_t room);
+SCARD_MUST_USE
 struct scard_turn scard_card_ask_ifs(struct scard_handle *handle, uint8_t size, uint8_t *out, size_t room);
 
 /* Writes the terminal's answer, from the turn SCARD_DONE on until the next command is taken; or the card's
@@ -466,6 +568,7 @@ struct scard_turn scard_card_ask_ifs(struct scard_handle *handle, uint8_t size, 
  * what the verdict's place says; 65,544 suffices for an end, `max` for a receiver. OK, ARGUMENT (with place 0:
  * there is none).
  */
+SCARD_MUST_USE
 struct scard_verdict scard_message(struct scard_handle *handle, uint8_t *out, size_t room);
 
 /* ---- both ends without an allocator ---- */
@@ -514,44 +617,62 @@ struct scard_lent_card {
     size_t reply_len;
 };
 
+/* The first five arguments of these calls, of a state and two arrays: SCARD_LENT(terminal, command, answer). A buffer
+ * that is known by a pointer has to be given with its size by hand: `sizeof` of a pointer is that of no buffer.
+ */
+#define SCARD_LENT(state, command, answer) &(state), (command), sizeof(command), (answer), sizeof(answer)
+
 /* Begin an end for these parameters of T=1, whatever the state was: a new session too, over the same buffers. Both
  * buffers are set to 0. OK with place 0, ARGUMENT (`ifsc` is 0 or 255, or an index is above 15): then nothing changes.
+ *
+ * A terminal and a card begin together, at a reset of the card, and at no other time: scard_terminal_open says what
+ * happens else.
  */
+SCARD_MUST_USE
 struct scard_verdict scard_lent_terminal_begin(struct scard_lent_terminal *state,
                                                uint8_t *command, size_t command_room,
                                                uint8_t *answer, size_t answer_room,
                                                uint8_t ifsc, uint8_t bwi, uint8_t cwi);
+SCARD_MUST_USE
 struct scard_verdict scard_lent_card_begin(struct scard_lent_card *state,
                                            uint8_t *command, size_t command_room,
                                            uint8_t *reply, size_t reply_room,
                                            uint8_t ifsc, uint8_t bwi, uint8_t cwi);
 
 /* The calls of an end, as those above. The octets that are handed over and `out` lie apart from both buffers. */
+SCARD_MUST_USE
 struct scard_turn scard_lent_terminal_transmit(struct scard_lent_terminal *state,
                                                uint8_t *command, size_t command_room,
                                                uint8_t *answer, size_t answer_room,
                                                const uint8_t *octets, size_t count, uint8_t *out, size_t room);
+SCARD_MUST_USE
 struct scard_turn scard_lent_terminal_received(struct scard_lent_terminal *state,
                                                uint8_t *command, size_t command_room,
                                                uint8_t *answer, size_t answer_room,
                                                const uint8_t *octets, size_t count, uint8_t *out, size_t room);
+SCARD_MUST_USE
 struct scard_turn scard_lent_terminal_quiet(struct scard_lent_terminal *state,
                                             uint8_t *command, size_t command_room,
                                             uint8_t *answer, size_t answer_room, uint8_t *out, size_t room);
+SCARD_MUST_USE
 struct scard_turn scard_lent_terminal_ask_ifs(struct scard_lent_terminal *state,
                                               uint8_t *command, size_t command_room,
                                               uint8_t *answer, size_t answer_room,
                                               uint8_t size, uint8_t *out, size_t room);
 
+SCARD_MUST_USE
 struct scard_turn scard_lent_card_received(struct scard_lent_card *state,
                                            uint8_t *command, size_t command_room, uint8_t *reply, size_t reply_room,
                                            const uint8_t *octets, size_t count, uint8_t *out, size_t room);
+SCARD_MUST_USE
 struct scard_turn scard_lent_card_reply(struct scard_lent_card *state,
                                         uint8_t *command, size_t command_room, uint8_t *reply, size_t reply_room,
                                         const uint8_t *octets, size_t count, uint8_t *out, size_t room);
+SCARD_MUST_USE
 struct scard_turn scard_lent_card_more_time(struct scard_lent_card *state,
                                             uint8_t *command, size_t command_room, uint8_t *reply, size_t reply_room,
                                             uint8_t multiple, uint8_t *out, size_t room);
+SCARD_MUST_USE
 struct scard_turn scard_lent_card_ask_ifs(struct scard_lent_card *state,
                                           uint8_t *command, size_t command_room, uint8_t *reply, size_t reply_room,
                                           uint8_t size, uint8_t *out, size_t room);
@@ -560,9 +681,11 @@ struct scard_turn scard_lent_card_ask_ifs(struct scard_lent_card *state,
  * command is taken, or the card's command, while its host owes the reply: the place of the verdict. They are written
  * nowhere else. OK, ARGUMENT (with place 0: there is none).
  */
+SCARD_MUST_USE
 struct scard_verdict scard_lent_terminal_answer(const struct scard_lent_terminal *state,
                                                 const uint8_t *command, size_t command_room,
                                                 const uint8_t *answer, size_t answer_room);
+SCARD_MUST_USE
 struct scard_verdict scard_lent_card_command(const struct scard_lent_card *state,
                                              const uint8_t *command, size_t command_room,
                                              const uint8_t *reply, size_t reply_room);
@@ -575,9 +698,13 @@ struct scard_verdict scard_lent_card_command(const struct scard_lent_card *state
  * reader is taken here, some 700 octets, for a receiver `max` octets more. What the handle held is freed. Unless it
  * is OK the handle stays as it was. To begin anew, open again. OK, MEMORY, ARGUMENT.
  */
+SCARD_MUST_USE
 struct scard_verdict scard_atr_reader_open(struct scard_handle *handle);
+SCARD_MUST_USE
 struct scard_verdict scard_block_reader_open(struct scard_handle *handle, uint8_t ifs);
+SCARD_MUST_USE
 struct scard_verdict scard_receiver_open(struct scard_handle *handle, uint8_t ifs, uint8_t ns, size_t max);
+SCARD_MUST_USE
 struct scard_verdict scard_tlv_check_open(struct scard_handle *handle, size_t max);
 
 /* Gives the next octets to a reader, in pieces of any length. OK: what it reads is whole now, and took `place` octets
@@ -586,20 +713,24 @@ struct scard_verdict scard_tlv_check_open(struct scard_handle *handle, size_t ma
  * forest, which doesn't end by itself, never answers OK. The reasons are those of what the reader reads. ARGUMENT: the
  * handle holds no reader. OK, MORE, AT, ARGUMENT.
  */
+SCARD_MUST_USE
 struct scard_verdict scard_reader_feed(struct scard_handle *handle, const uint8_t *octets, size_t count);
 
 /* The verdict on all octets that a reader took: OK with place 0 where they are whole, SHORT with their number where
  * they could go on, or the refusal. It changes nothing. OK, SHORT, AT, ARGUMENT (the handle holds no reader).
  */
+SCARD_MUST_USE
 struct scard_verdict scard_reader_finish(struct scard_handle *handle);
 
 /* The answer to reset that a reader has, once it is whole: it is written to *out at OK. OK with place 0, ARGUMENT. */
+SCARD_MUST_USE
 struct scard_verdict scard_atr_reader_value(struct scard_handle *handle, struct scard_atr *out);
 
 /* The block that a reader has, once it is whole: its octets are written to `octets`, and *out says where the
  * information field is in them. Room: SCARD_BLOCK_ROOM. At OK both are written, else neither. OK, ARGUMENT (with
  * place 0: there is none).
  */
+SCARD_MUST_USE
 struct scard_verdict scard_block_reader_value(struct scard_handle *handle, struct scard_block *out,
                                               uint8_t *octets, size_t room);
 
@@ -634,13 +765,16 @@ struct scard_lent_check {
 /* Begins a check of a forest of at most `max` octets, itself at most SCARD_TLV_LARGEST, whatever the state was. OK with
  * place 0, ARGUMENT: then nothing changes.
  */
+SCARD_MUST_USE
 struct scard_verdict scard_lent_check_begin(struct scard_lent_check *state, size_t max);
 
 /* Gives the next octets to a check, and says what there is to say of all that it took, as scard_reader_feed and
  * scard_reader_finish of a check in a handle. `feed`: MORE, AT, ARGUMENT. `finish`: OK with place 0, SHORT, AT,
  * ARGUMENT. ARGUMENT (with place 0): the state is none of a check.
  */
+SCARD_MUST_USE
 struct scard_verdict scard_lent_check_feed(struct scard_lent_check *state, const uint8_t *octets, size_t count);
+SCARD_MUST_USE
 struct scard_verdict scard_lent_check_finish(const struct scard_lent_check *state);
 
 /* ---- a chain in pieces, without an allocator ---- */
@@ -670,6 +804,7 @@ struct scard_lent_receiver {
  * has the number `ns`, 0 or 1, and the message at most `max` octets, itself at most 131,072. OK with place 0, ARGUMENT:
  * then nothing changes.
  */
+SCARD_MUST_USE
 struct scard_verdict scard_lent_receiver_begin(struct scard_lent_receiver *state, uint8_t ifs, uint8_t ns, size_t max);
 
 /* Gives the next octets to a receiver, and says what there is to say of all that it took, as scard_reader_feed and
@@ -678,14 +813,17 @@ struct scard_verdict scard_lent_receiver_begin(struct scard_lent_receiver *state
  * `feed`: OK, MORE, AT, ARGUMENT. `finish`: OK with place 0, SHORT, AT, ARGUMENT. ARGUMENT (with place 0): the state is
  * none of a receiver, or the buffer is too small for it.
  */
+SCARD_MUST_USE
 struct scard_verdict scard_lent_receiver_feed(struct scard_lent_receiver *state, uint8_t *message, size_t room,
                                               const uint8_t *octets, size_t count);
+SCARD_MUST_USE
 struct scard_verdict scard_lent_receiver_finish(const struct scard_lent_receiver *state,
                                                 const uint8_t *message, size_t room);
 
 /* How many octets at the front of the buffer are the message, once the chain is whole: the place of the verdict. They
  * are written nowhere else. OK, ARGUMENT (with place 0: it isn't whole).
  */
+SCARD_MUST_USE
 struct scard_verdict scard_lent_receiver_message(const struct scard_lent_receiver *state,
                                                  const uint8_t *message, size_t room);
 
@@ -711,7 +849,8 @@ enum scard_struct {
     SCARD_STRUCT_LENT_CARD = 16,
     SCARD_STRUCT_LENT_HEADER = 17,
     SCARD_STRUCT_LENT_CHECK = 18,
-    SCARD_STRUCT_LENT_RECEIVER = 19
+    SCARD_STRUCT_LENT_RECEIVER = 19,
+    SCARD_STRUCT_TEXT = 20
 };
 
 /* How many octets a struct has in the library, to be compared with its sizeof; 0 for any other number. */

@@ -1,45 +1,55 @@
-/* A card simulator's loop: each command is answered with its own octets and 9000. */
+/* A card simulator: each command is answered with its own octets and 9000. */
 #include "line.h"
-#include "scard.h"
 
 #include <stdlib.h>
+#include <string.h>
 
-enum { LONGEST_COMMAND = 65544, LONGEST_DATA = 65536 };
+enum { LONGEST_COMMAND = 65544, LONGEST_REPLY = 65538 };
 
-/* The host of the card: the reply to the command that it was asked. */
-static struct scard_turn answers(struct scard_handle *card, uint8_t *message, uint8_t *out)
+struct card {
+    struct scard_card_session session;
+    uint8_t command[LONGEST_COMMAND], reply[LONGEST_REPLY];
+    uint8_t made[LONGEST_REPLY]; /* the reply, as the host makes it */
+};
+
+/* The host of the card: the reply to a command. */
+static struct scard_host_turn echo(void *context, const uint8_t *command, size_t count, size_t granted)
 {
-    size_t count = scard_message(card, message, LONGEST_COMMAND).place;
-    struct scard_command command;
-    uint8_t wrong[2] = {0x67, 0x00};
-    if (scard_command_decode(message, count, &command).status != SCARD_OK || count > LONGEST_DATA) {
-        return scard_card_reply(card, wrong, sizeof wrong, out, SCARD_BLOCK_ROOM);
+    struct card *card = context;
+    struct scard_command parts;
+    struct scard_host_turn turn = {SCARD_HOST_REPLY, 0, card->made, 2};
+    (void)granted; /* it never asks for anything */
+    if (scard_command_decode(command, count, &parts).status != SCARD_OK || count > sizeof card->made - 2) {
+        memcpy(card->made, "\x67\x00", 2);
+        return turn;
     }
-    message[count] = 0x90;
-    message[count + 1] = 0x00;
-    return scard_card_reply(card, message, count + 2, out, SCARD_BLOCK_ROOM);
+    memcpy(card->made, command, count);
+    memcpy(card->made + count, "\x90\x00", 2);
+    turn.count = count + 2;
+    return turn;
 }
 
-int card_serve(int line)
+int card_serve(int *descriptor)
 {
-    struct scard_handle card = SCARD_HANDLE_EMPTY;
-    uint8_t *message = malloc(LONGEST_COMMAND + 2);
-    uint8_t out[SCARD_BLOCK_ROOM], in[SCARD_BLOCK_ROOM];
-    int got;
-    if (message == NULL || scard_card_open(&card, 32, 4, 5).status != SCARD_OK) {
-        free(message);
+    /* T=1 with IFSC 32, BWI 4 and CWI 5. */
+    static const uint8_t atr[] = {0x3B, 0x80, 0x81, 0x31, 0x20, 0x45, 0x55};
+    struct scard_setup setup = {.t1 = {32, 4, 5}, .clock = {372, 1, 3571200}};
+    struct card *card = calloc(1, sizeof *card);
+    struct scard_host host = {card, echo};
+    int result = -1;
+    if (card == NULL) {
         return -1;
     }
-    while ((got = line_read(line, in, -1)) > 0) {
-        struct scard_turn turn = scard_card_received(&card, in, (size_t)got, out, sizeof out);
-        if (turn.kind == SCARD_DONE) {
-            turn = answers(&card, message, out);
-        }
-        if (turn.kind != SCARD_SEND || line_write(line, out, turn.count) != 0) {
-            break;
-        }
+    setup.line = line_over(descriptor);
+    setup.command = card->command;
+    setup.command_room = sizeof card->command;
+    setup.answer = card->reply;
+    setup.answer_room = sizeof card->reply;
+    if (scard_card_session_begin(&card->session, &setup, &host).status == SCARD_OK
+        && setup.line.send(setup.line.context, atr, sizeof atr) == 0
+        && scard_card_session_serve(&card->session).kind == SCARD_SESSION_FAILED) {
+        result = 0;
     }
-    scard_close(&card);
-    free(message);
-    return got < 0 ? 0 : -1;
+    free(card);
+    return result;
 }

@@ -1,20 +1,27 @@
-/* A line that carries T=1 blocks: a file descriptor. */
+/* A file descriptor as the line of a session, and what the two ends of the example are. */
 #ifndef LINE_H
 #define LINE_H
 
-#include <stddef.h>
-#include <stdint.h>
+#include "scard_session.h"
 
-/* The octets of the next block, 0 where none came within the waiting time, or -1 at the end of the line. */
-int line_read(int line, uint8_t *block, int milliseconds);
+/* The line over a descriptor, which stays where it is as long as the line is used. */
+struct scard_line line_over(int *descriptor);
 
-/* Sends octets: 0, or -1 where the line fails. */
-int line_write(int line, const uint8_t *octets, size_t count);
+/* A session with a card at the other end of a line, and its buffers. */
+struct terminal {
+    struct scard_session session;
+    uint8_t command[65544], answer[65538];
+};
 
-/* Sends a command to the card, and writes its answer: how many octets, or -1 where there is none. */
-long terminal_exchange(int line, const uint8_t *command, size_t count, uint8_t *answer, size_t room);
+/* Takes the answer to reset of a card that was just powered up, and begins the session with it: 0, or -1. Once for each
+ * power up: a card that goes on under a new session gives old answers.
+ */
+int terminal_begin(struct terminal *terminal, int *descriptor);
 
-/* Answers commands until the line ends. */
-int card_serve(int line);
+/* Sends a command: how many octets of `terminal->answer` are the answer, or -1 where there is none. */
+long terminal_exchange(struct terminal *terminal, const uint8_t *command, size_t count);
+
+/* Powers up, sends the answer to reset, and answers commands until the line ends: 0, or -1 where something failed. */
+int card_serve(int *descriptor);
 
 #endif

@@ -1,8 +1,9 @@
-/* A terminal and a card at the two ends of a socket pair. Run it as: session HEX */
+/* A terminal and a card at the two ends of a socket pair: each word is a command, each line its answer. The session is
+ * begun once, with the power up of the card. Run it as: session HEX.. */
 #include "line.h"
-#include "scard.h"
 
 #include <stdio.h>
+#include <stdlib.h>
 #include <string.h>
 #include <sys/socket.h>
 #include <sys/wait.h>
@@ -10,16 +11,38 @@
 
 enum { MOST = 1024 };
 
+/* Sends the command that a word says, and prints the answer. */
+static int exchange(struct terminal *terminal, const char *word)
+{
+    uint8_t command[MOST];
+    char text[2 * (MOST + 2)];
+    struct scard_verdict decoded = scard_hex_decode(word, strlen(word), command, MOST), put;
+    long count;
+    if (decoded.status != SCARD_OK) {
+        fprintf(stderr, "no octets, or more than %d: %s\n", MOST, word);
+        return -1;
+    }
+    count = terminal_exchange(terminal, command, decoded.place);
+    if (count < 0) {
+        fprintf(stderr, "no answer to %s\n", word);
+        return -1;
+    }
+    put = scard_hex_encode(terminal->answer, (size_t)count, text, sizeof text);
+    if (put.status != SCARD_OK) {
+        fputs("the answer is too long\n", stderr);
+        return -1;
+    }
+    printf("%.*s\n", (int)put.place, text);
+    return 0;
+}
+
 int main(int count, char **words)
 {
-    static uint8_t command[MOST], answer[MOST + 2];
-    static char text[2 * sizeof answer];
-    struct scard_verdict decoded;
-    int lines[2], status = 1;
-    long got;
+    static struct terminal terminal;
+    int lines[2], status = 1, failed, at;
     pid_t card;
-    if (count != 2 || (decoded = scard_hex_decode(words[1], strlen(words[1]), command, MOST)).status != SCARD_OK) {
-        fprintf(stderr, "usage: session HEX, at most %d octets\n", MOST);
+    if (count < 2) {
+        fputs("usage: session HEX..\n", stderr);
         return 2;
     }
     if (socketpair(AF_UNIX, SOCK_STREAM, 0, lines) != 0 || (card = fork()) < 0) {
@@ -28,16 +51,14 @@ int main(int count, char **words)
     }
     if (card == 0) {
         close(lines[0]);
-        _exit(card_serve(lines[1]) == 0 ? 0 : 1);
+        _exit(card_serve(&lines[1]) == 0 ? 0 : 1);
     }
     close(lines[1]);
-    got = terminal_exchange(lines[0], command, decoded.place, answer, sizeof answer);
+    failed = terminal_begin(&terminal, &lines[0]);
+    for (at = 1; at < count && failed == 0; at++) {
+        failed = exchange(&terminal, words[at]);
+    }
     close(lines[0]);
     waitpid(card, &status, 0);
-    if (got < 0 || status != 0) {
-        fputs("no answer\n", stderr);
-        return 1;
-    }
-    printf("%.*s\n", (int)scard_hex_encode(answer, (size_t)got, text, sizeof text).place, text);
-    return 0;
+    return failed == 0 && status == 0 ? 0 : 1;
 }

@@ -1,36 +1,39 @@
-/* A terminal's loop: it transmits a command, and sends and receives blocks until the answer is complete. */
+/* A terminal: it takes a card's answer to reset, and exchanges commands and answers with it. */
 #include "line.h"
-#include "scard.h"
 
-/* The card's waiting time, by its BWI; here a second. */
-enum { WAITING_TIME = 1000 };
+/* A card begins its answer to reset within 40,000 cycles, and each octet follows within 9,600 etu: a second. */
+enum { RESET_TIME = 1000000, LONGEST_ATR = 33 };
 
-long terminal_exchange(int line, const uint8_t *command, size_t count, uint8_t *answer, size_t room)
+/* Takes the answer to reset, octet by octet, since it says itself where it ends. */
+static int take_atr(const struct scard_line *line, struct scard_atr *atr)
 {
-    struct scard_handle terminal = SCARD_HANDLE_EMPTY;
-    uint8_t out[SCARD_BLOCK_ROOM], in[SCARD_BLOCK_ROOM];
-    struct scard_turn turn;
-    long result = -1;
-    if (scard_terminal_open(&terminal, 32, 4, 5).status != SCARD_OK) {
+    uint8_t octets[LONGEST_ATR];
+    size_t count = 0;
+    struct scard_verdict verdict = {SCARD_SHORT, 0, 0};
+    while (verdict.status == SCARD_SHORT && count < sizeof octets) {
+        if (scard_line_take(line, octets + count, 1, RESET_TIME) != 1) {
+            return -1;
+        }
+        verdict = scard_atr_decode(octets, ++count, atr);
+    }
+    return verdict.status == SCARD_OK ? 0 : -1;
+}
+
+int terminal_begin(struct terminal *terminal, int *descriptor)
+{
+    struct scard_setup setup = {.command = terminal->command, .command_room = sizeof terminal->command,
+                                .answer = terminal->answer, .answer_room = sizeof terminal->answer,
+                                .clock = {372, 1, 3571200}};
+    struct scard_atr atr;
+    setup.line = line_over(descriptor);
+    if (take_atr(&setup.line, &atr) != 0 || scard_atr_t1_params(&atr, &setup.t1) != SCARD_T1_USABLE) {
         return -1;
     }
-    turn = scard_terminal_transmit(&terminal, command, count, out, sizeof out);
-    while (turn.kind == SCARD_SEND) {
-        int got;
-        if (line_write(line, out, turn.count) != 0) {
-            break;
-        }
-        got = line_read(line, in, WAITING_TIME);
-        if (got < 0) {
-            break;
-        }
-        turn = got == 0 ? scard_terminal_quiet(&terminal, out, sizeof out)
-                        : scard_terminal_received(&terminal, in, (size_t)got, out, sizeof out);
-    }
-    if (turn.kind == SCARD_DONE) {
-        struct scard_verdict put = scard_message(&terminal, answer, room);
-        result = put.status == SCARD_OK ? (long)put.place : -1;
-    }
-    scard_close(&terminal);
-    return result;
+    return scard_session_begin(&terminal->session, &setup).status == SCARD_OK ? 0 : -1;
+}
+
+long terminal_exchange(struct terminal *terminal, const uint8_t *command, size_t count)
+{
+    struct scard_turn turn = scard_session_exchange(&terminal->session, command, count);
+    return turn.kind == SCARD_DONE ? (long)turn.count : -1;
 }

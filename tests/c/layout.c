@@ -25,10 +25,11 @@ static void sizes(void)
     SIZE(SCARD_STRUCT_LENT_HEADER, scard_lent_header);
     SIZE(SCARD_STRUCT_LENT_CHECK, scard_lent_check);
     SIZE(SCARD_STRUCT_LENT_RECEIVER, scard_lent_receiver);
+    SIZE(SCARD_STRUCT_TEXT, scard_text);
     CHECK(sizeof(struct scard_lent_terminal) < 128 && sizeof(struct scard_lent_card) < 128);
     CHECK(sizeof(struct scard_lent_check) == 92 && sizeof(struct scard_lent_check) < 128);
     CHECK(sizeof(struct scard_lent_receiver) == 32);
-    CHECK(scard_struct_size(0) == 0 && scard_struct_size(20) == 0 && scard_struct_size(255) == 0);
+    CHECK(scard_struct_size(0) == 0 && scard_struct_size(21) == 0 && scard_struct_size(255) == 0);
 }
 
 static void places(void)
@@ -61,6 +62,8 @@ static void places(void)
     PLACE(scard_command, data_len, 24);
     PLACE(scard_response, sw2, 1);
     PLACE(scard_response, data_len, 8);
+    PLACE(scard_turn, kind, 0);
+    PLACE(scard_turn, wait, 1);
     PLACE(scard_turn, count, 8);
     PLACE(scard_tag, count, 3);
     PLACE(scard_part, is_constructed, 1);
@@ -92,6 +95,8 @@ static void places(void)
     PLACE(scard_lent_receiver, ifs, 20);
     PLACE(scard_lent_receiver, came, 25);
     PLACE(scard_lent_receiver, refused, 27);
+    PLACE(scard_text, text, 0);
+    PLACE(scard_text, size, 8);
 }
 
 int main(void)

@@ -131,7 +131,7 @@ static void states(void)
         struct scard_lent_check state;
         struct octets rest = {octets.at + count, octets.count - count};
         CHECK(scard_lent_check_begin(&state, 200).status == SCARD_OK);
-        scard_lent_check_feed(&state, octets.at, count);
+        CHECK(scard_lent_check_feed(&state, octets.at, count).status == SCARD_MORE);
         CHECK(spoilt(&state, rest) > 1000);
     }
     free(octets.at);

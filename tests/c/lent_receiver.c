@@ -193,7 +193,7 @@ static void states(void)
         struct scard_lent_receiver state;
         uint8_t message[5];
         CHECK(scard_lent_receiver_begin(&state, 2, 0, 5).status == SCARD_OK);
-        scard_lent_receiver_feed(&state, message, 5, chain.at, count);
+        CHECK(scard_lent_receiver_feed(&state, message, 5, chain.at, count).status != SCARD_AT);
         CHECK(spoilt(&state, chain.at + count, chain.count - count) > 1000);
     }
     free(chain.at);

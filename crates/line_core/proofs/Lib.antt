@@ -4,3 +4,4 @@ pub mod Answered
 pub mod Replying
 pub mod Rounds
 pub mod Carrying
+pub mod Asking

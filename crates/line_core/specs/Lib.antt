@@ -3,3 +3,4 @@ pub mod Exchange
 pub mod Service
 pub mod Commanding
 pub mod Streams
+pub mod Resynch

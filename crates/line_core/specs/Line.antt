@@ -15,10 +15,14 @@ pub record Talk : Type 0 where
   pub waiting : ℕ
   pub arrival : Arrival
 
--- what a call of the line says, where this is the buffer that it filled
+-- what came, where this is the buffer that the line filled
+abbrev pub arrived : Heard → List ℕ → Arrival
+arrived (Octets count) room = block (take count room)
+arrived Nothing room = nothing
+
+-- what a call of the line says
 abbrev pub arrival_of : {E : Type 0} → Result Heard E → List ℕ → Arrival
-arrival_of (Ok (Octets count)) room = block (take count room)
-arrival_of (Ok Nothing) room = nothing
+arrival_of (Ok heard) room = arrived heard room
 arrival_of (Err fault) room = failure
 
 -- what came is in the buffer

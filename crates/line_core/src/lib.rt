@@ -1,18 +1,21 @@
 //! One exchange of T=1 in one call (ISO/IEC 7816-3, clause 11.6), for drivers of readers and simulators of cards.
 //!
-//! A [`Line`] carries the blocks of a terminal: one call sends a block and takes what comes. [`exchange`]
-//! hands over a command and gives the answer, [`ask_ifs`] asks about a size, and [`resume`] goes on with
-//! either where the line failed or too many blocks were sent. `specs/Exchange.antt` says what these do: what
-//! was on the line is a run of the terminal's table over what came. [`exchange_command`] makes such a run of
-//! a command as a value, and [`response_of`] reads the answer. [`StreamLine`] is a line over a reader and a
-//! writer of octets. At the other end [`serve`] has a card answer what comes over a [`CardLine`], with the
-//! replies of its [`Host`]: `specs/Service.antt`.
+//! A [`Line`] carries the blocks of a terminal: one call sends a block and takes what comes.
+//! [`exchange`] hands over a command and gives the answer, [`ask_ifs`] asks about a size, and
+//! [`resume`] goes on with either where the line failed or too many blocks were sent.
+//! `specs/Exchange.antt` says what these do: what was on the line is a run of the terminal's table
+//! over what came. [`exchange_command`] makes such a run of a command as a value, and
+//! [`response_of`] reads the answer. [`begin_by_resynch`] begins with a card that can't be reset:
+//! `specs/Resynch.antt`. [`StreamLine`] is a line over a reader and a writer of octets. At the
+//! other end [`serve`] has a card answer what comes over a [`CardLine`], with the replies of its
+//! [`Host`]: `specs/Service.antt`.
 #![tactic(auto)]
 
 pub mod commanding;
 pub mod exchanging;
 pub mod fault;
 pub mod line;
+pub mod resynching;
 pub mod serving;
 pub mod streaming;
 
@@ -20,5 +23,6 @@ pub use commanding::{exchange_command, response_of};
 pub use exchanging::{LONGEST_ARRIVAL, ask_ifs, exchange, resume};
 pub use fault::ExchangeFault;
 pub use line::{Heard, Line};
+pub use resynching::begin_by_resynch;
 pub use serving::{CardLine, Host, ServeFault, serve};
 pub use streaming::StreamLine;

@@ -10,8 +10,8 @@ ghost use Rattle.line_core.specs.Line.{FitsRoom};
 use apdu_core::{Body, Command, ResponseReason, ResponseRef};
 use atr_core::T1Params;
 use line_core::{
-    ExchangeFault, Heard, LONGEST_ARRIVAL, Line, ServeFault, StreamLine, ask_ifs, exchange,
-    exchange_command, response_of, resume,
+    ExchangeFault, Heard, LONGEST_ARRIVAL, Line, ServeFault, StreamLine, ask_ifs, begin_by_resynch,
+    exchange, exchange_command, response_of, resume,
 };
 use octet_core::{After, Counted, Feeder, Stop, Taker};
 use std::alloc::Global;
@@ -337,6 +337,44 @@ fn given_up_and_taken_up_again(rt: HostRuntime) -> Result<(), Fail> {
     assert!(rt; line.talks == 5);
     let mut answering = scripted(&[], Step::Gives(&DONE_BLOCK));
     assert!(rt; is_answer(exchange(&mut t, &mut answering, &SELECT, 1), &DONE));
+    Ok(())
+}
+
+/// A card that can't be reset is asked for RESYNCH until it answers, and for nothing else.
+#[test]
+fn a_session_that_begins_by_resynch(rt: HostRuntime) -> Result<(), Fail> {
+    let mut t = terminal(rt.alloc())?;
+    let steps = [Step::Gives(&DONE_BLOCK), Step::IsSilent];
+    let mut line = scripted(&steps, Step::Gives(&RESYNCHED));
+    assert!(rt; begin_by_resynch(&mut t, &mut line, params()?).is_ok());
+    assert!(rt; line.talks == 3 && line.waited == 1);
+    let mut silent = scripted(&[], Step::IsSilent);
+    let none = begin_by_resynch(&mut t, &mut silent, params()?);
+    assert!(rt; matches!(none, Err(ExchangeFault::Dead)) && silent.talks == 3);
+    let mut failing = scripted(&[], Step::Fails);
+    let failed = begin_by_resynch(&mut t, &mut failing, params()?);
+    assert!(rt; matches!(failed, Err(ExchangeFault::Line(_))) && failing.talks == 1);
+    Ok(())
+}
+
+/// A card that goes on under a new terminal gives its last answer to another command; by RESYNCH it doesn't.
+#[test]
+fn a_new_terminal_and_a_card_that_goes_on(rt: HostRuntime) -> Result<(), Fail> {
+    let card = Card::new(rt.alloc(), params()?)?;
+    let mut wire = Wire {
+        card,
+        command: &SELECT,
+        reply: &DONE,
+    };
+    let mut first = terminal(rt.alloc())?;
+    assert!(rt; is_answer(exchange(&mut first, &mut wire, &SELECT, 1), &DONE));
+    wire.command = &DONE_BLOCK;
+    wire.reply = &SELECT;
+    let mut second = terminal(rt.alloc())?;
+    assert!(rt; begin_by_resynch(&mut second, &mut wire, params()?).is_ok());
+    assert!(rt; is_answer(exchange(&mut second, &mut wire, &DONE_BLOCK, 1), &SELECT));
+    let mut third = terminal(rt.alloc())?;
+    assert!(rt; is_answer(exchange(&mut third, &mut wire, &DONE, 2), &SELECT));
     Ok(())
 }
 

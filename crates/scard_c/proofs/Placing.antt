@@ -1,7 +1,7 @@
 -- The parts of a forest, as they are put into an array.
 use Rattle.std.proofs.Common.{◌≡◌, List, [], ◌∷◌, map, refl, ap, ◌∙◌}
 use Rattle.tlv_core.specs.Tree.{Tree}
-use Rattle.tlv_core.specs.Parts.{Placed, preorder}
+use Rattle.tlv_core.specs.Parts.{preorder}
 use Rattle.tlv_core.specs.declared.part.PlacedPart.{PlacedPart}
 use Rattle.tlv_core.specs.Flat.{placed_of}
 use Rattle.scard_c.specs.declared.parts.CPart.{CPart}

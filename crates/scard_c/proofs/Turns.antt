@@ -12,17 +12,18 @@ use Rattle.t1_core.specs.declared.turns.CardPut.{CardPut}
 use Rattle.t1_core.specs.declared.turns.CardFault.{CardFault}
 use Rattle.t1_core.specs.declared.turns.CardFault.TheVariants as card_fault
 use Rattle.t1_core.specs.Put.{IsTerminalPut, IsCardPut}
+use Rattle.t1_core.specs.Waiting.{waiting_times}
 use Rattle.block_core.specs.Block.{Parts, IsPut}
 use Rattle.scard_c.specs.declared.turn.CTurn.{CTurn}
 use Rattle.scard_c.specs.Ends.{Sends, IsTerminalTurn, IsCardTurn}
 use Rattle.scard_c.specs.Calls.{told_terminal, told_card}
 
-sent : (block : Parts) (old new : List ℕ) (count : ℕ) (turn : CTurn) → turn ≡ record { kind = 0; count = count }
-    → IsPut block old new count → Sends block old new turn
-sent block old new count turn is put = record {
+sent : (wait : ℕ) (block : Parts) (old new : List ℕ) (count : ℕ) (turn : CTurn)
+    → turn ≡ record { kind = 0; wait = wait; count = count } → IsPut block old new count → Sends wait block old new turn
+sent wait block old new count turn is put = record {
   octets = put.octets;
   spells = put.spells;
-  turn_is = is ∙ ap (λ (n : ℕ). record { kind = 0; count = n }) put.counted;
+  turn_is = is ∙ ap (λ (n : ℕ). record { kind = 0; wait = wait; count = n }) put.counted;
   buffer = put.buffer ∙ ap (λ (n : ℕ). put.octets ++ drop n old) put.counted;
 }
 
@@ -30,7 +31,7 @@ terminal-told : (given : Result TerminalTurn TerminalFault) (old new : List ℕ)
     (answer : Result TerminalPut TerminalFault) → IsTerminalPut given old new answer
     → IsTerminalTurn given old new (told_terminal answer)
 terminal-told (Ok (Send block)) old new answer (count, is, put) =
-    sent block old new count (told_terminal answer) (ap told_terminal is) put
+    sent (waiting_times (Send block)) block old new count (told_terminal answer) (ap told_terminal is) put
 terminal-told (Ok Answered) old new answer (is, same) = (ap told_terminal is, same)
 terminal-told (Ok IfsSet) old new answer (is, same) = (ap told_terminal is, same)
 terminal-told (Ok GivenUp) old new answer (is, same) = (ap told_terminal is, same)
@@ -44,7 +45,7 @@ terminal-told (Err fault.Idle) old new answer (is, same) = (ap told_terminal is,
 card-told : (given : Result CardTurn CardFault) (old new : List ℕ) (answer : Result CardPut CardFault)
     → IsCardPut given old new answer → IsCardTurn given old new (told_card answer)
 card-told (Ok (card_turns.Send block)) old new answer (count, is, put) =
-    sent block old new count (told_card answer) (ap told_card is) put
+    sent 0 block old new count (told_card answer) (ap told_card is) put
 card-told (Ok card_turns.Asked) old new answer (is, same) = (ap told_card is, same)
 card-told (Err card_fault.Order) old new answer (is, same) = (ap told_card is, same)
 card-told (Err card_fault.TooLong) old new answer (is, same) = (ap told_card is, same)

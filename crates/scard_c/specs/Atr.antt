@@ -56,6 +56,10 @@ pub record IsDecoded (octets : List ℕ) (v : Verdict) (out : CAtr) : Type 0 whe
   pub accepts : Accepts self_ended IsAtr octets (atr_of out) v.place
   pub tck_is : byte_of out.has_tck out.tck ≡ tck_of (atr_of out)
 
+-- the parameters of T=1 that the struct says
+abbrev pub t1_values : CT1 → T1Values
+t1_values c = record { ifsc = c.ifsc; bwi = c.bwi; cwi = c.cwi }
+
 -- what C is told of the parameters of T=1
 abbrev pub IsT1 : Result T1Values ParamFault → CT1 → CT1 → ℕ → Type 0
 IsT1 (Ok values) old new status = (status ≡ 0)

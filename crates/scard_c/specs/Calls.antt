@@ -43,7 +43,7 @@ Takes (call.Card made) engine now old new turn = CardTakes (card_input made) eng
 
 -- what C is told of what a call of a terminal answered, with the octets of its block in the buffer
 abbrev pub told_terminal : Result TerminalPut TerminalFault → CTurn
-told_terminal (Ok (Send count waiting)) = record { kind = 0; count = count }
+told_terminal (Ok (Send count waiting)) = record { kind = 0; wait = waiting; count = count }
 told_terminal (Ok Answered) = turned 1
 told_terminal (Ok IfsSet) = turned 2
 told_terminal (Ok GivenUp) = turned 3
@@ -56,7 +56,7 @@ told_terminal (Err fault.Idle) = turned 20
 
 -- what C is told of what a call of a card answered, with the octets of its block in the buffer
 abbrev pub told_card : Result CardPut CardFault → CTurn
-told_card (Ok (card_put.Send count)) = record { kind = 0; count = count }
+told_card (Ok (card_put.Send count)) = record { kind = 0; wait = 0; count = count }
 told_card (Ok card_put.Asked) = turned 1
 told_card (Err card_fault.Order) = turned 21
 told_card (Err card_fault.TooLong) = turned 18

@@ -11,6 +11,7 @@ use Rattle.t1_core.specs.declared.turns.CardFault.{CardFault}
 use Rattle.t1_core.specs.declared.turns.CardFault.TheVariants as card_fault
 use Rattle.t1_core.specs.Terminal.{TerminalState, TerminalInput, terminal_turn, turn_of, state_after}
 use Rattle.t1_core.specs.Card as card
+use Rattle.t1_core.specs.Waiting.{waiting_times}
 use Rattle.t1_core.specs.Card.{CardState, CardInput}
 use Rattle.t1_core.specs.CardViews.{owed}
 use Rattle.scard_c.specs.Verdict.{put_verdict, put_into, wrong_argument}
@@ -23,7 +24,7 @@ use Rattle.chain_core.specs.Taking.{Taking}
 
 -- a turn that sends nothing
 abbrev pub turned : ℕ → CTurn
-turned kind = record { kind = kind; count = 0 }
+turned kind = record { kind = kind; wait = 0; count = 0 }
 
 -- the handle holds no such end
 abbrev pub no_end : CTurn
@@ -31,13 +32,13 @@ no_end = turned 32
 
 -- the buffer is too small for the longest block
 abbrev pub no_room : CTurn
-no_room = record { kind = 33; count = 258 }
+no_room = record { kind = 33; wait = 0; count = 258 }
 
--- the octets of a block are put into the buffer, to be sent
-pub record Sends (block : Parts) (old new : List ℕ) (turn : CTurn) : Type 0 where
+-- the octets of a block are put into the buffer, to be sent; so many block waiting times are to be waited after it
+pub record Sends (wait : ℕ) (block : Parts) (old new : List ℕ) (turn : CTurn) : Type 0 where
   pub octets : List ℕ
   pub spells : IsBlock 254 block octets
-  pub turn_is : turn ≡ record { kind = 0; count = length octets }
+  pub turn_is : turn ≡ record { kind = 0; wait = wait; count = length octets }
   pub buffer : new ≡ octets ++ drop (length octets) old
 
 -- a turn without a block leaves the buffer
@@ -46,7 +47,7 @@ IsTurned kind old new turn = (turn ≡ turned kind) × (new ≡ old)
 
 -- what C is told of what a call of a terminal answered
 abbrev pub IsTerminalTurn : Result TerminalTurn TerminalFault → List ℕ → List ℕ → CTurn → Type 0
-IsTerminalTurn (Ok (Send block)) old new turn = Sends block old new turn
+IsTerminalTurn (Ok (Send block)) old new turn = Sends (waiting_times (Send block)) block old new turn
 IsTerminalTurn (Ok Answered) old new turn = IsTurned 1 old new turn
 IsTerminalTurn (Ok IfsSet) old new turn = IsTurned 2 old new turn
 IsTerminalTurn (Ok GivenUp) old new turn = IsTurned 3 old new turn
@@ -57,9 +58,9 @@ IsTerminalTurn (Err fault.TooLong) old new turn = IsTurned 18 old new turn
 IsTerminalTurn (Err fault.Reserved) old new turn = IsTurned 19 old new turn
 IsTerminalTurn (Err fault.Idle) old new turn = IsTurned 20 old new turn
 
--- what C is told of what a call of a card answered
+-- what C is told of what a call of a card answered; a card waits for its terminal without end
 abbrev pub IsCardTurn : Result CardTurn CardFault → List ℕ → List ℕ → CTurn → Type 0
-IsCardTurn (Ok (card_turns.Send block)) old new turn = Sends block old new turn
+IsCardTurn (Ok (card_turns.Send block)) old new turn = Sends 0 block old new turn
 IsCardTurn (Ok card_turns.Asked) old new turn = IsTurned 1 old new turn
 IsCardTurn (Err card_fault.Order) old new turn = IsTurned 21 old new turn
 IsCardTurn (Err card_fault.TooLong) old new turn = IsTurned 18 old new turn

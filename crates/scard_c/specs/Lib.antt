@@ -19,3 +19,5 @@ pub mod KeptCheck
 pub mod LentCheck
 pub mod KeptReceiver
 pub mod LentReceiver
+pub mod Names
+pub mod Version

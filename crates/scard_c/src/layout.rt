@@ -11,6 +11,7 @@ use crate::handle::Handle;
 use crate::kept::{CCard, CTerminal};
 use crate::kept_check::{CCheck, CHeader};
 use crate::kept_receiver::CReceiver;
+use crate::names::CText;
 use crate::parts::{CPart, CTag};
 use crate::turn::CTurn;
 use crate::verdict::Verdict;
@@ -41,6 +42,7 @@ pub extern "C" fn scard_struct_size(number: u8) -> usize
         17 => size_of::<CHeader>(),
         18 => size_of::<CCheck>(),
         19 => size_of::<CReceiver>(),
+        20 => size_of::<CText>(),
         _ => 0,
     }
 }

@@ -53,10 +53,15 @@ const NO_ROOM: u8 = 33;
 /// changed: 16 the card is dead, 17 an exchange is under way, 18 too long, 19 a reserved size, 20 nothing
 /// is awaited, 21 not the host's turn. 32: the handle holds no such end. 33: the buffer has less than
 /// `count` octets.
+///
+/// `wait` is how many block waiting times a terminal waits for the block after the one that it sends, 1 to
+/// 255: what [`TerminalPut::Send`] says. It is 0 where no time is set: at a card, which waits for its
+/// terminal without end, and where nothing is sent.
 #[repr(C)]
 #[derive(Clone, Copy)]
 pub struct CTurn {
     pub kind: u8,
+    pub wait: u8,
     pub count: usize,
 }
 
@@ -65,7 +70,11 @@ impl CTurn {
     pub(crate) fn of(kind: u8) -> CTurn
         ensures { result ≡ turned kind }
     {
-        CTurn { kind, count: 0 }
+        CTurn {
+            kind,
+            wait: 0,
+            count: 0,
+        }
     }
 
     /// The buffer is too small for the longest block.
@@ -74,6 +83,7 @@ impl CTurn {
     {
         CTurn {
             kind: NO_ROOM,
+            wait: 0,
             count: LONGEST_BLOCK,
         }
     }
@@ -83,7 +93,11 @@ impl CTurn {
         ensures { result ≡ told_terminal answer }
     {
         match answer {
-            Ok(TerminalPut::Send { count, .. }) => CTurn { kind: SEND, count },
+            Ok(TerminalPut::Send { count, waiting }) => CTurn {
+                kind: SEND,
+                wait: waiting,
+                count,
+            },
             Ok(TerminalPut::Answered) => CTurn::of(DONE),
             Ok(TerminalPut::IfsSet) => CTurn::of(IFS_SET),
             Ok(TerminalPut::GivenUp) => CTurn::of(GIVEN_UP),
@@ -101,7 +115,11 @@ impl CTurn {
         ensures { result ≡ told_card answer }
     {
         match answer {
-            Ok(CardPut::Send(count)) => CTurn { kind: SEND, count },
+            Ok(CardPut::Send(count)) => CTurn {
+                kind: SEND,
+                wait: 0,
+                count,
+            },
             Ok(CardPut::Asked) => CTurn::of(DONE),
             Err(CardFault::Order) => CTurn::of(REFUSED_ORDER),
             Err(CardFault::TooLong) => CTurn::of(REFUSED_TOO_LONG),

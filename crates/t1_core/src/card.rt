@@ -58,6 +58,9 @@ impl Card {
     /// A new card that waits for a command, with buffers for the longest command and reply; `Err` for
     /// lack of memory. No later call takes any. It takes information fields of IFSC octets, and the
     /// terminal those of [`FIRST_IFSD`](crate::FIRST_IFSD).
+    ///
+    /// A new card and a new terminal begin together, at a reset of the card: [`Terminal::new`](crate::Terminal::new)
+    /// says what happens else.
     pub fn new(alloc: Global, params: T1Params) -> Result<Card, AllocError>
         ensures { IfOk result (λ card. card ≡ new_card params.ifsc) }
     {
@@ -88,7 +91,8 @@ impl Card {
     }
 
     /// Begins a new session, from any state: the card is a new one with these parameters and the same
-    /// limits. It takes no memory, and the octets that it held are overwritten.
+    /// limits. It takes no memory, and the octets that it held are overwritten. Only together with a new
+    /// terminal, as [`Card::new`] says.
     pub fn reset(&mut self, params: T1Params)
         ensures { self.new ≡ card_with self.old.limits params.ifsc }
     {

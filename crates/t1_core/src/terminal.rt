@@ -68,6 +68,10 @@ impl Terminal {
     /// A new terminal, idle, with buffers for the longest command and answer; `Err` out of memory.
     /// No later call takes any. It takes information fields of [`FIRST_IFSD`] octets, and the card those of
     /// IFSC.
+    ///
+    /// A new terminal and a new card begin together, at a reset of the card. A card that goes on while its
+    /// terminal is new may take the first command for a repeat of the last, keep it from its host, and give
+    /// the last answer again, which looks like a good exchange.
     pub fn new(alloc: Global, params: T1Params) -> Result<Terminal, AllocError>
         ensures { IfOk result (λ terminal. terminal ≡ new_terminal params.ifsc) }
     {
@@ -99,7 +103,7 @@ impl Terminal {
 
     /// Begins a new session, from any state and from `Dead` too: the terminal is a new one for a card with
     /// these parameters, with the same limits. It takes no memory, and the octets that it held are
-    /// overwritten.
+    /// overwritten. Only together with a reset of the card, as [`Terminal::new`] says.
     pub fn reset(&mut self, params: T1Params)
         ensures { self.new ≡ terminal_with self.old.limits params.ifsc }
     {

@@ -1,8 +1,7 @@
 use Rattle.std.proofs.Common.{List, ap, ◌∙◌}
 use Rattle.std.specs.Prelude.{map}
-use Rattle.tlv_core.specs.Parts.{preorder}
 use Rattle.scard_c.specs.declared.parts.CPart.{CPart}
-use Rattle.scard_c.specs.Parts.{part_put, part_shown}
+use Rattle.scard_c.specs.Parts.{part_put}
 use Rattle.scard_c.specs.Verdict.{put_verdict, put_into}
 use Rattle.scard_c.proofs.Placing.{put-tree}
 use Rattle.scard_c.proofs.parts.scard_tlv_parts.Goals as goal

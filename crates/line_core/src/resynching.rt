@@ -1,0 +1,71 @@
+//! Begins a session with a card that can't be reset.
+
+ghost use Rattle.std.specs.Prelude.{◌≡◌, List, Ok, OnOk, OnErr, Decides};
+ghost use Rattle.t1_core.specs.Terminal.{terminal_with, most_resynchs};
+ghost use Rattle.line_core.specs.Line.{Talk, Adds, FitsRoom, arrived};
+ghost use Rattle.line_core.specs.Exchange.{ending_of};
+ghost use Rattle.line_core.specs.Resynch.{Asks, answered, told_of};
+
+use crate::exchanging::LONGEST_ARRIVAL;
+use crate::fault::ExchangeFault;
+use crate::line::{Heard, Line};
+use atr_core::T1Params;
+use t1_core::{MOST_RESYNCHS, Terminal};
+
+/// The block that asks for RESYNCH.
+const REQUEST: [u8; 4] = [0x00, 0xC0, 0x00, 0xC0];
+
+/// The block by which a card answers it.
+const RESPONSE: [u8; 4] = [0x00, 0xE0, 0x00, 0xE0];
+
+/// Begins a new session with a card that can't be reset, and of whose state nothing is known: a terminal
+/// begins else only together with a reset of its card (ISO/IEC 7816-3, clause 11.6.3.2).
+///
+/// The card is asked for RESYNCH, three times at most and for one block waiting time each, and nothing else
+/// is sent. At `Ok` it answered: it is as at its start, and the terminal is a new one for these parameters
+/// with the limits that it had. What was under way is given up; whether the card's host acted on it isn't
+/// known. `Dead` where the card didn't answer, `Line` where the line failed: then the terminal stays as it
+/// was.
+pub fn begin_by_resynch<L: Line>(
+    terminal: &mut Terminal,
+    line: &mut L,
+    params: T1Params,
+) -> Result<(), ExchangeFault>
+    ensures asks { (talks : List Talk) × Adds (L.said line.old) (L.said line.new) talks
+        × Asks most_resynchs talks (ending_of result) }
+    ensures begins { OnOk result (terminal.new ≡ terminal_with terminal.old.limits params.ifsc) }
+    ensures stays { OnErr result (terminal.new ≡ terminal.old) }
+{
+    if !is_answered(line)? {
+        return Err(ExchangeFault::Dead);
+    }
+    terminal.reset(params);
+    Ok(())
+}
+
+/// Asks for RESYNCH until the card answers, or as often as may be: whether it did.
+fn is_answered<L: Line>(line: &mut L) -> Result<bool, ExchangeFault>
+    ensures { (talks : List Talk) × Adds (L.said line.old) (L.said line.new) talks
+        × Asks most_resynchs talks (told_of result) }
+{
+    let mut room = [0; LONGEST_ARRIVAL];
+    for _ in 0..MOST_RESYNCHS {
+        match line.talk(&REQUEST, 1, &mut room) {
+            Ok(heard) if is_answer(heard, &room) => return Ok(true),
+            Ok(_) => {}
+            Err(fault) => return Err(ExchangeFault::Line(fault)),
+        }
+    }
+    Ok(false)
+}
+
+/// Whether what came is the answer to RESYNCH.
+fn is_answer(heard: Heard, room: &[u8]) -> bool
+    requires { FitsRoom heard room.now }
+    ensures { Decides result (arrived heard room.now ≡ answered) }
+{
+    match heard {
+        Heard::Octets(count) => room[..count] == RESPONSE[..],
+        Heard::Nothing => false,
+    }
+}

@@ -1,0 +1,148 @@
+"""scard from Python, by ctypes over the shared library: answers to reset, commands, forests, and a terminal.
+
+    python3 scard.py atr 3B858131FE458073800140BC      (or: command 00A4040000, tlv 6F048402A000)
+
+The library is libscard.so.1, or what SCARD_LIBRARY names.
+"""
+import ctypes
+import os
+import sys
+from ctypes import POINTER, byref, c_bool, c_char_p, c_size_t, c_uint8, c_uint16, c_uint32, c_uint64, c_void_p
+
+OK, SHORT, AT, SEND, DONE = 0, 1, 2, 0, 1  # three statuses, two turns
+ATR, COMMAND, TLV = 1, 4, 6  # codecs, for the names of reasons
+BLOCK_ROOM, LONGEST_ANSWER, LONGEST_FOREST, VERSION = 258, 65544, 1048576, 1000000
+
+
+def struct(name, **fields):
+    """A struct of scard.h, with its fields in their order."""
+    return type(name, (ctypes.Structure,), {"_fields_": list(fields.items())})
+
+
+Verdict = struct("Verdict", status=c_uint8, reason=c_uint8, place=c_size_t)
+Text = struct("Text", text=c_char_p, size=c_size_t)
+Turn = struct("Turn", kind=c_uint8, wait=c_uint8, count=c_size_t)
+Handle = struct("Handle", at=c_void_p, is_full=c_bool)
+T1 = struct("T1", ifsc=c_uint8, bwi=c_uint8, cwi=c_uint8)
+Interface = struct("Interface", has_ta=c_uint8, ta=c_uint8, has_tb=c_uint8, tb=c_uint8, has_tc=c_uint8, tc=c_uint8)
+Indicated = struct("Indicated", protocol=c_uint8, bytes=Interface)
+Atr = struct("Atr", convention=c_uint8, first=Interface, indicated_count=c_uint8, indicated=Indicated * 31,
+             historical_count=c_uint8, historical=c_uint8 * 15, has_tck=c_uint8, tck=c_uint8)
+Command = struct("Command", cla=c_uint8, ins=c_uint8, p1=c_uint8, p2=c_uint8, shape=c_uint8, has_le=c_uint8,
+                 le=c_uint32, data_place=c_size_t, data_len=c_size_t)
+Tag = struct("Tag", octets=c_uint8 * 3, count=c_uint8)
+Part = struct("Part", depth=c_uint8, is_constructed=c_uint8, len_octets=c_uint8, tag=Tag, place=c_size_t, len=c_size_t)
+
+OCTETS, ROOM, END = (c_char_p, c_size_t), (c_void_p, c_size_t), POINTER(Handle)
+CALLS = {
+    "version": (c_uint32,),
+    "reason_text": (None, c_uint8, c_uint8, POINTER(Text)),
+    "turn_text": (None, c_uint8, POINTER(Text)),
+    "atr_decode": (Verdict, *OCTETS, POINTER(Atr)),
+    "atr_t1_params": (c_uint8, POINTER(Atr), POINTER(T1)),
+    "t1_bwt": (c_uint64, POINTER(T1), c_uint16, c_uint16),
+    "command_decode": (Verdict, *OCTETS, POINTER(Command)),
+    "tlv_parts": (Verdict, *OCTETS, c_size_t, POINTER(Part), c_size_t),
+    "terminal_open": (Verdict, END, c_uint8, c_uint8, c_uint8),
+    "terminal_transmit": (Turn, END, *OCTETS, *ROOM),
+    "terminal_received": (Turn, END, *OCTETS, *ROOM),
+    "terminal_quiet": (Turn, END, *ROOM),
+    "message": (Verdict, END, *ROOM),
+    "close": (None, END),
+}
+lib = ctypes.CDLL(os.environ.get("SCARD_LIBRARY", "libscard.so.1"))
+for call, (result, *arguments) in CALLS.items():
+    getattr(lib, f"scard_{call}").restype, getattr(lib, f"scard_{call}").argtypes = result, arguments
+if lib.scard_version() // 1000000 != VERSION // 1000000:
+    raise ImportError("the library has another first number in its version")
+
+
+class Refused(ValueError):
+    """Octets that are no spelling, with the place and the reason; or a turn with which an exchange ended."""
+
+
+def name_of(call, *numbers):
+    """The name that a call of the library gives to numbers."""
+    name = Text()
+    call(*numbers, byref(name))
+    return name.text.decode()
+
+
+def checked(verdict, codec=0):
+    """How many octets were taken or written, or the refusal as an exception."""
+    if verdict.status == AT:
+        raise Refused(f"refused at {verdict.place}: {name_of(lib.scard_reason_text, codec, verdict.reason)}")
+    if verdict.status != OK:
+        raise Refused(f"short at {verdict.place}" if verdict.status == SHORT else f"status {verdict.status}")
+    return verdict.place
+
+
+def atr(octets):
+    """The answer to reset with which octets begin: protocols, historical bytes, and of T=1 its parameters and BWT."""
+    read, t1 = Atr(), T1()
+    checked(lib.scard_atr_decode(octets, len(octets), byref(read)), ATR)
+    said = {"protocols": [it.protocol for it in read.indicated[:read.indicated_count]],
+            "historical": bytes(read.historical[:read.historical_count])}
+    if lib.scard_atr_t1_params(byref(read), byref(t1)) == 0:
+        said.update(ifsc=t1.ifsc, bwi=t1.bwi, cwi=t1.cwi, bwt_cycles=lib.scard_t1_bwt(byref(t1), 372, 1))
+    return said
+
+
+def command(octets):
+    """The command that the octets are: its header, its data field and how many octets are expected back."""
+    read = Command()
+    checked(lib.scard_command_decode(octets, len(octets), byref(read)), COMMAND)
+    end = read.data_place + read.data_len
+    return {"header": octets[:4], "data": octets[read.data_place:end], "le": read.le if read.has_le else None}
+
+
+def forest(octets):
+    """The objects of a forest, each before those inside it: its depth, its tag, and its value or None."""
+    parts = (Part * (len(octets) // 2 + 1))()
+    count = checked(lib.scard_tlv_parts(octets, len(octets), LONGEST_FOREST, parts, len(parts)), TLV)
+    return [(it.depth, bytes(it.tag.octets[:it.tag.count]),
+             None if it.is_constructed else octets[it.place:it.place + it.len]) for it in parts[:count]]
+
+
+class Terminal:
+    """A terminal over a line, begun at a reset of its card. `line.send(octets)` sends a block, and
+    `line.receive(wait)` returns the octets of the next one, or b"" once `wait` block waiting times have gone by."""
+
+    def __init__(self, line, ifsc=32, bwi=4, cwi=13):
+        self.line, self.handle, self.block = line, Handle(), ctypes.create_string_buffer(BLOCK_ROOM)
+        checked(lib.scard_terminal_open(byref(self.handle), ifsc, bwi, cwi))
+
+    def _turn(self, call, *octets):
+        return call(byref(self.handle), *octets, self.block, BLOCK_ROOM)
+
+    def exchange(self, octets):
+        """The answer to a command."""
+        turn = self._turn(lib.scard_terminal_transmit, octets, len(octets))
+        while turn.kind == SEND:
+            self.line.send(self.block.raw[:turn.count])
+            came = self.line.receive(turn.wait)
+            turn = (self._turn(lib.scard_terminal_received, came, len(came)) if came
+                    else self._turn(lib.scard_terminal_quiet))
+        if turn.kind != DONE:
+            raise Refused(name_of(lib.scard_turn_text, turn.kind))
+        answer = ctypes.create_string_buffer(LONGEST_ANSWER)
+        count = checked(lib.scard_message(byref(self.handle), answer, LONGEST_ANSWER))
+        return answer.raw[:count]
+
+    def close(self):
+        """Frees the terminal; its buffers are overwritten."""
+        lib.scard_close(byref(self.handle))
+
+
+def main(words):
+    """Checks and shows octets."""
+    kinds = {"atr": atr, "command": command, "tlv": forest}
+    if len(words) != 2 or words[0] not in kinds:
+        sys.exit(__doc__)
+    said = kinds[words[0]](bytes.fromhex(words[1]))
+    for row in said.items() if isinstance(said, dict) else said:
+        print(*(it.hex().upper() if isinstance(it, bytes) else it for it in row))
+
+
+if __name__ == "__main__":
+    main(sys.argv[1:])

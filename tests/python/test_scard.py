@@ -1,0 +1,126 @@
+"""The example in examples/python over the library that SCARD_LIBRARY names: octets, names, and exchanges with a card
+that the same library has, whose line loses and damages blocks."""
+import ctypes
+import pathlib
+import sys
+import unittest
+
+sys.dont_write_bytecode = True
+sys.path.insert(0, str(pathlib.Path(__file__).resolve().parents[2] / "examples/python"))
+import scard  # noqa: E402
+
+CARD_CALLS = {
+    "card_open": (scard.Verdict, scard.END, *[ctypes.c_uint8] * 3),
+    "card_received": (scard.Turn, scard.END, *scard.OCTETS, *scard.ROOM),
+    "card_reply": (scard.Turn, scard.END, *scard.OCTETS, *scard.ROOM),
+    "card_more_time": (scard.Turn, scard.END, ctypes.c_uint8, *scard.ROOM),
+}
+for name, (result, *arguments) in CARD_CALLS.items():
+    getattr(scard.lib, f"scard_{name}").restype, getattr(scard.lib, f"scard_{name}").argtypes = result, arguments
+
+
+class CardLine:
+    """A line with a card at its other end, which answers each command with itself and 9000. The blocks whose numbers
+    `lost` has don't come, the octets of those in `damaged` come changed, and before each reply the card asks for three
+    times the waiting time where `asks` is true."""
+
+    def __init__(self, lost=(), damaged=(), asks=False):
+        self.handle, self.block, self.asks = scard.Handle(), ctypes.create_string_buffer(258), asks
+        scard.checked(scard.lib.scard_card_open(ctypes.byref(self.handle), 32, 4, 13))
+        self.lost, self.damaged, self.number, self.came, self.waited, self.is_asked = lost, damaged, 0, b"", [], False
+
+    def call(self, call, *given):
+        """A call of the card."""
+        return call(ctypes.byref(self.handle), *given, self.block, 258)
+
+    def passed(self, octets):
+        """What comes of a block that is sent in either direction."""
+        self.number += 1
+        if self.number in self.damaged:
+            octets = octets[:-1] + bytes([octets[-1] ^ 1])
+        return b"" if self.number in self.lost else octets
+
+    def host(self):
+        """The host has the turn: it asks for time, or replies."""
+        if self.asks and not self.is_asked:
+            self.is_asked = True
+            return self.call(scard.lib.scard_card_more_time, 3)
+        self.is_asked = False
+        reply = ctypes.create_string_buffer(65544)
+        count = scard.checked(scard.lib.scard_message(ctypes.byref(self.handle), reply, 65544))
+        return self.call(scard.lib.scard_card_reply, reply.raw[:count] + b"\x90\x00", count + 2)
+
+    def send(self, octets):
+        """The terminal sends a block."""
+        octets, self.came = self.passed(octets), b""
+        if octets:
+            turn = self.call(scard.lib.scard_card_received, octets, len(octets))
+            turn = self.host() if turn.kind == scard.DONE else turn
+            if turn.kind == scard.SEND:
+                self.came = self.passed(self.block.raw[:turn.count])
+
+    def receive(self, wait):
+        """The block that the card sent, if one came."""
+        self.waited.append(wait)
+        return self.came
+
+
+class Octets(unittest.TestCase):
+    def test_answer_to_reset(self):
+        said = scard.atr(bytes.fromhex("3B858131FE458073800140BC"))
+        self.assertEqual(said["protocols"], [1, 1])
+        self.assertEqual(said["historical"], bytes.fromhex("8073800140"))
+        self.assertEqual((said["ifsc"], said["bwi"], said["cwi"]), (254, 4, 5))
+        self.assertEqual(said["bwt_cycles"], 11 * 372 + 16 * 960 * 372)
+
+    def test_refusals(self):
+        with self.assertRaisesRegex(scard.Refused, "refused at 0: BadTs"):
+            scard.atr(b"\x3C")
+        with self.assertRaisesRegex(scard.Refused, "short at 3"):
+            scard.command(b"\x00\xA4\x04")
+        with self.assertRaisesRegex(scard.Refused, "refused at 1: Overrun|short at 2"):
+            scard.forest(b"\x50\x01")
+
+    def test_command(self):
+        said = scard.command(bytes.fromhex("00A4040002A00000"))
+        self.assertEqual(said, {"header": bytes.fromhex("00A40400"), "data": b"\xA0\x00", "le": 256})
+
+    def test_forest(self):
+        said = scard.forest(bytes.fromhex("6F048402A000005F2001AA"))
+        self.assertEqual(said, [(1, b"\x6F", None), (2, b"\x84", b"\xA0\x00"), (1, b"\x5F\x20", b"\xAA")])
+        self.assertEqual(scard.forest(b""), [])
+
+
+class Exchanges(unittest.TestCase):
+    def exchanged(self, line, *commands):
+        """Exchanges over one line and one terminal: each answer is that of its command."""
+        terminal = scard.Terminal(line)
+        for command in commands:
+            self.assertEqual(terminal.exchange(command), command + b"\x90\x00")
+        terminal.close()
+
+    def test_good_line(self):
+        line = CardLine()
+        self.exchanged(line, bytes.fromhex("00A4040000"), bytes(300), bytes.fromhex("00B0000000"))
+        self.assertEqual(set(line.waited), {1})
+
+    def test_each_block_lost_or_damaged(self):
+        for number in range(1, 9):
+            self.exchanged(CardLine(lost={number}), bytes(100), bytes(5), bytes(40))
+            self.exchanged(CardLine(damaged={number}), bytes(100), bytes(5), bytes(40))
+
+    def test_more_time(self):
+        line = CardLine(asks=True)
+        self.exchanged(line, bytes.fromhex("00A4040000"), bytes.fromhex("00B0000000"))
+        self.assertEqual(line.waited, [1, 3, 1, 3])
+
+    def test_dead_card(self):
+        terminal = scard.Terminal(CardLine(lost=range(1, 100)))
+        with self.assertRaisesRegex(scard.Refused, "DEAD"):
+            terminal.exchange(bytes(5))
+        with self.assertRaisesRegex(scard.Refused, "REFUSED_DEAD"):
+            terminal.exchange(bytes(5))
+
+
+if __name__ == "__main__":
+    unittest.main(verbosity=0)
