@@ -24,6 +24,10 @@ came_of failure = []
 abbrev pub IsFramed : List ℕ → Type 0
 IsFramed octets = 3 ≤ length octets → length octets ≤ slice_index octets 2 + 4
 
+-- the octets are a whole block, by its third octet
+abbrev pub IsWholeBlock : List ℕ → Type 0
+IsWholeBlock octets = (3 ≤ length octets) × (length octets ≡ slice_index octets 2 + 4)
+
 -- so many of the octets that were sent are written: all, unless the line failed
 abbrev pub IsWritten : Arrival → List ℕ → ℕ → Type 0
 IsWritten (block octets) sent count = count ≡ length sent

@@ -1,11 +1,12 @@
 //! A line whose octets go to a writer and come from a reader.
 
-ghost use Rattle.std.specs.Prelude.{◌≡◌, ◌≢◌, ◌≤◌, ◌<◌, ◌+◌, ℕ, List, [], ◌∷◌, length, take, slice_index, IfOk, IfErr, OnOk, Ok, Err};
+ghost use Rattle.std.specs.Prelude.{◌≡◌, ◌≢◌, ◌≤◌, ◌<◌, ◌+◌, ◌⊎◌, ℕ, List, [], ◌∷◌, length, take, slice_index, IfOk, IfErr, OnOk, Ok, Err};
+ghost use Rattle.octet_core.specs.Failures.{Counts, ReadFails, HasFailed, most_failures};
 ghost use Rattle.std.specs.IoError.{error_kind};
-ghost use Rattle.std.specs.Io.KnownBytes.{Consumes, Appends};
+ghost use Rattle.std.specs.Io.KnownBytes.{Consumes, Appends, IsAtEnd};
 ghost use Rattle.line_core.specs.Line.{Adds, FitsRoom, arrival_of};
 ghost use Rattle.line_core.specs.Service.{Happens, came, sending};
-ghost use Rattle.line_core.specs.Streams.{Moves, Carries, HasCarried, HasServed, IsFramed, MovesOn, came_of, wire_of, source_of, sink_of};
+ghost use Rattle.line_core.specs.Streams.{Moves, Carries, HasCarried, HasServed, IsFramed, IsWholeBlock, MovesOn, came_of, wire_of, source_of, sink_of};
 
 use crate::line::{Heard, Line};
 use crate::serving::CardLine;
@@ -123,6 +124,7 @@ fn write_block<W: Sink>(sink: &mut W, block: &[u8]) -> io::Result<()>
     ensures part { IfErr result (λ _. (count : ℕ) × (count < length block.now)
         × Appends (W.contents sink.old) (W.contents sink.new) (take count block.now)) }
     ensures failed { IfErr result (λ fault. error_kind fault ≡ ErrorKind.WriteZero) }
+    ensures cause { IfErr result (λ _. HasFailed (W.failures sink.old) (W.failures sink.new)) }
 {
     match write_octets(sink, block) {
         Ok(()) => Ok(()),
@@ -137,6 +139,8 @@ fn over_at_end(read: io::Result<Heard>) -> io::Result<Heard>
     ensures came { (room : List ℕ)
         → came_of (arrival_of result room) ≡ came_of (arrival_of read room) }
     ensures heard { IfOk read (λ heard. result ≡ Ok heard) }
+    ensures other { IfErr read (λ fault. error_kind fault ≢ ErrorKind.UnexpectedEof
+        → result ≡ Err fault) }
     ensures over { IfErr read (λ fault. error_kind fault ≡ ErrorKind.UnexpectedEof
         → result ≡ Ok Heard.Nothing) }
     ensures failed { IfErr result (λ fault. (read ≡ Err fault)
@@ -158,6 +162,13 @@ fn read_block<R: Source>(source: &mut R, room: &mut [u8]) -> io::Result<Heard>
     ensures came { Consumes (R.remaining source.old) (R.remaining source.new)
         (came_of (arrival_of result room.new)) }
     ensures framed { IsFramed (came_of (arrival_of result room.new)) }
+    ensures whole { IfOk result (λ heard. R.failures source.new ≡ R.failures source.old
+        → R.failures source.old < most_failures → IsAtEnd (R.remaining source.new)
+        ⊎ IsWholeBlock (came_of (arrival_of result room.new))) }
+    ensures silent { result ≡ Ok Heard.Nothing
+        → HasFailed (R.failures source.old) (R.failures source.new) }
+    ensures once { IsWholeBlock (came_of (arrival_of result room.new))
+        → R.failures source.new ≡ R.failures source.old }
 {
     let mut count = 0;
     while count < end_of(&room[..count]) {
@@ -180,6 +191,9 @@ fn read_more<R: Source>(source: &mut R, room: &mut [u8], count: usize) -> io::Re
     ensures moved { MovesOn (R.remaining source.old) (R.remaining source.new) room.old room.new
         count result }
     ensures framed { IfOk result (λ more. IsFramed (take (count + more) room.new)) }
+    ensures counted { Counts (ReadFails result) (R.failures source.old) (R.failures source.new) }
+    ensures end { IfOk result (λ more. more ≡ 0
+        → IsAtEnd (R.remaining source.new) ⊎ IsWholeBlock (take (count + more) room.new)) }
 {
     let end = end_of(&room[..count]);
     source.read(&mut room[count..end])
@@ -190,6 +204,13 @@ fn broken_off(count: usize, fault: io::Error) -> io::Result<Heard>
     ensures fits { (room : List ℕ) → count ≤ length room
         → IfOk result (λ heard. FitsRoom heard room) }
     ensures came { (room : List ℕ) → came_of (arrival_of result room) ≡ take count room }
+    ensures begun { 0 < count → result ≡ Ok (Heard.Octets count) }
+    ensures timed_out { count ≡ 0 → error_kind fault ≡ ErrorKind.TimedOut
+        → result ≡ Ok Heard.Nothing }
+    ensures would_block { count ≡ 0 → error_kind fault ≡ ErrorKind.WouldBlock
+        → result ≡ Ok Heard.Nothing }
+    ensures failed { count ≡ 0 → error_kind fault ≢ ErrorKind.TimedOut
+        → error_kind fault ≢ ErrorKind.WouldBlock → result ≡ Err fault }
 {
     if count > 0 {
         return Ok(Heard::Octets(count));
