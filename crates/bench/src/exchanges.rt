@@ -16,23 +16,43 @@ const QUESTION: &[u8] = b"ifsd FE\nt 00C101FE3E\nc 00E101FE1E\nifs-set\n";
 pub(crate) fn replay_each(rt: &HostRuntime, timed: bool) -> io::Result<()> {
     for size in [1_048_576, 2_097_152, 4_194_304] {
         let text = file(rt.alloc(), size)?;
-        let started = Instant::now(rt)?;
-        let Ok(exchange) = read_exchange(rt.alloc(), text.as_slice()) else {
-            return Err(ErrorKind::InvalidData.into());
-        };
-        let told = Told {
-            octets: text.len(),
-            lines: exchange.lines().get().len(),
-        };
-        told.tell(rt, "file of an exchange read", started, timed)?;
-        replay_both(rt, &exchange, told, timed)?;
-        let started = Instant::now(rt)?;
-        if write_exchange(rt.alloc(), &exchange)?.as_slice() != text.as_slice() {
-            return Err(ErrorKind::InvalidData.into());
-        }
-        told.tell(rt, "file of an exchange written", started, timed)?;
+        let exchange = read_in_time(rt, text.as_slice(), timed)?;
+        replay_both(rt, &exchange, Told::of(text.as_slice(), &exchange), timed)?;
+        write_in_time(rt, text.as_slice(), &exchange, timed)?;
     }
     Ok(())
+}
+
+fn read_in_time(rt: &HostRuntime, text: &[u8], timed: bool) -> io::Result<Exchange> {
+    let started = Instant::now(rt)?;
+    let exchange = read(rt.alloc(), text)?;
+    let told = Told::of(text, &exchange);
+    told.tell(rt, "file of an exchange read", started, timed)?;
+    Ok(exchange)
+}
+
+fn write_in_time(
+    rt: &HostRuntime,
+    text: &[u8],
+    exchange: &Exchange,
+    timed: bool,
+) -> io::Result<()> {
+    let started = Instant::now(rt)?;
+    if !is_written(rt.alloc(), exchange, text)? {
+        return Err(ErrorKind::InvalidData.into());
+    }
+    let told = Told::of(text, exchange);
+    told.tell(rt, "file of an exchange written", started, timed)
+}
+
+/// The exchange of a file.
+fn read(alloc: Global, text: &[u8]) -> io::Result<Exchange> {
+    read_exchange(alloc, text).map_err(|_| ErrorKind::InvalidData.into())
+}
+
+/// Whether the exchange is written as this file.
+fn is_written(alloc: Global, exchange: &Exchange, text: &[u8]) -> io::Result<bool> {
+    Ok(write_exchange(alloc, exchange)?.as_slice() == text)
 }
 
 /// The octets and the lines of a file.
@@ -43,6 +63,13 @@ struct Told {
 }
 
 impl Told {
+    fn of(text: &[u8], exchange: &Exchange) -> Told {
+        Told {
+            octets: text.len(),
+            lines: exchange.lines().get().len(),
+        }
+    }
+
     fn tell(
         self,
         rt: &HostRuntime,

@@ -1,6 +1,7 @@
 //! A case, and what becomes of one that goes wrong.
 
-use octet_core::hex_upper;
+use exchange_core::{ExchangeFault, RecorderFault};
+use octet_core::{HexFault, hex_upper};
 use std::alloc::{AllocError, AllocFailed, Global};
 use std::io;
 
@@ -60,5 +61,32 @@ impl<T: Drop> From<AllocFailed<T>> for Fault {
 impl From<io::Error> for Fault {
     fn from(_error: io::Error) -> Fault {
         Fault::Stream
+    }
+}
+
+impl From<ExchangeFault> for Fault {
+    fn from(fault: ExchangeFault) -> Fault {
+        match fault {
+            ExchangeFault::Memory => Fault::Memory,
+            _ => Fault::Stream,
+        }
+    }
+}
+
+impl From<HexFault> for Fault {
+    fn from(fault: HexFault) -> Fault {
+        match fault {
+            HexFault::Memory => Fault::Memory,
+            _ => Fault::Stream,
+        }
+    }
+}
+
+impl From<RecorderFault> for Fault {
+    fn from(fault: RecorderFault) -> Fault {
+        match fault {
+            RecorderFault::Memory => Fault::Memory,
+            RecorderFault::Refused(_) => Fault::Stream,
+        }
     }
 }

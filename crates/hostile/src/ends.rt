@@ -3,7 +3,7 @@
 use crate::case::Fault;
 use atr_core::{T1Params, decode, t1_params};
 use block_core::{Block, encode};
-use exchange_core::{Arrival, Exchange, ExchangeFault, Line, read_exchange};
+use exchange_core::{Arrival, Exchange, Line, read_exchange};
 use std::alloc::{AllocError, Global};
 use t1_core::{Card, CardFault, CardTurn, Terminal, TerminalFault, TerminalTurn};
 
@@ -29,11 +29,7 @@ pub(crate) enum Waits {
 
 /// An exchange that is read from a text of this program.
 pub(crate) fn exchange(alloc: Global, text: &[u8]) -> Result<Exchange, Fault> {
-    match read_exchange(alloc, text) {
-        Ok(exchange) => Ok(exchange),
-        Err(ExchangeFault::Memory) => Err(Fault::Memory),
-        Err(_) => Err(Fault::Stream),
-    }
+    Ok(read_exchange(alloc, text)?)
 }
 
 /// The parameters of T=1 that the answer to reset of an exchange gives.

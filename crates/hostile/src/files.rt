@@ -2,9 +2,8 @@
 
 use crate::case::{Case, Fault};
 use crate::changes::with;
-use exchange_core::{
-    Exchange, ExchangeFault, ReplayFault, Side, read_exchange, replay, write_exchange,
-};
+use crate::ends::exchange;
+use exchange_core::{Exchange, ReplayFault, Side, replay, write_exchange};
 use std::alloc::Global;
 
 /// What was said of files.
@@ -64,15 +63,19 @@ fn changed(alloc: Global, file: &[u8], place: usize, said: Said) -> Result<Said,
 /// With one text more: it is read, written as it was, and replays the same twice, or has a fault.
 fn judged(alloc: Global, text: &[u8], place: usize, said: Said) -> Result<Said, Fault> {
     let mut said = said;
-    match read_exchange(alloc, text) {
+    match exchange(alloc, text) {
         Ok(exchange) => {
             said.read = said.read.saturating_add(1);
             if is_replayed(alloc, &exchange, text, place)? {
                 said.replayed = said.replayed.saturating_add(1);
             }
         }
-        Err(ExchangeFault::Memory) => return Err(Fault::Memory),
-        Err(_) => said.faults = said.faults.saturating_add(1),
+        Err(fault) => {
+            if matches!(&fault, Fault::Memory) {
+                return Err(fault);
+            }
+            said.faults = said.faults.saturating_add(1);
+        }
     }
     Ok(said)
 }

@@ -1,7 +1,7 @@
 //! Events that a recorder refuses.
 
 use crate::case::{Case, Fault};
-use exchange_core::{Event, EventFault, Recorder, RecorderFault, write_exchange};
+use exchange_core::{Event, EventFault, Recorder, write_exchange};
 use std::alloc::Global;
 
 /// The answer to reset of a card that takes fields of 2 octets.
@@ -132,11 +132,7 @@ fn is_put(
 
 /// A new recorder.
 fn recorder(alloc: Global) -> Result<Recorder, Fault> {
-    match Recorder::new(alloc, &ATR) {
-        Ok(recorder) => Ok(recorder),
-        Err(RecorderFault::Memory) => Err(Fault::Memory),
-        Err(RecorderFault::Refused(_)) => Err(Fault::Stream),
-    }
+    Ok(Recorder::new(alloc, &ATR)?)
 }
 
 /// Whether all events are taken.

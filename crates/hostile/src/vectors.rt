@@ -3,7 +3,7 @@
 use crate::case::Fault;
 use crate::kind::{Chain, Kind, Size};
 use block_core::Number;
-use octet_core::{HexFault, octets_of};
+use octet_core::octets_of;
 use std::alloc::Global;
 
 /// Octets of a kind, the whole of one value.
@@ -151,9 +151,5 @@ pub(crate) fn vectors(alloc: Global) -> Result<Vec<Vector>, Fault> {
 
 /// The octets of a text of this program.
 pub(crate) fn octets(alloc: Global, text: &str) -> Result<Vec<u8>, Fault> {
-    match octets_of(alloc, text) {
-        Ok(octets) => Ok(octets),
-        Err(HexFault::Memory) => Err(Fault::Memory),
-        Err(_) => Err(Fault::Stream),
-    }
+    Ok(octets_of(alloc, text)?)
 }
