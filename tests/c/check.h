@@ -80,6 +80,32 @@ static inline const char *line_of(struct scard_verdict v, int codec)
     return line;
 }
 
+/* The verdict of a codec on octets, of which what they say isn't kept; status 9 for a codec that isn't here. */
+static inline struct scard_verdict verdict_of_codec(int codec, struct octets octets, uint8_t ifs)
+{
+    struct scard_verdict none = {9, 9, 9};
+    struct scard_atr atr;
+    struct scard_block block;
+    struct scard_command command;
+    struct scard_response response;
+    switch (codec) {
+    case SCARD_CODEC_ATR:
+        return scard_atr_decode(octets.at, octets.count, &atr);
+    case SCARD_CODEC_BLOCK:
+        return scard_block_decode(octets.at, octets.count, ifs, &block);
+    case SCARD_CODEC_COMMAND:
+        return scard_command_decode(octets.at, octets.count, &command);
+    case SCARD_CODEC_RESPONSE:
+        return scard_response_decode(octets.at, octets.count, &response);
+    case SCARD_CODEC_TLV:
+        return scard_tlv_check(octets.at, octets.count, SCARD_TLV_LARGEST);
+    case SCARD_CODEC_DOL:
+        return scard_dol_check(octets.at, octets.count);
+    default:
+        return none;
+    }
+}
+
 static inline int verdict_of_checks(const char *name)
 {
     printf("%s: %d checks, %d failed\n", name, checks, failures);

@@ -4,36 +4,9 @@
 static int reads(int codec, uint8_t ifs, const char *text, const char *wanted)
 {
     struct octets octets = of_hex(text);
-    struct scard_verdict v = {9, 9, 9};
-    struct scard_atr atr;
-    struct scard_block block;
-    struct scard_command command;
-    struct scard_response response;
-    int same;
-    switch (codec) {
-    case SCARD_CODEC_ATR:
-        v = scard_atr_check(octets.at, octets.count);
-        same = strcmp(line_of(v, codec), wanted) == 0;
-        v = scard_atr_decode(octets.at, octets.count, &atr);
-        if (!same) {
-            v.status = 9;
-        }
-        break;
-    case SCARD_CODEC_BLOCK:
-        v = scard_block_decode(octets.at, octets.count, ifs, &block);
-        break;
-    case SCARD_CODEC_COMMAND:
-        v = scard_command_decode(octets.at, octets.count, &command);
-        break;
-    case SCARD_CODEC_RESPONSE:
-        v = scard_response_decode(octets.at, octets.count, &response);
-        break;
-    case SCARD_CODEC_TLV:
-        v = scard_tlv_check(octets.at, octets.count, SCARD_TLV_LARGEST);
-        break;
-    case SCARD_CODEC_DOL:
-        v = scard_dol_check(octets.at, octets.count);
-        break;
+    struct scard_verdict v = verdict_of_codec(codec, octets, ifs);
+    if (codec == SCARD_CODEC_ATR && strcmp(line_of(scard_atr_check(octets.at, octets.count), codec), wanted) != 0) {
+        v.status = 9;
     }
     free(octets.at);
     if (strcmp(line_of(v, codec), wanted) != 0) {

@@ -1,12 +1,12 @@
-//! Answers to reset with their verdicts and what they say, by the tables of ISO/IEC 7816-3.
+//! Answers to reset in parts and in pieces, and times by ISO/IEC 7816-3. Verdicts, and what answers say, are in the
+//! folder `vectors`.
 
 mod printed;
 
 use arrayvec::ArrayVec;
 use atr_core::laws::are_equal;
 use atr_core::{
-    Atr, AtrReader, AtrReason, Convention, Indicated, Interface, ParamFault, T1Params, check,
-    decode, encode, rates, t1_params,
+    Atr, AtrReader, AtrReason, Convention, Indicated, Interface, T1Params, decode, encode,
 };
 use octet_core::Stop;
 use std::test::Fail;
@@ -32,146 +32,12 @@ const TOO_MANY_TDS: &[u8] =
     b"\x3B\x80\x80\x80\x80\x80\x80\x80\x80\x80\x80\x80\x80\x80\x80\x80\x80\x80\x80\x80\x80\x80\x80\x80\x80\x80\x80\x80\x80\x80\x80\x80\x80\x00";
 
 #[test]
-fn accepted_octets(rt: HostRuntime) -> Result<(), Fail> {
-    for (octets, taken) in [
-        (b"\x3B\x00".as_slice(), 2),
-        (b"\x3F\x00".as_slice(), 2),
-        (BOTH_PROTOCOLS, 20),
-        // T=1 before T=0: TCK stands.
-        (b"\x3B\x80\x81\x00\x01".as_slice(), 5),
-        (T1_CARD, 7),
-        (LONGEST, 33),
-        (MOST_TDS, 33),
-        // Seven TDs.
-        (b"\x3B\x80\x80\x80\x80\x80\x80\x80\x00".as_slice(), 9),
-        // T=15, with a global TA.
-        (b"\x3B\x80\x1F\x07\x98".as_slice(), 5),
-        // T=0 alone: an octet that could be a TCK stays unread.
-        (b"\x3B\x80\x00\x80".as_slice(), 3),
-    ] {
-        let (atr, count) = decode(octets)?;
-        assert!(rt; same(count, taken));
-        assert!(rt; octets.len() >= taken);
-        assert!(rt; encode(&atr).as_slice() == &octets[..taken]);
-    }
-    Ok(())
-}
-
-#[test]
-fn refused_octets(rt: HostRuntime) {
-    for (octets, stop) in [
-        (b"".as_slice(), Stop::Short { place: 0 }),
-        (b"\x3B".as_slice(), Stop::Short { place: 1 }),
-        (
-            b"\x3A".as_slice(),
-            Stop::At {
-                place: 0,
-                reason: AtrReason::BadTs,
-            },
-        ),
-        (
-            b"\x3B\x80\x81\x31\x20\x45\x54".as_slice(),
-            Stop::At {
-                place: 6,
-                reason: AtrReason::BadTck,
-            },
-        ),
-        (
-            b"\x3B\x80\x81\x31\x20\x45".as_slice(),
-            Stop::Short { place: 6 },
-        ),
-        (
-            b"\x3B\xFF\x11\x22\x33\xF1\x44\x55\x66\xF1\x77\x88\x99\xF1".as_slice(),
-            Stop::At {
-                place: 13,
-                reason: AtrReason::TooLong,
-            },
-        ),
-        (
-            b"\x3B\xFF\x11\x22\x33\xF1\x44\x55\x66\xF1\x77\x88\x99\x71".as_slice(),
-            Stop::Short { place: 14 },
-        ),
-        (
-            TOO_MANY_TDS,
-            Stop::At {
-                place: 32,
-                reason: AtrReason::TooLong,
-            },
-        ),
-    ] {
-        assert!(rt; same(decode(octets).err(), Some(stop)));
-    }
-}
-
-#[test]
-fn fields_of_an_answer(rt: HostRuntime) -> Result<(), Fail> {
-    let (atr, _) = decode(BOTH_PROTOCOLS)?;
-    assert!(rt; same(atr.convention(), Convention::Direct));
-    assert!(rt; same(atr.first(), Interface::default()));
-    assert!(rt; same(atr.indicated().len(), 2));
-    assert!(rt; same(atr.historical().len(), 15));
-    assert!(rt; same(atr.tck(), Some(0x6A)));
-    let (atr, _) = decode(b"\x3F\x80\x01\x81")?;
-    assert!(rt; same(atr.convention(), Convention::Inverse));
-    let (atr, _) = decode(b"\x3B\x10\x97")?;
-    assert!(rt; same(atr.first().ta, Some(0x97)));
-    assert!(rt; same(atr.tck(), None));
-    Ok(())
-}
-
-#[test]
-fn parameters_of_t1(rt: HostRuntime) -> Result<(), Fail> {
-    for (octets, params) in [
-        (b"\x3B\x00".as_slice(), Err(ParamFault::NoT1)),
-        (T1_CARD, Ok((32, 4, 5))),
-        (BOTH_PROTOCOLS, Ok((32, 4, 13))),
-        // IFSC FF and 00.
-        (
-            b"\x3B\x80\x81\x11\xFF\xEF".as_slice(),
-            Err(ParamFault::ReservedIfsc),
-        ),
-        (
-            b"\x3B\x80\x81\x11\x00\x10".as_slice(),
-            Err(ParamFault::ReservedIfsc),
-        ),
-        (b"\x3B\x80\x81\x41\x01\x41".as_slice(), Err(ParamFault::Crc)),
-        // The bytes after TD1 aren't specific: TA2 isn't IFSC.
-        (b"\x3B\x80\x91\x00\x01\x10".as_slice(), Ok((32, 4, 13))),
-        // The first TA is after TD3, the first TB after TD2.
-        (
-            b"\x3B\x80\x81\xA1\x45\x11\x80\x74".as_slice(),
-            Ok((128, 4, 5)),
-        ),
-    ] {
-        let (atr, _) = decode(octets)?;
-        let found = t1_params(&atr).map(|p| (p.ifsc(), p.bwi(), p.cwi()));
-        assert!(rt; same(found, params));
-    }
-    Ok(())
-}
-
-#[test]
 fn ranges_of_parameters(rt: HostRuntime) {
     assert!(rt; T1Params::new(254, 15, 15).is_some());
     assert!(rt; same(T1Params::new(0, 4, 13), None));
     assert!(rt; same(T1Params::new(255, 4, 13), None));
     assert!(rt; same(T1Params::new(32, 16, 13), None));
     assert!(rt; same(T1Params::new(32, 4, 16), None));
-}
-
-#[test]
-fn rates_of_answers(rt: HostRuntime) -> Result<(), Fail> {
-    for (octets, expected) in [
-        (b"\x3B\x00".as_slice(), (Some(372), Some(1))),
-        (b"\x3B\x10\x97".as_slice(), (Some(512), Some(64))),
-        (b"\x3B\x10\x7A".as_slice(), (None, None)),
-        (b"\x3B\x10\xD9".as_slice(), (Some(2048), Some(20))),
-        (b"\x3B\x10\xE0".as_slice(), (None, None)),
-    ] {
-        let (atr, _) = decode(octets)?;
-        assert!(rt; same(rates(&atr), expected));
-    }
-    Ok(())
 }
 
 #[test]
@@ -266,16 +132,6 @@ fn readers_are_equal_by_octets_or_refusal(rt: HostRuntime) {
     assert!(rt; anew == AtrReader::new());
 }
 
-#[test]
-fn each_cut_of_an_answer_in_two(rt: HostRuntime) {
-    for place in 0..T1_CARD.len() {
-        let (front, rest) = T1_CARD.split_at(place);
-        let mut reader = AtrReader::new();
-        assert!(rt; same(reader.feed(front), Ok((front.len(), false))));
-        assert!(rt; same(reader.feed(rest), Ok((rest.len(), true))));
-    }
-}
-
 /// Answers that are accepted, refused at each kind of place, and followed by other octets.
 const WHOLE_OR_NOT: [&[u8]; 16] = [
     BOTH_PROTOCOLS,
@@ -332,33 +188,6 @@ fn one_pass_agrees_with_octet_by_octet(rt: HostRuntime) {
             let wanted = octet_by_octet(front);
             assert!(rt; same(decode(front).map(|found| found.1), wanted));
             assert!(rt; same(at_once(front), wanted));
-        }
-    }
-}
-
-/// Whether `check` says what `decode` does.
-fn is_checked_as_decoded(octets: &[u8]) -> bool {
-    same(check(octets), decode(octets).map(|found| found.1))
-}
-
-/// Whether it does so with each bit of the octet at this place changed.
-fn is_checked_alike_changed(octets: &[u8], place: usize) -> bool {
-    (0..8).all(|bit| {
-        let mut changed: ArrayVec<u8, 40> = ArrayVec::new();
-        let _ = changed.try_extend_from_slice(octets);
-        if let Some(octet) = changed.as_mut_slice().get_mut(place) {
-            *octet ^= 1 << bit;
-        }
-        is_checked_as_decoded(changed.as_slice())
-    })
-}
-
-#[test]
-fn check_agrees_with_decode(rt: HostRuntime) {
-    for octets in WHOLE_OR_NOT {
-        for end in 0..=octets.len() {
-            assert!(rt; is_checked_as_decoded(&octets[..end]));
-            assert!(rt; is_checked_alike_changed(octets, end));
         }
     }
 }

@@ -1,105 +1,12 @@
-//! Blocks from the standard's tables, and calls that no clause pins.
+//! Calls that no clause pins, and blocks in pieces. The verdicts on octets are in the folder `vectors`.
 
 mod printed;
-
-ghost use Rattle.std.specs.Prelude.{◌≤◌};
 
 use block_core::{
     Block, BlockReader, BlockReason, BlockRef, Fault, LONGEST_BLOCK, Number, Pcb, S, decode, encode,
 };
 use octet_core::Stop;
 use testing::same;
-
-/// What `decode` answers under an information size of 254: the octets taken, or the refusal.
-fn verdict(octets: &[u8]) -> Result<usize, Stop<BlockReason>> {
-    verdict_under(octets, 254)
-}
-
-fn verdict_under(octets: &[u8], ifs: u8) -> Result<usize, Stop<BlockReason>>
-    requires least { 1 ≤ ifs }
-    requires most { ifs ≤ 254 }
-{
-    decode(octets, ifs).map(|(_, taken)| taken)
-}
-
-fn at(place: usize, reason: BlockReason) -> Result<usize, Stop<BlockReason>> {
-    Err(Stop::At { place, reason })
-}
-
-fn short(place: usize) -> Result<usize, Stop<BlockReason>> {
-    Err(Stop::Short { place })
-}
-
-#[test]
-fn information_blocks(rt: HostRuntime) {
-    let select = [0x00, 0x00, 0x05, 0x00, 0xA4, 0x04, 0x00, 0x00, 0xA5];
-    assert!(rt; same(verdict(&select), Ok(9)));
-    let damaged = [0x00, 0x00, 0x05, 0x00, 0xA4, 0x04, 0x00, 0x00, 0xA4];
-    assert!(rt; same(verdict(&damaged), at(8, BlockReason::BadLrc)));
-    assert!(rt; same(verdict(&[]), short(0)));
-    assert!(rt; same(verdict(&[0x00, 0x00]), short(2)));
-    assert!(rt; same(verdict(&[0x00, 0x00, 0xFF]), at(2, BlockReason::BadLen)));
-    assert!(rt;
-        same(
-            verdict_under(&[0x00, 0x00, 0x21], 32),
-            at(2, BlockReason::OverIfs)
-        )
-    );
-    assert!(rt;
-        same(
-            verdict_under(&[0x00, 0x00, 0xFF], 32),
-            at(2, BlockReason::BadLen)
-        )
-    );
-    // What follows a block stays where it is.
-    assert!(rt; same(verdict(&[0x00, 0x40, 0x00, 0x40, 0xFF]), Ok(4)));
-}
-
-#[test]
-fn other_blocks(rt: HostRuntime) {
-    assert!(rt; same(verdict(&[0x00, 0x82, 0x00, 0x82]), Ok(4)));
-    assert!(rt; same(verdict(&[0x00, 0x83, 0x00]), at(1, BlockReason::BadPcb)));
-    assert!(rt; same(verdict(&[0x00, 0x80, 0x01]), at(2, BlockReason::BadLen)));
-    assert!(rt;
-        same(
-            verdict_under(&[0x00, 0x80, 0x20], 32),
-            at(2, BlockReason::BadLen)
-        )
-    );
-    assert!(rt; same(verdict(&[0x00, 0xC1, 0x01, 0xFE, 0x3E]), Ok(5)));
-    assert!(rt;
-        same(
-            verdict(&[0x00, 0xC1, 0x01, 0xFF]),
-            at(3, BlockReason::BadIfs)
-        )
-    );
-    assert!(rt;
-        same(
-            verdict(&[0x00, 0xC1, 0x01, 0x00]),
-            at(3, BlockReason::BadIfs)
-        )
-    );
-    assert!(rt; same(verdict(&[0x00, 0xE3, 0x01, 0x00, 0xE2]), Ok(5)));
-    assert!(rt; same(verdict(&[0x00, 0xE4]), at(1, BlockReason::BadPcb)));
-}
-
-#[test]
-fn every_kind_of_block(rt: HostRuntime) {
-    const ROWS: [u8; 18] = [
-        0x00, 0x20, 0x40, 0x60, 0x80, 0x81, 0x82, 0x90, 0x91, 0x92, 0xC0, 0xC1, 0xC2, 0xC3, 0xE0,
-        0xE1, 0xE2, 0xE3,
-    ];
-    let mut known = 0;
-    for octet in 0..=255u8 {
-        let pcb = Pcb::of(octet);
-        assert!(rt; same(pcb.is_some(), ROWS.contains(&octet)), "{octet:02X}");
-        assert!(rt; pcb.is_none_or(|pcb| pcb.octet() == octet), "{octet:02X}");
-        if pcb.is_some() && known < 255 {
-            known += 1;
-        }
-    }
-    assert!(rt; same(known, 18));
-}
 
 #[test]
 fn made_and_read_again(rt: HostRuntime) {
@@ -213,15 +120,8 @@ fn read_where_it_stands(rt: HostRuntime) {
     assert!(rt; block.inf() == &select[3..8]);
     assert!(rt; Some(block.to_block()) == Block::info(0x21, Number::Zero, false, &select[3..8]));
     let over = BlockRef::decode(&select, 4).err();
-    assert!(rt; same(over, at(2, BlockReason::OverIfs).err()));
-    for end in 0..9 {
-        assert!(rt;
-            same(
-                BlockRef::decode(&select[..end], 254).err(),
-                short(end).err()
-            )
-        );
-    }
+    let reason = BlockReason::OverIfs;
+    assert!(rt; same(over, Some(Stop::At { place: 2, reason })));
 }
 
 #[test]

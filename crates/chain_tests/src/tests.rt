@@ -1,12 +1,12 @@
-//! Chains from the standard's rules, and calls that no clause pins.
+//! Chains in pieces and over streams, and calls that no clause pins. Verdicts are in the folder `vectors`, and streams
+//! that fail after each octet or never end in hostile.
 
-mod faults;
 mod plain;
 mod printed;
 
 use block_core::{Number, encode};
 use chain_core::{ChainReason, ReadRefusal, Receiver, ReceiverPlaces, block_at, cut};
-use octet_core::{After, Counted, Feeder, Source, Stop, Taker, WriteFault};
+use octet_core::{After, Counted, Feeder, Source, Stop, Taker};
 use plain::{feed, feed_lent, finish_lent, has, read, write};
 use std::test::Fail;
 use testing::same;
@@ -26,35 +26,6 @@ const CHAIN_AND_MORE: [u8; 18] = [
 const SELECT: [u8; 5] = [0x00, 0xA4, 0x04, 0x00, 0x00];
 
 #[test]
-fn cut_by_two_octets(rt: HostRuntime) {
-    let blocks: [&[u8]; 3] = [&CHAIN[..6], &CHAIN[6..12], &CHAIN[12..]];
-    let mut count = 0;
-    for (block, octets) in cut(&SELECT, 2, Number::Zero).zip(blocks) {
-        assert!(rt; encode(&block).as_slice() == octets);
-        if count < 3 {
-            count += 1;
-        }
-    }
-    assert!(rt; same(count, 3));
-    assert!(rt; same(cut(&SELECT, 2, Number::Zero).count(), 3));
-}
-
-#[test]
-fn one_block_of_a_short_message(rt: HostRuntime) {
-    let whole = [0x00, 0x40, 0x05, 0x00, 0xA4, 0x04, 0x00, 0x00, 0xE5];
-    let mut blocks = cut(&SELECT, 5, Number::One);
-    let first = blocks.next().map(|block| encode(&block));
-    assert!(rt; first.is_some_and(|octets| octets.as_slice() == whole.as_slice()));
-    assert!(rt; blocks.next().is_none());
-    let mut blocks = cut(&[], 254, Number::One);
-    let first = blocks.next().map(|block| encode(&block));
-    assert!(rt;
-        first.is_some_and(|octets| octets.as_slice() == [0x00, 0x40, 0x00, 0x40].as_slice())
-    );
-    assert!(rt; blocks.next().is_none());
-}
-
-#[test]
 fn block_at_a_place(rt: HostRuntime) {
     assert!(rt; encode(&block_at(&SELECT, 2, 2, Number::One)).as_slice() == &CHAIN[6..12]);
     assert!(rt; encode(&block_at(&SELECT, 4, 2, Number::Zero)).as_slice() == &CHAIN[12..]);
@@ -67,20 +38,6 @@ fn written_whole(rt: HostRuntime) {
     let mut writer = Counted::new(Taker::new(4096, 7, After::Fails));
     assert!(rt; same(write(&mut writer), Ok(())));
     assert!(rt; writer.into_inner().kept() == CHAIN.as_slice());
-}
-
-#[test]
-fn written_to_a_writer_that_fails(rt: HostRuntime) {
-    const ROWS: [After; 3] = [After::End, After::Fails, After::Interrupted];
-    for after in ROWS {
-        for step in [1, 4096] {
-            for written in 0..CHAIN.len() {
-                let mut writer = Counted::new(Taker::new(written, step, after));
-                assert!(rt; same(write(&mut writer), Err(WriteFault { written })));
-                assert!(rt; writer.into_inner().kept() == &CHAIN[..written]);
-            }
-        }
-    }
 }
 
 fn at(place: usize, reason: ChainReason) -> Result<(usize, bool), Stop<ChainReason>> {
@@ -188,24 +145,16 @@ fn received_in_any_pieces(rt: HostRuntime) -> Result<(), Fail> {
 }
 
 #[test]
-fn refused_chains(rt: HostRuntime) -> Result<(), Fail> {
+fn a_refusal_is_kept_until_a_restart(rt: HostRuntime) -> Result<(), Fail> {
     let mut receiver = Receiver::new(rt.alloc(), 2, Number::Zero, 4)?;
     let front = &CHAIN[..6];
-    for (block, refusal) in [
-        ([0x00, 0x20, 0x02], at(7, ChainReason::BadSequence)),
-        ([0x00, 0x80, 0x00], at(7, ChainReason::NotInfo)),
-        ([0x00, 0x83, 0x00], at(7, ChainReason::BadPcb)),
-        ([0x01, 0x60, 0x00], at(6, ChainReason::BadNad)),
-        ([0x00, 0x60, 0x03], at(8, ChainReason::OverIfs)),
-        ([0x00, 0x60, 0xFF], at(8, ChainReason::BadLen)),
-    ] {
-        assert!(rt; same(feed(&mut receiver, front), Ok((6, false))));
-        assert!(rt; same(feed(&mut receiver, &block), refusal));
-        assert!(rt; same(feed(&mut receiver, &CHAIN), refusal));
-        assert!(rt; same(receiver.blocks(), 1));
-        assert!(rt; receiver.message().is_none());
-        receiver.restart(Number::Zero);
-    }
+    let refusal = at(7, ChainReason::BadSequence);
+    assert!(rt; same(feed(&mut receiver, front), Ok((6, false))));
+    assert!(rt; same(feed(&mut receiver, &[0x00, 0x20, 0x02]), refusal));
+    assert!(rt; same(feed(&mut receiver, &CHAIN), refusal));
+    assert!(rt; same(receiver.blocks(), 1));
+    assert!(rt; receiver.message().is_none());
+    receiver.restart(Number::Zero);
     let too_long = Stop::At {
         place: 14,
         reason: ChainReason::TooLong,
@@ -213,13 +162,6 @@ fn refused_chains(rt: HostRuntime) -> Result<(), Fail> {
     assert!(rt; same(feed(&mut receiver, &CHAIN), Err(too_long)));
     assert!(rt; same(receiver.finish(), Err(too_long)));
     assert!(rt; same(receiver.blocks(), 2));
-    receiver.restart(Number::One);
-    assert!(rt;
-        same(
-            feed(&mut receiver, &[0x00, 0x40, 0x00, 0x41]),
-            at(3, ChainReason::BadLrc)
-        )
-    );
     Ok(())
 }
 
@@ -332,29 +274,6 @@ fn read_on_behind_a_failure(rt: HostRuntime) -> Result<(), Fail> {
 }
 
 #[test]
-fn read_from_a_source_that_fails(rt: HostRuntime) -> Result<(), Fail> {
-    let mut receiver = Receiver::new(rt.alloc(), 2, Number::Zero, 5)?;
-    for after in [After::Fails, After::Interrupted] {
-        for step in [1, 4096] {
-            for taken in 0..CHAIN.len() {
-                receiver.restart(Number::Zero);
-                let mut reader = Counted::new(Feeder::new(&CHAIN[..taken], step, after));
-                assert!(rt;
-                    same(
-                        read(&mut reader, &mut receiver),
-                        Err(ReadRefusal::Read { taken })
-                    )
-                );
-                let mut reader = Counted::new(Feeder::new(&CHAIN[taken..], step, after));
-                assert!(rt; same(read(&mut reader, &mut receiver), Ok(())));
-                assert!(rt; same(receiver.blocks(), 3));
-            }
-        }
-    }
-    Ok(())
-}
-
-#[test]
 fn read_from_a_source_that_ends(rt: HostRuntime) -> Result<(), Fail> {
     let mut receiver = Receiver::new(rt.alloc(), 2, Number::Zero, 5)?;
     for step in [1, 4096] {
@@ -423,20 +342,5 @@ fn read_nothing_where_it_is_done(rt: HostRuntime) -> Result<(), Fail> {
     assert!(rt; same(read(&mut reader, &mut receiver), Ok(())));
     assert!(rt; same(reader.into_inner().given(), 0));
     assert!(rt; has(&receiver, &SELECT));
-    Ok(())
-}
-
-#[test]
-fn read_from_a_source_without_an_end(rt: HostRuntime) -> Result<(), Fail> {
-    let blocks = [0x00, 0x20, 0x00, 0x20, 0x00, 0x60, 0x00, 0x60];
-    let mut receiver = Receiver::new(rt.alloc(), 254, Number::Zero, 0)?;
-    let mut reader = Counted::new(Feeder::new(&blocks, 4096, After::Repeats));
-    assert!(rt;
-        same(
-            read(&mut reader, &mut receiver),
-            stop(524_285, ChainReason::TooManyBlocks)
-        )
-    );
-    assert!(rt; same(reader.into_inner().given(), 524_287));
     Ok(())
 }

@@ -1,22 +1,30 @@
-//! Texts that are read and written, and recorded sessions that both ends replay.
+//! Recorded sessions that both ends replay. Texts that are read, and files of sessions, are in the folder `vectors`.
 
 mod chains;
 mod drawn;
-mod faults;
 mod printed;
 mod recording;
 mod replay;
 mod sessions;
-mod writing;
 
 use exchange_core::{Exchange, read_exchange};
+use octet_core::octets_of;
 use std::alloc::Global;
 use std::test::Fail;
+
+/// The octets of a hexadecimal text. What the contract of `octets_of` says of them stays here.
+fn of_hex(alloc: Global, text: &str) -> Result<Vec<u8>, Fail> {
+    Ok(octets_of(alloc, text).ok().ok_or("hexadecimal text")?)
+}
 
 /// The exchange with this header, answer to reset and lines.
 fn exchange(alloc: Global, header: &str, atr: &str, lines: &[&str]) -> Result<Exchange, Fail> {
     let text = text(alloc, header, atr, lines)?;
-    Ok(read_exchange(alloc, text.as_bytes())?)
+    Ok(
+        read_exchange(alloc, text.as_bytes())
+            .ok()
+            .ok_or("an exchange")?,
+    )
 }
 
 /// The text with this header, answer to reset and lines.

@@ -4,8 +4,8 @@ mod decimal;
 mod refusals;
 
 use octet_core::{
-    After, Counted, FailsOnce, Feeder, HexFault, Octets, Sink, Source, Taker, Text, WriteFault,
-    hex_upper, lrc, octets_of, write_octets,
+    After, Counted, FailsOnce, Feeder, Octets, Sink, Source, Taker, Text, WriteFault, hex_upper,
+    lrc, octets_of, write_octets,
 };
 use std::io::{ErrorKind, Read, Write};
 use std::test::Fail;
@@ -146,22 +146,6 @@ fn hexadecimal_with_ample_memory(rt: HostRuntime) -> Result<(), Fail> {
     assert!(rt; same(hex_upper(rt.alloc(), &[0x00, 0xA4])?.as_str(), "00A4"));
     assert!(rt; same(hex_upper(rt.alloc(), &[])?.as_str(), ""));
     Ok(())
-}
-
-#[test]
-fn texts_that_are_no_octets(rt: HostRuntime) {
-    for (text, fault) in [
-        ("0", HexFault::Odd),
-        ("0G", HexFault::Digit { place: 1 }),
-        ("G", HexFault::Odd),
-        ("00 0", HexFault::Digit { place: 2 }),
-        ("é", HexFault::Digit { place: 0 }),
-    ] {
-        assert!(rt;
-            same(octets_of(rt.alloc(), text).err(), Some(fault)),
-            "{text}"
-        );
-    }
 }
 
 #[test]

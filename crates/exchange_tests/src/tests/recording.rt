@@ -1,12 +1,9 @@
 //! Sessions of both ends over a line that disturbs blocks: what they end with, and their records replayed.
 
-use super::exchange as recorded;
 use super::sessions::ACTED_ON;
+use super::{exchange as recorded, of_hex};
 use block_core::encode;
-use exchange_core::{
-    Arrival, Event, EventFault, Exchange, LastTurn, Line, Recorder, RecorderFault, Side, replay,
-};
-use octet_core::octets_of;
+use exchange_core::{Event, EventFault, Exchange, LastTurn, Line, Recorder, Side, replay};
 use std::alloc::Global;
 use std::process::Abort;
 use std::test::Fail;
@@ -18,11 +15,7 @@ pub(super) const ATR: [u8; 7] = [0x3B, 0x80, 0x81, 0x31, 0x20, 0x45, 0x55];
 
 pub(super) const SELECT: [u8; 5] = [0x00, 0xA4, 0x04, 0x00, 0x00];
 
-const READ: [u8; 5] = [0x00, 0xB0, 0x00, 0x00, 0x02];
-
 pub(super) const DONE: [u8; 2] = [0x90, 0x00];
-
-const DATA: [u8; 4] = [0xAA, 0xBB, 0x90, 0x00];
 
 /// What is recorded of a command that no end took.
 const UNFINISHED: &str = "command 00A4040000
@@ -37,16 +30,6 @@ const TIMED: [&str; 4] = [
     "00C30101C3",
     "00E30101E3",
     "000002900092",
-];
-
-/// Fields of two octets to the terminal, and an answer in two blocks.
-const CHAINED: [&str; 6] = [
-    "00C10102C2",
-    "00E10102E2",
-    "00000500B0000002B7",
-    "002002AABB33",
-    "00900090",
-    "0040029000D2",
 ];
 
 /// The most events of a session.
@@ -206,7 +189,7 @@ fn disturb_each(
     let exchange = record(alloc, session, &mut [])?;
     assert_answered(rt, alloc, &exchange, answer);
     for block in blocks {
-        let octets = octets_of(alloc, block)?;
+        let octets = of_hex(alloc, block)?;
         for way in &WAYS {
             let first = Disturbance::of(Which::First(octets.as_slice()), *way);
             let exchange = record(alloc, session, &mut [first])?;
@@ -242,8 +225,8 @@ fn disturb_pair(
     blocks: [&str; 2],
     answer: &[u8],
 ) -> Result<(), Fail> {
-    let one = octets_of(alloc, blocks[0])?;
-    let other = octets_of(alloc, blocks[1])?;
+    let one = of_hex(alloc, blocks[0])?;
+    let other = of_hex(alloc, blocks[1])?;
     for way in &WAYS {
         for other_way in &WAYS {
             let mut pair = [
@@ -255,16 +238,6 @@ fn disturb_pair(
         }
     }
     Ok(())
-}
-
-#[test]
-fn each_block_of_a_chained_session_disturbed(rt: HostRuntime) -> Result<(), Fail> {
-    let session = Session {
-        atr: &ATR,
-        application: &[Event::AskIfsd(2), Event::Transmit(&READ)],
-        host: &[Event::Reply(&DATA)],
-    };
-    disturb_each(&rt, rt.alloc(), session, &CHAINED, &DATA)
 }
 
 #[test]
@@ -326,21 +299,6 @@ fn given_up_after_the_card_acted(rt: HostRuntime) -> Result<(), Fail> {
     Ok(())
 }
 
-#[test]
-fn given_up_after_three_disturbances(rt: HostRuntime) -> Result<(), Fail> {
-    const THREE: [(u32, Event); 3] = [(1, Event::Damage), (3, Event::Lose), (7, Event::Lose)];
-    let once = Session {
-        atr: &ATR,
-        application: &[Event::Transmit(&SELECT)],
-        host: &[Event::Reply(&DONE)],
-    };
-    let exchange = record_with(rt.alloc(), once, &THREE)?;
-    assert_replays(&rt, rt.alloc(), &exchange);
-    let is_given_up = matches!(exchange.lines().get().last(), Some(Line::GivenUp));
-    assert!(rt; is_given_up, "{exchange:?}");
-    Ok(())
-}
-
 /// What a recorder says to an event.
 fn said(recorder: &mut Recorder, event: Event<'_>) -> Result<(), EventFault> {
     recorder.happens(event)
@@ -383,24 +341,5 @@ fn a_record_that_ends_within_an_exchange(rt: HostRuntime) -> Result<(), Fail> {
         "{cut_short:?}"
     );
     assert_replays(&rt, rt.alloc(), &cut_short);
-    Ok(())
-}
-
-#[test]
-fn answers_to_reset_that_are_refused(rt: HostRuntime) -> Result<(), Fail> {
-    const ROWS: [(&str, &str); 4] = [
-        ("3B00", "NoT1"),
-        ("3B808111FFEF", "ReservedIfsc"),
-        ("3B8081410141", "Crc"),
-        ("3B808131204554", "BadAtr"),
-    ];
-    for (atr, name) in &ROWS {
-        let atr = octets_of(rt.alloc(), atr)?;
-        let is_named = match Recorder::new(rt.alloc(), atr.as_slice()) {
-            Err(RecorderFault::Refused(given)) => given == *name,
-            _ => false,
-        };
-        assert!(rt; is_named, "another outcome than {name}");
-    }
     Ok(())
 }

@@ -124,8 +124,3 @@ pub(super) fn has_answer(terminal: &Terminal) -> bool {
 pub(super) fn is_command(card: &Card, octets: &[u8]) -> bool {
     card.command().is_some_and(|command| command == octets)
 }
-
-/// Whether a card's host owes the reply to a command.
-pub(super) fn has_command(card: &Card) -> bool {
-    card.command().is_some()
-}

@@ -1,6 +1,6 @@
 //! Forests and lists of parts that are equal, and those that differ in one thing.
 
-use octet_core::octets_of;
+use super::of_hex;
 use std::alloc::Global;
 use std::test::Fail;
 use testing::same;
@@ -54,8 +54,8 @@ fn are_equal(one: &Forest, other: &Forest) -> Option<bool> {
 
 /// Whether the forests that two texts spell are equal.
 fn spell_same(alloc: Global, one: &str, other: &str) -> Result<Option<bool>, Fail> {
-    let left = octets_of(alloc, one)?;
-    let right = octets_of(alloc, other)?;
+    let left = of_hex(alloc, one)?;
+    let right = of_hex(alloc, other)?;
     let one = forest(alloc, left.as_slice())?;
     let other = forest(alloc, right.as_slice())?;
     Ok(are_equal(&one, &other))
@@ -90,8 +90,8 @@ fn nodes_are_equal_by_kind_too(rt: HostRuntime) -> Result<(), Fail> {
 #[test]
 fn parts_are_equal_field_by_field(rt: HostRuntime) -> Result<(), Fail> {
     for (one, other, _, equal) in PAIRS {
-        let left = octets_of(rt.alloc(), one)?;
-        let right = octets_of(rt.alloc(), other)?;
+        let left = of_hex(rt.alloc(), one)?;
+        let right = of_hex(rt.alloc(), other)?;
         let found = have_same_parts(rt.alloc(), left.as_slice(), right.as_slice())?;
         assert!(rt; same(found, equal), "{one} {other}");
     }

@@ -1,6 +1,7 @@
 //! Parts of forests, and the octets that are lent with them.
 
-use octet_core::{Refused, Stop, hex_upper, octets_of};
+use super::of_hex;
+use octet_core::{Refused, Stop, hex_upper};
 use std::alloc::Global;
 use std::process::Abort;
 use std::test::Fail;
@@ -12,7 +13,7 @@ type Wanted = (usize, &'static str, usize, &'static str);
 
 /// Whether the parts of a forest are these.
 fn check_parts(alloc: Global, rt: &impl Abort, text: &str, wanted: &[Wanted]) -> Result<(), Fail> {
-    let octets = octets_of(alloc, text)?;
+    let octets = of_hex(alloc, text)?;
     let flat = FlatForest::read(alloc, octets.as_slice(), LARGEST_FOREST)
         .ok()
         .ok_or("a forest")?;
@@ -109,7 +110,7 @@ const PLACES: [(usize, usize, usize); 4] = [(1, 4, 2), (5, 9, 3), (10, 12, 1), (
 
 #[test]
 fn parts_tell_their_places(rt: HostRuntime) -> Result<(), Fail> {
-    let octets = octets_of(rt.alloc(), "0070810A00828200015070025000")?;
+    let octets = of_hex(rt.alloc(), "0070810A00828200015070025000")?;
     let flat = FlatForest::read(rt.alloc(), octets.as_slice(), LARGEST_FOREST)
         .ok()
         .ok_or("a forest")?;
@@ -125,7 +126,7 @@ fn parts_tell_their_places(rt: HostRuntime) -> Result<(), Fail> {
 #[test]
 fn fillers_are_no_parts(rt: HostRuntime) -> Result<(), Fail> {
     check_parts(rt.alloc(), &rt, "00005A81011200", &[(1, "5A", 5, "12")])?;
-    let octets = octets_of(rt.alloc(), "00005A81011200")?;
+    let octets = of_hex(rt.alloc(), "00005A81011200")?;
     let flat = FlatForest::read(rt.alloc(), octets.as_slice(), LARGEST_FOREST)
         .ok()
         .ok_or("a forest")?;
@@ -154,7 +155,7 @@ fn other_octets_have_no_parts(rt: HostRuntime) -> Result<(), Fail> {
             },
         ),
     ] {
-        let octets = octets_of(rt.alloc(), text)?;
+        let octets = of_hex(rt.alloc(), text)?;
         let refused = FlatForest::read(rt.alloc(), octets.as_slice(), LARGEST_FOREST).err();
         assert!(rt; same(refused, Some(Refused::Stop(stop))), "{text}");
         let unplaced = placed_parts(rt.alloc(), octets.as_slice(), LARGEST_FOREST).err();

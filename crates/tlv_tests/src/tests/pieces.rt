@@ -1,6 +1,7 @@
 //! Forests that come in pieces.
 
-use octet_core::{Octets, Refused, Stop, hex_upper, octets_of};
+use super::of_hex;
+use octet_core::{Octets, Refused, Stop, hex_upper};
 use std::test::Fail;
 use testing::same;
 use tlv_core::{
@@ -38,7 +39,7 @@ fn octets_that_a_check_took(rt: HostRuntime) {
 #[test]
 fn trees_are_read_in_pieces(rt: HostRuntime) -> Result<(), Fail> {
     let text = "006F108407A0000000041010A505BF0C025000005A81011200";
-    let octets = octets_of(rt.alloc(), text)?;
+    let octets = of_hex(rt.alloc(), text)?;
     for step in 1..octets.len() + 1 {
         let mut reader = ForestReader::new(rt.alloc(), LARGEST_FOREST)?;
         for piece in octets.as_slice().chunks(step) {
@@ -55,7 +56,7 @@ fn trees_are_read_in_pieces(rt: HostRuntime) -> Result<(), Fail> {
 #[test]
 fn a_reader_goes_on_after_want_of_memory(rt: HostRuntime) -> Result<(), Fail> {
     let text = "006F108407A0000000041010A505BF0C025000005A81011200";
-    let octets = octets_of(rt.alloc(), text)?;
+    let octets = of_hex(rt.alloc(), text)?;
     let mut reader = ForestReader::new(rt.alloc(), LARGEST_FOREST)?;
     let mut rest = octets.as_slice();
     let mut fed = reader.feed(rest);
@@ -107,27 +108,6 @@ fn octets_before_a_refusal_are_counted(rt: HostRuntime) -> Result<(), Fail> {
     let mut reader = ForestReader::new(rt.alloc(), LARGEST_FOREST)?;
     assert!(rt; same(reader.feed(&[0x5A, 0x02, 0x00]), Ok(())));
     assert!(rt; same(reader.finish().err(), Some(Stop::Short { place: 3 })));
-    Ok(())
-}
-
-#[test]
-fn seventeen_levels_are_too_deep(rt: HostRuntime) -> Result<(), Fail> {
-    let text = "7020701E701C701A70187016701470127010700E700C700A70087006700470027000";
-    let octets = octets_of(rt.alloc(), text)?;
-    let mut reader = ForestReader::new(rt.alloc(), LARGEST_FOREST)?;
-    let stop = Stop::At {
-        place: 32,
-        reason: TlvReason::TooDeep,
-    };
-    for (place, octet) in octets.as_slice().iter().enumerate() {
-        let wanted = if place < 32 {
-            Ok(())
-        } else {
-            Err((0, Refused::Stop(stop)))
-        };
-        assert!(rt; same(reader.feed(&[*octet]), wanted), "{place}");
-    }
-    assert!(rt; same(reader.finish().err(), Some(stop)));
     Ok(())
 }
 

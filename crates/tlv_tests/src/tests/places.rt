@@ -1,6 +1,6 @@
 //! Checks of forests whose caller keeps what they keep.
 
-use octet_core::octets_of;
+use super::of_hex;
 use std::test::Fail;
 use testing::same;
 use tlv_core::{CheckPlaces, ForestCheck, Form, Header, LARGEST_FOREST, Tag, TlvReason};
@@ -18,7 +18,7 @@ const FORESTS: [&str; 6] = [
 #[test]
 fn places_say_what_a_check_says(rt: HostRuntime) -> Result<(), Fail> {
     for text in FORESTS {
-        let octets = octets_of(rt.alloc(), text)?;
+        let octets = of_hex(rt.alloc(), text)?;
         for step in 1..octets.len() + 1 {
             let mut check = ForestCheck::new(64);
             let mut places = CheckPlaces::begin(64);

@@ -1,6 +1,7 @@
 //! What is printed of reasons and faults, and of values that may hold a message.
 
-use octet_core::{Format, Named, Octets, octets_of};
+use super::of_hex;
+use octet_core::{Format, Named, Octets};
 use std::test::Fail;
 use testing::{debugs, same, shows};
 use tlv_core::{
@@ -86,7 +87,7 @@ fn debug_shows_no_octet(rt: HostRuntime) -> Result<(), Fail> {
     let known = Known {
         tag: Tag::new(&[0x5A]).ok_or("a tag")?,
         format: Format::Numeric,
-        value: Octets::of(octets_of(alloc, "123456")?),
+        value: Octets::of(of_hex(alloc, "123456")?),
     };
     let seen = "Known { tag: Tag { octets: [90, 0, 0], count: 1 }, format: Numeric, \
         value: Octets { octets: 3 } }";

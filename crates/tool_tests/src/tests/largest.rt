@@ -1,10 +1,10 @@
-//! The largest values, from standard input in both forms.
+//! The largest values, from standard input in both forms, and the largest sessions.
 
 ghost use Rattle.std.specs.Prelude.{◌≤◌};
 
-use crate::tests::words_of;
+use crate::tests::{told, words_of};
 use card_tool::{Status, run};
-use octet_core::{After, Counted, Feeder, hex_upper};
+use octet_core::{After, Counted, Feeder, Taker, hex_upper};
 use std::alloc::{AllocError, Global};
 use std::io::{self, Write};
 use std::process::Abort;
@@ -151,5 +151,35 @@ fn the_longest_response(rt: HostRuntime) -> Result<(), Fail> {
         octets.as_slice(),
         shown.as_str(),
     )?;
+    Ok(())
+}
+
+/// A word of the longest command and the longest reply, all octets 00.
+fn longest_pair(alloc: Global) -> Result<String, AllocError> {
+    let command = "00".repeat(alloc, 65_544)?;
+    let reply = "00".repeat(alloc, 65_538)?;
+    format!(in alloc; "{command}:{reply}")
+}
+
+#[test]
+fn sessions_with_a_large_text(rt: HostRuntime) -> Result<(), Fail> {
+    let pair = longest_pair(rt.alloc())?;
+    let pair = pair.as_str();
+    let atr = "3B808131204555";
+    let large = ["simulate", atr, pair, pair, pair, pair, pair];
+    let (writer, status) = told(rt.alloc(), &large, 4096, After::End)?;
+    assert!(rt; writer.kept() == b"fault: TooLarge\n".as_slice());
+    assert!(rt; status == Status::Fault);
+    let words = words_of(rt.alloc(), &large[..6])?;
+    let mut reader = Counted::new(Feeder::new(b"", 1, After::Fails));
+    let mut writer = Counted::new(Taker::new(4096, 4096, After::Fails));
+    let status = run(rt.alloc(), words, &mut reader, &mut writer);
+    assert!(rt; status == Status::Fault);
+    assert!(rt;
+        writer
+            .into_inner()
+            .kept()
+            .starts_with(b"scard-exchange 1\n")
+    );
     Ok(())
 }

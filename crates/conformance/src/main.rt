@@ -1,0 +1,63 @@
+//! Runs each line of the vector files, which are the folder `vectors` of the top, as words of the program scard.
+//!
+//! It writes a line for each file, with how many lines of it there are. The first line whose status or text is another
+//! is printed, and the program ends with status 1. docs/VECTORS.md has the format of the files.
+#![tactic(auto)]
+
+mod field;
+mod row;
+mod tried;
+
+use std::process::ExitCode;
+use std::{fs, io};
+use tried::{Fault, tried};
+
+/// The files, which lie where the program runs.
+const NAMES: [&str; 21] = [
+    "atr",
+    "atr.changes",
+    "block",
+    "block.changes",
+    "chain",
+    "chain.changes",
+    "command",
+    "command.changes",
+    "response",
+    "response.changes",
+    "tlv",
+    "tlv.changes",
+    "dol",
+    "dol.changes",
+    "build",
+    "simulate",
+    "exchange",
+    "hex",
+    "lines",
+    "words",
+    "explain",
+];
+
+fn main(rt: HostRuntime) -> io::Result<ExitCode> {
+    for name in NAMES {
+        let file = fs::read_to_string(&rt, name)?;
+        match tried(rt.alloc(), file.as_str()) {
+            Ok(lines) => println!(rt; "{name}: {lines} lines")?,
+            Err(fault) => {
+                tell(&rt, name, &fault)?;
+                return Ok(ExitCode::from(1));
+            }
+        }
+    }
+    Ok(ExitCode::SUCCESS)
+}
+
+/// Prints why a file's lines were not gone through to their end.
+fn tell(rt: &HostRuntime, name: &str, fault: &Fault) -> io::Result<()> {
+    match fault {
+        Fault::Form { line } => println!(rt; "{name}: line {line} isn't of the format"),
+        Fault::Differs { line, status, text } => {
+            println!(rt; "{name}: line {line} gives status {status} and the text {text}")
+        }
+        Fault::Memory => println!(rt; "{name}: out of memory"),
+    }
+}

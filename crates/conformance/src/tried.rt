@@ -1,0 +1,86 @@
+//! Rows, run through the program.
+
+use crate::row::{Row, row_of};
+use card_tool::{Status, run};
+use octet_core::{Counted, hex_upper};
+use std::alloc::{AllocError, AllocFailed, Global};
+use std::str;
+
+/// Why the lines of a file weren't gone through to their end.
+#[derive(Debug, Drop)]
+pub(crate) enum Fault {
+    /// The line isn't of the format.
+    Form { line: u64 },
+    /// The program gives this status and this text, and not those of the line.
+    Differs { line: u64, status: u8, text: String },
+    /// Out of memory.
+    Memory,
+}
+
+impl From<AllocError> for Fault {
+    fn from(_error: AllocError) -> Fault {
+        Fault::Memory
+    }
+}
+
+impl<T: Drop> From<AllocFailed<T>> for Fault {
+    fn from(_failed: AllocFailed<T>) -> Fault {
+        Fault::Memory
+    }
+}
+
+/// Runs each line of a file that is neither empty nor a remark: how many they are.
+pub(crate) fn tried(alloc: Global, file: &str) -> Result<u64, Fault> {
+    let mut line = 0u64;
+    let mut rows = 0u64;
+    for text in file.split('\n') {
+        line = line.saturating_add(1);
+        if !text.is_empty() && !text.starts_with('#') {
+            try_line(alloc, line, text)?;
+            rows = rows.saturating_add(1);
+        }
+    }
+    Ok(rows)
+}
+
+/// Runs one line.
+fn try_line(alloc: Global, line: u64, text: &str) -> Result<(), Fault> {
+    let Some(row) = row_of(alloc, text)? else {
+        return Err(Fault::Form { line });
+    };
+    let Row {
+        words,
+        input,
+        status,
+        text,
+    } = row;
+    let mut said = Vec::new(alloc);
+    let mut reader = Counted::new(input.as_slice());
+    let mut writer = Counted::new(&mut said);
+    let ended = number(run(alloc, words, &mut reader, &mut writer));
+    if ended == status && said.as_slice() == text.as_slice() {
+        return Ok(());
+    }
+    Err(Fault::Differs {
+        line,
+        status: ended,
+        text: readable(alloc, said.as_slice())?,
+    })
+}
+
+/// The number of a status, as the program ends with it.
+fn number(status: Status) -> u8 {
+    match status {
+        Status::Accepted => 0,
+        Status::Refused => 1,
+        Status::Fault => 2,
+    }
+}
+
+/// A text as it is, or in hexadecimal where it is no UTF-8.
+fn readable(alloc: Global, text: &[u8]) -> Result<String, AllocError> {
+    match str::from_utf8(text) {
+        Ok(text) => String::from_str(alloc, text),
+        Err(_) => hex_upper(alloc, text),
+    }
+}
