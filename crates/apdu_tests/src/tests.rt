@@ -1,6 +1,5 @@
 //! Each call once with ample memory, and the lines below it. The verdicts on octets are in the folder `vectors`.
 
-mod faults;
 mod printed;
 
 use apdu_core::{
@@ -206,21 +205,6 @@ fn a_response_is_sent(rt: HostRuntime) -> Result<(), Fail> {
     Ok(())
 }
 
-#[test]
-fn sent_to_a_writer_that_fails(rt: HostRuntime) -> Result<(), Fail> {
-    let response = Response::new(octets(&rt, "")?, 0x90, 0x00)?;
-    const ROWS: [After; 3] = [After::End, After::Fails, After::Interrupted];
-    for after in ROWS {
-        for written in 0..DONE_CHAIN.len() {
-            let mut writer = Counted::new(Taker::new(written, 4096, after));
-            let sent = send_response(rt.alloc(), &mut writer, &response, 254, Number::Zero);
-            assert!(rt; same(sent, Err(SendFault::Write { written })));
-            assert!(rt; writer.into_inner().kept() == &DONE_CHAIN[..written]);
-        }
-    }
-    Ok(())
-}
-
 /// Whether one octet is left to read, and it is FF.
 fn is_left(reader: &mut Counted<Feeder>) -> bool {
     let mut room = [0u8; 8];
@@ -265,16 +249,6 @@ fn received_in_fields_of_any_size(rt: HostRuntime) -> Result<(), Fail> {
     assert!(rt; response == Response::new(part, 0x90, 0x00)?);
     assert!(rt; is_left(&mut reader));
     Ok(())
-}
-
-#[test]
-fn received_from_a_reader_that_fails_or_ends(rt: HostRuntime) {
-    for taken in 0..DONE_CHAIN.len() {
-        let front = &DONE_CHAIN[..taken];
-        let mut reader = Counted::new(Feeder::new(front, 1, After::Fails));
-        let fault = receive_response(rt.alloc(), &mut reader, 254, Number::Zero).err();
-        assert!(rt; same(fault, Some(ReceiveFault::Read { taken })));
-    }
 }
 
 #[test]

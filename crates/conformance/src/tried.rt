@@ -1,8 +1,10 @@
 //! Rows, run through the program.
 
+ghost use Rattle.std.specs.Prelude.{◌≤◌};
+
 use crate::row::{Row, row_of};
 use card_tool::{Status, run};
-use octet_core::{Counted, hex_upper};
+use octet_core::{After, Counted, Feeder, hex_upper};
 use std::alloc::{AllocError, AllocFailed, Global};
 use std::str;
 
@@ -43,11 +45,28 @@ pub(crate) fn tried(alloc: Global, file: &str) -> Result<u64, Fault> {
     Ok(rows)
 }
 
-/// Runs one line.
+/// How many octets of standard input come by a call at most.
+const STEPS: [usize; 3] = [1, 3, 4096];
+
+/// Runs one line, and once for each step where it has standard input.
 fn try_line(alloc: Global, line: u64, text: &str) -> Result<(), Fault> {
-    let Some(row) = row_of(alloc, text)? else {
-        return Err(Fault::Form { line });
-    };
+    for step in STEPS {
+        let Some(row) = row_of(alloc, text)? else {
+            return Err(Fault::Form { line });
+        };
+        let is_alike = row.input.is_empty();
+        try_row(alloc, line, row, step)?;
+        if is_alike {
+            break;
+        }
+    }
+    Ok(())
+}
+
+/// Runs a row whose standard input comes by such steps.
+fn try_row(alloc: Global, line: u64, row: Row, step: usize) -> Result<(), Fault>
+    requires { 1 ≤ step }
+{
     let Row {
         words,
         input,
@@ -55,7 +74,7 @@ fn try_line(alloc: Global, line: u64, text: &str) -> Result<(), Fault> {
         text,
     } = row;
     let mut said = Vec::new(alloc);
-    let mut reader = Counted::new(input.as_slice());
+    let mut reader = Counted::new(Feeder::new(input.as_slice(), step, After::End));
     let mut writer = Counted::new(&mut said);
     let ended = number(run(alloc, words, &mut reader, &mut writer));
     if ended == status && said.as_slice() == text.as_slice() {

@@ -1,7 +1,7 @@
-//! Recorded sessions that both ends replay. Texts that are read, and files of sessions, are in the folder `vectors`.
+//! Recorded sessions that both ends replay. Texts that are read, and files of sessions, are in the folder `vectors`;
+//! sessions drawn by a generator, and all pairs of blocks disturbed, in the program `hostile_sessions`.
 
-mod chains;
-mod drawn;
+mod longest;
 mod printed;
 mod recording;
 mod replay;

@@ -1,10 +1,10 @@
 //! That every call and every reader says the same of octets.
 
 use crate::answers::{answer, is_said_again};
-use crate::case::{Case, Fault};
 use crate::feeding::{is_fed_so, is_read_so};
 use crate::kind::{Answer, Kind};
 use std::alloc::Global;
+use testing::{Case, Fault};
 
 /// The answer to octets, where each call on the whole list gives it, and the readers of the kind
 /// give it too where they are fed whole and octet by octet, and a chain also where it is read from

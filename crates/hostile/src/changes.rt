@@ -1,11 +1,11 @@
 //! Octets of which one was changed.
 
 use crate::agreeing::{agreed, agrees_in_two};
-use crate::case::{Case, Fault};
 use crate::kind::{Answer, Kind};
 use crate::vectors::Vector;
 use octet_core::Stop;
-use std::alloc::{AllocError, Global};
+use std::alloc::Global;
+use testing::{Case, Fault, Share, with_octet};
 
 /// What was said of changed octets.
 #[derive(Clone, Copy, Debug, Default)]
@@ -23,11 +23,15 @@ const LENGTH: usize = 2;
 
 /// Each octet of each list is set to each other value. All calls and readers agree, in every two
 /// pieces too. A block is refused at a place unless its length was changed.
-pub(crate) fn change_each(alloc: Global, vectors: &[Vector]) -> Result<String, Fault> {
+pub(crate) fn change_each(
+    alloc: Global,
+    vectors: &[Vector],
+    share: Share,
+) -> Result<String, Fault> {
     let mut changed = Changed::default();
     for vector in vectors {
         for place in 0..vector.octets.len() {
-            changed = change(alloc, vector, place, changed)?;
+            changed = change(alloc, vector, place, share, changed)?;
         }
     }
     let Changed {
@@ -48,12 +52,13 @@ fn change(
     alloc: Global,
     vector: &Vector,
     place: usize,
+    share: Share,
     changed: Changed,
 ) -> Result<Changed, Fault> {
     let mut changed = changed;
     for value in 0..=255u8 {
-        if vector.octets.as_slice().get(place) != Some(&value) {
-            let octets = with(alloc, vector.octets.as_slice(), place, value)?;
+        if share.has(usize::from(value)) && vector.octets.as_slice().get(place) != Some(&value) {
+            let octets = with_octet(alloc, vector.octets.as_slice(), place, value)?;
             let answer = agreed(alloc, vector.kind, octets.as_slice())?;
             if vector.kind.is_fed() {
                 agrees_in_two(alloc, vector.kind, octets.as_slice(), &answer)?;
@@ -61,20 +66,6 @@ fn change(
             is_kept_out(alloc, vector.kind, octets.as_slice(), place, &answer)?;
             changed = changed.and(vector.kind, place, &answer);
         }
-    }
-    Ok(changed)
-}
-
-/// The octets with one of them set to a value.
-pub(crate) fn with(
-    alloc: Global,
-    octets: &[u8],
-    place: usize,
-    value: u8,
-) -> Result<Vec<u8>, AllocError> {
-    let mut changed = Vec::from_slice(alloc, octets)?;
-    if let Some(octet) = changed.get_mut(place) {
-        *octet = value;
     }
     Ok(changed)
 }

@@ -1,11 +1,11 @@
 //! Octets that end early.
 
 use crate::agreeing::agreed;
-use crate::case::{Case, Fault};
 use crate::kind::{Answer, Kind};
 use crate::vectors::Vector;
 use octet_core::Stop;
 use std::alloc::Global;
+use testing::{Case, Fault};
 
 /// What was said of fronts.
 #[derive(Clone, Copy, Debug, Default)]

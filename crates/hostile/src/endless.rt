@@ -1,6 +1,5 @@
 //! Input without an end.
 
-use crate::case::{Case, Fault};
 use crate::program::words;
 use atr_core::AtrReader;
 use block_core::{BlockReader, Number};
@@ -8,6 +7,7 @@ use card_tool::{Status, run};
 use chain_core::{ChainReason, ReadRefusal, Receiver, read_chain};
 use octet_core::{After, Counted, Feeder, Stop, Taker};
 use std::alloc::Global;
+use testing::{Case, Fault, Share};
 use tlv_core::{ForestCheck, TlvReason};
 
 /// Two empty blocks after each of which more follows, with the numbers 0 and 1.
@@ -24,10 +24,10 @@ const TEXTS: [&str; 3] = [
 const LARGEST: u64 = 4_194_305;
 
 /// Every reader gives up at its limit.
-pub(crate) fn end_each(alloc: Global) -> Result<String, Fault> {
+pub(crate) fn end_each(alloc: Global, share: Share) -> Result<String, Fault> {
     let given = chain(alloc)?;
     let mut most = 0u64;
-    for text in TEXTS {
+    for text in TEXTS.iter().take(share.most(TEXTS.len())) {
         for line in ["replay --end terminal", "replay --end card", "migrate"] {
             most = most.max(file(alloc, line, text)?);
         }

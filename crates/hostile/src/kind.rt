@@ -1,35 +1,12 @@
 //! Kinds of octets, and what is said of octets of any kind.
 
-ghost use Rattle.std.specs.Prelude.{◌≤◌};
-
 use apdu_core::{Command, CommandReason, Response, ResponseReason};
 use atr_core::{Atr, AtrReason};
 use block_core::{Block, BlockReason, Number};
 use chain_core::ChainReason;
 use octet_core::{Octets, Stop};
+use testing::Size;
 use tlv_core::{DolReason, TlvReason};
-
-/// An information size.
-#[derive(Clone, Copy, Debug, PartialEq, Eq)]
-pub(crate) enum Size {
-    Two,
-    ThirtyTwo,
-    Largest,
-}
-
-impl Size {
-    /// How many octets a field has at most.
-    pub(crate) fn octets(self) -> u8
-        ensures least { 1 ≤ result }
-        ensures most { result ≤ 254 }
-    {
-        match self {
-            Size::Two => 2,
-            Size::ThirtyTwo => 32,
-            Size::Largest => 254,
-        }
-    }
-}
 
 /// How a chain is read: its information size, its first number, and the octets of its message at
 /// most.

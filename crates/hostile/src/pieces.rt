@@ -1,10 +1,10 @@
 //! Whole values, in every two and three pieces, and with more octets after them.
 
 use crate::agreeing::{agreed, agrees_in_three, agrees_in_two};
-use crate::case::{Case, Fault};
 use crate::kind::Answer;
 use crate::vectors::Vector;
 use std::alloc::Global;
+use testing::{Case, Fault};
 
 /// Each list is accepted whole, in every pieces, and what follows a value that ends by itself is
 /// left.

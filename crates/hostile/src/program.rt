@@ -1,9 +1,9 @@
 //! The program, over writers that fail.
 
-use crate::case::{Case, Fault};
 use card_tool::{Status, run};
 use octet_core::{After, Counted, Feeder, Taker};
 use std::alloc::{AllocError, Global};
+use testing::{Case, Fault, Share};
 
 /// A file of a session of one exchange.
 pub(crate) const FILE: &str =
@@ -51,28 +51,13 @@ const LINES: [&str; 36] = [
 ];
 
 /// Each text is cut short by a writer that fails after each number of its octets.
-pub(crate) fn fail_each(alloc: Global) -> Result<String, Fault> {
+pub(crate) fn fail_each(alloc: Global, share: Share) -> Result<String, Fault> {
     let mut writers = 0u64;
     for line in LINES {
         let (text, _) = told(alloc, line, 4096, 4096, Failing::Fails)?;
         for place in 0..text.len() {
-            for (step, failing) in [
-                (4096, Failing::Fails),
-                (1, Failing::Fails),
-                (7, Failing::Interrupted),
-                (7, Failing::TakesNothing),
-            ] {
-                let (kept, status) = told(alloc, line, place, step, failing)?;
-                let is_right = status == Status::Fault
-                    && Some(kept.as_slice()) == text.as_slice().get(..place);
-                let case = Case {
-                    what: "the program over a writer that fails",
-                    octets: line.as_bytes(),
-                    place,
-                    piece: step,
-                };
-                case.expect(alloc, is_right)?;
-                writers = writers.saturating_add(1);
+            if share.has(place) {
+                writers = writers.saturating_add(fail_at(alloc, line, text.as_slice(), place)?);
             }
         }
     }
@@ -80,6 +65,29 @@ pub(crate) fn fail_each(alloc: Global) -> Result<String, Fault> {
     Ok(format!(in alloc;
         "program: {writers} writers failed within the texts of {count} command lines"
     )?)
+}
+
+/// The text of a command line is cut short after so many octets by writers of each kind: how many.
+fn fail_at(alloc: Global, line: &str, text: &[u8], place: usize) -> Result<u64, Fault> {
+    let mut writers = 0u64;
+    for (step, failing) in [
+        (4096, Failing::Fails),
+        (1, Failing::Fails),
+        (7, Failing::Interrupted),
+        (7, Failing::TakesNothing),
+    ] {
+        let (kept, status) = told(alloc, line, place, step, failing)?;
+        let is_right = status == Status::Fault && Some(kept.as_slice()) == text.get(..place);
+        let case = Case {
+            what: "the program over a writer that fails",
+            octets: line.as_bytes(),
+            place,
+            piece: step,
+        };
+        case.expect(alloc, is_right)?;
+        writers = writers.saturating_add(1);
+    }
+    Ok(writers)
 }
 
 /// How a writer fails.

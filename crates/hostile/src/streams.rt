@@ -2,7 +2,6 @@
 
 ghost use Rattle.std.specs.Prelude.{◌≡◌, ◌≢◌, ◌≤◌};
 
-use crate::case::{Case, Fault};
 use crate::vectors::octets;
 use apdu_core::{
     Body, Command, ReceiveFault, Response, SendFault, receive_command, receive_response,
@@ -12,6 +11,7 @@ use block_core::Number;
 use chain_core::{ReadRefusal, Receiver, read_chain, write_chain};
 use octet_core::{After, Counted, FailsOnce, Feeder, Octets, Sink, Source, Stop, Taker};
 use std::alloc::Global;
+use testing::{Case, Fault};
 
 /// What is carried.
 #[derive(Clone, Copy, Debug, PartialEq, Eq)]
@@ -106,6 +106,14 @@ impl Failing {
             Failing::End => After::End,
         }
     }
+
+    /// What reading comes to where the reader fails so after so many octets.
+    fn at(self, place: usize) -> Came {
+        match self {
+            Failing::End => Came::Ended(place),
+            Failing::Fails | Failing::Interrupted => Came::Failed(place),
+        }
+    }
 }
 
 /// Whether a writer that fails for good after `place` octets holds them and no more, and the fault
@@ -192,9 +200,10 @@ fn readers_fail(alloc: Global, carried: &Carried, place: usize) -> Result<u64, F
             case.expect(
                 alloc,
                 is_read_until(alloc, carried, place, step, after)?
+                    && is_left_to_read(alloc, carried, place, step, after)?
                     && is_gone_on_with(alloc, carried, place, step, after)?,
             )?;
-            readers = readers.saturating_add(2);
+            readers = readers.saturating_add(3);
         }
     }
     Ok(readers)
@@ -224,11 +233,26 @@ fn is_read_until(
     let mut reader = Counted::new(Feeder::new(front, step, after.after()));
     let read = read(alloc, &mut reader, carried.message)?;
     let given = reader.into_inner().given();
-    let wanted = match after {
-        Failing::End => Came::Ended(place),
-        Failing::Fails | Failing::Interrupted => Came::Failed(place),
-    };
-    Ok(read == wanted && given == place as u64)
+    Ok(read == after.at(place) && given == place as u64)
+}
+
+/// Whether a reader of which one call alone fails is said to, and gives the next octet after that.
+fn is_left_to_read(
+    alloc: Global,
+    carried: &Carried,
+    place: usize,
+    step: usize,
+    after: Failing,
+) -> Result<bool, Fault>
+    requires { 1 ≤ step }
+{
+    let feeder = Feeder::new(carried.chain.as_slice(), step, After::Fails);
+    let mut reader = Counted::new(FailsOnce::new(feeder, place, after.after()));
+    let read = read(alloc, &mut reader, carried.message)?;
+    let mut next = [0u8; 1];
+    let count = reader.read(&mut next)?;
+    let is_next = carried.chain.as_slice().get(place) == Some(&next[0]);
+    Ok(read == after.at(place) && count == 1 && is_next)
 }
 
 /// Whether a reader of which one call alone fails is said to, and a receiver of it can go on after

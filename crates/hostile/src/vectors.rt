@@ -1,10 +1,10 @@
 //! The lists of octets that are cut and changed.
 
-use crate::case::Fault;
-use crate::kind::{Chain, Kind, Size};
+use crate::kind::{Chain, Kind};
 use block_core::Number;
 use octet_core::octets_of;
 use std::alloc::Global;
+use testing::{Fault, Size};
 
 /// Octets of a kind, the whole of one value.
 #[derive(Debug, Drop)]

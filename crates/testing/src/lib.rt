@@ -1,7 +1,14 @@
-//! What the tests of several crates share.
+//! What the tests of several crates share, and the programs of the gate.
 #![tactic(auto)]
 
-use std::alloc::Global;
+mod case;
+mod share;
+mod size;
+
+pub use case::{Case, Fault};
+pub use share::{Share, asked};
+pub use size::Size;
+use std::alloc::{AllocError, Global};
 use std::fmt::{Debug, Display};
 
 /// Whether a call gave what is wanted.
@@ -26,6 +33,20 @@ pub fn debugs<D: Debug>(alloc: Global, value: &D, wanted: &str) -> bool {
         Ok(text) => text.as_str() == wanted,
         Err(_) => false,
     }
+}
+
+/// The octets with the one at a place set to a value; as they are where there is none.
+pub fn with_octet(
+    alloc: Global,
+    octets: &[u8],
+    place: usize,
+    value: u8,
+) -> Result<Vec<u8>, AllocError> {
+    let mut changed = Vec::from_slice(alloc, octets)?;
+    if let Some(octet) = changed.get_mut(place) {
+        *octet = value;
+    }
+    Ok(changed)
 }
 
 #[cfg(test)]

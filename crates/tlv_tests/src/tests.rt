@@ -24,7 +24,10 @@ fn of_hex(alloc: Global, text: &str) -> Result<Vec<u8>, Fail> {
 /// The tag of these octets.
 fn tag(rt: &HostRuntime, text: &str) -> Result<Tag, Fail> {
     let octets = of_hex(rt.alloc(), text)?;
-    Ok(Tag::new(octets.as_slice()).ok_or("a tag")?)
+    match Tag::new(octets.as_slice()) {
+        Some(tag) => Ok(tag),
+        None => Err("a tag")?,
+    }
 }
 
 #[test]

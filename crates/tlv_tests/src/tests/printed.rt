@@ -1,12 +1,12 @@
 //! What is printed of reasons and faults, and of values that may hold a message.
 
-use super::of_hex;
+use super::{of_hex, tag};
 use octet_core::{Format, Named, Octets};
 use std::test::Fail;
 use testing::{debugs, same, shows};
 use tlv_core::{
     CheckPlaces, Dol, DolReason, FillFault, FlatForest, ForestCheck, ForestReader, Improper, Known,
-    LARGEST_FOREST, Tag, TlvReason, decode,
+    LARGEST_FOREST, TlvReason, decode,
 };
 
 const REASONS: [(TlvReason, &str); 6] = [
@@ -57,7 +57,7 @@ fn faults_are_named(rt: HostRuntime) {
 const OBJECTS: [u8; 7] = [0x70, 0x05, 0x5A, 0x03, 0x12, 0x34, 0x56];
 
 #[test]
-fn debug_shows_no_octet(rt: HostRuntime) -> Result<(), Fail> {
+fn debug_of_a_check_shows_no_octet(rt: HostRuntime) {
     let alloc = rt.alloc();
     let mut check = ForestCheck::new(LARGEST_FOREST);
     assert!(rt; same(check.feed(&OBJECTS[..5]), Ok(())));
@@ -67,6 +67,11 @@ fn debug_shows_no_octet(rt: HostRuntime) -> Result<(), Fail> {
     assert!(rt; same(places.feed(&OBJECTS[..5]), Ok(())));
     let seen = "CheckPlaces { taken: 5, open_objects: 1, value_octets_left: 2, refused: None }";
     assert!(rt; debugs(alloc, &places, seen));
+}
+
+#[test]
+fn debug_of_parts_shows_no_octet(rt: HostRuntime) -> Result<(), Fail> {
+    let alloc = rt.alloc();
     let flat = FlatForest::read(alloc, &OBJECTS, LARGEST_FOREST)
         .ok()
         .ok_or("a forest")?;
@@ -74,6 +79,12 @@ fn debug_shows_no_octet(rt: HostRuntime) -> Result<(), Fail> {
         value_octets: 3 }";
     assert!(rt; debugs(alloc, flat.parts().last().ok_or("a part")?, seen));
     assert!(rt; debugs(alloc, &flat, "FlatForest { parts: 2 }"));
+    Ok(())
+}
+
+#[test]
+fn debug_of_a_forest_shows_no_octet(rt: HostRuntime) -> Result<(), Fail> {
+    let alloc = rt.alloc();
     let forest = decode(alloc, &OBJECTS, LARGEST_FOREST)
         .ok()
         .ok_or("a forest")?;
@@ -81,11 +92,17 @@ fn debug_shows_no_octet(rt: HostRuntime) -> Result<(), Fail> {
     let seen = "Constructed { tag: Tag { octets: [112, 0, 0], count: 1 }, form: One, \
         nodes: Nodes { nodes: 1 } }";
     assert!(rt; debugs(alloc, forest.nodes().get().last().ok_or("a node")?, seen));
+    Ok(())
+}
+
+#[test]
+fn debug_of_a_reader_and_a_value_shows_no_octet(rt: HostRuntime) -> Result<(), Fail> {
+    let alloc = rt.alloc();
     let reader = ForestReader::new(alloc, LARGEST_FOREST)?;
     let seen = "ForestReader { taken: 0, open_objects: 0, value_octets_left: 0, refusal: None }";
     assert!(rt; debugs(alloc, &reader, seen));
     let known = Known {
-        tag: Tag::new(&[0x5A]).ok_or("a tag")?,
+        tag: tag(&rt, "5A")?,
         format: Format::Numeric,
         value: Octets::of(of_hex(alloc, "123456")?),
     };

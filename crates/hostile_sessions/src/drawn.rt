@@ -2,14 +2,18 @@
 
 ghost use Rattle.std.specs.Prelude.{◌<◌};
 
-use super::recording::{ATR, assert_replays, happens, new_recorder};
+use crate::ends::is_replayed;
+use crate::records::{happens, recorder};
 use exchange_core::{Event, Exchange, LastTurn, Line, Recorder};
 use octet_core::Octets;
 use rand_core::utils::NextWord;
 use rand_pcg::Pcg32;
 use std::alloc::Global;
-use std::test::Fail;
 use t1_core::{CardTurn, TerminalTurn};
+use testing::{Case, Fault, Share};
+
+/// The answer to reset of a card that takes fields of 32 octets.
+const ATR: [u8; 7] = [0x3B, 0x80, 0x81, 0x31, 0x20, 0x45, 0x55];
 
 const SESSIONS: u32 = 1_000;
 
@@ -21,6 +25,36 @@ const LONGEST_MESSAGE: u32 = 300;
 
 /// The most events of a session.
 const MOST_EVENTS: u32 = 100_000;
+
+/// Sessions with blocks that are lost or changed one time in four.
+pub(crate) fn draw_each(alloc: Global, share: Share) -> Result<String, Fault> {
+    let mut generator = Pcg32::new(1, 2);
+    let mut sessions = 0u64;
+    let mut answers = 0u64;
+    for number in 0..SESSIONS {
+        if share.has(number as usize) {
+            let exchange = record(alloc, &mut generator)?;
+            answers = answers.saturating_add(answers_of(alloc, &exchange, number)?);
+            sessions = sessions.saturating_add(1);
+        }
+    }
+    Ok(format!(in alloc;
+        "drawn: {sessions} sessions replay at both ends, with {answers} answers, each the reply"
+    )?)
+}
+
+/// A session replays, and each answer is the reply: how many answers.
+fn answers_of(alloc: Global, exchange: &Exchange, number: u32) -> Result<u64, Fault> {
+    let answers = answers(exchange.lines().get());
+    let case = Case {
+        what: "a drawn session",
+        octets: &ATR,
+        place: number as usize,
+        piece: 0,
+    };
+    case.expect(alloc, answers.is_some() && is_replayed(alloc, exchange)?)?;
+    Ok(answers.unwrap_or(0))
+}
 
 /// A number below a bound.
 fn below(generator: &mut Pcg32, bound: u32) -> u32
@@ -36,7 +70,7 @@ fn size(generator: &mut Pcg32) -> u8 {
 }
 
 /// A command or a reply.
-fn message(alloc: Global, generator: &mut Pcg32) -> Result<Vec<u8>, Fail> {
+fn message(alloc: Global, generator: &mut Pcg32) -> Result<Vec<u8>, Fault> {
     let mut octets = Vec::new(alloc);
     for _ in 0..below(generator, LONGEST_MESSAGE + 1) {
         octets.push(below(generator, 256) as u8)?;
@@ -55,7 +89,7 @@ fn fate(generator: &mut Pcg32) -> Event<'static> {
 }
 
 /// The card's host calls.
-fn host_calls(alloc: Global, generator: &mut Pcg32, recorder: &mut Recorder) -> Result<(), Fail> {
+fn host_calls(alloc: Global, generator: &mut Pcg32, recorder: &mut Recorder) -> Result<(), Fault> {
     let reply = message(alloc, generator)?;
     let event = match below(generator, 8) {
         0 => Event::MoreTime(size(generator)),
@@ -70,7 +104,7 @@ fn application_calls(
     alloc: Global,
     generator: &mut Pcg32,
     recorder: &mut Recorder,
-) -> Result<(), Fail> {
+) -> Result<(), Fault> {
     let command = message(alloc, generator)?;
     let event = match below(generator, 4) {
         0 => Event::AskIfsd(size(generator)),
@@ -80,8 +114,8 @@ fn application_calls(
 }
 
 /// The record of a session.
-fn record(alloc: Global, generator: &mut Pcg32) -> Result<Exchange, Fail> {
-    let mut recorder = new_recorder(alloc, &ATR)?;
+fn record(alloc: Global, generator: &mut Pcg32) -> Result<Exchange, Fault> {
+    let mut recorder = recorder(alloc, &ATR)?;
     let mut exchanges = 1 + below(generator, MOST_EXCHANGES);
     for _ in 0..MOST_EVENTS {
         if recorder.under_way().is_some() {
@@ -100,8 +134,8 @@ fn record(alloc: Global, generator: &mut Pcg32) -> Result<Exchange, Fail> {
 }
 
 /// How many answers there are, `None` where one isn't the last reply to the last command.
-fn answers(lines: &[Line]) -> Option<u32> {
-    let mut count = 0u32;
+fn answers(lines: &[Line]) -> Option<u64> {
+    let mut count = 0u64;
     let mut command: Option<&Octets> = None;
     let mut asked = None;
     let mut reply = None;
@@ -120,19 +154,4 @@ fn answers(lines: &[Line]) -> Option<u32> {
         }
     }
     Some(count)
-}
-
-#[test]
-fn drawn_sessions(rt: HostRuntime) -> Result<(), Fail> {
-    let mut generator = Pcg32::new(1, 2);
-    let mut all = 0u64;
-    for _ in 0..SESSIONS {
-        let exchange = record(rt.alloc(), &mut generator)?;
-        assert_replays(&rt, rt.alloc(), &exchange);
-        let answers = answers(exchange.lines().get()).ok_or("an answer isn't the reply")?;
-        all = all.saturating_add(answers as u64);
-    }
-    // most exchanges come to an answer
-    assert!(rt; all > 1_000, "{all} answers");
-    Ok(())
 }

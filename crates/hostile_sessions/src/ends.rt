@@ -1,11 +1,11 @@
 //! Both ends of a session, called line by line.
 
-use crate::case::Fault;
 use atr_core::{T1Params, decode, t1_params};
 use block_core::{Block, encode};
-use exchange_core::{Arrival, Exchange, Line, read_exchange};
+use exchange_core::{Arrival, Exchange, Line, ReplayFault, Side, replay};
 use std::alloc::{AllocError, Global};
 use t1_core::{Card, CardFault, CardTurn, Terminal, TerminalFault, TerminalTurn};
+use testing::Fault;
 
 /// Both ends, and the last turn of each.
 #[derive(Debug, Drop)]
@@ -27,9 +27,16 @@ pub(crate) enum Waits {
     Dead,
 }
 
-/// An exchange that is read from a text of this program.
-pub(crate) fn exchange(alloc: Global, text: &[u8]) -> Result<Exchange, Fault> {
-    Ok(read_exchange(alloc, text)?)
+/// Whether an exchange replays at both ends.
+pub(crate) fn is_replayed(alloc: Global, exchange: &Exchange) -> Result<bool, Fault> {
+    for side in [Side::Terminal, Side::Card] {
+        match replay(alloc, exchange, side) {
+            Ok(()) => {}
+            Err(ReplayFault::Memory) => return Err(Fault::Memory),
+            Err(_) => return Ok(false),
+        }
+    }
+    Ok(true)
 }
 
 /// The parameters of T=1 that the answer to reset of an exchange gives.

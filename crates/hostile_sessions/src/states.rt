@@ -1,11 +1,11 @@
 //! The states of both ends: how they are reached, and what each end then makes of what comes.
 
-use crate::kind::Size;
 use crate::turns::{
     ACK, ACK_AT_LAST, ANSWER, ANSWER_AT_LAST, BEGUN_ANEW, Fits, GIVEN_UP, GRANTED, JOINING, MORE,
     REPLY, SAVED, SERVED, SIZE_SET, START_CARD, TIME_GRANTED, Wanted,
 };
 use t1_core::{CardFault, TerminalFault};
+use testing::Size;
 
 /// What an end makes of what comes.
 #[derive(Clone, Copy, Debug)]

@@ -1,10 +1,10 @@
 //! Calls that an end refuses, within sessions.
 
-use crate::case::{Case, Fault};
 use crate::ends::{Ends, Waits, params};
 use exchange_core::Exchange;
 use std::alloc::Global;
 use t1_core::{CardFault, TerminalFault};
+use testing::{Case, Fault};
 
 /// A call of an end that is refused in some state.
 #[derive(Clone, Copy, Debug, PartialEq, Eq)]

@@ -1,10 +1,10 @@
 //! Files of recorded exchanges with an octet cut, changed, or all after it gone.
 
-use crate::case::{Case, Fault};
-use crate::changes::with;
-use crate::ends::exchange;
-use exchange_core::{Exchange, ReplayFault, Side, replay, write_exchange};
+use crate::as_exchange;
+use crate::ends::is_replayed;
+use exchange_core::{Exchange, write_exchange};
 use std::alloc::Global;
+use testing::{Case, Fault, Share, with_octet};
 
 /// What was said of files.
 #[derive(Clone, Copy, Debug, Default)]
@@ -17,15 +17,15 @@ struct Said {
 
 /// Each file with each octet cut, changed, and with all from it on gone, is an exchange with this
 /// text or a fault.
-pub(crate) fn spoil_each(alloc: Global, files: &[Vec<u8>]) -> Result<String, Fault> {
+pub(crate) fn spoil_each(alloc: Global, files: &[Vec<u8>], share: Share) -> Result<String, Fault> {
     let mut said = Said::default();
-    for file in files {
+    for file in files.iter().take(share.most(files.len())) {
         said = judged(alloc, file.as_slice(), file.len(), said)?;
         for place in 0..file.len() {
             let (front, rest) = file.as_slice().split_at(place);
             said = judged(alloc, front, place, said)?;
             said = without_first(alloc, front, rest, said)?;
-            said = changed(alloc, file.as_slice(), place, said)?;
+            said = changed(alloc, file.as_slice(), place, share, said)?;
         }
     }
     let Said {
@@ -49,11 +49,17 @@ fn without_first(alloc: Global, front: &[u8], rest: &[u8], said: Said) -> Result
 }
 
 /// A file of which one octet is set to each other value.
-fn changed(alloc: Global, file: &[u8], place: usize, said: Said) -> Result<Said, Fault> {
+fn changed(
+    alloc: Global,
+    file: &[u8],
+    place: usize,
+    share: Share,
+    said: Said,
+) -> Result<Said, Fault> {
     let mut said = said;
     for value in 0..=255u8 {
-        if file.get(place) != Some(&value) {
-            let octets = with(alloc, file, place, value)?;
+        if share.has(usize::from(value)) && file.get(place) != Some(&value) {
+            let octets = with_octet(alloc, file, place, value)?;
             said = judged(alloc, octets.as_slice(), place, said)?;
         }
     }
@@ -63,10 +69,10 @@ fn changed(alloc: Global, file: &[u8], place: usize, said: Said) -> Result<Said,
 /// With one text more: it is read, written as it was, and replays the same twice, or has a fault.
 fn judged(alloc: Global, text: &[u8], place: usize, said: Said) -> Result<Said, Fault> {
     let mut said = said;
-    match exchange(alloc, text) {
+    match as_exchange(alloc, text) {
         Ok(exchange) => {
             said.read = said.read.saturating_add(1);
-            if is_replayed(alloc, &exchange, text, place)? {
+            if is_written_again(alloc, &exchange, text, place)? {
                 said.replayed = said.replayed.saturating_add(1);
             }
         }
@@ -80,8 +86,8 @@ fn judged(alloc: Global, text: &[u8], place: usize, said: Said) -> Result<Said, 
     Ok(said)
 }
 
-/// Whether an exchange replays at both ends.
-fn is_replayed(
+/// An exchange is written as it was read. Whether it replays at both ends.
+fn is_written_again(
     alloc: Global,
     exchange: &Exchange,
     text: &[u8],
@@ -95,19 +101,11 @@ fn is_replayed(
         piece: 0,
     };
     case.expect(alloc, written.as_slice() == text)?;
-    let mut replays = true;
-    for side in [Side::Terminal, Side::Card] {
-        let first = replay(alloc, exchange, side);
-        let again = replay(alloc, exchange, side);
-        if matches!(&first, Err(ReplayFault::Memory)) {
-            return Err(Fault::Memory);
-        }
-        let case = Case {
-            what: "a file that is replayed twice",
-            ..case
-        };
-        case.expect(alloc, first == again)?;
-        replays &= first.is_ok();
-    }
+    let replays = is_replayed(alloc, exchange)?;
+    let case = Case {
+        what: "a file that is replayed twice",
+        ..case
+    };
+    case.expect(alloc, is_replayed(alloc, exchange)? == replays)?;
     Ok(replays)
 }

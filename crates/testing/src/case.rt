@@ -1,23 +1,23 @@
-//! A case, and what becomes of one that goes wrong.
+//! A case of a program that goes through lists of them, and what becomes of one that goes wrong.
 
-use exchange_core::{ExchangeFault, RecorderFault};
 use octet_core::{HexFault, hex_upper};
 use std::alloc::{AllocError, AllocFailed, Global};
+use std::fmt::{self, Display, Formatter, Write};
 use std::io;
 
 /// A case: what is tried, over which octets, at which place in them, and with which value or piece
 /// there.
 #[derive(Clone, Copy, Debug)]
-pub(crate) struct Case<'a> {
-    pub(crate) what: &'static str,
-    pub(crate) octets: &'a [u8],
-    pub(crate) place: usize,
-    pub(crate) piece: usize,
+pub struct Case<'a> {
+    pub what: &'static str,
+    pub octets: &'a [u8],
+    pub place: usize,
+    pub piece: usize,
 }
 
 /// Why a list of cases ended before its end.
 #[derive(Debug, Drop)]
-pub(crate) enum Fault {
+pub enum Fault {
     /// A case gave another answer than it should; the octets in hexadecimal.
     Wrong {
         what: &'static str,
@@ -33,7 +33,7 @@ pub(crate) enum Fault {
 
 impl Case<'_> {
     /// Nothing where the case came out right.
-    pub(crate) fn expect(self, alloc: Global, is_right: bool) -> Result<(), Fault> {
+    pub fn expect(self, alloc: Global, is_right: bool) -> Result<(), Fault> {
         if is_right {
             return Ok(());
         }
@@ -64,15 +64,6 @@ impl From<io::Error> for Fault {
     }
 }
 
-impl From<ExchangeFault> for Fault {
-    fn from(fault: ExchangeFault) -> Fault {
-        match fault {
-            ExchangeFault::Memory => Fault::Memory,
-            _ => Fault::Stream,
-        }
-    }
-}
-
 impl From<HexFault> for Fault {
     fn from(fault: HexFault) -> Fault {
         match fault {
@@ -82,11 +73,20 @@ impl From<HexFault> for Fault {
     }
 }
 
-impl From<RecorderFault> for Fault {
-    fn from(fault: RecorderFault) -> Fault {
-        match fault {
-            RecorderFault::Memory => Fault::Memory,
-            RecorderFault::Refused(_) => Fault::Stream,
+impl Display for Fault {
+    fn fmt<W: Write>(&self, f: &mut Formatter<W>) -> fmt::Result {
+        match self {
+            Fault::Wrong {
+                what,
+                octets,
+                place,
+                piece,
+            } => write!(
+                f,
+                "wrong: {what}: octets {octets}, place {place}, piece {piece}"
+            ),
+            Fault::Memory => f.write_str("out of memory"),
+            Fault::Stream => f.write_str("a file or a stream failed"),
         }
     }
 }

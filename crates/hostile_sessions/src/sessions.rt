@@ -1,10 +1,10 @@
 //! The files of recorded exchanges, which lie where the program runs, or in its folder `data`.
 
-use crate::case::Fault;
-use crate::ends::exchange;
+use crate::as_exchange;
 use exchange_core::Exchange;
 use std::alloc::Global;
 use std::fs;
+use testing::Fault;
 
 /// The files of the folder `examples`.
 const NAMES: [&str; 8] = [
@@ -40,7 +40,7 @@ fn octets(rt: &HostRuntime, name: &str) -> Result<Vec<u8>, Fault> {
 pub(crate) fn sessions(alloc: Global, files: &[Vec<u8>]) -> Result<Vec<Exchange>, Fault> {
     let mut sessions = Vec::new(alloc);
     for file in files {
-        sessions.push(exchange(alloc, file.as_slice())?)?;
+        sessions.push(as_exchange(alloc, file.as_slice())?)?;
     }
     Ok(sessions)
 }

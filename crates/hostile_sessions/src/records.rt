@@ -1,8 +1,8 @@
 //! Events that a recorder refuses.
 
-use crate::case::{Case, Fault};
-use exchange_core::{Event, EventFault, Recorder, write_exchange};
+use exchange_core::{Event, EventFault, Recorder, RecorderFault, write_exchange};
 use std::alloc::Global;
+use testing::{Case, Fault};
 
 /// The answer to reset of a card that takes fields of 2 octets.
 const ATR: [u8; 7] = [0x3B, 0x80, 0x81, 0x31, 0x02, 0x45, 0x77];
@@ -107,7 +107,7 @@ fn is_put(
     let Some((before, after)) = session.split_at_checked(place) else {
         return Ok(false);
     };
-    let mut recorder = recorder(alloc)?;
+    let mut recorder = recorder(alloc, &ATR)?;
     let mut is_followed = is_told(&mut recorder, before)?;
     match recorder.happens(event) {
         Ok(()) => return Ok(false),
@@ -130,9 +130,22 @@ fn is_put(
     Ok(true)
 }
 
-/// A new recorder.
-fn recorder(alloc: Global) -> Result<Recorder, Fault> {
-    Ok(Recorder::new(alloc, &ATR)?)
+/// A recorder of a session with a card that has this answer to reset.
+pub(crate) fn recorder(alloc: Global, atr: &[u8]) -> Result<Recorder, Fault> {
+    match Recorder::new(alloc, atr) {
+        Ok(recorder) => Ok(recorder),
+        Err(RecorderFault::Memory) => Err(Fault::Memory),
+        Err(RecorderFault::Refused(_)) => Err(Fault::Stream),
+    }
+}
+
+/// What is to happen happens.
+pub(crate) fn happens(recorder: &mut Recorder, event: Event<'_>) -> Result<(), Fault> {
+    match recorder.happens(event) {
+        Ok(()) => Ok(()),
+        Err(EventFault::Memory) => Err(Fault::Memory),
+        Err(_) => Err(Fault::Stream),
+    }
 }
 
 /// Whether all events are taken.
@@ -158,7 +171,7 @@ fn told(
     before: &[Event<'_>],
     after: &[Event<'_>],
 ) -> Result<(Vec<u8>, bool), Fault> {
-    let mut recorder = recorder(alloc)?;
+    let mut recorder = recorder(alloc, &ATR)?;
     let is_taken = is_told(&mut recorder, before)? && is_told(&mut recorder, after)?;
     Ok((text(alloc, recorder)?, is_taken))
 }
@@ -170,7 +183,7 @@ fn told_past(
     event: Event<'_>,
     after: &[Event<'_>],
 ) -> Result<(Vec<u8>, bool), Fault> {
-    let mut recorder = recorder(alloc)?;
+    let mut recorder = recorder(alloc, &ATR)?;
     let is_before = is_told(&mut recorder, before)?;
     let is_refused = recorder.happens(event).is_err();
     let is_after = is_told(&mut recorder, after)?;

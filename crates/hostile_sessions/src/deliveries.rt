@@ -1,18 +1,16 @@
 //! Changed blocks, delivered to both ends in each of their states.
 
-use crate::case::{Case, Fault};
-use crate::changes::with;
-use crate::ends::{Ends, exchange, params};
-use crate::kind::{Kind, Size};
+use crate::as_exchange;
+use crate::ends::{Ends, params};
 use crate::states::{STATES, State, Turns};
 use crate::turns::{Fits, Wanted};
-use crate::vectors::Vector;
 use atr_core::T1Params;
 use block_core::{BlockReason, decode, encode};
 use exchange_core::Exchange;
-use octet_core::Stop;
+use octet_core::{Stop, octets_of};
 use std::alloc::Global;
 use t1_core::{Card, CardFault, CardTurn, Terminal, TerminalFault, TerminalTurn};
+use testing::{Case, Fault, Share, Size, with_octet};
 
 /// What octets are to an end.
 #[derive(Clone, Copy, Debug, PartialEq, Eq)]
@@ -34,6 +32,30 @@ const HEAD: &str = "scard-exchange 1\natr 3B808131024577\n";
 const COMMAND: [u8; 2] = [0x00, 0xA4];
 
 const REPLY: [u8; 2] = [0x90, 0x00];
+
+/// The blocks that are delivered, in hexadecimal.
+const BLOCKS: [&str; 20] = [
+    "00000500A4040000A5",
+    "00820082",
+    "00C101FE3E",
+    "00200200A486",
+    "006002040066",
+    "0000010001",
+    "00400040",
+    "000002900092",
+    "00810081",
+    "00800080",
+    "00C000C0",
+    "00E000E0",
+    "00C30101C3",
+    "00E30101E3",
+    "00C10102C2",
+    "00E10102E2",
+    "00000500B0000002B7",
+    "002002AABB33",
+    "00900090",
+    "0040029000D2",
+];
 
 /// How many deliveries there were.
 #[derive(Clone, Copy, Debug, Default)]
@@ -67,45 +89,53 @@ struct Reached {
 /// Each block is delivered to each end in each state, whole and with each octet set to each other
 /// value: its turn is the one for that block, for damaged or for invalid octets, and after it a
 /// whole exchange passes.
-pub(crate) fn deliver_each(alloc: Global, vectors: &[Vector]) -> Result<String, Fault> {
+pub(crate) fn deliver_each(alloc: Global, share: Share) -> Result<String, Fault> {
     let mut delivered = Delivered::default();
-    for state in STATES {
-        let text = format!(in alloc; "{HEAD}{}", state.text)?;
-        let exchange = exchange(alloc, text.as_bytes())?;
-        let reached = Reached {
-            state,
-            params: params(&exchange)?,
-            exchange,
-        };
-        for (index, vector) in vectors.iter().enumerate() {
-            if is_new(vectors, index, vector) {
-                delivered = deliver(alloc, &reached, vector.octets.as_slice(), delivered)?;
-            }
-        }
+    let count = share.most(STATES.len());
+    for state in STATES.iter().take(count) {
+        delivered = deliver_in(alloc, state, share, delivered)?;
     }
     let Delivered {
         blocks,
         damaged,
         invalid,
     } = delivered;
-    let count = STATES.len();
     Ok(format!(in alloc;
         "delivered in {count} states: {blocks} blocks, {damaged} damaged, {invalid} invalid, \
         each with a whole exchange after it"
     )?)
 }
 
-/// Whether a list is a block, and no list before it has its octets.
-fn is_new(vectors: &[Vector], index: usize, vector: &Vector) -> bool {
-    if !matches!(vector.kind, Kind::Block(_)) {
-        return false;
+/// Each block is delivered in a state.
+fn deliver_in(
+    alloc: Global,
+    state: &State,
+    share: Share,
+    delivered: Delivered,
+) -> Result<Delivered, Fault> {
+    let reached = way_to(alloc, state)?;
+    let mut delivered = delivered;
+    for block in BLOCKS {
+        let block = octets_of(alloc, block)?;
+        delivered = deliver(alloc, &reached, block.as_slice(), share, delivered)?;
     }
-    for earlier in vectors.iter().take(index) {
-        if earlier.octets.as_slice() == vector.octets.as_slice() {
-            return false;
-        }
-    }
-    true
+    Ok(delivered)
+}
+
+/// How a state is reached.
+fn way_to(alloc: Global, state: &State) -> Result<Reached, Fault> {
+    let text = joined(alloc, HEAD, state.text)?;
+    let exchange = as_exchange(alloc, text.as_bytes())?;
+    Ok(Reached {
+        state: *state,
+        params: params(&exchange)?,
+        exchange,
+    })
+}
+
+/// Two texts as one.
+fn joined(alloc: Global, head: &str, rest: &str) -> Result<String, Fault> {
+    Ok(format!(in alloc; "{head}{rest}")?)
 }
 
 /// A block is delivered in a state, whole, and with each of its octets set to each other value.
@@ -113,13 +143,14 @@ fn deliver(
     alloc: Global,
     reached: &Reached,
     block: &[u8],
+    share: Share,
     delivered: Delivered,
 ) -> Result<Delivered, Fault> {
     let mut delivered = to_both(alloc, reached, block, 0, delivered)?;
     for place in 0..block.len() {
         for value in 0..=255u8 {
-            if block.get(place) != Some(&value) {
-                let octets = with(alloc, block, place, value)?;
+            if share.has(usize::from(value)) && block.get(place) != Some(&value) {
+                let octets = with_octet(alloc, block, place, value)?;
                 delivered = to_both(alloc, reached, octets.as_slice(), place, delivered)?;
             }
         }

@@ -1,0 +1,62 @@
+//! Hostile use of sessions: calls and events that are refused, damaged blocks in each state of both ends, blocks that are
+//! lost or changed in turn, sessions drawn by a generator, and files of sessions that were changed.
+//!
+//! It writes a line for each list of cases, with how many there were. The first case that goes wrong is printed, and the
+//! program ends with status 1. On the word few it tries a few cases of the long lists.
+#![tactic(auto)]
+
+mod deliveries;
+mod drawn;
+mod ends;
+mod files;
+mod pairs;
+mod records;
+mod refusals;
+mod sessions;
+mod states;
+mod turns;
+
+use exchange_core::{Exchange, ExchangeFault, read_exchange};
+use std::alloc::Global;
+use std::io;
+use std::process::ExitCode;
+use testing::{Fault, Share, asked};
+
+fn main(rt: HostRuntime) -> io::Result<ExitCode> {
+    match tell_each(&rt) {
+        Ok(()) => Ok(ExitCode::SUCCESS),
+        Err(fault) => {
+            println!(rt; "{fault}")?;
+            Ok(ExitCode::from(1))
+        }
+    }
+}
+
+/// An exchange that is read from a text of this program.
+pub(crate) fn as_exchange(alloc: Global, text: &[u8]) -> Result<Exchange, Fault> {
+    match read_exchange(alloc, text) {
+        Ok(exchange) => Ok(exchange),
+        Err(ExchangeFault::Memory) => Err(Fault::Memory),
+        Err(_) => Err(Fault::Stream),
+    }
+}
+
+/// Prints the line of each list.
+fn tell_each(rt: &HostRuntime) -> Result<(), Fault> {
+    let alloc = rt.alloc();
+    let files = sessions::files(rt)?;
+    let sessions = sessions::sessions(alloc, files.as_slice())?;
+    let share = asked(rt)?;
+    tell(rt, refusals::refuse_each(alloc, sessions.as_slice()))?;
+    tell(rt, records::refuse_each(alloc))?;
+    tell(rt, deliveries::deliver_each(alloc, share))?;
+    tell(rt, pairs::disturb_each(alloc, share))?;
+    tell(rt, drawn::draw_each(alloc, share))?;
+    tell(rt, files::spoil_each(alloc, files.as_slice(), share))
+}
+
+/// Prints the line of a list.
+fn tell(rt: &HostRuntime, line: Result<String, Fault>) -> Result<(), Fault> {
+    let line = line?;
+    Ok(println!(rt; "{line}")?)
+}

@@ -1,0 +1,36 @@
+//! How much of its lists a program tries.
+
+use crate::Fault;
+use std::env::{self, Env};
+
+/// How many cases of the long lists are tried.
+#[derive(Clone, Copy, Debug, PartialEq, Eq)]
+pub enum Share {
+    All,
+    /// One in sixteen.
+    Few,
+}
+
+impl Share {
+    /// Whether the case with this number is tried.
+    pub fn has(self, number: usize) -> bool {
+        self == Share::All || number % 16 == 0
+    }
+
+    /// How many of so many long cases are tried.
+    pub fn most(self, cases: usize) -> usize {
+        match self {
+            Share::All => cases,
+            Share::Few => 1,
+        }
+    }
+}
+
+/// What the program's words ask for: a few cases on the word few, else all.
+pub fn asked<R: Env + AllocGlobal>(rt: &R) -> Result<Share, Fault> {
+    let words: Vec<String> = env::args(rt)?.collect(rt.alloc())?;
+    Ok(match words.as_slice() {
+        [_, word] if word.as_str() == "few" => Share::Few,
+        _ => Share::All,
+    })
+}
