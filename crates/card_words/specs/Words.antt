@@ -39,8 +39,12 @@ explain_rule = record (new_rule (codes "explain")) { long = Some (codes "explain
 abbrev pub begun_app : List ℕ → App
 begun_app name = with_rule (new_app name) explain_rule
 
+-- a word that has to be there
+abbrev pub required_rule : List ℕ → Rule
+required_rule name = record (new_rule name) { required = true; value_names = 1 }
+
 abbrev pub kind_rule : Rule
-kind_rule = record (new_rule (codes "kind")) { required = true; value_names = 1 }
+kind_rule = required_rule (codes "kind")
 
 abbrev pub hex_rule : Rule
 hex_rule = record (new_rule (codes "hex")) { value_names = 1 }
@@ -70,7 +74,7 @@ abbrev pub input_app : List ℕ → App
 input_app name = with_rule (with_rule (expected_app name) hex_rule) stdin_rule
 
 abbrev pub what_rule : Rule
-what_rule = record (new_rule (codes "what")) { required = true; value_names = 1 }
+what_rule = required_rule (codes "what")
 
 abbrev pub words_rule : Rule
 words_rule = record (new_rule (codes "words")) { value_names = 1; action = Some Append }
@@ -91,7 +95,7 @@ abbrev pub migrate_app : App
 migrate_app = begun_app (codes "migrate")
 
 abbrev pub atr_rule : Rule
-atr_rule = record (new_rule (codes "atr")) { required = true; value_names = 1 }
+atr_rule = required_rule (codes "atr")
 
 abbrev pub pairs_rule : Rule
 pairs_rule = record (new_rule (codes "pairs")) { value_names = 1; action = Some Append }

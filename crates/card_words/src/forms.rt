@@ -3,7 +3,7 @@
 ghost use Rattle.std.specs.Prelude.{◌≡◌, IfOk, false};
 ghost use Rattle.clap.specs.Words.{app_of, rule_of};
 ghost use Rattle.clap.specs.declared.builder.command.Command.TheViews.{out-Command};
-ghost use Rattle.card_words.specs.Words.{atr_rule, begun_app, build_app, end_rule, expected_app, explain_rule, hex_rule, ifs_rule, ifsd_rule, input_app, kind_rule, migrate_app, number_rule, octets_app, option_rule, pairs_rule, replay_app, scard, session_app, simulate_app, stdin_rule, what_rule, words_rule};
+ghost use Rattle.card_words.specs.Words.{atr_rule, begun_app, build_app, end_rule, expected_app, explain_rule, hex_rule, ifs_rule, ifsd_rule, input_app, kind_rule, migrate_app, number_rule, octets_app, option_rule, pairs_rule, replay_app, required_rule, scard, session_app, simulate_app, stdin_rule, what_rule, words_rule};
 
 use crate::help::{BUILD, CHECK, MIGRATE, PROGRAM, Page, REPLAY, SHOW, SIMULATE, with_page};
 use clap::{Arg, ArgAction, Command, value_parser};
@@ -147,10 +147,12 @@ fn atr_arg<'a>(alloc: Global) -> Arg<'a>
     ensures rule { rule_of result ≡ atr_rule }
     ensures local { result.global ≡ false }
 {
-    Arg::new(alloc, "atr")
-        .required(true)
-        .value_name("ATR")
-        .help("The card's answer to reset, in hexadecimal")
+    required_arg(
+        alloc,
+        "atr",
+        "ATR",
+        "The card's answer to reset, in hexadecimal",
+    )
 }
 
 fn pairs_arg<'a>(alloc: Global) -> Arg<'a>
@@ -182,6 +184,17 @@ fn list_arg<'a>(alloc: Global, name: &'a str, help: &'a str) -> Arg<'a>
     option_arg(alloc, name, "LIST", help)
 }
 
+/// A word that has to be there, which help calls `value`.
+fn required_arg<'a>(alloc: Global, name: &'a str, value: &'a str, help: &'a str) -> Arg<'a>
+    ensures rule { rule_of result ≡ required_rule name.now }
+    ensures local { result.global ≡ false }
+{
+    Arg::new(alloc, name)
+        .required(true)
+        .value_name(value)
+        .help(help)
+}
+
 /// An option that takes any word, which help calls `value`.
 fn option_arg<'a>(alloc: Global, name: &'a str, value: &'a str, help: &'a str) -> Arg<'a>
     ensures rule { rule_of result ≡ option_rule name.now }
@@ -208,10 +221,7 @@ fn what_arg<'a>(alloc: Global) -> Arg<'a>
     ensures rule { rule_of result ≡ what_rule }
     ensures local { result.global ≡ false }
 {
-    Arg::new(alloc, "what")
-        .required(true)
-        .value_name("WHAT")
-        .help("What is built: chain, tidy or fill")
+    required_arg(alloc, "what", "WHAT", "What is built: chain, tidy or fill")
 }
 
 fn words_arg<'a>(alloc: Global) -> Arg<'a>
@@ -239,10 +249,12 @@ fn kind_arg<'a>(alloc: Global) -> Arg<'a>
     ensures rule { rule_of result ≡ kind_rule }
     ensures local { result.global ≡ false }
 {
-    Arg::new(alloc, "kind")
-        .required(true)
-        .value_name("KIND")
-        .help("What the octets are taken for: atr, block, chain, command, response, tlv or dol")
+    required_arg(
+        alloc,
+        "kind",
+        "KIND",
+        "What the octets are taken for: atr, block, chain, command, response, tlv or dol",
+    )
 }
 
 fn hex_arg<'a>(alloc: Global) -> Arg<'a>

@@ -23,10 +23,34 @@ pub(crate) fn with_page<'a>(command: Command<'a>, page: &Page<'a>) -> Command<'a
     ensures app { app_of result ≡ app_of command.entry }
     ensures local { (out-Command result).has_globals ≡ (out-Command command.entry).has_globals }
 {
-    command
-        .about(page.about)
-        .override_usage(page.usage)
-        .after_help(page.after)
+    with_after(
+        with_usage(with_about(command, page.about), page.usage),
+        page.after,
+    )
+}
+
+/// A command with a line of what it does.
+fn with_about<'a>(command: Command<'a>, about: &'a str) -> Command<'a>
+    ensures app { app_of result ≡ app_of command.entry }
+    ensures local { (out-Command result).has_globals ≡ (out-Command command.entry).has_globals }
+{
+    command.about(about)
+}
+
+/// A command with this usage.
+fn with_usage<'a>(command: Command<'a>, usage: &'a str) -> Command<'a>
+    ensures app { app_of result ≡ app_of command.entry }
+    ensures local { (out-Command result).has_globals ≡ (out-Command command.entry).has_globals }
+{
+    command.override_usage(usage)
+}
+
+/// A command with this text after its lists.
+fn with_after<'a>(command: Command<'a>, after: &'a str) -> Command<'a>
+    ensures app { app_of result ≡ app_of command.entry }
+    ensures local { (out-Command result).has_globals ≡ (out-Command command.entry).has_globals }
+{
+    command.after_help(after)
 }
 
 /// The page of the program.
