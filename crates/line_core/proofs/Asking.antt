@@ -2,6 +2,7 @@
 use Rattle.std.proofs.Common.{◌≡◌, ◌≤◌, ℕ, ◌+◌, List, [], ◌∷◌, ◌++◌, length, map, All, append_assoc, refl}
 use Rattle.std.proofs.lemmas.List.{map-append, length-append}
 use Rattle.std.proofs.lemmas.List.Elements.{All-append, All-nil, All-cons}
+use Rattle.std.specs.declared.io.Error.{Error}
 use Rattle.line_core.specs.declared.line.Heard.{Heard}
 use Rattle.line_core.specs.declared.line.Heard.TheVariants.{Octets, Nothing}
 use Rattle.line_core.specs.Line.{Arrival, failure, Talk, Adds, arrived}
@@ -47,11 +48,12 @@ ends-answered first now after times most few next u = (
   record { before = u.before; unanswered = u.unanswered; last = (rw u.count few, refl) },
 )
 
-pub ends-failed : {A : Type 0} (first now after : A → List Talk → Type 0) (times most : ℕ) → times + 1 ≤ most
-    → Adds now after (asked failure ∷ []) → Unanswered first now times → IsAsked first after most line_failed
-ends-failed first now after times most few next u = (
-  map asked (u.before ++ failure ∷ []),
-  adds-on first now after u.before failure u.adds next,
+pub ends-failed : {A : Type 0} (first now after : A → List Talk → Type 0) (times most : ℕ) (fault : Error)
+    → times + 1 ≤ most → Adds now after (asked (failure fault) ∷ []) → Unanswered first now times
+    → IsAsked first after most (line_failed fault)
+ends-failed first now after times most fault few next u = (
+  map asked (u.before ++ failure fault ∷ []),
+  adds-on first now after u.before (failure fault) u.adds next,
   record { before = u.before; unanswered = u.unanswered; last = (rw u.count few, refl) },
 )
 

@@ -5,10 +5,14 @@ use Rattle.std.proofs.lemmas.List.{length-take-le, take-append-le}
 use Rattle.std.proofs.Math.Seq.{take-length, take-append_seam, take-append-add}
 use Rattle.std.specs.Io.{ReadsAtMost}
 use Rattle.std.specs.Io.KnownBytes.{ReadConsumes, Consumes, Appends}
+use Rattle.std.specs.IoError.{error_kind}
+use Rattle.std.specs.declared.io.Error.{Error}
+use Rattle.std.specs.declared.io.ErrorKind.TheVariants.{WriteZero}
+use Rattle.octet_core.specs.Failures.{next_count}
 use Rattle.line_core.specs.Line.{Arrival, block, nothing, failure, Talk}
 use Rattle.line_core.specs.Service.{Event, sending}
 use Rattle.line_core.specs.Service as at_card
-use Rattle.line_core.specs.Streams.{Wire, Carries, HasCarried, Moves, HasServed, wire_of, IsWritten, IsFramed, MovesOn, came_of}
+use Rattle.line_core.specs.Streams.{Wire, Carries, HasCarried, Moves, HasServed, IsWritten, IsFramed, IsTold, IsHeard, MovesOn, came_of}
 
 -- one talk more
 pub carried-on : (first mid now : Wire) (talks : List Talk) (talk : Talk) → HasCarried first talks mid
@@ -20,7 +24,7 @@ carried-on first mid now (one ∷ talks) talk (next, before, held) carries =
 all-written : (arrival : Arrival) (sent : List ℕ) → IsWritten arrival sent (length sent)
 all-written (block octets) sent = refl
 all-written nothing sent = refl
-all-written failure sent = omega arith
+all-written (failure fault) sent = omega arith
 
 -- a buffer of which what is after the first octets was written to
 pub front-more : (count more : ℕ) (old part rest : List ℕ) → count ≤ length old → more ≤ length part
@@ -49,26 +53,32 @@ moves-on held left count old part rest (Err fault) fits bound keeps =
 
 -- the block was written whole, and this was read
 pub carries-all : (old now : Wire) (talk : Talk) → Appends old.written now.written talk.sent
-    → Consumes old.left now.left (came_of talk.arrival) → IsFramed (came_of talk.arrival) → Carries old talk now
-carries-all old now talk sent came framed = record {
+    → now.not_written ≡ old.not_written → Consumes old.left now.left (came_of talk.arrival)
+    → IsFramed (came_of talk.arrival) → IsTold talk.arrival old.not_read now.not_read now.left → Carries old talk now
+carries-all old now talk sent none came framed told = record {
   count = length talk.sent;
   whole = all-written talk.arrival talk.sent;
   sent = subst (Appends old.written now.written) (sym (take-length talk.sent)) sent;
   came = came;
   framed = framed;
+  told = λ all. (told, none);
+  broken = λ fewer. let never : ⊥ = omega (arith, fewer) in absurd never;
 }
 
--- the sink failed, and nothing was read
-pub carries-part : (left written after : Option (List ℕ)) (sent : List ℕ) (waiting count : ℕ) → count < length sent
-    → Appends written after (take count sent)
-    → Carries (record { left = left; written = written }) (record { sent = sent; waiting = waiting; arrival = failure })
-    (record { left = left; written = after })
-carries-part left written after sent waiting count fewer part = record {
+-- the writer failed, and nothing was read
+pub carries-part : (old : Wire) (written : Option (List ℕ)) (not_written : ℕ) (sent : List ℕ) (waiting count : ℕ)
+    (fault : Error) → count < length sent → Appends old.written written (take count sent)
+    → error_kind fault ≡ WriteZero → not_written ≡ next_count old.not_written
+    → Carries old (record { sent = sent; waiting = waiting; arrival = failure fault })
+    (record old { written = written; not_written = not_written })
+carries-part old written not_written sent waiting count fault fewer part kind once = record {
   count = count;
   whole = omega (arith, fewer);
   sent = part;
-  came = Consumes-nil left;
+  came = Consumes-nil old.left;
   framed = λ long. omega (arith, long);
+  told = λ all. let never : ⊥ = omega (arith, fewer, all) in absurd never;
+  broken = λ less. (kind, once, refl, refl);
 }
 
 -- one event more on the line of a card
@@ -79,16 +89,20 @@ served-on first mid now (one ∷ events) event (next, before, held) moves =
     (next, before, served-on next mid now events event held moves)
 
 -- these octets were read, and they are what came, whether or not a failure is told as the end
-pub moves-heard : (left after written : Option (List ℕ)) (octets : List ℕ) (arrival : Arrival)
-    → came_of arrival ≡ octets → Consumes left after octets → IsFramed octets
-    → Moves (wire_of left written) (at_card.came arrival) (wire_of after written)
-moves-heard left after written octets arrival same came framed =
-    (subst (Consumes left after) (sym same) came, subst IsFramed (sym same) framed, refl)
+pub moves-heard : (old : Wire) (after : Option (List ℕ)) (not_read : ℕ) (octets : List ℕ) (arrival : Arrival)
+    → came_of arrival ≡ octets → Consumes old.left after octets → IsFramed octets
+    → IsHeard arrival old.not_read not_read after
+    → Moves old (at_card.came arrival) (record old { left = after; not_read = not_read })
+moves-heard old after not_read octets arrival same came framed heard =
+    (subst (Consumes old.left after) (sym same) came, subst IsFramed (sym same) framed, refl, heard, refl)
 
 -- the call to send a block wrote all of it, or failed after a part
-pub moves-said : {A E : Type 0} (left written after : Option (List ℕ)) (octets : List ℕ) (result : Result A E)
-    → OnOk result (Appends written after octets)
-    → IfErr result (λ _. (count : ℕ) × (count < length octets) × Appends written after (take count octets))
-    → Moves (wire_of left written) (sending octets result) (wire_of left after)
-moves-said left written after octets (Ok done) all part = (refl, all)
-moves-said left written after octets (Err fault) all part = (refl, part)
+pub moves-said : {A : Type 0} (old : Wire) (after : Option (List ℕ)) (not_written : ℕ) (octets : List ℕ)
+    (result : Result A Error) → OnOk result (Appends old.written after octets)
+    → OnOk result (not_written ≡ old.not_written)
+    → IfErr result (λ _. (count : ℕ) × (count < length octets) × Appends old.written after (take count octets))
+    → IfErr result (λ _. not_written ≡ next_count old.not_written)
+    → IfErr result (λ fault. error_kind fault ≡ WriteZero)
+    → Moves old (sending octets result) (record old { written = after; not_written = not_written })
+moves-said old after not_written octets (Ok done) all none part once kind = (refl, all, refl, none)
+moves-said old after not_written octets (Err fault) all none part once kind = (refl, part, refl, once, kind)

@@ -5,3 +5,8 @@ pub mod Replying
 pub mod Rounds
 pub mod Carrying
 pub mod Asking
+pub mod Steps
+pub mod Acting
+pub mod Linked
+pub mod Once
+pub mod Sessions

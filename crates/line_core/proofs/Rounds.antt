@@ -1,6 +1,7 @@
 -- Serving under way: what has happened so far, and what is left of it.
 use Rattle.std.proofs.Common.{◌≡◌, ◌≤◌, ℕ, ◌-◌, List, [], ◌∷◌, ◌++◌, take, Bool, true, false, Result, Ok, Err, append_assoc, refl, ap, subst}
 use Rattle.std.proofs.lemmas.List.{append-nil}
+use Rattle.std.specs.declared.io.Error.{Error}
 use Rattle.block_core.specs.Block.{Parts}
 use Rattle.t1_core.specs.Card.{CardState, CardStep, card_turn, replies, turn_of, state_after}
 use Rattle.t1_core.specs.declared.turns.CardTurn.{CardTurn}
@@ -8,7 +9,7 @@ use Rattle.t1_core.specs.declared.turns.CardTurn.TheVariants.{Send, Asked}
 use Rattle.t1_core.specs.declared.turns.CardPut.TheVariants as put
 use Rattle.t1_core.specs.declared.turns.CardFault.{CardFault}
 use Rattle.line_core.specs.declared.serving.ServeFault.{ServeFault}
-use Rattle.line_core.specs.declared.serving.ServeFault.TheVariants.{Refused}
+use Rattle.line_core.specs.declared.serving.ServeFault.TheVariants.{Line, Refused}
 use Rattle.line_core.specs.Line.{Arrival, block, nothing, failure}
 use Rattle.line_core.specs.Service.{Event, came, asked, sent, unsent, on_line, at_host, Happens, Ending, over, line_failed, used_up, refused, ending_of, Doing, hears, says, doing_of, doing_after, left_after, Serves, IsAnswer, IsReply, IsRound}
 use Rattle.line_core.proofs.Replying.{IsGiven}
@@ -19,7 +20,7 @@ on_line-append [] b = refl
 on_line-append (came arrival ∷ a) b = ap (λ l. came arrival ∷ l) (on_line-append a b)
 on_line-append (asked command reply ∷ a) b = on_line-append a b
 on_line-append (sent octets ∷ a) b = ap (λ l. sent octets ∷ l) (on_line-append a b)
-on_line-append (unsent octets ∷ a) b = ap (λ l. unsent octets ∷ l) (on_line-append a b)
+on_line-append (unsent octets fault ∷ a) b = ap (λ l. unsent octets fault ∷ l) (on_line-append a b)
 
 -- and the same at the host
 pub at_host-append : (a b : List Event) → at_host (a ++ b) ≡ at_host a ++ at_host b
@@ -27,7 +28,7 @@ at_host-append [] b = refl
 at_host-append (came arrival ∷ a) b = at_host-append a b
 at_host-append (asked command reply ∷ a) b = ap (λ l. asked command reply ∷ l) (at_host-append a b)
 at_host-append (sent octets ∷ a) b = at_host-append a b
-at_host-append (unsent octets ∷ a) b = at_host-append a b
+at_host-append (unsent octets fault ∷ a) b = at_host-append a b
 
 -- where nothing happened, no events were added
 pub none-happen : {A : Type 0} (first : A → List Event → Type 0) → Happens first first []
@@ -78,18 +79,17 @@ answers-block l0 l1 l2 h0 h1 c c' octets out count heard said (events, none, ser
 
 -- a block came, and the line failed to send its answer: serving ends with that
 pub fails-to-say : {A B : Type 0} (l0 l1 l2 : A → List Event → Type 0) (h0 h1 : B → List Event → Type 0)
-    (c c' : CardState) (octets out : List ℕ) (count : ℕ) (fault : ServeFault)
-    → ending_of {A = Bool} (Err fault) ≡ line_failed → Happens l0 l1 (came (block octets) ∷ [])
-    → Happens l1 l2 (unsent (take count out) ∷ [])
+    (c c' : CardState) (octets out : List ℕ) (count : ℕ) (inner : Error)
+    → Happens l0 l1 (came (block octets) ∷ []) → Happens l1 l2 (unsent (take count out) inner ∷ [])
     → Answers h0 h1 (doing_after c (block octets)) (left_after c (block octets)) out (Ok count) c'
-    → Rounds l0 l2 h0 h1 c (Err fault) c'
-fails-to-say l0 l1 l2 h0 h1 c c' octets out count fault is heard said (events, none, served, (parts, spells, on)) = (
-  came (block octets) ∷ (events ++ unsent (take count out) ∷ []),
-  on-both l0 l1 l2 events (block octets) (unsent (take count out)) none refl heard said,
-  host-alone h0 h1 events (unsent (take count out)) refl served,
+    → Rounds l0 l2 h0 h1 c (Err (Line inner)) c'
+fails-to-say l0 l1 l2 h0 h1 c c' octets out count inner heard said (events, none, served, (parts, spells, on)) = (
+  came (block octets) ∷ (events ++ unsent (take count out) inner ∷ []),
+  on-both l0 l1 l2 events (block octets) (unsent (take count out) inner) none refl heard said,
+  host-alone h0 h1 events (unsent (take count out) inner) refl served,
   λ most some. (
     some,
-    on (most - 1) (unsent (take count out) ∷ []) (ending_of {A = Bool} (Err fault)) c' (spells, is, refl),
+    on (most - 1) (unsent (take count out) inner ∷ []) (line_failed inner) c' (spells, refl, refl),
   ),
 )
 
@@ -249,6 +249,10 @@ hears-nothing l0 l1 h c heard = (came nothing ∷ [], heard, none-happen h, λ m
 
 -- the line failed, and the card stays as it was
 pub fails-to-hear : {A B : Type 0} (l0 l1 : A → List Event → Type 0) (h : B → List Event → Type 0) (c : CardState)
-    (fault : ServeFault) → ending_of {A = Bool} (Err fault) ≡ line_failed → Happens l0 l1 (came failure ∷ [])
-    → Rounds l0 l1 h h c (Err fault) c
-fails-to-hear l0 l1 h c fault is heard = (came failure ∷ [], heard, none-happen h, λ most some. (some, (is, refl)))
+    (inner : Error) → Happens l0 l1 (came (failure inner) ∷ []) → Rounds l0 l1 h h c (Err (Line inner)) c
+fails-to-hear l0 l1 h c inner heard = (
+  came (failure inner) ∷ [],
+  heard,
+  none-happen h,
+  λ most some. (some, (refl, refl)),
+)

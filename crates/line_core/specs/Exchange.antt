@@ -1,5 +1,6 @@
 -- One exchange over a line, by the terminal's table and what came.
 use Rattle.std.specs.Prelude.{◌≡◌, ◌≤◌, ℕ, ◌-◌, List, [], ◌∷◌, take, Some, Result, Ok, Err, IfOk}
+use Rattle.std.specs.declared.io.Error.{Error}
 use Rattle.block_core.specs.Block.{Parts, spelling}
 use Rattle.t1_core.specs.Came.{class_of, quiet}
 use Rattle.t1_core.specs.Terminal.{TerminalState, takes, terminal_turn, turn_of, state_after, TerminalInput}
@@ -15,12 +16,12 @@ use Rattle.line_core.specs.Line.{Arrival, block, nothing, failure, Talk, Adds}
 use denote.Ref.{Bor}
 
 -- How an exchange, or a question about a size, ends: its answer came, or the size was taken; it was given up; the card
--- is dead; the line failed; another block isn't allowed; or the terminal refused the call.
+-- is dead; the line failed with this error; another block isn't allowed; or the terminal refused the call.
 pub data Ending : Type 0 where
   done : Ending
   given_up : Ending
   dead : Ending
-  line_failed : Ending
+  line_failed : (fault : Error) → Ending
   used_up : Ending
   refused : (fault : TerminalFault) → Ending
 
@@ -28,7 +29,7 @@ abbrev pub ending_of : {A : Type 0} → Result A ExchangeFault → Ending
 ending_of (Ok answer) = done
 ending_of (Err fault.GivenUp) = given_up
 ending_of (Err fault.Dead) = dead
-ending_of (Err (fault.Line inner)) = line_failed
+ending_of (Err (fault.Line inner)) = line_failed inner
 ending_of (Err fault.UsedUp) = used_up
 ending_of (Err (fault.Refused inner)) = refused inner
 
@@ -50,12 +51,12 @@ next_of (Err inner) = ends (refused inner)
 abbrev pub next_after : TerminalState → Arrival → Next
 next_after t (block octets) = next_of (turn_of (terminal_turn t (takes (class_of t.ifsd octets))))
 next_after t nothing = next_of (turn_of (terminal_turn t (takes quiet)))
-next_after t failure = ends line_failed
+next_after t (failure inner) = ends (line_failed inner)
 
 abbrev pub left_after : TerminalState → Arrival → TerminalState
 left_after t (block octets) = state_after t (terminal_turn t (takes (class_of t.ifsd octets)))
 left_after t nothing = state_after t (terminal_turn t (takes quiet))
-left_after t failure = t
+left_after t (failure inner) = t
 
 -- The octets of the block were sent, and the wait was the one that goes with it.
 abbrev pub IsSent : Parts → Talk → Type 0

@@ -4,3 +4,5 @@ pub mod Service
 pub mod Commanding
 pub mod Streams
 pub mod Resynch
+pub mod Names
+pub mod Joined

@@ -1,13 +1,15 @@
 -- What was on a line between two ends.
 use Rattle.std.specs.Prelude.{◌≤◌, ℕ, List, ◌++◌, length, take, Result, Ok, Err}
+use Rattle.std.specs.declared.io.Error.{Error}
 use Rattle.line_core.specs.declared.line.Heard.{Heard}
 use Rattle.line_core.specs.declared.line.Heard.TheVariants.{Octets, Nothing}
 
--- What came after a block: these octets as one block, nothing within the waiting time, or the line failed.
+-- What came after a block: these octets as one block, nothing within the waiting time, or the line failed with this
+-- error.
 pub data Arrival : Type 0 where
   block : (octets : List ℕ) → Arrival
   nothing : Arrival
-  failure : Arrival
+  failure : (fault : Error) → Arrival
 
 -- A block that was sent, how many block waiting times its answer had, and what came.
 pub record Talk : Type 0 where
@@ -21,9 +23,9 @@ arrived (Octets count) room = block (take count room)
 arrived Nothing room = nothing
 
 -- what a call of the line says
-abbrev pub arrival_of : {E : Type 0} → Result Heard E → List ℕ → Arrival
+abbrev pub arrival_of : Result Heard Error → List ℕ → Arrival
 arrival_of (Ok heard) room = arrived heard room
-arrival_of (Err fault) room = failure
+arrival_of (Err fault) room = failure fault
 
 -- what came is in the buffer
 abbrev pub FitsRoom : Heard → List ℕ → Type 0

@@ -19,13 +19,14 @@ asked arrival = record { sent = spelling (request Resynch []); waiting = 1; arri
 abbrev pub IsUnanswered : Arrival → Type 0
 IsUnanswered (block octets) = block octets ≡ answered → ⊥
 IsUnanswered nothing = Unit {0}
-IsUnanswered failure = ⊥
+IsUnanswered (failure fault) = ⊥
 
 -- After these arrivals, none of which was the answer, the talks end so: with the answer, with a failure of the line, or
 -- as often as may be without either.
 abbrev pub IsLast : ℕ → List Arrival → List Talk → Ending → Type 0
 IsLast most before talks done = (length before + 1 ≤ most) × (talks ≡ map asked (before ++ answered ∷ []))
-IsLast most before talks line_failed = (length before + 1 ≤ most) × (talks ≡ map asked (before ++ failure ∷ []))
+IsLast most before talks (line_failed fault) =
+    (length before + 1 ≤ most) × (talks ≡ map asked (before ++ failure fault ∷ []))
 IsLast most before talks dead = (length before ≡ most) × (talks ≡ map asked before)
 IsLast most before talks given_up = ⊥
 IsLast most before talks used_up = ⊥

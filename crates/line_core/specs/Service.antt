@@ -1,5 +1,6 @@
 -- A card that serves what comes over a line, by its table, what came and what its host replies.
 use Rattle.std.specs.Prelude.{◌≡◌, ◌≤◌, ℕ, ◌-◌, List, [], ◌∷◌, ◌++◌, take, Bool, true, false, Result, Ok, Err}
+use Rattle.std.specs.declared.io.Error.{Error}
 use Rattle.block_core.specs.Block.{Parts, spelling}
 use Rattle.t1_core.specs.Came.{class_of}
 use Rattle.t1_core.specs.Card.{CardState, replies, takes, card_turn, turn_of, state_after}
@@ -11,12 +12,12 @@ use Rattle.line_core.specs.declared.serving.ServeFault.TheVariants.{Line, UsedUp
 use Rattle.line_core.specs.Line.{Arrival, block, nothing, failure}
 
 -- What happens at the card: what came, or the line's word that nothing comes any more; a command that the host was
--- given, with its reply; a block that was sent, or that the line failed to send.
+-- given, with its reply; a block that was sent, or that the line failed to send, with its error.
 pub data Event : Type 0 where
   came : (arrival : Arrival) → Event
   asked : (command reply : List ℕ) → Event
   sent : (octets : List ℕ) → Event
-  unsent : (octets : List ℕ) → Event
+  unsent : (octets : List ℕ) (fault : Error) → Event
 
 -- the events on the line, and those at the host
 abbrev pub on_line : List Event → List Event
@@ -24,35 +25,35 @@ on_line [] = []
 on_line (asked command reply ∷ events) = on_line events
 on_line (came arrival ∷ events) = came arrival ∷ on_line events
 on_line (sent octets ∷ events) = sent octets ∷ on_line events
-on_line (unsent octets ∷ events) = unsent octets ∷ on_line events
+on_line (unsent octets fault ∷ events) = unsent octets fault ∷ on_line events
 
 abbrev pub at_host : List Event → List Event
 at_host [] = []
 at_host (asked command reply ∷ events) = asked command reply ∷ at_host events
 at_host (came arrival ∷ events) = at_host events
 at_host (sent octets ∷ events) = at_host events
-at_host (unsent octets ∷ events) = at_host events
+at_host (unsent octets fault ∷ events) = at_host events
 
 -- what a call to send a block adds
-abbrev pub sending : {A E : Type 0} → List ℕ → Result A E → Event
+abbrev pub sending : {A : Type 0} → List ℕ → Result A Error → Event
 sending octets (Ok done) = sent octets
-sending octets (Err fault) = unsent octets
+sending octets (Err fault) = unsent octets fault
 
 -- Whatever happened since another line, or another host, these events came after it, and nothing else did.
 abbrev pub Happens : {A : Type 0} → (A → List Event → Type 0) → (A → List Event → Type 0) → List Event → Type 0
 Happens {A} old new events = (first : A) (before : List Event) → old first before → new first (before ++ events)
 
--- How serving ends: nothing comes any more, the line failed, as many blocks came as the caller allows, or the card
+-- How serving ends: nothing comes any more, the line failed with this error, as many blocks came as the caller allows, or the card
 -- refused what came or the reply.
 pub data Ending : Type 0 where
   over : Ending
-  line_failed : Ending
+  line_failed : (fault : Error) → Ending
   used_up : Ending
   refused : (fault : CardFault) → Ending
 
 abbrev pub ending_of : {A : Type 0} → Result A ServeFault → Ending
 ending_of (Ok done) = over
-ending_of (Err (Line inner)) = line_failed
+ending_of (Err (Line inner)) = line_failed inner
 ending_of (Err UsedUp) = used_up
 ending_of (Err (Refused inner)) = refused inner
 
@@ -71,12 +72,12 @@ doing_of (Err inner) = ends (refused inner)
 abbrev pub doing_after : CardState → Arrival → Doing
 doing_after c (block octets) = doing_of (turn_of (card_turn c (takes (class_of c.ifsc octets))))
 doing_after c nothing = ends over
-doing_after c failure = ends line_failed
+doing_after c (failure fault) = ends (line_failed fault)
 
 abbrev pub left_after : CardState → Arrival → CardState
 left_after c (block octets) = state_after c (card_turn c (takes (class_of c.ifsc octets)))
 left_after c nothing = c
-left_after c failure = c
+left_after c (failure fault) = c
 
 -- The card is in state c and about to do this, and at most so many blocks may come: then these events happen, so
 -- serving ends, and the card is left in this state.
@@ -89,8 +90,8 @@ Serves most asks c (asked command reply ∷ events) ending left =
     (state_after c (card_turn c (replies reply))) events ending left
 Serves most (says parts) c (sent octets ∷ events) ending left =
     (octets ≡ spelling parts) × Serves most hears c events ending left
-Serves most (says parts) c (unsent octets ∷ []) ending left =
-    (octets ≡ spelling parts) × (ending ≡ line_failed) × (left ≡ c)
+Serves most (says parts) c (unsent octets fault ∷ []) ending left =
+    (octets ≡ spelling parts) × (ending ≡ line_failed fault) × (left ≡ c)
 Serves most (ends how) c [] ending left = (ending ≡ how) × (left ≡ c)
 Serves most doing c events ending left = ⊥
 

@@ -1,24 +1,31 @@
 -- A line whose octets are written to a sink and read from a source.
-use Rattle.std.specs.Prelude.{◌≡◌, ◌≤◌, ◌<◌, ℕ, ◌+◌, List, [], ◌∷◌, ◌++◌, length, take, slice_index, Option, Result, IfOk, IfErr}
-use Rattle.std.specs.Io.KnownBytes.{Appends, Consumes}
+use Rattle.std.specs.Prelude.{◌≡◌, ◌≢◌, ◌≤◌, ◌<◌, ◌⊎◌, ℕ, ◌+◌, List, [], ◌∷◌, ◌++◌, length, take, slice_index, Option, Result, Ok, Err, IfOk, IfErr}
+use Rattle.std.specs.Io.KnownBytes.{Appends, Consumes, IsAtEnd}
+use Rattle.std.specs.IoError.{error_kind}
+use Rattle.std.specs.declared.io.Error.{Error}
+use Rattle.std.specs.declared.io.ErrorKind.{ErrorKind}
+use Rattle.std.specs.declared.io.ErrorKind.TheVariants.{TimedOut, WouldBlock, UnexpectedEof, WriteZero}
+use Rattle.octet_core.specs.Failures.{next_count, most_failures}
+use Rattle.line_core.specs.declared.line.Heard.{Heard}
+use Rattle.line_core.specs.declared.line.Heard.TheVariants.{Octets, Nothing}
 use Rattle.line_core.specs.Line.{Arrival, block, nothing, failure, Talk}
 use Rattle.line_core.specs.Service.{Event}
 use Rattle.line_core.specs.Service as at_card
 use Rattle.line_core.specs.declared.streaming.StreamLine.{StreamLine}
 
--- the octets that are left to read and those that were written, where they are known
+-- The octets that are left to read and those that were written, where they are known, and how many calls of the reader
+-- and of the writer failed.
 pub record Wire : Type 0 where
   pub left : Option (List ℕ)
   pub written : Option (List ℕ)
-
-abbrev pub wire_of : Option (List ℕ) → Option (List ℕ) → Wire
-wire_of left written = record { left = left; written = written }
+  pub not_read : ℕ
+  pub not_written : ℕ
 
 -- the octets that came
 abbrev pub came_of : Arrival → List ℕ
 came_of (block octets) = octets
 came_of nothing = []
-came_of failure = []
+came_of (failure fault) = []
 
 -- no octet is after the last of the block, by its third octet
 abbrev pub IsFramed : List ℕ → Type 0
@@ -28,33 +35,86 @@ IsFramed octets = 3 ≤ length octets → length octets ≤ slice_index octets 2
 abbrev pub IsWholeBlock : List ℕ → Type 0
 IsWholeBlock octets = (3 ≤ length octets) × (length octets ≡ slice_index octets 2 + 4)
 
+-- A block that came where so many calls of the reader had failed before and after it, and these octets are left. It has
+-- an octet; it is whole where no call failed, unless the reader ended; and no call failed where it is whole. One that
+-- failed is the last.
+pub record IsRead (octets : List ℕ) (before after : ℕ) (left : Option (List ℕ)) : Type 0 where
+  pub some : 0 < length octets
+  pub whole : after ≡ before → before < most_failures → IsAtEnd left ⊎ IsWholeBlock octets
+  pub once : IsWholeBlock octets → after ≡ before
+  pub last : (after ≡ before) ⊎ (after ≡ next_count before)
+
+-- the kinds of a failed call that say that nothing came so far
+abbrev pub IsSilence : ErrorKind → Type 0
+IsSilence kind = (kind ≡ TimedOut) ⊎ (kind ≡ WouldBlock)
+
+-- What is heard of a block of which so many octets came, where the next call failed so.
+abbrev pub IsBrokenOff : ℕ → Error → Result Heard Error → Type 0
+IsBrokenOff count fault (Ok (Octets heard)) = (heard ≡ count) × (0 < count)
+IsBrokenOff count fault (Ok Nothing) = (count ≡ 0) × IsSilence (error_kind fault)
+IsBrokenOff count fault (Err own) = (own ≡ fault) × (count ≡ 0) × (IsSilence (error_kind fault) → ⊥)
+
+-- The reader ended, and no call of it failed.
+abbrev pub HasEnded : ℕ → ℕ → Option (List ℕ) → Type 0
+HasEnded before after left = (after ≡ before) × IsAtEnd left
+
+-- What a terminal takes the calls of its reader for: nothing, where one failed; a failure, where one failed and its
+-- kind doesn't say that nothing came, or where the reader ended.
+abbrev pub IsTold : Arrival → ℕ → ℕ → Option (List ℕ) → Type 0
+IsTold (block octets) before after left = IsRead octets before after left
+IsTold nothing before after left = after ≡ next_count before
+IsTold (failure fault) before after left = (IsSilence (error_kind fault) → ⊥)
+    × ((after ≡ next_count before) ⊎ ((error_kind fault ≡ UnexpectedEof) × HasEnded before after left))
+
+-- And what a card takes them for: nothing, also where the reader ended.
+abbrev pub IsHeard : Arrival → ℕ → ℕ → Option (List ℕ) → Type 0
+IsHeard (block octets) before after left = IsRead octets before after left
+IsHeard nothing before after left = (after ≡ next_count before) ⊎ HasEnded before after left
+IsHeard (failure fault) before after left = (IsSilence (error_kind fault) → ⊥)
+    × (error_kind fault ≢ UnexpectedEof) × (after ≡ next_count before)
+
 -- so many of the octets that were sent are written: all, unless the line failed
 abbrev pub IsWritten : Arrival → List ℕ → ℕ → Type 0
 IsWritten (block octets) sent count = count ≡ length sent
 IsWritten nothing sent count = count ≡ length sent
-IsWritten failure sent count = count ≤ length sent
+IsWritten (failure fault) sent count = count ≤ length sent
 
--- What was sent is written, and what came is read and ends with its block, if not before.
+-- the writer failed, once, and nothing was read
+abbrev pub IsBroken : Wire → Arrival → Wire → Type 0
+IsBroken old (block octets) new = ⊥
+IsBroken old nothing new = ⊥
+IsBroken old (failure fault) new = (error_kind fault ≡ WriteZero) × (new.not_written ≡ next_count old.not_written)
+    × (new.not_read ≡ old.not_read) × (new.left ≡ old.left)
+
+-- What was sent is written, and what came is read and ends with its block, if not before. Where all was written it is
+-- what the calls of the reader are taken for, and none of the writer failed.
 pub record Carries (old : Wire) (talk : Talk) (new : Wire) : Type 0 where
   pub count : ℕ
   pub whole : IsWritten talk.arrival talk.sent count
   pub sent : Appends old.written new.written (take count talk.sent)
   pub came : Consumes old.left new.left (came_of talk.arrival)
   pub framed : IsFramed (came_of talk.arrival)
+  pub told : count ≡ length talk.sent → IsTold talk.arrival old.not_read new.not_read new.left
+      × (new.not_written ≡ old.not_written)
+  pub broken : count < length talk.sent → IsBroken old talk.arrival new
 
 -- the same of one talk after another
 abbrev pub HasCarried : Wire → List Talk → Wire → Type 0
 HasCarried first [] now = first ≡ now
 HasCarried first (talk ∷ talks) now = (next : Wire) × Carries first talk next × HasCarried next talks now
 
--- One event on the line of a card: what came is read and ends with its block, if not before; what is sent is written,
--- all unless the line failed; and nothing else is touched.
+-- One event on the line of a card: what came is read and ends with its block, if not before, and is what the calls of
+-- the reader are taken for; what is sent is written, all unless the writer failed, once; and nothing else is touched.
 abbrev pub Moves : Wire → Event → Wire → Type 0
 Moves old (at_card.came arrival) new = Consumes old.left new.left (came_of arrival) × IsFramed (came_of arrival)
-    × (new.written ≡ old.written)
+    × (new.written ≡ old.written) × IsHeard arrival old.not_read new.not_read new.left
+    × (new.not_written ≡ old.not_written)
 Moves old (at_card.sent octets) new = (new.left ≡ old.left) × Appends old.written new.written octets
-Moves old (at_card.unsent octets) new = (new.left ≡ old.left)
+    × (new.not_read ≡ old.not_read) × (new.not_written ≡ old.not_written)
+Moves old (at_card.unsent octets fault) new = (new.left ≡ old.left)
     × ((count : ℕ) × (count < length octets) × Appends old.written new.written (take count octets))
+    × (new.not_read ≡ old.not_read) × (new.not_written ≡ next_count old.not_written)
+    × (error_kind fault ≡ WriteZero)
 Moves old (at_card.asked command reply) new = ⊥
 
 -- the same of one event after another
@@ -68,6 +128,15 @@ module _ {R W : Type 0} where
 
   abbrev pub sink_of : StreamLine R W → W
   sink_of line = line.sink
+
+  -- what is known of its reader and of its writer, by these
+  abbrev pub wire_of : (R → Option (List ℕ)) → (R → ℕ) → (W → Option (List ℕ)) → (W → ℕ) → StreamLine R W → Wire
+  wire_of remaining not_read contents not_written line = record {
+    left = remaining line.source;
+    written = contents line.sink;
+    not_read = not_read line.source;
+    not_written = not_written line.sink;
+  }
 
 -- One call of the source, where so many octets were at the front of the buffer before it.
 abbrev pub MovesOn : {E : Type 0} → Option (List ℕ) → Option (List ℕ) → List ℕ → List ℕ → ℕ → Result ℕ E → Type 0

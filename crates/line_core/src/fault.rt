@@ -27,6 +27,10 @@ pub enum ExchangeFault {
 
 /// The name of the fault, and what it holds after it, as in `Refused: Busy`.
 impl Display for ExchangeFault {
+    ghost use Rattle.line_core.specs.Names.{exchange_fault_text};
+
+    ghost output = { exchange_fault_text };
+
     fn fmt<W: Write>(&self, f: &mut Formatter<W>) -> fmt::Result {
         match self {
             ExchangeFault::GivenUp => f.write_str("GivenUp"),

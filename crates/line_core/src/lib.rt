@@ -8,12 +8,13 @@
 //! [`response_of`] reads the answer. [`begin_by_resynch`] begins with a card that can't be reset:
 //! `specs/Resynch.antt`. [`StreamLine`] is a line over a reader and a writer of octets. At the
 //! other end [`serve`] has a card answer what comes over a [`CardLine`], with the replies of its
-//! [`Host`]: `specs/Service.antt`.
+//! [`Host`]: `specs/Service.antt`. What holds of both ends over one line are the [`laws`].
 #![tactic(auto)]
 
 pub mod commanding;
 pub mod exchanging;
 pub mod fault;
+pub mod laws;
 pub mod line;
 pub mod resynching;
 pub mod serving;

@@ -71,6 +71,10 @@ pub enum ServeFault {
 
 /// The name of the fault, and what it holds after it, as in `Refused: Order`.
 impl Display for ServeFault {
+    ghost use Rattle.line_core.specs.Names.{serve_fault_text};
+
+    ghost output = { serve_fault_text };
+
     fn fmt<W: Write>(&self, f: &mut Formatter<W>) -> fmt::Result {
         match self {
             ServeFault::Line(error) => write!(f, "Line: {error}"),

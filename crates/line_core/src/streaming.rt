@@ -1,12 +1,12 @@
 //! A line whose octets go to a writer and come from a reader.
 
-ghost use Rattle.std.specs.Prelude.{◌≡◌, ◌≢◌, ◌≤◌, ◌<◌, ◌+◌, ◌⊎◌, ℕ, List, [], ◌∷◌, length, take, slice_index, IfOk, IfErr, OnOk, Ok, Err};
-ghost use Rattle.octet_core.specs.Failures.{Counts, ReadFails, HasFailed, most_failures};
+ghost use Rattle.std.specs.Prelude.{◌≡◌, ◌≢◌, ◌≤◌, ◌<◌, ◌+◌, ◌⊎◌, ℕ, Option, List, [], ◌∷◌, length, take, slice_index, IfOk, IfErr, OnOk, Ok, Err};
+ghost use Rattle.octet_core.specs.Failures.{Counts, ReadFails, HasFailed, next_count, most_failures};
 ghost use Rattle.std.specs.IoError.{error_kind};
 ghost use Rattle.std.specs.Io.KnownBytes.{Consumes, Appends, IsAtEnd};
 ghost use Rattle.line_core.specs.Line.{Adds, FitsRoom, arrival_of};
 ghost use Rattle.line_core.specs.Service.{Happens, came, sending};
-ghost use Rattle.line_core.specs.Streams.{Moves, Carries, HasCarried, HasServed, IsFramed, IsWholeBlock, MovesOn, came_of, wire_of, source_of, sink_of};
+ghost use Rattle.line_core.specs.Streams.{Moves, Carries, HasCarried, HasServed, IsBrokenOff, IsFramed, IsHeard, IsTold, IsWholeBlock, MovesOn, came_of, wire_of, source_of, sink_of};
 
 use crate::line::{Heard, Line};
 use crate::serving::CardLine;
@@ -27,6 +27,9 @@ use std::io::{self, ErrorKind};
 /// a terminal, whose block has no answer then, that is the line's failure, `UnexpectedEof`. For a card it is
 /// `Nothing`: no more comes, and `serve` ends with `Ok`. Since `Nothing` ends serving, the reader of a card
 /// has to wait for the next block as long as it takes, and to time out only where no more comes.
+///
+/// Contracts see what each call wrote and read, and which of it was whole, by the calls of the reader and the
+/// writer that failed: `said` has it of every talk, so the clauses of `exchange` and `serve` do.
 #[derive(Debug, Drop)]
 pub struct StreamLine<R, W> {
     source: R,
@@ -52,24 +55,23 @@ impl<R, W> StreamLine<R, W> {
 
 impl<R: Source, W: Sink> Line for StreamLine<R, W> {
     ghost said = { λ line first talks.
-        HasCarried (wire_of (R.remaining (source_of first)) (W.contents (sink_of first))) talks
-        (wire_of (R.remaining (source_of line)) (W.contents (sink_of line))) };
+        HasCarried (wire_of R.remaining R.failures W.contents W.failures first) talks
+        (wire_of R.remaining R.failures W.contents W.failures line) };
 
     fn talk(&mut self, block: &[u8], _waiting: u8, room: &mut [u8]) -> io::Result<Heard>
         requires { 259 ≤ length room.old }
         ensures fits { IfOk result (λ heard. FitsRoom heard room.new) }
         ensures said { Adds (λ first talks.
-            HasCarried (wire_of (R.remaining (source_of first)) (W.contents (sink_of first))) talks
-            (wire_of (R.remaining (source_of self.old)) (W.contents (sink_of self.old))))
+            HasCarried (wire_of R.remaining R.failures W.contents W.failures first) talks
+            (wire_of R.remaining R.failures W.contents W.failures self.old))
             (λ first talks. HasCarried
-            (wire_of (R.remaining (source_of first)) (W.contents (sink_of first))) talks
-            (wire_of (R.remaining (source_of self.new)) (W.contents (sink_of self.new))))
+            (wire_of R.remaining R.failures W.contents W.failures first) talks
+            (wire_of R.remaining R.failures W.contents W.failures self.new))
             (record { sent = block.now; waiting = _waiting; arrival = arrival_of result room.new }
             ∷ []) }
-        ensures carried { Carries (wire_of (R.remaining (source_of self.old))
-            (W.contents (sink_of self.old)))
+        ensures carried { Carries (wire_of R.remaining R.failures W.contents W.failures self.old)
             (record { sent = block.now; waiting = _waiting; arrival = arrival_of result room.new })
-            (wire_of (R.remaining (source_of self.new)) (W.contents (sink_of self.new))) }
+            (wire_of R.remaining R.failures W.contents W.failures self.new) }
     {
         match write_block(&mut self.sink, block) {
             Ok(()) => read_block(&mut self.source, room),
@@ -80,22 +82,22 @@ impl<R: Source, W: Sink> Line for StreamLine<R, W> {
 
 impl<R: Source, W: Sink> CardLine for StreamLine<R, W> {
     ghost said = { λ line first events.
-        HasServed (wire_of (R.remaining (source_of first)) (W.contents (sink_of first))) events
-        (wire_of (R.remaining (source_of line)) (W.contents (sink_of line))) };
+        HasServed (wire_of R.remaining R.failures W.contents W.failures first) events
+        (wire_of R.remaining R.failures W.contents W.failures line) };
 
     fn hear(&mut self, room: &mut [u8]) -> io::Result<Heard>
         requires { 259 ≤ length room.old }
         ensures fits { IfOk result (λ heard. FitsRoom heard room.new) }
         ensures said { Happens (λ first events.
-            HasServed (wire_of (R.remaining (source_of first)) (W.contents (sink_of first))) events
-            (wire_of (R.remaining (source_of self.old)) (W.contents (sink_of self.old))))
+            HasServed (wire_of R.remaining R.failures W.contents W.failures first) events
+            (wire_of R.remaining R.failures W.contents W.failures self.old))
             (λ first events. HasServed
-            (wire_of (R.remaining (source_of first)) (W.contents (sink_of first))) events
-            (wire_of (R.remaining (source_of self.new)) (W.contents (sink_of self.new))))
+            (wire_of R.remaining R.failures W.contents W.failures first) events
+            (wire_of R.remaining R.failures W.contents W.failures self.new))
             (came (arrival_of result room.new) ∷ []) }
-        ensures moved { Moves (wire_of (R.remaining (source_of self.old))
-            (W.contents (sink_of self.old))) (came (arrival_of result room.new))
-            (wire_of (R.remaining (source_of self.new)) (W.contents (sink_of self.new))) }
+        ensures moved { Moves (wire_of R.remaining R.failures W.contents W.failures self.old)
+            (came (arrival_of result room.new))
+            (wire_of R.remaining R.failures W.contents W.failures self.new) }
         ensures failed { IfErr result (λ fault. error_kind fault ≢ ErrorKind.UnexpectedEof) }
     {
         over_at_end(read_block(&mut self.source, room))
@@ -103,15 +105,15 @@ impl<R: Source, W: Sink> CardLine for StreamLine<R, W> {
 
     fn say(&mut self, block: &[u8]) -> io::Result<()>
         ensures said { Happens (λ first events.
-            HasServed (wire_of (R.remaining (source_of first)) (W.contents (sink_of first))) events
-            (wire_of (R.remaining (source_of self.old)) (W.contents (sink_of self.old))))
+            HasServed (wire_of R.remaining R.failures W.contents W.failures first) events
+            (wire_of R.remaining R.failures W.contents W.failures self.old))
             (λ first events. HasServed
-            (wire_of (R.remaining (source_of first)) (W.contents (sink_of first))) events
-            (wire_of (R.remaining (source_of self.new)) (W.contents (sink_of self.new))))
+            (wire_of R.remaining R.failures W.contents W.failures first) events
+            (wire_of R.remaining R.failures W.contents W.failures self.new))
             (sending block.now result ∷ []) }
-        ensures moved { Moves (wire_of (R.remaining (source_of self.old))
-            (W.contents (sink_of self.old))) (sending block.now result)
-            (wire_of (R.remaining (source_of self.new)) (W.contents (sink_of self.new))) }
+        ensures moved { Moves (wire_of R.remaining R.failures W.contents W.failures self.old)
+            (sending block.now result)
+            (wire_of R.remaining R.failures W.contents W.failures self.new) }
         ensures failed { IfErr result (λ fault. error_kind fault ≡ ErrorKind.WriteZero) }
     {
         write_block(&mut self.sink, block)
@@ -125,6 +127,9 @@ fn write_block<W: Sink>(sink: &mut W, block: &[u8]) -> io::Result<()>
         × Appends (W.contents sink.old) (W.contents sink.new) (take count block.now)) }
     ensures failed { IfErr result (λ fault. error_kind fault ≡ ErrorKind.WriteZero) }
     ensures cause { IfErr result (λ _. HasFailed (W.failures sink.old) (W.failures sink.new)) }
+    ensures none_failed { OnOk result (W.failures sink.new ≡ W.failures sink.old) }
+    ensures failed_once { IfErr result
+        (λ _. W.failures sink.new ≡ next_count (W.failures sink.old)) }
 {
     match write_octets(sink, block) {
         Ok(()) => Ok(()),
@@ -145,6 +150,9 @@ fn over_at_end(read: io::Result<Heard>) -> io::Result<Heard>
         → result ≡ Ok Heard.Nothing) }
     ensures failed { IfErr result (λ fault. (read ≡ Err fault)
         × (error_kind fault ≢ ErrorKind.UnexpectedEof)) }
+    ensures told { (room : List ℕ) (before after : ℕ) (left : Option (List ℕ))
+        → IsTold (arrival_of read room) before after left
+        → IsHeard (arrival_of result room) before after left }
 {
     match read {
         Ok(heard) => Ok(heard),
@@ -169,6 +177,8 @@ fn read_block<R: Source>(source: &mut R, room: &mut [u8]) -> io::Result<Heard>
         → HasFailed (R.failures source.old) (R.failures source.new) }
     ensures once { IsWholeBlock (came_of (arrival_of result room.new))
         → R.failures source.new ≡ R.failures source.old }
+    ensures told { IsTold (arrival_of result room.new) (R.failures source.old)
+        (R.failures source.new) (R.remaining source.new) }
 {
     let mut count = 0;
     while count < end_of(&room[..count]) {
@@ -211,6 +221,7 @@ fn broken_off(count: usize, fault: io::Error) -> io::Result<Heard>
         → result ≡ Ok Heard.Nothing }
     ensures failed { count ≡ 0 → error_kind fault ≢ ErrorKind.TimedOut
         → error_kind fault ≢ ErrorKind.WouldBlock → result ≡ Err fault }
+    ensures broken { IsBrokenOff count fault result }
 {
     if count > 0 {
         return Ok(Heard::Octets(count));

@@ -412,7 +412,11 @@ fn faults_are_printed(rt: HostRuntime) {
     assert!(rt; shows(alloc, &ExchangeFault::GivenUp, "GivenUp"));
     assert!(rt; shows(alloc, &ExchangeFault::Dead, "Dead"));
     assert!(rt; shows(alloc, &ExchangeFault::UsedUp, "UsedUp"));
+    let failed = ExchangeFault::Line(ErrorKind::BrokenPipe.into());
+    assert!(rt; shows(alloc, &failed, "Line: broken pipe"));
     let order = ServeFault::Refused(CardFault::Order);
     assert!(rt; shows(alloc, &order, "Refused: Order"));
     assert!(rt; shows(alloc, &ServeFault::UsedUp, "UsedUp"));
+    let failed = ServeFault::Line(ErrorKind::TimedOut.into());
+    assert!(rt; shows(alloc, &failed, "Line: timed out"));
 }

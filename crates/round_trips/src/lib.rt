@@ -5,9 +5,11 @@
 #![tactic(auto)]
 
 pub mod again;
+pub mod ends;
 pub mod pieces;
 #[cfg(test)]
 mod tests;
 
 pub use again::{atr_again, block_again, command_again, dol_again, forest_again, response_again};
+pub use ends::{acted_on_once, exchanged_over_streams};
 pub use pieces::{command_in_two_pieces, response_in_two_pieces};

@@ -1,14 +1,16 @@
 //! Each round trip once with ample memory.
 
 use crate::{
-    atr_again, block_again, command_again, command_in_two_pieces, dol_again, forest_again,
-    response_again, response_in_two_pieces,
+    acted_on_once, atr_again, block_again, command_again, command_in_two_pieces, dol_again,
+    exchanged_over_streams, forest_again, response_again, response_in_two_pieces,
 };
 use apdu_core::{Body, Command, Response};
-use atr_core::Atr;
+use atr_core::{Atr, T1Params};
 use block_core::{Block, Number};
-use octet_core::{Octets, octets_of};
+use line_core::StreamLine;
+use octet_core::{After, Counted, Feeder, Octets, Taker, octets_of};
 use std::test::Fail;
+use t1_core::Terminal;
 use tlv_core::{Dol, LARGEST_FOREST};
 
 /// SELECT with a name of seven octets.
@@ -84,5 +86,21 @@ fn a_response_in_two_pieces_arrives(rt: HostRuntime) -> Result<(), Fail> {
         let arrived = response_in_two_pieces(rt.alloc(), &response, 254, Number::Zero, cut)?;
         assert!(rt; arrived == response);
     }
+    Ok(())
+}
+
+#[test]
+fn a_command_over_a_line(rt: HostRuntime) -> Result<(), Fail> {
+    let params = T1Params::new(32, 4, 5).ok_or("parameters")?;
+    let mut terminal = Terminal::new(rt.alloc(), params)?;
+    let command = Command::new([0x00, 0xA4, 0x04, 0x00], Body::ShortLe { le: 256 })?;
+    let mut buffer = [0; 5];
+    let block = [0x00, 0x00, 0x02, 0x90, 0x00, 0x92];
+    let source = Counted::new(Feeder::new(&block, 6, After::Repeats));
+    let mut line = StreamLine::new(source, Counted::new(Taker::new(64, 64, After::End)));
+    let first = exchanged_over_streams(&mut terminal, &mut line, &command, &mut buffer, 1);
+    assert!(rt; first.is_ok() && terminal.answer() == Some(&[0x90, 0x00]));
+    let again = acted_on_once(&mut terminal, params, &mut line, &command, &mut buffer, 1);
+    assert!(rt; again.is_ok() && terminal.answer() == Some(&[0x90, 0x00]));
     Ok(())
 }

@@ -10,8 +10,8 @@ returns-in-Ok g c =
 
 pub returns-in-Err : goal.returns-in-Err
 returns-in-Err g c =
-    ends-failed _ _ (g.L.Line.said c.talk.new.self) c.loop.counter most_resynchs (omega arith) c.in-Err.ensures.said
-    c.loop.invariant.asked
+    ends-failed _ _ (g.L.Line.said c.talk.new.self) c.loop.counter most_resynchs c.in-Err.fault (omega arith)
+    c.in-Err.ensures.said c.loop.invariant.asked
 
 pub loop-preserved : goal.loop-preserved
 loop-preserved g c = record {

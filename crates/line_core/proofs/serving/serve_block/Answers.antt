@@ -1,7 +1,6 @@
-use Rattle.std.proofs.Common.{take, refl}
+use Rattle.std.proofs.Common.{take}
 use Rattle.std.proofs.lemmas.Result.{err_from_is_err_and}
 use Rattle.line_core.proofs.Rounds.{answers-block, fails-to-say, refuses, hears-nothing, fails-to-hear}
-use Rattle.line_core.specs.declared.serving.ServeFault.TheVariants.{Line}
 use Rattle.line_core.proofs.serving.serve_block.Goals as goal
 
 pub returns-in_err-count-in-Ok-Octets : goal.returns-in_err-count-in-Ok-Octets
@@ -27,7 +26,7 @@ returns-in-Err-say g c =
     fails-to-say (g.L.CardLine.said c.args.line.now) (g.L.CardLine.said c.hear.new.self)
     (g.L.CardLine.said c.say.new.self) (g.H.Host.served c.args.host.now) (g.H.Host.served c.answer_block.new.host)
     c.args.card.now c.answer_block.new.card (take c.in-Ok-Octets.count c.hear.new.room) c.answer_block.new.out
-    c.in_ok-count-in-Ok-Octets.count (Line c.in-Err-say.fault) refl heard c.in-Err-say.ensures
+    c.in_ok-count-in-Ok-Octets.count c.in-Err-say.fault heard c.in-Err-say.ensures
     c.in_ok-count-in-Ok-Octets.ensures.answer
 
 pub returns-in-Ok-Nothing : goal.returns-in-Ok-Nothing
@@ -36,4 +35,4 @@ returns-in-Ok-Nothing g c = hears-nothing (g.L.CardLine.said c.args.line.now) (g
 
 pub returns-in-Err : goal.returns-in-Err
 returns-in-Err g c = fails-to-hear (g.L.CardLine.said c.args.line.now) (g.L.CardLine.said c.hear.new.self)
-    (g.H.Host.served c.args.host.now) c.args.card.now (Line c.in-Err.fault) refl c.in-Err.ensures.said
+    (g.H.Host.served c.args.host.now) c.args.card.now c.in-Err.fault c.in-Err.ensures.said
