@@ -531,8 +531,8 @@ SCARD_MUST_USE
 struct scard_verdict scard_card_open(struct scard_handle *handle, uint8_t ifsc, uint8_t bwi, uint8_t cwi);
 
 /*
- * Frees what the handle holds, and leaves it empty. An empty handle is fine. The buffers of an end are overwritten
- * before their memory is given back.
+ * Frees what the handle holds, and leaves it empty. An empty handle is fine. The buffers of an end, and the message of
+ * a receiver of chains, are overwritten before their memory is given back.
  */
 void scard_close(struct scard_handle *handle);
 

@@ -35,7 +35,9 @@ def owner_of(lines, first, indent):
     """What the checker calls the impl that a function is in, as `Stop`, `StopDisplay` or `RefusedFromStop`."""
     heads = (OWNER.match(lines[it]) for it in range(first, -1, -1) if indent and not lines[it].startswith(" " * indent))
     head = next((it for it in heads if it), None)
-    return f"{head['name']}{head['trait'] or ''}{head['of'] or ''}" if head else ""
+    # The checker calls the function of an `impl Drop` by the type alone.
+    trait = "" if not head or head["trait"] == "Drop" else head["trait"] or ""
+    return f"{head['name']}{trait}{head['of'] or ''}" if head else ""
 
 
 def read_edit(path, folder):

@@ -5,7 +5,7 @@
 //! of the blocks in a row; `specs/Cut.antt` says how a message is cut into fields. `cut` and `write_chain`
 //! make chains, a `Receiver` takes one in pieces and joins its message, `ReceiverPlaces` join it in a buffer that
 //! their caller lends, `read_chain` feeds a receiver from a source, and `laws` says what holds of the grammar
-//! alone.
+//! alone. A `Wiped` has octets of a message in memory of their own, which is overwritten before it is given back.
 #![tactic(auto)]
 
 pub mod blocks;
@@ -17,6 +17,7 @@ pub mod places;
 pub mod reading;
 pub mod reason;
 pub mod receiver;
+pub mod wiped;
 pub mod writing;
 
 pub use blocks::{Cut, block_at};
@@ -27,4 +28,5 @@ pub use places::ReceiverPlaces;
 pub use reading::{ReadRefusal, read_chain};
 pub use reason::ChainReason;
 pub use receiver::{LONGEST_MESSAGE, MOST_BLOCKS, Receiver};
+pub use wiped::{Wiped, overwrite};
 pub use writing::write_chain;

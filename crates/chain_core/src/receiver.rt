@@ -11,6 +11,7 @@ ghost use Rattle.chain_core.specs.Receiving.{Goes};
 
 use crate::places::ReceiverPlaces;
 use crate::reason::ChainReason;
+use crate::wiped::Wiped;
 use block_core::Number;
 use octet_core::Stop;
 use std::alloc::{AllocError, Global};
@@ -25,24 +26,25 @@ pub const LONGEST_MESSAGE: usize = 131_072;
 
 /// A receiver of one chain (ISO/IEC 7816-3, clause 11.6) whose octets come in pieces. It joins the fields
 /// of the blocks to the message, for which `new` reserves memory once; no later call takes any. It judges
-/// octets as [`ReceiverPlaces`] do, which it keeps beside a message of its own.
+/// octets as [`ReceiverPlaces`] do, which it keeps beside a message of its own. Where it is restarted or dropped, the
+/// octets of that message are overwritten.
 #[derive(Drop)]
 pub struct Receiver {
     places: ReceiverPlaces,
     /// The message so far, and then what came of the field under way.
-    message: Vec<u8>,
+    message: Wiped,
 }
 
 impl Model for Receiver {
-    ghost use Rattle.std.specs.Vec.{vec_capacity};
     ghost use Rattle.chain_core.specs.Taking.{Taking};
     ghost use Rattle.chain_core.specs.Places.{received_at, IsReceiver};
+    ghost use Rattle.chain_core.specs.Wiped.{held_in, room_in};
 
     ghost Value = { Taking };
 
-    ghost view = { λ r. received_at r.places r.message.items };
+    ghost view = { λ r. received_at r.places (held_in r.message) };
 
-    ghost invariant = { λ r. IsReceiver r.places r.message.items (vec_capacity r.message) };
+    ghost invariant = { λ r. IsReceiver r.places (held_in r.message) (room_in r.message) };
 }
 
 impl Receiver {
@@ -55,7 +57,7 @@ impl Receiver {
         requires limit { max ≤ longest_message }
         ensures { IfOk result (λ r. r ≡ nothing_taken ifs number max) }
     {
-        let message = Vec::with_capacity(alloc, max)?;
+        let message = Wiped::with_room(alloc, max)?;
         let places = ReceiverPlaces::begin(ifs, number, max as u32);
         Ok(Receiver { places, message })
     }
@@ -160,7 +162,7 @@ impl Receiver {
             self.places.take_control(self.message.as_slice(), piece[0]);
             return 1;
         }
-        self.message.extend_from_slice(&piece[..run]).unwrap();
+        self.message.append(&piece[..run]);
         self.places.came += run as u8;
         run
     }

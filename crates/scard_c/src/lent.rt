@@ -1,7 +1,7 @@
 //! Both ends of T=1 without an allocator (ISO/IEC 7816-3, clause 11.6): the caller keeps the state, and lends
 //! it and both buffers to each call.
 
-ghost use Rattle.std.specs.Prelude.{◌≡◌, length, IfSome, IfNone};
+ghost use Rattle.std.specs.Prelude.{◌≡◌, length, replicate, IfSome, IfNone};
 ghost use Rattle.atr_core.specs.T1.{IsUsable};
 ghost use Rattle.t1_core.specs.Came.{class_of, quiet};
 ghost use Rattle.t1_core.specs.Terminal.{TerminalState, at_most, terminal_with, transmit, ask_ifs, takes};
@@ -35,6 +35,8 @@ pub extern "C" fn scard_lent_terminal_begin(
     ensures ok { IsUsable (record { ifsc = ifsc; bwi = bwi; cwi = cwi }) → (result ≡ ok_at 0) ×
         IsTerminal state.new command.new answer.new
         (terminal_with (at_most (length command.old) (length answer.old)) ifsc) }
+    ensures overwritten { IsUsable (record { ifsc = ifsc; bwi = bwi; cwi = cwi }) →
+        (command.new ≡ replicate (length command.old) 0) × (answer.new ≡ replicate (length answer.old) 0) }
     ensures argument { (IsUsable (record { ifsc = ifsc; bwi = bwi; cwi = cwi }) → ⊥) →
         (result ≡ wrong_argument 0) ×
         (lent state.new command.new answer.new ≡ lent state.old command.old answer.old) }
@@ -163,6 +165,8 @@ pub extern "C" fn scard_lent_card_begin(
     ensures ok { IsUsable (record { ifsc = ifsc; bwi = bwi; cwi = cwi }) → (result ≡ ok_at 0) ×
         IsCard state.new command.new reply.new
         (card_with (at_most (length command.old) (length reply.old)) ifsc) }
+    ensures overwritten { IsUsable (record { ifsc = ifsc; bwi = bwi; cwi = cwi }) →
+        (command.new ≡ replicate (length command.old) 0) × (reply.new ≡ replicate (length reply.old) 0) }
     ensures argument { (IsUsable (record { ifsc = ifsc; bwi = bwi; cwi = cwi }) → ⊥) →
         (result ≡ wrong_argument 0) ×
         (lent state.new command.new reply.new ≡ lent state.old command.old reply.old) }

@@ -12,11 +12,10 @@ mod readers;
 mod steps;
 mod taking;
 
-use crate::buffers::{buffer, give_back, overwrite};
 use crate::places::CardPlaces;
 use crate::turns::{CardFault, CardTurn};
 use atr_core::T1Params;
-use chain_core::{LONGEST_COMMAND, LONGEST_RESPONSE as LONGEST_ANSWER};
+use chain_core::{LONGEST_COMMAND, LONGEST_RESPONSE as LONGEST_ANSWER, Wiped, overwrite};
 use std::alloc::{AllocError, Global};
 use std::marker::Model;
 
@@ -24,34 +23,23 @@ use std::marker::Model;
 /// call does what `card_turn` says there; a refused call changes nothing (ISO/IEC 7816-3, clause 11.6).
 ///
 /// Where a card is dropped, its buffers are overwritten before their memory is given back.
+#[derive(Drop)]
 pub struct Card {
     places: CardPlaces,
-    command: Vec<u8>,
-    reply: Vec<u8>,
+    command: Wiped,
+    reply: Wiped,
 }
 
 impl Model for Card {
     ghost use Rattle.t1_core.specs.Card.{CardState};
-    ghost use Rattle.std.specs.Prelude.{vec_len};
+    ghost use Rattle.chain_core.specs.Wiped.{held_in, count_in};
     ghost use Rattle.t1_core.specs.CardViews.{card_held, AreCardPlaces};
 
     ghost Value = { CardState };
 
-    ghost view = { λ c. card_held c.places c.command.items c.reply.items };
+    ghost view = { λ c. card_held c.places (held_in c.command) (held_in c.reply) };
 
-    ghost invariant = { λ c. AreCardPlaces c.places (vec_len c.command) (vec_len c.reply) };
-}
-
-impl Drop for Card {
-    fn drop(self) {
-        let Card {
-            places: _,
-            command,
-            reply,
-        } = self;
-        give_back(command);
-        give_back(reply);
-    }
+    ghost invariant = { λ c. AreCardPlaces c.places (count_in c.command) (count_in c.reply) };
 }
 
 impl Card {
@@ -81,12 +69,13 @@ impl Card {
     ) -> Result<Card, AllocError>
         ensures { IfOk result (λ card. card ≡ card_with (at_most command answer) params.ifsc) }
     {
-        let most_command = command.min(LONGEST_COMMAND);
-        let most_reply = answer.min(LONGEST_ANSWER);
+        let command = Wiped::zeros(alloc, command.min(LONGEST_COMMAND))?;
+        let reply = Wiped::zeros(alloc, answer.min(LONGEST_ANSWER))?;
+        let places = CardPlaces::new(params, command.as_slice(), reply.as_slice());
         Ok(Card {
-            places: CardPlaces::new(params, most_command, most_reply),
-            command: buffer(alloc, most_command)?,
-            reply: buffer(alloc, most_reply)?,
+            places,
+            command,
+            reply,
         })
     }
 
@@ -96,10 +85,11 @@ impl Card {
     pub fn reset(&mut self, params: T1Params)
         ensures { self.new ≡ card_with self.old.limits params.ifsc }
     {
-        let (most_command, most_reply) = (self.places.most_command, self.places.most_reply);
         overwrite(self.command.as_mut_slice());
         overwrite(self.reply.as_mut_slice());
-        self.places = CardPlaces::new(params, most_command, most_reply);
+        let command = &self.command.as_slice()[..self.places.most_command];
+        let reply = &self.reply.as_slice()[..self.places.most_reply];
+        self.places = CardPlaces::new(params, command, reply);
     }
 
     /// The command, while the host owes its reply: in its turn, and while the card asks the terminal for

@@ -9,12 +9,11 @@ ghost use Rattle.t1_core.specs.Views.{terminal_held, AreTerminalPlaces};
 ghost use Rattle.t1_core.specs.Card.{card_with};
 ghost use Rattle.t1_core.specs.CardViews.{card_held, AreCardPlaces};
 
-use crate::buffers::overwrite;
 use crate::terminal::FIRST_IFSD;
 use crate::turns::{CardWait, Cut, TerminalWait};
 use atr_core::T1Params;
 use block_core::Number;
-use chain_core::{LONGEST_COMMAND, LONGEST_RESPONSE as LONGEST_ANSWER};
+use chain_core::{LONGEST_COMMAND, LONGEST_RESPONSE as LONGEST_ANSWER, overwrite};
 
 /// The terminal's numbers, sizes and limits, and what it waits in: a whole terminal, where its caller keeps
 /// the two buffers and lends them to each call.
@@ -53,19 +52,19 @@ impl TerminalPlaces {
     {
         overwrite(held);
         overwrite(joined);
-        TerminalPlaces::new(
-            params,
-            held.len().min(LONGEST_COMMAND),
-            joined.len().min(LONGEST_ANSWER),
-        )
+        let command = &held[..held.len().min(LONGEST_COMMAND)];
+        let answer = &joined[..joined.len().min(LONGEST_ANSWER)];
+        TerminalPlaces::new(params, command, answer)
     }
 
-    /// At the start, with empty buffers.
-    pub(crate) fn new(params: T1Params, most_command: usize, most_answer: usize) -> TerminalPlaces
-        ensures seen { (command joined : List ℕ)
-            → terminal_held result command joined
-            ≡ terminal_with (record { command = most_command; answer = most_answer }) params.ifsc }
-        ensures fit { AreTerminalPlaces result most_command most_answer }
+    /// At the start, for messages of at most as many octets as these have room for, which were overwritten.
+    pub(crate) fn new(params: T1Params, command: &[u8], answer: &[u8]) -> TerminalPlaces
+        requires overwritten { (command.now ≡ replicate (length command.now) 0)
+            × (answer.now ≡ replicate (length answer.now) 0) }
+        ensures seen { (held joined : List ℕ)
+            → terminal_held result held joined
+            ≡ terminal_with (record { command = length command.now; answer = length answer.now }) params.ifsc }
+        ensures fit { AreTerminalPlaces result (length command.now) (length answer.now) }
     {
         TerminalPlaces {
             number: Number::Zero,
@@ -76,8 +75,8 @@ impl TerminalPlaces {
             first_ifsc: params.ifsc(),
             wait: TerminalWait::Idle,
             is_answered: false,
-            most_command,
-            most_answer,
+            most_command: command.len(),
+            most_answer: answer.len(),
             command_len: 0,
             joined_len: 0,
         }
@@ -117,18 +116,18 @@ impl CardPlaces {
     {
         overwrite(held);
         overwrite(answer);
-        CardPlaces::new(
-            params,
-            held.len().min(LONGEST_COMMAND),
-            answer.len().min(LONGEST_ANSWER),
-        )
+        let command = &held[..held.len().min(LONGEST_COMMAND)];
+        let reply = &answer[..answer.len().min(LONGEST_ANSWER)];
+        CardPlaces::new(params, command, reply)
     }
 
-    /// At the start, with empty buffers.
-    pub(crate) fn new(params: T1Params, most_command: usize, most_reply: usize) -> CardPlaces
-        ensures seen { (command reply : List ℕ) → card_held result command reply
-            ≡ card_with (record { command = most_command; answer = most_reply }) params.ifsc }
-        ensures fit { AreCardPlaces result most_command most_reply }
+    /// At the start, for messages of at most as many octets as these have room for, which were overwritten.
+    pub(crate) fn new(params: T1Params, command: &[u8], reply: &[u8]) -> CardPlaces
+        requires overwritten { (command.now ≡ replicate (length command.now) 0)
+            × (reply.now ≡ replicate (length reply.now) 0) }
+        ensures seen { (held answer : List ℕ) → card_held result held answer
+            ≡ card_with (record { command = length command.now; answer = length reply.now }) params.ifsc }
+        ensures fit { AreCardPlaces result (length command.now) (length reply.now) }
     {
         CardPlaces {
             number: Number::Zero,
@@ -138,8 +137,8 @@ impl CardPlaces {
             ifsd: FIRST_IFSD,
             first_ifsc: params.ifsc(),
             wait: CardWait::Command,
-            most_command,
-            most_reply,
+            most_command: command.len(),
+            most_reply: reply.len(),
             command_len: 0,
             reply_len: 0,
         }

@@ -10,11 +10,10 @@ mod readers;
 mod steps;
 mod taking;
 
-use crate::buffers::{buffer, give_back, overwrite};
 use crate::places::TerminalPlaces;
 use crate::turns::{TerminalFault, TerminalTurn};
 use atr_core::T1Params;
-use chain_core::{LONGEST_COMMAND, LONGEST_RESPONSE as LONGEST_ANSWER};
+use chain_core::{LONGEST_COMMAND, LONGEST_RESPONSE as LONGEST_ANSWER, Wiped, overwrite};
 use std::alloc::{AllocError, Global};
 use std::marker::Model;
 
@@ -34,34 +33,23 @@ pub const MOST_RESYNCHS: u8 = 3;
 /// call does what `terminal_turn` says there; a refused call changes nothing (ISO/IEC 7816-3, clause 11.6).
 ///
 /// Where a terminal is dropped, its buffers are overwritten before their memory is given back.
+#[derive(Drop)]
 pub struct Terminal {
     places: TerminalPlaces,
-    command: Vec<u8>,
-    joined: Vec<u8>,
+    command: Wiped,
+    joined: Wiped,
 }
 
 impl Model for Terminal {
     ghost use Rattle.t1_core.specs.Terminal.{TerminalState};
-    ghost use Rattle.std.specs.Prelude.{vec_len};
+    ghost use Rattle.chain_core.specs.Wiped.{held_in, count_in};
     ghost use Rattle.t1_core.specs.Views.{terminal_held, AreTerminalPlaces};
 
     ghost Value = { TerminalState };
 
-    ghost view = { λ t. terminal_held t.places t.command.items t.joined.items };
+    ghost view = { λ t. terminal_held t.places (held_in t.command) (held_in t.joined) };
 
-    ghost invariant = { λ t. AreTerminalPlaces t.places (vec_len t.command) (vec_len t.joined) };
-}
-
-impl Drop for Terminal {
-    fn drop(self) {
-        let Terminal {
-            places: _,
-            command,
-            joined,
-        } = self;
-        give_back(command);
-        give_back(joined);
-    }
+    ghost invariant = { λ t. AreTerminalPlaces t.places (count_in t.command) (count_in t.joined) };
 }
 
 impl Terminal {
@@ -92,12 +80,13 @@ impl Terminal {
         ensures { IfOk result (λ terminal.
             terminal ≡ terminal_with (at_most command answer) params.ifsc) }
     {
-        let most_command = command.min(LONGEST_COMMAND);
-        let most_answer = answer.min(LONGEST_ANSWER);
+        let command = Wiped::zeros(alloc, command.min(LONGEST_COMMAND))?;
+        let joined = Wiped::zeros(alloc, answer.min(LONGEST_ANSWER))?;
+        let places = TerminalPlaces::new(params, command.as_slice(), joined.as_slice());
         Ok(Terminal {
-            places: TerminalPlaces::new(params, most_command, most_answer),
-            command: buffer(alloc, most_command)?,
-            joined: buffer(alloc, most_answer)?,
+            places,
+            command,
+            joined,
         })
     }
 
@@ -107,10 +96,11 @@ impl Terminal {
     pub fn reset(&mut self, params: T1Params)
         ensures { self.new ≡ terminal_with self.old.limits params.ifsc }
     {
-        let (most_command, most_answer) = (self.places.most_command, self.places.most_answer);
         overwrite(self.command.as_mut_slice());
         overwrite(self.joined.as_mut_slice());
-        self.places = TerminalPlaces::new(params, most_command, most_answer);
+        let command = &self.command.as_slice()[..self.places.most_command];
+        let joined = &self.joined.as_slice()[..self.places.most_answer];
+        self.places = TerminalPlaces::new(params, command, joined);
     }
 
     /// The answer, from the turn `Answered` on until the next command is taken; else `None`.

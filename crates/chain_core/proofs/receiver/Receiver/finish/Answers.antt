@@ -3,6 +3,7 @@ use Rattle.octet_core.specs.Reader.{IsFinished}
 use Rattle.chain_core.specs.Chain.{IsChain, IsReason}
 use Rattle.chain_core.specs.Taking.{Taking, HasTaken, refusal_of}
 use Rattle.chain_core.specs.Places.{received_at}
+use Rattle.chain_core.specs.Wiped.{held_in}
 use Rattle.chain_core.proofs.Feeds.{ended-finished}
 use Rattle.chain_core.proofs.receiver.Receiver.finish.Goals as goal
 
@@ -14,5 +15,5 @@ returns-clause-finished c =
     let i = c.self.inside in
     subst (λ (s : Taking). IsFinished (IsChain s.ifs s.number s.max) (IsReason s.ifs s.number s.max) HasTaken
     refusal_of s c.ended.result) c.self.view_is
-    (ended-finished (received_at i.places i.message.items) c.ended.result
-    (c.ended.ensures i.message.items (omega (arith, c.self.invariant.exact))) c.self.invariant.taken)
+    (ended-finished (received_at i.places (held_in i.message)) c.ended.result
+    (c.ended.ensures (held_in i.message) (omega (arith, c.self.invariant.exact))) c.self.invariant.taken)

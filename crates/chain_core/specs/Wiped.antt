@@ -1,0 +1,26 @@
+-- Octets in memory that is overwritten before it is given back.
+use Rattle.std.specs.Prelude.{ℕ, List}
+use Rattle.std.specs.Borrow.{Lends, MutBor, Fml, Array, u8}
+use Rattle.std.specs.Vec.{with_items, vec_capacity, vec_len}
+use Rattle.chain_core.specs.declared.wiped.Wiped.{Wiped}
+use Rattle.chain_core.specs.contracts.wiped.Wiped.{the_row}
+
+-- its octets
+abbrev pub held_in : Wiped → List ℕ
+held_in w = w.octets.items
+
+-- and how many they are
+abbrev pub count_in : Wiped → ℕ
+count_in w = vec_len w.octets
+
+-- how many octets its memory has room for
+abbrev pub room_in : Wiped → ℕ
+room_in w = vec_capacity w.octets
+
+-- the same with these octets, as many as before
+abbrev pub with_octets : Wiped → List ℕ → Wiped
+with_octets w octets = record w { octets = with_items w.octets octets }
+
+-- once it is lent, its octets are those that were written
+abbrev pub LendsOctets : MutBor Wiped → MutBor (List ℕ) → Fml
+LendsOctets w r = Lends the_row (Array u8 0) w r (with_octets w.now)
