@@ -12,10 +12,10 @@ use octet_core::{Named, Refused};
 use std::alloc::{AllocError, Global};
 
 /// What a codec makes of octets, or why it makes nothing.
-pub(crate) type Outcome<T, R> = Result<T, Refused<R>>;
+pub type Outcome<T, R> = Result<T, Refused<R>>;
 
 /// The codec of a kind of octets.
-pub(crate) trait Codec {
+pub trait Codec {
     /// Why octets are refused.
     type Reason: Named + Copy;
 

@@ -2,7 +2,7 @@
 //!
 //! `check` says how many octets the value takes that they spell, `show` the value line by line, and both the same of
 //! octets that are refused. A kind is a `Codec`: where its values end, its grammar, its reasons and their names, and the
-//! lines that a value is shown by, in a module of its own. `blocks`, `tidy` and `fill` make what `build` prints. An
+//! lines that a value is shown by, in a module of its own; the crate explainer asks the same codecs. `blocks`, `tidy` and `fill` make what `build` prints. An
 //! `Answer` is a text and how the program then ends. The texts are defined in `specs/`, a file for each kind;
 //! `specs/Verdicts.antt` joins them to the verdict of the grammar.
 #![tactic(auto)]
@@ -11,7 +11,7 @@ pub mod answer;
 mod atr;
 mod block;
 pub mod chain;
-mod codec;
+pub mod codec;
 mod command;
 pub mod forest;
 pub mod kinds;
@@ -22,6 +22,7 @@ mod text;
 
 pub use answer::Answer;
 pub use chain::blocks;
+pub use codec::{Codec, Outcome};
 pub use forest::tidy;
 pub use kinds::{check, show};
 pub use list::fill;

@@ -10,7 +10,7 @@ use Rattle.card_words.specs.declared.request.Request.TheVariants.{CheckLines}
 use Rattle.card_words.specs.declared.fault.Fault.TheVariants.{Memory}
 use Rattle.card_words.specs.Texts.{fault_text}
 use Rattle.card_tool.specs.Answers.{IsReadFrom, IsWritten, Writes}
-use Rattle.card_tool.specs.Explained.{IsRightWith}
+use Rattle.card_tool.specs.Explained.{IsRightWith, silent}
 use Rattle.card_tool.specs.LineAnswers.{WritesLines, answered, wanting}
 use Rattle.card_kinds.specs.declared.status.Status.{Status}
 use Rattle.card_kinds.specs.declared.status.Status.TheVariants as status
@@ -65,6 +65,7 @@ module _ (held : Option (List ℕ)) (count : ℕ) (old new : Option (List ℕ)) 
       text = fault_text Memory;
       note = [];
       is_right = inr (refl, refl, refl);
+      is_noted = inl (inr (refl, refl, refl), silent refl);
       is_whole =
           sym (append-nil (fault_text Memory));
       unasked = λ _. refl;

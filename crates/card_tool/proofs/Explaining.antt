@@ -1,71 +1,210 @@
 -- How an answer becomes one with an explanation.
-use Rattle.std.proofs.Common.{◌≡◌, ◌∙◌, ◌++◌, inr, ℕ, List, [], Option, Result, Ok, Err, true, ap, append-nil, append_assoc, refl, subst, sym}
-use Rattle.std.specs.Result.{MatchResult}
+use Rattle.std.proofs.Common.{◌≡◌, ◌∙◌, ◌⊎◌, ◌++◌, inl, inr, ℕ, List, [], Option, Some, Result, Ok, Err, IfOk, IsOkAnd, String, length, string_bytes, true, ap, append-nil, refl, subst, sym}
+use Rattle.std.specs.declared.alloc.Global.{Global}
 use Rattle.card_words.specs.Explain.{asks_to_explain}
+use Rattle.card_words.specs.Given.{octets_given, IsFromReader}
 use Rattle.card_words.specs.Texts.{fault_text}
-use Rattle.card_words.specs.Words.{IsRead}
+use Rattle.card_words.specs.Words.{IsRead, NeedsFile}
 use Rattle.card_words.specs.declared.fault.Fault.{Fault}
 use Rattle.card_words.specs.declared.fault.Fault.TheVariants.{Memory}
+use Rattle.card_words.specs.declared.given.Given.{Given}
 use Rattle.card_words.specs.declared.request.Request.{Request}
-use Rattle.card_tool.specs.Answers.{Gives, IsRight, IsRightTo}
-use Rattle.card_tool.specs.Explained.{IsExplained, IsRightWith}
+use Rattle.card_tool.specs.Answers.{AnswersTo, Gives, IsAnswerTo, IsRight, IsRightTo, IsToldOf}
+use Rattle.card_tool.specs.Explained.{differs, Fits, GivesExplained, IsAdded, IsExplained, IsDifferenceNote, IsFaulted, IsFaultNote, IsFillNote, IsLineNote, IsNoted, IsNotedFrom, IsNotedTo, IsNoteTo, IsRightWith, on_fault, silent}
+use Rattle.card_tool.specs.Files.{IsTaken, ReadsWhole}
+use Rattle.card_tool.specs.ExchangeTexts.{side_of}
+use Rattle.card_words.specs.declared.request.End.{End}
+use Rattle.exchange_core.specs.Exchange.{ExchangeParts}
+use Rattle.exchange_core.specs.Replay.{Replays}
+use Rattle.exchange_core.specs.declared.replaying.Side.{Side}
+use Rattle.explainer.specs.Notes.{line_note, IsNoteBy}
+use Rattle.card_kinds.specs.ListTexts.{list_codec}
+use Rattle.tlv_core.specs.declared.known.Known.{Known}
+use Rattle.octet_core.proofs.Lists.{nil_of}
 use Rattle.card_kinds.specs.declared.answer.Answer.{Answer}
 use Rattle.card_kinds.specs.declared.status.Status.{Status}
 use Rattle.card_kinds.specs.declared.status.Status.TheVariants as status
 use Rattle.card_tool.proofs.Answering.{right}
-
-module _ (Right : List ℕ → Status → Type 0) where
-  -- a text without a note
-  pub plain : (text : List ℕ) (ended : Status) → Right text ended → IsExplained Right text ended
-  plain text ended h = record { text = text; note = []; is_right = h; is_whole = sym (append-nil text) }
-
-  -- an answer with a note after its text
-  pub with-note : (answer after : Answer) (note : List ℕ) → Right answer.text answer.status → after.text ≡ answer.text
-      ++ note → after.status ≡ answer.status → IsExplained Right after.text after.status
-  with-note answer after note h text ended =
-      record { text = answer.text; note = note; is_right = subst (Right answer.text) (sym ended) h; is_whole = text }
-
-  -- a note after the line of a fault
-  pub with-fault : (fault : Fault) (r : Result Answer Fault) → IsExplained Right (fault_text fault) status.Fault
-      → MatchResult r (λ answer. (note : List ℕ) × (answer.text ≡ fault_text fault ++ note)
-      × (answer.status ≡ status.Fault)) (λ same. same ≡ fault) → Gives (IsExplained Right) r
-  with-fault fault (Ok answer) h told = record {
-    text = h.text;
-    note = h.note ++ told.0;
-    is_right = subst (Right h.text) (sym told.2) h.is_right;
-    is_whole = told.1 ∙ ap (λ (l : List ℕ). l ++ told.0) h.is_whole ∙ append_assoc h.text h.note told.0;
-  }
-  with-fault fault (Err other) h same = subst (λ (f : Fault). IsExplained Right (fault_text f) status.Fault) (sym same)
-      h
 
 -- memory was wanting before anything was read
 pub wanting : (request : Request) (held : Option (List ℕ)) (count : ℕ)
     → IsRightTo request held held count count (fault_text Memory) status.Fault
 wanting request held count = inr (refl, refl, refl)
 
--- what is right of a request is right of the words
-pub explained-words : (words : List (List ℕ)) (held left : Option (List ℕ)) (before after : ℕ) (request : Request)
-    (r : Result Answer Fault) → IsRead words (Ok request)
-    → Gives (IsExplained (IsRightTo request held left before after)) r
-    → Gives (IsExplained (IsRight words held left before after)) r
-explained-words words held left before after request (Ok answer) read h =
-    record {
-      text = h.text;
-      note = h.note;
-      is_right =
-          right words held left before after request h.text answer.status read h.is_right;
-      is_whole = h.is_whole;
-    }
-explained-words words held left before after request (Err fault) read h =
-    record {
-      text = h.text;
-      note = h.note;
-      is_right =
-          right words held left before after request h.text status.Fault read h.is_right;
-      is_whole = h.is_whole;
-    }
+-- a text that shows a line is the note on it
+pub on-line : {E : Type 0} (r : Result (String Global) E) (number : ℕ) (line what : List ℕ)
+    → IfOk r (λ text. string_bytes text ≡ line_note number line what)
+    → IfOk r (λ text. IsLineNote number (string_bytes text))
+on-line (Ok text) number line what h = (line, what, h)
+on-line (Err e) number line what h = tt
+
+-- and where an end does the line otherwise, it is the note on the exchange
+pub on-difference : {E : Type 0} (r : Result (String Global) E) (e : ExchangeParts) (end : End) (which : Side)
+    (line : ℕ) (gives : List ℕ) → which ≡ side_of end → Replays e.atr e.lines which (Some (line, gives))
+    → IfOk r (λ text. IsLineNote line (string_bytes text))
+    → IfOk r (λ text. IsDifferenceNote e (side_of end) (string_bytes text))
+on-difference (Ok text) e end which line gives same replays h =
+    differs line gives (subst (λ (s : Side). Replays e.atr e.lines s (Some (line, gives))) same replays) h
+on-difference (Err fault) e end which line gives same replays h = tt
+
+-- where there is no note on a list, it is one on a known value
+pub on-known : {E : Type 0} (r : Result (String Global) E) (list : List ℕ) (known : Result (List Known) Fault)
+    (silence : List ℕ) → length silence ≡ 0 → IsNoteBy list_codec list silence → IfOk known (λ values. ⊥)
+    → IfOk r (λ text. IsFillNote list known (string_bytes text))
+on-known (Ok text) list known silence none h faults =
+    inr (subst (IsNoteBy list_codec list) (nil_of silence none) h, faults)
+on-known (Err e) list known silence none h faults = tt
+
+-- a note of which nothing is said
+pub open-note : {E : Type 0} (note : Result (String Global) E) → IfOk note (λ text. Unit {0})
+open-note (Ok text) = tt
+open-note (Err e) = tt
+
+fits-fault : {E : Type 0} (fault : Fault) (note : Result (String Global) E) (added : List ℕ)
+    → IfOk note (λ text. IsFaultNote fault (string_bytes text)) → IsAdded note added → Fits (fault_text fault) added
+fits-fault fault note added h (inl none) = silent none
+fits-fault fault (Ok own) added h (inr is) = on_fault fault refl (subst (IsFaultNote fault) (sym is) h)
+fits-fault fault (Err e) added h (inr is) = absurd is
+
+-- the line of a fault with a note after it
+pub faulted : {E : Type 0} (fault : Fault) (answer told : Answer) (note : Result (String Global) E) (added : List ℕ)
+    → answer.text ≡ fault_text fault → answer.status ≡ status.Fault
+    → IfOk note (λ text. IsFaultNote fault (string_bytes text)) → told.text ≡ answer.text ++ added
+    → IsAdded note added → told.status ≡ answer.status → IsFaulted fault (Ok told)
+faulted fault answer told note added is faults h text adds ended =
+    (ended ∙ faults, added, text ∙ ap (λ (l : List ℕ). l ++ added) is, fits-fault fault note added h adds)
+
+module _ (request : Request) (held left : Option (List ℕ)) (before after : ℕ) where
+  -- an answer with no note
+  pub plain : (text : List ℕ) (ended : Status) → IsRightTo request held left before after text ended
+      → IsExplained (IsNotedTo request held left before after) text ended
+  plain text ended h =
+      record { text = text; note = []; is_noted = inl (h, silent refl); is_whole = sym (append-nil text) }
+
+  -- what a call answers that explains nothing
+  pub unexplained : (r : Result Answer Fault) → AnswersTo request held left before after r
+      → GivesExplained (IsRightTo request held left before after) (IsNotedTo request held left before after) r
+  unexplained (Ok answer) h = plain answer.text answer.status h
+  unexplained (Err fault) h = h
+
+  -- a note on what was given, or nothing in its place
+  pub with-note : {E : Type 0} (answer told : Answer) (note : Result (String Global) E) (added : List ℕ)
+      (file : Result (List ℕ) Fault) → (NeedsFile request → ReadsWhole held left before after file)
+      → IsAnswerTo request file answer.text answer.status
+      → IfOk note (λ text. IsNoteTo request file (string_bytes text)) → told.text ≡ answer.text ++ added
+      → IsAdded note added → told.status ≡ answer.status
+      → IsExplained (IsNotedTo request held left before after) told.text told.status
+  with-note answer told note added file is_file h fits text (inl none) ended = record {
+    text = answer.text;
+    note = added;
+    is_noted = inl (
+      inl (record {
+        file = file;
+        is_file = is_file;
+        is_answer = subst (IsAnswerTo request file answer.text) (sym ended) h;
+      }),
+      silent none,
+    );
+    is_whole = text;
+  }
+  with-note answer told (Ok own) added file is_file h fits text (inr is) ended = record {
+    text = answer.text;
+    note = added;
+    is_noted = inr (record {
+      file = file;
+      is_file = is_file;
+      is_answer = subst (IsAnswerTo request file answer.text) (sym ended) h;
+      is_note = subst (IsNoteTo request file) (sym is) fits;
+    });
+    is_whole = text;
+  }
+  with-note answer told (Err e) added file is_file h fits text (inr is) ended = absurd is
+
+-- a request that tells of the octets that are given, and has a note on them
+module _ (request : Request) (given : Given) (Told : List ℕ → List ℕ → Status → Type 0)
+    (Note : List ℕ → List ℕ → Type 0)
+    (held left : Option (List ℕ)) (before after : ℕ) (need : NeedsFile request → IsFromReader given)
+    (answers : (file : Result (List ℕ) Fault) (text : List ℕ) (ended : Status)
+    → IsToldOf Told (octets_given given file) text ended → IsAnswerTo request file text ended)
+    (notes : (file : Result (List ℕ) Fault) (note : List ℕ)
+    → IsOkAnd (octets_given given file) (λ b. Note b note) → IsNoteTo request file note) where
+  on-given : {E : Type 0} (note : Result (String Global) E) (file : Result (List ℕ) Fault) (octets : List ℕ)
+      → Ok octets ≡ octets_given given file → IfOk note (λ text. Note octets (string_bytes text))
+      → IfOk note (λ text. IsNoteTo request file (string_bytes text))
+  on-given (Ok text) file octets same h = notes file (string_bytes text)
+      (subst (λ (r : Result (List ℕ) Fault). IsOkAnd r (λ b. Note b (string_bytes text))) same h)
+  on-given (Err e) file octets same h = tt
+
+  pub noted-given : {E : Type 0} (octets : List ℕ) → IsTaken given held left before after (Ok octets)
+      → (answer told : Answer) (note : Result (String Global) E) (added : List ℕ)
+      → Told octets answer.text answer.status → IfOk note (λ text. Note octets (string_bytes text))
+      → told.text ≡ answer.text ++ added → IsAdded note added → told.status ≡ answer.status
+      → IsExplained (IsNotedTo request held left before after) told.text told.status
+  noted-given octets had answer told note added h fits text is ended =
+      elim had.is_taken [
+        | inl same ↦
+            with-note request held left before after answer told note added had.file
+            (λ asked. had.is_file (need asked))
+            (answers had.file answer.text answer.status
+            (subst (λ (r : Result (List ℕ) Fault). IsToldOf Told r answer.text answer.status) same h))
+            (on-given note had.file octets same fits) text is ended
+        | inr memory ↦ absurd (cc memory.0)
+      ]
 
 module _ (words : List (List ℕ)) (held left : Option (List ℕ)) (before after : ℕ) where
+  noted-words : (request : Request) (text note : List ℕ) (ended : Status) → IsRead words (Ok request)
+      → IsNotedTo request held left before after text note ended → IsNoted words held left before after text note ended
+  noted-words request text note ended read (inl to) =
+      inl (right words held left before after request text ended read to.0, to.1)
+  noted-words request text note ended read (inr from) = inr (request, read, from)
+
+  -- what is right of a request is right of the words
+  pub explained-words : (request : Request) (r : Result Answer Fault) → IsRead words (Ok request)
+      → GivesExplained (IsRightTo request held left before after) (IsNotedTo request held left before after) r
+      → GivesExplained (IsRight words held left before after) (IsNoted words held left before after) r
+  explained-words request (Ok answer) read h = record {
+    text = h.text;
+    note = h.note;
+    is_noted = noted-words request h.text h.note answer.status read h.is_noted;
+    is_whole = h.is_whole;
+  }
+  explained-words request (Err fault) read h =
+      right words held left before after request (fault_text fault) status.Fault read h
+
+  -- a note after the line of a fault
+  pub with-fault : (fault : Fault) (r : Result Answer Fault)
+      → IsRight words held left before after (fault_text fault) status.Fault → IsFaulted fault r
+      → GivesExplained (IsRight words held left before after) (IsNoted words held left before after) r
+  with-fault fault (Ok answer) h told = record {
+    text = fault_text fault;
+    note = told.1;
+    is_noted = inl (subst (IsRight words held left before after (fault_text fault)) (sym told.0) h, told.3);
+    is_whole = told.2;
+  }
+  with-fault fault (Err other) h same =
+      subst (λ (f : Fault). IsRight words held left before after (fault_text f) status.Fault) (sym same) h
+
+  right-noted : (text note : List ℕ) (ended : Status) → IsNoted words held left before after text note ended
+      → IsRight words held left before after text ended
+  right-noted text note ended (inl to) = to.0
+  right-noted text note ended (inr from) = right words held left before after from.0 text ended from.1 (inl (record {
+    file = from.2.file;
+    is_file = from.2.is_file;
+    is_answer = from.2.is_answer;
+  }))
+
+  -- the line of a fault with no note
+  pub unasked-fault : (fault : Fault) → IsRight words held left before after (fault_text fault) status.Fault
+      → IsRightWith words held left before after (fault_text fault) status.Fault
+  unasked-fault fault h = record {
+    text = fault_text fault;
+    note = [];
+    is_right = h;
+    is_noted = inl (h, silent refl);
+    is_whole = sym (append-nil (fault_text fault));
+    unasked = λ _. refl;
+  }
+
   -- words that ask for no explanation
   pub unasked : (r : Result Answer Fault) → Gives (IsRight words held left before after) r
       → Gives (IsRightWith words held left before after) r
@@ -73,48 +212,22 @@ module _ (words : List (List ℕ)) (held left : Option (List ℕ)) (before after
     text = answer.text;
     note = [];
     is_right = h;
-    is_whole =
-        sym (append-nil answer.text);
+    is_noted = inl (h, silent refl);
+    is_whole = sym (append-nil answer.text);
     unasked = λ _. refl;
   }
-  unasked (Err fault) h = record {
-    text = fault_text fault;
-    note = [];
-    is_right = h;
-    is_whole =
-        sym (append-nil (fault_text fault));
-    unasked = λ _. refl;
-  }
-
-  -- and the line of a fault, with none
-  pub unasked-fault : (fault : Fault) → IsRight words held left before after (fault_text fault) status.Fault
-      → IsRightWith words held left before after (fault_text fault) status.Fault
-  unasked-fault fault h = record {
-    text = fault_text fault;
-    note = [];
-    is_right = h;
-    is_whole =
-        sym (append-nil (fault_text fault));
-    unasked = λ _. refl;
-  }
+  unasked (Err fault) h = unasked-fault fault h
 
   -- words that ask for one
   pub asked : (r : Result Answer Fault) → (asks_to_explain words ≡ true)
-      → Gives (IsExplained (IsRight words held left before after)) r
+      → GivesExplained (IsRight words held left before after) (IsNoted words held left before after) r
       → Gives (IsRightWith words held left before after) r
   asked (Ok answer) ask h = record {
     text = h.text;
     note = h.note;
-    is_right = h.is_right;
-    is_whole =
-        h.is_whole;
-    unasked = λ silent. absurd (cc (ask, silent));
+    is_right = right-noted h.text h.note answer.status h.is_noted;
+    is_noted = h.is_noted;
+    is_whole = h.is_whole;
+    unasked = λ quiet. absurd (cc (ask, quiet));
   }
-  asked (Err fault) ask h = record {
-    text = h.text;
-    note = h.note;
-    is_right = h.is_right;
-    is_whole =
-        h.is_whole;
-    unasked = λ silent. absurd (cc (ask, silent));
-  }
+  asked (Err fault) ask h = unasked-fault fault h

@@ -1,15 +1,143 @@
 -- The text that words have where they ask for an explanation.
-use Rattle.std.specs.Prelude.{◌≡◌, ◌++◌, ℕ, List, [], Option, false}
-use Rattle.card_tool.specs.Answers.{IsRight}
-use Rattle.card_kinds.specs.declared.status.Status.{Status}
+--
+-- held and left are the octets that the reader held before and after, where they are known; before and after are the
+-- counts of its calls that failed.
+use Rattle.std.specs.Prelude.{◌≡◌, ◌⊎◌, ◌++◌, ℕ, List, [], Option, Some, None, Result, Ok, Err, IfOk, IsOkAnd, MatchResult, String, string_bytes, false}
+use Rattle.std.specs.declared.alloc.Global.{Global}
 use Rattle.card_words.specs.Explain.{asks_to_explain}
+use Rattle.card_words.specs.Given.{octets_given}
+use Rattle.card_words.specs.Texts.{fault_text}
+use Rattle.card_words.specs.Words.{IsRead, NeedsFile}
+use Rattle.card_words.specs.declared.fault.Fault.{Fault}
+use Rattle.card_words.specs.declared.fault.Fault.TheVariants as fault
+use Rattle.card_words.specs.declared.request.End.{End}
+use Rattle.card_words.specs.declared.request.Request.{Request}
+use Rattle.card_words.specs.declared.request.Request.TheVariants.{BuildTidy, BuildFill, Check, Show, Replay, Migrate, Simulate}
+use Rattle.card_kinds.specs.ForestTexts.{forest_codec}
+use Rattle.card_kinds.specs.ListTexts.{list_codec}
+use Rattle.card_kinds.specs.declared.answer.Answer.{Answer}
+use Rattle.card_kinds.specs.declared.status.Status.{Status}
+use Rattle.card_kinds.specs.declared.status.Status.TheVariants as status
+use Rattle.exchange_core.specs.Exchange.{ExchangeParts}
+use Rattle.exchange_core.specs.Reading.{exchange_said}
+use Rattle.exchange_core.specs.Replay as replay
+use Rattle.exchange_core.specs.declared.fault.ExchangeFault.{ExchangeFault}
+use Rattle.exchange_core.specs.declared.fault.ExchangeFault.TheVariants.{Header, End as EndAt, Word, Hex, Falls, Memory}
+use Rattle.exchange_core.specs.declared.replaying.Side.{Side}
+use Rattle.tlv_core.specs.declared.known.Known.{Known}
+use Rattle.explainer.specs.Notes.{IsKindNote, IsNoteBy, large_note, line_note}
+use Rattle.card_tool.specs.Answers.{IsAnswerTo, IsRight, IsRightTo}
+use Rattle.card_tool.specs.ExchangeTexts.{side_of}
+use Rattle.card_tool.specs.Files.{largest_file, ReadsWhole}
 
--- a text that is right without an explanation, and after it one; the status is that text's
-pub record IsExplained (Right : List ℕ → Status → Type 0) (whole : List ℕ) (ended : Status) : Type 0 where
+-- ---- notes on files
+
+-- the line that a fault of a file is in
+abbrev pub line_of : ExchangeFault → ℕ
+line_of Header = 1
+line_of (EndAt line) = line
+line_of (Word line) = line
+line_of (Hex line) = line
+line_of (Falls line) = line
+line_of Memory = 0
+
+-- A note that shows the line with this number. What of its text is shown, and what is said of it, is open.
+abbrev pub IsLineNote : ℕ → List ℕ → Type 0
+IsLineNote number note = (shown : List ℕ) × (what : List ℕ) × (note ≡ line_note number shown what)
+
+-- the note on a text that is to be a file: on the line with its first fault
+abbrev pub IsFileNote : List ℕ → List ℕ → Type 0
+IsFileNote text note = MatchResult (exchange_said text) (λ e. note ≡ []) (λ fault. IsLineNote (line_of fault) note)
+
+-- the note on an exchange that is replayed: on the first line that the end does otherwise
+pub data IsDifferenceNote (e : ExchangeParts) (which : Side) (note : List ℕ) : Type 0 where
+  agrees : replay.Replays e.atr e.lines which None → note ≡ [] → IsDifferenceNote e which note
+  differs : (line : ℕ) (gives : List ℕ) → replay.Replays e.atr e.lines which (Some (line, gives))
+      → IsLineNote line note → IsDifferenceNote e which note
+
+-- the same of a text that is to be a file
+abbrev pub IsReplayNote : End → List ℕ → List ℕ → Type 0
+IsReplayNote end text note = MatchResult (exchange_said text) (λ e. IsDifferenceNote e (side_of end) note)
+    (λ fault. IsLineNote (line_of fault) note)
+
+-- ---- notes on what a request is about
+
+-- The note on a list that is to be filled: that on its octets, or where nothing is to be said of them, one on a known
+-- value that is none, which is open.
+abbrev pub IsFillNote : List ℕ → Result (List Known) Fault → List ℕ → Type 0
+IsFillNote list known note =
+    IsNoteBy list_codec list note ⊎ (IsNoteBy list_codec list [] × IfOk known (λ values. ⊥))
+
+-- The note on what a request was given, with what reading standard input gave. That on a session is open.
+abbrev pub IsNoteTo : Request → Result (List ℕ) Fault → List ℕ → Type 0
+IsNoteTo (Check input) file note =
+    IsOkAnd (octets_given input.given file) (λ b. IsKindNote input.expected.kind input.expected b note)
+IsNoteTo (Show input) file note =
+    IsOkAnd (octets_given input.given file) (λ b. IsKindNote input.expected.kind input.expected b note)
+IsNoteTo (BuildTidy given) file note = IsOkAnd (octets_given given file) (λ b. IsNoteBy forest_codec b note)
+IsNoteTo (BuildFill list known) file note = IsFillNote list known note
+IsNoteTo (Replay end) file note = IsOkAnd file (λ text. IsReplayNote end text note)
+IsNoteTo Migrate file note = IsOkAnd file (λ text. IsFileNote text note)
+IsNoteTo (Simulate session) file note = Unit {0}
+IsNoteTo _ file note = ⊥
+
+-- The note on a fault: on octets that are too many, or on words, of which it is open.
+abbrev pub IsFaultNote : Fault → List ℕ → Type 0
+IsFaultNote fault.Words note = Unit {0}
+IsFaultNote fault.Hex note = Unit {0}
+IsFaultNote fault.TooLarge note = note ≡ large_note largest_file
+IsFaultNote _ note = ⊥
+
+-- a note that fits a text whatever was given: none, or that of the fault which the text tells
+pub data Fits (text note : List ℕ) : Type 0 where
+  silent : note ≡ [] → Fits text note
+  on_fault : (told : Fault) → text ≡ fault_text told → IsFaultNote told note → Fits text note
+
+-- a text and a note that answer a request
+pub record IsNotedFrom (request : Request) (held left : Option (List ℕ)) (before after : ℕ) (text note : List ℕ)
+    (ended : Status) : Type 0 where
+  pub file : Result (List ℕ) Fault
+  pub is_file : NeedsFile request → ReadsWhole held left before after file
+  pub is_answer : IsAnswerTo request file text ended
+  pub is_note : IsNoteTo request file note
+
+-- what is right of a request: the note is that on what it was given, or it fits the text alone
+abbrev pub IsNotedTo : Request → Option (List ℕ) → Option (List ℕ) → ℕ → ℕ → List ℕ → List ℕ → Status → Type 0
+IsNotedTo request held left before after text note ended =
+    (IsRightTo request held left before after text ended × Fits text note)
+    ⊎ IsNotedFrom request held left before after text note ended
+
+-- and of words
+abbrev pub IsNoted : List (List ℕ) → Option (List ℕ) → Option (List ℕ) → ℕ → ℕ → List ℕ → List ℕ → Status → Type 0
+IsNoted words held left before after text note ended =
+    (IsRight words held left before after text ended × Fits text note)
+    ⊎ ((request : Request) × IsRead words (Ok request)
+    × IsNotedFrom request held left before after text note ended)
+
+-- ---- texts with notes
+
+-- a text, and after it the note that it has
+pub record IsExplained (Noted : List ℕ → List ℕ → Status → Type 0) (whole : List ℕ) (ended : Status) : Type 0 where
   pub text : List ℕ
   pub note : List ℕ
-  pub is_right : Right text ended
+  pub is_noted : Noted text note ended
   pub is_whole : whole ≡ text ++ note
+
+-- what makes a text with a note, or a fault without one
+abbrev pub GivesExplained : (List ℕ → Status → Type 0) → (List ℕ → List ℕ → Status → Type 0) → Result Answer Fault
+    → Type 0
+GivesExplained Right Noted (Ok answer) = IsExplained Noted answer.text answer.status
+GivesExplained Right Noted (Err fault) = Right (fault_text fault) status.Fault
+
+-- the line of a fault with a note after it, or the fault itself
+abbrev pub IsFaulted : Fault → Result Answer Fault → Type 0
+IsFaulted told (Ok answer) = (answer.status ≡ status.Fault) × (note : List ℕ)
+    × (answer.text ≡ fault_text told ++ note) × Fits (fault_text told) note
+IsFaulted told (Err same) = same ≡ told
+
+-- what came after a text: the note, or nothing where memory for it was refused
+abbrev pub IsAdded : {E : Type 0} → Result (String Global) E → List ℕ → Type 0
+IsAdded note added = (added ≡ []) ⊎ IsOkAnd note (λ text. added ≡ string_bytes text)
 
 -- what is right of words: with an explanation only where they ask for one
 pub record IsRightWith (words : List (List ℕ)) (held left : Option (List ℕ)) (before after : ℕ) (whole : List ℕ)
@@ -17,5 +145,6 @@ pub record IsRightWith (words : List (List ℕ)) (held left : Option (List ℕ))
   pub text : List ℕ
   pub note : List ℕ
   pub is_right : IsRight words held left before after text ended
+  pub is_noted : IsNoted words held left before after text note ended
   pub is_whole : whole ≡ text ++ note
   pub unasked : asks_to_explain words ≡ false → note ≡ []

@@ -5,3 +5,4 @@ pub mod Lines
 pub mod Answers
 pub mod LineAnswers
 pub mod Explained
+pub mod Hosts

@@ -79,7 +79,7 @@ fn refused(alloc: Global, fault: ExchangeFault) -> Result<Answer, AllocError>
 }
 
 /// The end that is replayed.
-fn side(end: End) -> Side
+pub(crate) fn side(end: End) -> Side
     ensures { result ≡ side_of end }
 {
     match end {

@@ -3,12 +3,10 @@
 //! The text and the status are those that the words have without the option. What comes after the text is made by
 //! the crate explainer; where memory for it is refused it is left out.
 
-ghost use Rattle.std.specs.Prelude.{◌≡◌, ◌++◌, List, ℕ, IfOk, MatchResult};
-ghost use Rattle.card_tool.specs.Answers.{Gives, HasOneText, IsReadFrom, IsRight, IsRightTo};
-ghost use Rattle.card_tool.specs.Explained.{IsExplained};
+ghost use Rattle.std.specs.Prelude.{◌≡◌, ◌++◌, List, ℕ, IfOk, string_bytes};
+ghost use Rattle.card_tool.specs.Answers.{HasOneText, IsReadFrom, IsRight, IsRightTo};
+ghost use Rattle.card_tool.specs.Explained.{GivesExplained, IsAdded, IsFaulted, IsFaultNote, IsFillNote, IsNoted, IsNotedTo};
 ghost use Rattle.card_tool.specs.Files.{IsBegun};
-ghost use Rattle.card_kinds.specs.declared.status.Status.TheVariants as ended;
-ghost use Rattle.card_words.specs.Texts.{fault_text};
 ghost use Rattle.card_words.specs.Words.{texts, AskForFile, IsSized, NeedsFile};
 
 use crate::file::{LARGEST_FILE, octets_given, read_whole};
@@ -16,7 +14,7 @@ use crate::file_notes::{file_note, replay_note};
 use crate::program::answer_to;
 use crate::{exchange, simulation};
 use card_kinds::{Answer, Status, check, fill, show, tidy};
-use card_words::{Fault, Request, Session};
+use card_words::{Fault, Knowns, Request, Session};
 use explainer::{
     forest_note, known_note, large_note, list_note, octets_note, session_note, words_note,
 };
@@ -33,9 +31,11 @@ pub(crate) fn explained<R: Source>(
     requires read { IsReadFrom (texts words.now) read }
     requires sized { IfOk read IsSized }
     requires one { IfOk read HasOneText }
-    ensures told { Gives (IsExplained
+    ensures told { GivesExplained
         (IsRight (texts words.now) (R.remaining reader.old) (R.remaining reader.new)
-        (R.failures reader.old) (R.failures reader.new))) result }
+        (R.failures reader.old) (R.failures reader.new))
+        (IsNoted (texts words.now) (R.remaining reader.old) (R.remaining reader.new)
+        (R.failures reader.old) (R.failures reader.new)) result }
     ensures unread { (AskForFile (texts words.now) → ⊥) → reader.new ≡ reader.old }
     ensures few { IsBegun (R.remaining reader.old) (R.remaining reader.new) 4194305 }
 {
@@ -55,9 +55,11 @@ fn answered<R: Source>(
     requires read { IsReadFrom (texts words.now) read }
     requires sized { IfOk read IsSized }
     requires one { IfOk read HasOneText }
-    ensures told { Gives (IsExplained
+    ensures told { GivesExplained
         (IsRight (texts words.now) (R.remaining reader.old) (R.remaining reader.new)
-        (R.failures reader.old) (R.failures reader.new))) result }
+        (R.failures reader.old) (R.failures reader.new))
+        (IsNoted (texts words.now) (R.remaining reader.old) (R.remaining reader.new)
+        (R.failures reader.old) (R.failures reader.new)) result }
     ensures unread { (AskForFile (texts words.now) → ⊥) → reader.new ≡ reader.old }
     ensures few { IsBegun (R.remaining reader.old) (R.remaining reader.new) 4194305 }
 {
@@ -74,9 +76,11 @@ fn answered_to<R: Source>(
 ) -> Result<Answer, Fault>
     requires sized { IsSized request }
     requires one { HasOneText request }
-    ensures told { Gives (IsExplained
+    ensures told { GivesExplained
         (IsRightTo request (R.remaining reader.old) (R.remaining reader.new) (R.failures reader.old)
-        (R.failures reader.new))) result }
+        (R.failures reader.new))
+        (IsNotedTo request (R.remaining reader.old) (R.remaining reader.new) (R.failures reader.old)
+        (R.failures reader.new)) result }
     ensures unread { (NeedsFile request → ⊥) → reader.new ≡ reader.old }
     ensures few { IsBegun (R.remaining reader.old) (R.remaining reader.new) 4194305 }
 {
@@ -101,11 +105,7 @@ fn answered_to<R: Source>(
         }
         Request::BuildFill { list, known } => {
             let answer = fill(alloc, list.get(), &known)?;
-            let note = if known.is_ok() {
-                list_note(alloc, list.get())
-            } else {
-                known_note(alloc, words)
-            };
+            let note = fill_note(alloc, words, list.get(), &known);
             Ok(noted(answer, note))
         }
         other => exchange_explained(alloc, other, reader),
@@ -120,9 +120,11 @@ fn exchange_explained<R: Source>(
 ) -> Result<Answer, Fault>
     requires sized { IsSized request }
     requires one { HasOneText request }
-    ensures told { Gives (IsExplained
+    ensures told { GivesExplained
         (IsRightTo request (R.remaining reader.old) (R.remaining reader.new) (R.failures reader.old)
-        (R.failures reader.new))) result }
+        (R.failures reader.new))
+        (IsNotedTo request (R.remaining reader.old) (R.remaining reader.new) (R.failures reader.old)
+        (R.failures reader.new)) result }
     ensures unread { (NeedsFile request → ⊥) → reader.new ≡ reader.old }
     ensures few { IsBegun (R.remaining reader.old) (R.remaining reader.new) 4194305 }
 {
@@ -148,6 +150,23 @@ fn exchange_explained<R: Source>(
     }
 }
 
+/// What is to be said of a list that is to be filled: of its octets, or where they are a list, of a word that says no
+/// known value.
+fn fill_note(
+    alloc: Global,
+    words: &[String],
+    list: &[u8],
+    known: &Result<Knowns, Fault>,
+) -> Result<String, AllocError>
+    ensures { IfOk result (λ note. IsFillNote list.now known.now (string_bytes note)) }
+{
+    let note = list_note(alloc, list)?;
+    match known {
+        Err(_) if note.is_empty() => known_note(alloc, words),
+        Ok(_) | Err(_) => Ok(note),
+    }
+}
+
 /// What is to be said of a session, by how the program ends.
 fn simulation_note(alloc: Global, session: &Session, status: Status) -> Result<String, AllocError> {
     match status {
@@ -158,7 +177,7 @@ fn simulation_note(alloc: Global, session: &Session, status: Status) -> Result<S
 
 /// An answer with a note after its text, or without one where it couldn't be made.
 fn noted(answer: Answer, note: Result<String, AllocError>) -> Answer
-    ensures text { (note : List ℕ) × (result.text ≡ answer.text ++ note) }
+    ensures text { (added : List ℕ) × (result.text ≡ answer.text ++ added) × IsAdded note added }
     ensures status { result.status ≡ answer.status }
 {
     let status = answer.status;
@@ -174,15 +193,24 @@ fn noted(answer: Answer, note: Result<String, AllocError>) -> Answer
 
 /// The line of a fault, with what is wrong with the words or too large.
 fn faulted(alloc: Global, words: &[String], fault: Fault) -> Result<Answer, Fault>
-    ensures { MatchResult result (λ answer. (note : List ℕ)
-        × (answer.text ≡ fault_text fault ++ note) × (answer.status ≡ ended.Fault))
-        (λ same. same ≡ fault) }
+    ensures { IsFaulted fault result }
 {
-    let note = match fault {
-        Fault::Words | Fault::Hex => words_note(alloc, words),
-        Fault::TooLarge => large_note(alloc, LARGEST_FILE),
-        _ => return Err(fault),
-    };
+    match fault {
+        Fault::Words | Fault::Hex => fault_noted(alloc, fault, words_note(alloc, words)),
+        Fault::TooLarge => fault_noted(alloc, fault, large_note(alloc, LARGEST_FILE)),
+        Fault::Memory | Fault::Read => Err(fault),
+    }
+}
+
+/// The line of a fault, and a note after it; the fault where memory for the line is refused.
+fn fault_noted(
+    alloc: Global,
+    fault: Fault,
+    note: Result<String, AllocError>,
+) -> Result<Answer, Fault>
+    requires { IfOk note (λ text. IsFaultNote fault (string_bytes text)) }
+    ensures { IsFaulted fault result }
+{
     match Answer::faulted(alloc, fault) {
         Ok(answer) => Ok(noted(answer, note)),
         Err(_) => Err(fault),

@@ -1,10 +1,14 @@
 //! Notes on the file of a recorded exchange: the line that is wrong, with its text, and what is expected there.
 
-ghost use Rattle.std.specs.Prelude.{◌≡◌, IfOk, string_bytes};
+ghost use Rattle.std.specs.Prelude.{◌≡◌, ◌≢◌, IfOk, string_bytes};
+ghost use Rattle.card_tool.specs.ExchangeTexts.{side_of};
+ghost use Rattle.card_tool.specs.Explained.{line_of, IsDifferenceNote, IsFileNote, IsLineNote, IsReplayNote};
+ghost use Rattle.exchange_core.specs.declared.fault.ExchangeFault.TheVariants.{Memory};
 ghost use Rattle.explainer.specs.Notes.{line_note};
 
+use crate::exchange::side;
 use card_words::End;
-use exchange_core::{Exchange, ExchangeFault, ReplayFault, Side, read_exchange, replay};
+use exchange_core::{Exchange, ExchangeFault, ReplayFault, read_exchange, replay};
 use explainer::session_note;
 use std::alloc::{AllocError, Global};
 
@@ -16,7 +20,9 @@ const ATR_LINE: usize = 2;
 
 /// What a person wants to know of a text that is the file of no exchange: the line with its first fault, and what is
 /// expected there; nothing of a text that is.
-pub(crate) fn file_note(alloc: Global, text: &[u8]) -> Result<String, AllocError> {
+pub(crate) fn file_note(alloc: Global, text: &[u8]) -> Result<String, AllocError>
+    ensures { IfOk result (λ note. IsFileNote text.now (string_bytes note)) }
+{
     match read_exchange(alloc, text) {
         Ok(_) => Ok(String::new(alloc)),
         Err(fault) => fault_note(alloc, text, fault),
@@ -25,7 +31,9 @@ pub(crate) fn file_note(alloc: Global, text: &[u8]) -> Result<String, AllocError
 
 /// What a person wants to know of a file that is replayed at an end: its fault, or the first line that the end does
 /// otherwise, and why; nothing where the end does all of it.
-pub(crate) fn replay_note(alloc: Global, text: &[u8], end: End) -> Result<String, AllocError> {
+pub(crate) fn replay_note(alloc: Global, text: &[u8], end: End) -> Result<String, AllocError>
+    ensures { IfOk result (λ note. IsReplayNote end text.now (string_bytes note)) }
+{
     match read_exchange(alloc, text) {
         Ok(exchange) => difference_note(alloc, text, &exchange, end),
         Err(fault) => fault_note(alloc, text, fault),
@@ -40,7 +48,10 @@ fn line_said(alloc: Global, number: usize, line: &str, what: &str) -> Result<Str
 }
 
 /// The line with the first fault of a text, and what is expected there.
-fn fault_note(alloc: Global, text: &[u8], fault: ExchangeFault) -> Result<String, AllocError> {
+fn fault_note(alloc: Global, text: &[u8], fault: ExchangeFault) -> Result<String, AllocError>
+    ensures line { IfOk result (λ note. IsLineNote (line_of fault) (string_bytes note)) }
+    ensures other { IfOk result (λ _. fault ≢ Memory) }
+{
     match fault {
         ExchangeFault::Header => {
             let what = "expected: scard-exchange 1 or scard-exchange 2, and a line feed";
@@ -70,7 +81,10 @@ fn difference_note(
     text: &[u8],
     exchange: &Exchange,
     end: End,
-) -> Result<String, AllocError> {
+) -> Result<String, AllocError>
+    ensures { IfOk result (λ note.
+        IsDifferenceNote exchange.now (side_of end) (string_bytes note)) }
+{
     match replay(alloc, exchange, side(end)) {
         Ok(()) => Ok(String::new(alloc)),
         Err(ReplayFault::Differs { line, gives }) => {
@@ -82,13 +96,6 @@ fn difference_note(
             noted(alloc, text, line, reason(gives.get(), line > lines))
         }
         Err(ReplayFault::Memory) => Err(AllocError),
-    }
-}
-
-fn side(end: End) -> Side {
-    match end {
-        End::Terminal => Side::Terminal,
-        End::Card => Side::Card,
     }
 }
 
@@ -106,7 +113,9 @@ fn reason(gives: &str, is_past: bool) -> &'static str {
 }
 
 /// A line of a text, and what is to be said of it.
-fn noted(alloc: Global, text: &[u8], number: usize, what: &str) -> Result<String, AllocError> {
+fn noted(alloc: Global, text: &[u8], number: usize, what: &str) -> Result<String, AllocError>
+    ensures { IfOk result (λ note. IsLineNote number (string_bytes note)) }
+{
     let line = shown(alloc, line_at(text, number))?;
     line_said(alloc, number, line.as_str(), what)
 }

@@ -1,31 +1,58 @@
 //! The program on a system: its words and streams, and its exit status.
 
+ghost use Rattle.std.specs.Prelude.{◌≡◌, IfErr};
+ghost use Rattle.std.specs.Process.{exit_status};
+ghost use Rattle.card_tool.specs.Hosts.{Does, IsWithoutWords};
+ghost use Rattle.card_kinds.specs.Statuses.{exit_number};
+ghost use Rattle.card_kinds.specs.declared.status.Status.{Status as AnyStatus};
+
 use crate::program::{report, run};
+use card_kinds::Status;
 use card_words::Fault;
-use octet_core::Counted;
+use octet_core::{Sink, Source};
 use std::env::{self, Env};
-use std::io::{ErrorKind, Read, Write};
+use std::io::ErrorKind;
 use std::process::ExitCode;
 
-/// Does what the words of the system ask for, of which the first is the program's name, over an input and
-/// an output. The words fail as a whole where one is no UTF-8: `fault: words`.
-pub fn serve<R, I, O>(rt: &R, input: I, output: O) -> ExitCode
+/// Does what the words of the system ask for, of which the first is the program's name. The words fail as a whole
+/// where one is no UTF-8: `fault: words`.
+///
+/// No contract says which words the system gives: there are some for which the text that is written and the exit
+/// status are right, or none could be had.
+pub fn serve<H, R, W>(rt: &H, reader: &mut R, writer: &mut W) -> ExitCode
 where
-    R: Env + AllocGlobal,
-    I: Read + Drop,
-    O: Write + Drop,
+    H: Env + AllocGlobal,
+    R: Source,
+    W: Sink,
+    ensures { (status : AnyStatus) × (exit_status result ≡ exit_number status)
+        × Does (R.remaining reader.old) (R.remaining reader.new) (R.failures reader.old)
+        (R.failures reader.new) (W.contents writer.old) (W.contents writer.new)
+        (W.failures writer.old) (W.failures writer.new) status }
 {
-    let mut reader = Counted::new(input);
-    let mut writer = Counted::new(output);
-    let status = match words(rt) {
-        Ok(words) => run(rt.alloc(), words, &mut reader, &mut writer),
-        Err(fault) => report(fault, &mut writer),
-    };
+    let status = done(rt, reader, writer);
     ExitCode::from(status.number())
 }
 
+/// Does what the words of the system ask for.
+fn done<H, R, W>(rt: &H, reader: &mut R, writer: &mut W) -> Status
+where
+    H: Env + AllocGlobal,
+    R: Source,
+    W: Sink,
+    ensures { Does (R.remaining reader.old) (R.remaining reader.new) (R.failures reader.old)
+        (R.failures reader.new) (W.contents writer.old) (W.contents writer.new)
+        (W.failures writer.old) (W.failures writer.new) result }
+{
+    match words(rt) {
+        Ok(words) => run(rt.alloc(), words, reader, writer),
+        Err(fault) => report(fault, writer),
+    }
+}
+
 /// The words that the system gives.
-fn words<R: Env + AllocGlobal>(rt: &R) -> Result<Vec<String>, Fault> {
+fn words<H: Env + AllocGlobal>(rt: &H) -> Result<Vec<String>, Fault>
+    ensures { IfErr result IsWithoutWords }
+{
     match env::args(rt) {
         Ok(words) => Ok(words.collect(rt.alloc())?),
         Err(error) if error.kind() == ErrorKind::OutOfMemory => Err(Fault::Memory),

@@ -25,4 +25,5 @@ pub use exchange_core::{
     read_exchange, replay, write_exchange,
 };
 pub use host::serve;
+pub use octet_core::Counted;
 pub use program::{report, run};

@@ -2,9 +2,13 @@
 //! file on standard input says.
 #![tactic(auto)]
 
-use card_tool::serve;
+use card_tool::{Counted, serve};
 use std::process::ExitCode;
 
 fn main(rt: HostRuntime) -> ExitCode {
-    serve(&rt, rt.stdin(), rt.stdout())
+    serve(
+        &rt,
+        &mut Counted::new(rt.stdin()),
+        &mut Counted::new(rt.stdout()),
+    )
 }

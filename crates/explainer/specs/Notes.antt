@@ -4,6 +4,10 @@ use Rattle.std.specs.List.{repeat}
 use Rattle.hex.specs.Hex.{encode_upper}
 use Rattle.octet_core.specs.declared.stop.Stop.{Stop}
 use Rattle.octet_core.specs.declared.stop.Stop.TheVariants.{Short, At}
+use Rattle.card_words.specs.declared.request.Expected.{Expected}
+use Rattle.card_words.specs.declared.request.Kind.{Kind}
+use Rattle.card_kinds.specs.Codec.{Codec, Stops, Takes}
+use Rattle.card_kinds.specs.Verdicts.{codec_of}
 
 -- the place of the first octet that is shown: at most 16 octets stand before the one that is marked
 abbrev pub first_shown : ℕ → ℕ
@@ -41,6 +45,15 @@ pub data IsStopNote {R : Type 0} (b : List ℕ) (stop : Stop R) (note : List ℕ
       → IsStopNote b stop note
   short : (place : ℕ) (least : Option ℕ) → stop ≡ Short place → note ≡ short_note (length b) least
       → IsStopNote b stop note
+
+-- The note on octets by their verdict: how many are left after the value that they spell, or the note of the refusal.
+pub data IsNoteBy {V R : Type 0} (c : Codec V R) (b note : List ℕ) : Type 0 where
+  taken : (v : V) (n left : ℕ) → Takes c b v n → left ≡ length b - n → note ≡ left_note left → IsNoteBy c b note
+  stopped : (stop : Stop R) → Stops c b stop → IsStopNote b stop note → IsNoteBy c b note
+
+-- the same by what they are taken for
+abbrev pub IsKindNote : Kind → Expected → List ℕ → List ℕ → Type 0
+IsKindNote kind expected b note = IsNoteBy (codec_of kind expected).codec b note
 
 -- ---- words
 

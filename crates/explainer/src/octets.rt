@@ -1,47 +1,69 @@
 //! Notes on octets, by what they are taken for.
 
-ghost use Rattle.std.specs.Prelude.{◌≤◌};
+ghost use Rattle.std.specs.Prelude.{◌≤◌, IfOk, string_bytes};
+ghost use Rattle.card_kinds.specs.ForestTexts.{forest_codec};
+ghost use Rattle.card_kinds.specs.ListTexts.{list_codec};
+ghost use Rattle.explainer.specs.Notes.{IsKindNote, IsNoteBy};
 
 use crate::mark::{left, stop_note};
-use apdu_core::{CommandRef, ResponseRef};
-use block_core::Number;
+use crate::reason::Explained;
+use apdu_core::{Command, Response};
+use atr_core::Atr;
+use block_core::{Block, LONGEST_INF, Number};
+use card_kinds::Codec;
 use card_words::{Expected, Kind};
-use chain_core::{LONGEST_MESSAGE, Receiver};
-use octet_core::{Refused, Stop};
+use chain_core::Receiver;
+use octet_core::Refused;
 use std::alloc::{AllocError, Global};
-use tlv_core::{Dol, ForestCheck, LARGEST_FOREST, TlvReason};
+use tlv_core::{Dol, Forest};
 
 /// What a person wants to know of octets that are checked or shown: where they are refused and why, how many are
 /// wanting, or how many are left after the value; else nothing.
 pub fn octets_note(alloc: Global, expected: Expected, octets: &[u8]) -> Result<String, AllocError>
     requires least { 1 ≤ expected.ifs }
     requires most { expected.ifs ≤ 254 }
+    ensures { IfOk result (λ note.
+        IsKindNote expected.kind expected octets.now (string_bytes note)) }
 {
     match expected.kind {
-        Kind::Atr => atr_note(alloc, octets),
-        Kind::Block => block_note(alloc, octets, expected.ifs),
-        Kind::Chain => chain_note(alloc, octets, expected.ifs, expected.number),
-        Kind::Command => command_note(alloc, octets),
-        Kind::Response => response_note(alloc, octets),
-        Kind::Tlv => forest_note(alloc, octets),
-        Kind::Dol => list_note(alloc, octets),
+        Kind::Atr => note_by::<Atr>(alloc, octets, expected, None),
+        Kind::Block => { note_by::<Block>(alloc, octets, expected, Some(wanting_of_block(octets))) }
+        Kind::Chain => note_by::<Receiver>(alloc, octets, expected, None),
+        Kind::Command => {
+            note_by::<Command>(alloc, octets, expected, Some(wanting_of_command(octets)))
+        }
+        Kind::Response => {
+            note_by::<Response>(
+                alloc,
+                octets,
+                expected,
+                Some(2_usize.saturating_sub(octets.len())),
+            )
+        }
+        Kind::Tlv => note_by::<Forest>(alloc, octets, expected, None),
+        Kind::Dol => note_by::<Dol>(alloc, octets, expected, None),
     }
 }
 
-fn atr_note(alloc: Global, octets: &[u8]) -> Result<String, AllocError> {
-    match atr_core::decode(octets) {
-        Ok((_, taken)) => left(alloc, octets.len().saturating_sub(taken)),
-        Err(stop) => stop_note(alloc, octets, stop, None),
-    }
-}
-
-fn block_note(alloc: Global, octets: &[u8], ifs: u8) -> Result<String, AllocError>
-    requires least { 1 ≤ ifs }
-    requires most { ifs ≤ 254 }
+/// What the verdict of a codec on octets has to be said of: how many are left after the value, or the refusal. `least`
+/// is how many octets must still come at least, where that is known of octets that are short.
+fn note_by<C: Codec>(
+    alloc: Global,
+    octets: &[u8],
+    expected: Expected,
+    least: Option<usize>,
+) -> Result<String, AllocError>
+where
+    C::Reason: Explained,
+    requires least { 1 ≤ expected.ifs }
+    requires most { expected.ifs ≤ 254 }
+    ensures { IfOk result (λ note.
+        IsNoteBy (C.codec expected) octets.now (string_bytes note)) }
 {
-    match block_core::decode(octets, ifs) {
-        Ok((_, taken)) => left(alloc, octets.len().saturating_sub(taken)),
-        Err(stop) => stop_note(alloc, octets, stop, Some(wanting_of_block(octets))),
+    match C::taken(alloc, octets, expected) {
+        Ok(taken) => left(alloc, octets.len().saturating_sub(taken)),
+        Err(Refused::Stop(stop)) => stop_note(alloc, octets, stop, least),
+        Err(Refused::Memory) => Err(AllocError),
     }
 }
 
@@ -50,30 +72,6 @@ fn wanting_of_block(octets: &[u8]) -> usize {
     match octets {
         [_, _, len, ..] => (usize::from(*len) + 4).saturating_sub(octets.len()),
         _ => 4_usize.saturating_sub(octets.len()),
-    }
-}
-
-fn chain_note(alloc: Global, octets: &[u8], ifs: u8, number: Number) -> Result<String, AllocError>
-    requires least { 1 ≤ ifs }
-    requires most { ifs ≤ 254 }
-{
-    let mut receiver = Receiver::new(alloc, ifs, number, LONGEST_MESSAGE)?;
-    match receiver.feed(octets) {
-        Ok((taken, true)) => left(alloc, octets.len().saturating_sub(taken)),
-        Ok((_, false)) => {
-            let short = Stop::Short {
-                place: octets.len(),
-            };
-            stop_note::<chain_core::ChainReason>(alloc, octets, short, None)
-        }
-        Err(stop) => stop_note(alloc, octets, stop, None),
-    }
-}
-
-fn command_note(alloc: Global, octets: &[u8]) -> Result<String, AllocError> {
-    match CommandRef::decode(octets) {
-        Ok(_) => Ok(String::new(alloc)),
-        Err(stop) => stop_note(alloc, octets, stop, Some(wanting_of_command(octets))),
     }
 }
 
@@ -88,37 +86,28 @@ fn wanting_of_command(octets: &[u8]) -> usize {
     least.saturating_sub(octets.len())
 }
 
-fn response_note(alloc: Global, octets: &[u8]) -> Result<String, AllocError> {
-    match ResponseRef::decode(octets) {
-        Ok(_) => Ok(String::new(alloc)),
-        Err(stop) => stop_note(
-            alloc,
-            octets,
-            stop,
-            Some(2_usize.saturating_sub(octets.len())),
-        ),
-    }
-}
-
 /// The note on octets that are taken for a forest.
-pub fn forest_note(alloc: Global, octets: &[u8]) -> Result<String, AllocError> {
-    match forest_verdict(octets) {
-        Ok(()) => Ok(String::new(alloc)),
-        Err(stop) => stop_note(alloc, octets, stop, None),
-    }
-}
-
-fn forest_verdict(octets: &[u8]) -> Result<(), Stop<TlvReason>> {
-    let mut check = ForestCheck::new(LARGEST_FOREST);
-    check.feed(octets)?;
-    check.finish()
+pub fn forest_note(alloc: Global, octets: &[u8]) -> Result<String, AllocError>
+    ensures { IfOk result (λ note. IsNoteBy forest_codec octets.now (string_bytes note)) }
+{
+    note_by::<Forest>(alloc, octets, taken_for(Kind::Tlv), None)
 }
 
 /// The note on octets that are taken for a data object list.
-pub fn list_note(alloc: Global, octets: &[u8]) -> Result<String, AllocError> {
-    match Dol::decode(alloc, octets) {
-        Ok(_) => Ok(String::new(alloc)),
-        Err(Refused::Stop(stop)) => stop_note(alloc, octets, stop, None),
-        Err(Refused::Memory) => Err(AllocError),
+pub fn list_note(alloc: Global, octets: &[u8]) -> Result<String, AllocError>
+    ensures { IfOk result (λ note. IsNoteBy list_codec octets.now (string_bytes note)) }
+{
+    note_by::<Dol>(alloc, octets, taken_for(Kind::Dol), None)
+}
+
+/// What octets of a kind are taken for that has no information size.
+fn taken_for(kind: Kind) -> Expected
+    ensures least { 1 ≤ result.ifs }
+    ensures most { result.ifs ≤ 254 }
+{
+    Expected {
+        kind,
+        ifs: LONGEST_INF as u8,
+        number: Number::Zero,
     }
 }

@@ -5,17 +5,14 @@ use Rattle.card_words.specs.Words.{texts}
 use Rattle.card_tool.specs.Answers.{IsRight}
 use Rattle.card_kinds.specs.declared.status.Status.TheVariants as status
 use Rattle.card_tool.proofs.Answering.{refused-words}
-use Rattle.card_tool.proofs.Explaining.{explained-words, plain}
+use Rattle.card_tool.proofs.Explaining.{explained-words}
 use Rattle.card_tool.proofs.explained.answered.Goals as goal
 
 pub returns-in_err-request-clause-told : goal.returns-in_err-request-clause-told
 returns-in_err-request-clause-told g c =
     let fault = err_from_is_err_and c.from_residual.result c.from_residual.ensures.1 in
-    rw (fault.1, fault.2) (plain (IsRight (texts c.args.words.now) (g.R.Source.remaining c.args.reader.now)
-    (g.R.Source.remaining c.args.reader.now) (g.R.Source.failures c.args.reader.now)
-    (g.R.Source.failures c.args.reader.now)) (fault_text c.in_err-request.field-0.0) status.Fault
-    (refused-words (texts c.args.words.now) _ _ c.in_err-request.field-0.0
-    (rw c.in_err-request.was at c.requires.read)))
+    rw (fault.1, fault.2) (refused-words (texts c.args.words.now) _ _ c.in_err-request.field-0.0
+    (rw c.in_err-request.was at c.requires.read))
 
 pub returns-clause-told : goal.returns-clause-told
 returns-clause-told g c =

@@ -1,115 +1,133 @@
+use Rattle.std.proofs.Common.{[], Ok}
 use Rattle.std.proofs.lemmas.Result.{err_from_is_err_and}
 use Rattle.card_words.specs.Texts.{fault_text}
 use Rattle.card_words.specs.declared.fault.Fault.TheVariants.{Memory}
 use Rattle.card_words.specs.declared.request.Request.TheVariants.{BuildFill, BuildTidy, Check, Show}
-use Rattle.card_tool.specs.Answers.{IsRightTo}
+use Rattle.card_kinds.specs.ForestTexts.{forest_codec}
+use Rattle.explainer.specs.Notes.{IsKindNote, IsNoteBy}
 use Rattle.card_kinds.specs.Verdicts.{Checks, Shows, Tidies}
 use Rattle.card_kinds.specs.declared.status.Status.TheVariants as status
-use Rattle.card_tool.proofs.Answering.{told-at_once, told-fault, told-wanting}
-use Rattle.card_tool.proofs.Explaining.{plain, wanting, with-note}
+use Rattle.card_tool.proofs.Answering.{told-fault, told-wanting}
+use Rattle.card_tool.proofs.Explaining.{noted-given, wanting, with-note}
 use Rattle.card_tool.proofs.explained.answered_to.Goals as goal
 
 pub returns-in_err-octets-in-Check-clause-told : goal.returns-in_err-octets-in-Check-clause-told
 returns-in_err-octets-in-Check-clause-told g c =
     let fault = err_from_is_err_and c.from_residual.result c.from_residual.ensures.1 in
-    rw (c.in-Check.is, fault.1, fault.2) (plain
-    (IsRightTo (Check c.in-Check.input) (g.R.Source.remaining c.args.reader.now)
-    (g.R.Source.remaining c.octets_given.new.reader) (g.R.Source.failures c.args.reader.now)
-    (g.R.Source.failures c.octets_given.new.reader)) (fault_text c.in_err-octets-in-Check.field-0.0) status.Fault
-    (told-fault (Check c.in-Check.input) c.in-Check.input.given
+    rw (c.in-Check.is, fault.1, fault.2) (told-fault (Check c.in-Check.input) c.in-Check.input.given
     (Checks c.in-Check.input.expected.kind c.in-Check.input.expected) (g.R.Source.remaining c.args.reader.now)
     (g.R.Source.remaining c.octets_given.new.reader) (g.R.Source.failures c.args.reader.now)
     (g.R.Source.failures c.octets_given.new.reader) (λ need. need) (λ file text ended h. h)
-    c.in_err-octets-in-Check.field-0.0 c.in_err-octets-in-Check.ensures.taken))
+    c.in_err-octets-in-Check.field-0.0 c.in_err-octets-in-Check.ensures.taken)
 
 pub returns-in_err-answer-in-Check-clause-told : goal.returns-in_err-answer-in-Check-clause-told
 returns-in_err-answer-in-Check-clause-told g c =
     let fault = err_from_is_err_and c.from_residual-in_err-answer-in-Check.result
     c.from_residual-in_err-answer-in-Check.ensures.1 in
-    rw (c.in-Check.is, fault.1, fault.2) (plain
-    (IsRightTo (Check c.in-Check.input) (g.R.Source.remaining c.args.reader.now)
-    (g.R.Source.remaining c.octets_given.new.reader) (g.R.Source.failures c.args.reader.now)
-    (g.R.Source.failures c.octets_given.new.reader)) (fault_text Memory) status.Fault
-    (told-wanting (Check c.in-Check.input) c.in-Check.input.given
+    rw (c.in-Check.is, fault.1, fault.2) (told-wanting (Check c.in-Check.input) c.in-Check.input.given
     (Checks c.in-Check.input.expected.kind c.in-Check.input.expected) (g.R.Source.remaining c.args.reader.now)
     (g.R.Source.remaining c.octets_given.new.reader) (g.R.Source.failures c.args.reader.now)
     (g.R.Source.failures c.octets_given.new.reader) (λ need. need) (λ file text ended h. h)
-    c.in_ok-octets-in-Check.octets c.in_ok-octets-in-Check.ensures.taken))
+    c.in_ok-octets-in-Check.octets c.in_ok-octets-in-Check.ensures.taken)
 
 pub returns-in_err-octets-in-Show-clause-told : goal.returns-in_err-octets-in-Show-clause-told
 returns-in_err-octets-in-Show-clause-told g c =
     let fault = err_from_is_err_and c.from_residual-in_err-octets-in-Show.result
     c.from_residual-in_err-octets-in-Show.ensures.1 in
-    rw (c.in-Show.is, fault.1, fault.2) (plain
-    (IsRightTo (Show c.in-Show.input) (g.R.Source.remaining c.args.reader.now)
-    (g.R.Source.remaining c.octets_given-in-Show.new.reader) (g.R.Source.failures c.args.reader.now)
-    (g.R.Source.failures c.octets_given-in-Show.new.reader)) (fault_text c.in_err-octets-in-Show.field-0.0)
-    status.Fault (told-fault (Show c.in-Show.input) c.in-Show.input.given
+    rw (c.in-Show.is, fault.1, fault.2) (told-fault (Show c.in-Show.input) c.in-Show.input.given
     (Shows c.in-Show.input.expected.kind c.in-Show.input.expected) (g.R.Source.remaining c.args.reader.now)
     (g.R.Source.remaining c.octets_given-in-Show.new.reader) (g.R.Source.failures c.args.reader.now)
     (g.R.Source.failures c.octets_given-in-Show.new.reader) (λ need. need) (λ file text ended h. h)
-    c.in_err-octets-in-Show.field-0.0 c.in_err-octets-in-Show.ensures.taken))
+    c.in_err-octets-in-Show.field-0.0 c.in_err-octets-in-Show.ensures.taken)
 
 pub returns-in_err-answer-in-Show-clause-told : goal.returns-in_err-answer-in-Show-clause-told
 returns-in_err-answer-in-Show-clause-told g c =
     let fault = err_from_is_err_and c.from_residual-in_err-answer-in-Show.result
     c.from_residual-in_err-answer-in-Show.ensures.1 in
-    rw (c.in-Show.is, fault.1, fault.2) (plain
-    (IsRightTo (Show c.in-Show.input) (g.R.Source.remaining c.args.reader.now)
-    (g.R.Source.remaining c.octets_given-in-Show.new.reader) (g.R.Source.failures c.args.reader.now)
-    (g.R.Source.failures c.octets_given-in-Show.new.reader)) (fault_text Memory) status.Fault
-    (told-wanting (Show c.in-Show.input) c.in-Show.input.given
+    rw (c.in-Show.is, fault.1, fault.2) (told-wanting (Show c.in-Show.input) c.in-Show.input.given
     (Shows c.in-Show.input.expected.kind c.in-Show.input.expected) (g.R.Source.remaining c.args.reader.now)
     (g.R.Source.remaining c.octets_given-in-Show.new.reader) (g.R.Source.failures c.args.reader.now)
     (g.R.Source.failures c.octets_given-in-Show.new.reader) (λ need. need) (λ file text ended h. h)
-    c.in_ok-octets-in-Show.octets c.in_ok-octets-in-Show.ensures.taken))
+    c.in_ok-octets-in-Show.octets c.in_ok-octets-in-Show.ensures.taken)
 
 pub returns-in_err-octets-in-BuildTidy-clause-told : goal.returns-in_err-octets-in-BuildTidy-clause-told
 returns-in_err-octets-in-BuildTidy-clause-told g c =
     let fault = err_from_is_err_and c.from_residual-in_err-octets-in-BuildTidy.result
     c.from_residual-in_err-octets-in-BuildTidy.ensures.1 in
     rw (c.in-BuildTidy.is, fault.1, fault.2)
-    (plain (IsRightTo (BuildTidy c.in-BuildTidy.given) (g.R.Source.remaining c.args.reader.now)
-    (g.R.Source.remaining c.octets_given-in-BuildTidy.new.reader) (g.R.Source.failures c.args.reader.now)
-    (g.R.Source.failures c.octets_given-in-BuildTidy.new.reader))
-    (fault_text c.in_err-octets-in-BuildTidy.field-0.0) status.Fault
     (told-fault (BuildTidy c.in-BuildTidy.given) c.in-BuildTidy.given Tidies
     (g.R.Source.remaining c.args.reader.now) (g.R.Source.remaining c.octets_given-in-BuildTidy.new.reader)
     (g.R.Source.failures c.args.reader.now) (g.R.Source.failures c.octets_given-in-BuildTidy.new.reader)
     (λ need. need) (λ file text ended h. h) c.in_err-octets-in-BuildTidy.field-0.0
-    c.in_err-octets-in-BuildTidy.ensures.taken))
+    c.in_err-octets-in-BuildTidy.ensures.taken)
 
 pub returns-in_err-answer-in-BuildTidy-clause-told : goal.returns-in_err-answer-in-BuildTidy-clause-told
 returns-in_err-answer-in-BuildTidy-clause-told g c =
     let fault = err_from_is_err_and c.from_residual-in_err-answer-in-BuildTidy.result
     c.from_residual-in_err-answer-in-BuildTidy.ensures.1 in
     rw (c.in-BuildTidy.is, fault.1, fault.2)
-    (plain (IsRightTo (BuildTidy c.in-BuildTidy.given) (g.R.Source.remaining c.args.reader.now)
-    (g.R.Source.remaining c.octets_given-in-BuildTidy.new.reader) (g.R.Source.failures c.args.reader.now)
-    (g.R.Source.failures c.octets_given-in-BuildTidy.new.reader)) (fault_text Memory) status.Fault
     (told-wanting (BuildTidy c.in-BuildTidy.given) c.in-BuildTidy.given Tidies
     (g.R.Source.remaining c.args.reader.now) (g.R.Source.remaining c.octets_given-in-BuildTidy.new.reader)
     (g.R.Source.failures c.args.reader.now) (g.R.Source.failures c.octets_given-in-BuildTidy.new.reader)
     (λ need. need) (λ file text ended h. h) c.in_ok-octets-in-BuildTidy.octets
-    c.in_ok-octets-in-BuildTidy.ensures.taken))
+    c.in_ok-octets-in-BuildTidy.ensures.taken)
 
 pub returns-in_err-answer-in-BuildFill-clause-told : goal.returns-in_err-answer-in-BuildFill-clause-told
 returns-in_err-answer-in-BuildFill-clause-told g c =
     let fault = err_from_is_err_and c.from_residual-in_err-answer-in-BuildFill.result
     c.from_residual-in_err-answer-in-BuildFill.ensures.1 in
-    rw (fault.1, fault.2) (plain (IsRightTo c.args.request (g.R.Source.remaining c.args.reader.now)
-    (g.R.Source.remaining c.args.reader.now) (g.R.Source.failures c.args.reader.now)
-    (g.R.Source.failures c.args.reader.now)) (fault_text Memory) status.Fault
-    (wanting c.args.request (g.R.Source.remaining c.args.reader.now) (g.R.Source.failures c.args.reader.now)))
+    rw (fault.1, fault.2) (wanting c.args.request (g.R.Source.remaining c.args.reader.now)
+    (g.R.Source.failures c.args.reader.now))
 
-pub returns-after-is_ok-clause-told : goal.returns-after-is_ok-clause-told
-returns-after-is_ok-clause-told g c =
-    let told = told-at_once (BuildFill c.in-BuildFill.list c.in-BuildFill.known)
-    (g.R.Source.remaining c.args.reader.now) (g.R.Source.failures c.args.reader.now)
-    c.in_ok-answer-in-BuildFill.answer.text c.in_ok-answer-in-BuildFill.answer.status (λ none. none)
-    (rw c.get-in-BuildFill.ensures at c.in_ok-answer-in-BuildFill.ensures) in
-    rw c.in-BuildFill.is (with-note (IsRightTo (BuildFill c.in-BuildFill.list c.in-BuildFill.known)
+pub returns-in_ok-answer-in-Check-clause-told : goal.returns-in_ok-answer-in-Check-clause-told
+returns-in_ok-answer-in-Check-clause-told g c =
+    rw c.in-Check.is (noted-given (Check c.in-Check.input) c.in-Check.input.given
+    (Checks c.in-Check.input.expected.kind c.in-Check.input.expected)
+    (IsKindNote c.in-Check.input.expected.kind c.in-Check.input.expected)
+    (g.R.Source.remaining c.args.reader.now) (g.R.Source.remaining c.octets_given.new.reader)
+    (g.R.Source.failures c.args.reader.now) (g.R.Source.failures c.octets_given.new.reader)
+    (λ need. need) (λ file text ended h. h) (λ file note h. h) c.in_ok-octets-in-Check.octets
+    c.in_ok-octets-in-Check.ensures.taken c.in_ok-answer-in-Check.answer c.noted.result c.octets_note-note.result
+    c.noted.ensures.text.0 (rw c.get.ensures at c.in_ok-answer-in-Check.ensures)
+    (rw c.get-in-Check.ensures at c.octets_note-note.ensures) c.noted.ensures.text.1 c.noted.ensures.text.2
+    c.noted.ensures.status)
+
+pub returns-in_ok-answer-in-Show-clause-told : goal.returns-in_ok-answer-in-Show-clause-told
+returns-in_ok-answer-in-Show-clause-told g c =
+    rw c.in-Show.is (noted-given (Show c.in-Show.input) c.in-Show.input.given
+    (Shows c.in-Show.input.expected.kind c.in-Show.input.expected)
+    (IsKindNote c.in-Show.input.expected.kind c.in-Show.input.expected)
+    (g.R.Source.remaining c.args.reader.now) (g.R.Source.remaining c.octets_given-in-Show.new.reader)
+    (g.R.Source.failures c.args.reader.now) (g.R.Source.failures c.octets_given-in-Show.new.reader)
+    (λ need. need) (λ file text ended h. h) (λ file note h. h) c.in_ok-octets-in-Show.octets
+    c.in_ok-octets-in-Show.ensures.taken c.in_ok-answer-in-Show.answer c.noted-in-Show.result
+    c.octets_note-note-in-Show.result
+    c.noted-in-Show.ensures.text.0 (rw c.get-in-Show.ensures at c.in_ok-answer-in-Show.ensures)
+    (rw c.get-in-Show-2.ensures at c.octets_note-note-in-Show.ensures) c.noted-in-Show.ensures.text.1
+    c.noted-in-Show.ensures.text.2
+    c.noted-in-Show.ensures.status)
+
+pub returns-in_ok-answer-in-BuildTidy-clause-told : goal.returns-in_ok-answer-in-BuildTidy-clause-told
+returns-in_ok-answer-in-BuildTidy-clause-told g c =
+    rw c.in-BuildTidy.is (noted-given (BuildTidy c.in-BuildTidy.given) c.in-BuildTidy.given
+    (Tidies) (IsNoteBy forest_codec)
+    (g.R.Source.remaining c.args.reader.now) (g.R.Source.remaining c.octets_given-in-BuildTidy.new.reader)
+    (g.R.Source.failures c.args.reader.now) (g.R.Source.failures c.octets_given-in-BuildTidy.new.reader)
+    (λ need. need) (λ file text ended h. h) (λ file note h. h) c.in_ok-octets-in-BuildTidy.octets
+    c.in_ok-octets-in-BuildTidy.ensures.taken c.in_ok-answer-in-BuildTidy.answer c.noted-in-BuildTidy.result
+    c.forest_note-note.result
+    c.noted-in-BuildTidy.ensures.text.0 (rw c.get-in-BuildTidy.ensures at c.in_ok-answer-in-BuildTidy.ensures)
+    (rw c.get-in-BuildTidy-2.ensures at c.forest_note-note.ensures) c.noted-in-BuildTidy.ensures.text.1
+    c.noted-in-BuildTidy.ensures.text.2
+    c.noted-in-BuildTidy.ensures.status)
+
+pub returns-in_ok-answer-in-BuildFill-clause-told : goal.returns-in_ok-answer-in-BuildFill-clause-told
+returns-in_ok-answer-in-BuildFill-clause-told g c =
+    rw c.in-BuildFill.is (with-note (BuildFill c.in-BuildFill.list c.in-BuildFill.known)
     (g.R.Source.remaining c.args.reader.now) (g.R.Source.remaining c.args.reader.now)
-    (g.R.Source.failures c.args.reader.now) (g.R.Source.failures c.args.reader.now))
-    c.in_ok-answer-in-BuildFill.answer c.noted-in-BuildFill.result c.noted-in-BuildFill.ensures.text.0 told
-    c.noted-in-BuildFill.ensures.text.1 c.noted-in-BuildFill.ensures.status)
+    (g.R.Source.failures c.args.reader.now) (g.R.Source.failures c.args.reader.now)
+    c.in_ok-answer-in-BuildFill.answer c.noted-in-BuildFill.result c.fill_note-note.result
+    c.noted-in-BuildFill.ensures.text.0 (Ok []) (λ needs. absurd needs)
+    (rw c.get-in-BuildFill.ensures at c.in_ok-answer-in-BuildFill.ensures)
+    (rw c.get-in-BuildFill-2.ensures at c.fill_note-note.ensures) c.noted-in-BuildFill.ensures.text.1
+    c.noted-in-BuildFill.ensures.text.2 c.noted-in-BuildFill.ensures.status)

@@ -1,10 +1,8 @@
 use Rattle.card_words.specs.Words.{texts}
-use Rattle.card_tool.specs.Answers.{IsRight}
 use Rattle.card_tool.proofs.Explaining.{with-fault}
 use Rattle.card_tool.proofs.explained.explained.Goals as goal
 
 pub returns-in-Err-clause-told : goal.returns-in-Err-clause-told
-returns-in-Err-clause-told g c = with-fault
-    (IsRight (texts c.args.words.now) (g.R.Source.remaining c.args.reader.now)
+returns-in-Err-clause-told g c = with-fault (texts c.args.words.now) (g.R.Source.remaining c.args.reader.now)
     (g.R.Source.remaining c.answered.new.reader) (g.R.Source.failures c.args.reader.now)
-    (g.R.Source.failures c.answered.new.reader)) c.in-Err.fault c.faulted.result c.in-Err.ensures.told c.faulted.ensures
+    (g.R.Source.failures c.answered.new.reader) c.in-Err.fault c.faulted.result c.in-Err.ensures.told c.faulted.ensures

@@ -1,8 +1,8 @@
-use Rattle.std.proofs.Common.{inl, inr}
+use Rattle.std.proofs.Common.{◌∙◌, inl, inr, sym}
 use Rattle.std.proofs.lemmas.Result.{err_from_is_err_and}
 use Rattle.card_words.specs.Words.{texts}
 use Rattle.card_tool.proofs.Answering.{answered-words, refused-words}
-use Rattle.card_tool.proofs.Explaining.{unasked, unasked-fault}
+use Rattle.card_tool.proofs.Explaining.{asked, unasked, unasked-fault}
 use Rattle.card_tool.proofs.program.answer_as_asked.Goals as goal
 
 pub returns-in_err-request-clause-told : goal.returns-in_err-request-clause-told
@@ -22,3 +22,9 @@ returns-clause-told g c =
           (answered-words (texts c.args.words.now) _ _ _ _ c.in_ok-request.request c.answer_to.result read
           c.answer_to.ensures.told)
     ]
+
+pub returns-then-asks_to_explain-clause-told : goal.returns-then-asks_to_explain-clause-told
+returns-then-asks_to_explain-clause-told g c = asked (texts c.args.words.now) (g.R.Source.remaining c.args.reader.now)
+    (g.R.Source.remaining c.explained.new.reader) (g.R.Source.failures c.args.reader.now)
+    (g.R.Source.failures c.explained.new.reader) c.explained.result (sym c.asks_to_explain.ensures
+    ∙ c.if-asks_to_explain.true) c.explained.ensures.told

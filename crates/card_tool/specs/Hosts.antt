@@ -1,0 +1,37 @@
+-- What the program does on a system that gives it words.
+--
+-- held and left are the octets that the reader held before and after, where they are known; before and after are the
+-- counts of its calls that failed. old and new are what the writer had, unwritten and failures the counts of its calls
+-- that failed.
+use Rattle.std.specs.Prelude.{◌≡◌, ◌⊎◌, ℕ, List, Option}
+use Rattle.card_words.specs.Texts.{fault_text}
+use Rattle.card_words.specs.Words.{AskForLines}
+use Rattle.card_words.specs.declared.fault.Fault.{Fault}
+use Rattle.card_words.specs.declared.fault.Fault.TheVariants.{Memory, Words}
+use Rattle.card_words.specs.declared.request.Expected.{Expected}
+use Rattle.card_kinds.specs.declared.status.Status.{Status}
+use Rattle.card_kinds.specs.declared.status.Status.TheVariants as status
+use Rattle.card_tool.specs.Answers.{IsWritten, Writes}
+use Rattle.card_tool.specs.Explained.{IsRightWith}
+use Rattle.card_tool.specs.LineAnswers.{AskForNoLines, WritesLines}
+
+-- no words could be had: memory ran out, or one is no UTF-8
+abbrev pub IsWithoutWords : Fault → Type 0
+IsWithoutWords fault = (fault ≡ Memory) ⊎ (fault ≡ Words)
+
+-- the texts that are right for some words, and how the program then ends
+pub record Runs (words : List (List ℕ)) (held left : Option (List ℕ)) (before after : ℕ) (old new : Option (List ℕ))
+    (unwritten failures : ℕ) (ended : Status) : Type 0 where
+  pub written : AskForNoLines words
+      → Writes (IsRightWith words held left before after) old new unwritten failures ended
+  pub lines : (expected : Expected) → AskForLines expected words
+      → WritesLines expected held left before after old new unwritten failures ended
+
+-- The text that is written and the status belong together: both are those of some words, or of a fault without any.
+pub data Does (held left : Option (List ℕ)) (before after : ℕ) (old new : Option (List ℕ)) (unwritten failures : ℕ)
+    (ended : Status) : Type 0 where
+  runs : (words : List (List ℕ)) → Runs words held left before after old new unwritten failures ended
+      → Does held left before after old new unwritten failures ended
+  faults : (fault : Fault) → IsWithoutWords fault
+      → IsWritten (fault_text fault) status.Fault old new unwritten failures ended
+      → Does held left before after old new unwritten failures ended
