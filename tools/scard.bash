@@ -1,28 +1,67 @@
 # Completion of the words of scard for bash.
+
+# Sets what the words before the one under way say: place, which that one has among the words that are no option and no
+# option's value, and what, the second of these.
+_scard_before() {
+    local at before value=
+    place=1 what=
+    for ((at = 1; at < COMP_CWORD; at++)); do
+        before=${COMP_WORDS[at]}
+        case $before in
+        = | -- | --explain | --help | --*=*) ;;
+        --*) value=comes ;;
+        *)
+            if [ "$value" ]; then
+                value=
+                continue
+            fi
+            [ $place != 2 ] || what=$before
+            place=$((place + 1))
+            ;;
+        esac
+    done
+}
+
+# Sets words to those that can come at the place, where no option's value does.
+_scard_words() {
+    case ${COMP_WORDS[1]} in
+    check | show) words='--stdin --ifs --number --explain --help' ;;
+    build) words='--explain --help' ;;
+    replay) words='--end --explain --help' ;;
+    migrate) words='--explain --help' ;;
+    simulate) words='--ifsd --lose --damage --spoil --explain --help' ;;
+    esac
+    [ "${COMP_WORDS[1]} $what" != 'build tidy' ] || words="$words --stdin"
+    case $place:${COMP_WORDS[1]} in
+    1:*) words='check show build replay migrate simulate help --help' ;;
+    2:check | 2:show) words="$words atr block chain command response tlv dol" ;;
+    2:build) words="$words chain tidy fill" ;;
+    2:help) words='check show build replay migrate simulate' ;;
+    esac
+}
+
+# An option with its value, as --end=card, is three words in COMP_WORDS, or one where no word breaks at equals signs.
 _scard() {
-    local word=${COMP_WORDS[COMP_CWORD]} before=${COMP_WORDS[COMP_CWORD - 1]} words=
-    case $before in
+    local word=${COMP_WORDS[COMP_CWORD]} option=${COMP_WORDS[COMP_CWORD - 1]} front= place what words=
+    case $word in
+    =) word= ;;
+    --*=*) option=${word%%=*} front=${word%%=*}= word=${word#*=} ;;
+    *) [ "$option" != = ] || option=${COMP_WORDS[COMP_CWORD - 2]} ;;
+    esac
+    _scard_before
+    case $option in
     --stdin) words='hex octets lines' ;;
     --end) words='terminal card' ;;
     --number) words='0 1' ;;
     --ifs | --ifsd | --lose | --damage | --spoil) ;;
-    *)
-        case ${COMP_WORDS[1]} in
-        check | show) words='--stdin --ifs --number --explain --help' ;;
-        build) words='--explain --help' ;;
-        replay) words='--end --explain --help' ;;
-        migrate) words='--explain --help' ;;
-        simulate) words='--ifsd --lose --damage --spoil --explain --help' ;;
-        esac
-        case $COMP_CWORD:${COMP_WORDS[1]} in
-        1:*) words='check show build replay migrate simulate help --help' ;;
-        2:check | 2:show) words="$words atr block chain command response tlv dol" ;;
-        2:build) words="$words chain tidy fill" ;;
-        2:help) words='check show build replay migrate simulate' ;;
-        3:build) [ "${COMP_WORDS[2]}" != tidy ] || words="$words --stdin" ;;
-        esac
-        ;;
+    *) _scard_words ;;
     esac
-    COMPREPLY=($(compgen -W "$words" -- "$word"))
+    case $option:${COMP_WORDS[1]}:$what in
+    --stdin:check:*) ;;
+    --stdin:show:* | --stdin:build: | --stdin:build:tidy) words=${words% lines} ;;
+    --stdin:*) words= ;;
+    esac
+    COMPREPLY=($(compgen -P "$front" -W "$words" -- "$word"))
 }
-complete -F _scard scard
+# Where none of these words fits, a file's name may.
+complete -o bashdefault -o default -F _scard scard
