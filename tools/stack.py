@@ -3,6 +3,7 @@ is built, and the words by which the toolchain's checker is called."""
 
 import hashlib
 import pathlib
+import re
 import shutil
 
 TOP = pathlib.Path(__file__).resolve().parent.parent
@@ -48,6 +49,24 @@ def words_of(name, listed):
     words += [word for it in uses for word in ("--extern", f"{it}={library(it, listed)}")]
     words += [word for it in below(name, listed) for word in ("-L", f"dependency={library(it, listed).parent}")]
     return words + ["--antt-project", KIT / "rattle/logic/antt-project.json", "--logic-built", KIT / "logic_built"]
+
+
+def uses_of(library):
+    """What a library of the toolchain stands on."""
+    return re.findall(r"^dep (\w+)$", (KIT / "rlibs" / f"{library}.rlib/format").read_text(), re.M)
+
+
+def sources_of(name, listed):
+    """The words that hand the sources of all that a crate stands on to the toolchain's compiler that proves nothing."""
+    words, kit = [], ["std", *(it for it in listed[name][1] if it not in listed)]
+    for it in below(name, listed):
+        uses = listed[it][1]
+        words += ["--lib", f"{it}:{','.join(['core', 'std', *uses])}={folder_of(it)}/src/lib.rt"]
+        kit += [use for use in uses if use not in listed and use not in kit]
+    for it in kit:
+        words += ["--lib", f"{it}:{','.join(uses_of(it))}={KIT}/rattle/{it}/src/lib.rt"]
+        kit += [use for use in uses_of(it) if use not in kit]
+    return words
 
 
 def files_of(name):
