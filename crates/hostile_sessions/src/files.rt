@@ -1,8 +1,7 @@
 //! Files of recorded exchanges with an octet cut, changed, or all after it gone.
 
-use crate::as_exchange;
-use crate::ends::is_replayed;
-use exchange_core::{Exchange, write_exchange};
+use crate::{as_exchange, as_replayed};
+use exchange_core::{Exchange, Side, write_exchange};
 use std::alloc::Global;
 use testing::{Case, Fault, Share, with_octet};
 
@@ -101,11 +100,15 @@ fn is_written_again(
         piece: 0,
     };
     case.expect(alloc, written.as_slice() == text)?;
-    let replays = is_replayed(alloc, exchange)?;
     let case = Case {
         what: "a file that is replayed twice",
         ..case
     };
-    case.expect(alloc, is_replayed(alloc, exchange)? == replays)?;
+    let mut replays = true;
+    for side in [Side::Terminal, Side::Card] {
+        let outcome = as_replayed(alloc, exchange, side)?;
+        case.expect(alloc, outcome.is_some())?;
+        replays &= outcome == Some(true);
+    }
     Ok(replays)
 }

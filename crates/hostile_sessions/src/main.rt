@@ -16,7 +16,7 @@ mod sessions;
 mod states;
 mod turns;
 
-use exchange_core::{Exchange, ExchangeFault, read_exchange};
+use exchange_core::{Exchange, ExchangeFault, ReplayFault, Side, read_exchange, replay};
 use std::alloc::Global;
 use std::io;
 use std::process::ExitCode;
@@ -38,6 +38,21 @@ pub(crate) fn as_exchange(alloc: Global, text: &[u8]) -> Result<Exchange, Fault>
         Ok(exchange) => Ok(exchange),
         Err(ExchangeFault::Memory) => Err(Fault::Memory),
         Err(_) => Err(Fault::Stream),
+    }
+}
+
+/// Whether an exchange replays at an end; nothing where a second replay has another outcome: it agrees, or another line
+/// differs, or the end gives something else there.
+pub(crate) fn as_replayed(
+    alloc: Global,
+    exchange: &Exchange,
+    side: Side,
+) -> Result<Option<bool>, Fault> {
+    let outcome = replay(alloc, exchange, side);
+    let again = replay(alloc, exchange, side);
+    match outcome {
+        Err(ReplayFault::Memory) => Err(Fault::Memory),
+        outcome => Ok((outcome == again).then_some(outcome.is_ok())),
     }
 }
 
