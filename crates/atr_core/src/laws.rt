@@ -46,7 +46,7 @@ pub fn reasons_stop()
     ensures { (b : List ℕ) (r : AtrReason) → Meets b r → Begins IsAtr b → ⊥ }
 {}
 
-/// Only the empty list stands for a reader that is new or begins anew.
+/// A reader that is new, or was reset, has taken the empty list alone.
 pub fn new_has_taken_nothing()
     ensures { (t : List ℕ) → HasTaken nothing_taken t ↔ (t ≡ []) }
 {}

@@ -158,7 +158,7 @@ impl AtrReader {
         })
     }
 
-    /// Begins anew, with nothing taken and no refusal.
+    /// Begins again, with nothing taken and no refusal.
     pub fn reset(&mut self)
         ensures { self.new ≡ nothing_taken }
     {

@@ -26,7 +26,7 @@ pub enum Fault {
 /// What an S-block asks for, or answers.
 #[derive(Clone, Copy, Debug, PartialEq, Eq)]
 pub enum S {
-    /// Both ends begin anew.
+    /// Both ends begin again.
     Resynch,
     /// The information size that the sender can take: one octet, 01 to FE.
     Ifs,

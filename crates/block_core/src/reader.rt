@@ -110,7 +110,7 @@ impl BlockReader {
         self.held.len()
     }
 
-    /// Begins anew, as a new reader of the same information size.
+    /// Begins again, as a new reader of the same information size.
     pub fn reset(&mut self)
         ensures { self.new ≡ nothing_taken self.old.ifs }
     {

@@ -62,7 +62,7 @@ impl Receiver {
         Ok(Receiver { places, message })
     }
 
-    /// Begins anew, with a first block of this number.
+    /// Begins again, with a first block of this number.
     pub fn restart(&mut self, number: Number)
         ensures { self.new ≡ nothing_taken self.old.ifs number self.old.max }
     {

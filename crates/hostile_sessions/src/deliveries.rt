@@ -295,7 +295,7 @@ fn is_card(turn: &Result<CardTurn, CardFault>, wanted: Wanted) -> bool {
     }
 }
 
-/// Whether the terminal begins anew with a new card and an exchange passes, or refuses all as dead.
+/// Whether the terminal begins again with a new card and an exchange passes, or refuses all as dead.
 fn is_terminal_usable(terminal: &mut Terminal, card: &mut Card) -> bool {
     for _ in 0..8usize {
         match terminal.received(&RESYNCHED) {
@@ -317,7 +317,7 @@ fn is_dead(terminal: &mut Terminal) -> bool {
         && terminal.ask_ifs(32) == Err(TerminalFault::Dead)
 }
 
-/// Whether the card, whose host replies where it owes to, begins anew and an exchange with a new
+/// Whether the card, whose host replies where it owes to, begins again and an exchange with a new
 /// terminal passes.
 fn is_card_usable(terminal: &mut Terminal, card: &mut Card) -> bool {
     if card.received(&RESYNCH) == Err(CardFault::Order) {

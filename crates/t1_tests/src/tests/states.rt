@@ -82,7 +82,7 @@ fn is_reset(alloc: Global, t: &mut Terminal) -> Result<bool, Fail> {
     Ok(same(shown(alloc, t)?, shown(alloc, &new)?))
 }
 
-/// Whether a terminal after these calls tells this, and begins anew.
+/// Whether a terminal after these calls tells this, and begins again.
 fn awaits_after(alloc: Global, calls: &[Call<'_>], told: Told) -> Result<bool, Fail> {
     let mut t = terminal_after(alloc, calls)?;
     Ok(
@@ -157,7 +157,7 @@ fn is_card_reset(alloc: Global, c: &mut Card) -> Result<bool, Fail> {
     Ok(same(card_shown(alloc, c)?, card_shown(alloc, &new)?))
 }
 
-/// Whether a card after these calls awaits this, and begins anew.
+/// Whether a card after these calls awaits this, and begins again.
 fn card_awaits_after(
     alloc: Global,
     calls: &[CardCall<'_>],
