@@ -49,7 +49,7 @@ host-now r t c h e = sym h.under_way ∙ host-rests (link_of r) (any_good longes
     (ap (λ (s : CardState). s.waits) h.card ∙ e)
 
 -- the line of the last turn, by the states of both ends
-told-is : (r : Recording) (t : TerminalState) (c : CardState) → IsRecording r t c → untold r ≡ telling t c r.last
+pub told-is : (r : Recording) (t : TerminalState) (c : CardState) → IsRecording r t c → untold r ≡ telling t c r.last
 told-is r t c h = ap (λ (s : TerminalState). telling s (link_of r).card r.last) h.terminal
     ∙ ap (λ (s : CardState). telling t s r.last) h.card
 

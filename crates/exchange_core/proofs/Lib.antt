@@ -17,6 +17,10 @@ pub mod Texts
 pub mod Turning
 pub mod Resting
 pub mod Changed
+pub mod Pausing
+pub mod Telling
 pub mod Recorded
 pub mod Acting
+pub mod Reaching
+pub mod Accounts
 pub mod Folds

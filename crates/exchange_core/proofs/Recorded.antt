@@ -15,6 +15,7 @@ use Rattle.exchange_core.specs.declared.line.Line.{Line}
 use Rattle.exchange_core.specs.declared.event.EventFault.{EventFault}
 use Rattle.exchange_core.specs.declared.event.LastTurn.{LastTurn}
 use Rattle.exchange_core.specs.declared.event.LastTurn.TheVariants.{Terminal, Card}
+use Rattle.exchange_core.proofs.Telling.{still-covers}
 use Rattle.exchange_core.proofs.Folds.{runs-on, proper-on, events-on, run-on, octets-on}
 
 -- the record with more lines and another last turn
@@ -63,6 +64,8 @@ keeps {r} {t} {t'} {c} {c'} {more} {event} {last} h a =
       at_card = runs-on card_end r.lines more _ _ h.at_card ∙ a.at_card;
       proper = proper-on r.lines more h.proper a.proper;
       found = h.found;
+      covers = still-covers r (further r more last) event last h.under_way h.covers a.outcome
+          (ap (λ (l : List Line). r.lines ++ l) (sym a.writes)) refl link;
     }
 
 -- the link steps, and the recorder with it

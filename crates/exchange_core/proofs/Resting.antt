@@ -7,11 +7,11 @@ use Rattle.t1_core.specs.declared.turns.TerminalTurn.{TerminalTurn}
 use Rattle.t1_core.specs.declared.turns.CardTurn.{CardTurn}
 use Rattle.t1_core.proofs.Good.{Good, at_rest, size_asked, size_taken, size_doubted, asks_resynch, resynched, resynch_doubted, over, sends, sends_asked, sends_doubted, taken_asked, taken_told, served, size_wanted, size_given, size_missed, time_wanted, time_given, time_missed, replying, replies_asked, replies_doubted, joined_told, joined_doubted, NoHost, Ear, ear_waits, first, further}
 
-busy : (field rest : List ℕ) → waiting field rest ≡ idle → ⊥
+pub busy : (field rest : List ℕ) → waiting field rest ≡ idle → ⊥
 busy field [] e = cc
 busy field (x ∷ rest) e = cc
 
-listens : (ear : Ear) → ear_waits ear ≡ idle → ⊥
+pub listens : (ear : Ear) → ear_waits ear ≡ idle → ⊥
 listens (first field) e = cc
 listens (further joined) e = cc
 

@@ -7,4 +7,6 @@ pub mod Words
 pub mod Given
 pub mod Replay
 pub mod Run
+pub mod Told
 pub mod Recording
+pub mod Records

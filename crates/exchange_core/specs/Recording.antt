@@ -14,6 +14,7 @@ use Rattle.t1_core.specs.declared.turns.CardTurn.{CardTurn}
 use Rattle.exchange_core.specs.Exchange.{are_proper}
 use Rattle.exchange_core.specs.Given.{arrived}
 use Rattle.exchange_core.specs.Replay.{End, by_role, terminal_end, terminal_line, card_end, card_line, IsFound}
+use Rattle.exchange_core.specs.Told.{Covers, told}
 use Rattle.exchange_core.specs.declared.exchange.Version.TheVariants.{One}
 use Rattle.exchange_core.specs.declared.line.Arrival.{Arrival}
 use Rattle.exchange_core.specs.declared.line.Arrival.TheVariants.{Whole, Lost, Changed}
@@ -214,7 +215,7 @@ runs end [] at = Ok at
 runs end (line ∷ lines) at = onward (λ after. runs end lines after) (by_role end at.0 at.1 line (end.role at.0 line))
 
 -- The ends are those of the link, and each replays the lines to the state that it is in, where the last turn has met no
--- line.
+-- line. The lines of the record tell what happened.
 pub record IsRecording (r : Recording) (t : TerminalState) (c : CardState) : Type 0 where
   pub octets : AllHandOctets (events_of r.lines)
   pub terminal : (link_of r).terminal ≡ t
@@ -224,6 +225,7 @@ pub record IsRecording (r : Recording) (t : TerminalState) (c : CardState) : Typ
   pub at_card : runs card_end r.lines (new_card r.ifsc, None) ≡ Ok (c, card_pending r.last)
   pub proper : are_proper One 0 r.lines ≡ true
   pub found : IsFound r.atr (Ok r.ifsc)
+  pub covers : Covers (told (closed r)) (link_of r)
 
 -- ---- calls of the ends
 

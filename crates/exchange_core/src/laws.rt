@@ -8,6 +8,7 @@ ghost use Rattle.exchange_core.specs.Reading.{exchange_said};
 ghost use Rattle.exchange_core.specs.declared.fault.ExchangeFault.{ExchangeFault};
 ghost use Rattle.exchange_core.specs.Replay.{Replays};
 ghost use Rattle.exchange_core.specs.Run.{IsRun};
+ghost use Rattle.exchange_core.specs.Records.{EachRecordTells};
 ghost use Rattle.exchange_core.specs.declared.line.Line.{Line};
 ghost use Rattle.exchange_core.specs.declared.replaying.Side.{Side};
 
@@ -66,4 +67,10 @@ pub fn replays_in_one_way()
 pub fn agreeing_is_a_run()
     ensures { (atr : List ℕ) (lines : List Line) (side : Side)
         → Replays atr lines side None → IsRun atr lines side }
+{}
+
+/// Whatever happens to a recorder, the lines of its record tell at each end what happened there at the link,
+/// and so each `answer` line has the octets of the `reply` line to the same command.
+pub fn each_record_tells()
+    ensures { EachRecordTells }
 {}

@@ -6,6 +6,7 @@ ghost use Rattle.t1_core.specs.Link.{new_link, tables, happens};
 ghost use Rattle.t1_core.specs.Promises.{Matches};
 ghost use Rattle.exchange_core.specs.Replay.{IsFound, Replays};
 ghost use Rattle.exchange_core.specs.Recording.{Recording, link_of, closed, telling, as_list, event_of, call_event, change_event, recorded, IfNotMemory, IfRefused, IsLent, under_way_of, MayCall, MayReply};
+ghost use Rattle.exchange_core.specs.Told.{Tells, AnswersAreReplies};
 ghost use Rattle.exchange_core.specs.declared.exchange.Version.TheVariants.{One};
 ghost use Rattle.exchange_core.specs.declared.event.LastTurn.TheVariants.{Nothing};
 ghost use Rattle.exchange_core.specs.declared.event.Event.TheVariants.{Lose};
@@ -149,12 +150,15 @@ impl Recorder {
 
     /// The record, in version 1. A block that is still under way is written as lost.
     ///
-    /// It replays at both ends. Out of memory for its last line the record is gone.
+    /// It replays at both ends, and tells what happened at each: an `answer` line has the octets of the `reply`
+    /// line to the same command. Out of memory for its last line the record is gone.
     pub fn exchange(self) -> Result<Exchange, AllocError>
         ensures is { IfOk result (λ e.
             e ≡ record { version = One; atr = self.atr; lines = closed self }) }
         ensures terminal { IfOk result (λ e. Replays e.atr e.lines side.Terminal None) }
         ensures card { IfOk result (λ e. Replays e.atr e.lines side.Card None) }
+        ensures told { IfOk result (λ e. Tells e.lines (link_of self)) }
+        ensures replies { IfOk result (λ e. AnswersAreReplies e.lines) }
     {
         let told = told(self.alloc, &self.terminal, &self.card, &self.last)?;
         let lines = Lines::of(with_line(self.lines, told)?);

@@ -1,2 +1,5 @@
 pub mod Long
 pub mod Running
+pub mod Working
+pub mod Roomy
+pub mod Ending

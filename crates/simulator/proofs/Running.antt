@@ -15,8 +15,9 @@ use Rattle.exchange_core.specs.Exchange.{ExchangeParts}
 use Rattle.exchange_core.specs.Replay.{IsFound}
 use Rattle.simulator.specs.declared.fault.SimulationFault.{SimulationFault}
 use Rattle.simulator.specs.declared.fault.SimulationFault.TheVariants.{Refused, TooLarge, Memory as NoMemory}
+use Rattle.simulator.proofs.Ending.{too-few}
 use Rattle.simulator.proofs.Long.{too-long}
-use Rattle.simulator.specs.Simulation.{IfTooLarge, IsSimulated, Next, Place, begins, exchange_of, further, new_recording, next, onward, opens, simulated, start}
+use Rattle.simulator.specs.Simulation.{IfTooLarge, IsSimulated, WhereTooLarge, most_events, Next, Place, begins, exchange_of, further, new_recording, next, onward, opens, simulated, start}
 
 -- ---- the blocks that are sent
 
@@ -134,3 +135,10 @@ module _ (most : ℕ) (s : Session) (atr : List ℕ) (same : atr ≡ s.atr) (r :
         too-long most s r.ifsc final (sym (ap (simulated most s (start s)) begun) ∙ h) ends,
   )
   not-made NoMemory h = tt
+
+  -- then more events were to happen
+  pub enough : (fault : SimulationFault) → IfTooLarge fault (simulated most s (start s) r ≡ None)
+      → WhereTooLarge fault (most < most_events s)
+  enough (Refused name) h = tt
+  enough TooLarge h = too-few most s r.ifsc is-found (sym (ap (simulated most s (start s)) begun) ∙ h)
+  enough NoMemory h = tt

@@ -1,11 +1,12 @@
 -- What happens in a session that is told beforehand: commands, the host's replies, and what becomes of each block.
-use Rattle.std.specs.Prelude.{◌≡◌, ◌<◌, ℕ, length, zero, suc, ◌+◌, nat_eq, List, [], ◌∷◌, Bool, if◌then◌else◌, Option, Some, None, Result, Ok, Err}
+use Rattle.std.specs.Prelude.{◌≡◌, ◌<◌, ℕ, length, zero, suc, ◌+◌, ◌*◌, nat_eq, List, [], ◌∷◌, Bool, if◌then◌else◌, Option, Some, None, Result, Ok, Err}
 use Rattle.std.specs.List.{list_any}
 use Rattle.std.specs.HashSet.{contains, HashSet}
 use Rattle.std.specs.declared.hash.BuildHasherDefault.{BuildHasherDefault}
 use Rattle.std.specs.declared.hash.FoldHasher.{FoldHasher}
 use Rattle.card_words.specs.declared.session.Pair.{Pair}
 use Rattle.card_words.specs.declared.session.Session.{Session}
+use Rattle.t1_core.specs.Terminal.{longest}
 use Rattle.t1_core.specs.Link as link
 use Rattle.t1_core.specs.declared.turns.TerminalTurn.TheVariants.{Send, Answered, IfsSet, GivenUp, Dead}
 use Rattle.t1_core.specs.declared.turns.CardTurn.TheVariants.{Send as Sends, Asked}
@@ -104,7 +105,38 @@ EndsAs s ifsc r = (events : ℕ) × (simulated events s (start s) (new_recording
 abbrev pub exchange_of : Recording → ExchangeParts
 exchange_of r = record { version = One; atr = r.atr; lines = closed r }
 
--- What a session comes to: its exchange, or why there is none. It is too large only where its text has more than so many octets, if it ends at all.
+-- ---- how many events a session has at most
+
+-- the octets of the replies
+abbrev pub reply_octets : List Pair → ℕ
+reply_octets [] = 0
+reply_octets (pair ∷ left) = length pair.reply + reply_octets left
+
+-- where every block arrives: eight for each octet of a command or reply, and 50 for each pair
+abbrev pub pair_events : List Pair → ℕ
+pair_events [] = 0
+pair_events (pair ∷ left) = 8 * length pair.command + (8 * length pair.reply + (50 + pair_events left))
+
+-- for a block that is lost, damaged or spoilt: what the longest command and the replies take
+abbrev pub fault_events : Session → ℕ
+fault_events s = 8 * longest.command + (8 * reply_octets s.pairs + 60)
+
+-- the numbers in the three lists
+abbrev pub listed : Session → ℕ
+listed s = length s.lost + (length s.damaged + length s.spoilt)
+
+abbrev pub most_events : Session → ℕ
+most_events s = listed s * fault_events s + (pair_events s.pairs + 11)
+
+-- Each session of an answer to reset that can be used ends, by fewer than so many events.
+abbrev pub EachSessionEnds : Type 0
+EachSessionEnds = (s : Session) (ifsc : ℕ) → IsFound s.atr (Ok ifsc)
+    → (r : Recording) × (simulated (most_events s) s (start s) (new_recording s.atr ifsc) ≡ Some r)
+
+-- ---- what a session comes to
+
+-- What a session comes to: its exchange, or why there is none. It is too large only where the text of its end has more
+-- than so many octets.
 abbrev pub IsSimulated : ℕ → Session → Result ExchangeParts SimulationFault → Type 0
 IsSimulated largest s (Ok e) = (ifsc : ℕ) × (r : Recording) × IsFound s.atr (Ok ifsc) × EndsAs s ifsc r
     × (e ≡ exchange_of r)
@@ -132,3 +164,9 @@ abbrev pub IfTooLarge : SimulationFault → Type 0 → Type 0
 IfTooLarge (Refused name) P = ⊥
 IfTooLarge TooLarge P = P
 IfTooLarge Memory P = Unit {0}
+
+-- this where a session is too large
+abbrev pub WhereTooLarge : SimulationFault → Type 0 → Type 0
+WhereTooLarge (Refused name) P = Unit {0}
+WhereTooLarge TooLarge P = P
+WhereTooLarge Memory P = Unit {0}

@@ -7,6 +7,7 @@
 
 mod fates;
 pub mod fault;
+pub mod laws;
 pub mod simulation;
 
 pub use fault::SimulationFault;

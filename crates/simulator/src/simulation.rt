@@ -4,11 +4,12 @@ ghost use Rattle.std.specs.Prelude.{◌≡◌, ◌≢◌, ◌<◌, ◌+◌, ◌^
 ghost use Rattle.std.specs.Option.{option_map};
 ghost use Rattle.exchange_core.specs.Recording.{event_of};
 ghost use Rattle.exchange_core.specs.Replay.{Replays};
+ghost use Rattle.exchange_core.specs.Told.{AnswersAreReplies};
 ghost use Rattle.exchange_core.specs.declared.event.EventFault.{EventFault};
 ghost use Rattle.exchange_core.specs.declared.replaying.Side.TheVariants as side;
 ghost use Rattle.card_words.specs.declared.session.Session.{Session};
 ghost use Rattle.simulator.specs.declared.fault.SimulationFault.{SimulationFault};
-ghost use Rattle.simulator.specs.Simulation.{begins, next, sends, simulated, start, AreFates, IfTooLarge, IsSimulated};
+ghost use Rattle.simulator.specs.Simulation.{begins, most_events, next, sends, simulated, start, AreFates, IfTooLarge, IsSimulated, WhereTooLarge};
 
 use crate::fates::Fates;
 use crate::fault::SimulationFault;
@@ -27,8 +28,9 @@ use t1_core::{CardTurn, TerminalTurn};
 /// and before an event that an end refuses, as a command that is too long.
 ///
 /// `Refused` where the answer to reset can't be used, `Memory` where memory runs out. `TooLarge` where
-/// `largest` events happened and the session hasn't ended: its text has more octets than that. The exchange
-/// replays at both ends.
+/// `largest` events happened and the session hasn't ended: its text has more octets than that, and `largest`
+/// is below `most_events`, by which each session ends. The exchange replays at both ends, and each `answer`
+/// line has the octets of the `reply` line to the same command.
 pub fn simulate(
     alloc: Global,
     session: &Session,
@@ -37,6 +39,9 @@ pub fn simulate(
     ensures simulated { IsSimulated largest session.now result }
     ensures terminal { IfOk result (λ e. Replays e.atr e.lines side.Terminal None) }
     ensures card { IfOk result (λ e. Replays e.atr e.lines side.Card None) }
+    ensures replies { IfOk result (λ e. AnswersAreReplies e.lines) }
+    ensures enough { IfErr result (λ fault.
+        WhereTooLarge fault (largest < most_events session.now)) }
 {
     let mut recorder = Recorder::new(alloc, session.atr.get())?;
     let fates = Fates::of(alloc, session)?;

@@ -4,7 +4,9 @@ use Rattle.exchange_core.specs.Replay.{Replays}
 use Rattle.exchange_core.specs.declared.exchange.Version.TheVariants.{One}
 use Rattle.exchange_core.specs.declared.line.Line.{Line}
 use Rattle.exchange_core.specs.declared.replaying.Side.TheVariants as side
+use Rattle.exchange_core.specs.Told.{AnswersAreReplies}
 use Rattle.exchange_core.proofs.Acting.{closes, closed-proper}
+use Rattle.exchange_core.proofs.Reaching.{closed-replies}
 use Rattle.exchange_core.proofs.recording.Recorder.exchange.Goals as goal
 
 pub proper-requires : goal.proper-requires
@@ -28,3 +30,10 @@ returns-clause-card c =
     subst (λ (e : ExchangeParts). Replays e.atr e.lines side.Card None) (sym c.proper.ensures)
     (subst (λ (l : List Line). Replays c.self.inside.atr l side.Card None) (sym lines)
     (closes _ _ _ side.Card c.self.invariant))
+
+pub returns-clause-replies : goal.returns-clause-replies
+returns-clause-replies c =
+    let lines = c.of-lines.ensures ∙ c.in_ok-with_line.ensures
+    ∙ ap (λ (l : List Line). c.self.inside.lines.items ++ l) c.in_ok-told.ensures in
+    subst (λ (e : ExchangeParts). AnswersAreReplies e.lines) (sym c.proper.ensures)
+    (subst AnswersAreReplies (sym lines) (closed-replies _ _ _ c.self.invariant))
