@@ -1,15 +1,21 @@
 //! Each call once with ample memory, and the lines below it. The verdicts on octets are in the folder `vectors`.
 
+mod as_value;
 mod printed;
 
+ghost use Rattle.std.specs.Prelude.{◌≤◌};
+
 use apdu_core::{
-    Body, Command, CommandReason, CommandRef, ReceiveFault, Response, ResponseReason, ResponseRef,
-    SendFault, decode_command, decode_response, encode_command, encode_command_into,
-    encode_response, receive_command, receive_response, send_command, send_response,
+    Body, Command, CommandReason, ReceiveFault, Response, ResponseReason, ResponseRef,
+    decode_command, decode_response, encode_command_into, send_command, send_response,
+};
+use as_value::{
+    command, command_lent, command_of, command_read, is_command_spelled, is_left,
+    is_response_spelled, of_hex, reader_of, response, response_lent, response_of, response_read,
 };
 use block_core::Number;
 use chain_core::ChainReason;
-use octet_core::{After, Counted, Feeder, Octets, Refused, Source, Stop, Taker, octets_of};
+use octet_core::{After, Counted, Feeder, Octets, Refused, Stop, Taker};
 use std::alloc::Global;
 use std::test::Fail;
 use testing::same;
@@ -29,11 +35,6 @@ const SELECT_CHAIN: [u8; 17] = [
 /// 90 00, in one block.
 const DONE_CHAIN: [u8; 6] = [0x00, 0x00, 0x02, 0x90, 0x00, 0x92];
 
-/// The octets of a hexadecimal text. What the contract of `octets_of` says of them stays here.
-fn of_hex(alloc: Global, text: &str) -> Result<Vec<u8>, Fail> {
-    Ok(octets_of(alloc, text).ok().ok_or("hexadecimal text")?)
-}
-
 fn octets(rt: &HostRuntime, text: &str) -> Result<Octets, Fail> {
     Ok(Octets::of(of_hex(rt.alloc(), text)?))
 }
@@ -41,17 +42,13 @@ fn octets(rt: &HostRuntime, text: &str) -> Result<Octets, Fail> {
 /// Whether the octets are this command, lent and copied, and spell it.
 fn is_command(rt: &HostRuntime, text: &str, header: [u8; 4], body: Body) -> Result<bool, Fail> {
     let octets = of_hex(rt.alloc(), text)?;
-    let lent = CommandRef::decode(octets.as_slice())
-        .ok()
-        .ok_or("a command")?;
-    let command = decode_command(rt.alloc(), octets.as_slice())
-        .ok()
-        .ok_or("a command")?;
-    let spelled = encode_command(rt.alloc(), &command)?;
+    let lent = command_lent(octets.as_slice())?;
+    let command = command(rt.alloc(), octets.as_slice())?;
+    let wanted = command_of(header, body)?;
     Ok(
         lent.header() == header
-            && command == Command::new(header, body)?
-            && spelled.as_slice() == octets.as_slice(),
+            && command == wanted
+            && is_command_spelled(rt.alloc(), &command, octets.as_slice()),
     )
 }
 
@@ -77,7 +74,7 @@ fn commands_of_their_own(rt: HostRuntime) -> Result<(), Fail> {
 
 #[test]
 fn a_command_put_into_a_buffer(rt: HostRuntime) -> Result<(), Fail> {
-    let command = Command::new(SELECT, Body::ShortLe { le: 256 })?;
+    let command = command_of(SELECT, Body::ShortLe { le: 256 })?;
     let mut buffer = [0xEE; 7];
     assert!(rt; command.encoded_len() == 5);
     assert!(rt; encode_command_into(&command, &mut buffer) == 5);
@@ -88,7 +85,7 @@ fn a_command_put_into_a_buffer(rt: HostRuntime) -> Result<(), Fail> {
 #[test]
 fn the_part_stands_behind_its_length(rt: HostRuntime) -> Result<(), Fail> {
     let octets = of_hex(rt.alloc(), "00A4040007A000000004101000")?;
-    let lent = CommandRef::decode(octets.as_slice())?;
+    let lent = command_lent(octets.as_slice())?;
     assert!(rt; octets.get(5..12) == Some(lent.part()));
     assert!(rt; same(lent.le(), Some(256)));
     Ok(())
@@ -141,19 +138,28 @@ fn bodies_that_have_no_spelling(rt: HostRuntime) -> Result<(), Fail> {
 
 #[test]
 fn responses(rt: HostRuntime) -> Result<(), Fail> {
-    assert!(rt; ResponseRef::decode(&[0x90, 0x00])?.part().is_empty());
+    assert!(rt; response_lent(&[0x90, 0x00])?.part().is_empty());
     let octets = of_hex(rt.alloc(), "6F009000")?;
-    let lent = ResponseRef::decode(octets.as_slice())?;
-    assert!(rt; lent.part() == [0x6F, 0x00].as_slice());
-    assert!(rt; same((lent.sw1(), lent.sw2()), (0x90, 0x00)));
-    let response = decode_response(rt.alloc(), octets.as_slice())?;
+    assert!(rt; is_lent(octets.as_slice(), &[0x6F, 0x00])?);
+    let response = response(rt.alloc(), octets.as_slice())?;
     assert!(rt; same((response.sw1(), response.sw2()), (0x90, 0x00)));
-    let spelled = encode_response(rt.alloc(), &response)?;
-    assert!(rt; spelled.as_slice() == octets.as_slice());
-    let part = Octets::of(of_hex(rt.alloc(), "6F00")?);
-    assert!(rt; response.part() == part.get());
-    assert!(rt; Response::new(part, 0x90, 0x00)? == response);
+    assert!(rt; is_response_spelled(rt.alloc(), &response, octets.as_slice()));
+    assert!(rt; is_done(rt.alloc(), &response, "6F00")?);
     Ok(())
+}
+
+/// Whether octets are a response with this data field and the status word 9000.
+fn is_lent(octets: &[u8], part: &[u8]) -> Result<bool, Fail> {
+    let lent = response_lent(octets)?;
+    Ok(lent.part() == part && same((lent.sw1(), lent.sw2()), (0x90, 0x00)))
+}
+
+/// Whether a response has this data field and the status word 9000.
+fn is_done(alloc: Global, response: &Response, part: &str) -> Result<bool, Fail> {
+    let part = Octets::of(of_hex(alloc, part)?);
+    let is_part = response.part() == part.get();
+    let wanted = response_of(part, 0x90, 0x00)?;
+    Ok(is_part && *response == wanted)
 }
 
 #[test]
@@ -180,14 +186,14 @@ fn octets_that_are_no_response(rt: HostRuntime) -> Result<(), Fail> {
 #[test]
 fn the_longest_response(rt: HostRuntime) -> Result<(), Fail> {
     let octets = vec![in rt.alloc(); 0x90u8; 65_538]?;
-    let response = decode_response(rt.alloc(), octets.as_slice())?;
+    let response = response(rt.alloc(), octets.as_slice())?;
     assert!(rt; same(response.part().len(), 65_536));
     Ok(())
 }
 
 #[test]
 fn a_command_is_sent(rt: HostRuntime) -> Result<(), Fail> {
-    let command = Command::new(SELECT, Body::ShortLe { le: 256 })?;
+    let command = command_of(SELECT, Body::ShortLe { le: 256 })?;
     let mut writer = Counted::new(Taker::new(4096, 7, After::Fails));
     let sent = send_command(rt.alloc(), &mut writer, &command, 2, Number::Zero);
     assert!(rt; same(sent, Ok(())));
@@ -197,7 +203,7 @@ fn a_command_is_sent(rt: HostRuntime) -> Result<(), Fail> {
 
 #[test]
 fn a_response_is_sent(rt: HostRuntime) -> Result<(), Fail> {
-    let response = Response::new(octets(&rt, "")?, 0x90, 0x00)?;
+    let response = response_of(octets(&rt, "")?, 0x90, 0x00)?;
     let mut writer = Counted::new(Taker::new(4096, 7, After::Fails));
     let sent = send_response(rt.alloc(), &mut writer, &response, 254, Number::Zero);
     assert!(rt; same(sent, Ok(())));
@@ -205,10 +211,14 @@ fn a_response_is_sent(rt: HostRuntime) -> Result<(), Fail> {
     Ok(())
 }
 
-/// Whether one octet is left to read, and it is FF.
-fn is_left(reader: &mut Counted<Feeder>) -> bool {
-    let mut room = [0u8; 8];
-    matches!(reader.read(&mut room), Ok(1)) && room[0] == 0xFF
+/// Whether a reader gives SELECT in blocks of at most so many octets, and leaves FF.
+fn gives_select(alloc: Global, reader: &mut Counted<Feeder<'_>>, ifs: u8) -> Result<bool, Fail>
+    requires least { 1 ≤ ifs }
+    requires most { ifs ≤ 254 }
+{
+    let command = command_read(alloc, reader, ifs)?;
+    let wanted = command_of(SELECT, Body::ShortLe { le: 256 })?;
+    Ok(command == wanted && is_left(reader))
 }
 
 #[test]
@@ -216,57 +226,51 @@ fn a_command_is_received(rt: HostRuntime) -> Result<(), Fail> {
     let octets = of_hex(rt.alloc(), "00200200A4860060020400660000010001FF")?;
     const ROWS: [usize; 3] = [1, 2, 4096];
     for step in ROWS {
-        let mut reader = Counted::new(Feeder::new(octets.as_slice(), step, After::End));
-        let command = receive_command(rt.alloc(), &mut reader, 2, Number::Zero)?;
-        assert!(rt; command == Command::new(SELECT, Body::ShortLe { le: 256 })?);
-        assert!(rt; is_left(&mut reader));
+        let mut reader = reader_of(octets.as_slice(), step);
+        assert!(rt; gives_select(rt.alloc(), &mut reader, 2)?);
     }
     Ok(())
 }
 
+/// Whether octets give 9000 in blocks, and FF is left.
+fn gives_done(rt: &HostRuntime, text: &str) -> Result<bool, Fail> {
+    let octets = of_hex(rt.alloc(), text)?;
+    let mut reader = reader_of(octets.as_slice(), 4096);
+    let response = response_read(rt.alloc(), &mut reader, 254)?;
+    Ok(is_done(rt.alloc(), &response, "")? && is_left(&mut reader))
+}
+
 #[test]
 fn a_response_is_received(rt: HostRuntime) -> Result<(), Fail> {
-    let octets = of_hex(rt.alloc(), "000002900092FF")?;
-    let mut reader = Counted::new(Feeder::new(octets.as_slice(), 4096, After::End));
-    let response = receive_response(rt.alloc(), &mut reader, 254, Number::Zero)?;
-    let part = Octets::of(of_hex(rt.alloc(), "")?);
-    assert!(rt; response == Response::new(part, 0x90, 0x00)?);
-    assert!(rt; is_left(&mut reader));
+    assert!(rt; gives_done(&rt, "000002900092FF")?);
     Ok(())
 }
 
 #[test]
 fn received_in_fields_of_any_size(rt: HostRuntime) -> Result<(), Fail> {
     let octets = of_hex(rt.alloc(), "00200300A4048300600060000002000002FF")?;
-    let mut reader = Counted::new(Feeder::new(octets.as_slice(), 4096, After::End));
-    let command = receive_command(rt.alloc(), &mut reader, 254, Number::Zero)?;
-    assert!(rt; command == Command::new(SELECT, Body::ShortLe { le: 256 })?);
-    assert!(rt; is_left(&mut reader));
-    let octets = of_hex(rt.alloc(), "00200190B10040010041FF")?;
-    let mut reader = Counted::new(Feeder::new(octets.as_slice(), 4096, After::End));
-    let response = receive_response(rt.alloc(), &mut reader, 254, Number::Zero)?;
-    let part = Octets::of(of_hex(rt.alloc(), "")?);
-    assert!(rt; response == Response::new(part, 0x90, 0x00)?);
-    assert!(rt; is_left(&mut reader));
+    let mut reader = reader_of(octets.as_slice(), 4096);
+    assert!(rt; gives_select(rt.alloc(), &mut reader, 254)?);
+    assert!(rt; gives_done(&rt, "00200190B10040010041FF")?);
     Ok(())
 }
 
 #[test]
 fn chains_that_carry_no_apdu(rt: HostRuntime) -> Result<(), Fail> {
     let octets = of_hex(rt.alloc(), "00000200A4A6FF")?;
-    let mut reader = Counted::new(Feeder::new(octets.as_slice(), 4096, After::End));
-    let fault = receive_command(rt.alloc(), &mut reader, 254, Number::Zero).err();
+    let mut reader = reader_of(octets.as_slice(), 4096);
+    let fault = command_read(rt.alloc(), &mut reader, 254).err();
     let short = Stop::Short { place: 2 };
     assert!(rt; same(fault, Some(ReceiveFault::Apdu(short))));
     assert!(rt; is_left(&mut reader));
     let octets = of_hex(rt.alloc(), "0000019091FF")?;
-    let mut reader = Counted::new(Feeder::new(octets.as_slice(), 4096, After::End));
-    let fault = receive_response(rt.alloc(), &mut reader, 254, Number::Zero).err();
+    let mut reader = reader_of(octets.as_slice(), 4096);
+    let fault = response_read(rt.alloc(), &mut reader, 254).err();
     let short = Stop::Short { place: 1 };
     assert!(rt; same(fault, Some(ReceiveFault::Apdu(short))));
     assert!(rt; is_left(&mut reader));
-    let mut reader = Counted::new(Feeder::new(&[0x00, 0x40], 4096, After::End));
-    let fault = receive_command(rt.alloc(), &mut reader, 254, Number::Zero).err();
+    let mut reader = reader_of(&[0x00, 0x40], 4096);
+    let fault = command_read(rt.alloc(), &mut reader, 254).err();
     let refused = Stop::At {
         place: 1,
         reason: ChainReason::BadSequence,

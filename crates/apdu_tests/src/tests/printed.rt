@@ -1,9 +1,7 @@
 //! What is printed of reasons and faults, and of values that may hold a message.
 
-use apdu_core::{
-    Body, Command, CommandReason, CommandRef, ReceiveFault, Response, ResponseReason, ResponseRef,
-    SendFault,
-};
+use super::as_value::{command_lent, command_of, response_lent, response_of};
+use apdu_core::{Body, CommandReason, ReceiveFault, ResponseReason, SendFault};
 use chain_core::ChainReason;
 use octet_core::{Named, Octets, Stop};
 use std::alloc::Global;
@@ -74,31 +72,27 @@ const VERIFY: [u8; 9] = [0x00, 0x20, 0x00, 0x80, 0x04, 0x31, 0x32, 0x33, 0x34];
 #[test]
 fn debug_shows_no_octet(rt: HostRuntime) -> Result<(), Fail> {
     let alloc = rt.alloc();
-    let lent = CommandRef::decode(&VERIFY)?;
     let seen = "CommandRef { shape: ShortPart, part_octets: 4, le: None }";
-    assert!(rt; debugs(alloc, &lent, seen));
+    assert!(rt; debugs(alloc, &command_lent(&VERIFY)?, seen));
     let part = Octets::of(Vec::from_slice(alloc, &VERIFY[5..])?);
-    let command = Command::new([0x00, 0x20, 0x00, 0x80], Body::ShortPart { part })
-        .ok()
-        .ok_or("a command")?;
+    let command = command_of([0x00, 0x20, 0x00, 0x80], Body::ShortPart { part })?;
     let seen = "Command { body: ShortPart { part: Octets { octets: 4 } } }";
     assert!(rt; debugs(alloc, &command, seen));
-    let lent = ResponseRef::decode(&[0x12, 0x34, 0x63, 0xC2])?;
-    assert!(rt;
+    assert!(rt; responses_show_no_octet(alloc)?);
+    Ok(())
+}
+
+/// Whether a response shows no octet, lent and with memory of its own.
+fn responses_show_no_octet(alloc: Global) -> Result<bool, Fail> {
+    let lent = response_lent(&[0x12, 0x34, 0x63, 0xC2])?;
+    let part = Octets::of(Vec::from_slice(alloc, &[0x12])?);
+    let response = response_of(part, 0x90, 0x00)?;
+    let seen = "Response { part_octets: 1, status: Normal }";
+    Ok(
         debugs(
             alloc,
             &lent,
-            "ResponseRef { part_octets: 2, status: Warning }"
-        )
-    );
-    let part = Octets::of(Vec::from_slice(alloc, &[0x12])?);
-    let response = Response::new(part, 0x90, 0x00).ok().ok_or("a response")?;
-    assert!(rt;
-        debugs(
-            alloc,
-            &response,
-            "Response { part_octets: 1, status: Normal }"
-        )
-    );
-    Ok(())
+            "ResponseRef { part_octets: 2, status: Warning }",
+        ) && debugs(alloc, &response, seen),
+    )
 }
