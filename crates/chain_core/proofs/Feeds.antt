@@ -1,5 +1,5 @@
 -- What a receiver answers.
-use Rattle.std.proofs.Common.{◌≡◌, ℕ, ◌+◌, ◌*◌, ◌≤◌, ◌++◌, ◌⊎◌, List, [], length, take, drop, refl, sym, ap, subst, ◌∙◌, arith, Bool, true, false, append_assoc, inl, inr, Option, Some, None, Result, Ok, Err}
+use Rattle.std.proofs.Common.{◌≡◌, ℕ, ◌+◌, ◌*◌, ◌≤◌, ◌++◌, ◌⊎◌, List, [], length, take, drop, refl, sym, ap, subst, ◌∙◌, arith, Bool, true, false, append_assoc, inl, inr, Option, Some, None, Result, Ok, Err, IfErr}
 use Rattle.std.proofs.lemmas.List.{append-nil, take-append-drop, take-append-le}
 use Rattle.octet_core.specs.Grammar.{RefusesAt, self_ended}
 use Rattle.octet_core.specs.Reader.{IsFed, IsFinished}
@@ -223,6 +223,22 @@ ended-by r None false e f = record {
 pub ended-here : (r : Taking) (result : Result Unit (Stop ChainReason)) → result ≡ end_answer r
     → IsFinishedHere r result
 ended-here r result e = subst (IsFinishedHere r) (sym e) (ended-by r r.refusal r.done refl refl)
+
+waits-by : (r : Taking) (o : Option (Refusal ChainReason)) (d : Bool) → r.refusal ≡ o → r.done ≡ d
+    → IfErr (answer_after o d (length r.joined + r.blocks * 4 + length r.under_way)) (λ stop. r.refusal ≡ None
+    → (r.done ≡ false) × (stop ≡ Short (length r.joined + r.blocks * 4 + length r.under_way)))
+waits-by r (Some refusal) d e f = λ none. none_some r.refusal refusal none e
+waits-by r None true e f = tt
+waits-by r None false e f = λ none. (f, refl)
+
+-- where it refused nothing it waits for more after the octets that were taken
+pub ended-waits : (r : Taking) (result : Result Unit (Stop ChainReason)) → result ≡ end_answer r
+    → IfErr result (λ stop. r.refusal ≡ None → (r.done ≡ false)
+    × (stop ≡ Short (length r.joined + r.blocks * 4 + length r.under_way)))
+ended-waits r result e =
+    subst (λ (x : Result Unit (Stop ChainReason)). IfErr x (λ stop. r.refusal ≡ None → (r.done ≡ false)
+    × (stop ≡ Short (length r.joined + r.blocks * 4 + length r.under_way)))) (sym e)
+    (waits-by r r.refusal r.done refl refl)
 
 -- which is what a reader says there, where some octets may have been taken
 pub ended-finished : (r : Taking) (result : Result Unit (Stop ChainReason)) → result ≡ end_answer r

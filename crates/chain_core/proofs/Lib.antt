@@ -15,3 +15,6 @@ pub mod Steps
 pub mod Moves
 pub mod Ends
 pub mod Parity
+pub mod Leads
+pub mod Reached
+pub mod OneState

@@ -17,15 +17,15 @@ use Rattle.block_core.specs.Block.{pcb_octet}
 use Rattle.block_core.proofs.Blocks.{xor-zero}
 use Rattle.block_core.proofs.Readings.{xor-more}
 use Rattle.chain_core.specs.declared.reason.ChainReason.{ChainReason}
-use Rattle.chain_core.specs.declared.reason.ChainReason.TheVariants.{BadLrc}
+use Rattle.chain_core.specs.declared.reason.ChainReason.TheVariants.{BadPcb, NotInfo, BadSequence, TooManyBlocks, BadLen, OverIfs, TooLong, BadLrc}
 use Rattle.chain_core.specs.declared.part.Part as part
 use Rattle.chain_core.specs.declared.part.Part.TheVariants as parts
 use Rattle.chain_core.specs.declared.places.ReceiverPlaces.{ReceiverPlaces}
 use Rattle.chain_core.specs.Chain.{MeetsInBlock, all_reasons, chain_block, number_after, message_of}
-use Rattle.chain_core.specs.Part.{IsHead, IsHeadFault, IsAfter, more_count, place_of, came_of, left_of}
+use Rattle.chain_core.specs.Part.{IsHead, IsPcbFault, IsLenFault, IsHeadFault, IsAfter, more_count, place_of, came_of, left_of}
 use Rattle.chain_core.specs.Taking.{Taking, HasTaken, nothing_taken}
 use Rattle.chain_core.specs.Receiving.{Goes}
-use Rattle.chain_core.specs.Places.{under_way_of, number_at, field_at, held_at, received_at, IsUnderWay, IsAmong, AreReceiverPlaces, IsReceiver}
+use Rattle.chain_core.specs.Places.{under_way_of, number_at, field_at, held_at, taken_at, received_at, IsUnderWay, IsAmong, IsKept, IsNextReason, IsPcbReason, IsLenReason, AreReceiverPlaces, IsReceiver}
 use Rattle.chain_core.proofs.Feeds.{taken-fresh}
 use Rattle.chain_core.proofs.Heads.{first-head, first-lrc}
 use Rattle.chain_core.proofs.Reasons.{part-short, part-sum}
@@ -45,14 +45,15 @@ way-held ifs max blocks joined came (parts.Len more) le h = omega arith
 way-held ifs max blocks joined came (parts.Rest more len) le h = omega (arith, h.2, h.3)
 
 among-held : (done : Bool) (p : ReceiverPlaces) → p.joined ≤ p.max → IsAmong done p → held_at p ≤ p.max
-among-held true p le h = omega (arith, le, ap (λ (q : part.Part). came_of q p.came) h)
+among-held true p le h = omega (arith, le, ap (λ (q : part.Part). came_of q p.came) h.0)
 among-held false p le h = way-held p.ifs p.max p.blocks p.joined p.came p.part le h.1
 
 -- a buffer with room for the longest message has room for them
 pub held-room : (p : ReceiverPlaces) (room : ℕ) → AreReceiverPlaces p room → held_at p ≤ room
 held-room p room fit = omega (arith, among-held p.done p fit.joined fit.among, fit.reserved)
 
-joined-len : (p : ReceiverPlaces) (m : List ℕ) → p.joined ≤ length m → length (take p.joined m) ≡ p.joined
+-- where they are in the buffer, there are as many
+pub joined-len : (p : ReceiverPlaces) (m : List ℕ) → p.joined ≤ length m → length (take p.joined m) ≡ p.joined
 joined-len p m inside = omega (arith, length-take p.joined m, inside)
 
 -- ---- one of the first three octets of a block
@@ -121,7 +122,8 @@ none-came parts.Pcb = refl
 none-came (parts.Len more) = refl
 none-came (parts.Rest more len) = refl
 
-head-came : (p : part.Part) (came : ℕ) → IsHead p → came_of p came ≡ 0
+-- no octet of a field has come before the third octet of a block
+pub head-came : (p : part.Part) (came : ℕ) → IsHead p → came_of p came ≡ 0
 head-came parts.Nad came h = refl
 head-came parts.Pcb came h = refl
 head-came (parts.Len more) came h = refl
@@ -149,28 +151,38 @@ head-on p next x room m fit held none still after =
 
 -- what is kept beside the block under way stays
 fit-with : (p : ReceiverPlaces) (next : part.Part) (came : ℕ) (refusal : Option (Refusal ChainReason)) (room more : ℕ)
-    → AreReceiverPlaces p room → room ≤ more
+    → AreReceiverPlaces p room → room ≤ more → came_of next came ≡ came
     → IsAmong p.done (record p { part = next; came = came; refusal = refusal })
+    → IsKept refusal (record p { part = next; came = came; refusal = refusal })
     → AreReceiverPlaces (record p { part = next; came = came; refusal = refusal }) more
-fit-with p next came refusal room more fit grows among = record {
+fit-with p next came refusal room more fit grows idle among kept = record {
   least = fit.least;
   most = fit.most;
   limit = fit.limit;
   reserved = omega (arith, fit.reserved, grows);
   joined = fit.joined;
+  full = fit.full;
   blocks = fit.blocks;
+  idle = idle;
   among = among;
+  kept = kept;
 }
 
+-- where none is refused no refusal is kept
+none-kept : (p : ReceiverPlaces) → p.refusal ≡ None → IsKept p.refusal p
+none-kept p none = subst (λ (o : Option (Refusal ChainReason)). IsKept o p) (sym none) tt
+
 -- and its places stay those of a receiver
-pub head-fit : (p : ReceiverPlaces) (next : part.Part) (x room : ℕ) → p.done ≡ false → IsNext p x next
+pub head-fit : (p : ReceiverPlaces) (next : part.Part) (x room : ℕ) → p.refusal ≡ None → p.done ≡ false
+    → IsNext p x next
     → AreReceiverPlaces p room → AreReceiverPlaces (record p { part = next; came = 0 }) room
-head-fit p next x room still after fit =
+head-fit p next x room none still after fit =
     let way = way-of p room fit still in
     let next-way = head-way (number_at p) p.ifs p.max p.blocks p.joined p.came x p.part next way.0 fit.joined way.1
     after in
-    fit-with p next 0 p.refusal room room fit (omega arith)
+    fit-with p next 0 p.refusal room room fit (omega arith) (none-came next)
     (subst (λ (d : Bool). IsAmong d (record p { part = next; came = 0 })) (sym still) (way.0, next-way))
+    (none-kept (record p { part = next; came = 0 }) none)
 
 -- such an octet is refused at its place, for what is wrong with it
 pub head-off : (p : ReceiverPlaces) (x room : ℕ) (reason : ChainReason) (m : List ℕ) → AreReceiverPlaces p room
@@ -203,11 +215,46 @@ among-kept : (done : Bool) (p : ReceiverPlaces) (refusal : Refusal ChainReason) 
 among-kept true p refusal h = h
 among-kept false p refusal h = h
 
--- places that keep a refusal stay those of a receiver
-pub kept-fit : (p : ReceiverPlaces) (refusal : Refusal ChainReason) (room : ℕ) → AreReceiverPlaces p room
-    → AreReceiverPlaces (record p { refusal = Some refusal }) room
-kept-fit p refusal room fit =
-    fit-with p p.part p.came (Some refusal) room room fit (omega arith) (among-kept p.done p refusal fit.among)
+-- places that keep a refusal of the next octet stay those of a receiver
+kept-fit : (p : ReceiverPlaces) (refusal : Refusal ChainReason) (room : ℕ) → p.done ≡ false
+    → refusal.place ≡ taken_at p → IsNextReason p.ifs p.max p.blocks p.joined p.came p.part refusal.reason
+    → AreReceiverPlaces p room → AreReceiverPlaces (record p { refusal = Some refusal }) room
+kept-fit p refusal room still place reason fit =
+    fit-with p p.part p.came (Some refusal) room room fit (omega arith) fit.idle
+    (among-kept p.done p refusal fit.among) (still, place, reason)
+
+pcb-reason : (number : Number) (blocks x : ℕ) (r : ChainReason)
+    → IsPcbFault number (nat_eq (blocks + 1) 131072) x r → IsPcbReason blocks r
+pcb-reason number blocks x BadPcb h = tt
+pcb-reason number blocks x NotInfo h = tt
+pcb-reason number blocks x BadSequence h = tt
+pcb-reason number blocks x TooManyBlocks h = last-full blocks h.0
+pcb-reason number blocks x _ h = absurd h
+
+len-reason : (ifs room x : ℕ) (r : ChainReason) → x < 256 → IsLenFault ifs room x r → IsLenReason ifs room r
+len-reason ifs room x BadLen octet h = tt
+len-reason ifs room x OverIfs octet h = let ne : x ≢ 255 = h.0 in omega (arith, h.1, octet)
+len-reason ifs room x TooLong octet h = omega (arith, h.1, h.2)
+len-reason ifs room x _ octet h = absurd h
+
+-- what is wrong with one of the first three octets of a block is a reason for which one can be refused
+head-reason : (number : Number) (ifs max blocks joined came x : ℕ) (p : part.Part) (r : ChainReason) → x < 256
+    → IsHeadFault number (nat_eq (blocks + 1) 131072) ifs (max - joined) p x r
+    → IsNextReason ifs max blocks joined came p r
+head-reason number ifs max blocks joined came x parts.Nad r octet h = h.1
+head-reason number ifs max blocks joined came x parts.Pcb r octet h = pcb-reason number blocks x r h
+head-reason number ifs max blocks joined came x (parts.Len more) r octet h = len-reason ifs (max - joined) x r octet h
+head-reason number ifs max blocks joined came x (parts.Rest more len) r octet h = absurd h
+
+-- so do those that refused one of these octets
+pub off-fit : (p : ReceiverPlaces) (x room : ℕ) (reason : ChainReason) → x < 256 → p.done ≡ false → IsHead p.part
+    → IsOff p x reason → AreReceiverPlaces p room
+    → AreReceiverPlaces
+    (record p { refusal = Some (record { place = p.joined + 4 * p.blocks + place_of p.part; reason = reason }) }) room
+off-fit p x room reason octet still head fault fit =
+    kept-fit p (record { place = p.joined + 4 * p.blocks + place_of p.part; reason = reason }) room still
+    (omega (arith, head-came p.part p.came head))
+    (head-reason (number_at p) p.ifs p.max p.blocks p.joined p.came x p.part reason octet fault) fit
 
 -- ---- octets of the field
 
@@ -225,21 +272,22 @@ more-way ifs max blocks joined came run parts.Pcb some le h = absurd (omega arit
 more-way ifs max blocks joined came run (parts.Len more) some le h = absurd (omega arith)
 more-way ifs max blocks joined came run (parts.Rest more len) some le h = (h.0, h.1, h.2, omega (arith, le, some))
 
--- while octets of the field come the places stay those of a receiver, in a buffer that has no less room
-pub field-fit : (p : ReceiverPlaces) (run room more : ℕ) → p.done ≡ false → 0 < left_of p.part p.came
-    → run ≤ left_of p.part p.came → room ≤ more → AreReceiverPlaces p room
-    → AreReceiverPlaces (record p { came = p.came + run }) more
-field-fit p run room more still some le grows fit =
-    let way = way-of p room fit still in
-    fit-with p p.part (p.came + run) p.refusal room more fit grows
-    (subst (λ (d : Bool). IsAmong d (record p { came = p.came + run })) (sym still)
-    (way.0, more-way p.ifs p.max p.blocks p.joined p.came run p.part some le way.1))
-
 left-held : (p : part.Part) (came now : ℕ) → 0 < left_of p came → came_of p now ≡ now
 left-held parts.Nad came now some = absurd (omega arith)
 left-held parts.Pcb came now some = absurd (omega arith)
 left-held (parts.Len more) came now some = absurd (omega arith)
 left-held (parts.Rest more len) came now some = refl
+
+-- while octets of the field come the places stay those of a receiver, in a buffer that has no less room
+pub field-fit : (p : ReceiverPlaces) (run room more : ℕ) → p.refusal ≡ None → p.done ≡ false
+    → 0 < left_of p.part p.came → run ≤ left_of p.part p.came → room ≤ more → AreReceiverPlaces p room
+    → AreReceiverPlaces (record p { came = p.came + run }) more
+field-fit p run room more none still some le grows fit =
+    let way = way-of p room fit still in
+    fit-with p p.part (p.came + run) p.refusal room more fit grows (left-held p.part p.came (p.came + run) some)
+    (subst (λ (d : Bool). IsAmong d (record p { came = p.came + run })) (sym still)
+    (way.0, more-way p.ifs p.max p.blocks p.joined p.came run p.part some le way.1))
+    (none-kept (record p { came = p.came + run }) none)
 
 -- what comes of the field is put after what came before
 pub field-held : (p : ReceiverPlaces) (run : ℕ) → 0 < left_of p.part p.came
@@ -349,12 +397,17 @@ lrc-on p more len x room m all fit inside none still sum =
 among-closed : (p : ReceiverPlaces) (more : Bool) (len : ℕ) → p.blocks + 1 + more_count more ≤ 131072
     → IsAmong (not more) (closed_at p more len)
 among-closed p true len few = (omega (arith, few), tt)
-among-closed p false len few = refl
+among-closed p false len few = (refl, omega arith)
+
+-- a block more has room for a field more
+more-full : (blocks ifs joined len : ℕ) → joined ≤ blocks * ifs → len ≤ ifs → joined + len ≤ (blocks + 1) * ifs
+more-full blocks ifs joined len full size =
+    let more : (blocks + 1) * ifs ≡ blocks * ifs + ifs = omega arith in omega (arith, full, size, more)
 
 -- and the places stay those of a receiver
-pub closed-fit : (p : ReceiverPlaces) (more : Bool) (len room : ℕ) → p.done ≡ false
+pub closed-fit : (p : ReceiverPlaces) (more : Bool) (len room : ℕ) → p.refusal ≡ None → p.done ≡ false
     → AreReceiverPlaces (with_rest p more len) room → AreReceiverPlaces (closed_at p more len) room
-closed-fit p more len room still fit =
+closed-fit p more len room none still fit =
     let way = way-of (with_rest p more len) room fit still in
     record {
       least = fit.least;
@@ -362,9 +415,21 @@ closed-fit p more len room still fit =
       limit = fit.limit;
       reserved = fit.reserved;
       joined = way.1.2;
+      full = more-full p.blocks p.ifs p.joined len fit.full way.1.1;
       blocks = omega (arith, way.0);
+      idle = refl;
       among = among-closed p more len way.1.0;
+      kept = none-kept (closed_at p more len) none;
     }
+
+-- also where the LRC is refused
+pub sum-fit : (p : ReceiverPlaces) (more : Bool) (len room : ℕ) → p.done ≡ false
+    → AreReceiverPlaces (with_rest p more len) room
+    → AreReceiverPlaces (record (with_rest p more len)
+    { refusal = Some (record { place = p.joined + 4 * p.blocks + (3 + len); reason = BadLrc }) }) room
+sum-fit p more len room still fit =
+    kept-fit (with_rest p more len) (record { place = p.joined + 4 * p.blocks + (3 + len); reason = BadLrc }) room still
+    refl (refl, refl) fit
 
 -- an LRC with which the sum isn't 0 is refused, at its place
 pub lrc-off : (p : ReceiverPlaces) (more : Bool) (len x room : ℕ) (m : List ℕ)
@@ -413,7 +478,8 @@ receiver-field p m m' xs n room more r free still octets grows some le count is 
     ∙ ap (λ (l : List ℕ). l ++ xs) (sym (take_all a m (omega (arith, inside)))) in
     let goes : Goes (received_at p m) (received_at q m') xs =
     field-on p room m m' xs all r.fit (omega (arith, inside)) free still some (omega (arith, le, count)) text in
-    let fit : AreReceiverPlaces q more = field-fit p run room more still some (omega (arith, le, count)) grows r.fit in
+    let fit : AreReceiverPlaces q more = field-fit p run room more free still some (omega (arith, le, count)) grows
+    r.fit in
     let kept : IsReceiver q m' more = receiver-kept p q m m' xs room more r free fit all
     (omega (arith, long, field-held p run some)) goes in
     subst (λ (k : ℕ). Goes (received_at p m) (received_at (record p { came = p.came + k }) m') xs

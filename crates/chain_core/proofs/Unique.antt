@@ -16,7 +16,8 @@ plain number = omega arith
 differ : (number : Number) → number_bit number 64 + 32 ≡ number_bit number 64 → ⊥
 differ number e = omega arith
 
-more-back : (number : Number) (m n : Bool) → pcb_octet (Info number m) ≡ pcb_octet (Info number n) → m ≡ n
+-- equal control octets of I-blocks say the same of what follows
+pub more-back : (number : Number) (m n : Bool) → pcb_octet (Info number m) ≡ pcb_octet (Info number n) → m ≡ n
 more-back number false false e = refl
 more-back number false true e = absurd (differ number (sym e ∙ plain number))
 more-back number true false e = absurd (differ number (e ∙ plain number))

@@ -1,6 +1,7 @@
 -- A receiver of a chain as its caller keeps it, with the octets of the message in the caller's buffer.
-use Rattle.std.specs.Prelude.{◌≡◌, ℕ, ◌+◌, ◌≤◌, List, [], ◌∷◌, length, take, drop, Bool, true, false, Some, None, Result, Err, OnOk, IfErr}
+use Rattle.std.specs.Prelude.{◌≡◌, ℕ, ◌+◌, ◌-◌, ◌*◌, ◌<◌, ◌≤◌, List, [], ◌∷◌, ◌++◌, length, take, drop, Bool, true, false, Option, Some, None, Result, Err, OnOk, IfErr}
 use Rattle.octet_core.specs.Octets.{AreOctets}
+use Rattle.octet_core.specs.Grammar.{self_ended, RefusesAt}
 use Rattle.octet_core.specs.declared.stop.Refusal.{Refusal}
 use Rattle.octet_core.specs.declared.stop.Stop.{Stop}
 use Rattle.octet_core.specs.declared.stop.Stop.TheVariants.{Short, At}
@@ -10,10 +11,11 @@ use Rattle.block_core.specs.declared.pcb.Pcb.TheVariants.{Info}
 use Rattle.chain_core.specs.declared.part.Part as part
 use Rattle.chain_core.specs.declared.part.Part.TheVariants as parts
 use Rattle.chain_core.specs.declared.places.ReceiverPlaces.{ReceiverPlaces}
-use Rattle.chain_core.specs.Chain.{IsChain, most_blocks, longest_message, number_after}
-use Rattle.chain_core.specs.Part.{more_count, came_of}
-use Rattle.chain_core.specs.Taking.{Taking, HasTaken}
+use Rattle.chain_core.specs.Chain.{IsChain, IsReason, most_blocks, longest_message, number_after}
+use Rattle.chain_core.specs.Part.{more_count, came_of, place_of}
+use Rattle.chain_core.specs.Taking.{Taking, HasTaken, unrefused}
 use Rattle.chain_core.specs.declared.reason.ChainReason.{ChainReason}
+use Rattle.chain_core.specs.declared.reason.ChainReason.TheVariants.{BadNad, BadPcb, NotInfo, BadSequence, TooManyBlocks, BadLen, OverIfs, TooLong, BadLrc}
 
 -- the octets of the block under way, by what comes next of it and those of its field that came
 abbrev pub under_way_of : Number → part.Part → List ℕ → List ℕ
@@ -55,20 +57,77 @@ IsUnderWay ifs max blocks joined came (parts.Len more) = blocks + 1 + more_count
 IsUnderWay ifs max blocks joined came (parts.Rest more len) =
     (blocks + 1 + more_count more ≤ most_blocks) × (len ≤ ifs) × (joined + len ≤ max) × (came ≤ len)
 
--- a whole chain has no block under way
+-- a whole chain has blocks, and none under way
 abbrev pub IsAmong : Bool → ReceiverPlaces → Type 0
-IsAmong true p = p.part ≡ parts.Nad
+IsAmong true p = (p.part ≡ parts.Nad) × (1 ≤ p.blocks)
 IsAmong false p = (p.blocks + 1 ≤ most_blocks) × IsUnderWay p.ifs p.max p.blocks p.joined p.came p.part
 
--- They are those of a receiver with a buffer of so many octets.
+-- some octet can come for a PCB after so many blocks that is refused for this reason
+abbrev pub IsPcbReason : ℕ → ChainReason → Type 0
+IsPcbReason blocks BadPcb = Unit {0}
+IsPcbReason blocks NotInfo = Unit {0}
+IsPcbReason blocks BadSequence = Unit {0}
+IsPcbReason blocks TooManyBlocks = blocks + 1 ≡ most_blocks
+IsPcbReason blocks _ = ⊥
+
+-- and for a LEN, where so many octets have room in the message
+abbrev pub IsLenReason : ℕ → ℕ → ChainReason → Type 0
+IsLenReason ifs room BadLen = Unit {0}
+IsLenReason ifs room OverIfs = ifs < 254
+IsLenReason ifs room TooLong = room < ifs
+IsLenReason ifs room _ = ⊥
+
+-- some octet can come next of the block under way that is refused for this reason: of its field none is
+abbrev pub IsNextReason : (ifs max blocks joined came : ℕ) → part.Part → ChainReason → Type 0
+IsNextReason ifs max blocks joined came parts.Nad r = r ≡ BadNad
+IsNextReason ifs max blocks joined came parts.Pcb r = IsPcbReason blocks r
+IsNextReason ifs max blocks joined came (parts.Len more) r = IsLenReason ifs (max - joined) r
+IsNextReason ifs max blocks joined came (parts.Rest more len) r = (came ≡ len) × (r ≡ BadLrc)
+
+-- how many octets were taken
+abbrev pub taken_at : ReceiverPlaces → ℕ
+taken_at p = p.joined + 4 * p.blocks + (place_of p.part + came_of p.part p.came)
+
+-- a refusal that is kept is of the octet after those, where more octets were taken
+abbrev pub IsKept : Option (Refusal ChainReason) → ReceiverPlaces → Type 0
+IsKept None p = Unit {0}
+IsKept (Some refusal) p = (p.done ≡ false) × (refusal.place ≡ taken_at p)
+    × IsNextReason p.ifs p.max p.blocks p.joined p.came p.part refusal.reason
+
+-- They are those of a receiver with a buffer of so many octets: those that some octets lead to (`AreLedTo`).
 pub record AreReceiverPlaces (p : ReceiverPlaces) (room : ℕ) : Type 0 where
   pub least : 1 ≤ p.ifs
   pub most : p.ifs ≤ 254
   pub limit : p.max ≤ longest_message
   pub reserved : p.max ≤ room
   pub joined : p.joined ≤ p.max
+  -- no block has a longer field
+  pub full : p.joined ≤ p.blocks * p.ifs
   pub blocks : p.blocks ≤ most_blocks
+  -- no octet of a field is counted where none is under way
+  pub idle : came_of p.part p.came ≡ p.came
   pub among : IsAmong p.done p
+  pub kept : IsKept p.refusal p
+
+-- The octets t bring a receiver here: it took them all; or it took all but the last, which it refused.
+abbrev pub Brings : Option (Refusal ChainReason) → Taking → List ℕ → Type 0
+Brings None r t = HasTaken r t
+Brings (Some refusal) r t = (s : List ℕ) × (x : ℕ) × (t ≡ s ++ x ∷ []) × HasTaken (unrefused r) s
+    × RefusesAt self_ended (IsChain r.ifs r.number r.max) (IsReason r.ifs r.number r.max) t
+    (At refusal.place refusal.reason)
+
+-- The octets t lead a receiver, from its beginning, to these places and this buffer.
+pub record AreLedTo (p : ReceiverPlaces) (message t : List ℕ) : Type 0 where
+  -- it can begin so
+  pub least : 1 ≤ p.ifs
+  pub most : p.ifs ≤ 254
+  pub limit : p.max ≤ longest_message
+  pub reserved : p.max ≤ length message
+  pub octets : AreOctets t
+  -- what it counts is in the buffer, and is of a field only where one is under way
+  pub held : held_at p ≤ length message
+  pub idle : came_of p.part p.came ≡ p.came
+  pub brings : Brings p.refusal (received_at p message) t
 
 -- A receiver has room for the longest message, and keeps the octets that are in use and no other.
 pub record IsReceiver (p : ReceiverPlaces) (message : List ℕ) (room : ℕ) : Type 0 where

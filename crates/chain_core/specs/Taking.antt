@@ -55,6 +55,10 @@ pub record AreBefore (number : Number) (blocks : ℕ) (joined t : List ℕ) : Ty
   pub message : message_of fields ≡ joined
   pub taken : AreTaken false number fields part t
 
+-- what it is but for its refusal
+abbrev pub unrefused : Taking → Taking
+unrefused r = record r { refusal = None }
+
 abbrev pub refusal_of : Taking → Option (Refusal ChainReason)
 refusal_of r = r.refusal
 

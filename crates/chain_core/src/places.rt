@@ -1,16 +1,17 @@
 //! A receiver of a chain that its caller keeps, some thirty octets, and whose message is in the caller's buffer.
 
-ghost use Rattle.std.specs.Prelude.{◌≡◌, ◌+◌, ◌*◌, ◌<◌, ◌≤◌, length, take, Some, None, [], ◌∷◌, IfSome, IfNone, MatchBool, true, false, List, ℕ, ◌⊎◌, IsSome};
+ghost use Rattle.std.specs.Prelude.{◌≡◌, ◌+◌, ◌*◌, ◌<◌, ◌≤◌, ◌++◌, length, take, Some, None, [], ◌∷◌, IfSome, IfNone, MatchBool, true, false, List, ℕ, ◌⊎◌, IsSome, IsTrue, ◌↔◌};
 ghost use Rattle.octet_core.specs.Reader.{IsFed};
 ghost use Rattle.octet_core.specs.declared.stop.Refusal.{Refusal};
 ghost use Rattle.octet_core.specs.declared.stop.Stop.TheVariants.{Short};
 ghost use Rattle.chain_core.specs.declared.reason.ChainReason.{ChainReason};
 ghost use Rattle.chain_core.specs.declared.part.Part.TheVariants.{Rest};
 ghost use Rattle.chain_core.specs.Chain.{IsChain, IsReason, most_blocks, longest_message, number_after};
-ghost use Rattle.chain_core.specs.Part.{IsHead, left_of};
+ghost use Rattle.chain_core.specs.Part.{IsHead, left_of, place_of, came_of};
 ghost use Rattle.chain_core.specs.Taking.{HasTaken, IsOpen, IsClosed, nothing_taken, refusal_of};
 ghost use Rattle.chain_core.specs.Receiving.{Goes, fed_answer, end_answer};
-ghost use Rattle.chain_core.specs.Places.{AreReceiverPlaces, IsUnderWay, number_at, field_at, under_way_of, received_at, held_at, IsFinishedHere};
+ghost use Rattle.octet_core.specs.Octets.{AreOctets};
+ghost use Rattle.chain_core.specs.Places.{AreReceiverPlaces, AreLedTo, IsUnderWay, IsAmong, IsKept, IsNextReason, IsPcbReason, IsLenReason, number_at, field_at, under_way_of, received_at, held_at, taken_at, IsFinishedHere};
 
 use crate::part::{Part, after};
 use crate::reason::ChainReason;
@@ -57,6 +58,7 @@ impl ReceiverPlaces {
         ensures fit { (room : ℕ) → max ≤ room → AreReceiverPlaces result room }
         ensures fresh { (message : List ℕ)
             → received_at result message ≡ nothing_taken ifs number max }
+        ensures led { (message : List ℕ) → max ≤ length message → AreLedTo result message [] }
     {
         ReceiverPlaces {
             ifs,
@@ -85,6 +87,9 @@ impl ReceiverPlaces {
             (received_at self.old message.old) (received_at self.new message.new) piece.now result }
         ensures kept { (self.new.ifs ≡ self.old.ifs) × (self.new.first ≡ self.old.first)
             × (self.new.max ≡ self.old.max) }
+        // the octets that led to the old places, and those of the piece that count, lead to the new ones
+        ensures led { (t : List ℕ) → AreLedTo self.old message.old t → (n : ℕ)
+            × (n ≤ length piece.now) × AreLedTo self.new message.new (t ++ take n piece.now) }
     {
         let mut taken = 0;
         while taken < piece.len() && self.is_open() {
@@ -117,8 +122,20 @@ impl ReceiverPlaces {
         }
     }
 
-    /// Whether these are the places of a receiver with a buffer of `room` octets.
+    /// Whether some octets lead a receiver with a buffer of `room` octets to these places, from `begin` on.
     pub fn fit(&self, room: usize) -> bool
+        ensures yes { result ≡ true → AreReceiverPlaces self.now room }
+        ensures no { AreReceiverPlaces self.now room → result ≡ true }
+        ensures led { result ≡ true → (message : List ℕ) → length message ≡ room
+            → AreOctets message → (t : List ℕ) × AreLedTo self.now message t }
+        ensures only { (message t : List ℕ) → length message ≡ room → AreOctets message
+            → AreLedTo self.now message t → result ≡ true }
+    {
+        self.are_fit(room)
+    }
+
+    /// Whether they suit one another and the buffer.
+    fn are_fit(&self, room: usize) -> bool
         ensures yes { result ≡ true → AreReceiverPlaces self.now room }
         ensures no { AreReceiverPlaces self.now room → result ≡ true }
     {
@@ -128,11 +145,29 @@ impl ReceiverPlaces {
             && self.max as usize <= room
             && self.joined <= self.max
             && self.blocks <= MOST_BLOCKS
-            && if self.done {
-                matches!(self.part, Part::Nad)
-            } else {
-                self.blocks < MOST_BLOCKS && self.is_under_way()
-            }
+            && self.joined <= self.blocks * self.ifs as u32
+            && self.is_idle()
+            && self.is_among()
+            && self.is_kept()
+    }
+
+    /// Whether octets of a field are counted only where one is under way.
+    fn is_idle(&self) -> bool
+        ensures { IsTrue result ↔ (came_of self.now.part self.now.came ≡ self.now.came) }
+    {
+        matches!(self.part, Part::Rest { .. }) || self.came == 0
+    }
+
+    /// Whether the chain is whole, with no block under way, or a block can be under way as it is said.
+    fn is_among(&self) -> bool
+        requires joined { self.now.joined ≤ self.now.max }
+        ensures yes { result ≡ true → IsAmong self.now.done self.now }
+        ensures no { IsAmong self.now.done self.now → result ≡ true }
+    {
+        if self.done {
+            return matches!(self.part, Part::Nad) && self.blocks >= 1;
+        }
+        self.blocks < MOST_BLOCKS && self.is_under_way()
     }
 
     /// Whether a block can be under way as it is said.
@@ -158,6 +193,48 @@ impl ReceiverPlaces {
         }
     }
 
+    /// Whether the refusal that is kept, if any, is of the next octet of the block under way.
+    fn is_kept(&self) -> bool
+        requires joined { self.now.joined ≤ self.now.max }
+        requires limit { self.now.max ≤ longest_message }
+        requires blocks { self.now.blocks ≤ most_blocks }
+        ensures yes { result ≡ true → IsKept self.now.refusal self.now }
+        ensures no { IsKept self.now.refusal self.now → result ≡ true }
+    {
+        match self.refusal {
+            None => true,
+            Some(refusal) => {
+                !self.done && refusal.place == self.taken() && self.may_refuse(refusal.reason)
+            }
+        }
+    }
+
+    /// Whether some octet can come next of the block under way that is refused for this reason.
+    fn may_refuse(&self, reason: ChainReason) -> bool
+        requires joined { self.now.joined ≤ self.now.max }
+        requires blocks { self.now.blocks ≤ most_blocks }
+        ensures yes { result ≡ true → IsNextReason self.now.ifs self.now.max self.now.blocks
+            self.now.joined self.now.came self.now.part reason }
+        ensures no { IsNextReason self.now.ifs self.now.max self.now.blocks self.now.joined
+            self.now.came self.now.part reason → result ≡ true }
+    {
+        match self.part {
+            Part::Nad => matches!(reason, ChainReason::BadNad),
+            Part::Pcb => is_pcb_reason(self.blocks, reason),
+            Part::Len { .. } => is_len_reason(self.ifs, self.max - self.joined, reason),
+            Part::Rest { len, .. } => self.came == len && matches!(reason, ChainReason::BadLrc),
+        }
+    }
+
+    /// How many octets were taken.
+    fn taken(&self) -> usize
+        requires joined { self.now.joined ≤ longest_message }
+        requires blocks { self.now.blocks ≤ most_blocks }
+        ensures { result ≡ taken_at self.now }
+    {
+        self.joined as usize + 4 * self.blocks as usize + self.under_way()
+    }
+
     /// What a call that fed octets answers, of which it took so many.
     pub(crate) fn answer(&self, taken: usize) -> Result<(usize, bool), Stop<ChainReason>>
         ensures { result ≡ fed_answer self.now.refusal self.now.done taken }
@@ -178,16 +255,15 @@ impl ReceiverPlaces {
             Some(refusal) => Err(refusal.stop()),
             None if self.done => Ok(()),
             None => Err(Stop::Short {
-                place: self.joined as usize + 4 * self.blocks as usize + self.under_way(),
+                place: self.taken(),
             }),
         }
     }
 
     /// How many octets of the block under way came.
     pub(crate) fn under_way(&self) -> usize
-        requires { IsUnderWay self.now.ifs self.now.max self.now.blocks self.now.joined
-            self.now.came self.now.part }
         ensures few { result ≤ 258 }
+        ensures place { result ≡ place_of self.now.part + came_of self.now.part self.now.came }
         ensures count { (message : List ℕ) → held_at self.now ≤ length message →
             result ≡ length (under_way_of (number_at self.now) self.now.part (field_at self.now message)) }
     {
@@ -240,6 +316,8 @@ impl ReceiverPlaces {
         ensures fit { AreReceiverPlaces self.new (length message.new) }
         ensures goes { Goes (received_at self.old message.old) (received_at self.new message.new)
             (take result piece.now) }
+        ensures stays { IsSome self.new.refusal → ((record self.new { refusal = None }) ≡ self.old)
+            × (message.new ≡ message.old) × (result ≡ 1) }
     {
         let run = piece.len().min(self.field_left());
         if run == 0 {
@@ -263,6 +341,7 @@ impl ReceiverPlaces {
         ensures held { held_at self.new ≡ held_at self.old }
         ensures goes { Goes (received_at self.old message.now) (received_at self.new message.now)
             (octet ∷ []) }
+        ensures stays { IsSome self.new.refusal → (record self.new { refusal = None }) ≡ self.old }
     {
         match self.part {
             Part::Rest { more, len } => self.take_lrc(message, more, len, octet),
@@ -280,6 +359,7 @@ impl ReceiverPlaces {
         ensures held { held_at self.new ≡ held_at self.old }
         ensures goes { (message : List ℕ) → held_at self.old ≤ length message →
             Goes (received_at self.old message) (received_at self.new message) (octet ∷ []) }
+        ensures stays { IsSome self.new.refusal → (record self.new { refusal = None }) ≡ self.old }
     {
         let last = self.blocks + 1 == MOST_BLOCKS;
         let room = (self.max - self.joined) as usize;
@@ -304,6 +384,7 @@ impl ReceiverPlaces {
         ensures held { held_at self.new ≡ held_at self.old }
         ensures goes { Goes (received_at self.old message.now) (received_at self.new message.now)
             (octet ∷ []) }
+        ensures stays { IsSome self.new.refusal → (record self.new { refusal = None }) ≡ self.old }
     {
         let start = self.joined as usize;
         let end = start + len as usize;
@@ -334,5 +415,31 @@ impl ReceiverPlaces {
     {
         let place = self.joined as usize + 4 * self.blocks as usize + place;
         self.refusal = Some(Refusal { place, reason });
+    }
+}
+
+/// Whether some octet can come for a PCB after so many blocks that is refused for this reason.
+fn is_pcb_reason(blocks: u32, reason: ChainReason) -> bool
+    requires { blocks ≤ most_blocks }
+    ensures yes { result ≡ true → IsPcbReason blocks reason }
+    ensures no { IsPcbReason blocks reason → result ≡ true }
+{
+    match reason {
+        ChainReason::BadPcb | ChainReason::NotInfo | ChainReason::BadSequence => true,
+        ChainReason::TooManyBlocks => blocks + 1 == MOST_BLOCKS,
+        _ => false,
+    }
+}
+
+/// And for a LEN, where `room` octets have room in the message.
+fn is_len_reason(ifs: u8, room: u32, reason: ChainReason) -> bool
+    ensures yes { result ≡ true → IsLenReason ifs room reason }
+    ensures no { IsLenReason ifs room reason → result ≡ true }
+{
+    match reason {
+        ChainReason::BadLen => true,
+        ChainReason::OverIfs => (ifs as usize) < LONGEST_INF,
+        ChainReason::TooLong => room < ifs as u32,
+        _ => false,
     }
 }

@@ -38,3 +38,4 @@ pub mod Reading
 pub mod Rows
 pub mod Alike
 pub mod TagTests
+pub mod Leads

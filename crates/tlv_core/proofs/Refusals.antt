@@ -143,7 +143,8 @@ next_right (header.Sized g f read number) x (next.Object o) well is =
 
 -- ---- what must still come
 
-need_header : (longer : Header) → IsWell longer → need (header_octets longer) ≡ header_need longer
+-- as many octets must still come of a header as its octets need
+pub need_header : (longer : Header) → IsWell longer → need (header_octets longer) ≡ header_need longer
 need_header header.Nothing well = refl
 need_header (header.First a) well = need-long a [] well.1
 need_header (header.Second a b) well = need-long a (b ∷ []) well.1 ∙ need_after-more b [] (omega (arith, well.2))

@@ -1,10 +1,12 @@
 -- What a check of octets in pieces keeps.
-use Rattle.std.specs.Prelude.{◌≡◌, ℕ, List, Option, Some, None, Result, Ok, Err}
+use Rattle.std.specs.Prelude.{◌≡◌, ℕ, ◌<◌, List, Option, Some, None, Result, Ok, Err}
+use Rattle.octet_core.specs.Grammar.{IsFirst}
 use Rattle.octet_core.specs.declared.stop.Stop.{Stop}
 use Rattle.octet_core.specs.declared.stop.Stop.TheVariants.{At}
 use Rattle.tlv_core.specs.declared.reason.TlvReason.{TlvReason}
 use Rattle.octet_core.specs.declared.stop.Refusal.{Refusal}
-use Rattle.tlv_core.specs.Reasons.{Kept, HasTaken}
+use Rattle.tlv_core.specs.Reasons.{Kept, HasTaken, tlv_reasons}
+use Rattle.tlv_core.specs.Steps.{IsWrongAfter}
 
 -- what its octets leave open, and why the next one was refused, if it was
 pub record Checked : Type 0 where
@@ -25,3 +27,12 @@ answer_of (Some r) = Err (At r.place r.reason)
 abbrev pub refusal_at : ℕ → Option TlvReason → Option (Refusal TlvReason)
 refusal_at count None = None
 refusal_at count (Some reason) = Some (record { place = count; reason = reason })
+
+-- some octet can come next that is refused for this reason, if there is one: none of a value is
+abbrev pub IsRefusable : Kept → Option (Refusal TlvReason) → Type 0
+IsRefusable k None = Unit {0}
+IsRefusable k (Some r) = (k.value_left ≡ 0) × (x : ℕ) × (x < 256) × IsFirst tlv_reasons (IsWrongAfter k x) r.reason
+
+-- the refusal that is kept is one of those
+abbrev pub MayRefuse : Checked → Type 0
+MayRefuse k = IsRefusable k.kept k.refusal

@@ -32,3 +32,4 @@ pub mod Flat
 pub mod Same
 pub mod Read
 pub mod Names
+pub mod Led

@@ -1,11 +1,11 @@
 //! The steps of a check of a forest in pieces, whoever keeps what it keeps.
 
-ghost use Rattle.std.specs.Prelude.{◌≡◌, ℕ, List, ◌++◌, OnOk, IfErr, OnSome, MatchResult, None};
+ghost use Rattle.std.specs.Prelude.{◌≡◌, ◌≤◌, ℕ, List, length, take, ◌++◌, OnOk, IfErr, OnSome, MatchResult, None};
 ghost use Rattle.octet_core.specs.Grammar.{Refuses, RefusesAt, whole};
 ghost use Rattle.tlv_core.specs.Tree.{Tree};
 ghost use Rattle.tlv_core.specs.Forest.{IsForest};
 ghost use Rattle.tlv_core.specs.Reasons.{IsReason, HasTaken};
-ghost use Rattle.tlv_core.specs.Check.{HasChecked, answer_of};
+ghost use Rattle.tlv_core.specs.Check.{HasChecked, MayRefuse, answer_of};
 ghost use Rattle.tlv_core.specs.Checking.{checked_of};
 ghost use Rattle.tlv_core.specs.Progress.{kept_of};
 
@@ -34,6 +34,9 @@ impl Checking {
             (IsReason self.old.progress.ends.max) (b ++ piece.now)) }
         ensures some { (b : List ℕ) × HasTaken b (kept_of self.old.progress) → (b : List ℕ)
             × HasTaken b (kept_of self.new.progress) }
+        ensures led { (b : List ℕ) → HasTaken b (kept_of self.old.progress) → (n : ℕ)
+            × (n ≤ length piece.now) × HasTaken (b ++ take n piece.now) (kept_of self.new.progress) }
+        ensures may { MayRefuse (checked_of self.old) → MayRefuse (checked_of self.new) }
     {
         if let Some(refusal) = self.refusal() {
             return Err(refusal.stop());

@@ -1,6 +1,6 @@
 //! The header of an object, tag and length field, taken octet by octet.
 
-ghost use Rattle.std.specs.Prelude.{◌≡◌, ◌+◌, ◌*◌, ◌^◌, ◌<◌, ◌≤◌, [], ◌∷◌, ◌↔◌, IsTrue, true, IfOk, IfErr, MatchOption, ◌%◌};
+ghost use Rattle.std.specs.Prelude.{◌≡◌, ◌+◌, ◌*◌, ◌^◌, ◌<◌, ◌≤◌, [], ◌∷◌, length, ◌↔◌, IsTrue, true, IfOk, IfErr, MatchOption, ◌%◌};
 ghost use Rattle.octet_core.specs.Grammar.{IsFirst};
 ghost use Rattle.tlv_core.specs.Tag.{IsTag, IsLong};
 ghost use Rattle.tlv_core.specs.Form.{further};
@@ -116,6 +116,19 @@ impl Header {
                 read,
                 number,
             } => Ok(after_part(tag, form, read, number, octet)),
+        }
+    }
+
+    /// How many octets they are.
+    pub(crate) fn count(&self) -> usize
+        ensures { result ≡ length (header_octets self.now) }
+    {
+        match self {
+            Header::Nothing => 0,
+            Header::First(_) => 1,
+            Header::Second(_, _) => 2,
+            Header::Tagged(tag) => tag.octets().len(),
+            Header::Sized { tag, read, .. } => tag.octets().len() + 1 + usize::from(*read),
         }
     }
 

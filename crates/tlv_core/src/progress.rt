@@ -42,7 +42,7 @@ impl Progress {
     ghost use Rattle.tlv_core.specs.Short.{after_short, whole_of, MayCome};
     ghost use Rattle.tlv_core.specs.Tag.{constructed_bit};
     ghost use Rattle.tlv_core.specs.Progress.{kept_of};
-    ghost use Rattle.tlv_core.specs.Places.{AreCheckPlaces, kept_at};
+    ghost use Rattle.tlv_core.specs.Places.{AreInRange, kept_at};
 
     /// Before the first octet of a forest of at most `max` octets.
     pub(crate) fn new(max: usize) -> Self
@@ -67,7 +67,7 @@ impl Progress {
 
     /// What these places keep.
     pub(crate) fn of(places: &CheckPlaces) -> Self
-        requires { AreCheckPlaces places.now }
+        requires { AreInRange places.now }
         ensures { kept_of result ≡ kept_at places.now }
     {
         let ends = &places.ends[..places.level as usize];
@@ -80,7 +80,7 @@ impl Progress {
 
     /// The places that keep this, and why the next octet was refused, if it was.
     pub(crate) fn places(&self, refused: Option<TlvReason>) -> CheckPlaces
-        ensures fit { AreCheckPlaces result }
+        ensures range { AreInRange result }
         ensures kept { kept_at result ≡ kept_of self.now }
         ensures reason { result.refused ≡ refused }
     {
@@ -95,6 +95,43 @@ impl Progress {
             header: self.header,
             value_left: self.value_left as u32,
             refused,
+        }
+    }
+
+    /// The octets from the next one to the end of the innermost open object, or to the limit.
+    pub(crate) fn room(&self) -> usize
+        ensures { result ≡ room_of (self.now.ends.max - self.now.ends.count)
+            (rooms_to self.now.ends.count (ends_of self.now.ends)) }
+    {
+        self.ends.room()
+    }
+
+    /// Whether some octet is refused next for this reason, where none of a value comes.
+    pub(crate) fn may_refuse(&self, reason: TlvReason) -> bool
+        ensures yes { result ≡ true → (x : ℕ) × (x < 256)
+            × IsFirst tlv_reasons (IsWrongAfter (kept_of self.now) x) reason }
+        ensures no { (x : ℕ) → x < 256
+            → IsFirst tlv_reasons (IsWrongAfter (kept_of self.now) x) reason
+            → result ≡ true }
+    {
+        for octet in 0..0x100_u16 {
+            if self.refuses(octet as u8, reason) {
+                return true;
+            }
+        }
+        false
+    }
+
+    /// Whether this octet is refused next for this reason.
+    fn refuses(&self, octet: u8, reason: TlvReason) -> bool
+        ensures yes { result ≡ true
+            → IsFirst tlv_reasons (IsWrongAfter (kept_of self.now) octet) reason }
+        ensures no { IsFirst tlv_reasons (IsWrongAfter (kept_of self.now) octet) reason
+            → result ≡ true }
+    {
+        match self.next(octet) {
+            Ok(_next) => false,
+            Err(found) => found == reason,
         }
     }
 

@@ -34,8 +34,13 @@ fn places_say_what_a_check_says(rt: HostRuntime) -> Result<(), Fail> {
 
 /// The places of a check inside an object with 30 octets to come.
 fn inside() -> CheckPlaces {
+    after(&[0x70, 0x20, 0x70, 0x1E])
+}
+
+/// The places of a check after these octets.
+fn after(octets: &[u8]) -> CheckPlaces {
     let mut places = CheckPlaces::begin(64);
-    let _ = places.feed(&[0x70, 0x20, 0x70, 0x1E]);
+    let _ = places.feed(octets);
     places
 }
 
@@ -44,13 +49,8 @@ fn places_that_are_no_check(rt: HostRuntime) -> Result<(), Fail> {
     let p = inside();
     assert!(rt; p.fit() && same(p.level, 2));
     assert!(rt; CheckPlaces::begin(LARGEST_FOREST).fit());
-    assert!(rt;
-        CheckPlaces {
-            refused: Some(TlvReason::Overrun),
-            ..p
-        }
-        .fit()
-    );
+    // the headers of two objects take four octets
+    assert!(rt; !CheckPlaces { count: 3, ..p }.fit());
     assert!(rt;
         !CheckPlaces {
             max: 1_048_577,
@@ -60,26 +60,57 @@ fn places_that_are_no_check(rt: HostRuntime) -> Result<(), Fail> {
     );
     assert!(rt; !CheckPlaces { max: 33, ..p }.fit());
     assert!(rt; !CheckPlaces { count: 34, ..p }.fit());
-    assert!(rt;
-        CheckPlaces {
-            value_left: 60,
-            ..p
-        }
-        .fit()
-    );
-    assert!(rt;
-        !CheckPlaces {
-            value_left: 61,
-            ..p
-        }
-        .fit()
-    );
     assert!(rt; !CheckPlaces { level: 3, ..p }.fit());
     assert!(rt; !CheckPlaces { level: 17, ..p }.fit());
     // the inner object would end after the outer one
     let mut later = p;
     later.ends[1] = 35;
     assert!(rt; !later.fit());
+    Ok(())
+}
+
+#[test]
+fn values_under_way(rt: HostRuntime) -> Result<(), Fail> {
+    // no header of a value came
+    assert!(rt;
+        !CheckPlaces {
+            value_left: 1,
+            ..inside()
+        }
+        .fit()
+    );
+    let p = after(&[0x70, 0x20, 0x70, 0x1E, 0x5A, 0x1C]);
+    assert!(rt; p.fit() && same(p.value_left, 28));
+    assert!(rt;
+        !CheckPlaces {
+            value_left: 29,
+            ..p
+        }
+        .fit()
+    );
+    Ok(())
+}
+
+#[test]
+fn refusals_that_are_kept(rt: HostRuntime) -> Result<(), Fail> {
+    let refused = Some(TlvReason::Overrun);
+    // a tag passes the end of an object with two octets to come, and none that of one with 30
+    assert!(rt;
+        !CheckPlaces {
+            refused,
+            ..inside()
+        }
+        .fit()
+    );
+    let near = after(&[0x70, 0x02]);
+    assert!(rt; CheckPlaces { refused, ..near }.fit());
+    assert!(rt;
+        !CheckPlaces {
+            refused: Some(TlvReason::TooDeep),
+            ..near
+        }
+        .fit()
+    );
     Ok(())
 }
 
@@ -101,12 +132,29 @@ fn headers_that_are_none(rt: HostRuntime) -> Result<(), Fail> {
             tag,
             form,
             read: 1,
-            number: 255,
+            number: 0,
         },
     ];
+    // fillers came, and then its octets
+    let count = 8;
     for header in wells {
-        assert!(rt; CheckPlaces { header, ..inside() }.fit());
+        assert!(rt;
+            CheckPlaces {
+                header,
+                count,
+                ..inside()
+            }
+            .fit()
+        );
     }
+    // no octet came after the headers of the objects that are open
+    assert!(rt;
+        !CheckPlaces {
+            header: Header::First(0x9F),
+            ..inside()
+        }
+        .fit()
+    );
     let nones = [
         Header::First(0x5A),
         Header::Second(0x9F, 0x80),
@@ -116,6 +164,13 @@ fn headers_that_are_none(rt: HostRuntime) -> Result<(), Fail> {
             form,
             read: 1,
             number: 256,
+        },
+        // its value would have 65,280 octets at least
+        Header::Sized {
+            tag,
+            form,
+            read: 1,
+            number: 255,
         },
         Header::Sized {
             tag,
@@ -131,7 +186,14 @@ fn headers_that_are_none(rt: HostRuntime) -> Result<(), Fail> {
         },
     ];
     for header in nones {
-        assert!(rt; !CheckPlaces { header, ..inside() }.fit());
+        assert!(rt;
+            !CheckPlaces {
+                header,
+                count,
+                ..inside()
+            }
+            .fit()
+        );
     }
     Ok(())
 }

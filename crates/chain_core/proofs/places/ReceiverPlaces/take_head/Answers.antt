@@ -1,16 +1,16 @@
-use Rattle.std.proofs.Common.{◌≡◌, ◌+◌, ◌*◌, ℕ, Some, sym, ap, subst, ◌∙◌, ◌∷◌, []}
+use Rattle.std.proofs.Common.{◌≡◌, ◌+◌, ◌*◌, ◌<◌, ℕ, Some, sym, ap, subst, ◌∙◌, ◌∷◌, [], arith}
 use Rattle.chain_core.specs.Part.{place_of}
 use Rattle.chain_core.specs.Receiving.{Goes}
-use Rattle.chain_core.specs.Places.{held_at, received_at}
+use Rattle.chain_core.specs.Places.{held_at, received_at, AreReceiverPlaces}
 use Rattle.chain_core.specs.declared.places.ReceiverPlaces.{ReceiverPlaces}
-use Rattle.chain_core.proofs.Steps.{IsNext, IsOff, head-on, head-off, head-fit, head-held, kept-fit}
+use Rattle.chain_core.proofs.Steps.{IsNext, IsOff, head-on, head-off, head-fit, head-held, off-fit}
 use Rattle.chain_core.proofs.places.ReceiverPlaces.take_head.Goals as goal
 
 pub returns-in-Ok-clause-fit : goal.returns-in-Ok-clause-fit
 returns-in-Ok-clause-fit c = λ room fit.
     let p : ReceiverPlaces = c.args.self.now in
     let after : IsNext p c.args.octet c.in-Ok.part = rw c.number.ensures at c.in-Ok.ensures.on in
-    head-fit p c.in-Ok.part c.args.octet room c.requires.open.1 after fit
+    head-fit p c.in-Ok.part c.args.octet room c.requires.open.0 c.requires.open.1 after fit
 
 pub returns-in-Ok-clause-goes : goal.returns-in-Ok-clause-goes
 returns-in-Ok-clause-goes c = λ m held.
@@ -20,7 +20,14 @@ returns-in-Ok-clause-goes c = λ m held.
     after
 
 pub returns-in-Err-clause-fit : goal.returns-in-Err-clause-fit
-returns-in-Err-clause-fit c = λ room fit. rw c.refuse.ensures (kept-fit c.args.self.now _ room fit)
+returns-in-Err-clause-fit c = λ room fit.
+    let p : ReceiverPlaces = c.args.self.now in
+    let fault : IsOff p c.args.octet c.in-Err.reason = rw c.number.ensures at c.in-Err.ensures.refused in
+    let octet : c.args.octet < 256 = omega arith in
+    subst (λ (q : ReceiverPlaces). AreReceiverPlaces q room)
+    (sym (c.refuse.ensures ∙ ap (λ (k : ℕ). record p
+    { refusal = Some (record { place = p.joined + 4 * p.blocks + k; reason = c.in-Err.reason }) }) c.place.ensures))
+    (off-fit p c.args.octet room c.in-Err.reason octet c.requires.open.1 c.requires.head fault fit)
 
 pub returns-in-Err-clause-goes : goal.returns-in-Err-clause-goes
 returns-in-Err-clause-goes c = λ m held.

@@ -4,7 +4,7 @@ use Rattle.chain_core.specs.Receiving.{Goes}
 use Rattle.chain_core.specs.Places.{received_at, AreReceiverPlaces}
 use Rattle.chain_core.specs.declared.places.ReceiverPlaces.{ReceiverPlaces}
 use Rattle.chain_core.specs.declared.reason.ChainReason.TheVariants.{BadLrc}
-use Rattle.chain_core.proofs.Steps.{with_rest, closed_at, front_at, front-sum, sum-off, lrc-on, lrc-off, closed-fit}
+use Rattle.chain_core.proofs.Steps.{with_rest, closed_at, front_at, front-sum, sum-off, lrc-on, lrc-off, closed-fit, sum-fit}
 use Rattle.chain_core.proofs.places.ReceiverPlaces.take_lrc.Goals as goal
 
 pub returns-then-lrc-octet-clause-goes : goal.returns-then-lrc-octet-clause-goes
@@ -32,12 +32,25 @@ returns-then-lrc-octet-clause-goes c =
     subst (λ (s : ReceiverPlaces). Goes (received_at s m) (received_at c.refuse.new.self m) (x ∷ [])) (sym same)
     (subst (λ (s : ReceiverPlaces). Goes (received_at q m) (received_at s m) (x ∷ [])) kept goes)
 
+pub returns-then-lrc-octet-clause-fit : goal.returns-then-lrc-octet-clause-fit
+returns-then-lrc-octet-clause-fit c = λ room fit.
+    let p : ReceiverPlaces = c.args.self.now in
+    let q : ReceiverPlaces = with_rest p c.args.more c.args.len in
+    let same : p ≡ q = λ i. record p { part = c.requires.part i; came = c.requires.came i } in
+    subst (λ (s : ReceiverPlaces). AreReceiverPlaces s room)
+    (ap (λ (s : ReceiverPlaces). record s {
+      refusal = Some (record { place = p.joined + 4 * p.blocks + (3 + c.args.len); reason = BadLrc });
+    }) (sym same)
+    ∙ sym c.refuse.ensures)
+    (sum-fit p c.args.more c.args.len room c.requires.open.1
+    (subst (λ (s : ReceiverPlaces). AreReceiverPlaces s room) same fit))
+
 pub returns-clause-fit : goal.returns-clause-fit
 returns-clause-fit c = λ room fit.
     let p : ReceiverPlaces = c.args.self.now in
     let same : p ≡ with_rest p c.args.more c.args.len =
     λ i. record p { part = c.requires.part i; came = c.requires.came i } in
-    closed-fit p c.args.more c.args.len room c.requires.open.1
+    closed-fit p c.args.more c.args.len room c.requires.open.0 c.requires.open.1
     (subst (λ (s : ReceiverPlaces). AreReceiverPlaces s room) same fit)
 
 pub returns-clause-goes : goal.returns-clause-goes

@@ -27,7 +27,8 @@ returns-clause-goes c =
     let fits : a + n ≤ length m = omega (
       arith,
       field-held p n some,
-      held-room _ (length m) (field-fit p n (length m) (length m) still some le (omega arith) c.requires.fit),
+      held-room _ (length m) (field-fit p n (length m) (length m) c.requires.open.0 still some le (omega arith)
+          c.requires.fit),
     ) in
     let long : length xs ≡ n = omega (arith, length-take n c.args.piece.now, c.min-run.ensures) in
     let copied : ys ≡ xs = c.copy_from_slice.ensures.after in

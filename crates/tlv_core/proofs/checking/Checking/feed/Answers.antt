@@ -1,11 +1,14 @@
-use Rattle.std.proofs.Common.{◌≡◌, ◌-◌, ◌++◌, ◌∙◌, refl, sym, subst, ap, take, drop, length}
-use Rattle.octet_core.specs.Grammar.{RefusesAt, whole}
+use Rattle.std.proofs.Common.{◌≡◌, ◌-◌, ◌<◌, ◌++◌, ◌∙◌, ℕ, List, refl, sym, subst, ap, take, drop, length, get_or, append-nil, arith}
+use Rattle.octet_core.specs.Grammar.{RefusesAt, IsFirst, whole}
+use Rattle.octet_core.specs.Octets.{AreOctets}
+use Rattle.octet_core.proofs.Lists.{octets-take, octets-drop}
 use Rattle.octet_core.specs.declared.stop.Stop.TheVariants.{At}
 use Rattle.octet_core.specs.declared.stop.Refusal.{Refusal}
 use Rattle.tlv_core.specs.declared.reason.TlvReason.{TlvReason}
 use Rattle.tlv_core.specs.declared.progress.Progress.{Progress}
 use Rattle.tlv_core.specs.Forest.{IsForest}
-use Rattle.tlv_core.specs.Reasons.{HasTaken, IsReason}
+use Rattle.tlv_core.specs.Reasons.{HasTaken, IsReason, tlv_reasons}
+use Rattle.tlv_core.specs.Steps.{IsWrongAfter}
 use Rattle.tlv_core.specs.Progress.{kept_of}
 use Rattle.tlv_core.proofs.Fed.{fed_more, fed_refused, fed_some, rest_of}
 use Rattle.tlv_core.proofs.checking.Checking.feed.Goals as goal
@@ -46,3 +49,32 @@ returns-clause-some c = λ some.
     let before = kept_of c.args.self.now.progress in
     fed_some before (kept_of c.loop-taken.self.progress) c.args.piece.now c.loop-taken.taken before refl
     c.loop-taken.invariant.0 some
+
+pub returns-in-Err-clause-may : goal.returns-in-Err-clause-may
+returns-in-Err-clause-may c = λ before.
+    let piece : List ℕ = c.args.piece.now in
+    let i : ℕ = c.loop-taken.taken in
+    let rest : List ℕ = take (length piece - i) (drop i piece) in
+    let octets : AreOctets piece = λ k. omega (arith, c.type_inv.piece k) in
+    let small : get_or rest 0 0 < 256 = octets-take (length piece - i) (drop i piece) (octets-drop i piece octets) 0 in
+    let err = c.in-Err.ensures.err in
+    subst (λ (s : Progress). (s.value_left ≡ 0) × (x : ℕ) × (x < 256)
+    × IsFirst tlv_reasons (IsWrongAfter (kept_of s) x) c.in-Err.reason) (sym err.0)
+    (err.1, get_or rest 0 0, small, err.2)
+
+pub returns-in-Some-clause-led : goal.returns-in-Some-clause-led
+returns-in-Some-clause-led c b h =
+    (0, omega arith, subst (λ (l : List ℕ). HasTaken l (kept_of c.args.self.now.progress)) (sym (append-nil b)) h)
+
+pub returns-in-Err-clause-led : goal.returns-in-Err-clause-led
+returns-in-Err-clause-led c b h =
+    let l = c.loop-taken in (
+      l.taken,
+      l.invariant.0.within,
+      subst (λ (p : Progress). HasTaken (b ++ take l.taken c.args.piece.now) (kept_of p)) (sym c.in-Err.ensures.err.0)
+          (l.invariant.0.stands b h),
+    )
+
+pub returns-clause-led : goal.returns-clause-led
+returns-clause-led c b h =
+    let l = c.loop-taken in (l.taken, l.invariant.0.within, l.invariant.0.stands b h)

@@ -1,5 +1,6 @@
-use Rattle.std.proofs.Common.{◌∙◌, ap}
-use Rattle.tlv_core.specs.Check.{refusal_at}
+use Rattle.std.proofs.Common.{◌∙◌, [], refl, sym, ap, subst, Option}
+use Rattle.tlv_core.specs.Check.{IsRefusable, refusal_at}
+use Rattle.tlv_core.specs.declared.reason.TlvReason.{TlvReason}
 use Rattle.tlv_core.specs.Places.{kept_at}
 use Rattle.tlv_core.proofs.Fed.{nothing_taken}
 use Rattle.tlv_core.proofs.places.CheckPlaces.begin.Goals as goal
@@ -14,3 +15,14 @@ returns-clause-nothing c b =
             ap (refusal_at c.places.result.count) c.places.ensures.reason;
       },
     )
+
+pub returns-clause-fit : goal.returns-clause-fit
+returns-clause-fit c =
+    let p = c.places.result in
+    let law = nothing_taken c.args.max (kept_at p) (c.places.ensures.kept ∙ c.new.ensures) [] in
+    record {
+      range = c.places.ensures.range;
+      led = ([], law.1 refl);
+      may = subst (λ (r : Option TlvReason). IsRefusable (kept_at p) (refusal_at p.count r))
+          (sym c.places.ensures.reason) tt;
+    }

@@ -1,8 +1,10 @@
-use Rattle.std.proofs.Common.{◌≡◌, ◌++◌, ℕ, IfErr, sym, ap, subst}
+use Rattle.std.proofs.Common.{◌≡◌, ◌++◌, ℕ, List, take, IfErr, sym, ap, subst}
 use Rattle.octet_core.specs.Grammar.{RefusesAt, whole}
 use Rattle.tlv_core.specs.Forest.{IsForest}
-use Rattle.tlv_core.specs.Reasons.{IsReason}
-use Rattle.tlv_core.specs.Check.{Checked, HasChecked}
+use Rattle.tlv_core.specs.Reasons.{HasTaken, IsReason}
+use Rattle.tlv_core.specs.Check.{Checked, HasChecked, MayRefuse, refusal_at}
+use Rattle.tlv_core.specs.Checking.{checked_of}
+use Rattle.tlv_core.specs.Places.{checked_at}
 use Rattle.tlv_core.proofs.places.CheckPlaces.feed.Goals as goal
 
 pub returns-clause-refused : goal.returns-clause-refused
@@ -13,3 +15,27 @@ returns-clause-refused c b h =
     subst (λ (m : ℕ). IfErr c.feed-answer.result (RefusesAt whole (IsForest m) (IsReason m) (b ++ c.args.piece.now)))
     max
     (c.feed-answer.ensures.refused b (subst (HasChecked b) (sym is) h))
+
+pub returns-clause-fit : goal.returns-clause-fit
+returns-clause-fit c =
+    let is = c.checking-checking.ensures in
+    let p = c.places.result in
+    let now = c.feed-answer.new.self in
+    let kept = c.places.ensures.kept in
+    let some = c.feed-answer.ensures.some
+    (subst (λ (k : Checked). (b : List ℕ) × HasTaken b k.kept) (sym is) c.requires.led) in
+    let same : checked_of now ≡ checked_at p = sym (λ i. record {
+      kept = kept i;
+      refusal = refusal_at ((kept i).count) (c.places.ensures.reason i);
+    }) in
+    record {
+      range = c.places.ensures.range;
+      led = (some.0, subst (HasTaken some.0) (sym kept) some.1);
+      may = subst MayRefuse same (c.feed-answer.ensures.may (subst MayRefuse (sym is) c.requires.may));
+    }
+
+pub returns-clause-led : goal.returns-clause-led
+returns-clause-led c b h =
+    let some = c.feed-answer.ensures.led b
+    (subst (λ (k : Checked). HasTaken b k.kept) (sym c.checking-checking.ensures) h) in
+    (some.0, some.1, subst (HasTaken (b ++ take some.0 c.args.piece.now)) (sym c.places.ensures.kept) some.2)
