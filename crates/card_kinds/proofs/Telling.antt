@@ -1,5 +1,5 @@
 -- How a verdict's text is made.
-use Rattle.std.proofs.Common.{◌≡◌, ◌∙◌, ◌-◌, ℕ, List, [], ◌∷◌, length, drop, Result, Ok, Err, IfOk, ap, arith, refl, subst, sym}
+use Rattle.std.proofs.Common.{◌≡◌, ◌∙◌, ◌-◌, ℕ, List, [], ◌∷◌, length, drop, Result, Ok, Err, IfOk, ap, arith, subst, sym}
 use Rattle.std.proofs.lemmas.List.{length-append}
 use Rattle.std.proofs.Math.Seq.{drop-append_seam}
 use Rattle.octet_core.specs.Octets.{xor_of}
@@ -7,8 +7,8 @@ use Rattle.block_core.specs.Block.{Parts, front_of, spelling}
 use Rattle.octet_core.specs.declared.stop.Refused.{Refused}
 use Rattle.octet_core.specs.declared.stop.Refused.TheVariants as refusal
 use Rattle.octet_core.specs.declared.stop.Stop.{Stop}
-use Rattle.card_kinds.specs.Verdicts.{Tells, accepted, refused}
-use Rattle.card_kinds.specs.Codec.{Codec, StopsUnlessMemory, Takes}
+use Rattle.card_kinds.specs.Verdicts.{Tells, refused}
+use Rattle.card_kinds.specs.Codec.{Codec, Stops, StopsUnlessMemory}
 use Rattle.card_kinds.specs.Texts.{refused_text}
 use Rattle.card_kinds.specs.declared.answer.Answer.{Answer}
 use Rattle.card_kinds.specs.declared.status.Status.{Status}
@@ -21,23 +21,18 @@ pub answered : {E : Type 0} (P : List ℕ → Status → Type 0) (r : Result Ans
 answered P (Ok a) text ended h e f = rw (e, f) h
 answered P (Err e) text ended h f g = tt
 
-module _ {E V R : Type 0} (c : Codec V R) (told : V → ℕ → List ℕ) (b : List ℕ) (r : Result Answer E) where
-  -- where the octets are accepted, and the text is that of their value
-  pub tells-accepted : (v : V) (n : ℕ) → Takes c b v n → IfOk r (λ a. a.text ≡ told v n)
-      → IfOk r (λ a. a.status ≡ status.Accepted)
-      → IfOk r (λ a. Tells c told b a.text a.status)
-  tells-accepted v n h text ended = answered (Tells c told b) r (told v n) status.Accepted (accepted v n h refl refl)
-      text ended
+-- what is told where a call refused the octets, and its reasons have these names
+pub is-refused : {V R : Type 0} (c : Codec V R) (told : V → ℕ → List ℕ) (b : List ℕ) (name : R → List ℕ)
+    (answer : Refused R) (stop : Stop R) (text : List ℕ) (ended : Status) → c.name ≡ name → answer ≡ refusal.Stop stop
+    → StopsUnlessMemory c b answer → text ≡ refused_text name stop → ended ≡ status.Refused → Tells c told b text ended
+is-refused {V} {R} c told b name answer stop text ended named is h same over =
+    refused stop (subst (StopsUnlessMemory c b) is h)
+    (same ∙ ap (λ (n : R → List ℕ). refused_text n stop) (sym named)) over
 
-  -- where a call refused the octets, and its reasons have these names
-  pub tells-stopped : (name : R → List ℕ) (answer : Refused R) (stop : Stop R) → c.name ≡ name
-      → answer ≡ refusal.Stop stop → StopsUnlessMemory c b answer
-      → IfOk r (λ a. a.text ≡ refused_text name stop) → IfOk r (λ a. a.status ≡ status.Refused)
-      → IfOk r (λ a. Tells c told b a.text a.status)
-  tells-stopped name answer stop named is h text ended =
-      answered (Tells c told b) r (refused_text name stop) status.Refused
-      (refused stop (subst (StopsUnlessMemory c b) is h) (ap (λ (n : R → List ℕ). refused_text n stop) (sym named))
-      refl) text ended
+-- and the verdict of that call
+pub of-stop : {V R : Type 0} (c : Codec V R) (b : List ℕ) (answer : Refused R) (stop : Stop R)
+    → answer ≡ refusal.Stop stop → StopsUnlessMemory c b answer → Stops c b stop
+of-stop c b answer stop is h = subst (StopsUnlessMemory c b) is h
 
 -- ---- blocks
 

@@ -1,5 +1,5 @@
 -- What the octets of a kind are to the program.
-use Rattle.std.specs.Prelude.{ℕ, List}
+use Rattle.std.specs.Prelude.{ℕ, List, Result, Ok, Err}
 use Rattle.octet_core.specs.Grammar.{Ending, Accepts, Refuses, RefusesUnlessMemory}
 use Rattle.octet_core.specs.declared.stop.Refused.{Refused}
 use Rattle.octet_core.specs.declared.stop.Stop.{Stop}
@@ -22,3 +22,8 @@ Stops c b stop = Refuses c.ending c.Spells c.IsReason b stop
 
 abbrev pub StopsUnlessMemory : {V R : Type 0} → Codec V R → List ℕ → Refused R → Type 0
 StopsUnlessMemory c b refused = RefusesUnlessMemory c.ending c.Spells c.IsReason b refused
+
+-- the verdict on octets: how many of them the value takes that they spell, or the refusal
+abbrev pub IsVerdict : {V R : Type 0} → Codec V R → List ℕ → Result ℕ (Stop R) → Type 0
+IsVerdict {V} {R} c b (Ok n) = (v : V) × Takes c b v n
+IsVerdict {V} {R} c b (Err stop) = Stops c b stop

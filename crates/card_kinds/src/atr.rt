@@ -28,9 +28,13 @@ impl Codec for Atr {
         Ok(check(octets)?)
     }
 
-    fn shown(alloc: Global, octets: &[u8], _expected: Expected) -> Outcome<String, AtrReason> {
-        let (atr, _) = decode(octets)?;
-        Ok(lines(alloc, &atr)?)
+    fn shown(
+        alloc: Global,
+        octets: &[u8],
+        _expected: Expected,
+    ) -> Outcome<(String, usize), AtrReason> {
+        let (atr, taken) = decode(octets)?;
+        Ok((lines(alloc, &atr)?, taken))
     }
 }
 

@@ -25,9 +25,13 @@ impl Codec for Block {
         Ok(taken)
     }
 
-    fn shown(alloc: Global, octets: &[u8], expected: Expected) -> Outcome<String, BlockReason> {
-        let (block, _) = decode(octets, expected.ifs)?;
-        Ok(lines(alloc, &block)?)
+    fn shown(
+        alloc: Global,
+        octets: &[u8],
+        expected: Expected,
+    ) -> Outcome<(String, usize), BlockReason> {
+        let (block, taken) = decode(octets, expected.ifs)?;
+        Ok((lines(alloc, &block)?, taken))
     }
 }
 

@@ -30,9 +30,13 @@ impl Codec for Receiver {
         Ok(taken)
     }
 
-    fn shown(alloc: Global, octets: &[u8], expected: Expected) -> Outcome<String, ChainReason> {
-        let (receiver, _) = received(alloc, octets, expected.ifs, expected.number)?;
-        Ok(lines(alloc, &receiver)?)
+    fn shown(
+        alloc: Global,
+        octets: &[u8],
+        expected: Expected,
+    ) -> Outcome<(String, usize), ChainReason> {
+        let (receiver, taken) = received(alloc, octets, expected.ifs, expected.number)?;
+        Ok((lines(alloc, &receiver)?, taken))
     }
 }
 

@@ -25,9 +25,13 @@ impl Codec for Command {
         Ok(octets.len())
     }
 
-    fn shown(alloc: Global, octets: &[u8], _expected: Expected) -> Outcome<String, CommandReason> {
+    fn shown(
+        alloc: Global,
+        octets: &[u8],
+        _expected: Expected,
+    ) -> Outcome<(String, usize), CommandReason> {
         let command = CommandRef::decode(octets)?;
-        Ok(lines(alloc, &command)?)
+        Ok((lines(alloc, &command)?, octets.len()))
     }
 }
 

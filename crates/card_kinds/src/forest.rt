@@ -6,11 +6,12 @@ ghost use Rattle.tlv_core.specs.Tree.{Tree};
 ghost use Rattle.tlv_core.specs.Forest.{largest, IsForest};
 ghost use Rattle.tlv_core.specs.Reasons.{IsReason};
 ghost use Rattle.tlv_core.specs.Flat.{part_seen};
+ghost use Rattle.card_kinds.specs.Codec.{IsVerdict};
 ghost use Rattle.card_kinds.specs.Verdicts.{Tells};
 ghost use Rattle.card_kinds.specs.ForestTexts.{forest_codec, lines_text, part_text, parts_text, tidied_text, value_text};
 
 use crate::answer::Answer;
-use crate::codec::{Codec, Outcome};
+use crate::codec::{Codec, Judged, Outcome};
 use crate::text::octets_word;
 use card_words::Expected;
 use octet_core::{Refused, Stop, hex_upper};
@@ -31,9 +32,13 @@ impl Codec for Forest {
         Ok(octets.len())
     }
 
-    fn shown(alloc: Global, octets: &[u8], _expected: Expected) -> Outcome<String, TlvReason> {
+    fn shown(
+        alloc: Global,
+        octets: &[u8],
+        _expected: Expected,
+    ) -> Outcome<(String, usize), TlvReason> {
         let forest = FlatForest::read(alloc, octets, LARGEST_FOREST)?;
-        Ok(lines(alloc, forest.parts())?)
+        Ok((lines(alloc, forest.parts())?, octets.len()))
     }
 }
 
@@ -42,9 +47,28 @@ pub fn tidy(alloc: Global, octets: &[u8]) -> Result<Answer, AllocError>
     ensures { IfOk result (λ answer.
         Tells forest_codec (λ v n. tidied_text v) octets.now answer.text answer.status) }
 {
+    let judged = tidy_with_verdict(alloc, octets)?;
+    Ok(judged.answer)
+}
+
+/// What `tidy` says of octets, and the verdict on them.
+pub fn tidy_with_verdict(alloc: Global, octets: &[u8]) -> Result<Judged<TlvReason>, AllocError>
+    ensures told { IfOk result (λ judged.
+        Tells forest_codec (λ v n. tidied_text v) octets.now judged.answer.text judged.answer.status) }
+    ensures verdict { IfOk result (λ judged. IsVerdict forest_codec octets.now judged.verdict) }
+{
     match decode(alloc, octets, LARGEST_FOREST) {
-        Ok(forest) => Ok(Answer::told(tidied(alloc, &forest)?)),
-        Err(Refused::Stop(stop)) => Answer::refused(alloc, stop),
+        Ok(forest) => Ok(Judged {
+            answer: Answer::told(tidied(alloc, &forest)?),
+            verdict: Ok(octets.len()),
+        }),
+        Err(Refused::Stop(stop)) => {
+            let answer = Answer::refused(alloc, stop)?;
+            Ok(Judged {
+                answer,
+                verdict: Err(stop),
+            })
+        }
         Err(Refused::Memory) => Err(AllocError),
     }
 }

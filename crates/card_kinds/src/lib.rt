@@ -2,9 +2,10 @@
 //!
 //! `check` says how many octets the value takes that they spell, `show` the value line by line, and both the same of
 //! octets that are refused. A kind is a `Codec`: where its values end, its grammar, its reasons and their names, and the
-//! lines that a value is shown by, in a module of its own; the crate explainer asks the same codecs. `blocks`, `tidy` and `fill` make what `build` prints. An
-//! `Answer` is a text and how the program then ends. The texts are defined in `specs/`, a file for each kind;
-//! `specs/Verdicts.antt` joins them to the verdict of the grammar.
+//! lines that a value is shown by, in a module of its own. `blocks`, `tidy` and `fill` make what `build` prints. An
+//! `Answer` is a text and how the program then ends; what ends in `_with_verdict` gives the verdict too that the answer
+//! was made from. The texts are defined in `specs/`, a file for each kind; `specs/Verdicts.antt` joins them to the
+//! verdict of the grammar.
 #![tactic(auto)]
 
 pub mod answer;
@@ -22,8 +23,8 @@ mod text;
 
 pub use answer::Answer;
 pub use chain::blocks;
-pub use codec::{Codec, Outcome};
-pub use forest::tidy;
+pub use codec::{Codec, Judged, Outcome, Verdict, check_with_verdict, show_with_verdict};
+pub use forest::{tidy, tidy_with_verdict};
 pub use kinds::{check, show};
-pub use list::fill;
+pub use list::{fill, fill_with_verdict};
 pub use status::Status;

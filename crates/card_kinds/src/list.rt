@@ -2,11 +2,12 @@
 
 ghost use Rattle.std.specs.Prelude.{◌≡◌, ◌++◌, List, ℕ, IfOk, OnOk, length, refl, string_bytes};
 ghost use Rattle.tlv_core.specs.Fill.{filled, HasDuplicate};
+ghost use Rattle.card_kinds.specs.Codec.{IsVerdict};
 ghost use Rattle.card_kinds.specs.Verdicts.{IsFilled, IsFilledBy};
 ghost use Rattle.card_kinds.specs.ListTexts.{dol_text, entries_text, entry_text, filled_text, list_codec};
 
 use crate::answer::Answer;
-use crate::codec::{Codec, Outcome};
+use crate::codec::{Codec, Judged, Outcome};
 use crate::text::octets_word;
 use card_words::{Expected, Fault, Knowns};
 use octet_core::{Refused, hex_upper};
@@ -27,9 +28,13 @@ impl Codec for Dol {
         Ok(octets.len())
     }
 
-    fn shown(alloc: Global, octets: &[u8], _expected: Expected) -> Outcome<String, DolReason> {
+    fn shown(
+        alloc: Global,
+        octets: &[u8],
+        _expected: Expected,
+    ) -> Outcome<(String, usize), DolReason> {
         let dol = Dol::decode(alloc, octets)?;
-        Ok(lines(alloc, &dol)?)
+        Ok((lines(alloc, &dol)?, octets.len()))
     }
 }
 
@@ -42,9 +47,32 @@ pub fn fill(
 ) -> Result<Answer, AllocError>
     ensures { IfOk result (λ answer. IsFilled octets.now known.now answer.text answer.status) }
 {
+    let judged = fill_with_verdict(alloc, octets, known)?;
+    Ok(judged.answer)
+}
+
+/// What `fill` says of the octets of a list, and the verdict on them.
+pub fn fill_with_verdict(
+    alloc: Global,
+    octets: &[u8],
+    known: &Result<Knowns, Fault>,
+) -> Result<Judged<DolReason>, AllocError>
+    ensures told { IfOk result (λ judged.
+        IsFilled octets.now known.now judged.answer.text judged.answer.status) }
+    ensures verdict { IfOk result (λ judged. IsVerdict list_codec octets.now judged.verdict) }
+{
     match Dol::decode(alloc, octets) {
-        Ok(dol) => fill_by(alloc, &dol, known),
-        Err(Refused::Stop(stop)) => Answer::refused(alloc, stop),
+        Ok(dol) => Ok(Judged {
+            answer: fill_by(alloc, &dol, known)?,
+            verdict: Ok(octets.len()),
+        }),
+        Err(Refused::Stop(stop)) => {
+            let answer = Answer::refused(alloc, stop)?;
+            Ok(Judged {
+                answer,
+                verdict: Err(stop),
+            })
+        }
         Err(Refused::Memory) => Err(AllocError),
     }
 }

@@ -25,9 +25,13 @@ impl Codec for Response {
         Ok(octets.len())
     }
 
-    fn shown(alloc: Global, octets: &[u8], _expected: Expected) -> Outcome<String, ResponseReason> {
+    fn shown(
+        alloc: Global,
+        octets: &[u8],
+        _expected: Expected,
+    ) -> Outcome<(String, usize), ResponseReason> {
         let response = ResponseRef::decode(octets)?;
-        Ok(lines(alloc, &response)?)
+        Ok((lines(alloc, &response)?, octets.len()))
     }
 }
 

@@ -14,7 +14,7 @@ use Rattle.card_tool.specs.Explained.{IsRightWith, silent}
 use Rattle.card_tool.specs.LineAnswers.{WritesLines, answered, wanting}
 use Rattle.card_kinds.specs.declared.status.Status.{Status}
 use Rattle.card_kinds.specs.declared.status.Status.TheVariants as status
-use Rattle.card_tool.proofs.ByLine.{consumes-none}
+use Rattle.card_tool.proofs.Inputs.{Consumes-none}
 
 -- what was read, where it is this request
 abbrev pub read_as : Request → Result Request Fault
@@ -78,6 +78,6 @@ module _ (held : Option (List ℕ)) (count : ℕ) (old new : Option (List ℕ)) 
   no-lines expected = answered (record {
     text = fault_text Memory;
     right = status.Fault;
-    is_right = wanting [] [] status.Accepted [] [] (consumes-none held) refl refl (refl, refl) refl refl;
+    is_right = wanting [] [] status.Accepted [] [] (Consumes-none held) refl refl (refl, refl) refl refl;
     is_written = is;
   })

@@ -4,19 +4,17 @@ use Rattle.std.proofs.lemmas.Bool.{cases_order}
 use Rattle.std.proofs.lemmas.Bool.Decides.{nat_tests}
 use Rattle.std.proofs.lemmas.List.{length-append, length-take, take_all, take-append-drop, take-append-le}
 use Rattle.std.proofs.Math.Seq.{take-append-add}
-use Rattle.std.specs.Io.KnownBytes.{Appends, Consumes, IsAtEnd, Keeps}
-use Rattle.octet_core.specs.Failures.{HasFailed, next_count}
+use Rattle.std.specs.Io.KnownBytes.{Appends}
+use Rattle.octet_core.specs.Failures.{HasFailed}
 use Rattle.card_words.specs.Loose.{loose_octets}
-use Rattle.card_words.specs.Texts.{fault_text}
 use Rattle.card_words.specs.declared.fault.Fault.{Fault}
-use Rattle.card_words.specs.declared.fault.Fault.TheVariants.{Memory, Read, TooLarge}
+use Rattle.card_words.specs.declared.fault.Fault.TheVariants.{TooLarge}
 use Rattle.card_words.specs.declared.request.Expected.{Expected}
-use Rattle.card_tool.specs.Answers.{AreLinesTold, IsLineTold, IsToldOf, IsWritten, Writes, all, cut}
+use Rattle.card_tool.specs.Answers.{AreLinesTold, IsLineTold, IsToldOf, IsWritten, all, cut}
 use Rattle.card_kinds.specs.Verdicts.{Checks}
 use Rattle.card_tool.specs.Files.{largest_file}
 use Rattle.card_tool.specs.Lines.{all_lines, ended_lines, last_line, line_octets, lines_after, rest_after, worse}
-use Rattle.card_tool.specs.LineAnswers.{most_read, HasBegun, HasSaid, IsRest, TellsLines, WritesLines, all_told, first_told, whole, failed, wanting, endless, answered, stopped}
-use Rattle.card_tool.proofs.Inputs.{Consumes-kept, Consumes-then}
+use Rattle.card_tool.specs.LineAnswers.{HasBegun, HasSaid}
 use Rattle.card_kinds.specs.declared.status.Status.{Status}
 use Rattle.card_kinds.specs.declared.status.Status.TheVariants.{Accepted, Refused}
 use Rattle.card_kinds.specs.declared.status.Status.TheVariants as status
@@ -164,20 +162,18 @@ module _ (expected : Expected) where
 
   -- ---- where it ends
 
-  -- the lines of the first octets are the first lines
+  -- the lines that ended in the first octets are the first ones that end
   pub begun : (read more written line text : List ℕ) (s : Status) → HasSaid expected read written line text s
-      → HasBegun expected (all_lines (read ++ more)) (written ++ text)
+      → HasBegun expected (ended_lines (read ++ more)) (written ++ text)
   begun read more written line text s h = record {
     done = ended_lines read;
-    more = lines_after (rest_after [] read) more ++ last_line (rest_after [] (read ++ more));
+    more = lines_after (rest_after [] read) more;
     so_far = s;
-    is_front = ap (λ (l : List (List ℕ)). l ++ last_line (rest_after [] (read ++ more))) (lines-append [] read more)
-        ∙ append_assoc (ended_lines read) (lines_after (rest_after [] read) more)
-        (last_line (rest_after [] (read ++ more)));
+    is_front = lines-append [] read more;
     is_told = h.is_told;
   }
 
-  -- and so they are where no octet comes after them
+  -- they are the first of all lines too, where no octet comes after them
   pub begun-here : (read written line text : List ℕ) (s : Status) → HasSaid expected read written line text s
       → HasBegun expected (all_lines read) (written ++ text)
   begun-here read written line text s h =
@@ -284,148 +280,12 @@ if-err (Err e) q = q
 -- memory ran out within a piece
 pub begun-within : (expected : Expected) (read written piece : List ℕ) (i : ℕ) (line text : List ℕ) (s : Status)
     → HasSaid expected (read ++ take i piece) written line text s
-    → HasBegun expected (all_lines (read ++ piece)) (written ++ text)
+    → HasBegun expected (ended_lines (read ++ piece)) (written ++ text)
 begun-within expected read written piece i line text s h =
     let joined = append_assoc read (take i piece) (drop i piece)
     ∙ ap (λ (l : List ℕ). read ++ l) (take-append-drop i piece) in
-    subst (λ (l : List ℕ). HasBegun expected (all_lines l) (written ++ text)) joined
+    subst (λ (l : List ℕ). HasBegun expected (ended_lines l) (written ++ text)) joined
     (begun expected (read ++ take i piece) (drop i piece) written line text s h)
-
--- ---- turn by turn
-
--- So many calls of the reader gave octets, whose lines are answered, and no call failed.
-pub record HasAnswered (expected : Expected) (held left : Option (List ℕ)) (before after : ℕ)
-    (old new : Option (List ℕ)) (unwritten failures : ℕ) (line text : List ℕ) (ended : Status) (turns : ℕ) : Type 0
-  where
-    pub read : List ℕ
-    pub written : List ℕ
-    pub from : Consumes held left read
-    pub none_failed : after ≡ before
-    pub many : turns ≤ length read
-    pub put : Appends old new written
-    pub none_unwritten : failures ≡ unwritten
-    pub said : HasSaid expected read written line text ended
-
--- where no octet was read, the reader holds what it held
-pub consumes-none : (a : Option (List ℕ)) → Consumes a a []
-consumes-none None = tt
-consumes-none (Some a) = refl
-
-module _ (expected : Expected) (held left : Option (List ℕ)) (before after : ℕ) (old new : Option (List ℕ))
-    (unwritten failures : ℕ) (line text : List ℕ) (s : Status) (turns : ℕ)
-    (h : HasAnswered expected held left before after old new unwritten failures line text s turns) where
-  -- what was left to be written is written
-  pub flushed : (put : Option (List ℕ)) (count : ℕ) (none : List ℕ) → none ≡ [] → Appends new put text
-      → count ≡ failures → HasAnswered expected held left before after old put unwritten count line none s turns
-  flushed put count none empty p same = record {
-    read = h.read;
-    written = h.written ++ text;
-    from = h.from;
-    none_failed = h.none_failed;
-    many = h.many;
-    put = Appends-then old new put h.written text h.put p;
-    none_unwritten = same ∙ h.none_unwritten;
-    said = record { is_told = rw (empty, append-nil (h.written ++ text)) h.said.is_told; is_line = h.said.is_line };
-  }
-
-  -- the writer failed
-  pub stopped-here : (put : Option (List ℕ)) (unput count : ℕ) → count < length text → Appends new put (take count text)
-      → HasFailed failures unput → WritesLines expected held left before after old put unwritten unput status.Fault
-  stopped-here put unput count few p fails =
-      stopped h.read (h.written ++ text) s h.from h.none_failed h.said.is_told (length h.written + count)
-      (omega (arith, few, length-append h.written text))
-      (rw (take-append-add h.written text count) (Appends-then old new put h.written (take count text) h.put p))
-      (subst (λ (n : ℕ). HasFailed n unput) h.none_unwritten fails) refl
-
-  -- a piece was read
-  pub more-read : (there : Option (List ℕ)) (count : ℕ) (piece next more : List ℕ) (q : Status)
-      → Consumes left there piece → count ≡ after → 0 < length piece
-      → ((read written : List ℕ) → HasSaid expected read written line text s
-      → HasSaid expected (read ++ piece) written next more q)
-      → HasAnswered expected held there before count old new unwritten failures next more q (turns + 1)
-  more-read there count piece next more q p same some says = record {
-    read = h.read ++ piece;
-    written = h.written;
-    from = Consumes-then held left there h.read piece h.from p;
-    none_failed = same ∙ h.none_failed;
-    many = omega (arith, h.many, some, length-append h.read piece);
-    put = h.put;
-    none_unwritten = h.none_unwritten;
-    said = says h.read h.written h.said;
-  }
-
-  module _ (put : Option (List ℕ)) (unput : ℕ) (ended : Status) where
-    -- the rest is written
-    rest-written : (rest : List ℕ) (right : Status) → IsWritten rest right new put failures unput ended
-        → IsWritten (h.written ++ rest) right old put unwritten unput ended
-    rest-written rest right is = written-all h.written rest right old new put unwritten failures unput ended h.put
-        h.none_unwritten is
-
-    -- a call of the reader failed
-    pub read-failed : (there : Option (List ℕ)) (count : ℕ) → Keeps left there → count ≡ next_count after
-        → IsWritten (text ++ fault_text Read) status.Fault new put failures unput ended
-        → WritesLines expected held there before count old put unwritten unput ended
-    read-failed there count kept fails is = answered (record {
-      text = h.written ++ (text ++ fault_text Read);
-      right = status.Fault;
-      is_right = failed h.read (h.written ++ text) s (Consumes-kept held left there h.read h.from kept)
-          (fails ∙ ap next_count h.none_failed) h.said.is_told (sym (append_assoc h.written text (fault_text Read)))
-          refl;
-      is_written = rest-written (text ++ fault_text Read) status.Fault is;
-    })
-
-    -- memory ran out
-    pub wanted : (there : Option (List ℕ)) (count : ℕ) (piece more : List ℕ) → Consumes left there piece → count ≡ after
-        → ((read written : List ℕ) → HasSaid expected read written line text s
-        → HasBegun expected (all_lines (read ++ piece)) (written ++ more))
-        → IsWritten (more ++ fault_text Memory) status.Fault new put failures unput ended
-        → WritesLines expected held there before count old put unwritten unput ended
-    wanted there count piece more p same says is =
-        let begun = says h.read h.written h.said in
-        answered (record {
-          text = h.written ++ (more ++ fault_text Memory);
-          right = status.Fault;
-          is_right = wanting (h.read ++ piece) (h.written ++ more) begun.so_far begun.done begun.more
-              (Consumes-then held left there h.read piece h.from p) (same ∙ h.none_failed) begun.is_front begun.is_told
-              (sym (append_assoc h.written more (fault_text Memory))) refl;
-          is_written = rest-written (more ++ fault_text Memory) status.Fault is;
-        })
-
-    -- the octets can't be counted
-    pub used-up : most_read ≤ turns → IsWritten (text ++ fault_text TooLarge) status.Fault new put failures unput ended
-        → WritesLines expected held left before after old put unwritten unput ended
-    used-up most is = answered (record {
-      text = h.written ++ (text ++ fault_text TooLarge);
-      right = status.Fault;
-      is_right = endless h.read (h.written ++ text) s h.from h.none_failed (omega (arith, most, h.many)) h.said.is_told
-          (sym (append_assoc h.written text (fault_text TooLarge))) refl;
-      is_written = rest-written (text ++ fault_text TooLarge) status.Fault is;
-    })
-
-    rest-told : (there : Option (List ℕ)) (count : ℕ) (rest : List ℕ) (right : Status) → Consumes held there h.read
-        → IsAtEnd there → count ≡ before → IsRest expected (all_lines h.read) h.written rest right
-        → TellsLines expected held there before count (h.written ++ rest) right
-    rest-told there count rest right p end same (all_told says) = whole h.read p end same says
-    rest-told there count rest right p end same (first_told more begun is fault) =
-        wanting h.read (h.written ++ more) begun.so_far begun.done begun.more p same begun.is_front begun.is_told
-        (ap (λ (l : List ℕ). h.written ++ l) is ∙ sym (append_assoc h.written more (fault_text Memory))) fault
-
-    -- the input ended
-    pub at-end : (there : Option (List ℕ)) (count : ℕ) (none : List ℕ) → none ≡ [] → Consumes left there none
-        → IsAtEnd there → count ≡ after
-        → ((read written : List ℕ) → HasSaid expected read written line text s
-        → Writes (IsRest expected (all_lines read) written) new put failures unput ended)
-        → WritesLines expected held there before count old put unwritten unput ended
-    at-end there count none empty p end same says =
-        let rest = says h.read h.written h.said in
-        let all_read = subst (Consumes held there) (ap (λ (l : List ℕ). h.read ++ l) empty ∙ append-nil h.read)
-        (Consumes-then held left there h.read none h.from p) in
-        answered (record {
-          text = h.written ++ rest.text;
-          right = rest.right;
-          is_right = rest-told there count rest.text rest.right all_read end (same ∙ h.none_failed) rest.is_right;
-          is_written = rest-written rest.text rest.right rest.is_written;
-        })
 
 -- a list of length 0 is empty
 pub no-octets : (l : List ℕ) → length l ≡ 0 → l ≡ []

@@ -1,5 +1,5 @@
 -- How an answer becomes one with an explanation.
-use Rattle.std.proofs.Common.{◌≡◌, ◌∙◌, ◌⊎◌, ◌++◌, inl, inr, ℕ, List, [], Option, Some, Result, Ok, Err, IfOk, IsOkAnd, String, length, string_bytes, true, ap, append-nil, refl, subst, sym}
+use Rattle.std.proofs.Common.{◌≡◌, ◌∙◌, ◌++◌, inl, inr, ℕ, List, [], Option, Some, None, Result, Ok, Err, IfOk, IfErr, OnOk, IsOkAnd, String, length, string_bytes, true, ap, append-nil, refl, subst, sym}
 use Rattle.std.specs.declared.alloc.Global.{Global}
 use Rattle.card_words.specs.Explain.{asks_to_explain}
 use Rattle.card_words.specs.Given.{octets_given, IsFromReader}
@@ -10,14 +10,17 @@ use Rattle.card_words.specs.declared.fault.Fault.TheVariants.{Memory}
 use Rattle.card_words.specs.declared.given.Given.{Given}
 use Rattle.card_words.specs.declared.request.Request.{Request}
 use Rattle.card_tool.specs.Answers.{AnswersTo, Gives, IsAnswerTo, IsRight, IsRightTo, IsToldOf}
-use Rattle.card_tool.specs.Explained.{differs, Fits, GivesExplained, IsAdded, IsExplained, IsDifferenceNote, IsFaulted, IsFaultNote, IsFillNote, IsLineNote, IsNoted, IsNotedFrom, IsNotedTo, IsNoteTo, IsRightWith, on_fault, silent}
+use Rattle.card_tool.specs.Explained.{differs, Fits, GivesExplained, IsAdded, IsExplained, IsDifferenceNote, IsFaulted, IsFaultNote, IsFillNote, IsLineNote, IsNoted, IsNotedTo, IsNoteTo, IsRightWith, on_fault, silent}
 use Rattle.card_tool.specs.Files.{IsTaken, ReadsWhole}
-use Rattle.card_tool.specs.ExchangeTexts.{side_of}
-use Rattle.card_words.specs.declared.request.End.{End}
+use Rattle.card_tool.specs.ExchangeTexts.{IsOutcome}
 use Rattle.exchange_core.specs.Exchange.{ExchangeParts}
-use Rattle.exchange_core.specs.Replay.{Replays}
+use Rattle.exchange_core.specs.Replay.{IfDiffers, Replays}
+use Rattle.exchange_core.specs.declared.replaying.ReplayFault.{ReplayFault}
 use Rattle.exchange_core.specs.declared.replaying.Side.{Side}
-use Rattle.explainer.specs.Notes.{line_note, IsNoteBy}
+use Rattle.octet_core.specs.declared.stop.Stop.{Stop}
+use Rattle.card_kinds.specs.Codec.{Codec, IsVerdict}
+use Rattle.explainer.specs.Notes.{line_note, IsVerdictNote}
+use Rattle.card_tool.specs.Judged.{IsNoteBy}
 use Rattle.card_kinds.specs.ListTexts.{list_codec}
 use Rattle.tlv_core.specs.declared.known.Known.{Known}
 use Rattle.octet_core.proofs.Lists.{nil_of}
@@ -39,13 +42,28 @@ on-line (Ok text) number line what h = (line, what, h)
 on-line (Err e) number line what h = tt
 
 -- and where an end does the line otherwise, it is the note on the exchange
-pub on-difference : {E : Type 0} (r : Result (String Global) E) (e : ExchangeParts) (end : End) (which : Side)
-    (line : ℕ) (gives : List ℕ) → which ≡ side_of end → Replays e.atr e.lines which (Some (line, gives))
+pub on-difference : {E : Type 0} (r : Result (String Global) E) (e : ExchangeParts) (which : Side)
+    (line : ℕ) (gives : List ℕ) → Replays e.atr e.lines which (Some (line, gives))
     → IfOk r (λ text. IsLineNote line (string_bytes text))
-    → IfOk r (λ text. IsDifferenceNote e (side_of end) (string_bytes text))
-on-difference (Ok text) e end which line gives same replays h =
-    differs line gives (subst (λ (s : Side). Replays e.atr e.lines s (Some (line, gives))) same replays) h
-on-difference (Err fault) e end which line gives same replays h = tt
+    → IfOk r (λ text. IsDifferenceNote e which (string_bytes text))
+on-difference (Ok text) e which line gives replays h = differs line gives replays h
+on-difference (Err fault) e which line gives replays h = tt
+
+-- what replay says of an exchange
+pub outcome : {A : Type 0} (r : Result A ReplayFault) (e : ExchangeParts) (which : Side)
+    → OnOk r (Replays e.atr e.lines which None)
+    → IfErr r (λ fault. IfDiffers fault (λ line gives. Replays e.atr e.lines which (Some (line, gives))))
+    → IsOutcome e which r
+outcome (Ok done) e which agrees other = agrees
+outcome (Err fault) e which agrees other = other
+
+-- the note of a verdict is one by the codec that the verdict is of
+pub by-verdict : {V R E : Type 0} (c : Codec V R) (b : List ℕ) (verdict : Result ℕ (Stop R))
+    (r : Result (String Global) E)
+    → IsVerdict c b verdict → IfOk r (λ text. IsVerdictNote b verdict (string_bytes text))
+    → IfOk r (λ text. IsNoteBy c b (string_bytes text))
+by-verdict c b verdict (Ok text) is h = (verdict, is, h)
+by-verdict c b verdict (Err e) is h = tt
 
 -- where there is no note on a list, it is one on a known value
 pub on-known : {E : Type 0} (r : Result (String Global) E) (list : List ℕ) (known : Result (List Known) Fault)
@@ -54,11 +72,6 @@ pub on-known : {E : Type 0} (r : Result (String Global) E) (list : List ℕ) (kn
 on-known (Ok text) list known silence none h faults =
     inr (subst (IsNoteBy list_codec list) (nil_of silence none) h, faults)
 on-known (Err e) list known silence none h faults = tt
-
--- a note of which nothing is said
-pub open-note : {E : Type 0} (note : Result (String Global) E) → IfOk note (λ text. Unit {0})
-open-note (Ok text) = tt
-open-note (Err e) = tt
 
 fits-fault : {E : Type 0} (fault : Fault) (note : Result (String Global) E) (added : List ℕ)
     → IfOk note (λ text. IsFaultNote fault (string_bytes text)) → IsAdded note added → Fits (fault_text fault) added
@@ -91,7 +104,7 @@ module _ (request : Request) (held left : Option (List ℕ)) (before after : ℕ
   pub with-note : {E : Type 0} (answer told : Answer) (note : Result (String Global) E) (added : List ℕ)
       (file : Result (List ℕ) Fault) → (NeedsFile request → ReadsWhole held left before after file)
       → IsAnswerTo request file answer.text answer.status
-      → IfOk note (λ text. IsNoteTo request file (string_bytes text)) → told.text ≡ answer.text ++ added
+      → IfOk note (λ text. IsNoteTo request file answer.status (string_bytes text)) → told.text ≡ answer.text ++ added
       → IsAdded note added → told.status ≡ answer.status
       → IsExplained (IsNotedTo request held left before after) told.text told.status
   with-note answer told note added file is_file h fits text (inl none) ended = record {
@@ -114,7 +127,8 @@ module _ (request : Request) (held left : Option (List ℕ)) (before after : ℕ
       file = file;
       is_file = is_file;
       is_answer = subst (IsAnswerTo request file answer.text) (sym ended) h;
-      is_note = subst (IsNoteTo request file) (sym is) fits;
+      is_note = subst (λ (e : Status). IsNoteTo request file e added) (sym ended)
+          (subst (IsNoteTo request file answer.status) (sym is) fits);
     });
     is_whole = text;
   }
@@ -126,14 +140,15 @@ module _ (request : Request) (given : Given) (Told : List ℕ → List ℕ → S
     (held left : Option (List ℕ)) (before after : ℕ) (need : NeedsFile request → IsFromReader given)
     (answers : (file : Result (List ℕ) Fault) (text : List ℕ) (ended : Status)
     → IsToldOf Told (octets_given given file) text ended → IsAnswerTo request file text ended)
-    (notes : (file : Result (List ℕ) Fault) (note : List ℕ)
-    → IsOkAnd (octets_given given file) (λ b. Note b note) → IsNoteTo request file note) where
-  on-given : {E : Type 0} (note : Result (String Global) E) (file : Result (List ℕ) Fault) (octets : List ℕ)
+    (notes : (file : Result (List ℕ) Fault) (ended : Status) (note : List ℕ)
+    → IsOkAnd (octets_given given file) (λ b. Note b note) → IsNoteTo request file ended note) where
+  on-given : {E : Type 0} (note : Result (String Global) E) (file : Result (List ℕ) Fault) (ended : Status)
+      (octets : List ℕ)
       → Ok octets ≡ octets_given given file → IfOk note (λ text. Note octets (string_bytes text))
-      → IfOk note (λ text. IsNoteTo request file (string_bytes text))
-  on-given (Ok text) file octets same h = notes file (string_bytes text)
+      → IfOk note (λ text. IsNoteTo request file ended (string_bytes text))
+  on-given (Ok text) file ended octets same h = notes file ended (string_bytes text)
       (subst (λ (r : Result (List ℕ) Fault). IsOkAnd r (λ b. Note b (string_bytes text))) same h)
-  on-given (Err e) file octets same h = tt
+  on-given (Err e) file ended octets same h = tt
 
   pub noted-given : {E : Type 0} (octets : List ℕ) → IsTaken given held left before after (Ok octets)
       → (answer told : Answer) (note : Result (String Global) E) (added : List ℕ)
@@ -147,7 +162,7 @@ module _ (request : Request) (given : Given) (Told : List ℕ → List ℕ → S
             (λ asked. had.is_file (need asked))
             (answers had.file answer.text answer.status
             (subst (λ (r : Result (List ℕ) Fault). IsToldOf Told r answer.text answer.status) same h))
-            (on-given note had.file octets same fits) text is ended
+            (on-given note had.file answer.status octets same fits) text is ended
         | inr memory ↦ absurd (cc memory.0)
       ]
 

@@ -24,7 +24,7 @@ Consumes-kept (Some a) (Some b) None x p q = absurd q
 Consumes-kept (Some a) (Some b) (Some c) x p q = p ∙ ap (λ (l : List ℕ). x ++ l) (sym q)
 
 -- no octet was read
-Consumes-none : (a : Option (List ℕ)) → Consumes a a []
+pub Consumes-none : (a : Option (List ℕ)) → Consumes a a []
 Consumes-none None = tt
 Consumes-none (Some a) = refl
 

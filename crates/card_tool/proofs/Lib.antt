@@ -4,6 +4,11 @@ pub mod OneAnswer
 pub mod OneText
 pub mod Inputs
 pub mod ByLine
+pub mod Conversing
+pub mod Turns
+pub mod LinesWritten
+pub mod Waiting
 pub mod Asking
 pub mod Answering
 pub mod Explaining
+pub mod ExchangeNotes

@@ -1,5 +1,5 @@
 -- What the program says of a file of recorded exchanges.
-use Rattle.std.specs.Prelude.{◌≡◌, ℕ, ◌+◌, List, ◌++◌, codes, decimal, length, Some, None, MatchResult}
+use Rattle.std.specs.Prelude.{◌≡◌, ℕ, ◌+◌, List, ◌++◌, codes, decimal, length, Some, None, Result, Ok, Err, MatchResult}
 use Rattle.card_words.specs.declared.request.End.{End}
 use Rattle.card_words.specs.declared.request.End.TheVariants as end
 use Rattle.exchange_core.specs.Exchange.{ExchangeParts, migrated}
@@ -8,6 +8,7 @@ use Rattle.exchange_core.specs.Reading.{exchange_said}
 use Rattle.exchange_core.specs.Replay as replay
 use Rattle.exchange_core.specs.Text.{exchange_text}
 use Rattle.exchange_core.specs.declared.fault.ExchangeFault.{ExchangeFault}
+use Rattle.exchange_core.specs.declared.replaying.ReplayFault.{ReplayFault}
 use Rattle.exchange_core.specs.declared.replaying.Side.{Side}
 use Rattle.exchange_core.specs.declared.replaying.Side.TheVariants as side
 use Rattle.card_kinds.specs.declared.status.Status.{Status}
@@ -29,6 +30,12 @@ differs_text line gives = codes "line " ++ (decimal line ++ (codes ": engine giv
 -- the text is none of a file
 abbrev pub file_fault_text : ExchangeFault → List ℕ
 file_fault_text fault = codes "fault: " ++ (exchange_fault_text fault ++ codes "\n")
+
+-- what a call of replay says: of being out of memory nothing
+abbrev pub IsOutcome : {A : Type 0} → ExchangeParts → Side → Result A ReplayFault → Type 0
+IsOutcome e which (Ok done) = replay.Replays e.atr e.lines which None
+IsOutcome e which (Err fault) =
+    replay.IfDiffers fault (λ line gives. replay.Replays e.atr e.lines which (Some (line, gives)))
 
 -- what replay comes to
 pub data IsReplayed (e : ExchangeParts) (which : Side) (text : List ℕ) (ended : Status) : Type 0 where

@@ -25,10 +25,11 @@ use Rattle.exchange_core.specs.declared.fault.ExchangeFault.{ExchangeFault}
 use Rattle.exchange_core.specs.declared.fault.ExchangeFault.TheVariants.{Header, End as EndAt, Word, Hex, Falls, Memory}
 use Rattle.exchange_core.specs.declared.replaying.Side.{Side}
 use Rattle.tlv_core.specs.declared.known.Known.{Known}
-use Rattle.explainer.specs.Notes.{IsKindNote, IsNoteBy, large_note, line_note}
+use Rattle.explainer.specs.Notes.{IsSessionNote, large_note, line_note}
 use Rattle.card_tool.specs.Answers.{IsAnswerTo, IsRight, IsRightTo}
 use Rattle.card_tool.specs.ExchangeTexts.{side_of}
 use Rattle.card_tool.specs.Files.{largest_file, ReadsWhole}
+use Rattle.card_tool.specs.Judged.{IsKindNote, IsNoteBy}
 
 -- ---- notes on files
 
@@ -68,18 +69,25 @@ abbrev pub IsFillNote : List ℕ → Result (List Known) Fault → List ℕ → 
 IsFillNote list known note =
     IsNoteBy list_codec list note ⊎ (IsNoteBy list_codec list [] × IfOk known (λ values. ⊥))
 
--- The note on what a request was given, with what reading standard input gave. That on a session is open.
-abbrev pub IsNoteTo : Request → Result (List ℕ) Fault → List ℕ → Type 0
-IsNoteTo (Check input) file note =
+-- The note on a session by how it ends: none on one that was simulated, that on its answer to reset where it is
+-- refused, or how large its text may be.
+abbrev pub IsSimulationNote : List ℕ → Status → List ℕ → Type 0
+IsSimulationNote atr status.Accepted note = note ≡ []
+IsSimulationNote atr status.Refused note = IsSessionNote atr note
+IsSimulationNote atr status.Fault note = note ≡ large_note largest_file
+
+-- The note on what a request was given, with what reading standard input gave, where the program ends so.
+abbrev pub IsNoteTo : Request → Result (List ℕ) Fault → Status → List ℕ → Type 0
+IsNoteTo (Check input) file ended note =
     IsOkAnd (octets_given input.given file) (λ b. IsKindNote input.expected.kind input.expected b note)
-IsNoteTo (Show input) file note =
+IsNoteTo (Show input) file ended note =
     IsOkAnd (octets_given input.given file) (λ b. IsKindNote input.expected.kind input.expected b note)
-IsNoteTo (BuildTidy given) file note = IsOkAnd (octets_given given file) (λ b. IsNoteBy forest_codec b note)
-IsNoteTo (BuildFill list known) file note = IsFillNote list known note
-IsNoteTo (Replay end) file note = IsOkAnd file (λ text. IsReplayNote end text note)
-IsNoteTo Migrate file note = IsOkAnd file (λ text. IsFileNote text note)
-IsNoteTo (Simulate session) file note = Unit {0}
-IsNoteTo _ file note = ⊥
+IsNoteTo (BuildTidy given) file ended note = IsOkAnd (octets_given given file) (λ b. IsNoteBy forest_codec b note)
+IsNoteTo (BuildFill list known) file ended note = IsFillNote list known note
+IsNoteTo (Replay end) file ended note = IsOkAnd file (λ text. IsReplayNote end text note)
+IsNoteTo Migrate file ended note = IsOkAnd file (λ text. IsFileNote text note)
+IsNoteTo (Simulate session) file ended note = IsSimulationNote session.atr ended note
+IsNoteTo _ file ended note = ⊥
 
 -- The note on a fault: on octets that are too many, or on words, of which it is open.
 abbrev pub IsFaultNote : Fault → List ℕ → Type 0
@@ -99,7 +107,7 @@ pub record IsNotedFrom (request : Request) (held left : Option (List ℕ)) (befo
   pub file : Result (List ℕ) Fault
   pub is_file : NeedsFile request → ReadsWhole held left before after file
   pub is_answer : IsAnswerTo request file text ended
-  pub is_note : IsNoteTo request file note
+  pub is_note : IsNoteTo request file ended note
 
 -- what is right of a request: the note is that on what it was given, or it fits the text alone
 abbrev pub IsNotedTo : Request → Option (List ℕ) → Option (List ℕ) → ℕ → ℕ → List ℕ → List ℕ → Status → Type 0

@@ -2,7 +2,9 @@ pub mod Files
 pub mod ExchangeTexts
 pub mod SimulationTexts
 pub mod Lines
+pub mod Conversations
 pub mod Answers
 pub mod LineAnswers
+pub mod Judged
 pub mod Explained
 pub mod Hosts

@@ -2,7 +2,7 @@
 --
 -- held and left are the octets that the reader held before and after, where they are known; before and
 -- after are the counts of its calls that failed.
-use Rattle.std.specs.Prelude.{◌≡◌, ◌<◌, ◌≤◌, ◌++◌, ◌+◌, ◌^◌, ◌-◌, ℕ, List, [], Option, length, take}
+use Rattle.std.specs.Prelude.{◌≡◌, ◌<◌, ◌≤◌, ◌⊎◌, ◌++◌, ◌+◌, ◌^◌, ◌-◌, ℕ, List, [], ◌∷◌, Option, length, take}
 use Rattle.std.specs.Io.KnownBytes.{Appends, Consumes, IsAtEnd}
 use Rattle.octet_core.specs.Failures.{next_count, HasFailed}
 use Rattle.card_words.specs.Texts.{fault_text}
@@ -10,6 +10,7 @@ use Rattle.card_words.specs.Words.{AskForLines}
 use Rattle.card_words.specs.declared.fault.Fault.TheVariants.{Memory, Read, TooLarge}
 use Rattle.card_words.specs.declared.request.Expected.{Expected}
 use Rattle.card_tool.specs.Answers.{AreLinesTold, Writes}
+use Rattle.card_tool.specs.Conversations.{Event, Happens, heard, told, unheard, untold}
 use Rattle.card_tool.specs.Files.{largest_file}
 use Rattle.card_tool.specs.Lines.{all_lines, ended_lines, rest_after}
 use Rattle.card_kinds.specs.declared.status.Status.{Status}
@@ -77,3 +78,92 @@ pub data IsRest (expected : Expected) (lines : List (List ℕ)) (written text : 
   all_told : AreLinesTold expected lines (written ++ text) ended → IsRest expected lines written text ended
   first_told : (told : List ℕ) → HasBegun expected lines (written ++ told) → text ≡ told ++ fault_text Memory
       → ended ≡ status.Fault → IsRest expected lines written text ended
+
+-- ---- in a conversation
+--
+-- read and written are the octets that were heard, and those of the texts that were told.
+
+-- the lines that ended in what was heard are answered, each by its line, and nothing else is told
+abbrev pub IsUpToDate : Expected → List ℕ → List ℕ → Type 0
+IsUpToDate expected read written = (so_far : Status) × AreLinesTold expected (ended_lines read) written so_far
+
+-- These events tell a text, in one piece or more, and nothing is heard among them: all of it, and the program ends as
+-- is right, or as much as could be told.
+abbrev pub AreTelling : List ℕ → Status → List Event → Status → Type 0
+AreTelling text right [] ended = (text ≡ []) × (ended ≡ right)
+AreTelling text right (told part ∷ events) ended =
+    (more : List ℕ) × (text ≡ part ++ more) × AreTelling more right events ended
+AreTelling text right (untold part count ∷ events) ended =
+    (events ≡ []) × ((more : List ℕ) × (text ≡ part ++ more)) × (ended ≡ status.Fault)
+AreTelling text right (heard octets ∷ events) ended = ⊥
+AreTelling text right (unheard ∷ events) ended = ⊥
+
+-- The last events of a conversation about lines.
+pub data Closes (expected : Expected) (read written : List ℕ) (events : List Event) (ended : Status) : Type 0 where
+  -- the input ended, and what is left of all lines is told, of a last one without an end too
+  over : (more : List Event) (text : List ℕ) (right : Status) → events ≡ heard [] ∷ more
+      → IsUpToDate expected read written → IsRest expected (all_lines read) written text right
+      → AreTelling text right more ended → Closes expected read written events ended
+  -- a call to hear more failed, and the line of that fault is told
+  unread : (more : List Event) → events ≡ unheard ∷ more → IsUpToDate expected read written
+      → AreTelling (fault_text Read) status.Fault more ended → Closes expected read written events ended
+  -- memory ran out: the first of the lines that ended are told, and the line of that fault
+  out_of_memory : (text : List ℕ) → HasBegun expected (ended_lines read) (written ++ text)
+      → AreTelling (text ++ fault_text Memory) status.Fault events ended → Closes expected read written events ended
+  -- so many octets were heard that they can't be counted
+  uncounted : (text : List ℕ) → most_read ≤ length read → IsUpToDate expected read (written ++ text)
+      → AreTelling (text ++ fault_text TooLarge) status.Fault events ended → Closes expected read written events ended
+  -- the answers to the lines that ended couldn't be told
+  unwritten : (text : List ℕ) (count : ℕ) → events ≡ untold text count ∷ []
+      → IsUpToDate expected read (written ++ text) → ended ≡ status.Fault
+      → Closes expected read written events ended
+
+-- A conversation about lines, of which so much was heard and told before. More is heard only where the lines that ended
+-- before are answered and nothing else was told.
+abbrev pub AnswersLines : Expected → List ℕ → List ℕ → List Event → Status → Type 0
+AnswersLines expected read written [] ended = Closes expected read written [] ended
+AnswersLines expected read written (heard octets ∷ events) ended =
+    Closes expected read written (heard octets ∷ events) ended
+    ⊎ ((0 < length octets) × IsUpToDate expected read written
+    × AnswersLines expected (read ++ octets) written events ended)
+AnswersLines expected read written (told text ∷ events) ended = Closes expected read written (told text ∷ events) ended
+    ⊎ AnswersLines expected read (written ++ text) events ended
+AnswersLines expected read written (unheard ∷ events) ended = Closes expected read written (unheard ∷ events) ended
+AnswersLines expected read written (untold text count ∷ events) ended =
+    Closes expected read written (untold text count ∷ events) ended
+
+-- a text that is right was told since another conversation
+pub record Tells {A : Type 0} (Right : List ℕ → Status → Type 0) (old new : A → List Event → Type 0) (ended : Status) :
+    Type 0 where
+  pub events : List Event
+  pub text : List ℕ
+  pub right : Status
+  pub happened : Happens old new events
+  pub is_right : Right text right
+  pub are_telling : AreTelling text right events ended
+
+-- the lines heard since another conversation were answered
+pub record HasAnswered {A : Type 0} (expected : Expected) (old new : A → List Event → Type 0) (ended : Status) :
+    Type 0 where
+  pub events : List Event
+  pub happened : Happens old new events
+  pub are_answers : AnswersLines expected [] [] events ended
+
+-- ---- where more is heard
+
+-- the octets that were heard, and those of the texts that were told
+abbrev pub heard_by : List Event → List ℕ
+heard_by [] = []
+heard_by (heard octets ∷ events) = octets ++ heard_by events
+heard_by (_ ∷ events) = heard_by events
+
+abbrev pub told_by : List Event → List ℕ
+told_by [] = []
+told_by (told text ∷ events) = text ++ told_by events
+told_by (_ ∷ events) = told_by events
+
+-- a call to hear more
+abbrev pub IsHearing : Event → Type 0
+IsHearing (heard octets) = Unit {0}
+IsHearing unheard = Unit {0}
+IsHearing _ = ⊥

@@ -5,19 +5,18 @@
 
 ghost use Rattle.std.specs.Prelude.{◌≡◌, ◌++◌, List, ℕ, IfOk, string_bytes};
 ghost use Rattle.card_tool.specs.Answers.{HasOneText, IsReadFrom, IsRight, IsRightTo};
-ghost use Rattle.card_tool.specs.Explained.{GivesExplained, IsAdded, IsFaulted, IsFaultNote, IsFillNote, IsNoted, IsNotedTo};
+ghost use Rattle.card_tool.specs.Explained.{GivesExplained, IsAdded, IsFaulted, IsFaultNote, IsNoted, IsNotedTo, IsSimulationNote};
 ghost use Rattle.card_tool.specs.Files.{IsBegun};
 ghost use Rattle.card_words.specs.Words.{texts, AskForFile, IsSized, NeedsFile};
 
+use crate::exchange::{migrated_with_note, replayed_with_note};
 use crate::file::{LARGEST_FILE, octets_given, read_whole};
-use crate::file_notes::{file_note, replay_note};
+use crate::judged::{checked, filled, shown, tidied};
 use crate::program::answer_to;
-use crate::{exchange, simulation};
-use card_kinds::{Answer, Status, check, fill, show, tidy};
-use card_words::{Fault, Knowns, Request, Session};
-use explainer::{
-    forest_note, known_note, large_note, list_note, octets_note, session_note, words_note,
-};
+use crate::simulation;
+use card_kinds::{Answer, Status};
+use card_words::{Fault, Request, Session};
+use explainer::{large_note, session_note, words_note};
 use octet_core::{Octets, Source};
 use std::alloc::{AllocError, Global};
 
@@ -87,26 +86,22 @@ fn answered_to<R: Source>(
     match request {
         Request::Check(input) => {
             let octets = octets_given(alloc, input.given, reader)?;
-            let answer = check(alloc, input.expected, octets.get())?;
-            let note = octets_note(alloc, input.expected, octets.get());
-            Ok(noted(answer, note))
+            let judged = checked(alloc, input.expected, octets.get())?;
+            Ok(noted(judged.answer, judged.note))
         }
         Request::Show(input) => {
             let octets = octets_given(alloc, input.given, reader)?;
-            let answer = show(alloc, input.expected, octets.get())?;
-            let note = octets_note(alloc, input.expected, octets.get());
-            Ok(noted(answer, note))
+            let judged = shown(alloc, input.expected, octets.get())?;
+            Ok(noted(judged.answer, judged.note))
         }
         Request::BuildTidy(given) => {
             let octets = octets_given(alloc, given, reader)?;
-            let answer = tidy(alloc, octets.get())?;
-            let note = forest_note(alloc, octets.get());
-            Ok(noted(answer, note))
+            let judged = tidied(alloc, octets.get())?;
+            Ok(noted(judged.answer, judged.note))
         }
         Request::BuildFill { list, known } => {
-            let answer = fill(alloc, list.get(), &known)?;
-            let note = fill_note(alloc, words, list.get(), &known);
-            Ok(noted(answer, note))
+            let judged = filled(alloc, words, list.get(), &known)?;
+            Ok(noted(judged.answer, judged.note))
         }
         other => exchange_explained(alloc, other, reader),
     }
@@ -131,15 +126,13 @@ fn exchange_explained<R: Source>(
     match request {
         Request::Replay(end) => {
             let file = read_whole(alloc, reader)?;
-            let note = replay_note(alloc, file.get(), end);
-            let answer = exchange::replayed(alloc, file, end)?;
-            Ok(noted(answer, note))
+            let judged = replayed_with_note(alloc, file.get(), end)?;
+            Ok(noted(judged.answer, judged.note))
         }
         Request::Migrate => {
             let file = read_whole(alloc, reader)?;
-            let note = file_note(alloc, file.get());
-            let answer = exchange::migrated(alloc, file)?;
-            Ok(noted(answer, note))
+            let judged = migrated_with_note(alloc, file.get())?;
+            Ok(noted(judged.answer, judged.note))
         }
         Request::Simulate(session) => {
             let answer = simulation::simulated(alloc, &session)?;
@@ -150,28 +143,14 @@ fn exchange_explained<R: Source>(
     }
 }
 
-/// What is to be said of a list that is to be filled: of its octets, or where they are a list, of a word that says no
-/// known value.
-fn fill_note(
-    alloc: Global,
-    words: &[String],
-    list: &[u8],
-    known: &Result<Knowns, Fault>,
-) -> Result<String, AllocError>
-    ensures { IfOk result (λ note. IsFillNote list.now known.now (string_bytes note)) }
-{
-    let note = list_note(alloc, list)?;
-    match known {
-        Err(_) if note.is_empty() => known_note(alloc, words),
-        Ok(_) | Err(_) => Ok(note),
-    }
-}
-
 /// What is to be said of a session, by how the program ends.
-fn simulation_note(alloc: Global, session: &Session, status: Status) -> Result<String, AllocError> {
+fn simulation_note(alloc: Global, session: &Session, status: Status) -> Result<String, AllocError>
+    ensures { IfOk result (λ note. IsSimulationNote session.now.atr status (string_bytes note)) }
+{
     match status {
+        Status::Accepted => Ok(String::new(alloc)),
+        Status::Refused => session_note(alloc, session.atr.get()),
         Status::Fault => large_note(alloc, LARGEST_FILE),
-        _ => session_note(alloc, session.atr.get()),
     }
 }
 

@@ -1,14 +1,12 @@
 //! Notes on the file of a recorded exchange: the line that is wrong, with its text, and what is expected there.
 
 ghost use Rattle.std.specs.Prelude.{◌≡◌, ◌≢◌, IfOk, string_bytes};
-ghost use Rattle.card_tool.specs.ExchangeTexts.{side_of};
-ghost use Rattle.card_tool.specs.Explained.{line_of, IsDifferenceNote, IsFileNote, IsLineNote, IsReplayNote};
+ghost use Rattle.card_tool.specs.ExchangeTexts.{IsOutcome};
+ghost use Rattle.card_tool.specs.Explained.{line_of, IsDifferenceNote, IsLineNote};
 ghost use Rattle.exchange_core.specs.declared.fault.ExchangeFault.TheVariants.{Memory};
 ghost use Rattle.explainer.specs.Notes.{line_note};
 
-use crate::exchange::side;
-use card_words::End;
-use exchange_core::{Exchange, ExchangeFault, ReplayFault, read_exchange, replay};
+use exchange_core::{Exchange, ExchangeFault, ReplayFault, Side};
 use explainer::session_note;
 use std::alloc::{AllocError, Global};
 
@@ -18,28 +16,6 @@ const SHOWN: usize = 80;
 /// The number of the line with the answer to reset.
 const ATR_LINE: usize = 2;
 
-/// What a person wants to know of a text that is the file of no exchange: the line with its first fault, and what is
-/// expected there; nothing of a text that is.
-pub(crate) fn file_note(alloc: Global, text: &[u8]) -> Result<String, AllocError>
-    ensures { IfOk result (λ note. IsFileNote text.now (string_bytes note)) }
-{
-    match read_exchange(alloc, text) {
-        Ok(_) => Ok(String::new(alloc)),
-        Err(fault) => fault_note(alloc, text, fault),
-    }
-}
-
-/// What a person wants to know of a file that is replayed at an end: its fault, or the first line that the end does
-/// otherwise, and why; nothing where the end does all of it.
-pub(crate) fn replay_note(alloc: Global, text: &[u8], end: End) -> Result<String, AllocError>
-    ensures { IfOk result (λ note. IsReplayNote end text.now (string_bytes note)) }
-{
-    match read_exchange(alloc, text) {
-        Ok(exchange) => difference_note(alloc, text, &exchange, end),
-        Err(fault) => fault_note(alloc, text, fault),
-    }
-}
-
 /// A line of a file by its number, with its text, and what is to be said of it.
 fn line_said(alloc: Global, number: usize, line: &str, what: &str) -> Result<String, AllocError>
     ensures { IfOk result (λ text. string_bytes text ≡ line_note number line.now what.now) }
@@ -48,7 +24,11 @@ fn line_said(alloc: Global, number: usize, line: &str, what: &str) -> Result<Str
 }
 
 /// The line with the first fault of a text, and what is expected there.
-fn fault_note(alloc: Global, text: &[u8], fault: ExchangeFault) -> Result<String, AllocError>
+pub(crate) fn fault_note(
+    alloc: Global,
+    text: &[u8],
+    fault: ExchangeFault,
+) -> Result<String, AllocError>
     ensures line { IfOk result (λ note. IsLineNote (line_of fault) (string_bytes note)) }
     ensures other { IfOk result (λ _. fault ≢ Memory) }
 {
@@ -75,25 +55,27 @@ fn fault_note(alloc: Global, text: &[u8], fault: ExchangeFault) -> Result<String
     }
 }
 
-/// The first line that an end does otherwise, and why.
-fn difference_note(
+/// The first line that an end does otherwise, and why, by what replaying the exchange came to; nothing where the end
+/// does all of it.
+pub(crate) fn difference_note(
     alloc: Global,
     text: &[u8],
     exchange: &Exchange,
-    end: End,
+    _side: Side,
+    outcome: &Result<(), ReplayFault>,
 ) -> Result<String, AllocError>
-    ensures { IfOk result (λ note.
-        IsDifferenceNote exchange.now (side_of end) (string_bytes note)) }
+    requires { IsOutcome exchange.now _side outcome.now }
+    ensures { IfOk result (λ note. IsDifferenceNote exchange.now _side (string_bytes note)) }
 {
-    match replay(alloc, exchange, side(end)) {
+    match outcome {
         Ok(()) => Ok(String::new(alloc)),
         Err(ReplayFault::Differs { line, gives }) => {
             let lines = exchange.lines().get().len().saturating_add(ATR_LINE);
-            if line == ATR_LINE {
+            if *line == ATR_LINE {
                 let note = session_note(alloc, exchange.atr())?;
-                return noted(alloc, text, line, note.as_str().trim_end());
+                return noted(alloc, text, *line, note.as_str().trim_end());
             }
-            noted(alloc, text, line, reason(gives.get(), line > lines))
+            noted(alloc, text, *line, reason(gives.get(), *line > lines))
         }
         Err(ReplayFault::Memory) => Err(AllocError),
     }

@@ -1,16 +1,19 @@
 //! What holds of the program's definitions alone, as contracts.
 
-ghost use Rattle.std.specs.Prelude.{◌≡◌, ◌<◌, ◌⊎◌, ℕ, List, Option, Some, Result, Err, IfOk};
+ghost use Rattle.std.specs.Prelude.{◌≡◌, ◌<◌, ◌⊎◌, ◌++◌, ◌∷◌, [], ℕ, List, Option, Some, Result, Err, IfOk};
 ghost use Rattle.clap.specs.Kinds.{IsAmong};
 ghost use Rattle.clap.specs.Words.{fault_of};
 ghost use Rattle.clap.specs.declared.error.kind.ErrorKind.TheVariants.{DisplayHelp};
 ghost use Rattle.octet_core.specs.Failures.{most_failures};
 ghost use Rattle.octet_core.specs.Octets.{AreOctets};
 ghost use Rattle.card_tool.specs.Answers.{IsAnswer, IsAnswerTo};
+ghost use Rattle.card_tool.specs.Conversations.{Event};
 ghost use Rattle.card_tool.specs.Files.{file_of, ReadsWhole};
+ghost use Rattle.card_tool.specs.LineAnswers.{AnswersLines, heard_by, IsHearing, IsUpToDate, told_by};
 ghost use Rattle.card_words.specs.Words.{scard, AskForOctets, HasOctets, IsSized, NeedsOctets};
 ghost use Rattle.card_words.specs.declared.fault.Fault.{Fault as AnyFault};
 ghost use Rattle.card_words.specs.declared.fault.Fault.TheVariants.{Memory};
+ghost use Rattle.card_words.specs.declared.request.Expected.{Expected as AnyExpected};
 ghost use Rattle.card_words.specs.declared.request.Request.{Request as AnyRequest};
 ghost use Rattle.card_kinds.specs.declared.status.Status.{Status as AnyStatus};
 
@@ -44,4 +47,13 @@ pub fn one_file()
     ensures { (octets : List ℕ) (left : Option (List ℕ)) (before after : ℕ)
         (file : Result (List ℕ) AnyFault) → ReadsWhole (Some octets) left before after file
         → after ≡ before → before < most_failures → (file ≡ Err Memory) ⊎ (file ≡ file_of octets) }
+{}
+
+/// Wherever more is heard in a conversation about lines, the texts that were told before are the answers to all lines
+/// that the octets heard before end, and nothing else.
+pub fn answered_first()
+    ensures { (expected : AnyExpected) (events before after : List Event) (event : Event)
+        (ended : AnyStatus) → AnswersLines expected [] [] events ended
+        → events ≡ before ++ (event ∷ after) → IsHearing event
+        → IsUpToDate expected (heard_by before) (told_by before) }
 {}

@@ -8,22 +8,26 @@
 //! at the root too.
 #![tactic(auto)]
 
+pub mod conversation;
 mod exchange;
 mod explained;
 pub mod file;
 mod file_notes;
 pub mod host;
+mod judged;
 pub mod laws;
-mod lines;
+pub mod lines;
 pub mod program;
 mod simulation;
 
 pub use card_kinds::Status;
-pub use card_words::Fault;
+pub use card_words::{Expected, Fault};
+pub use conversation::{Conversation, Streams};
 pub use exchange_core::{
     Arrival, Exchange, ExchangeFault, Line, Lines, ReplayFault, Side, Version, migrate,
     read_exchange, replay, write_exchange,
 };
 pub use host::serve;
+pub use lines::answer_lines;
 pub use octet_core::Counted;
 pub use program::{report, run};

@@ -1,18 +1,19 @@
-//! Lines of standard input, each of which is checked and answered as it comes.
+//! Lines of octets, each of which is checked and answered as it comes.
 
-ghost use Rattle.std.specs.Prelude.{◌≡◌, ◌≤◌, ◌++◌, ◌∷◌, [], ℕ, List, IfOk, OnOk, OnErr};
-ghost use Rattle.card_tool.specs.Answers.{AreLinesTold, IsLineTold, IsWritten, Writes};
-ghost use Rattle.card_tool.specs.LineAnswers.{HasBegun, HasSaid, IsRest, WritesLines};
-ghost use Rattle.card_tool.specs.Lines.{all_lines, worse};
+ghost use Rattle.std.specs.Prelude.{◌≡◌, ◌≤◌, ◌++◌, ◌∷◌, [], ℕ, List, IfOk, IfErr, OnOk, OnErr};
+ghost use Rattle.card_tool.specs.Answers.{AreLinesTold, IsLineTold};
+ghost use Rattle.card_tool.specs.Conversations.{Event, Happens, told, untold};
+ghost use Rattle.card_tool.specs.LineAnswers.{AreTelling, HasAnswered, HasBegun, HasSaid, IsRest, Tells, WritesLines};
+ghost use Rattle.card_tool.specs.Lines.{all_lines, ended_lines, worse};
 ghost use Rattle.card_kinds.specs.declared.status.Status.TheVariants as ended;
 ghost use Rattle.card_words.specs.Texts.{fault_text};
 ghost use Rattle.card_kinds.specs.declared.status.Status.{Status as AnyStatus};
 
+use crate::conversation::{Conversation, Streams};
 use crate::file::LARGEST_FILE;
-use crate::program::{report, write};
 use card_kinds::{Answer, Status, check};
 use card_words::{Expected, Fault, loose_octets};
-use octet_core::{Sink, Source, write_octets};
+use octet_core::{Sink, Source, WriteFault};
 use std::alloc::{AllocError, Global};
 
 /// How many octets are read by one call at most.
@@ -24,10 +25,50 @@ struct Told {
     expected: Expected,
     /// The octets of the line under way, but no more than one past the limit.
     line: Vec<u8>,
-    /// What is still to be written.
+    /// What is still to be told.
     text: Vec<u8>,
     /// How the program ends where no more lines come.
     status: Status,
+}
+
+/// Answers each line that is heard by a line: a line that `\n` ends before more is heard, and a last one, where it has
+/// octets, at the end of the input. Nothing else is told, but for the line of a fault as the last: `fault: read` where
+/// a call to hear more failed, `fault: memory` where a growth of memory was refused, and `fault: too large` after
+/// 2<sup>64</sup> - 1 octets.
+///
+/// `run` does so with a reader and a writer, as [`Streams`](crate::Streams), where words ask for the lines of standard
+/// input.
+pub fn answer_lines<C: Conversation>(
+    alloc: Global,
+    expected: Expected,
+    conversation: &mut C,
+) -> Status
+    requires least { 1 ≤ expected.ifs }
+    requires most { expected.ifs ≤ 254 }
+    ensures { HasAnswered expected (C.said conversation.old) (C.said conversation.new) result }
+{
+    let mut told = Told {
+        expected,
+        line: Vec::new(alloc),
+        text: Vec::new(alloc),
+        status: Status::Accepted,
+    };
+    let mut room = [0; PIECE];
+    for _turn in 0..u64::MAX {
+        match tell_kept(&mut told.text, conversation) {
+            Ok(()) => {}
+            Err(_) => return Status::Fault,
+        }
+        match conversation.hear(&mut room) {
+            Ok(0) => return told.ended(alloc, conversation),
+            Ok(count) => match told.feed(alloc, &room[..count]) {
+                Ok(()) => {}
+                Err(_) => return told.faulted(Fault::Memory, conversation),
+            },
+            Err(_) => return told.faulted(Fault::Read, conversation),
+        }
+    }
+    told.faulted(Fault::TooLarge, conversation)
 }
 
 /// Answers each line of the reader by a line, before the next call of the reader.
@@ -43,28 +84,39 @@ pub(crate) fn check_lines<R: Source, W: Sink>(
         (R.failures reader.old) (R.failures reader.new) (W.contents writer.old)
         (W.contents writer.new) (W.failures writer.old) (W.failures writer.new) result }
 {
-    let mut told = Told {
-        expected,
-        line: Vec::new(alloc),
-        text: Vec::new(alloc),
-        status: Status::Accepted,
-    };
-    let mut room = [0; PIECE];
-    for _turn in 0..u64::MAX {
-        match write_octets(writer, told.text.as_slice()) {
-            Ok(()) => told.text.clear(),
-            Err(_) => return Status::Fault,
+    let mut streams = Streams { reader, writer };
+    answer_lines(alloc, expected, &mut streams)
+}
+
+/// Tells the text that was kept, and empties it.
+fn tell_kept<C: Conversation>(text: &mut Vec<u8>, conversation: &mut C) -> Result<(), WriteFault>
+    ensures told { OnOk result (Happens (C.said conversation.old) (C.said conversation.new)
+        (told text.old.items ∷ [])) }
+    ensures empty { OnOk result (text.new.items ≡ []) }
+    ensures untold { IfErr result (λ fault.
+        Happens (C.said conversation.old) (C.said conversation.new)
+        (untold text.old.items fault.written ∷ [])) }
+    ensures kept { IfErr result (λ _. text.new.items ≡ text.old.items) }
+{
+    match conversation.tell(text.as_slice()) {
+        Ok(()) => {
+            text.clear();
+            Ok(())
         }
-        match reader.read(&mut room) {
-            Ok(0) => return told.ended(alloc, writer),
-            Ok(count) => match told.feed(alloc, &room[..count]) {
-                Ok(()) => {}
-                Err(_) => return told.faulted(Fault::Memory, writer),
-            },
-            Err(_) => return told.faulted(Fault::Read, writer),
-        }
+        Err(fault) => Err(fault),
     }
-    told.faulted(Fault::TooLarge, writer)
+}
+
+/// Tells a text: the status, unless that fails.
+fn tell<C: Conversation>(text: &[u8], status: Status, conversation: &mut C) -> Status
+    ensures { (event : Event)
+        × Happens (C.said conversation.old) (C.said conversation.new) (event ∷ [])
+        × AreTelling text.now status (event ∷ []) result }
+{
+    match conversation.tell(text) {
+        Ok(()) => status,
+        Err(_) => Status::Fault,
+    }
 }
 
 impl Told {
@@ -81,7 +133,7 @@ impl Told {
         ensures begun { OnErr result
             ((read written : List ℕ)
             → HasSaid self.old.expected read written self.old.line.items self.old.text.items
-            self.old.status → HasBegun self.old.expected (all_lines (read ++ piece.now))
+            self.old.status → HasBegun self.old.expected (ended_lines (read ++ piece.now))
             (written ++ self.new.text.items)) }
     {
         for octet in piece {
@@ -148,29 +200,29 @@ impl Told {
         self.answer(alloc)
     }
 
-    /// Answers the last line, and writes what is left.
-    fn ended<W: Sink>(mut self, alloc: Global, writer: &mut W) -> Status
+    /// Answers the last line, and tells what is left.
+    fn ended<C: Conversation>(mut self, alloc: Global, conversation: &mut C) -> Status
         requires least { 1 ≤ self.expected.ifs }
         requires most { self.expected.ifs ≤ 254 }
         ensures { (read written : List ℕ)
             → HasSaid self.expected read written self.line.items self.text.items self.status
-            → Writes (IsRest self.expected (all_lines read) written) (W.contents writer.old)
-            (W.contents writer.new) (W.failures writer.old) (W.failures writer.new) result }
+            → Tells (IsRest self.expected (all_lines read) written) (C.said conversation.old)
+            (C.said conversation.new) result }
     {
         match self.last(alloc) {
-            Ok(()) => write(self.text.as_slice(), self.status, writer),
-            Err(_) => self.faulted(Fault::Memory, writer),
+            Ok(()) => tell(self.text.as_slice(), self.status, conversation),
+            Err(_) => self.faulted(Fault::Memory, conversation),
         }
     }
 
-    /// Writes what is left, and the line of a fault.
-    fn faulted<W: Sink>(self, fault: Fault, writer: &mut W) -> Status
-        ensures { IsWritten (self.text.items ++ fault_text fault) ended.Fault
-            (W.contents writer.old) (W.contents writer.new) (W.failures writer.old)
-            (W.failures writer.new) result }
+    /// Tells what is left, and the line of a fault.
+    fn faulted<C: Conversation>(self, fault: Fault, conversation: &mut C) -> Status
+        ensures { (events : List Event)
+            × Happens (C.said conversation.old) (C.said conversation.new) events
+            × AreTelling (self.text.items ++ fault_text fault) ended.Fault events result }
     {
-        match write_octets(writer, self.text.as_slice()) {
-            Ok(()) => report(fault, writer),
+        match conversation.tell(self.text.as_slice()) {
+            Ok(()) => tell(fault.text().as_bytes(), Status::Fault, conversation),
             Err(_) => Status::Fault,
         }
     }

@@ -106,7 +106,7 @@ pub fn report<W: Sink>(fault: Fault, writer: &mut W) -> Status
 }
 
 /// Writes a text: the status, unless the writer fails.
-pub(crate) fn write<W: Sink>(text: &[u8], status: Status, writer: &mut W) -> Status
+fn write<W: Sink>(text: &[u8], status: Status, writer: &mut W) -> Status
     ensures { IsWritten text.now status (W.contents writer.old) (W.contents writer.new)
         (W.failures writer.old) (W.failures writer.new) result }
 {

@@ -1,2 +1,1 @@
-mod Noting
-mod Stopping
+pub mod Stopping

@@ -1,13 +1,14 @@
 -- What is said of octets after the line of their verdict.
-use Rattle.std.specs.Prelude.{◌≡◌, ℕ, ◌-◌, List, ◌++◌, [], codes, decimal, drop, encode_utf8, length, take, ◌==◌, Option, Some, None, if◌then◌else◌}
+use Rattle.std.specs.Prelude.{◌≡◌, ℕ, ◌-◌, List, ◌++◌, [], codes, decimal, drop, encode_utf8, length, take, ◌==◌, Option, Some, None, if◌then◌else◌, Result, Ok, Err}
 use Rattle.std.specs.List.{repeat}
 use Rattle.hex.specs.Hex.{encode_upper}
 use Rattle.octet_core.specs.declared.stop.Stop.{Stop}
 use Rattle.octet_core.specs.declared.stop.Stop.TheVariants.{Short, At}
-use Rattle.card_words.specs.declared.request.Expected.{Expected}
-use Rattle.card_words.specs.declared.request.Kind.{Kind}
-use Rattle.card_kinds.specs.Codec.{Codec, Stops, Takes}
-use Rattle.card_kinds.specs.Verdicts.{codec_of}
+use Rattle.octet_core.specs.Grammar.{self_ended, Accepts, Refuses}
+use Rattle.atr_core.specs.Atr.{AtrParts, IsAtr, IsReason}
+use Rattle.atr_core.specs.T1.{t1_params_of, T1Values}
+use Rattle.atr_core.specs.declared.params.ParamFault.{ParamFault}
+use Rattle.atr_core.specs.declared.reason.AtrReason.{AtrReason}
 
 -- the place of the first octet that is shown: at most 16 octets stand before the one that is marked
 abbrev pub first_shown : ℕ → ℕ
@@ -46,14 +47,38 @@ pub data IsStopNote {R : Type 0} (b : List ℕ) (stop : Stop R) (note : List ℕ
   short : (place : ℕ) (least : Option ℕ) → stop ≡ Short place → note ≡ short_note (length b) least
       → IsStopNote b stop note
 
--- The note on octets by their verdict: how many are left after the value that they spell, or the note of the refusal.
-pub data IsNoteBy {V R : Type 0} (c : Codec V R) (b note : List ℕ) : Type 0 where
-  taken : (v : V) (n left : ℕ) → Takes c b v n → left ≡ length b - n → note ≡ left_note left → IsNoteBy c b note
-  stopped : (stop : Stop R) → Stops c b stop → IsStopNote b stop note → IsNoteBy c b note
+-- The note on octets by a verdict on them: how many are left after a value that takes so many, or the note of the
+-- refusal.
+abbrev pub IsVerdictNote : {R : Type 0} → List ℕ → Result ℕ (Stop R) → List ℕ → Type 0
+IsVerdictNote b (Ok n) note = note ≡ left_note (length b - n)
+IsVerdictNote b (Err stop) note = IsStopNote b stop note
 
--- the same by what they are taken for
-abbrev pub IsKindNote : Kind → Expected → List ℕ → List ℕ → Type 0
-IsKindNote kind expected b note = IsNoteBy (codec_of kind expected).codec b note
+-- ---- sessions
+
+-- what an answer to reset lacks
+abbrev pub lack_note : List ℕ → List ℕ
+lack_note sentence = codes "the answer to reset " ++ (sentence ++ codes "\n")
+
+-- how many octets an answer to reset takes, and how many are left after it
+abbrev pub longer_note : ℕ → ℕ → List ℕ
+longer_note taken left = codes "octets of the answer to reset: "
+    ++ (decimal taken ++ (codes "; octets left after it: " ++ (decimal left ++ codes "\n")))
+
+-- The note on an answer to reset by its parameters of T=1: none where it has them, else what it lacks. Which words the
+-- sentence has is open.
+pub data IsLackNote (a : AtrParts) (note : List ℕ) : Type 0 where
+  has_all : (values : T1Values) → t1_params_of a ≡ Ok values → note ≡ [] → IsLackNote a note
+  lacks : (fault : ParamFault) (sentence : List ℕ) → t1_params_of a ≡ Err fault → note ≡ lack_note sentence
+      → IsLackNote a note
+
+-- The note on the octets that a session is to begin from: that on the answer to reset which they all are, how many are
+-- left after one, or the note of the refusal.
+pub data IsSessionNote (b note : List ℕ) : Type 0 where
+  whole : (a : AtrParts) → Accepts self_ended IsAtr b a (length b) → IsLackNote a note → IsSessionNote b note
+  longer : (a : AtrParts) (n : ℕ) → Accepts self_ended IsAtr b a n → (n ≡ length b → ⊥)
+      → note ≡ longer_note n (length b - n) → IsSessionNote b note
+  no_atr : (stop : Stop AtrReason) → Refuses self_ended IsAtr IsReason b stop → IsStopNote b stop note
+      → IsSessionNote b note
 
 -- ---- words
 

@@ -1,7 +1,7 @@
 //! The note on known values.
 
 use crate::place::{place_of, word_at};
-use crate::word::{hex_note, said};
+use crate::word::{digits_note, hex_note, said};
 use octet_core::{HexFault, octets_of};
 use std::alloc::{AllocError, Global};
 use tlv_core::Tag;
@@ -34,7 +34,7 @@ fn value_note(alloc: Global, number: usize, word: &str) -> Result<String, AllocE
         let what = "F is n (numeric), c (compressed numeric) or o (any other)";
         return said(alloc, number, what);
     }
-    let note = hex_note(alloc, number, tag)?;
+    let note = digits_note(alloc, number, tag)?;
     if !note.is_empty() {
         return Ok(note);
     }

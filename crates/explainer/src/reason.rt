@@ -7,7 +7,7 @@ use chain_core::ChainReason;
 use tlv_core::{DolReason, TlvReason};
 
 /// A reason why octets are refused, with what was expected in their place.
-pub(crate) trait Explained {
+pub trait Explained {
     /// What was expected.
     fn sentence(self) -> &'static str;
 }

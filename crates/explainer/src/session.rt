@@ -1,7 +1,7 @@
 //! Notes on simulated sessions, and on answers to reset from which none begins.
 
 ghost use Rattle.std.specs.Prelude.{◌≡◌, IfOk, string_bytes};
-ghost use Rattle.explainer.specs.Notes.{large_note};
+ghost use Rattle.explainer.specs.Notes.{lack_note, large_note, longer_note, IsLackNote, IsSessionNote};
 
 use crate::mark::stop_note;
 use atr_core::{Atr, ParamFault, t1_params};
@@ -9,28 +9,42 @@ use std::alloc::{AllocError, Global};
 
 /// What a person wants to know of an answer to reset from which no session begins: where it is refused, how many
 /// octets come after it, or what it lacks; nothing of one from which a session begins.
-pub fn session_note(alloc: Global, atr: &[u8]) -> Result<String, AllocError> {
+pub fn session_note(alloc: Global, atr: &[u8]) -> Result<String, AllocError>
+    ensures { IfOk result (λ note. IsSessionNote atr.now (string_bytes note)) }
+{
     match atr_core::decode(atr) {
-        Ok((value, taken)) if taken == atr.len() => params_note(alloc, &value),
-        Ok((_, taken)) => {
-            let count = atr.len().saturating_sub(taken);
-            format!(in alloc;
-                "octets of the answer to reset: {taken}; octets left after it: {count}\n"
-            )
+        Ok((value, taken)) => {
+            if taken == atr.len() {
+                return lack_of(alloc, &value);
+            }
+            longer(alloc, taken, atr.len().saturating_sub(taken))
         }
         Err(stop) => stop_note(alloc, atr, stop, None),
     }
 }
 
-/// What an answer to reset lacks.
-fn params_note(alloc: Global, atr: &Atr) -> Result<String, AllocError> {
+/// What an answer to reset lacks, if anything.
+fn lack_of(alloc: Global, atr: &Atr) -> Result<String, AllocError>
+    ensures { IfOk result (λ note. IsLackNote atr.now (string_bytes note)) }
+{
     match t1_params(atr) {
         Ok(_) => Ok(String::new(alloc)),
-        Err(fault) => {
-            let what = sentence(fault);
-            format!(in alloc; "the answer to reset {what}\n")
-        }
+        Err(fault) => lack(alloc, sentence(fault)),
     }
+}
+
+/// What an answer to reset lacks, in words.
+fn lack(alloc: Global, what: &str) -> Result<String, AllocError>
+    ensures { IfOk result (λ text. string_bytes text ≡ lack_note what.now) }
+{
+    format!(in alloc; "the answer to reset {what}\n")
+}
+
+/// How many octets an answer to reset takes, and how many are left after it.
+fn longer(alloc: Global, taken: usize, count: usize) -> Result<String, AllocError>
+    ensures { IfOk result (λ text. string_bytes text ≡ longer_note taken count) }
+{
+    format!(in alloc; "octets of the answer to reset: {taken}; octets left after it: {count}\n")
 }
 
 fn sentence(fault: ParamFault) -> &'static str {

@@ -12,12 +12,17 @@ pub(crate) fn said(alloc: Global, number: usize, what: &str) -> Result<String, A
     format!(in alloc; "word {number}: {what}\n")
 }
 
-/// What is wrong with a word that stands for octets, empty where nothing is: the first character that is no
-/// hexadecimal digit, at its place in the word, or an odd number of digits.
+/// What is wrong with a word that stands for octets, in hexadecimal or `none`, empty where nothing is.
 pub(crate) fn hex_note(alloc: Global, number: usize, word: &str) -> Result<String, AllocError> {
     if word == "none" {
         return Ok(String::new(alloc));
     }
+    digits_note(alloc, number, word)
+}
+
+/// What is wrong with octets in hexadecimal, empty where nothing is: the first character that is no hexadecimal digit,
+/// at its place, or an odd number of digits.
+pub(crate) fn digits_note(alloc: Global, number: usize, word: &str) -> Result<String, AllocError> {
     let mut place: usize = 0;
     for character in word.chars() {
         if !character.is_ascii_hexdigit() {

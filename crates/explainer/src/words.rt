@@ -140,7 +140,7 @@ fn list_word_note(alloc: Global, words: &[String]) -> Result<String, AllocError>
 /// A session: its options, its answer to reset and its pairs.
 fn session_note(alloc: Global, words: &[String]) -> Result<String, AllocError> {
     for name in ["--lose", "--damage", "--spoil"] {
-        if !is_list(option_value(words, name)) {
+        if option_place(words, name) < words.len() && !is_list(option_value(words, name)) {
             return option_note(
                 alloc,
                 words,
@@ -157,9 +157,9 @@ fn session_note(alloc: Global, words: &[String]) -> Result<String, AllocError> {
     pairs_note(alloc, words)
 }
 
-/// Whether a word is numbers that are parted by commas, or empty, as where the option isn't given.
+/// Whether a word is numbers that are parted by commas.
 fn is_list(word: &str) -> bool {
-    word.is_empty() || word.split(',').all(is_block_number)
+    word.split(',').all(is_block_number)
 }
 
 fn is_block_number(word: &str) -> bool {

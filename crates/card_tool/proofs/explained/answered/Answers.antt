@@ -1,9 +1,6 @@
 use Rattle.std.proofs.Common.{inl, inr}
 use Rattle.std.proofs.lemmas.Result.{err_from_is_err_and}
-use Rattle.card_words.specs.Texts.{fault_text}
 use Rattle.card_words.specs.Words.{texts}
-use Rattle.card_tool.specs.Answers.{IsRight}
-use Rattle.card_kinds.specs.declared.status.Status.TheVariants as status
 use Rattle.card_tool.proofs.Answering.{refused-words}
 use Rattle.card_tool.proofs.Explaining.{explained-words}
 use Rattle.card_tool.proofs.explained.answered.Goals as goal

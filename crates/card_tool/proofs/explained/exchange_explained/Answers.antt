@@ -1,12 +1,9 @@
 use Rattle.std.proofs.Common.{[], Ok}
 use Rattle.std.proofs.lemmas.Result.{err_from_is_err_and}
-use Rattle.card_words.specs.Texts.{fault_text}
-use Rattle.card_words.specs.declared.fault.Fault.TheVariants.{Memory}
 use Rattle.card_words.specs.declared.request.Request.TheVariants.{Migrate, Replay, Simulate}
 use Rattle.card_tool.specs.ExchangeTexts.{Migrates, Replays}
-use Rattle.card_kinds.specs.declared.status.Status.TheVariants as status
 use Rattle.card_tool.proofs.Answering.{file-fault, file-wanting}
-use Rattle.card_tool.proofs.Explaining.{open-note, wanting, with-note}
+use Rattle.card_tool.proofs.Explaining.{wanting, with-note}
 use Rattle.card_tool.proofs.Inputs.{none-begun}
 use Rattle.card_tool.proofs.explained.exchange_explained.Goals as goal
 
@@ -19,10 +16,10 @@ returns-in_err-file-in-Replay-clause-told g c =
     (g.R.Source.failures c.read_whole.new.reader) (λ file text ended h. h) c.in_err-file-in-Replay.field-0.0
     c.in_err-file-in-Replay.ensures)
 
-pub returns-in_err-answer-in-Replay-clause-told : goal.returns-in_err-answer-in-Replay-clause-told
-returns-in_err-answer-in-Replay-clause-told g c =
-    let fault = err_from_is_err_and c.from_residual-in_err-answer-in-Replay.result
-    c.from_residual-in_err-answer-in-Replay.ensures.1 in
+pub returns-in_err-judged-in-Replay-clause-told : goal.returns-in_err-judged-in-Replay-clause-told
+returns-in_err-judged-in-Replay-clause-told g c =
+    let fault = err_from_is_err_and c.from_residual-in_err-judged-in-Replay.result
+    c.from_residual-in_err-judged-in-Replay.ensures.1 in
     rw (c.in-Replay.is, fault.1, fault.2)
     (file-wanting (Replay c.in-Replay.end) (Replays c.in-Replay.end) (g.R.Source.remaining c.args.reader.now)
     (g.R.Source.remaining c.read_whole.new.reader) (g.R.Source.failures c.args.reader.now)
@@ -39,10 +36,10 @@ returns-in_err-file-in-Migrate-clause-told g c =
     (g.R.Source.failures c.read_whole-in-Migrate.new.reader) (λ file text ended h. h)
     c.in_err-file-in-Migrate.field-0.0 c.in_err-file-in-Migrate.ensures)
 
-pub returns-in_err-answer-in-Migrate-clause-told : goal.returns-in_err-answer-in-Migrate-clause-told
-returns-in_err-answer-in-Migrate-clause-told g c =
-    let fault = err_from_is_err_and c.from_residual-in_err-answer-in-Migrate.result
-    c.from_residual-in_err-answer-in-Migrate.ensures.1 in
+pub returns-in_err-judged-in-Migrate-clause-told : goal.returns-in_err-judged-in-Migrate-clause-told
+returns-in_err-judged-in-Migrate-clause-told g c =
+    let fault = err_from_is_err_and c.from_residual-in_err-judged-in-Migrate.result
+    c.from_residual-in_err-judged-in-Migrate.ensures.1 in
     rw (c.in-Migrate.is, fault.1, fault.2)
     (file-wanting Migrate Migrates (g.R.Source.remaining c.args.reader.now)
     (g.R.Source.remaining c.read_whole-in-Migrate.new.reader) (g.R.Source.failures c.args.reader.now)
@@ -56,26 +53,27 @@ returns-in_err-answer-in-Simulate-clause-told g c =
     rw (fault.1, fault.2) (wanting c.args.request (g.R.Source.remaining c.args.reader.now)
     (g.R.Source.failures c.args.reader.now))
 
-pub returns-in_ok-answer-in-Replay-clause-told : goal.returns-in_ok-answer-in-Replay-clause-told
-returns-in_ok-answer-in-Replay-clause-told g c =
+pub returns-in_ok-judged-in-Replay-clause-told : goal.returns-in_ok-judged-in-Replay-clause-told
+returns-in_ok-judged-in-Replay-clause-told g c =
+    let made = rw c.get.ensures at c.in_ok-judged-in-Replay.ensures in
     rw c.in-Replay.is (with-note (Replay c.in-Replay.end) (g.R.Source.remaining c.args.reader.now)
     (g.R.Source.remaining c.read_whole.new.reader) (g.R.Source.failures c.args.reader.now)
-    (g.R.Source.failures c.read_whole.new.reader) c.in_ok-answer-in-Replay.answer c.noted.result
-    c.replay_note-note.result c.noted.ensures.text.0 (Ok c.in_ok-file-in-Replay.file)
-    (λ asked. c.in_ok-file-in-Replay.ensures)
-    c.in_ok-answer-in-Replay.ensures (rw c.get.ensures at c.replay_note-note.ensures) c.noted.ensures.text.1
-    c.noted.ensures.text.2 c.noted.ensures.status)
+    (g.R.Source.failures c.read_whole.new.reader) c.in_ok-judged-in-Replay.judged.answer c.noted.result
+    c.in_ok-judged-in-Replay.judged.note c.noted.ensures.text.0 (Ok c.in_ok-file-in-Replay.file)
+    (λ asked. c.in_ok-file-in-Replay.ensures) made.0 made.1 c.noted.ensures.text.1 c.noted.ensures.text.2
+    c.noted.ensures.status)
 
-pub returns-in_ok-answer-in-Migrate-clause-told : goal.returns-in_ok-answer-in-Migrate-clause-told
-returns-in_ok-answer-in-Migrate-clause-told g c =
+pub returns-in_ok-judged-in-Migrate-clause-told : goal.returns-in_ok-judged-in-Migrate-clause-told
+returns-in_ok-judged-in-Migrate-clause-told g c =
+    let made = rw c.get-in-Migrate.ensures at c.in_ok-judged-in-Migrate.ensures in
     rw c.in-Migrate.is (with-note Migrate (g.R.Source.remaining c.args.reader.now)
     (g.R.Source.remaining c.read_whole-in-Migrate.new.reader) (g.R.Source.failures c.args.reader.now)
-    (g.R.Source.failures c.read_whole-in-Migrate.new.reader) c.in_ok-answer-in-Migrate.answer c.noted-in-Migrate.result
-    c.file_note-note.result c.noted-in-Migrate.ensures.text.0 (Ok c.in_ok-file-in-Migrate.file)
-    (λ asked. c.in_ok-file-in-Migrate.ensures)
-    c.in_ok-answer-in-Migrate.ensures (rw c.get-in-Migrate.ensures at c.file_note-note.ensures)
-    c.noted-in-Migrate.ensures.text.1
-    c.noted-in-Migrate.ensures.text.2 c.noted-in-Migrate.ensures.status)
+    (g.R.Source.failures c.read_whole-in-Migrate.new.reader) c.in_ok-judged-in-Migrate.judged.answer
+    c.noted-in-Migrate.result
+    c.in_ok-judged-in-Migrate.judged.note c.noted-in-Migrate.ensures.text.0 (Ok c.in_ok-file-in-Migrate.file)
+    (λ asked. c.in_ok-file-in-Migrate.ensures) made.0 made.1 c.noted-in-Migrate.ensures.text.1
+    c.noted-in-Migrate.ensures.text.2
+    c.noted-in-Migrate.ensures.status)
 
 pub returns-in_ok-answer-in-Simulate-clause-told : goal.returns-in_ok-answer-in-Simulate-clause-told
 returns-in_ok-answer-in-Simulate-clause-told g c =
@@ -83,7 +81,7 @@ returns-in_ok-answer-in-Simulate-clause-told g c =
     (g.R.Source.remaining c.args.reader.now) (g.R.Source.failures c.args.reader.now)
     (g.R.Source.failures c.args.reader.now) c.in_ok-answer-in-Simulate.answer c.noted-in-Simulate.result
     c.simulation_note-note.result c.noted-in-Simulate.ensures.text.0 (Ok []) (λ needs. absurd needs)
-    c.in_ok-answer-in-Simulate.ensures (open-note c.simulation_note-note.result) c.noted-in-Simulate.ensures.text.1
+    c.in_ok-answer-in-Simulate.ensures c.simulation_note-note.ensures c.noted-in-Simulate.ensures.text.1
     c.noted-in-Simulate.ensures.text.2 c.noted-in-Simulate.ensures.status)
 
 pub returns-in_ok-answer-in-Simulate-clause-few : goal.returns-in_ok-answer-in-Simulate-clause-few

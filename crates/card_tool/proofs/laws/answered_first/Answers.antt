@@ -1,0 +1,6 @@
+use Rattle.card_tool.proofs.Waiting.{waits}
+use Rattle.card_tool.proofs.laws.answered_first.Goals as goal
+
+pub returns : goal.returns
+returns c = λ expected events before after event ended lines is hears.
+    waits expected events before after event ended lines is hears

@@ -1,0 +1,154 @@
+//! Answers about octets, each with a note that is made from the verdict of the answer.
+
+ghost use Rattle.std.specs.Prelude.{◌≤◌, IfOk, string_bytes};
+ghost use Rattle.card_kinds.specs.Codec.{IsVerdict};
+ghost use Rattle.card_kinds.specs.ForestTexts.{forest_codec};
+ghost use Rattle.card_kinds.specs.ListTexts.{list_codec};
+ghost use Rattle.card_kinds.specs.Texts.{accepted_text};
+ghost use Rattle.card_kinds.specs.Verdicts.{Checks, IsFilled, Shows, Tells, Tidies};
+ghost use Rattle.card_tool.specs.Explained.{IsFillNote};
+ghost use Rattle.card_tool.specs.Judged.{AreOf, IsKindNote, IsNoteBy};
+
+use apdu_core::{Command, Response};
+use atr_core::Atr;
+use block_core::Block;
+use card_kinds::{
+    Answer, Codec, Judged, Verdict, check_with_verdict, fill_with_verdict, show_with_verdict,
+    tidy_with_verdict,
+};
+use card_words::{Expected, Fault, Kind, Knowns};
+use chain_core::Receiver;
+use explainer::{Explained, known_note, least_wanting, verdict_note};
+use std::alloc::{AllocError, Global};
+use tlv_core::{Dol, DolReason, Forest};
+
+/// An answer, and what is to be said after its text, where memory for that isn't refused.
+#[derive(Drop)]
+pub(crate) struct WithNote {
+    pub(crate) answer: Answer,
+    pub(crate) note: Result<String, AllocError>,
+}
+
+/// How many octets the value takes, with a note.
+pub(crate) fn checked(
+    alloc: Global,
+    expected: Expected,
+    octets: &[u8],
+) -> Result<WithNote, AllocError>
+    requires least { 1 ≤ expected.ifs }
+    requires most { expected.ifs ≤ 254 }
+    ensures { IfOk result (AreOf (Checks expected.kind expected octets.now)
+        (IsKindNote expected.kind expected octets.now)) }
+{
+    match expected.kind {
+        Kind::Atr => checked_by::<Atr>(alloc, expected, octets),
+        Kind::Block => checked_by::<Block>(alloc, expected, octets),
+        Kind::Chain => checked_by::<Receiver>(alloc, expected, octets),
+        Kind::Command => checked_by::<Command>(alloc, expected, octets),
+        Kind::Response => checked_by::<Response>(alloc, expected, octets),
+        Kind::Tlv => checked_by::<Forest>(alloc, expected, octets),
+        Kind::Dol => checked_by::<Dol>(alloc, expected, octets),
+    }
+}
+
+/// The value itself, with a note.
+pub(crate) fn shown(
+    alloc: Global,
+    expected: Expected,
+    octets: &[u8],
+) -> Result<WithNote, AllocError>
+    requires least { 1 ≤ expected.ifs }
+    requires most { expected.ifs ≤ 254 }
+    ensures { IfOk result (AreOf (Shows expected.kind expected octets.now)
+        (IsKindNote expected.kind expected octets.now)) }
+{
+    match expected.kind {
+        Kind::Atr => shown_by::<Atr>(alloc, expected, octets),
+        Kind::Block => shown_by::<Block>(alloc, expected, octets),
+        Kind::Chain => shown_by::<Receiver>(alloc, expected, octets),
+        Kind::Command => shown_by::<Command>(alloc, expected, octets),
+        Kind::Response => shown_by::<Response>(alloc, expected, octets),
+        Kind::Tlv => shown_by::<Forest>(alloc, expected, octets),
+        Kind::Dol => shown_by::<Dol>(alloc, expected, octets),
+    }
+}
+
+/// How many octets the value of a codec takes, with a note.
+fn checked_by<C: Codec>(
+    alloc: Global,
+    expected: Expected,
+    octets: &[u8],
+) -> Result<WithNote, AllocError>
+where
+    C::Reason: Explained,
+    requires least { 1 ≤ expected.ifs }
+    requires most { expected.ifs ≤ 254 }
+    ensures { IfOk result (AreOf
+        (Tells (C.codec expected) (λ v n. accepted_text n) octets.now)
+        (IsNoteBy (C.codec expected) octets.now)) }
+{
+    let Judged { answer, verdict } = check_with_verdict::<C>(alloc, octets, expected)?;
+    let note = verdict_note(alloc, octets, verdict, least_wanting(expected.kind, octets));
+    Ok(WithNote { answer, note })
+}
+
+/// The value of a codec, with a note.
+fn shown_by<C: Codec>(
+    alloc: Global,
+    expected: Expected,
+    octets: &[u8],
+) -> Result<WithNote, AllocError>
+where
+    C::Reason: Explained,
+    requires least { 1 ≤ expected.ifs }
+    requires most { expected.ifs ≤ 254 }
+    ensures { IfOk result (AreOf
+        (Tells (C.codec expected) (λ v n. (C.codec expected).lines v) octets.now)
+        (IsNoteBy (C.codec expected) octets.now)) }
+{
+    let Judged { answer, verdict } = show_with_verdict::<C>(alloc, octets, expected)?;
+    let note = verdict_note(alloc, octets, verdict, least_wanting(expected.kind, octets));
+    Ok(WithNote { answer, note })
+}
+
+/// A forest in the shortest octets that say the same, with a note.
+pub(crate) fn tidied(alloc: Global, octets: &[u8]) -> Result<WithNote, AllocError>
+    ensures { IfOk result (AreOf (Tidies octets.now) (IsNoteBy forest_codec octets.now)) }
+{
+    let Judged { answer, verdict } = tidy_with_verdict(alloc, octets)?;
+    let note = verdict_note(alloc, octets, verdict, None);
+    Ok(WithNote { answer, note })
+}
+
+/// What a list asks for of what is known, with a note.
+pub(crate) fn filled(
+    alloc: Global,
+    words: &[String],
+    list: &[u8],
+    known: &Result<Knowns, Fault>,
+) -> Result<WithNote, AllocError>
+    ensures { IfOk result (AreOf (IsFilled list.now known.now) (IsFillNote list.now known.now)) }
+{
+    let Judged { answer, verdict } = fill_with_verdict(alloc, list, known)?;
+    let note = fill_note(alloc, words, list, known, verdict);
+    Ok(WithNote { answer, note })
+}
+
+/// What is to be said of a list that is to be filled: of its octets, or where they are a list, of a word that says no
+/// known value.
+fn fill_note(
+    alloc: Global,
+    words: &[String],
+    list: &[u8],
+    known: &Result<Knowns, Fault>,
+    verdict: Verdict<DolReason>,
+) -> Result<String, AllocError>
+    requires { IsVerdict list_codec list.now verdict }
+    ensures { IfOk result (λ note. IsFillNote list.now known.now (string_bytes note)) }
+{
+    let note = verdict_note(alloc, list, verdict, None)?;
+    match known {
+        Err(_) if note.is_empty() => known_note(alloc, words),
+        Ok(_) | Err(_) => Ok(note),
+    }
+}
