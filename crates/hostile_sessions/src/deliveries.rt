@@ -115,7 +115,7 @@ fn deliver_in(
 ) -> Result<Delivered, Fault> {
     let reached = way_to(alloc, state)?;
     let mut delivered = delivered;
-    for block in BLOCKS {
+    for block in BLOCKS.iter().take(share.most(BLOCKS.len())) {
         let block = octets_of(alloc, block)?;
         delivered = deliver(alloc, &reached, block.as_slice(), share, delivered)?;
     }

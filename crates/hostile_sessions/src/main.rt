@@ -62,8 +62,8 @@ fn tell_each(rt: &HostRuntime) -> Result<(), Fault> {
     let files = sessions::files(rt)?;
     let sessions = sessions::sessions(alloc, files.as_slice())?;
     let share = asked(rt)?;
-    tell(rt, refusals::refuse_each(alloc, sessions.as_slice()))?;
-    tell(rt, records::refuse_each(alloc))?;
+    tell(rt, refusals::refuse_each(alloc, sessions.as_slice(), share))?;
+    tell(rt, records::refuse_each(alloc, share))?;
     tell(rt, deliveries::deliver_each(alloc, share))?;
     tell(rt, pairs::disturb_each(alloc, share))?;
     tell(rt, drawn::draw_each(alloc, share))?;

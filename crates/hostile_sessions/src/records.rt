@@ -2,7 +2,7 @@
 
 use exchange_core::{Event, EventFault, Recorder, RecorderFault, write_exchange};
 use std::alloc::Global;
-use testing::{Case, Fault};
+use testing::{Case, Fault, Share};
 
 /// The answer to reset of a card that takes fields of 2 octets.
 const ATR: [u8; 7] = [0x3B, 0x80, 0x81, 0x31, 0x02, 0x45, 0x77];
@@ -53,9 +53,12 @@ const DEAD: [Event<'static>; 8] = [
 
 /// Each event is put between any two of each session. Where it is refused the record is as it was,
 /// and so is that of the whole session.
-pub(crate) fn refuse_each(alloc: Global) -> Result<String, Fault> {
+pub(crate) fn refuse_each(alloc: Global, share: Share) -> Result<String, Fault> {
     let long = vec![in alloc; 0xA5u8; 65_545]?;
-    let answered = refused_in(alloc, &ANSWERED, long.as_slice())?;
+    let answered = match share {
+        Share::All => refused_in(alloc, &ANSWERED, long.as_slice())?,
+        Share::Few => 0,
+    };
     let dead = refused_in(alloc, &DEAD, long.as_slice())?;
     let refused = answered.saturating_add(dead);
     Ok(format!(in alloc; "recorded: {refused} events refused, which left the record as it was")?)

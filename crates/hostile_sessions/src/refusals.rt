@@ -4,7 +4,7 @@ use crate::ends::{Ends, Waits, params};
 use exchange_core::Exchange;
 use std::alloc::Global;
 use t1_core::{CardFault, TerminalFault};
-use testing::{Case, Fault};
+use testing::{Case, Fault, Share};
 
 /// A call of an end that is refused in some state.
 #[derive(Clone, Copy, Debug, PartialEq, Eq)]
@@ -56,15 +56,20 @@ struct Handed<'a> {
 
 /// Each call that is refused is put between any two lines of each session, which goes on as if it
 /// weren't there.
-pub(crate) fn refuse_each(alloc: Global, sessions: &[Exchange]) -> Result<String, Fault> {
+pub(crate) fn refuse_each(
+    alloc: Global,
+    sessions: &[Exchange],
+    share: Share,
+) -> Result<String, Fault> {
     let long = vec![in alloc; 0xA5u8; 65_545]?;
     let handed = Handed {
         block: &[0x00, 0x80, 0x00, 0x80],
         short: &[0x90, 0x00],
         long: long.as_slice(),
     };
+    let count = share.most(sessions.len());
     let mut refused = 0u64;
-    for session in sessions {
+    for session in sessions.iter().take(count) {
         let lines = session.lines().get();
         for place in 0..=lines.len() {
             for call in CALLS {
@@ -74,7 +79,6 @@ pub(crate) fn refuse_each(alloc: Global, sessions: &[Exchange]) -> Result<String
             }
         }
     }
-    let count = sessions.len();
     Ok(format!(in alloc;
         "refused: {refused} calls within {count} sessions, which went on unchanged"
     )?)

@@ -7,14 +7,14 @@ use std::env::{self, Env};
 #[derive(Clone, Copy, Debug, PartialEq, Eq)]
 pub enum Share {
     All,
-    /// One in sixteen.
+    /// One in 256.
     Few,
 }
 
 impl Share {
     /// Whether the case with this number is tried.
     pub fn has(self, number: usize) -> bool {
-        self == Share::All || number % 16 == 0
+        self == Share::All || number % 256 == 0
     }
 
     /// How many of so many long cases are tried.
