@@ -149,7 +149,8 @@ fn deliver(
     let mut delivered = to_both(alloc, reached, block, 0, delivered)?;
     for place in 0..block.len() {
         for value in 0..=255u8 {
-            if share.has(usize::from(value)) && block.get(place) != Some(&value) {
+            let is_tried = share.has(place) && share.has(usize::from(value));
+            if is_tried && block.get(place) != Some(&value) {
                 let octets = with_octet(alloc, block, place, value)?;
                 delivered = to_both(alloc, reached, octets.as_slice(), place, delivered)?;
             }

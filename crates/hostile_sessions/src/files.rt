@@ -21,10 +21,12 @@ pub(crate) fn spoil_each(alloc: Global, files: &[Vec<u8>], share: Share) -> Resu
     for file in files.iter().take(share.most(files.len())) {
         said = judged(alloc, file.as_slice(), file.len(), said)?;
         for place in 0..file.len() {
-            let (front, rest) = file.as_slice().split_at(place);
-            said = judged(alloc, front, place, said)?;
-            said = without_first(alloc, front, rest, said)?;
-            said = changed(alloc, file.as_slice(), place, share, said)?;
+            if share.has(place) {
+                let (front, rest) = file.as_slice().split_at(place);
+                said = judged(alloc, front, place, said)?;
+                said = without_first(alloc, front, rest, said)?;
+                said = changed(alloc, file.as_slice(), place, share, said)?;
+            }
         }
     }
     let Said {

@@ -51,7 +51,7 @@ struct Disturbed {
 pub(crate) fn disturb_each(alloc: Global, share: Share) -> Result<String, Fault> {
     let mut disturbed = Disturbed::default();
     for number in 1..BLOCKS + 1 {
-        if share.has(number as usize) {
+        if share.has(BLOCKS.saturating_sub(number) as usize) {
             for event in WAYS {
                 let first = Disturbance { number, event };
                 disturbed = disturb(alloc, first, disturbed)?;
