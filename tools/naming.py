@@ -13,6 +13,8 @@ WORD = re.compile(r"\w+")
 TELLS = {"Display": re.compile("print|named"), "Debug": re.compile("show"), "PartialEq": re.compile("equal")}
 # Crates that are tested through the one above them.
 TESTED = {"card_words": "card_tool", "card_kinds": "card_tool", "explainer": "card_tool"}
+# The modules of the crates of tests that aren't called as their crate is without its '_core'.
+MODULES = {"card_tool": "tool", "round_trips": "again", "testing": "helpers"}
 NEVER = re.compile(r"(?!)")
 
 
@@ -61,14 +63,15 @@ class Calls:
 
 
 class Tests:
-    """The tests of the crates that test others, each with its text and that of what it calls beside it."""
+    """The tests of a crate, which are a module of a crate of tests: each with its text and that of what it calls beside
+    it."""
 
     def __init__(self, name):
-        used = crates()
-        own = [it for it in used if it.endswith("_tests") and used[it][1][0] == TESTED.get(name, name)]
-        found = {it: [*tests_in(it)] for it in own or [name]}
-        self.crates = [it for it, tests in found.items() if tests]
-        self.tests = [test for tests in found.values() for test in tests]
+        tested = TESTED.get(name, name)
+        module = MODULES.get(tested, tested.removesuffix("_core"))
+        homes = [folder_of(it) / "src" / f"{module}.rt" for it in crates() if it.endswith("_tests")]
+        self.homes = [it.relative_to(TOP) for it in homes if it.exists()]
+        self.tests = [test for it in self.homes for test in tests_in(TOP / it)]
 
     def naming(self, item, kind):
         """The names of the tests that name a function of a type or a trait, or a free one."""
@@ -86,10 +89,10 @@ def names(item, kind, name, text, words):
     return f"{item.owner}::{item.name}" in text or f".{item.name}(" in text
 
 
-def tests_in(crate):
-    """The tests of a crate: the name, the first line of what is said of it, its whole text and the words in it."""
+def tests_in(home):
+    """The tests of a module: the name, the first line of what is said of it, its whole text and the words in it."""
     texts, tests = {}, []
-    for path in sorted((folder_of(crate) / "src").rglob("*.rt")):
+    for path in [home, *sorted(home.with_suffix("").rglob("*.rt"))]:
         for item in items_of(path, path.name):
             text = "\n".join([*item.code, item.body])
             if "#[test]" in item.code:
@@ -103,7 +106,7 @@ def tests_in(crate):
 
 
 def whole(text, texts):
-    """A test's text, with that of each item of its crate that it names."""
+    """A test's text, with that of each item of its module that it names."""
     seen, turn = set(), text
     while turn:
         named = (set(WORD.findall(turn)) & texts.keys()) - seen

@@ -7,8 +7,6 @@
 pub mod again;
 pub mod ends;
 pub mod pieces;
-#[cfg(test)]
-mod tests;
 
 pub use again::{atr_again, block_again, command_again, dol_again, forest_again, response_again};
 pub use ends::{acted_on_once, exchanged_over_streams};

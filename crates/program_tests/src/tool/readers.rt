@@ -2,7 +2,7 @@
 
 ghost use Rattle.std.specs.Prelude.{◌≡◌, ◌<◌, ◌≤◌, IfOk, length};
 
-use crate::tests::words_of;
+use super::words_of;
 use card_tool::file::LARGEST_FILE;
 use card_tool::{Status, run};
 use octet_core::{After, Counted, Feeder, Taker};

@@ -2,7 +2,7 @@
 
 ghost use Rattle.std.specs.Prelude.{◌≤◌};
 
-use crate::tests::{told, words_of};
+use super::{told, words_of};
 use card_tool::{Status, run};
 use octet_core::{After, Counted, Feeder, Taker, hex_upper};
 use std::alloc::{AllocError, Global};

@@ -1,14 +1,14 @@
 //! Each round trip once with ample memory.
 
-use crate::{
-    acted_on_once, atr_again, block_again, command_again, command_in_two_pieces, dol_again,
-    exchanged_over_streams, forest_again, response_again, response_in_two_pieces,
-};
 use apdu_core::{Body, Command, Response};
 use atr_core::{Atr, T1Params};
 use block_core::{Block, Number};
 use line_core::StreamLine;
 use octet_core::{After, Counted, Feeder, Octets, Taker, octets_of};
+use round_trips::{
+    acted_on_once, atr_again, block_again, command_again, command_in_two_pieces, dol_again,
+    exchanged_over_streams, forest_again, response_again, response_in_two_pieces,
+};
 use std::test::Fail;
 use t1_core::Terminal;
 use tlv_core::{Dol, LARGEST_FOREST};

@@ -1,5 +1,0 @@
-//! The tests of [`atr_core`], apart from it so that the gate proves it once.
-#![tactic(auto)]
-
-#[cfg(test)]
-mod tests;

@@ -1,0 +1,11 @@
+//! The tests of recorded exchanges, simulated sessions and the program: [`exchange_core`], [`simulator`] and [`card_tool`].
+//! They are apart from these, so that the gate proves each once, and in one crate, since the toolchain takes a minute to
+//! begin with one.
+#![tactic(auto)]
+
+#[cfg(test)]
+mod exchange;
+#[cfg(test)]
+mod simulator;
+#[cfg(test)]
+mod tool;
