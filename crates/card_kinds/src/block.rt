@@ -1,12 +1,12 @@
 //! What the program says of a block.
 
 ghost use Rattle.std.specs.Prelude.{◌≡◌, IfOk, refl, string_bytes};
-ghost use Rattle.block_core.specs.Block.{fault_code, number_bit, Parts};
+ghost use Rattle.block_core.specs.Block.{fault_code, number_bit, spelling, Parts};
 ghost use Rattle.card_kinds.specs.BlockTexts.{block_codec, block_text, more_number, pcb_text, supervisory_text};
 
 use crate::codec::{Codec, Outcome};
 use crate::text::octets_word;
-use block_core::{Block, BlockReason, Fault, Number, Pcb, S, decode, encode};
+use block_core::{Block, BlockReason, BlockRef, Fault, Number, Pcb, S};
 use card_words::Expected;
 use octet_core::hex_upper;
 use std::alloc::{AllocError, Global};
@@ -21,7 +21,7 @@ impl Codec for Block {
     ghost named = { λ _. refl };
 
     fn taken(_alloc: Global, octets: &[u8], expected: Expected) -> Outcome<usize, BlockReason> {
-        let (_, taken) = decode(octets, expected.ifs)?;
+        let (_, taken) = BlockRef::decode(octets, expected.ifs)?;
         Ok(taken)
     }
 
@@ -30,19 +30,19 @@ impl Codec for Block {
         octets: &[u8],
         expected: Expected,
     ) -> Outcome<(String, usize), BlockReason> {
-        let (block, taken) = decode(octets, expected.ifs)?;
-        Ok((lines(alloc, &block)?, taken))
+        let (block, taken) = BlockRef::decode(octets, expected.ifs)?;
+        Ok((lines(alloc, &block, &octets[..taken])?, taken))
     }
 }
 
-/// A block, line by line: its node address, what it is, its information field and its LRC.
-pub(crate) fn lines(alloc: Global, block: &Block) -> Result<String, AllocError>
+/// A block, line by line: its node address, what it is, its information field and its LRC, the last of its octets.
+fn lines(alloc: Global, block: &BlockRef, octets: &[u8]) -> Result<String, AllocError>
+    requires { octets.now ≡ spelling block.now }
     ensures { IfOk result (λ text. string_bytes text ≡ block_text block.now) }
 {
     let nad = hex_upper(alloc, &[block.nad()])?;
     let pcb = pcb_words(alloc, block.pcb())?;
     let inf = octets_word(alloc, block.inf())?;
-    let octets = encode(block);
     let lrc = hex_upper(alloc, &octets[octets.len() - 1..])?;
     format!(in alloc; "nad {nad}\npcb {pcb}\ninf {inf}\nlrc {lrc}\n")
 }

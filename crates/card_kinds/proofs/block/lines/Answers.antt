@@ -1,4 +1,4 @@
-use Rattle.std.proofs.Common.{◌≡◌, ◌∙◌, ◌∷◌, [], ℕ, List, drop, length, ◌-◌, ap, refl, sym, string_bytes}
+use Rattle.std.proofs.Common.{◌≡◌, ◌∙◌, ◌∷◌, [], ℕ, List, length, ◌-◌, ap, refl, string_bytes}
 use Rattle.std.proofs.lemmas.Result.{IfOk-weaker}
 use Rattle.std.proofs.lemmas.List.{take_rest}
 use Rattle.hex.specs.Hex.{encode_upper}
@@ -17,10 +17,8 @@ returns c =
     c.in_ok-pcb.ensures ∙ ap pcb_text c.pcb.ensures in
     let inf : string_bytes c.in_ok-inf.inf ≡ octets_text c.args.block.now.inf =
     c.in_ok-inf.ensures ∙ ap octets_text c.inf.ensures.octets in
-    let b : List ℕ = c.deref.result.now in
-    let len : c.len.result ≡ length b = c.len.ensures.value ∙ ap length (sym c.deref.ensures.0) in
+    let b : List ℕ = c.args.octets.now in
     let lrc : string_bytes c.in_ok-lrc.lrc ≡ encode_upper (xor_of (front_of c.args.block.now) ∷ []) =
     c.in_ok-lrc.ensures
-    ∙ ap encode_upper (take_rest b (c.len.result - 1) ∙ ap (λ (n : ℕ). drop (n - 1) b) len
-    ∙ last-of c.args.block.now b (c.deref.ensures.0 ∙ c.encode-octets.ensures.is)) in
+    ∙ ap encode_upper (take_rest b (length b - 1) ∙ last-of c.args.block.now b c.requires) in
     IfOk-weaker c.format.result _ _ (λ text h. h ∙ rw (nad, pcb, inf, lrc) refl) c.format.ensures.ok
