@@ -120,7 +120,7 @@ IsTrailing b = ((slice_index b 4 ≢ 0) × (slice_index b 4 + 6 < length b))
     ⊎ ((slice_index b 4 ≡ 0) × (long_count b ≡ 0) × (7 < length b))
     ⊎ ((slice_index b 4 ≡ 0) × (long_count b ≢ 0) × (long_count b + 9 < length b))
 
--- the first octets b meet this line of the table of reasons
+-- The first octets b meet this line of the table of reasons: none of the seven shapes goes on with so many octets.
 abbrev pub Meets : List ℕ → CommandReason → Type 0
 Meets b Trailing = IsTrailing b
 

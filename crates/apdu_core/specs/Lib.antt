@@ -1,9 +1,12 @@
+-- to be believed: what the standards, or this project, say
 pub mod Command
-pub mod Borrowed
 pub mod Response
 pub mod Status
+pub mod Arrival
+
+-- what the code keeps between calls, what calls answer, and what is printed
+pub mod Borrowed
 pub mod Sending
 pub mod Receiving
-pub mod Arrival
 pub mod Put
 pub mod Names

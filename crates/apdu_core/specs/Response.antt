@@ -34,7 +34,7 @@ pub record IsResponse (r : ResponseParts) (b : List ℕ) : Type 0 where
 abbrev pub HasSpelling : ResponseParts → Type 0
 HasSpelling r = (b : List ℕ) × IsResponse r b
 
--- the first octets b meet this line of the table of reasons
+-- The first octets b meet this line of the table of reasons: one octet more than the longest data field and SW1 SW2.
 abbrev pub Meets : List ℕ → ResponseReason → Type 0
 Meets b TooLong = length b ≡ longest_response + 1
 

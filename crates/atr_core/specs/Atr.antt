@@ -109,7 +109,8 @@ pub record EndsInTd (b : List ℕ) (k : ℕ) (xs : List Indicated) (td : ℕ) : 
 abbrev pub least_total : ℕ → ℕ → List Indicated → ℕ → ℕ
 least_total n k xs td = n + count_ones (td / 16) + k + count_of (not (td % 16 == 0) || needs_tck xs)
 
--- the first octets b meet this line of the table of reasons
+-- The first octets b meet this line of the table of reasons (clause 8.2): TS is neither 3B nor 3F; a TD indicates so
+-- much that the answer gets longer than TS and 32 octets; the exclusive-or of T0 up to and with TCK isn't 00.
 abbrev pub Meets : List ℕ → AtrReason → Type 0
 Meets b BadTs = (length b ≡ 1) × (slice_index b 0 ≢ 0x3B) × (slice_index b 0 ≢ 0x3F)
 Meets b TooLong = (k : ℕ) × (xs : List Indicated) × (td : ℕ) × EndsInTd b k xs td

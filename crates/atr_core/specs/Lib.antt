@@ -1,10 +1,13 @@
+-- to be believed: what the standards, or this project, say
 pub mod Atr
+pub mod Rates
 pub mod T1
 pub mod Waiting
-pub mod Rates
+
+-- what the code keeps between calls, what calls answer, and what is printed
 pub mod Partial
 pub mod Taking
 pub mod Stage
-pub mod Names
-pub mod Same
 pub mod Whole
+pub mod Same
+pub mod Names

@@ -1,4 +1,5 @@
--- Blocks, and the octets that spell them.
+-- Blocks, and the octets that spell them: ISO/IEC 7816-3, clause 11.3. A block is NAD, PCB, LEN, an information field of
+-- LEN octets, and a check octet. The numbers of clauses below are of that standard.
 use Rattle.std.specs.Prelude.{◌≡◌, ℕ, ◌+◌, ◌<◌, ◌≤◌, List, [], ◌∷◌, ◌++◌, length, drop, Bool, true, false, slice_index, ◌≢◌, ◌⊎◌}
 use Rattle.octet_core.specs.Octets.{AreOctets, xor_of}
 use Rattle.octet_core.specs.Grammar.{IsFirst}
@@ -19,51 +20,58 @@ pub record Parts : Type 0 where
   pub pcb : Pcb
   pub inf : List ℕ
 
--- the number of the next I-block
+-- the number of the next I-block, which alternates: 11.6
 abbrev pub other : Number → Number
 other Zero = One
 other One = Zero
 
+-- N(S) of an I-block and N(R) of an R-block: 11.3.2.2
 abbrev pub number_bit : Number → ℕ → ℕ
 number_bit Zero weight = 0
 number_bit One weight = weight
 
+-- bit M of an I-block, by which it says that another one of its chain follows: 11.3.2.2
 abbrev pub more_bit : Bool → ℕ
 more_bit false = 0
 more_bit true = 32
 
+-- the low bits of an R-block: free of errors, a redundancy or parity error, any other error: 11.3.2.2
 abbrev pub fault_code : Fault → ℕ
 fault_code Free = 0
 fault_code Redundancy = 1
 fault_code Other = 2
 
+-- an IFS block carries a size and a WTX block a multiple, the others nothing: 11.6
 abbrev pub supervisory_len : S → ℕ
 supervisory_len Resynch = 0
 supervisory_len Ifs = 1
 supervisory_len Abort = 0
 supervisory_len Wtx = 1
 
+-- the low bits of an S-block: 11.3.2.2
 abbrev pub supervisory_code : S → ℕ
 supervisory_code Resynch = 0
 supervisory_code Ifs = 1
 supervisory_code Abort = 2
 supervisory_code Wtx = 3
 
--- the protocol control octet
+-- the protocol control octet: 11.3.2.2. An I-block has bit 8 clear, an R-block bits 8 and 7 10, an S-block 11 with
+-- bit 6 set in a response.
 abbrev pub pcb_octet : Pcb → ℕ
 pcb_octet (Info number more) = number_bit number 64 + more_bit more
 pcb_octet (Ready number fault) = 128 + number_bit number 16 + fault_code fault
 pcb_octet (Request s) = 192 + supervisory_code s
 pcb_octet (Response s) = 224 + supervisory_code s
 
--- the octet that a block about IFS carries
+-- the octet that a block about IFS carries: a size of 1 to 254, since 00 and FF are reserved: 11.4.2
 abbrev pub IsSize : S → List ℕ → Type 0
 IsSize Resynch inf = Unit {0}
 IsSize Ifs inf = (1 ≤ slice_index inf 0) × (slice_index inf 0 ≤ 254)
 IsSize Abort inf = Unit {0}
 IsSize Wtx inf = Unit {0}
 
--- the information field that a block carries, where an I-block has at most ifs octets
+-- the information field that a block carries, where an I-block has at most ifs octets: 11.3.2.3 and 11.4.2. An R-block
+-- has none.
 abbrev pub Suits : ℕ → Pcb → List ℕ → Type 0
 Suits ifs (Info number more) inf = length inf ≤ ifs
 Suits ifs (Ready number fault) inf = length inf ≡ 0
@@ -76,10 +84,11 @@ pub record IsProper (ifs : ℕ) (v : Parts) : Type 0 where
   pub octets : AreOctets v.inf
   pub suits : Suits ifs v.pcb v.inf
 
--- all but the check sum
+-- all but the check octet
 abbrev pub front_of : Parts → List ℕ
 front_of v = v.nad ∷ pcb_octet v.pcb ∷ length v.inf ∷ v.inf
 
+-- with the LRC, by which the exclusive-or of all octets of the block is 00: 11.4.4
 abbrev pub spelling : Parts → List ℕ
 spelling v = front_of v ++ xor_of (front_of v) ∷ []
 
@@ -95,7 +104,7 @@ pub record IsPut (v : Parts) (old new : List ℕ) (count : ℕ) : Type 0 where
   pub counted : count ≡ length octets
   pub buffer : new ≡ octets ++ drop count old
 
--- a length that no field of such a block has
+-- a length that no field of such a block has: FF is reserved: 11.3.2.3
 abbrev pub IsBadLen : Pcb → ℕ → Type 0
 IsBadLen (Info number more) len = len ≡ 255
 IsBadLen (Ready number fault) len = len ≢ 0
@@ -126,7 +135,9 @@ IsLenFault ifs p len BadLrc = ⊥
 abbrev pub IsAboutIfs : Pcb → Type 0
 IsAboutIfs p = (p ≡ Request Ifs) ⊎ (p ≡ Response Ifs)
 
--- the first octets b meet this line of the table of reasons
+-- the first octets b meet this line of the table of reasons: PCB is none of the 18 octets (11.3.2.2); LEN is none that
+-- its kind has (11.3.2.3); LEN is over the information size (11.4.2); a size is 00 or FF (11.4.2); the exclusive-or of
+-- all octets isn't 00 (11.4.4)
 abbrev pub Meets : ℕ → List ℕ → BlockReason → Type 0
 Meets ifs b BadPcb = (length b ≡ 2) × ((p : Pcb) → pcb_octet p ≡ slice_index b 1 → ⊥)
 Meets ifs b BadLen = (length b ≡ 3) × (p : Pcb) × (pcb_octet p ≡ slice_index b 1) × IsBadLen p (slice_index b 2)

@@ -65,7 +65,11 @@ pub record IsChain (ifs : ℕ) (number : Number) (max : ℕ) (fields : List (Lis
   pub proper : IsProper ifs max fields
   pub is : b ≡ spelling number fields
 
--- the first octets c of a block meet this line of the table of reasons, after blocks with these fields
+-- The first octets c of a block meet this line of the table of reasons, after blocks with these fields (clauses 11.3 and
+-- 11.6): NAD isn't 00, the one address of a session here; PCB is none of the 18 octets; it is that of no I-block; its
+-- number is that of the block before; it says that more follow the last block that a chain may have, a limit of this
+-- project; LEN is FF, which is reserved; LEN is over the information size; the message gets longer than the limit; the
+-- exclusive-or of all octets isn't 00.
 abbrev pub MeetsInBlock : ℕ → Number → ℕ → List (List ℕ) → List ℕ → ChainReason → Type 0
 MeetsInBlock ifs number max fields c BadNad = (length c ≡ 1) × (slice_index c 0 ≢ 0)
 MeetsInBlock ifs number max fields c BadPcb = (length c ≡ 2) × ((p : Pcb) → pcb_octet p ≡ slice_index c 1 → ⊥)

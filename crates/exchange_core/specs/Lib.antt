@@ -1,12 +1,15 @@
+-- to be believed: what the standards, or this project, say
 pub mod Exchange
-pub mod Faults
 pub mod Text
-pub mod Names
 pub mod Reading
 pub mod Words
-pub mod Given
 pub mod Replay
 pub mod Run
 pub mod Told
 pub mod Recording
 pub mod Records
+
+-- what the code keeps between calls, what calls answer, and what is printed
+pub mod Given
+pub mod Faults
+pub mod Names

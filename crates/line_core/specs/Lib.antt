@@ -1,8 +1,11 @@
+-- to be believed: what the standards, or this project, say
 pub mod Line
 pub mod Exchange
 pub mod Service
 pub mod Commanding
-pub mod Streams
 pub mod Resynch
-pub mod Names
+pub mod Streams
 pub mod Joined
+
+-- what the code keeps between calls, what calls answer, and what is printed
+pub mod Names

@@ -1,8 +1,11 @@
+-- to be believed: what the standards, or this project, say
 pub mod Octets
 pub mod Grammar
+pub mod Hexadecimal
+pub mod Decimal
+
+-- what the code keeps between calls, what calls answer, and what is printed
 pub mod Failures
 pub mod Counted
-pub mod Hexadecimal
 pub mod Reader
-pub mod Decimal
 pub mod Stops

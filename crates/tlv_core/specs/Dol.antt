@@ -36,7 +36,8 @@ pub record IsBegunEntry (h : List ℕ) : Type 0 where
   pub is_tag : IsTag entry.0
   pub is : h ++ next ∷ more ≡ entry_octets entry
 
--- What is wrong with the octet x after a part h of an entry.
+-- What is wrong with the octet x after a part h of an entry: no tag begins with 00; the low seven bits of a second tag
+-- octet are 0; a third tag octet says that a fourth follows.
 abbrev pub IsWrongEntry : List ℕ → ℕ → DolReason → Type 0
 IsWrongEntry h x TagZero = (h ≡ []) × (x ≡ 0)
 IsWrongEntry h x TagSecond = AwaitsSecond h × (x % 128 ≡ 0)

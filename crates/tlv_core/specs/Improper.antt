@@ -1,4 +1,4 @@
--- Why a list of nodes is no forest.
+-- Why a list of nodes is no forest (EMV 4.3 Book 3, Annex B; the limits are this project's).
 use Rattle.std.specs.Prelude.{◌≢◌, ℕ, ◌+◌, ◌<◌, ◌≤◌, ◌⊎◌, ◌↔◌, List, [], ◌∷◌, length}
 use Rattle.octet_core.specs.Octets.{AreOctets}
 use Rattle.octet_core.specs.Grammar.{IsFirst}

@@ -1,4 +1,4 @@
--- Numbers in octets.
+-- Numbers in octets, as tags and length fields have them (EMV 4.3 Book 3, Annex B).
 use Rattle.std.specs.Prelude.{ℕ, ◌+◌, ◌*◌, ◌/◌, ◌%◌, ◌^◌, List, [], ◌∷◌, length}
 use Rattle.std.proofs.Common.{suc, zero}
 

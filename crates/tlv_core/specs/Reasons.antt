@@ -1,4 +1,5 @@
--- Why octets are no forest, and what a part of a forest leaves open.
+-- Why octets are no forest, and what a part of a forest leaves open (EMV 4.3 Book 3, Annex B; ISO/IEC 7816-4, clause
+-- 5.2.2; the limits of depth, of a tag and of the whole are this project's).
 use Rattle.std.specs.Prelude.{◌≡◌, ℕ, ◌+◌, ◌-◌, ◌*◌, ◌%◌, ◌^◌, ◌<◌, ◌≤◌, ◌≢◌, List, [], ◌∷◌, ◌++◌, length, nat_lt, nat_eq, cond}
 use Rattle.std.proofs.Common.{zero, suc}
 use Rattle.octet_core.specs.Octets.{AreOctets}
@@ -96,7 +97,10 @@ AwaitsThird (x ∷ y ∷ z ∷ more) = ⊥
 abbrev pub BeginsLength : ℕ → Type 0
 BeginsLength x = (form : Form) × (n : ℕ) × (more : List ℕ) × (n < capacity form) × (length_field form n ≡ x ∷ more)
 
--- What is wrong with the octet x after a part h of a header, where so many objects are open, with this room at the octet.
+-- What is wrong with the octet x after a part h of a header, where so many objects are open, with this room at the
+-- octet: an object would begin inside the deepest one; a second tag octet says number 0 to 127 with leading zeros, so
+-- that its low seven bits are 0; a third tag octet says that a fourth follows; no length field begins so, as 80 or 85;
+-- the object ends after the one that it is in; the whole gets longer than the limit.
 abbrev pub IsWrong : ℕ → ℕ → List ℕ → ℕ → TlvReason → Type 0
 IsWrong level room h x TooDeep = (h ≡ []) × (level ≡ deepest) × (x ≢ 0)
 IsWrong level room h x TagSecond = AwaitsSecond h × (x % 128 ≡ 0)

@@ -1,4 +1,4 @@
--- Lists of data objects and fillers.
+-- Lists of data objects and fillers (EMV 4.3 Book 3, Annex B).
 use Rattle.std.specs.Prelude.{ℕ, ◌+◌, List}
 use Rattle.tlv_core.specs.declared.form.Form.{Form}
 
