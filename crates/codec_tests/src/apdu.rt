@@ -11,14 +11,14 @@ use apdu_core::{
 };
 use as_value::{
     command, command_lent, command_of, command_read, is_command_spelled, is_left,
-    is_response_spelled, of_hex, reader_of, response, response_lent, response_of, response_read,
+    is_response_spelled, reader_of, response, response_lent, response_of, response_read,
 };
 use block_core::Number;
 use chain_core::ChainReason;
 use octet_core::{After, Counted, Feeder, Octets, Refused, Stop, Taker};
 use std::alloc::Global;
 use std::test::Fail;
-use testing::same;
+use testing::{of_hex, same};
 
 const SELECT: [u8; 4] = [0x00, 0xA4, 0x04, 0x00];
 

@@ -2,7 +2,6 @@
 
 ghost use Rattle.std.specs.Prelude.{◌≡◌, ◌≢◌, ◌≤◌};
 
-use crate::vectors::octets;
 use apdu_core::{
     Body, Command, ReceiveFault, Response, SendFault, receive_command, receive_response,
     send_command, send_response,
@@ -11,7 +10,7 @@ use block_core::Number;
 use chain_core::{ReadRefusal, Receiver, read_chain, write_chain};
 use octet_core::{After, Counted, FailsOnce, Feeder, Octets, Sink, Source, Stop, Taker};
 use std::alloc::Global;
-use testing::{Case, Fault};
+use testing::{Case, Fault, of_hex};
 
 /// What is carried.
 #[derive(Clone, Copy, Debug, PartialEq, Eq)]
@@ -55,8 +54,8 @@ pub(crate) fn fail_each(alloc: Global) -> Result<String, Fault> {
     for (message, text, chain) in ROWS {
         let carried = Carried {
             message,
-            octets: octets(alloc, text)?,
-            chain: octets(alloc, chain)?,
+            octets: of_hex(alloc, text)?,
+            chain: of_hex(alloc, chain)?,
         };
         for place in 0..carried.chain.len() {
             writers = writers.saturating_add(writers_fail(alloc, &carried, place)?);

@@ -2,9 +2,8 @@
 
 use crate::kind::{Chain, Kind};
 use block_core::Number;
-use octet_core::octets_of;
 use std::alloc::Global;
-use testing::{Fault, Size};
+use testing::{Fault, Size, of_hex};
 
 /// Octets of a kind, the whole of one value.
 #[derive(Debug, Drop)]
@@ -143,13 +142,8 @@ pub(crate) fn vectors(alloc: Global) -> Result<Vec<Vector>, Fault> {
     for (kind, text) in ROWS {
         vectors.push(Vector {
             kind,
-            octets: octets(alloc, text)?,
+            octets: of_hex(alloc, text)?,
         })?;
     }
     Ok(vectors)
-}
-
-/// The octets of a text of this program.
-pub(crate) fn octets(alloc: Global, text: &str) -> Result<Vec<u8>, Fault> {
-    Ok(octets_of(alloc, text)?)
 }

@@ -7,10 +7,10 @@ use crate::turns::{Fits, Wanted};
 use atr_core::T1Params;
 use block_core::{BlockReason, decode, encode};
 use exchange_core::Exchange;
-use octet_core::{Stop, octets_of};
+use octet_core::Stop;
 use std::alloc::Global;
 use t1_core::{Card, CardFault, CardTurn, Terminal, TerminalFault, TerminalTurn};
-use testing::{Case, Fault, Share, Size, with_octet};
+use testing::{Case, Fault, Share, Size, of_hex, with_octet};
 
 /// What octets are to an end.
 #[derive(Clone, Copy, Debug, PartialEq, Eq)]
@@ -116,7 +116,7 @@ fn deliver_in(
     let reached = way_to(alloc, state)?;
     let mut delivered = delivered;
     for block in BLOCKS.iter().take(share.most(BLOCKS.len())) {
-        let block = octets_of(alloc, block)?;
+        let block = of_hex(alloc, block)?;
         delivered = deliver(alloc, &reached, block.as_slice(), share, delivered)?;
     }
     Ok(delivered)

@@ -8,14 +8,8 @@ mod replay;
 mod sessions;
 
 use exchange_core::{Exchange, read_exchange};
-use octet_core::octets_of;
 use std::alloc::Global;
 use std::test::Fail;
-
-/// The octets of a hexadecimal text. What the contract of `octets_of` says of them stays here.
-fn of_hex(alloc: Global, text: &str) -> Result<Vec<u8>, Fail> {
-    Ok(octets_of(alloc, text).ok().ok_or("hexadecimal text")?)
-}
 
 /// The exchange with this header, answer to reset and lines.
 fn exchange(alloc: Global, header: &str, atr: &str, lines: &[&str]) -> Result<Exchange, Fail> {

@@ -4,12 +4,12 @@ mod requests;
 
 use card_words::{BlockNumbers, Pair, Pairs, Session};
 use exchange_core::{Side, replay};
-use octet_core::{Octets, octets_of};
+use octet_core::Octets;
 use simulator::{SimulationFault, simulate};
 use std::alloc::Global;
 use std::process::Abort;
 use std::test::Fail;
-use testing::{same, shows};
+use testing::{of_hex, same, shows};
 
 /// A session of one command and its reply, each of so many octets 00, at a card that takes fields of 32 octets.
 fn session(alloc: Global, command: usize, reply: usize) -> Result<Session, Fail> {
@@ -19,7 +19,7 @@ fn session(alloc: Global, command: usize, reply: usize) -> Result<Session, Fail>
         reply: Octets::of(vec![in alloc; 0; reply]?),
     })?;
     Ok(Session {
-        atr: Octets::of(octets_of(alloc, "3B808131204555")?),
+        atr: Octets::of(of_hex(alloc, "3B808131204555")?),
         ifsd: None,
         pairs: Pairs::of(list),
         lost: BlockNumbers::of(Vec::new(alloc)),

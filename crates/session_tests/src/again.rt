@@ -4,24 +4,25 @@ use apdu_core::{Body, Command, Response};
 use atr_core::{Atr, T1Params};
 use block_core::{Block, Number};
 use line_core::StreamLine;
-use octet_core::{After, Counted, Feeder, Octets, Taker, octets_of};
+use octet_core::{After, Counted, Feeder, Octets, Taker};
 use round_trips::{
     acted_on_once, atr_again, block_again, command_again, command_in_two_pieces, dol_again,
     exchanged_over_streams, forest_again, response_again, response_in_two_pieces,
 };
 use std::test::Fail;
 use t1_core::Terminal;
+use testing::of_hex;
 use tlv_core::{Dol, LARGEST_FOREST};
 
 /// SELECT with a name of seven octets.
 fn select(rt: &HostRuntime) -> Result<Command, Fail> {
-    let part = Octets::of(octets_of(rt.alloc(), "A0000000041010")?);
+    let part = Octets::of(of_hex(rt.alloc(), "A0000000041010")?);
     let body = Body::ShortBoth { part, le: 256 };
     Ok(Command::new([0x00, 0xA4, 0x04, 0x00], body)?)
 }
 
 fn done(rt: &HostRuntime) -> Result<Response, Fail> {
-    let part = Octets::of(octets_of(rt.alloc(), "6F008400")?);
+    let part = Octets::of(of_hex(rt.alloc(), "6F008400")?);
     Ok(Response::new(part, 0x90, 0x00)?)
 }
 
@@ -34,7 +35,7 @@ fn a_block_comes_back(rt: HostRuntime) -> Result<(), Fail> {
 
 #[test]
 fn an_answer_to_reset_comes_back(rt: HostRuntime) -> Result<(), Fail> {
-    let octets = octets_of(rt.alloc(), "3B6500002063CB6800")?;
+    let octets = of_hex(rt.alloc(), "3B6500002063CB6800")?;
     let (atr, _) = atr_core::decode(octets.as_slice())?;
     assert!(rt; atr_again(&atr) == atr);
     Ok(())
@@ -51,7 +52,7 @@ fn apdus_come_back(rt: HostRuntime) -> Result<(), Fail> {
 
 #[test]
 fn a_forest_comes_back(rt: HostRuntime) -> Result<(), Fail> {
-    let octets = octets_of(rt.alloc(), "006F0A8408A000000003000000")?;
+    let octets = of_hex(rt.alloc(), "006F0A8408A000000003000000")?;
     let forest = tlv_core::decode(rt.alloc(), octets.as_slice(), LARGEST_FOREST)?;
     let again = forest_again(rt.alloc(), &forest)?;
     let spelled = tlv_core::encode(rt.alloc(), &again)?;
@@ -61,7 +62,7 @@ fn a_forest_comes_back(rt: HostRuntime) -> Result<(), Fail> {
 
 #[test]
 fn a_list_comes_back(rt: HostRuntime) -> Result<(), Fail> {
-    let octets = octets_of(rt.alloc(), "9F37045F2A02")?;
+    let octets = of_hex(rt.alloc(), "9F37045F2A02")?;
     let dol = Dol::decode(rt.alloc(), octets.as_slice())?;
     let again = dol_again(rt.alloc(), &dol)?;
     let spelled = again.encode(rt.alloc())?;

@@ -6,6 +6,7 @@ mod share;
 mod size;
 
 pub use case::{Case, Fault};
+use octet_core::octets_of;
 pub use share::{Share, asked};
 pub use size::Size;
 use std::alloc::{AllocError, Global};
@@ -33,6 +34,11 @@ pub fn debugs<D: Debug>(alloc: Global, value: &D, wanted: &str) -> bool {
         Ok(text) => text.as_str() == wanted,
         Err(_) => false,
     }
+}
+
+/// The octets of a hexadecimal text. It has no contract, as [`same`] has none.
+pub fn of_hex(alloc: Global, text: &str) -> Result<Vec<u8>, Fault> {
+    Ok(octets_of(alloc, text)?)
 }
 
 /// The octets with the one at a place set to a value; as they are where there is none.

@@ -1,34 +1,21 @@
 //! What no clause says, and each call once with ample memory. The verdicts on octets are in the folder `vectors`.
 
-use octet_core::{Octets, Refused, Stop, hex_upper, octets_of};
-use std::alloc::Global;
+use as_value::{forest, one, primitive, tag};
+use octet_core::{Octets, Refused, Stop, hex_upper};
 use std::test::Fail;
-use testing::same;
+use testing::{of_hex, same};
 use tlv_core::{
     Dol, FlatForest, Forest, ForestCheck, Form, Improper, LARGEST_FOREST, Node, Nodes, Tag,
     TlvReason, decode, encode, first, tidy,
 };
 
+mod as_value;
 mod equality;
 mod improper;
 mod parts;
 mod pieces;
 mod places;
 mod printed;
-
-/// The octets of a hexadecimal text. What the contract of `octets_of` says of them stays here.
-fn of_hex(alloc: Global, text: &str) -> Result<Vec<u8>, Fail> {
-    Ok(octets_of(alloc, text).ok().ok_or("hexadecimal text")?)
-}
-
-/// The tag of these octets.
-fn tag(rt: &HostRuntime, text: &str) -> Result<Tag, Fail> {
-    let octets = of_hex(rt.alloc(), text)?;
-    match Tag::new(octets.as_slice()) {
-        Some(tag) => Ok(tag),
-        None => Err("a tag")?,
-    }
-}
 
 #[test]
 fn tags_are_whole(rt: HostRuntime) -> Result<(), Fail> {
@@ -58,22 +45,6 @@ fn tags_are_whole(rt: HostRuntime) -> Result<(), Fail> {
     assert!(rt; tag(&rt, "5A")? == tag(&rt, "5A")?);
     assert!(rt; tag(&rt, "5A")? != tag(&rt, "9F5A")?);
     Ok(())
-}
-
-/// A primitive object.
-fn primitive(rt: &HostRuntime, text: &str, form: Form, value: &str) -> Result<Node, Fail> {
-    Ok(Node::Primitive {
-        tag: tag(rt, text)?,
-        form,
-        value: Octets::of(of_hex(rt.alloc(), value)?),
-    })
-}
-
-/// A list of one node.
-fn one(rt: &HostRuntime, node: Node) -> Result<Nodes, Fail> {
-    let mut list = Vec::new(rt.alloc());
-    list.push(node)?;
-    Ok(Nodes::of(list))
 }
 
 #[test]
@@ -150,16 +121,6 @@ fn lists_are_read_and_written(rt: HostRuntime) -> Result<(), Fail> {
     let octets = Dol::of(entries).encode(rt.alloc())?;
     assert!(rt; octets.as_slice() == [0x9A, 0x03].as_slice());
     Ok(())
-}
-
-/// The forest of these octets.
-fn forest(rt: &HostRuntime, text: &str) -> Result<Forest, Fail> {
-    let octets = of_hex(rt.alloc(), text)?;
-    Ok(
-        decode(rt.alloc(), octets.as_slice(), LARGEST_FOREST)
-            .ok()
-            .ok_or("a forest")?,
-    )
 }
 
 #[test]

@@ -9,17 +9,9 @@ use apdu_core::{
     receive_response,
 };
 use block_core::Number;
-use octet_core::{After, Counted, Feeder, Octets, Source, octets_of};
+use octet_core::{After, Counted, Feeder, Octets, Source};
 use std::alloc::Global;
 use std::test::Fail;
-
-/// The octets of a hexadecimal text.
-pub(super) fn of_hex(alloc: Global, text: &str) -> Result<Vec<u8>, Fail> {
-    match octets_of(alloc, text) {
-        Ok(octets) => Ok(octets),
-        Err(_) => Err("hexadecimal text")?,
-    }
-}
 
 /// The command of these octets.
 pub(super) fn command(alloc: Global, octets: &[u8]) -> Result<Command, Fail> {

@@ -1,14 +1,14 @@
 //! Sessions of both ends over a line that disturbs blocks: what they end with, and their records replayed.
 
+use super::exchange as recorded;
 use super::sessions::ACTED_ON;
-use super::{exchange as recorded, of_hex};
 use block_core::encode;
 use exchange_core::{Event, EventFault, Exchange, LastTurn, Line, Recorder, Side, replay};
 use std::alloc::Global;
 use std::process::Abort;
 use std::test::Fail;
 use t1_core::{CardFault, CardTurn, TerminalFault};
-use testing::same;
+use testing::{of_hex, same};
 
 /// The answer to reset of a card that takes information fields of 32 octets.
 pub(super) const ATR: [u8; 7] = [0x3B, 0x80, 0x81, 0x31, 0x20, 0x45, 0x55];

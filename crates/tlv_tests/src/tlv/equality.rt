@@ -1,9 +1,8 @@
 //! Forests and lists of parts that are equal, and those that differ in one thing.
 
-use super::of_hex;
 use std::alloc::Global;
 use std::test::Fail;
-use testing::same;
+use testing::{of_hex, same};
 use tlv_core::{FlatForest, Forest, LARGEST_FOREST, Node, decode};
 
 /// The octets of two forests, whether the forests are equal, and whether their parts are.

@@ -1,6 +1,6 @@
 //! Lists of nodes that are no forest: the most octets, and which fault comes first.
 
-use super::{one, tag};
+use super::as_value::{one, tag};
 use octet_core::Octets;
 use std::test::Fail;
 use testing::same;

@@ -1,11 +1,10 @@
 //! Parts of forests, and the octets that are lent with them.
 
-use super::of_hex;
 use octet_core::{Refused, Stop, hex_upper};
 use std::alloc::Global;
 use std::process::Abort;
 use std::test::Fail;
-use testing::same;
+use testing::{of_hex, same};
 use tlv_core::{FlatForest, Form, LARGEST_FOREST, TlvReason, placed_parts};
 
 /// What is wanted of a part: its depth, its tag, and the place of its value with its octets.

@@ -1,9 +1,8 @@
 //! Forests that come in pieces.
 
-use super::of_hex;
 use octet_core::{Octets, Refused, Stop, hex_upper};
 use std::test::Fail;
-use testing::same;
+use testing::{of_hex, same};
 use tlv_core::{
     Forest, ForestCheck, ForestReader, Form, LARGEST_FOREST, Node, Nodes, Tag, TlvReason, decode,
     encode, tidy,

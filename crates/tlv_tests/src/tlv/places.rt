@@ -1,8 +1,7 @@
 //! Checks of forests whose caller keeps what they keep.
 
-use super::of_hex;
 use std::test::Fail;
-use testing::same;
+use testing::{of_hex, same};
 use tlv_core::{CheckPlaces, ForestCheck, Form, Header, LARGEST_FOREST, Tag, TlvReason};
 
 /// A forest, octets that a forest begins with, and octets that are refused.

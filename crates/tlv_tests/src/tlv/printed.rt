@@ -1,9 +1,9 @@
 //! What is printed of reasons and faults, and of values that may hold a message.
 
-use super::{of_hex, tag};
+use super::as_value::tag;
 use octet_core::{Format, Named, Octets};
 use std::test::Fail;
-use testing::{debugs, same, shows};
+use testing::{debugs, of_hex, same, shows};
 use tlv_core::{
     CheckPlaces, Dol, DolReason, FillFault, FlatForest, ForestCheck, ForestReader, Improper, Known,
     LARGEST_FOREST, TlvReason, decode,
