@@ -1,11 +1,11 @@
 //! Command lines that ask for the same, and that ask for something else.
 
-use card_words::{Fault, Request, read};
+use card_words::{Asked, Fault, read};
 use std::alloc::{AllocError, Global};
 use std::test::Fail;
 
 /// What a command line asks for, of which the words are parted by spaces.
-fn asked(alloc: Global, line: &str) -> Result<Result<Request, Fault>, AllocError> {
+fn asked(alloc: Global, line: &str) -> Result<Result<Asked, Fault>, AllocError> {
     let mut words = Vec::new(alloc);
     for word in line.split(' ') {
         words.push(String::from_str(alloc, word)?)?;

@@ -1,0 +1,42 @@
+//! Notes on data objects.
+
+use crate::text::quoted;
+use std::alloc::{AllocError, Global};
+use tlv_core::Part;
+
+/// The notes of data objects, one a line: of their count none; of each how many octets its value has, its class, and
+/// its value as text where it is one (ISO/IEC 7816-4:2005, 5.2.2).
+pub fn forest_notes(alloc: Global, parts: &[Part<'_>]) -> Result<Vec<String>, AllocError> {
+    let mut notes = Vec::new(alloc);
+    notes.push(String::new(alloc))?;
+    for part in parts {
+        notes.push(part_note(alloc, part)?)?;
+    }
+    Ok(notes)
+}
+
+fn part_note(alloc: Global, part: &Part<'_>) -> Result<String, AllocError> {
+    let len = part.value.len();
+    let class = class_name(part.tag.octets().first().copied().unwrap_or(0));
+    let text = text_note(alloc, part)?;
+    format!(in alloc; "{len} octets, {class} class{text}")
+}
+
+/// The value as text, after what parts it from the class.
+fn text_note(alloc: Global, part: &Part<'_>) -> Result<String, AllocError> {
+    let text = quoted(alloc, part.value)?;
+    if part.tag.is_constructed() || text.is_empty() {
+        return Ok(String::new(alloc));
+    }
+    format!(in alloc; ", {text}")
+}
+
+/// The class of a tag by its first octet.
+fn class_name(first: u8) -> &'static str {
+    match first {
+        0x00..=0x3F => "universal",
+        0x40..=0x7F => "application",
+        0x80..=0xBF => "context-specific",
+        _ => "private",
+    }
+}

@@ -1,0 +1,23 @@
+//! What a person wants to know of the lines that a value is shown by.
+//!
+//! Of each kind of octets a function makes the notes, a text for each line, an empty one where there is nothing to say.
+//! [`noted`] puts each after its line, parted from it by two blanks, a number sign and a blank. That the lines come
+//! back where each is cut at its first note is a law of `specs/Noted.antt`, [`laws::cut_again`]. Which words a note has
+//! is said by no clause.
+#![tactic(auto)]
+
+pub mod atr;
+pub mod block;
+pub mod command;
+pub mod forest;
+pub mod joining;
+pub mod laws;
+pub mod response;
+mod text;
+
+pub use atr::atr_notes;
+pub use block::block_notes;
+pub use command::command_notes;
+pub use forest::forest_notes;
+pub use joining::noted;
+pub use response::response_notes;
