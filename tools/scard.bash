@@ -8,7 +8,7 @@ _scard_before() {
     for ((at = 1; at < COMP_CWORD; at++)); do
         before=${COMP_WORDS[at]}
         case $before in
-        = | -- | --explain | --help | --*=*) ;;
+        = | -- | --explain | --help | --version | --*=*) ;;
         --*) value=comes ;;
         *)
             if [ "$value" ]; then
@@ -33,7 +33,7 @@ _scard_words() {
     esac
     [ "${COMP_WORDS[1]} $what" != 'build tidy' ] || words="$words --stdin"
     case $place:${COMP_WORDS[1]} in
-    1:*) words='check show build replay migrate simulate help --help' ;;
+    1:*) words='check show build replay migrate simulate help --version --help' ;;
     2:check | 2:show) words="$words atr block chain command response tlv dol" ;;
     2:build) words="$words chain tidy fill" ;;
     2:help) words='check show build replay migrate simulate' ;;
@@ -57,8 +57,8 @@ _scard() {
     *) _scard_words ;;
     esac
     case $option:${COMP_WORDS[1]}:$what in
-    --stdin:check:*) ;;
-    --stdin:show:* | --stdin:build: | --stdin:build:tidy) words=${words% lines} ;;
+    --stdin:check:* | --stdin:show:*) ;;
+    --stdin:build: | --stdin:build:tidy) words=${words% lines} ;;
     --stdin:*) words= ;;
     esac
     COMPREPLY=($(compgen -P "$front" -W "$words" -- "$word"))

@@ -3,15 +3,17 @@ use Rattle.std.proofs.Common.{◌≡◌, ◌⊎◌, inl, inr, ℕ, List, [], Opt
 use Rattle.card_words.specs.Texts.{fault_text}
 use Rattle.card_words.specs.Given.{octets_given, IsFromReader}
 use Rattle.card_words.specs.declared.given.Given.{Given}
-use Rattle.card_words.specs.Words.{AskForFile, AskForOctets, HasOther, IsRead, NeedsFile, NeedsOctets, taken, called_for_help, not_taken}
+use Rattle.card_words.specs.Words.{AskForFile, AskForOctets, HasOther, IsOnce, IsRead, NeedsFile, NeedsOctets, called_for_version, taken, called_for_help, not_taken}
 use Rattle.clap.specs.Kinds.{IsAmong}
 use Rattle.clap.specs.declared.error.kind.ErrorKind.TheVariants.{DisplayHelp}
-use Rattle.std.specs.Result.{MatchResult, result_unwrap_or}
+use Rattle.std.specs.Result.{MatchResult}
 use Rattle.std.proofs.lemmas.Result.{MatchResult-at_ok}
 use Rattle.card_words.specs.declared.fault.Fault.{Fault}
 use Rattle.card_words.specs.declared.fault.Fault.TheVariants.{Memory}
+use Rattle.card_words.specs.declared.request.Asked.{Asked}
+use Rattle.card_words.specs.declared.request.Asked.TheVariants.{Once}
 use Rattle.card_words.specs.declared.request.Request.{Request}
-use Rattle.card_words.specs.declared.request.Request.TheVariants.{Help}
+use Rattle.card_words.specs.declared.request.Request.TheVariants.{Help, Version}
 use Rattle.card_tool.specs.Answers.{Answers, AnswersTo, IsAnswerTo, IsRight, IsRightTo, IsToldOf}
 use Rattle.card_tool.specs.Files.{IsTaken, ReadsWhole}
 use Rattle.card_kinds.specs.declared.answer.Answer.{Answer}
@@ -29,41 +31,47 @@ told-at_once request held count text ended free answer =
     inl (record { file = Ok []; is_file = λ needs. absurd (free needs); is_answer = answer })
 
 -- words that were read as a request ask for a file exactly where the request does
-asks : (words : List (List ℕ)) (request : Request) → IsRead words (Ok request) → AskForFile words → NeedsFile request
-asks words request (taken free e) ask = MatchResult-at_ok NeedsFile (λ _. ⊥) request (sym e) ask.1
-asks words request (called_for_help among help e) ask = absurd (subst (IsAmong DisplayHelp) ask.0 among)
-asks words request (not_taken other e) ask = cc e
+asks : (words : List (List ℕ)) (request : Request) → IsRead words (Ok (Once request)) → AskForFile words
+    → NeedsFile request
+asks words request (called_for_version version e) ask = absurd (cc (version, ask.0.parsed))
+asks words request (taken are e) ask = MatchResult-at_ok (IsOnce NeedsFile) (λ _. ⊥) (Once request) (sym e) ask.1
+asks words request (called_for_help parsed among help e) ask = absurd (subst (IsAmong DisplayHelp) ask.0.free among)
+asks words request (not_taken parsed other e) ask = cc e
 
 -- where the request needs a file, the words that were read as it ask for one
-pub needs : (words : List (List ℕ)) (request : Request) → IsRead words (Ok request) → NeedsFile request
+pub needs : (words : List (List ℕ)) (request : Request) → IsRead words (Ok (Once request)) → NeedsFile request
     → AskForFile words
-needs words request (taken free e) need =
-    (free, subst (λ (r : Result Request Fault). MatchResult r NeedsFile (λ _. ⊥)) e need)
-needs words request (called_for_help among help e) need =
-    let is : request ≡ Help help = ap (λ (r : Result Request Fault). result_unwrap_or r request) e in
+needs words request (called_for_version version e) need =
+    let is : request ≡ Version = cc e in
     absurd (subst NeedsFile is need)
-needs words request (not_taken other e) need = cc e
+needs words request (taken are e) need =
+    (are, subst (λ (r : Result Asked Fault). MatchResult r (IsOnce NeedsFile) (λ _. ⊥)) e need)
+needs words request (called_for_help parsed among help e) need =
+    let is : request ≡ Help help = cc e in
+    absurd (subst NeedsFile is need)
+needs words request (not_taken parsed other e) need = cc e
 
 -- words that were refused ask for none
 pub asks-none : (words : List (List ℕ)) (fault : Fault) → IsRead words (Err fault) → AskForFile words → ⊥
-asks-none words fault (taken free e) ask =
-    subst (λ (r : Result Request Fault). MatchResult r NeedsFile (λ _. ⊥)) (sym e) ask.1
-asks-none words fault (called_for_help among help e) ask = cc e
-asks-none words fault (not_taken other e) ask = let bad = subst HasOther ask.0 other in bad.1
+asks-none words fault (called_for_version version e) ask = cc e
+asks-none words fault (taken are e) ask =
+    subst (λ (r : Result Asked Fault). MatchResult r (IsOnce NeedsFile) (λ _. ⊥)) (sym e) ask.1
+asks-none words fault (called_for_help parsed among help e) ask = cc e
+asks-none words fault (not_taken parsed other e) ask = let bad = subst HasOther ask.0.free other in bad.1
 
 module _ (words : List (List ℕ)) (held left : Option (List ℕ)) (before after : ℕ) where
   -- what is right of the request is right of the words that were read as it
-  pub right : (request : Request) (text : List ℕ) (ended : Status) → IsRead words (Ok request)
+  pub right : (request : Request) (text : List ℕ) (ended : Status) → IsRead words (Ok (Once request))
       → IsRightTo request held left before after text ended → IsRight words held left before after text ended
   right request text ended read (inl to) = inl (record {
     file = to.file;
     is_file = λ ask. to.is_file (asks words request read ask);
-    is_answer = record { read = Ok request; is_read = read; is_answer = to.is_answer };
+    is_answer = record { read = Ok (Once request); is_read = read; is_answer = to.is_answer };
   })
   right request text ended read (inr wanting) = inr wanting
 
   -- what answers the request answers the words
-  pub answered-words : (request : Request) (r : Result Answer Fault) → IsRead words (Ok request)
+  pub answered-words : (request : Request) (r : Result Answer Fault) → IsRead words (Ok (Once request))
       → AnswersTo request held left before after r → Answers words held left before after r
   answered-words request (Ok answer) read h = right request answer.text answer.status read h
   answered-words request (Err fault) read h = right request (fault_text fault) status.Fault read h
@@ -81,15 +89,18 @@ refused-words words held count fault (inr refused) = inl (record {
   is_answer = record { read = Err fault; is_read = refused; is_answer = (refl, refl) };
 })
 
--- words ask for octets as they are read where the request does
-pub needs-octets : (words : List (List ℕ)) (request : Request) → IsRead words (Ok request) → NeedsOctets request
+-- words ask for octets as they are read where what they were read as does
+pub needs-octets : (words : List (List ℕ)) (asked : Asked) → IsRead words (Ok asked) → IsOnce NeedsOctets asked
     → AskForOctets words
-needs-octets words request (taken free e) need =
-    (free, subst (λ (r : Result Request Fault). MatchResult r NeedsOctets (λ _. ⊥)) e need)
-needs-octets words request (called_for_help among help e) need =
-    let is : request ≡ Help help = ap (λ (r : Result Request Fault). result_unwrap_or r request) e in
-    absurd (subst NeedsOctets is need)
-needs-octets words request (not_taken other e) need = cc e
+needs-octets words asked (called_for_version version e) need =
+    let is : asked ≡ Once Version = cc e in
+    absurd (subst (IsOnce NeedsOctets) is need)
+needs-octets words asked (taken are e) need =
+    (are, subst (λ (r : Result Asked Fault). MatchResult r (IsOnce NeedsOctets) (λ _. ⊥)) e need)
+needs-octets words asked (called_for_help parsed among help e) need =
+    let is : asked ≡ Once (Help help) = cc e in
+    absurd (subst (IsOnce NeedsOctets) is need)
+needs-octets words asked (not_taken parsed other e) need = cc e
 
 -- ---- octets that are given
 

@@ -1,12 +1,13 @@
 -- Which words ask for lines.
-use Rattle.std.proofs.Common.{◌≡◌, ◌∙◌, inl, inr, ℕ, List, [], Option, Result, Ok, Err, ap, append-nil, refl, sym, subst}
+use Rattle.std.proofs.Common.{◌≡◌, ◌⊎◌, ◌∙◌, inl, inr, ℕ, List, [], Option, Result, Ok, Err, ap, append-nil, refl, sym, subst}
 use Rattle.clap.specs.Kinds.{IsAmong}
 use Rattle.clap.specs.declared.error.kind.ErrorKind.TheVariants.{DisplayHelp}
-use Rattle.card_words.specs.Words.{AskForLines, HasOther, IsRead, taken, called_for_help, not_taken}
+use Rattle.card_words.specs.Words.{AskForLines, HasOther, IsRead, called_for_version, taken, called_for_help, not_taken}
 use Rattle.card_words.specs.declared.fault.Fault.{Fault}
-use Rattle.card_words.specs.declared.request.Expected.{Expected}
+use Rattle.card_words.specs.declared.request.Asked.{Asked}
+use Rattle.card_words.specs.declared.request.Asked.TheVariants.{Once, Lines}
 use Rattle.card_words.specs.declared.request.Request.{Request}
-use Rattle.card_words.specs.declared.request.Request.TheVariants.{CheckLines}
+use Rattle.card_words.specs.declared.request.Task.{Task}
 use Rattle.card_words.specs.declared.fault.Fault.TheVariants.{Memory}
 use Rattle.card_words.specs.Texts.{fault_text}
 use Rattle.card_tool.specs.Answers.{IsReadFrom, IsWritten, Writes}
@@ -16,41 +17,52 @@ use Rattle.card_kinds.specs.declared.status.Status.{Status}
 use Rattle.card_kinds.specs.declared.status.Status.TheVariants as status
 use Rattle.card_tool.proofs.Inputs.{Consumes-none}
 
--- what was read, where it is this request
-abbrev pub read_as : Request → Result Request Fault
-read_as request = Ok request
+-- what was read, where it asks for this
+abbrev pub read_as : Asked → Result Asked Fault
+read_as asked = Ok asked
 
 module _ (words : List (List ℕ)) where
   -- words that were read so ask for lines
-  pub asked-lines : (expected : Expected) → IsRead words (Ok (CheckLines expected)) → AskForLines expected words
-  asked-lines expected (taken free e) = (free, sym e)
-  asked-lines expected (called_for_help among help e) = cc e
-  asked-lines expected (not_taken other e) = cc e
+  pub asked-lines : (task : Task) → IsRead words (Ok (Lines task)) → AskForLines task words
+  asked-lines task (called_for_version version e) = cc e
+  asked-lines task (taken are e) = (are, sym e)
+  asked-lines task (called_for_help parsed among help e) = cc e
+  asked-lines task (not_taken parsed other e) = cc e
 
   -- words that ask for lines are read so
-  read-lines : (expected : Expected) (read : Result Request Fault) → AskForLines expected words → IsRead words read
-      → read ≡ Ok (CheckLines expected)
-  read-lines expected read ask (taken free e) = e ∙ ask.1
-  read-lines expected read ask (called_for_help among help e) = absurd (subst (IsAmong DisplayHelp) ask.0 among)
-  read-lines expected read ask (not_taken other e) = let bad = subst HasOther ask.0 other in absurd bad.1
+  read-lines : (task : Task) (read : Result Asked Fault) → AskForLines task words → IsRead words read
+      → read ≡ Ok (Lines task)
+  read-lines task read ask (called_for_version version e) = absurd (cc (version, ask.0.parsed))
+  read-lines task read ask (taken are e) = e ∙ ask.1
+  read-lines task read ask (called_for_help parsed among help e) =
+      absurd (subst (IsAmong DisplayHelp) ask.0.free among)
+  read-lines task read ask (not_taken parsed other e) =
+      let bad = subst HasOther ask.0.free other in
+      absurd bad.1
 
-  abbrev expected-of : Expected → Result Request Fault → Expected
-  expected-of otherwise (Ok (CheckLines expected)) = expected
-  expected-of otherwise read = otherwise
+  -- words that were read as a request
+  pub request-read : (read : Result Asked Fault) (request : Request) → read ≡ Ok (Once request)
+      → (read ≡ Err Memory) ⊎ IsRead words read → IsReadFrom words (Ok request)
+  request-read read request e (inl memory) =
+      absurd (let bad : read_as (Once request) ≡ Err Memory = sym e ∙ memory in cc)
+  request-read read request e (inr is) = inr (subst (IsRead words) e is)
+
+  abbrev task-of : Task → Result Asked Fault → Task
+  task-of otherwise (Ok (Lines task)) = task
+  task-of otherwise read = otherwise
 
   -- what was read asks for lines
-  pub checked-lines : (read : Result Request Fault) (expected : Expected) → read ≡ Ok (CheckLines expected)
-      → IsReadFrom words read → AskForLines expected words
-  checked-lines read expected e (inl memory) =
-      absurd (let bad : read_as (CheckLines expected) ≡ Err Memory = sym e ∙ memory in cc)
-  checked-lines read expected e (inr is) = asked-lines expected (subst (IsRead words) e is)
+  pub lines-asked : (read : Result Asked Fault) (task : Task) → read ≡ Ok (Lines task)
+      → (read ≡ Err Memory) ⊎ IsRead words read → AskForLines task words
+  lines-asked read task e (inl memory) = absurd (let bad : read_as (Lines task) ≡ Err Memory = sym e ∙ memory in cc)
+  lines-asked read task e (inr is) = asked-lines task (subst (IsRead words) e is)
 
   -- and for these alone
-  pub same-expected : (read : Result Request Fault) (expected asked : Expected) → read ≡ Ok (CheckLines expected)
-      → IsReadFrom words read → AskForLines asked words → expected ≡ asked
-  same-expected read expected asked e (inl memory) ask =
-      absurd (let bad : read_as (CheckLines expected) ≡ Err Memory = sym e ∙ memory in cc)
-  same-expected read expected asked e (inr is) ask = ap (expected-of asked) (sym e ∙ read-lines asked read ask is)
+  pub same-task : (read : Result Asked Fault) (task asked : Task) → read ≡ Ok (Lines task)
+      → (read ≡ Err Memory) ⊎ IsRead words read → AskForLines asked words → task ≡ asked
+  same-task read task asked e (inl memory) ask =
+      absurd (let bad : read_as (Lines task) ≡ Err Memory = sym e ∙ memory in cc)
+  same-task read task asked e (inr is) ask = ap (task-of asked) (sym e ∙ read-lines asked read ask is)
 
 -- ---- where memory ran out before the words were read
 
@@ -74,8 +86,8 @@ module _ (held : Option (List ℕ)) (count : ℕ) (old new : Option (List ℕ)) 
   }
 
   -- and of lines, of which none was read
-  pub no-lines : (expected : Expected) → WritesLines expected held held count count old new before after ended
-  no-lines expected = answered (record {
+  pub no-lines : (task : Task) → WritesLines task held held count count old new before after ended
+  no-lines task = answered (record {
     text = fault_text Memory;
     right = status.Fault;
     is_right = wanting [] [] status.Accepted [] [] (Consumes-none held) refl refl (refl, refl) refl refl;

@@ -8,6 +8,7 @@ use Rattle.card_words.specs.Words.{IsRead, NeedsFile}
 use Rattle.card_words.specs.declared.fault.Fault.{Fault}
 use Rattle.card_words.specs.declared.fault.Fault.TheVariants.{Memory}
 use Rattle.card_words.specs.declared.given.Given.{Given}
+use Rattle.card_words.specs.declared.request.Asked.TheVariants.{Once}
 use Rattle.card_words.specs.declared.request.Request.{Request}
 use Rattle.card_tool.specs.Answers.{AnswersTo, Gives, IsAnswerTo, IsRight, IsRightTo, IsToldOf}
 use Rattle.card_tool.specs.Explained.{differs, Fits, GivesExplained, IsAdded, IsExplained, IsDifferenceNote, IsFaulted, IsFaultNote, IsFillNote, IsLineNote, IsNoted, IsNotedTo, IsNoteTo, IsRightWith, on_fault, silent}
@@ -167,14 +168,14 @@ module _ (request : Request) (given : Given) (Told : List ℕ → List ℕ → S
       ]
 
 module _ (words : List (List ℕ)) (held left : Option (List ℕ)) (before after : ℕ) where
-  noted-words : (request : Request) (text note : List ℕ) (ended : Status) → IsRead words (Ok request)
+  noted-words : (request : Request) (text note : List ℕ) (ended : Status) → IsRead words (Ok (Once request))
       → IsNotedTo request held left before after text note ended → IsNoted words held left before after text note ended
   noted-words request text note ended read (inl to) =
       inl (right words held left before after request text ended read to.0, to.1)
   noted-words request text note ended read (inr from) = inr (request, read, from)
 
   -- what is right of a request is right of the words
-  pub explained-words : (request : Request) (r : Result Answer Fault) → IsRead words (Ok request)
+  pub explained-words : (request : Request) (r : Result Answer Fault) → IsRead words (Ok (Once request))
       → GivesExplained (IsRightTo request held left before after) (IsNotedTo request held left before after) r
       → GivesExplained (IsRight words held left before after) (IsNoted words held left before after) r
   explained-words request (Ok answer) read h = record {

@@ -1,12 +1,12 @@
--- That a request has one answer.
+-- That what is asked for has one answer.
 use Rattle.std.proofs.Common.{◌≡◌, ◌≤◌, ◌∙◌, ◌++◌, ℕ, List, [], ◌∷◌, Bool, true, false, if◌then◌else◌, nat_le, Result, Ok, Err, IfOk, ap, length, sym, refl}
 use Rattle.octet_core.specs.Octets.{AreOctets}
 use Rattle.card_tool.specs.ExchangeTexts.{Migrates, Replays}
 use Rattle.card_kinds.proofs.OneOf.{OneText, ended-by, plain}
 use Rattle.card_tool.proofs.Exchanges.{migrated-once, replayed-once}
 use Rattle.card_tool.proofs.Simulations.{simulated-once}
-use Rattle.card_tool.specs.Answers.{AreLinesTold, IsAnswerTo, IsLineTold, IsToldOf}
-use Rattle.card_kinds.specs.Verdicts.{Checks, Shows, Tidies}
+use Rattle.card_tool.specs.Answers.{line_end, AreLinesTold, IsAnswerAsked, IsAnswerTo, IsLineTold, IsTold, IsToldOf, Tells}
+use Rattle.card_kinds.specs.Verdicts.{Tidies}
 use Rattle.card_words.specs.Texts.{fault_text}
 use Rattle.card_words.specs.declared.fault.Fault.{Fault}
 use Rattle.card_kinds.proofs.OneVerdict.{checked, shown, tidied, filled-once}
@@ -20,11 +20,17 @@ use Rattle.card_words.specs.declared.given.Form.TheVariants as form
 use Rattle.card_words.specs.declared.given.Given.TheVariants as given
 use Rattle.card_tool.specs.Files.{largest_file}
 use Rattle.card_tool.specs.Lines.{all_lines, line_octets, worse, AreTold}
-use Rattle.card_words.specs.Words.{HasOctets, IsSized, NeedsOctets}
+use Rattle.card_words.specs.Words.{AreSized, HasOctets, HaveOctets, IsOnce, IsSized, NeedsOctets}
 use Rattle.card_words.proofs.Givens.{octets-given}
+use Rattle.card_words.specs.Version.{version_line}
+use Rattle.card_words.specs.declared.request.Aim.{Aim}
+use Rattle.card_words.specs.declared.request.Aim.TheVariants.{Check, Show}
+use Rattle.card_words.specs.declared.request.Asked.{Asked}
+use Rattle.card_words.specs.declared.request.Asked.TheVariants.{Once, Lines}
 use Rattle.card_words.specs.declared.request.Expected.{Expected}
 use Rattle.card_words.specs.declared.request.Request.{Request}
-use Rattle.card_words.specs.declared.request.Request.TheVariants.{BuildChain, BuildTidy, BuildFill, Check, CheckLines, Show, Replay, Migrate, Simulate, Help}
+use Rattle.card_words.specs.declared.request.Request.TheVariants.{BuildChain, BuildTidy, BuildFill, Tell, Replay, Migrate, Simulate, Help, Version}
+use Rattle.card_words.specs.declared.request.Task.{Task}
 use Rattle.card_kinds.specs.declared.status.Status.{Status}
 use Rattle.card_kinds.specs.declared.status.Status.TheVariants as status
 
@@ -50,10 +56,27 @@ told-of : (Told : List ℕ → List ℕ → Status → Type 0) → ((octets : Li
 told-of Told once (Ok octets) = once octets
 told-of Told once (Err fault) = ended-by (fault_text fault) status.Fault
 
+-- what is told of octets
+tells-once : (aim : Aim) (expected : Expected) → expected.ifs ≤ 254 → (b : List ℕ) → AreOctets b
+    → OneText (Tells aim expected b)
+tells-once Check expected small b = checked expected.kind expected b small
+tells-once Show expected small b = shown expected.kind expected b small
+
 -- a line's text
-line-once : (expected : Expected) → expected.ifs ≤ 254 → (line : List ℕ) → OneText (IsLineTold expected line)
-line-once expected small line = told-octets (Checks expected.kind expected)
-    (λ b. checked expected.kind expected b small) (line_octets line) (line-octets line)
+line-once : (task : Task) → task.expected.ifs ≤ 254 → (line : List ℕ) → OneText (IsLineTold task line)
+line-once task small line =
+    let told = told-octets (IsTold task) (tells-once task.aim task.expected small) (line_octets line) (line-octets line)
+    in
+    record {
+      one = λ t u s q h g.
+          let same = told.one h.told g.told s q h.is_told g.is_told in
+          (h.is_text ∙ ap (λ (l : List ℕ). l ++ line_end task.aim) same.0 ∙ sym g.is_text, same.1);
+      some = (
+        told.some.0 ++ line_end task.aim,
+        told.some.1,
+        record { told = told.some.0; is_told = told.some.2; is_text = refl },
+      );
+    }
 
 module _ (Line : List ℕ → List ℕ → Status → Type 0) (once : (line : List ℕ) → OneText (Line line)) where
   one-told-each : (lines : List (List ℕ)) (t u : List ℕ) (s q : Status) → AreTold Line lines t s
@@ -94,15 +117,9 @@ module _ (Line : List ℕ → List ℕ → Status → Type 0) (once : (line : Li
 -- a request has one text with one status, where its size is one and what it has and reads for octets are octets
 pub one-answer : (request : Request) (file : Result (List ℕ) Fault) → IsSized request → HasOctets request
     → (NeedsOctets request → IfOk file AreOctets) → OneText (IsAnswerTo request file)
-one-answer (Check input) file sized octets as_read =
-    told-octets (Checks input.expected.kind input.expected) (λ b. checked input.expected.kind input.expected b sized.1)
-    (octets_given input.given file) (octets-given input.given file octets as_read)
-one-answer (CheckLines expected) file sized octets as_read =
-    told-of (λ b. AreLinesTold expected (all_lines b))
-    (λ b. told-each-once (IsLineTold expected) (line-once expected sized.1) (all_lines b)) file
-one-answer (Show input) file sized octets as_read =
-    told-octets (Shows input.expected.kind input.expected) (λ b. shown input.expected.kind input.expected b sized.1)
-    (octets_given input.given file) (octets-given input.given file octets as_read)
+one-answer (Tell task given) file sized octets as_read =
+    told-octets (IsTold task) (tells-once task.aim task.expected sized.1) (octets_given given file)
+    (octets-given given file octets as_read)
 one-answer (BuildChain ifs number message) file sized octets as_read =
     plain (blocks_text (chain_blocks number (cut_of ifs message)))
 one-answer (BuildTidy given) file sized octets as_read =
@@ -112,3 +129,12 @@ one-answer (Replay side) file sized octets as_read = told-of (Replays side) (rep
 one-answer Migrate file sized octets as_read = told-of Migrates migrated-once file
 one-answer (Simulate session) file sized octets as_read = simulated-once session octets.0
 one-answer (Help help) file sized octets as_read = plain help
+one-answer Version file sized octets as_read = plain version_line
+
+-- the same of what is asked for
+pub one-asked : (asked : Asked) (file : Result (List ℕ) Fault) → AreSized asked → HaveOctets asked
+    → (IsOnce NeedsOctets asked → IfOk file AreOctets) → OneText (IsAnswerAsked asked file)
+one-asked (Once request) file sized octets as_read = one-answer request file sized octets as_read
+one-asked (Lines task) file sized octets as_read =
+    told-of (λ b. AreLinesTold task (all_lines b))
+    (λ b. told-each-once (IsLineTold task) (line-once task sized.1) (all_lines b)) file

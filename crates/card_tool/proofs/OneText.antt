@@ -1,5 +1,5 @@
 -- That words have one text, and a reader one file.
-use Rattle.std.proofs.Common.{◌≡◌, ◌≢◌, ◌<◌, ◌⊎◌, ◌∙◌, ◌++◌, inl, inr, ℕ, List, [], ◌∷◌, Option, Some, None, Result, Ok, Err, IfOk, ap, append-nil, arith, length, le-leb, subst, sym, refl}
+use Rattle.std.proofs.Common.{◌≡◌, ◌≢◌, ◌<◌, ◌⊎◌, ◌∙◌, ◌++◌, inl, inr, ℕ, List, [], ◌∷◌, Bool, true, false, Option, Some, None, Result, Ok, Err, IfOk, ap, append-nil, arith, length, le-leb, subst, sym, refl}
 use Rattle.std.specs.Result.{MatchResult}
 use Rattle.std.proofs.lemmas.List.{length-append}
 use Rattle.std.proofs.lemmas.Bool.Decides.{nat_tests}
@@ -11,17 +11,19 @@ use Rattle.octet_core.specs.Failures.{most_failures}
 use Rattle.octet_core.specs.Octets.{AreOctets}
 use Rattle.card_words.proofs.Requests.{read-proper}
 use Rattle.card_words.specs.Texts.{fault_text}
-use Rattle.card_words.specs.Words.{AskForOctets, HasOther, IsRead, request_of, scard, taken, called_for_help, not_taken}
+use Rattle.card_words.specs.Words.{asked_of, scard, AskForOctets, HasOther, IsRead, called_for_version, taken, called_for_help, not_taken}
 use Rattle.card_words.specs.declared.fault.Fault.{Fault}
 use Rattle.card_words.specs.declared.fault.Fault.TheVariants.{Words, Hex, Memory, Read, TooLarge}
-use Rattle.card_words.specs.declared.request.Request.{Request}
-use Rattle.card_words.specs.declared.request.Request.TheVariants.{Help}
-use Rattle.card_tool.specs.Answers.{IsAnswer, IsAnswerTo}
+use Rattle.card_words.specs.Version.{asks_for_version}
+use Rattle.card_words.specs.declared.request.Asked.{Asked}
+use Rattle.card_words.specs.declared.request.Asked.TheVariants.{Once}
+use Rattle.card_words.specs.declared.request.Request.TheVariants.{Help, Version}
+use Rattle.card_tool.specs.Answers.{IsAnswer, IsAnswerAsked}
 use Rattle.card_tool.specs.Files.{file_of, largest_file, ReadsWhole}
 use Rattle.card_kinds.specs.declared.status.Status.{Status}
 use Rattle.card_kinds.specs.declared.status.Status.TheVariants as status
 use Rattle.card_tool.proofs.Answering.{needs-octets}
-use Rattle.card_tool.proofs.OneAnswer.{one-answer}
+use Rattle.card_tool.proofs.OneAnswer.{one-asked}
 
 -- ---- words
 
@@ -31,16 +33,16 @@ one-fault : (fault : Fault) (text other : List ℕ) (ended different : Status) �
 one-fault fault text other ended different h g = (h.0 ∙ sym g.0, h.1 ∙ sym g.1)
 
 -- the same words were read twice as this
-read-once : (words : List (List ℕ)) (read : Result Request Fault) → IsRead words read → (file : Result (List ℕ) Fault)
+read-once : (words : List (List ℕ)) (read : Result Asked Fault) → IsRead words read → (file : Result (List ℕ) Fault)
     → (AskForOctets words → IfOk file AreOctets) → (text other : List ℕ) (ended different : Status)
-    → MatchResult read (λ request. IsAnswerTo request file text ended)
+    → MatchResult read (λ asked. IsAnswerAsked asked file text ended)
     (λ fault. (text ≡ fault_text fault) × (ended ≡ status.Fault))
-    → MatchResult read (λ request. IsAnswerTo request file other different)
+    → MatchResult read (λ asked. IsAnswerAsked asked file other different)
     (λ fault. (other ≡ fault_text fault) × (different ≡ status.Fault))
     → (text ≡ other) × (ended ≡ different)
-read-once words (Ok request) read file octets text other ended different h g =
-    let proper = read-proper words request read in
-    (one-answer request file proper.0 proper.1 (λ need. octets (needs-octets words request read need))).one text other
+read-once words (Ok asked) read file octets text other ended different h g =
+    let proper = read-proper words asked read in
+    (one-asked asked file proper.0 proper.1 (λ need. octets (needs-octets words asked read need))).one text other
     ended different h g
 read-once words (Err fault) read file octets text other ended different h g =
     one-fault fault text other ended different h g
@@ -49,15 +51,22 @@ no-other : (kinds : Kinds) → kinds ≡ [] → HasOther kinds → ⊥
 no-other kinds none other = let among = subst (IsAmong other.0) none other.1 in among
 
 -- words are read in one way, but where a call for help is answered
-read-same : (words : List (List ℕ)) (read again : Result Request Fault) → IsRead words read → IsRead words again
+read-same : (words : List (List ℕ)) (read again : Result Asked Fault) → IsRead words read → IsRead words again
     → IsAmong DisplayHelp (fault_of scard words) ⊎ (again ≡ read)
-read-same words read again (called_for_help among help e) h = inl among
-read-same words read again (taken free e) (called_for_help among help f) = inl among
-read-same words read again (not_taken other e) (called_for_help among help f) = inl among
-read-same words read again (taken free e) (taken free_too f) = inr (f ∙ sym e)
-read-same words read again (taken free e) (not_taken other f) = absurd (no-other _ free other)
-read-same words read again (not_taken other e) (taken free f) = absurd (no-other _ free other)
-read-same words read again (not_taken other e) (not_taken another f) = inr (f ∙ sym e)
+read-same words read again (called_for_help parsed among help e) h = inl among
+read-same words read again (taken are e) (called_for_help parsed among help f) = inl among
+read-same words read again (not_taken parsed other e) (called_for_help parsed_too among help f) = inl among
+read-same words read again (called_for_version version e) (called_for_version again_too f) = inr (f ∙ sym e)
+read-same words read again (called_for_version version e) (taken are f) = absurd (cc (version, are.parsed))
+read-same words read again (called_for_version version e) (called_for_help parsed among help f) =
+    absurd (cc (version, parsed))
+read-same words read again (called_for_version version e) (not_taken parsed other f) = absurd (cc (version, parsed))
+read-same words read again (taken are e) (called_for_version version f) = absurd (cc (version, are.parsed))
+read-same words read again (taken are e) (taken are_too f) = inr (f ∙ sym e)
+read-same words read again (taken are e) (not_taken parsed other f) = absurd (no-other _ are.free other)
+read-same words read again (not_taken parsed other e) (called_for_version version f) = absurd (cc (version, parsed))
+read-same words read again (not_taken parsed other e) (taken are f) = absurd (no-other _ are.free other)
+read-same words read again (not_taken parsed other e) (not_taken parsed_too another f) = inr (f ∙ sym e)
 
 -- the same words and file, of octets where they are asked for, have one text and status, but for a call for help
 pub one-text : (words : List (List ℕ)) (file : Result (List ℕ) Fault) (text other : List ℕ) (ended different : Status)
@@ -68,8 +77,8 @@ one-text words file text other ended different octets h g =
       | inl help ↦ inl help
       | inr same ↦
           inr (read-once words h.read h.is_read file octets text other ended different h.is_answer
-          (subst (λ (r : Result Request Fault).
-          MatchResult r (λ request. IsAnswerTo request file other different)
+          (subst (λ (r : Result Asked Fault).
+          MatchResult r (λ asked. IsAnswerAsked asked file other different)
           (λ fault. (other ≡ fault_text fault) × (different ≡ status.Fault))) same g.is_answer))
     ]
 
@@ -78,30 +87,37 @@ help-or-not : (kind : ErrorKind) → (kind ≡ DisplayHelp) ⊎ (kind ≢ Displa
 help-or-not DisplayHelp = inl refl
 help-or-not kind = inr (λ e. cc)
 
-some-read : (words : List (List ℕ)) (kinds : Kinds) → fault_of scard words ≡ kinds → (read : Result Request Fault)
-    × IsRead words read
-some-read words [] free = (request_of (subcommand_of scard words), taken free refl)
-some-read words (kind ∷ kinds) is =
+parsed-read : (words : List (List ℕ)) (kinds : Kinds) → asks_for_version words ≡ false → fault_of scard words ≡ kinds
+    → (read : Result Asked Fault) × IsRead words read
+parsed-read words [] parsed free =
+    (asked_of (subcommand_of scard words), taken (record { parsed = parsed; free = free }) refl)
+parsed-read words (kind ∷ kinds) parsed is =
     elim (help-or-not kind) [
-      | inl help ↦ (Ok (Help []), called_for_help (subst (IsAmong DisplayHelp) (sym is) (inl (sym help))) [] refl)
-      | inr other ↦ (Err Words, not_taken (kind, subst (IsAmong kind) (sym is) (inl refl), other) refl)
+      | inl help ↦
+          (Ok (Once (Help [])), called_for_help parsed (subst (IsAmong DisplayHelp) (sym is) (inl (sym help))) [] refl)
+      | inr other ↦ (Err Words, not_taken parsed (kind, subst (IsAmong kind) (sym is) (inl refl), other) refl)
     ]
 
+some-read : (words : List (List ℕ)) (asks : Bool) → asks_for_version words ≡ asks → (read : Result Asked Fault)
+    × IsRead words read
+some-read words true version = (Ok (Once Version), called_for_version version refl)
+some-read words false parsed = parsed-read words (fault_of scard words) parsed refl
+
 some-answer : (words : List (List ℕ)) (file : Result (List ℕ) Fault) → (AskForOctets words → IfOk file AreOctets)
-    → (read : Result Request Fault) → IsRead words read → (text : List ℕ) × (ended : Status)
+    → (read : Result Asked Fault) → IsRead words read → (text : List ℕ) × (ended : Status)
     × IsAnswer words file text ended
-some-answer words file octets (Ok request) read =
-    let proper = read-proper words request read in
-    let told = (one-answer request file proper.0 proper.1 (λ need. octets (needs-octets words request read need))).some
+some-answer words file octets (Ok asked) read =
+    let proper = read-proper words asked read in
+    let told = (one-asked asked file proper.0 proper.1 (λ need. octets (needs-octets words asked read need))).some
     in
-    (told.0, told.1, record { read = Ok request; is_read = read; is_answer = told.2 })
+    (told.0, told.1, record { read = Ok asked; is_read = read; is_answer = told.2 })
 some-answer words file octets (Err fault) read =
     (fault_text fault, status.Fault, record { read = Err fault; is_read = read; is_answer = (refl, refl) })
 
 -- and they have some
 pub some-text : (words : List (List ℕ)) (file : Result (List ℕ) Fault) → (AskForOctets words → IfOk file AreOctets)
     → (text : List ℕ) × (ended : Status) × IsAnswer words file text ended
-some-text words file octets = let read = some-read words (fault_of scard words) refl in
+some-text words file octets = let read = some-read words (asks_for_version words) refl in
     some-answer words file octets read.0 read.1
 
 -- ---- files

@@ -3,7 +3,7 @@ use Rattle.std.proofs.Common.{◌≡◌, ◌≤◌, ◌<◌, inl, inr, ◌+◌, 
 use Rattle.std.proofs.lemmas.List.{length-append}
 use Rattle.card_words.specs.Texts.{fault_text}
 use Rattle.card_words.specs.declared.fault.Fault.TheVariants.{Memory, Read, TooLarge}
-use Rattle.card_words.specs.declared.request.Expected.{Expected}
+use Rattle.card_words.specs.declared.request.Task.{Task}
 use Rattle.card_kinds.specs.declared.status.Status.{Status}
 use Rattle.card_kinds.specs.declared.status.Status.TheVariants as status
 use Rattle.card_tool.specs.Answers.{AreLinesTold}
@@ -13,30 +13,30 @@ use Rattle.card_tool.specs.LineAnswers.{AnswersLines, AreTelling, Closes, HasAns
 use Rattle.card_tool.proofs.Conversing.{Happens-then}
 
 -- So many pieces were heard, and the lines that ended in them are answered, but for this text, which isn't told yet.
-pub record HasComeTo {A : Type 0} (expected : Expected) (old now : A → List Event → Type 0) (line text : List ℕ)
+pub record HasComeTo {A : Type 0} (task : Task) (old now : A → List Event → Type 0) (line text : List ℕ)
     (ended : Status) (turns : ℕ) : Type 0 where
   pub events : List Event
   pub read : List ℕ
   pub written : List ℕ
   pub happened : Happens old now events
-  pub goes_on : (more : List Event) (end : Status) → AnswersLines expected read written more end
-      → AnswersLines expected [] [] (events ++ more) end
+  pub goes_on : (more : List Event) (end : Status) → AnswersLines task read written more end
+      → AnswersLines task [] [] (events ++ more) end
   pub many : turns ≤ length read
-  pub said : HasSaid expected read written line text ended
+  pub said : HasSaid task read written line text ended
 
 -- the last events of a conversation are all of one
-closes : (expected : Expected) (read written : List ℕ) (events : List Event) (end : Status)
-    → Closes expected read written events end → AnswersLines expected read written events end
-closes expected read written [] end h = h
-closes expected read written (heard octets ∷ events) end h = inl h
-closes expected read written (told text ∷ events) end h = inl h
-closes expected read written (unheard ∷ events) end h = h
-closes expected read written (untold text count ∷ events) end h = h
+closes : (task : Task) (read written : List ℕ) (events : List Event) (end : Status)
+    → Closes task read written events end → AnswersLines task read written events end
+closes task read written [] end h = h
+closes task read written (heard octets ∷ events) end h = inl h
+closes task read written (told text ∷ events) end h = inl h
+closes task read written (unheard ∷ events) end h = h
+closes task read written (untold text count ∷ events) end h = h
 
 -- at first nothing was heard
-pub nothing-heard : {A : Type 0} (expected : Expected) (old : A → List Event → Type 0) (line text : List ℕ)
-    → line ≡ [] → text ≡ [] → HasComeTo expected old old line text status.Accepted 0
-nothing-heard {A} expected old line text none empty = record {
+pub nothing-heard : {A : Type 0} (task : Task) (old : A → List Event → Type 0) (line text : List ℕ)
+    → line ≡ [] → text ≡ [] → HasComeTo task old old line text status.Accepted 0
+nothing-heard {A} task old line text none empty = record {
   events = [];
   read = [];
   written = [];
@@ -46,11 +46,11 @@ nothing-heard {A} expected old line text none empty = record {
   said = record { is_told = (empty, refl); is_line = none };
 }
 
-module _ {A : Type 0} (expected : Expected) (old now : A → List Event → Type 0) (line text : List ℕ) (s : Status)
-    (turns : ℕ) (h : HasComeTo expected old now line text s turns) where
+module _ {A : Type 0} (task : Task) (old now : A → List Event → Type 0) (line text : List ℕ) (s : Status)
+    (turns : ℕ) (h : HasComeTo task old now line text s turns) where
   -- these are the last events
   ends-by : (next : A → List Event → Type 0) (events : List Event) (end : Status) → Happens now next events
-      → AnswersLines expected h.read h.written events end → HasAnswered expected old next end
+      → AnswersLines task h.read h.written events end → HasAnswered task old next end
   ends-by next events end happened lines = record {
     events = h.events ++ events;
     happened = Happens-then old now next h.events events h.happened happened;
@@ -59,7 +59,7 @@ module _ {A : Type 0} (expected : Expected) (old now : A → List Event → Type
 
   -- the text is told
   pub text-told : (next : A → List Event → Type 0) (none : List ℕ) → none ≡ []
-      → Happens now next (told text ∷ []) → HasComeTo expected old next line none s turns
+      → Happens now next (told text ∷ []) → HasComeTo task old next line none s turns
   text-told next none empty happened = record {
     events = h.events ++ (told text ∷ []);
     read = h.read;
@@ -73,33 +73,33 @@ module _ {A : Type 0} (expected : Expected) (old now : A → List Event → Type
 
   -- it can't be told
   pub text-untold : (next : A → List Event → Type 0) (count : ℕ) → Happens now next (untold text count ∷ [])
-      → HasAnswered expected old next status.Fault
+      → HasAnswered task old next status.Fault
   text-untold next count happened = ends-by next (untold text count ∷ []) status.Fault happened
       (unwritten text count refl (s, h.said.is_told) refl)
 
   -- the octets can't be counted
   pub used-up : (next : A → List Event → Type 0) (end : Status) → most_read ≤ turns
       → ((events : List Event) × Happens now next events
-      × AreTelling (text ++ fault_text TooLarge) status.Fault events end) → HasAnswered expected old next end
+      × AreTelling (text ++ fault_text TooLarge) status.Fault events end) → HasAnswered task old next end
   used-up next end most tells = ends-by next tells.0 end tells.1
-      (closes expected h.read h.written tells.0 end
+      (closes task h.read h.written tells.0 end
       (uncounted text (omega (arith, most, h.many)) (s, h.said.is_told) tells.2))
 
 -- the same, where all is told
-module _ {A : Type 0} (expected : Expected) (old now : A → List Event → Type 0) (line text : List ℕ) (s : Status)
-    (turns : ℕ) (h : HasComeTo expected old now line text s turns) (empty : text ≡ []) where
-  up-to-date : IsUpToDate expected h.read h.written
+module _ {A : Type 0} (task : Task) (old now : A → List Event → Type 0) (line text : List ℕ) (s : Status)
+    (turns : ℕ) (h : HasComeTo task old now line text s turns) (empty : text ≡ []) where
+  up-to-date : IsUpToDate task h.read h.written
   up-to-date = (
     s,
-    subst (λ (t : List ℕ). AreLinesTold expected (ended_lines h.read) t s) (append-nil h.written)
-        (subst (λ (t : List ℕ). AreLinesTold expected (ended_lines h.read) (h.written ++ t) s) empty h.said.is_told),
+    subst (λ (t : List ℕ). AreLinesTold task (ended_lines h.read) t s) (append-nil h.written)
+        (subst (λ (t : List ℕ). AreLinesTold task (ended_lines h.read) (h.written ++ t) s) empty h.said.is_told),
   )
 
   -- a piece is heard
   pub piece-heard : (next : A → List Event → Type 0) (piece kept more : List ℕ) (q : Status)
       → Happens now next (heard piece ∷ []) → 0 < length piece
-      → ((read written : List ℕ) → HasSaid expected read written line text s
-      → HasSaid expected (read ++ piece) written kept more q) → HasComeTo expected old next kept more q (turns + 1)
+      → ((read written : List ℕ) → HasSaid task read written line text s
+      → HasSaid task (read ++ piece) written kept more q) → HasComeTo task old next kept more q (turns + 1)
   piece-heard next piece kept more q happened some says = record {
     events = h.events ++ (heard piece ∷ []);
     read = h.read ++ piece;
@@ -114,20 +114,20 @@ module _ {A : Type 0} (expected : Expected) (old now : A → List Event → Type
   -- the input ended
   pub at-end : (there next : A → List Event → Type 0) (none : List ℕ) (end : Status) → none ≡ []
       → Happens now there (heard none ∷ [])
-      → ((read written : List ℕ) → HasSaid expected read written line text s
-      → Tells (IsRest expected (all_lines read) written) there next end) → HasAnswered expected old next end
+      → ((read written : List ℕ) → HasSaid task read written line text s
+      → Tells (IsRest task (all_lines read) written) there next end) → HasAnswered task old next end
   at-end there next none end is happened says =
       let rest = says h.read h.written h.said in
-      ends-by expected old now line text s turns h next (heard none ∷ rest.events) end
+      ends-by task old now line text s turns h next (heard none ∷ rest.events) end
       (Happens-then now there next (heard none ∷ []) rest.events happened rest.happened)
       (inl (over rest.events rest.text rest.right (rw is refl) up-to-date rest.is_right rest.are_telling))
 
   -- a call to hear more failed
   pub read-failed : (there next : A → List Event → Type 0) (end : Status) → Happens now there (unheard ∷ [])
       → ((events : List Event) × Happens there next events
-      × AreTelling (text ++ fault_text Read) status.Fault events end) → HasAnswered expected old next end
+      × AreTelling (text ++ fault_text Read) status.Fault events end) → HasAnswered task old next end
   read-failed there next end happened tells =
-      ends-by expected old now line text s turns h next (unheard ∷ tells.0) end
+      ends-by task old now line text s turns h next (unheard ∷ tells.0) end
       (Happens-then now there next (unheard ∷ []) tells.0 happened tells.1)
       (unread tells.0 refl up-to-date
       (subst (λ (t : List ℕ). AreTelling (t ++ fault_text Read) status.Fault tells.0 end) empty tells.2))
@@ -135,16 +135,16 @@ module _ {A : Type 0} (expected : Expected) (old now : A → List Event → Type
   -- memory ran out within a piece
   pub memory-out : (there next : A → List Event → Type 0) (piece more : List ℕ) (end : Status)
       → Happens now there (heard piece ∷ []) → 0 < length piece
-      → ((read written : List ℕ) → HasSaid expected read written line text s
-      → HasBegun expected (ended_lines (read ++ piece)) (written ++ more))
+      → ((read written : List ℕ) → HasSaid task read written line text s
+      → HasBegun task (ended_lines (read ++ piece)) (written ++ more))
       → ((events : List Event) × Happens there next events
-      × AreTelling (more ++ fault_text Memory) status.Fault events end) → HasAnswered expected old next end
+      × AreTelling (more ++ fault_text Memory) status.Fault events end) → HasAnswered task old next end
   memory-out there next piece more end happened some says tells =
-      ends-by expected old now line text s turns h next (heard piece ∷ tells.0) end
+      ends-by task old now line text s turns h next (heard piece ∷ tells.0) end
       (Happens-then now there next (heard piece ∷ []) tells.0 happened tells.1)
       (inr (
         some,
         up-to-date,
-        closes expected (h.read ++ piece) h.written tells.0 end
+        closes task (h.read ++ piece) h.written tells.0 end
             (out_of_memory more (says h.read h.written h.said) tells.2),
       ))

@@ -3,7 +3,7 @@ use Rattle.std.proofs.Common.{◌≡◌, inl, inr, ◌++◌, ◌∷◌, [], List
 use Rattle.std.proofs.lemmas.List.{length-append}
 use Rattle.card_words.specs.Texts.{fault_text}
 use Rattle.card_words.specs.declared.fault.Fault.TheVariants.{Read}
-use Rattle.card_words.specs.declared.request.Expected.{Expected}
+use Rattle.card_words.specs.declared.request.Task.{Task}
 use Rattle.card_kinds.specs.declared.status.Status.{Status}
 use Rattle.card_kinds.specs.declared.status.Status.TheVariants as status
 use Rattle.card_tool.specs.Conversations.{Event, heard, told, unheard, untold}
@@ -30,10 +30,10 @@ none-heard (untold part count ∷ before) after event text right ended hears tel
 none-heard (heard octets ∷ before) after event text right ended hears tells = tells
 none-heard (unheard ∷ before) after event text right ended hears tells = tells
 
-module _ (expected : Expected) (read written : List ℕ) (ended : Status) where
+module _ (task : Task) (read written : List ℕ) (ended : Status) where
   -- what closes a conversation begins to hear only then
   first-heard : (after : List Event) (event : Event) → IsHearing event
-      → Closes expected read written (event ∷ after) ended → IsUpToDate expected read written
+      → Closes task read written (event ∷ after) ended → IsUpToDate task read written
   first-heard after event hears (over more text right is up rest tells) = up
   first-heard after event hears (unread more is up tells) = up
   first-heard after event hears (out_of_memory text begun tells) =
@@ -51,7 +51,7 @@ module _ (expected : Expected) (read written : List ℕ) (ended : Status) where
 
   -- and hears nothing after that
   none-later : (before after : List Event) (e event : Event) → IsHearing event
-      → Closes expected read written (e ∷ (before ++ (event ∷ after))) ended → ⊥
+      → Closes task read written (e ∷ (before ++ (event ∷ after))) ended → ⊥
   none-later before after e event hears (over more text right is up rest tells) =
       none-heard before after event text right ended hears
       (subst (λ (l : List Event). AreTelling text right l ended) (sym (ap later is)) tells)
@@ -65,39 +65,39 @@ module _ (expected : Expected) (read written : List ℕ) (ended : Status) where
   none-later before after e event hears (unwritten text count is up fault) =
       not-empty before after event (ap later is)
 
-still : (expected : Expected) (read written : List ℕ) → IsUpToDate expected read written
-    → IsUpToDate expected (read ++ []) (written ++ [])
-still expected read written up = rw (append-nil read, append-nil written) up
+still : (task : Task) (read written : List ℕ) → IsUpToDate task read written
+    → IsUpToDate task (read ++ []) (written ++ [])
+still task read written up = rw (append-nil read, append-nil written) up
 
-waits-from : (expected : Expected) (before after : List Event) (event : Event) (read written : List ℕ) (ended : Status)
-    → IsHearing event → AnswersLines expected read written (before ++ (event ∷ after)) ended
-    → IsUpToDate expected (read ++ heard_by before) (written ++ told_by before)
-waits-from expected [] after (heard octets) read written ended hears (inl h) =
-    still expected read written (first-heard expected read written ended after (heard octets) hears h)
-waits-from expected [] after (heard octets) read written ended hears (inr h) = still expected read written h.1
-waits-from expected [] after unheard read written ended hears h =
-    still expected read written (first-heard expected read written ended after unheard hears h)
-waits-from expected [] after (told text) read written ended hears h = absurd hears
-waits-from expected [] after (untold text count) read written ended hears h = absurd hears
-waits-from expected (heard octets ∷ before) after event read written ended hears (inl h) =
-    absurd (none-later expected read written ended before after (heard octets) event hears h)
-waits-from expected (heard octets ∷ before) after event read written ended hears (inr h) =
+waits-from : (task : Task) (before after : List Event) (event : Event) (read written : List ℕ) (ended : Status)
+    → IsHearing event → AnswersLines task read written (before ++ (event ∷ after)) ended
+    → IsUpToDate task (read ++ heard_by before) (written ++ told_by before)
+waits-from task [] after (heard octets) read written ended hears (inl h) =
+    still task read written (first-heard task read written ended after (heard octets) hears h)
+waits-from task [] after (heard octets) read written ended hears (inr h) = still task read written h.1
+waits-from task [] after unheard read written ended hears h =
+    still task read written (first-heard task read written ended after unheard hears h)
+waits-from task [] after (told text) read written ended hears h = absurd hears
+waits-from task [] after (untold text count) read written ended hears h = absurd hears
+waits-from task (heard octets ∷ before) after event read written ended hears (inl h) =
+    absurd (none-later task read written ended before after (heard octets) event hears h)
+waits-from task (heard octets ∷ before) after event read written ended hears (inr h) =
     rw (← append_assoc read octets (heard_by before))
-    (waits-from expected before after event (read ++ octets) written ended hears h.2)
-waits-from expected (told text ∷ before) after event read written ended hears (inl h) =
-    absurd (none-later expected read written ended before after (told text) event hears h)
-waits-from expected (told text ∷ before) after event read written ended hears (inr h) =
+    (waits-from task before after event (read ++ octets) written ended hears h.2)
+waits-from task (told text ∷ before) after event read written ended hears (inl h) =
+    absurd (none-later task read written ended before after (told text) event hears h)
+waits-from task (told text ∷ before) after event read written ended hears (inr h) =
     rw (← append_assoc written text (told_by before))
-    (waits-from expected before after event read (written ++ text) ended hears h)
-waits-from expected (unheard ∷ before) after event read written ended hears h =
-    absurd (none-later expected read written ended before after unheard event hears h)
-waits-from expected (untold text count ∷ before) after event read written ended hears h =
-    absurd (none-later expected read written ended before after (untold text count) event hears h)
+    (waits-from task before after event read (written ++ text) ended hears h)
+waits-from task (unheard ∷ before) after event read written ended hears h =
+    absurd (none-later task read written ended before after unheard event hears h)
+waits-from task (untold text count ∷ before) after event read written ended hears h =
+    absurd (none-later task read written ended before after (untold text count) event hears h)
 
 -- of a whole conversation
-pub waits : (expected : Expected) (events before after : List Event) (event : Event) (ended : Status)
-    → AnswersLines expected [] [] events ended → events ≡ before ++ (event ∷ after) → IsHearing event
-    → IsUpToDate expected (heard_by before) (told_by before)
-waits expected events before after event ended lines is hears =
-    waits-from expected before after event [] [] ended hears
-    (subst (λ (l : List Event). AnswersLines expected [] [] l ended) is lines)
+pub waits : (task : Task) (events before after : List Event) (event : Event) (ended : Status)
+    → AnswersLines task [] [] events ended → events ≡ before ++ (event ∷ after) → IsHearing event
+    → IsUpToDate task (heard_by before) (told_by before)
+waits task events before after event ended lines is hears =
+    waits-from task before after event [] [] ended hears
+    (subst (λ (l : List Event). AnswersLines task [] [] l ended) is lines)

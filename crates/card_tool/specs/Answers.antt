@@ -1,5 +1,5 @@
 -- What the program answers: one text and one status.
-use Rattle.std.specs.Prelude.{◌≡◌, ◌<◌, ℕ, ◌⊎◌, List, Option, length, take, Result, Ok, Err, MatchResult}
+use Rattle.std.specs.Prelude.{◌≡◌, ◌<◌, ◌++◌, ℕ, ◌⊎◌, List, [], Option, codes, length, take, Result, Ok, Err, MatchResult}
 use Rattle.std.specs.Io.KnownBytes.{Appends}
 use Rattle.octet_core.specs.Failures.{HasFailed}
 use Rattle.card_kinds.specs.Verdicts.{Checks, Shows, Tidies, IsFilled}
@@ -12,35 +12,52 @@ use Rattle.card_tool.specs.SimulationTexts.{Simulates}
 use Rattle.card_tool.specs.Files.{ReadsWhole}
 use Rattle.card_tool.specs.Lines.{all_lines, line_octets, AreTold}
 use Rattle.card_words.specs.Given.{octets_given}
-use Rattle.card_words.specs.Words.{AskForFile, IsRead, NeedsFile}
+use Rattle.card_words.specs.Version.{version_line}
+use Rattle.card_words.specs.Words.{once_of, AskForFile, IsRead, NeedsFile}
 use Rattle.card_kinds.specs.declared.status.Status.{Status}
 use Rattle.card_kinds.specs.declared.status.Status.TheVariants as status
 use Rattle.card_words.specs.declared.fault.Fault.{Fault}
 use Rattle.card_words.specs.declared.fault.Fault.TheVariants.{Memory}
 use Rattle.card_kinds.specs.declared.answer.Answer.{Answer}
+use Rattle.card_words.specs.declared.request.Aim.{Aim}
+use Rattle.card_words.specs.declared.request.Aim.TheVariants.{Check, Show}
+use Rattle.card_words.specs.declared.request.Asked.{Asked}
+use Rattle.card_words.specs.declared.request.Asked.TheVariants.{Once, Lines}
 use Rattle.card_words.specs.declared.request.Expected.{Expected}
 use Rattle.card_words.specs.declared.request.Request.{Request}
-use Rattle.card_words.specs.declared.request.Request.TheVariants.{BuildChain, BuildTidy, BuildFill, Check, CheckLines, Show, Replay, Migrate, Simulate, Help}
+use Rattle.card_words.specs.declared.request.Request.TheVariants.{BuildChain, BuildTidy, BuildFill, Tell, Replay, Migrate, Simulate, Help, Version}
+use Rattle.card_words.specs.declared.request.Task.{Task}
 
 -- what octets come to, or the fault for which there are none
 abbrev pub IsToldOf : (List ℕ → List ℕ → Status → Type 0) → Result (List ℕ) Fault → List ℕ → Status → Type 0
 IsToldOf Told octets text ended = MatchResult octets (λ b. Told b text ended)
     (λ fault. (text ≡ fault_text fault) × (ended ≡ status.Fault))
 
--- the text and the status of one line
-abbrev pub IsLineTold : Expected → List ℕ → List ℕ → Status → Type 0
-IsLineTold expected line text ended = IsToldOf (Checks expected.kind expected) (line_octets line) text ended
+-- what is told of octets
+abbrev pub Tells : Aim → Expected → List ℕ → List ℕ → Status → Type 0
+Tells Check expected = Checks expected.kind expected
+Tells Show expected = Shows expected.kind expected
 
-abbrev pub AreLinesTold : Expected → List (List ℕ) → List ℕ → Status → Type 0
-AreLinesTold expected lines text ended = AreTold (IsLineTold expected) lines text ended
+abbrev pub IsTold : Task → List ℕ → List ℕ → Status → Type 0
+IsTold task = Tells task.aim task.expected
+
+-- what comes after the answer to a line: one line is answered by one, and a value by several and an empty one
+abbrev pub line_end : Aim → List ℕ
+line_end Check = []
+line_end Show = codes "\n"
+
+-- the text and the status of one line
+pub record IsLineTold (task : Task) (line text : List ℕ) (ended : Status) : Type 0 where
+  pub told : List ℕ
+  pub is_told : IsToldOf (IsTold task) (line_octets line) told ended
+  pub is_text : text ≡ told ++ line_end task.aim
+
+abbrev pub AreLinesTold : Task → List (List ℕ) → List ℕ → Status → Type 0
+AreLinesTold task lines text ended = AreTold (IsLineTold task) lines text ended
 
 -- the text and the status that a request has, with what reading standard input gave
 abbrev pub IsAnswerTo : Request → Result (List ℕ) Fault → List ℕ → Status → Type 0
-IsAnswerTo (Check input) file text ended =
-    IsToldOf (Checks input.expected.kind input.expected) (octets_given input.given file) text ended
-IsAnswerTo (CheckLines expected) file text ended = IsToldOf (λ b. AreLinesTold expected (all_lines b)) file text ended
-IsAnswerTo (Show input) file text ended =
-    IsToldOf (Shows input.expected.kind input.expected) (octets_given input.given file) text ended
+IsAnswerTo (Tell task given) file text ended = IsToldOf (IsTold task) (octets_given given file) text ended
 IsAnswerTo (BuildChain ifs number message) file text ended =
     (text ≡ blocks_text (chain_blocks number (cut_of ifs message))) × (ended ≡ status.Accepted)
 IsAnswerTo (BuildTidy given) file text ended = IsToldOf Tidies (octets_given given file) text ended
@@ -49,22 +66,23 @@ IsAnswerTo (Replay side) file text ended = IsToldOf (Replays side) file text end
 IsAnswerTo Migrate file text ended = IsToldOf Migrates file text ended
 IsAnswerTo (Simulate session) file text ended = Simulates session text ended
 IsAnswerTo (Help help) file text ended = (text ≡ help) × (ended ≡ status.Accepted)
+IsAnswerTo Version file text ended = (text ≡ version_line) × (ended ≡ status.Accepted)
 
--- a request that is answered by one text, after all was read that it asks for
-abbrev pub HasOneText : Request → Type 0
-HasOneText (CheckLines expected) = ⊥
-HasOneText _ = Unit {0}
+-- the same of what is asked for
+abbrev pub IsAnswerAsked : Asked → Result (List ℕ) Fault → List ℕ → Status → Type 0
+IsAnswerAsked (Once request) file text ended = IsAnswerTo request file text ended
+IsAnswerAsked (Lines task) file text ended = IsToldOf (λ b. AreLinesTold task (all_lines b)) file text ended
 
--- what words are read as, or that memory ran out
+-- the request that words are read as, or that memory ran out
 abbrev pub IsReadFrom : List (List ℕ) → Result Request Fault → Type 0
-IsReadFrom words read = (read ≡ Err Memory) ⊎ IsRead words read
+IsReadFrom words read = (read ≡ Err Memory) ⊎ IsRead words (once_of read)
 
--- the text and the status that the words have: those of the request, or the fault's
+-- the text and the status that the words have: those of what they ask for, or the fault's
 pub record IsAnswer (words : List (List ℕ)) (file : Result (List ℕ) Fault) (text : List ℕ) (ended : Status) : Type 0
   where
-    pub read : Result Request Fault
+    pub read : Result Asked Fault
     pub is_read : IsRead words read
-    pub is_answer : MatchResult read (λ request. IsAnswerTo request file text ended)
+    pub is_answer : MatchResult read (λ asked. IsAnswerAsked asked file text ended)
         (λ fault. (text ≡ fault_text fault) × (ended ≡ status.Fault))
 
 -- ---- where a reader has the octets or the file

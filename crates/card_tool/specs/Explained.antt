@@ -10,9 +10,10 @@ use Rattle.card_words.specs.Texts.{fault_text}
 use Rattle.card_words.specs.Words.{IsRead, NeedsFile}
 use Rattle.card_words.specs.declared.fault.Fault.{Fault}
 use Rattle.card_words.specs.declared.fault.Fault.TheVariants as fault
+use Rattle.card_words.specs.declared.request.Asked.TheVariants.{Once}
 use Rattle.card_words.specs.declared.request.End.{End}
 use Rattle.card_words.specs.declared.request.Request.{Request}
-use Rattle.card_words.specs.declared.request.Request.TheVariants.{BuildTidy, BuildFill, Check, Show, Replay, Migrate, Simulate}
+use Rattle.card_words.specs.declared.request.Request.TheVariants.{BuildTidy, BuildFill, Tell, Replay, Migrate, Simulate}
 use Rattle.card_kinds.specs.ForestTexts.{forest_codec}
 use Rattle.card_kinds.specs.ListTexts.{list_codec}
 use Rattle.card_kinds.specs.declared.answer.Answer.{Answer}
@@ -78,10 +79,8 @@ IsSimulationNote atr status.Fault note = note ≡ large_note largest_file
 
 -- The note on what a request was given, with what reading standard input gave, where the program ends so.
 abbrev pub IsNoteTo : Request → Result (List ℕ) Fault → Status → List ℕ → Type 0
-IsNoteTo (Check input) file ended note =
-    IsOkAnd (octets_given input.given file) (λ b. IsKindNote input.expected.kind input.expected b note)
-IsNoteTo (Show input) file ended note =
-    IsOkAnd (octets_given input.given file) (λ b. IsKindNote input.expected.kind input.expected b note)
+IsNoteTo (Tell task given) file ended note =
+    IsOkAnd (octets_given given file) (λ b. IsKindNote task.expected.kind task.expected b note)
 IsNoteTo (BuildTidy given) file ended note = IsOkAnd (octets_given given file) (λ b. IsNoteBy forest_codec b note)
 IsNoteTo (BuildFill list known) file ended note = IsFillNote list known note
 IsNoteTo (Replay end) file ended note = IsOkAnd file (λ text. IsReplayNote end text note)
@@ -119,7 +118,7 @@ IsNotedTo request held left before after text note ended =
 abbrev pub IsNoted : List (List ℕ) → Option (List ℕ) → Option (List ℕ) → ℕ → ℕ → List ℕ → List ℕ → Status → Type 0
 IsNoted words held left before after text note ended =
     (IsRight words held left before after text ended × Fits text note)
-    ⊎ ((request : Request) × IsRead words (Ok request)
+    ⊎ ((request : Request) × IsRead words (Ok (Once request))
     × IsNotedFrom request held left before after text note ended)
 
 -- ---- texts with notes

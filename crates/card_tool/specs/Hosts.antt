@@ -8,7 +8,7 @@ use Rattle.card_words.specs.Texts.{fault_text}
 use Rattle.card_words.specs.Words.{AskForLines}
 use Rattle.card_words.specs.declared.fault.Fault.{Fault}
 use Rattle.card_words.specs.declared.fault.Fault.TheVariants.{Memory, Words}
-use Rattle.card_words.specs.declared.request.Expected.{Expected}
+use Rattle.card_words.specs.declared.request.Task.{Task}
 use Rattle.card_kinds.specs.declared.status.Status.{Status}
 use Rattle.card_kinds.specs.declared.status.Status.TheVariants as status
 use Rattle.card_tool.specs.Answers.{IsWritten, Writes}
@@ -24,8 +24,8 @@ pub record Runs (words : List (List ℕ)) (held left : Option (List ℕ)) (befor
     (unwritten failures : ℕ) (ended : Status) : Type 0 where
   pub written : AskForNoLines words
       → Writes (IsRightWith words held left before after) old new unwritten failures ended
-  pub lines : (expected : Expected) → AskForLines expected words
-      → WritesLines expected held left before after old new unwritten failures ended
+  pub lines : (task : Task) → AskForLines task words
+      → WritesLines task held left before after old new unwritten failures ended
 
 -- The text that is written and the status belong together: both are those of some words, or of a fault without any.
 pub data Does (held left : Option (List ℕ)) (before after : ℕ) (old new : Option (List ℕ)) (unwritten failures : ℕ)

@@ -4,14 +4,14 @@
 //! the crate explainer; where memory for it is refused it is left out.
 
 ghost use Rattle.std.specs.Prelude.{◌≡◌, ◌++◌, List, ℕ, IfOk, string_bytes};
-ghost use Rattle.card_tool.specs.Answers.{HasOneText, IsReadFrom, IsRight, IsRightTo};
+ghost use Rattle.card_tool.specs.Answers.{IsReadFrom, IsRight, IsRightTo};
 ghost use Rattle.card_tool.specs.Explained.{GivesExplained, IsAdded, IsFaulted, IsFaultNote, IsNoted, IsNotedTo, IsSimulationNote};
 ghost use Rattle.card_tool.specs.Files.{IsBegun};
 ghost use Rattle.card_words.specs.Words.{texts, AskForFile, IsSized, NeedsFile};
 
 use crate::exchange::{migrated_with_note, replayed_with_note};
 use crate::file::{LARGEST_FILE, octets_given, read_whole};
-use crate::judged::{checked, filled, shown, tidied};
+use crate::judged::{answer_with_note, filled, tidied};
 use crate::program::answer_to;
 use crate::simulation;
 use card_kinds::{Answer, Status};
@@ -29,7 +29,6 @@ pub(crate) fn explained<R: Source>(
 ) -> Result<Answer, Fault>
     requires read { IsReadFrom (texts words.now) read }
     requires sized { IfOk read IsSized }
-    requires one { IfOk read HasOneText }
     ensures told { GivesExplained
         (IsRight (texts words.now) (R.remaining reader.old) (R.remaining reader.new)
         (R.failures reader.old) (R.failures reader.new))
@@ -53,7 +52,6 @@ fn answered<R: Source>(
 ) -> Result<Answer, Fault>
     requires read { IsReadFrom (texts words.now) read }
     requires sized { IfOk read IsSized }
-    requires one { IfOk read HasOneText }
     ensures told { GivesExplained
         (IsRight (texts words.now) (R.remaining reader.old) (R.remaining reader.new)
         (R.failures reader.old) (R.failures reader.new))
@@ -74,7 +72,6 @@ fn answered_to<R: Source>(
     reader: &mut R,
 ) -> Result<Answer, Fault>
     requires sized { IsSized request }
-    requires one { HasOneText request }
     ensures told { GivesExplained
         (IsRightTo request (R.remaining reader.old) (R.remaining reader.new) (R.failures reader.old)
         (R.failures reader.new))
@@ -84,14 +81,9 @@ fn answered_to<R: Source>(
     ensures few { IsBegun (R.remaining reader.old) (R.remaining reader.new) 4194305 }
 {
     match request {
-        Request::Check(input) => {
-            let octets = octets_given(alloc, input.given, reader)?;
-            let judged = checked(alloc, input.expected, octets.get())?;
-            Ok(noted(judged.answer, judged.note))
-        }
-        Request::Show(input) => {
-            let octets = octets_given(alloc, input.given, reader)?;
-            let judged = shown(alloc, input.expected, octets.get())?;
+        Request::Tell(task, given) => {
+            let octets = octets_given(alloc, given, reader)?;
+            let judged = answer_with_note(alloc, task, octets.get())?;
             Ok(noted(judged.answer, judged.note))
         }
         Request::BuildTidy(given) => {
@@ -114,7 +106,6 @@ fn exchange_explained<R: Source>(
     reader: &mut R,
 ) -> Result<Answer, Fault>
     requires sized { IsSized request }
-    requires one { HasOneText request }
     ensures told { GivesExplained
         (IsRightTo request (R.remaining reader.old) (R.remaining reader.new) (R.failures reader.old)
         (R.failures reader.new))

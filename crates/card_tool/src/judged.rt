@@ -6,6 +6,7 @@ ghost use Rattle.card_kinds.specs.ForestTexts.{forest_codec};
 ghost use Rattle.card_kinds.specs.ListTexts.{list_codec};
 ghost use Rattle.card_kinds.specs.Texts.{accepted_text};
 ghost use Rattle.card_kinds.specs.Verdicts.{Checks, IsFilled, Shows, Tells, Tidies};
+ghost use Rattle.card_tool.specs.Answers.{IsTold};
 ghost use Rattle.card_tool.specs.Explained.{IsFillNote};
 ghost use Rattle.card_tool.specs.Judged.{AreOf, IsKindNote, IsNoteBy};
 
@@ -13,10 +14,10 @@ use apdu_core::{Command, Response};
 use atr_core::Atr;
 use block_core::Block;
 use card_kinds::{
-    Answer, Codec, Judged, Verdict, check_with_verdict, fill_with_verdict, show_with_verdict,
-    tidy_with_verdict,
+    Answer, Codec, Judged, Verdict, check, check_with_verdict, fill_with_verdict, show,
+    show_with_verdict, tidy_with_verdict,
 };
-use card_words::{Expected, Fault, Kind, Knowns};
+use card_words::{Aim, Expected, Fault, Kind, Knowns, Task};
 use chain_core::Receiver;
 use explainer::{Explained, known_note, least_wanting, verdict_note};
 use std::alloc::{AllocError, Global};
@@ -29,12 +30,37 @@ pub(crate) struct WithNote {
     pub(crate) note: Result<String, AllocError>,
 }
 
-/// How many octets the value takes, with a note.
-pub(crate) fn checked(
+/// What is told of octets.
+pub(crate) fn answer_about(alloc: Global, task: Task, octets: &[u8]) -> Result<Answer, AllocError>
+    requires least { 1 ≤ task.expected.ifs }
+    requires most { task.expected.ifs ≤ 254 }
+    ensures { IfOk result (λ answer. IsTold task octets.now answer.text answer.status) }
+{
+    match task.aim {
+        Aim::Check => check(alloc, task.expected, octets),
+        Aim::Show => show(alloc, task.expected, octets),
+    }
+}
+
+/// The same, with a note.
+pub(crate) fn answer_with_note(
     alloc: Global,
-    expected: Expected,
+    task: Task,
     octets: &[u8],
 ) -> Result<WithNote, AllocError>
+    requires least { 1 ≤ task.expected.ifs }
+    requires most { task.expected.ifs ≤ 254 }
+    ensures { IfOk result (AreOf (IsTold task octets.now)
+        (IsKindNote task.expected.kind task.expected octets.now)) }
+{
+    match task.aim {
+        Aim::Check => checked(alloc, task.expected, octets),
+        Aim::Show => shown(alloc, task.expected, octets),
+    }
+}
+
+/// How many octets the value takes, with a note.
+fn checked(alloc: Global, expected: Expected, octets: &[u8]) -> Result<WithNote, AllocError>
     requires least { 1 ≤ expected.ifs }
     requires most { expected.ifs ≤ 254 }
     ensures { IfOk result (AreOf (Checks expected.kind expected octets.now)
@@ -52,11 +78,7 @@ pub(crate) fn checked(
 }
 
 /// The value itself, with a note.
-pub(crate) fn shown(
-    alloc: Global,
-    expected: Expected,
-    octets: &[u8],
-) -> Result<WithNote, AllocError>
+fn shown(alloc: Global, expected: Expected, octets: &[u8]) -> Result<WithNote, AllocError>
     requires least { 1 ≤ expected.ifs }
     requires most { expected.ifs ≤ 254 }
     ensures { IfOk result (AreOf (Shows expected.kind expected octets.now)

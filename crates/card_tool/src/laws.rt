@@ -6,27 +6,27 @@ ghost use Rattle.clap.specs.Words.{fault_of};
 ghost use Rattle.clap.specs.declared.error.kind.ErrorKind.TheVariants.{DisplayHelp};
 ghost use Rattle.octet_core.specs.Failures.{most_failures};
 ghost use Rattle.octet_core.specs.Octets.{AreOctets};
-ghost use Rattle.card_tool.specs.Answers.{IsAnswer, IsAnswerTo};
+ghost use Rattle.card_tool.specs.Answers.{IsAnswer, IsAnswerAsked};
 ghost use Rattle.card_tool.specs.Conversations.{Event};
 ghost use Rattle.card_tool.specs.Files.{file_of, ReadsWhole};
 ghost use Rattle.card_tool.specs.LineAnswers.{AnswersLines, heard_by, IsHearing, IsUpToDate, told_by};
-ghost use Rattle.card_words.specs.Words.{scard, AskForOctets, HasOctets, IsSized, NeedsOctets};
+ghost use Rattle.card_words.specs.Words.{scard, AreSized, AskForOctets, HaveOctets, IsOnce, NeedsOctets};
 ghost use Rattle.card_words.specs.declared.fault.Fault.{Fault as AnyFault};
 ghost use Rattle.card_words.specs.declared.fault.Fault.TheVariants.{Memory};
-ghost use Rattle.card_words.specs.declared.request.Expected.{Expected as AnyExpected};
-ghost use Rattle.card_words.specs.declared.request.Request.{Request as AnyRequest};
+ghost use Rattle.card_words.specs.declared.request.Asked.{Asked as AnyAsked};
+ghost use Rattle.card_words.specs.declared.request.Task.{Task as AnyTask};
 ghost use Rattle.card_kinds.specs.declared.status.Status.{Status as AnyStatus};
 
-/// Every request has one text and one status, and no other, with what reading standard input gave. What is
+/// What is asked for has one text and one status, and no other, with what reading standard input gave. What is
 /// taken as it was read has to be octets.
 pub fn one_answer()
-    ensures some { (request : AnyRequest) (file : Result (List ℕ) AnyFault) → IsSized request
-        → HasOctets request → (NeedsOctets request → IfOk file AreOctets) → (text : List ℕ)
-        × (ended : AnyStatus) × IsAnswerTo request file text ended }
-    ensures one { (request : AnyRequest) (file : Result (List ℕ) AnyFault) (text other : List ℕ)
-        (ended different : AnyStatus) → IsSized request → HasOctets request
-        → (NeedsOctets request → IfOk file AreOctets)
-        → IsAnswerTo request file text ended → IsAnswerTo request file other different → (text ≡ other) × (ended ≡ different) }
+    ensures some { (asked : AnyAsked) (file : Result (List ℕ) AnyFault) → AreSized asked
+        → HaveOctets asked → (IsOnce NeedsOctets asked → IfOk file AreOctets) → (text : List ℕ)
+        × (ended : AnyStatus) × IsAnswerAsked asked file text ended }
+    ensures one { (asked : AnyAsked) (file : Result (List ℕ) AnyFault) (text other : List ℕ)
+        (ended different : AnyStatus) → AreSized asked → HaveOctets asked
+        → (IsOnce NeedsOctets asked → IfOk file AreOctets)
+        → IsAnswerAsked asked file text ended → IsAnswerAsked asked file other different → (text ≡ other) × (ended ≡ different) }
 {}
 
 /// Every list of words has a text and a status, and no other, but where `clap` answers a call for help:
@@ -52,8 +52,8 @@ pub fn one_file()
 /// Wherever more is heard in a conversation about lines, the texts that were told before are the answers to all lines
 /// that the octets heard before end, and nothing else.
 pub fn answered_first()
-    ensures { (expected : AnyExpected) (events before after : List Event) (event : Event)
-        (ended : AnyStatus) → AnswersLines expected [] [] events ended
+    ensures { (task : AnyTask) (events before after : List Event) (event : Event)
+        (ended : AnyStatus) → AnswersLines task [] [] events ended
         → events ≡ before ++ (event ∷ after) → IsHearing event
-        → IsUpToDate expected (heard_by before) (told_by before) }
+        → IsUpToDate task (heard_by before) (told_by before) }
 {}

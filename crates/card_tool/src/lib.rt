@@ -1,10 +1,11 @@
 //! The program `scard` as a function of its words and of a reader: all that the program does. `serve` takes
 //! the words from the system.
 //!
-//! card_words reads what a command line asks for into a `Request`. `answer_to` makes the text and the status
-//! that a request has, by card_kinds for octets, and by a module for files of recorded exchanges, which `read_whole`
-//! reads, and one for simulated sessions, and `run` writes that text. What the text is, is said by
-//! definitions: `IsAnswer` in `specs/Answers.antt`, over card_words' `IsRead`. What exchange_core gives stands
+//! card_words reads what a command line asks for: one text, by a `Request`, or what is told of each line of standard
+//! input, which `answer_lines` answers. `answer_to` makes the text and the status that a request has, by card_kinds for
+//! octets, and by a module for files of recorded exchanges, which `read_whole` reads, and one for simulated sessions,
+//! and `run` writes that text. What the text is, is said by definitions: `IsAnswer` in `specs/Answers.antt`, over
+//! card_words' `IsRead`. What exchange_core gives stands
 //! at the root too.
 #![tactic(auto)]
 
@@ -21,7 +22,7 @@ pub mod program;
 mod simulation;
 
 pub use card_kinds::Status;
-pub use card_words::{Expected, Fault};
+pub use card_words::{Aim, Expected, Fault, Task};
 pub use conversation::{Conversation, Streams};
 pub use exchange_core::{
     Arrival, Exchange, ExchangeFault, Line, Lines, ReplayFault, Side, Version, migrate,

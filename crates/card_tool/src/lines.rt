@@ -1,19 +1,20 @@
-//! Lines of octets, each of which is checked and answered as it comes.
+//! Lines of octets, each of which is answered as it comes.
 
 ghost use Rattle.std.specs.Prelude.{◌≡◌, ◌≤◌, ◌++◌, ◌∷◌, [], ℕ, List, IfOk, IfErr, OnOk, OnErr};
-ghost use Rattle.card_tool.specs.Answers.{AreLinesTold, IsLineTold};
+ghost use Rattle.card_tool.specs.Answers.{line_end, AreLinesTold, IsLineTold, IsTold, IsToldOf};
 ghost use Rattle.card_tool.specs.Conversations.{Event, Happens, told, untold};
 ghost use Rattle.card_tool.specs.LineAnswers.{AreTelling, HasAnswered, HasBegun, HasSaid, IsRest, Tells, WritesLines};
-ghost use Rattle.card_tool.specs.Lines.{all_lines, ended_lines, worse};
+ghost use Rattle.card_tool.specs.Lines.{all_lines, ended_lines, line_octets, worse};
 ghost use Rattle.card_kinds.specs.declared.status.Status.TheVariants as ended;
 ghost use Rattle.card_words.specs.Texts.{fault_text};
 ghost use Rattle.card_kinds.specs.declared.status.Status.{Status as AnyStatus};
 
 use crate::conversation::{Conversation, Streams};
 use crate::file::LARGEST_FILE;
-use card_kinds::{Answer, Status, check};
-use card_words::{Expected, Fault, loose_octets};
-use octet_core::{Sink, Source, WriteFault};
+use crate::judged::answer_about;
+use card_kinds::{Answer, Status};
+use card_words::{Aim, Fault, Task, loose_octets};
+use octet_core::{Octets, Sink, Source, WriteFault};
 use std::alloc::{AllocError, Global};
 
 /// How many octets are read by one call at most.
@@ -22,7 +23,7 @@ const PIECE: usize = 8_192;
 /// What is kept between two calls of the reader.
 #[derive(Drop)]
 struct Told {
-    expected: Expected,
+    task: Task,
     /// The octets of the line under way, but no more than one past the limit.
     line: Vec<u8>,
     /// What is still to be told.
@@ -31,24 +32,21 @@ struct Told {
     status: Status,
 }
 
-/// Answers each line that is heard by a line: a line that `\n` ends before more is heard, and a last one, where it has
-/// octets, at the end of the input. Nothing else is told, but for the line of a fault as the last: `fault: read` where
-/// a call to hear more failed, `fault: memory` where a growth of memory was refused, and `fault: too large` after
-/// 2<sup>64</sup> - 1 octets.
+/// Answers each line that is heard by what the task tells of it: a line that `\n` ends before more is heard, and a last
+/// one, where it has octets, at the end of the input. The answer of a check is one line, and that of a value its lines
+/// and an empty one. Nothing else is told, but for the line of a fault as the last: `fault: read` where a call to hear
+/// more failed, `fault: memory` where a growth of memory was refused, and `fault: too large` after 2<sup>64</sup> - 1
+/// octets.
 ///
 /// `run` does so with a reader and a writer, as [`Streams`](crate::Streams), where words ask for the lines of standard
 /// input.
-pub fn answer_lines<C: Conversation>(
-    alloc: Global,
-    expected: Expected,
-    conversation: &mut C,
-) -> Status
-    requires least { 1 ≤ expected.ifs }
-    requires most { expected.ifs ≤ 254 }
-    ensures { HasAnswered expected (C.said conversation.old) (C.said conversation.new) result }
+pub fn answer_lines<C: Conversation>(alloc: Global, task: Task, conversation: &mut C) -> Status
+    requires least { 1 ≤ task.expected.ifs }
+    requires most { task.expected.ifs ≤ 254 }
+    ensures { HasAnswered task (C.said conversation.old) (C.said conversation.new) result }
 {
     let mut told = Told {
-        expected,
+        task,
         line: Vec::new(alloc),
         text: Vec::new(alloc),
         status: Status::Accepted,
@@ -72,20 +70,20 @@ pub fn answer_lines<C: Conversation>(
 }
 
 /// Answers each line of the reader by a line, before the next call of the reader.
-pub(crate) fn check_lines<R: Source, W: Sink>(
+pub(crate) fn tell_lines<R: Source, W: Sink>(
     alloc: Global,
-    expected: Expected,
+    task: Task,
     reader: &mut R,
     writer: &mut W,
 ) -> Status
-    requires least { 1 ≤ expected.ifs }
-    requires most { expected.ifs ≤ 254 }
-    ensures { WritesLines expected (R.remaining reader.old) (R.remaining reader.new)
+    requires least { 1 ≤ task.expected.ifs }
+    requires most { task.expected.ifs ≤ 254 }
+    ensures { WritesLines task (R.remaining reader.old) (R.remaining reader.new)
         (R.failures reader.old) (R.failures reader.new) (W.contents writer.old)
         (W.contents writer.new) (W.failures writer.old) (W.failures writer.new) result }
 {
     let mut streams = Streams { reader, writer };
-    answer_lines(alloc, expected, &mut streams)
+    answer_lines(alloc, task, &mut streams)
 }
 
 /// Tells the text that was kept, and empties it.
@@ -122,18 +120,18 @@ fn tell<C: Conversation>(text: &[u8], status: Status, conversation: &mut C) -> S
 impl Told {
     /// Takes the octets of a piece, and answers the lines that end in it.
     fn feed(&mut self, alloc: Global, piece: &[u8]) -> Result<(), AllocError>
-        requires least { 1 ≤ self.old.expected.ifs }
-        requires most { self.old.expected.ifs ≤ 254 }
-        ensures expected { self.new.expected ≡ self.old.expected }
+        requires least { 1 ≤ self.old.task.expected.ifs }
+        requires most { self.old.task.expected.ifs ≤ 254 }
+        ensures task { self.new.task ≡ self.old.task }
         ensures said { OnOk result
             ((read written : List ℕ)
-            → HasSaid self.old.expected read written self.old.line.items self.old.text.items
-            self.old.status → HasSaid self.old.expected (read ++ piece.now) written
+            → HasSaid self.old.task read written self.old.line.items self.old.text.items
+            self.old.status → HasSaid self.old.task (read ++ piece.now) written
             self.new.line.items self.new.text.items self.new.status) }
         ensures begun { OnErr result
             ((read written : List ℕ)
-            → HasSaid self.old.expected read written self.old.line.items self.old.text.items
-            self.old.status → HasBegun self.old.expected (ended_lines (read ++ piece.now))
+            → HasSaid self.old.task read written self.old.line.items self.old.text.items
+            self.old.status → HasBegun self.old.task (ended_lines (read ++ piece.now))
             (written ++ self.new.text.items)) }
     {
         for octet in piece {
@@ -144,13 +142,13 @@ impl Told {
 
     /// Takes an octet, and answers the line that it ends.
     fn take(&mut self, alloc: Global, octet: u8) -> Result<(), AllocError>
-        requires least { 1 ≤ self.old.expected.ifs }
-        requires most { self.old.expected.ifs ≤ 254 }
-        ensures expected { self.new.expected ≡ self.old.expected }
+        requires least { 1 ≤ self.old.task.expected.ifs }
+        requires most { self.old.task.expected.ifs ≤ 254 }
+        ensures task { self.new.task ≡ self.old.task }
         ensures said { OnOk result
             ((read written : List ℕ)
-            → HasSaid self.old.expected read written self.old.line.items self.old.text.items
-            self.old.status → HasSaid self.old.expected (read ++ (octet ∷ [])) written
+            → HasSaid self.old.task read written self.old.line.items self.old.text.items
+            self.old.status → HasSaid self.old.task (read ++ (octet ∷ [])) written
             self.new.line.items self.new.text.items self.new.status) }
         ensures kept { OnErr result (self.new.text.items ≡ self.old.text.items) }
     {
@@ -165,18 +163,18 @@ impl Told {
 
     /// Answers the line under way, and begins another.
     fn answer(&mut self, alloc: Global) -> Result<(), AllocError>
-        requires least { 1 ≤ self.old.expected.ifs }
-        requires most { self.old.expected.ifs ≤ 254 }
-        ensures expected { self.new.expected ≡ self.old.expected }
+        requires least { 1 ≤ self.old.task.expected.ifs }
+        requires most { self.old.task.expected.ifs ≤ 254 }
+        ensures task { self.new.task ≡ self.old.task }
         ensures told { OnOk result
             ((text : List ℕ) × (ended : AnyStatus)
-            × IsLineTold self.old.expected self.old.line.items text ended
+            × IsLineTold self.old.task self.old.line.items text ended
             × (self.new.text.items ≡ self.old.text.items ++ text)
             × (self.new.status ≡ worse self.old.status ended)) }
         ensures line { OnOk result (self.new.line.items ≡ []) }
         ensures kept { OnErr result (self.new.text.items ≡ self.old.text.items) }
     {
-        let answer = line_answer(alloc, self.expected, self.line.as_slice())?;
+        let answer = line_answer(alloc, self.task, self.line.as_slice())?;
         self.text.extend_from_slice(answer.text.get())?;
         self.status = worse(self.status, answer.status);
         self.line.clear();
@@ -185,12 +183,12 @@ impl Told {
 
     /// Answers the last line, where it has octets: it needs no end.
     fn last(&mut self, alloc: Global) -> Result<(), AllocError>
-        requires least { 1 ≤ self.old.expected.ifs }
-        requires most { self.old.expected.ifs ≤ 254 }
+        requires least { 1 ≤ self.old.task.expected.ifs }
+        requires most { self.old.task.expected.ifs ≤ 254 }
         ensures told { OnOk result
             ((read written : List ℕ)
-            → HasSaid self.old.expected read written self.old.line.items self.old.text.items
-            self.old.status → AreLinesTold self.old.expected (all_lines read)
+            → HasSaid self.old.task read written self.old.line.items self.old.text.items
+            self.old.status → AreLinesTold self.old.task (all_lines read)
             (written ++ self.new.text.items) self.new.status) }
         ensures kept { OnErr result (self.new.text.items ≡ self.old.text.items) }
     {
@@ -202,11 +200,11 @@ impl Told {
 
     /// Answers the last line, and tells what is left.
     fn ended<C: Conversation>(mut self, alloc: Global, conversation: &mut C) -> Status
-        requires least { 1 ≤ self.expected.ifs }
-        requires most { self.expected.ifs ≤ 254 }
+        requires least { 1 ≤ self.task.expected.ifs }
+        requires most { self.task.expected.ifs ≤ 254 }
         ensures { (read written : List ℕ)
-            → HasSaid self.expected read written self.line.items self.text.items self.status
-            → Tells (IsRest self.expected (all_lines read) written) (C.said conversation.old)
+            → HasSaid self.task read written self.line.items self.text.items self.status
+            → Tells (IsRest self.task (all_lines read) written) (C.said conversation.old)
             (C.said conversation.new) result }
     {
         match self.last(alloc) {
@@ -228,19 +226,45 @@ impl Told {
     }
 }
 
-/// The line that a line of octets is answered by.
-fn line_answer(alloc: Global, expected: Expected, line: &[u8]) -> Result<Answer, AllocError>
-    requires least { 1 ≤ expected.ifs }
-    requires most { expected.ifs ≤ 254 }
-    ensures { IfOk result (λ answer. IsLineTold expected line.now answer.text answer.status) }
+/// What a line of octets is answered by.
+fn line_answer(alloc: Global, task: Task, line: &[u8]) -> Result<Answer, AllocError>
+    requires least { 1 ≤ task.expected.ifs }
+    requires most { task.expected.ifs ≤ 254 }
+    ensures { IfOk result (λ answer. IsLineTold task line.now answer.text answer.status) }
+{
+    let Answer { text, status } = line_told(alloc, task, line)?;
+    let mut text = text.into_inner();
+    text.extend_from_slice(line_end(task.aim).as_bytes())?;
+    Ok(Answer {
+        text: Octets::of(text),
+        status,
+    })
+}
+
+/// What is told of a line of octets.
+fn line_told(alloc: Global, task: Task, line: &[u8]) -> Result<Answer, AllocError>
+    requires least { 1 ≤ task.expected.ifs }
+    requires most { task.expected.ifs ≤ 254 }
+    ensures { IfOk result (λ answer.
+        IsToldOf (IsTold task) (line_octets line.now) answer.text answer.status) }
 {
     if line.len() > LARGEST_FILE {
         return Answer::faulted(alloc, Fault::TooLarge);
     }
     match loose_octets(alloc, line) {
-        Ok(octets) => check(alloc, expected, octets.get()),
+        Ok(octets) => answer_about(alloc, task, octets.get()),
         Err(Fault::Memory) => Err(AllocError),
         Err(fault) => Answer::faulted(alloc, fault),
+    }
+}
+
+/// What comes after the answer to a line: an empty line after a value, which has several.
+fn line_end(aim: Aim) -> &'static str
+    ensures { result.now ≡ line_end aim }
+{
+    match aim {
+        Aim::Check => "",
+        Aim::Show => "\n",
     }
 }
 

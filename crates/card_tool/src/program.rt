@@ -1,22 +1,22 @@
 //! The program: from its words to the text that it writes.
 
-ghost use Rattle.std.specs.Prelude.{◌≡◌, IfOk, IfErr};
-ghost use Rattle.card_tool.specs.Answers.{AnswersTo, Gives, HasOneText, IsReadFrom, IsWritten, Writes};
+ghost use Rattle.std.specs.Prelude.{◌≡◌, IfOk};
+ghost use Rattle.card_tool.specs.Answers.{AnswersTo, Gives, IsReadFrom, IsWritten, Writes};
 ghost use Rattle.card_tool.specs.Explained.{IsRightWith};
 ghost use Rattle.card_tool.specs.Files.{IsBegun};
 ghost use Rattle.card_tool.specs.LineAnswers.{AskForNoLines, WritesLines};
 ghost use Rattle.card_words.specs.Texts.{fault_text};
 ghost use Rattle.card_words.specs.Words.{texts, AskForFile, AskForLines, IsSized, NeedsFile};
-ghost use Rattle.card_words.specs.declared.request.Expected.{Expected as AnyExpected};
-ghost use Rattle.card_words.specs.declared.request.Request.TheVariants.{CheckLines};
+ghost use Rattle.card_words.specs.declared.request.Task.{Task as AnyTask};
 ghost use Rattle.card_kinds.specs.declared.status.Status.TheVariants as ended;
 
 use crate::explained::explained;
 use crate::file::{octets_given, read_whole};
-use crate::lines::check_lines;
+use crate::judged::answer_about;
+use crate::lines::tell_lines;
 use crate::{exchange, simulation};
-use card_kinds::{Answer, Status, blocks, check, fill, show, tidy};
-use card_words::{Expected, Fault, Request, asks_to_explain};
+use card_kinds::{Answer, Status, blocks, fill, tidy};
+use card_words::{Asked, Fault, Request, VERSION_LINE, asks_to_explain};
 use octet_core::{Sink, Source, write_octets};
 use std::alloc::{AllocError, Global};
 
@@ -28,8 +28,8 @@ use std::alloc::{AllocError, Global};
 /// for octets of standard input or for a file of recorded exchanges, to its end, but no further than one
 /// octet past the largest file.
 ///
-/// Where the words ask for the lines of standard input, each is answered by a line before the reader is
-/// called again, however many come; no explanation follows. After a fault of memory or of the reader no
+/// Where the words ask for the lines of standard input, each is answered before the reader is called again,
+/// however many come; no explanation follows. After a fault of memory or of the reader no
 /// more lines are answered.
 pub fn run<R: Source, W: Sink>(
     alloc: Global,
@@ -41,8 +41,8 @@ pub fn run<R: Source, W: Sink>(
         → Writes (IsRightWith (texts words.items) (R.remaining reader.old) (R.remaining reader.new)
         (R.failures reader.old) (R.failures reader.new)) (W.contents writer.old)
         (W.contents writer.new) (W.failures writer.old) (W.failures writer.new) result }
-    ensures lines { (expected : AnyExpected) → AskForLines expected (texts words.items)
-        → WritesLines expected (R.remaining reader.old) (R.remaining reader.new)
+    ensures lines { (task : AnyTask) → AskForLines task (texts words.items)
+        → WritesLines task (R.remaining reader.old) (R.remaining reader.new)
         (R.failures reader.old) (R.failures reader.new) (W.contents writer.old)
         (W.contents writer.new) (W.failures writer.old) (W.failures writer.new) result }
     ensures unread { AskForNoLines (texts words.items) → (AskForFile (texts words.items) → ⊥)
@@ -52,24 +52,10 @@ pub fn run<R: Source, W: Sink>(
 {
     let words = words.as_slice();
     match card_words::read(alloc, words) {
-        Ok(request) => match lines_asked(request) {
-            Ok(expected) => check_lines(alloc, expected, reader, writer),
-            Err(request) => one_text(alloc, words, Ok(request), reader, writer),
-        },
+        Ok(Asked::Lines(task)) => tell_lines(alloc, task, reader, writer),
+        Ok(Asked::Once(request)) => one_text(alloc, words, Ok(request), reader, writer),
         Err(Fault::Memory) => report(Fault::Memory, writer),
         Err(fault) => one_text(alloc, words, Err(fault), reader, writer),
-    }
-}
-
-/// What the lines are taken for that a request asks for, or the request back.
-fn lines_asked(request: Request) -> Result<Expected, Request>
-    ensures lines { IfOk result (λ expected. request ≡ CheckLines expected) }
-    ensures same { IfErr result (λ same. request ≡ same) }
-    ensures one { IfErr result HasOneText }
-{
-    match request {
-        Request::CheckLines(expected) => Ok(expected),
-        other => Err(other),
     }
 }
 
@@ -83,7 +69,6 @@ fn one_text<R: Source, W: Sink>(
 ) -> Status
     requires read { IsReadFrom (texts words.now) read }
     requires sized { IfOk read IsSized }
-    requires one { IfOk read HasOneText }
     ensures written { Writes (IsRightWith (texts words.now) (R.remaining reader.old)
         (R.remaining reader.new) (R.failures reader.old) (R.failures reader.new))
         (W.contents writer.old) (W.contents writer.new) (W.failures writer.old)
@@ -125,7 +110,6 @@ fn answer_as_asked<R: Source>(
 ) -> Result<Answer, Fault>
     requires read { IsReadFrom (texts words.now) read }
     requires sized { IfOk read IsSized }
-    requires one { IfOk read HasOneText }
     ensures told { Gives (IsRightWith (texts words.now) (R.remaining reader.old)
         (R.remaining reader.new) (R.failures reader.old) (R.failures reader.new)) result }
     ensures unread { (AskForFile (texts words.now) → ⊥) → reader.new ≡ reader.old }
@@ -145,21 +129,15 @@ pub(crate) fn answer_to<R: Source>(
     reader: &mut R,
 ) -> Result<Answer, Fault>
     requires sized { IsSized request }
-    requires one { HasOneText request }
     ensures told { AnswersTo request (R.remaining reader.old) (R.remaining reader.new)
         (R.failures reader.old) (R.failures reader.new) result }
     ensures unread { (NeedsFile request → ⊥) → reader.new ≡ reader.old }
     ensures few { IsBegun (R.remaining reader.old) (R.remaining reader.new) 4194305 }
 {
     match request {
-        Request::Check(input) => {
-            let octets = octets_given(alloc, input.given, reader)?;
-            Ok(check(alloc, input.expected, octets.get())?)
-        }
-        Request::CheckLines(_) => unreachable!(),
-        Request::Show(input) => {
-            let octets = octets_given(alloc, input.given, reader)?;
-            Ok(show(alloc, input.expected, octets.get())?)
+        Request::Tell(task, given) => {
+            let octets = octets_given(alloc, given, reader)?;
+            Ok(answer_about(alloc, task, octets.get())?)
         }
         Request::BuildChain {
             ifs,
@@ -184,5 +162,6 @@ pub(crate) fn answer_to<R: Source>(
         }
         Request::Simulate(session) => Ok(simulation::simulated(alloc, &session)?),
         Request::Help(text) => Ok(Answer::told(text.into_inner())),
+        Request::Version => Ok(Answer::told(String::from_str(alloc, VERSION_LINE)?)),
     }
 }

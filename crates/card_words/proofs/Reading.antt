@@ -20,10 +20,11 @@ use Rattle.clap.specs.declared.error.kind.ErrorKind.{ErrorKind}
 use Rattle.clap.specs.declared.error.kind.ErrorKind.TheVariants.{DisplayHelp, OutOfMemory}
 use Rattle.block_core.specs.declared.pcb.Number.{Number}
 use Rattle.block_core.specs.declared.pcb.Number.TheVariants.{Zero, One}
-use Rattle.card_words.specs.declared.request.Request.{Request}
+use Rattle.card_words.specs.declared.request.Asked.{Asked}
 use Rattle.card_words.specs.declared.request.Request.TheVariants.{BuildChain}
 use Rattle.card_words.specs.Faults.{fault_of_hex}
 use Rattle.card_words.specs.Value.{hex_octets, octets_of_word, UnlessMemory}
+use Rattle.card_words.specs.Version.{asks_for_version}
 use Rattle.card_words.specs.Words.{byte_or, chain_by, chain_of, number_of_word, scard, size_of, IsHelpOrFault, IsRead, called_for_help, not_taken}
 use Rattle.card_words.specs.declared.fault.Fault.{Fault}
 use Rattle.card_words.specs.declared.fault.Fault.TheVariants.{Words, Hex, Memory}
@@ -75,17 +76,18 @@ fails-err kinds (Ok x) h = tt
 fails-err kinds (Err e) h = h
 
 -- what a failed parse comes to by its kind is what the words are read as, or memory ran out
-pub help-or-fault : (words : List (List ℕ)) (kind : ErrorKind) (read : Result Request Fault) → (kind ≡ OutOfMemory)
-    ⊎ IsAmong kind (fault_of scard words) → IsHelpOrFault kind read → (read ≡ Err Memory) ⊎ IsRead words read
-help-or-fault words OutOfMemory read known h = inl h
-help-or-fault words DisplayHelp read (inl e) h = absurd (cc)
-help-or-fault words DisplayHelp read (inr among) h =
+pub help-or-fault : (words : List (List ℕ)) (kind : ErrorKind) (read : Result Asked Fault)
+    → asks_for_version words ≡ false → (kind ≡ OutOfMemory) ⊎ IsAmong kind (fault_of scard words)
+    → IsHelpOrFault kind read → (read ≡ Err Memory) ⊎ IsRead words read
+help-or-fault words OutOfMemory read other known h = inl h
+help-or-fault words DisplayHelp read other (inl e) h = absurd (cc)
+help-or-fault words DisplayHelp read other (inr among) h =
     elim h [
       | inl memory ↦ inl memory
-      | inr help ↦ inr (called_for_help among help.0 help.1)
+      | inr help ↦ inr (called_for_help other among help.0 help.1)
     ]
-help-or-fault words kind read (inl e) h = absurd (cc)
-help-or-fault words kind read (inr among) h = inr (not_taken (kind, among, λ e. cc) h)
+help-or-fault words kind read other (inl e) h = absurd (cc)
+help-or-fault words kind read other (inr among) h = inr (not_taken other (kind, among, λ e. cc) h)
 
 -- a word for 0 says the number zero
 pub number-zero : (word : List ℕ) (n : ℕ) → n ≡ byte_or 2 word → n ≡ 0 → Ok Zero ≡ number_of_word word

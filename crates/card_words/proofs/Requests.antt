@@ -11,16 +11,20 @@ use Rattle.octet_core.specs.Octets.{AreOctets}
 use Rattle.card_words.specs.Given.{asks_for_lines, form_of, given_of, GivesOctets}
 use Rattle.card_words.specs.Session.{blocks_of, pair_of, pairs_of, AreOctetPairs, IsSize}
 use Rattle.card_words.specs.Value.{◌>>=◌, hex_octets, octets_of_word, parted, UnlessMemory}
-use Rattle.card_words.specs.Words.{byte_or, size_of, number_of, number_of_word, needed, kind_of, expected_of, input_of, short_message, check_by, chain_by, chain_of, tidy_of, fill_of, build_words, build_of, end_of_word, replay_of, all_or_none, asked_size, session_of, request_by, request_of, scard, HasOctets, IsRead, IsSized, taken, called_for_help, not_taken}
+use Rattle.card_words.specs.Words.{byte_or, size_of, number_of, number_of_word, needed, kind_of, expected_of, short_message, told_by, told_of, chain_by, chain_of, tidy_of, fill_of, build_words, build_of, end_of_word, replay_of, all_or_none, asked_size, session_of, request_by, asked_by, asked_of, scard, HasOctets, HaveOctets, IsRead, AreSized, IsSized, IsTaskSized, called_for_version, taken, called_for_help, not_taken}
 use Rattle.card_words.specs.declared.fault.Fault.{Fault}
 use Rattle.card_words.specs.declared.fault.Fault.TheVariants.{Words}
 use Rattle.card_words.specs.declared.session.Pair.{Pair}
 use Rattle.card_words.specs.declared.session.Session.{Session}
 use Rattle.card_words.specs.declared.given.Given.{Given}
 use Rattle.card_words.specs.declared.request.Expected.{Expected}
-use Rattle.card_words.specs.declared.request.Input.{Input}
+use Rattle.card_words.specs.declared.request.Aim.{Aim}
+use Rattle.card_words.specs.declared.request.Aim.TheVariants.{Check, Show}
+use Rattle.card_words.specs.declared.request.Task.{Task}
+use Rattle.card_words.specs.declared.request.Asked.{Asked}
+use Rattle.card_words.specs.declared.request.Asked.TheVariants.{Once, Lines}
 use Rattle.card_words.specs.declared.request.Request.{Request}
-use Rattle.card_words.specs.declared.request.Request.TheVariants.{BuildTidy, CheckLines, Migrate, Help}
+use Rattle.card_words.specs.declared.request.Request.TheVariants.{BuildTidy, Migrate, Help, Version}
 
 -- where two steps come to a value, the first comes to one, and from that the second to this
 pub both-steps : {A B : Type 0} (r : Result A Fault) (f : A → Result B Fault) (b : B) → r >>= f ≡ Ok b → (a : A)
@@ -69,6 +73,9 @@ sized (Some word) ifs h = sized-by (byte_or 0 word) ifs (nat_le 1 (byte_or 0 wor
 abbrev IsProper : Request → Type 0
 IsProper request = IsSized request × HasOctets request
 
+abbrev AreProper : Asked → Type 0
+AreProper asked = AreSized asked × HaveOctets asked
+
 expected-sized : (rows : List Row) (expected : Expected) → expected_of rows ≡ Ok expected → (1 ≤ expected.ifs)
     × (expected.ifs ≤ 254)
 expected-sized rows expected h =
@@ -90,26 +97,21 @@ given-octets None (Some word) given h =
 given-octets (Some hex) (Some word) given h = cc h
 given-octets None None given h = cc h
 
-input-proper : (rows : List Row) (input : Input) → input_of rows ≡ Ok input → (1 ≤ input.expected.ifs)
-    × (input.expected.ifs ≤ 254) × GivesOctets input.given
-input-proper rows input h =
-    let expected = both-steps (expected_of rows) _ input h in
-    let given = both-steps (given_of (first_of (codes "hex") rows) (first_of (codes "stdin") rows)) _ input expected.2
-    in
-    let small = expected-sized rows expected.0 expected.1 in
-    let octets = given-octets (first_of (codes "hex") rows) (first_of (codes "stdin") rows) given.0 given.1 in
-    subst (λ (i : Input). (1 ≤ i.expected.ifs) × (i.expected.ifs ≤ 254) × GivesOctets i.given) (same _ input given.2)
-    (small.0, small.1, octets)
-
-check-proper : (expected : Expected) (hex form : Option (List ℕ)) (request : Request) → (1 ≤ expected.ifs)
-    × (expected.ifs ≤ 254) → check_by expected hex form ≡ Ok request → IsProper request
-check-proper expected hex form request small h =
-    elim (one-of (asks_for_lines hex form) (Ok (CheckLines expected)) _ request h) [
-      | inl lines ↦ subst IsProper (same _ request lines) (small, tt)
+told-proper : (task : Task) (hex form : Option (List ℕ)) (asked : Asked) → IsTaskSized task
+    → told_by task hex form ≡ Ok asked → AreProper asked
+told-proper task hex form asked small h =
+    elim (one-of (asks_for_lines hex form) (Ok (Lines task)) _ asked h) [
+      | inl lines ↦ subst AreProper (same _ asked lines) (small, tt)
       | inr other ↦
-          let given = both-steps (given_of hex form) _ request other in
-          subst IsProper (same _ request given.2) (small, given-octets hex form given.0 given.1)
+          let given = both-steps (given_of hex form) _ asked other in
+          subst AreProper (same _ asked given.2) (small, given-octets hex form given.0 given.1)
     ]
+
+aimed-proper : (aim : Aim) (rows : List Row) (asked : Asked) → told_of aim rows ≡ Ok asked → AreProper asked
+aimed-proper aim rows asked h =
+    let expected = both-steps (expected_of rows) _ asked h in
+    told-proper (record { aim = aim; expected = expected.0 }) (first_of (codes "hex") rows)
+    (first_of (codes "stdin") rows) asked (expected-sized rows expected.0 expected.1) expected.2
 
 short-by : (b : List ℕ) (message : List ℕ) (t : Bool) → nat_le (length b) 131072 ≡ t
     → (if t then Ok b else Err Words) ≡ Ok message → (b ≡ message) × (length message ≤ 131072)
@@ -186,9 +188,9 @@ replay-proper rows request h =
     let side = both-steps (end_of_word word.0) _ request word.2 in
     subst IsProper (same _ request side.2) (tt, tt)
 
-asked : (word : Option (List ℕ)) (size : Option ℕ) → asked_size word ≡ Ok size → IsSize size
-asked None size h = subst IsSize (same None size h) tt
-asked (Some word) size h =
+size-asked : (word : Option (List ℕ)) (size : Option ℕ) → asked_size word ≡ Ok size → IsSize size
+size-asked None size h = subst IsSize (same None size h) tt
+size-asked (Some word) size h =
     let one = both-steps (size_of (Some word)) _ size h in
     subst IsSize (same _ size one.2) (sized (Some word) one.0 one.1)
 
@@ -219,64 +221,65 @@ session-proper rows session h =
     let atr = both-steps (octets_of_word atr_word.0) _ session atr_word.2 in
     let pairs = both-steps (pairs_of (all_or_none (all_of (codes "pairs") rows))) _ session atr.2 in
     subst (λ (s : Session). IsSize s.ifsd × AreOctets s.atr × AreOctetPairs s.pairs) (same _ session pairs.2) (
-      asked (first_of (codes "ifsd") rows) ifsd.0 ifsd.1,
+      size-asked (first_of (codes "ifsd") rows) ifsd.0 ifsd.1,
       word-octets atr_word.0 atr.0 atr.1,
       pairs-octets (all_or_none (all_of (codes "pairs") rows)) pairs.0 pairs.1,
     )
 
-named-proper : (name : List ℕ) (rows : List Row) (request : Request) → request_by name rows ≡ Ok request
+request-proper : (name : List ℕ) (rows : List Row) (request : Request) → request_by name rows ≡ Ok request
     → IsProper request
-named-proper name rows request h =
-    elim (one-of (bytes_eq name (codes "check")) _ _ request h) [
-      | inl check ↦
-          let expected = both-steps (expected_of rows) _ request check in
-          check-proper expected.0 (first_of (codes "hex") rows) (first_of (codes "stdin") rows) request
-          (expected-sized rows expected.0 expected.1) expected.2
-      | inr other ↦
-          elim (one-of (bytes_eq name (codes "show")) _ _ request other) [
-            | inl show ↦
-                let input = both-steps (input_of rows) _ request show in
-                let proper = input-proper rows input.0 input.1 in
-                subst IsProper (same _ request input.2) ((proper.0, proper.1), proper.2)
-            | inr rest ↦
-                elim (one-of (bytes_eq name (codes "build")) (build_of rows) _ request rest) [
-                  | inl build ↦ build-proper rows request build
-                  | inr files ↦
-                      elim (one-of (bytes_eq name (codes "replay")) (replay_of rows) _ request files) [
-                        | inl replay ↦ replay-proper rows request replay
-                        | inr last ↦
-                            elim (one-of (bytes_eq name (codes "migrate")) (Ok Migrate) _ request last) [
-                              | inl migrate ↦ subst IsProper (same Migrate request migrate) (tt, tt)
-                              | inr both ↦
-                                  elim (one-of (bytes_eq name (codes "simulate")) _ (Err Words) request both) [
-                                    | inl simulate ↦
-                                        let session = both-steps (session_of rows) _ request simulate in
-                                        let proper = session-proper rows session.0 session.1 in
-                                        subst IsProper (same _ request session.2) (proper.0, (proper.1, proper.2))
-                                    | inr none ↦ cc none
-                                  ]
-                            ]
+request-proper name rows request h =
+    elim (one-of (bytes_eq name (codes "build")) (build_of rows) _ request h) [
+      | inl build ↦ build-proper rows request build
+      | inr files ↦
+          elim (one-of (bytes_eq name (codes "replay")) (replay_of rows) _ request files) [
+            | inl replay ↦ replay-proper rows request replay
+            | inr last ↦
+                elim (one-of (bytes_eq name (codes "migrate")) (Ok Migrate) _ request last) [
+                  | inl migrate ↦ subst IsProper (same Migrate request migrate) (tt, tt)
+                  | inr both ↦
+                      elim (one-of (bytes_eq name (codes "simulate")) _ (Err Words) request both) [
+                        | inl simulate ↦
+                            let session = both-steps (session_of rows) _ request simulate in
+                            let proper = session-proper rows session.0 session.1 in
+                            subst IsProper (same _ request session.2) (proper.0, (proper.1, proper.2))
+                        | inr none ↦ cc none
                       ]
                 ]
           ]
     ]
 
--- in a request that words make, an information size is one, and octets are octets
-pub request-proper : (entered : Option (List ℕ × List Row)) (request : Request) → request_of entered ≡ Ok request
-    → IsSized request × HasOctets request
-request-proper None request h = cc h
-request-proper (Some entered) request h = named-proper entered.0 entered.1 request h
+named-proper : (name : List ℕ) (rows : List Row) (asked : Asked) → asked_by name rows ≡ Ok asked → AreProper asked
+named-proper name rows asked h =
+    elim (one-of (bytes_eq name (codes "check")) (told_of Check rows) _ asked h) [
+      | inl check ↦ aimed-proper Check rows asked check
+      | inr other ↦
+          elim (one-of (bytes_eq name (codes "show")) (told_of Show rows) _ asked other) [
+            | inl show ↦ aimed-proper Show rows asked show
+            | inr rest ↦
+                let request = both-steps (request_by name rows) _ asked rest in
+                subst AreProper (same _ asked request.2) (request-proper name rows request.0 request.1)
+          ]
+    ]
+
+-- in what words ask for, an information size is one, and octets are octets
+pub asked-proper : (entered : Option (List ℕ × List Row)) (asked : Asked) → asked_of entered ≡ Ok asked
+    → AreSized asked × HaveOctets asked
+asked-proper None asked h = cc h
+asked-proper (Some entered) asked h = named-proper entered.0 entered.1 asked h
 
 -- the same of what words are read as
-pub read-proper : (words : List (List ℕ)) (request : Request) → IsRead words (Ok request) → IsSized request
-    × HasOctets request
-read-proper words request (taken free e) = request-proper (subcommand_of scard words) request (sym e)
-read-proper words request (called_for_help among help e) = subst IsProper (sym (same request (Help help) e)) (tt, tt)
-read-proper words request (not_taken other e) = absurd (cc)
+pub read-proper : (words : List (List ℕ)) (asked : Asked) → IsRead words (Ok asked) → AreSized asked
+    × HaveOctets asked
+read-proper words asked (called_for_version version e) = subst AreProper (sym (same asked (Once Version) e)) (tt, tt)
+read-proper words asked (taken are e) = asked-proper (subcommand_of scard words) asked (sym e)
+read-proper words asked (called_for_help parsed among help e) =
+    subst AreProper (sym (same asked (Once (Help help)) e)) (tt, tt)
+read-proper words asked (not_taken parsed other e) = absurd (cc)
 
 -- and what is made of words, unless memory runs out, has octets for its octets
-pub request-octets : (entered : Option (List ℕ × List Row)) (result : Result Request Fault)
-    → UnlessMemory result (request_of entered) → IfOk result HasOctets
-request-octets entered (Ok request) (inl memory) = absurd (cc)
-request-octets entered (Ok request) (inr is) = (request-proper entered request (sym is)).1
-request-octets entered (Err fault) h = tt
+pub asked-octets : (entered : Option (List ℕ × List Row)) (result : Result Asked Fault)
+    → UnlessMemory result (asked_of entered) → IfOk result HaveOctets
+asked-octets entered (Ok asked) (inl memory) = absurd (cc)
+asked-octets entered (Ok asked) (inr is) = (asked-proper entered asked (sym is)).1
+asked-octets entered (Err fault) h = tt

@@ -1,5 +1,5 @@
 -- The words that the program takes, and what they ask for.
-use Rattle.std.specs.Prelude.{◌≡◌, ◌≢◌, ◌⊎◌, ◌&&◌, ◌==◌, ◌≤◌, ℕ, length, nat_le, pos, List, [], ◌∷◌, codes, Option, Some, None, is_some, true, map, String, string_bytes, Result, Ok, Err, MatchResult, if◌then◌else◌}
+use Rattle.std.specs.Prelude.{◌≡◌, ◌≢◌, ◌⊎◌, ◌&&◌, ◌==◌, ◌≤◌, ℕ, length, nat_le, pos, List, [], ◌∷◌, codes, Option, Some, None, is_some, true, false, map, String, string_bytes, Result, Ok, Err, MatchResult, if◌then◌else◌}
 use Rattle.std.specs.Str.{bytes_eq}
 use Rattle.std.specs.declared.alloc.Global.{Global}
 use Rattle.std.specs.Str.Parse.{digits_value, without_leading_plus}
@@ -15,6 +15,7 @@ use Rattle.card_words.specs.Given.{asks_for_lines, given_of, GivesOctets, IsAsRe
 use Rattle.card_words.specs.Known.{knowns_of}
 use Rattle.card_words.specs.Session.{blocks_of, pairs_of, AreOctetPairs, IsSize}
 use Rattle.card_words.specs.Value.{◌>>=◌, octets_of_word}
+use Rattle.card_words.specs.Version.{asks_for_version}
 use Rattle.card_words.specs.declared.fault.Fault.{Fault}
 use Rattle.card_words.specs.declared.fault.Fault.TheVariants.{Words, Memory}
 use Rattle.card_words.specs.declared.request.Kind.{Kind}
@@ -22,10 +23,14 @@ use Rattle.card_words.specs.declared.request.Kind.TheVariants.{Atr, Block, Chain
 use Rattle.card_words.specs.declared.request.End.{End}
 use Rattle.card_words.specs.declared.request.End.TheVariants as end
 use Rattle.card_words.specs.declared.request.Expected.{Expected}
-use Rattle.card_words.specs.declared.request.Input.{Input}
+use Rattle.card_words.specs.declared.request.Aim.{Aim}
+use Rattle.card_words.specs.declared.request.Aim.TheVariants.{Check, Show}
+use Rattle.card_words.specs.declared.request.Task.{Task}
+use Rattle.card_words.specs.declared.request.Asked.{Asked}
+use Rattle.card_words.specs.declared.request.Asked.TheVariants.{Once, Lines}
 use Rattle.card_words.specs.declared.request.Request.{Request}
 use Rattle.card_words.specs.declared.session.Session.{Session}
-use Rattle.card_words.specs.declared.request.Request.TheVariants.{BuildChain, BuildTidy, BuildFill, Check, CheckLines, Show, Replay, Migrate, Simulate, Help}
+use Rattle.card_words.specs.declared.request.Request.TheVariants.{BuildChain, BuildTidy, BuildFill, Tell, Replay, Migrate, Simulate, Help, Version}
 use Rattle.block_core.specs.declared.pcb.Number.{Number}
 use Rattle.block_core.specs.declared.pcb.Number.TheVariants.{Zero, One}
 use Rattle.clap.specs.declared.builder.action.ArgAction.TheVariants.{Append, SetTrue}
@@ -174,22 +179,16 @@ expected_of rows = do
   kind ← kind_of kind_word
   Ok (record { kind = kind; ifs = ifs; number = number })
 
+-- octets of which something is told, or lines of them
+abbrev pub told_by : Task → Option (List ℕ) → Option (List ℕ) → Result Asked Fault
+told_by task hex form =
+    if asks_for_lines hex form then Ok (Lines task)
+    else given_of hex form >>= (λ given. Ok (Once (Tell task given)))
+
 -- what is expected, and then the octets
-abbrev pub input_of : List Row → Result Input Fault
-input_of rows = do
-  expected ← expected_of rows
-  given ← given_of (first_of (codes "hex") rows) (first_of (codes "stdin") rows)
-  Ok (record { expected = expected; given = given })
-
--- octets to be checked, or lines of them
-abbrev pub check_by : Expected → Option (List ℕ) → Option (List ℕ) → Result Request Fault
-check_by expected hex form =
-    if asks_for_lines hex form then Ok (CheckLines expected)
-    else given_of hex form >>= (λ given. Ok (Check (record { expected = expected; given = given })))
-
-abbrev pub check_of : List Row → Result Request Fault
-check_of rows = expected_of rows >>= (λ expected.
-    check_by expected (first_of (codes "hex") rows) (first_of (codes "stdin") rows))
+abbrev pub told_of : Aim → List Row → Result Asked Fault
+told_of aim rows = expected_of rows >>= (λ expected.
+    told_by (record { aim = aim; expected = expected }) (first_of (codes "hex") rows) (first_of (codes "stdin") rows))
 
 -- a message that a chain can carry
 abbrev pub short_message : List ℕ → Result (List ℕ) Fault
@@ -268,25 +267,35 @@ session_of rows = do
   pairs ← pairs_of (all_or_none (all_of (codes "pairs") rows))
   Ok (record { atr = atr; ifsd = ifsd; pairs = pairs; lost = lost; damaged = damaged; spoilt = spoilt })
 
+-- what tells nothing of octets
 abbrev pub request_by : List ℕ → List Row → Result Request Fault
 request_by name rows =
-    if bytes_eq name (codes "check") then check_of rows
-    else (if bytes_eq name (codes "show") then input_of rows >>= (λ input. Ok (Show input))
-    else (if bytes_eq name (codes "build") then build_of rows
+    if bytes_eq name (codes "build") then build_of rows
     else (if bytes_eq name (codes "replay") then replay_of rows
     else (if bytes_eq name (codes "migrate") then Ok Migrate
     else (if bytes_eq name (codes "simulate") then session_of rows >>= (λ session. Ok (Simulate session))
-    else Err Words)))))
+    else Err Words)))
 
-abbrev pub request_of : Option (List ℕ × List Row) → Result Request Fault
-request_of None = Err Words
-request_of (Some entered) = request_by entered.0 entered.1
+-- a request that was read, as what is asked for
+abbrev pub once_of : Result Request Fault → Result Asked Fault
+once_of read = read >>= (λ request. Ok (Once request))
+
+abbrev pub asked_by : List ℕ → List Row → Result Asked Fault
+asked_by name rows =
+    if bytes_eq name (codes "check") then told_of Check rows
+    else (if bytes_eq name (codes "show") then told_of Show rows
+    else once_of (request_by name rows))
+
+abbrev pub asked_of : Option (List ℕ × List Row) → Result Asked Fault
+asked_of None = Err Words
+asked_of (Some entered) = asked_by entered.0 entered.1
 
 -- an information size that a request asks for is one
+abbrev pub IsTaskSized : Task → Type 0
+IsTaskSized task = (1 ≤ task.expected.ifs) × (task.expected.ifs ≤ 254)
+
 abbrev pub IsSized : Request → Type 0
-IsSized (Check input) = (1 ≤ input.expected.ifs) × (input.expected.ifs ≤ 254)
-IsSized (CheckLines expected) = (1 ≤ expected.ifs) × (expected.ifs ≤ 254)
-IsSized (Show input) = (1 ≤ input.expected.ifs) × (input.expected.ifs ≤ 254)
+IsSized (Tell task given) = IsTaskSized task
 IsSized (BuildChain ifs number message) = (1 ≤ ifs) × (ifs ≤ 254) × (length message ≤ longest_message)
 IsSized (BuildTidy given) = Unit {0}
 IsSized (BuildFill list known) = Unit {0}
@@ -294,12 +303,15 @@ IsSized (Replay side) = Unit {0}
 IsSized Migrate = Unit {0}
 IsSized (Simulate session) = IsSize session.ifsd
 IsSized (Help help) = Unit {0}
+IsSized Version = Unit {0}
+
+abbrev pub AreSized : Asked → Type 0
+AreSized (Once request) = IsSized request
+AreSized (Lines task) = IsTaskSized task
 
 -- what a request has for octets are octets
 abbrev pub HasOctets : Request → Type 0
-HasOctets (Check input) = GivesOctets input.given
-HasOctets (CheckLines expected) = Unit {0}
-HasOctets (Show input) = GivesOctets input.given
+HasOctets (Tell task given) = GivesOctets given
 HasOctets (BuildChain ifs number message) = AreOctets message
 HasOctets (BuildTidy given) = GivesOctets given
 HasOctets (BuildFill list known) = AreOctets list
@@ -307,11 +319,15 @@ HasOctets (Replay side) = Unit {0}
 HasOctets Migrate = Unit {0}
 HasOctets (Simulate session) = AreOctets session.atr × AreOctetPairs session.pairs
 HasOctets (Help help) = Unit {0}
+HasOctets Version = Unit {0}
+
+abbrev pub HaveOctets : Asked → Type 0
+HaveOctets (Once request) = HasOctets request
+HaveOctets (Lines task) = Unit {0}
 
 -- a request that standard input answers: octets, or a file of recorded exchanges
 abbrev pub NeedsFile : Request → Type 0
-NeedsFile (Check input) = IsFromReader input.given
-NeedsFile (Show input) = IsFromReader input.given
+NeedsFile (Tell task given) = IsFromReader given
 NeedsFile (BuildTidy given) = IsFromReader given
 NeedsFile (Replay side) = Unit {0}
 NeedsFile Migrate = Unit {0}
@@ -319,14 +335,23 @@ NeedsFile _ = ⊥
 
 -- a request that takes what it reads for octets, as they are
 abbrev pub NeedsOctets : Request → Type 0
-NeedsOctets (Check input) = IsAsRead input.given
-NeedsOctets (Show input) = IsAsRead input.given
+NeedsOctets (Tell task given) = IsAsRead given
 NeedsOctets (BuildTidy given) = IsAsRead given
 NeedsOctets _ = ⊥
 
--- words that the parser of command lines takes and that make such a request
+-- a request for one text, of which this holds
+abbrev pub IsOnce : (Request → Type 0) → Asked → Type 0
+IsOnce Needs (Once request) = Needs request
+IsOnce Needs (Lines task) = ⊥
+
+-- words that the parser of command lines takes: those that ask for the version don't reach it
+pub record AreTaken (words : List (List ℕ)) : Type 0 where
+  pub parsed : asks_for_version words ≡ false
+  pub free : fault_of scard words ≡ []
+
+-- such words, which make such a request
 abbrev pub AskFor : (Request → Type 0) → List (List ℕ) → Type 0
-AskFor Needs words = (fault_of scard words ≡ []) × MatchResult (request_of (subcommand_of scard words)) Needs (λ _. ⊥)
+AskFor Needs words = AreTaken words × MatchResult (asked_of (subcommand_of scard words)) (IsOnce Needs) (λ _. ⊥)
 
 abbrev pub AskForFile : List (List ℕ) → Type 0
 AskForFile = AskFor NeedsFile
@@ -334,23 +359,23 @@ AskForFile = AskFor NeedsFile
 abbrev pub AskForOctets : List (List ℕ) → Type 0
 AskForOctets = AskFor NeedsOctets
 
--- words that ask for the lines of standard input to be checked
-abbrev pub AskForLines : Expected → List (List ℕ) → Type 0
-AskForLines expected words = (fault_of scard words ≡ [])
-    × (request_of (subcommand_of scard words) ≡ Ok (CheckLines expected))
+-- words that ask for this of each line of standard input
+abbrev pub AskForLines : Task → List (List ℕ) → Type 0
+AskForLines task words = AreTaken words × (asked_of (subcommand_of scard words) ≡ Ok (Lines task))
 
 abbrev pub HasOther : Kinds → Type 0
 HasOther kinds = (kind : ErrorKind) × IsAmong kind kinds × (kind ≢ DisplayHelp)
 
--- What words are read as: what they ask for, where the parser of command lines takes them; some text, where it answers a call for help; else a fault.
-pub data IsRead (words : List (List ℕ)) (read : Result Request Fault) : Type 0 where
-  taken : fault_of scard words ≡ [] → read ≡ request_of (subcommand_of scard words) → IsRead words read
-  called_for_help : IsAmong DisplayHelp (fault_of scard words) → (help : List ℕ) → read ≡ Ok (Help help)
-      → IsRead words read
-  not_taken : HasOther (fault_of scard words) → read ≡ Err Words → IsRead words read
+-- What words are read as: the version, where they ask for it; what they ask for, where the parser of command lines takes them; some text, where it answers a call for help; else a fault.
+pub data IsRead (words : List (List ℕ)) (read : Result Asked Fault) : Type 0 where
+  called_for_version : asks_for_version words ≡ true → read ≡ Ok (Once Version) → IsRead words read
+  taken : AreTaken words → read ≡ asked_of (subcommand_of scard words) → IsRead words read
+  called_for_help : asks_for_version words ≡ false → IsAmong DisplayHelp (fault_of scard words) → (help : List ℕ)
+      → read ≡ Ok (Once (Help help)) → IsRead words read
+  not_taken : asks_for_version words ≡ false → HasOther (fault_of scard words) → read ≡ Err Words → IsRead words read
 
 -- what a parse that gave no matches comes to, by its kind
-abbrev pub IsHelpOrFault : ErrorKind → Result Request Fault → Type 0
+abbrev pub IsHelpOrFault : ErrorKind → Result Asked Fault → Type 0
 IsHelpOrFault OutOfMemory read = read ≡ Err Memory
-IsHelpOrFault DisplayHelp read = (read ≡ Err Memory) ⊎ ((help : List ℕ) × (read ≡ Ok (Help help)))
+IsHelpOrFault DisplayHelp read = (read ≡ Err Memory) ⊎ ((help : List ℕ) × (read ≡ Ok (Once (Help help))))
 IsHelpOrFault _ read = read ≡ Err Words

@@ -56,7 +56,8 @@ fn with_after<'a>(command: Command<'a>, after: &'a str) -> Command<'a>
 /// The page of the program.
 pub(crate) const PROGRAM: Page<'static> = Page {
     about: "Check, show, build and replay what smart cards and terminals exchange",
-    usage: "scard <COMMAND>",
+    usage: "scard <COMMAND>
+       scard --version",
     after: "Kinds of octets:
   atr       an answer to reset
   block     a block of the T=1 protocol
@@ -106,9 +107,11 @@ pub(crate) const SHOW: Page<'static> = Page {
     usage: "scard show <KIND> <HEX> [--ifs <N>] [--number <N>]
        scard show <KIND> --stdin <FORM> [--ifs <N>] [--number <N>]",
     after: "The kinds block and chain use --ifs, and chain uses --number; the others leave them unused.
+With --stdin lines each line of standard input is hexadecimal, and is answered as it comes, by its value or what it is
+refused by, and an empty line.
 
 Exit status:
-  0  the value was shown
+  0  the value was shown; of lines, all of them
   1  short at P: more must come; refused at P: REASON: no value goes on after the octet at place P
   2  a fault, as fault: words or fault: hex
 

@@ -48,11 +48,20 @@ pub struct Expected {
     pub number: Number,
 }
 
-/// Octets, and what they are taken for.
-#[derive(Debug, PartialEq, Eq, Drop)]
-pub struct Input {
+/// What is told of octets.
+#[derive(Clone, Copy, Debug, PartialEq, Eq)]
+pub enum Aim {
+    /// Whether they are a value of the kind, and how many of them it takes.
+    Check,
+    /// The value that they spell.
+    Show,
+}
+
+/// What is told of octets, and what they are taken for.
+#[derive(Clone, Copy, Debug, PartialEq, Eq)]
+pub struct Task {
+    pub aim: Aim,
     pub expected: Expected,
-    pub given: Given,
 }
 
 /// Values that are known for tags, in the order of their words, which contracts see as a list.
@@ -111,13 +120,18 @@ impl Eq for Knowns {
 
 /// What a command line asks for.
 #[derive(Debug, PartialEq, Eq, Drop)]
+pub enum Asked {
+    /// One text, after all of standard input was read that it needs.
+    Once(Request),
+    /// What is told of each line of standard input, which is hexadecimal as a text of it is.
+    Lines(Task),
+}
+
+/// What is answered by one text.
+#[derive(Debug, PartialEq, Eq, Drop)]
 pub enum Request {
-    /// Whether the octets are a value of the kind, and how many of them it takes.
-    Check(Input),
-    /// The same of each line of standard input, which is hexadecimal as a text of it is.
-    CheckLines(Expected),
-    /// The value that the octets spell.
-    Show(Input),
+    /// What is told of these octets.
+    Tell(Task, Given),
     /// The blocks of the chain into which a message of at most 131,072 octets is cut.
     BuildChain {
         /// The information size, 1 to 254.
@@ -144,4 +158,6 @@ pub enum Request {
     Simulate(Session),
     /// This text, by which `clap` answers a call for help.
     Help(Text),
+    /// The version.
+    Version,
 }

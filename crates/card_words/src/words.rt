@@ -4,7 +4,7 @@ ghost use Rattle.std.specs.Prelude.{◌≡◌, ◌⊎◌, ◌≤◌, [], Err, If
 ghost use Rattle.clap.specs.Words.{all_of, fault_of, first_of, found_of, rows_of, subcommand_of, subcommand_rows_of};
 ghost use Rattle.clap.specs.Kinds.{HasKind};
 ghost use Rattle.clap.specs.Values.{kind_of as error_kind};
-ghost use Rattle.card_words.specs.Words.{build_of, build_words, chain_of, check_of, end_of_word, asked_size, expected_of, session_of, input_of, kind_of, number_of, number_of_word, replay_of, request_of, scard, size_of, texts, tidy_of, fill_of, HasOctets, IsHelpOrFault, IsRead, IsSized};
+ghost use Rattle.card_words.specs.Words.{asked_of, build_of, build_words, chain_of, end_of_word, asked_size, expected_of, session_of, kind_of, number_of, number_of_word, replay_of, request_by, scard, size_of, texts, tidy_of, told_of, fill_of, HaveOctets, IsHelpOrFault, IsRead, AreSized, IsSized};
 ghost use Rattle.card_words.specs.Session.{IsSize};
 ghost use Rattle.card_words.specs.Value.{UnlessMemory};
 
@@ -12,9 +12,10 @@ use crate::fault::Fault;
 use crate::forms::program;
 use crate::given::{asks_for_lines, read_given};
 use crate::known::knowns;
-use crate::request::{End, Expected, Input, Kind, Request};
+use crate::request::{Aim, Asked, End, Expected, Kind, Request, Task};
 use crate::session::{Session, read_blocks, read_pairs};
 use crate::value::octets;
+use crate::version::asks_for_version;
 use block_core::Number;
 use chain_core::LONGEST_MESSAGE;
 use clap::error::ErrorKind;
@@ -23,32 +24,45 @@ use octet_core::Text;
 use std::alloc::Global;
 
 /// What the words ask for, of which the first is the program's name.
-pub fn read(alloc: Global, words: &[String]) -> Result<Request, Fault>
+pub fn read(alloc: Global, words: &[String]) -> Result<Asked, Fault>
     ensures read { (result ≡ Err Fault.Memory) ⊎ IsRead (texts words.now) result }
-    ensures sized { IfOk result IsSized }
-    ensures octets { IfOk result HasOctets }
+    ensures sized { IfOk result AreSized }
+    ensures octets { IfOk result HaveOctets }
 {
+    if asks_for_version(words) {
+        return Ok(Asked::Once(Request::Version));
+    }
     match matches_of(alloc, words) {
-        Ok(matches) => request(alloc, &matches),
+        Ok(matches) => asked(alloc, &matches),
         Err(error) => help_or_fault(alloc, &error),
     }
 }
 
-/// The request that the matches of the words make.
-fn request(alloc: Global, matches: &ArgMatches) -> Result<Request, Fault>
-    ensures read { UnlessMemory result (request_of (subcommand_rows_of matches.now)) }
-    ensures sized { IfOk result IsSized }
+/// What the matches of the words ask for.
+fn asked(alloc: Global, matches: &ArgMatches) -> Result<Asked, Fault>
+    ensures read { UnlessMemory result (asked_of (subcommand_rows_of matches.now)) }
+    ensures sized { IfOk result AreSized }
 {
     let Some((name, entered)) = entered(matches) else {
         return Err(Fault::Words);
     };
     match name {
-        "check" => check(alloc, entered),
-        "show" => Ok(Request::Show(input(alloc, entered)?)),
-        "build" => build(alloc, entered),
-        "replay" => replay(entered),
+        "check" => told(alloc, Aim::Check, entered),
+        "show" => told(alloc, Aim::Show, entered),
+        _ => Ok(Asked::Once(request(alloc, name, entered)?)),
+    }
+}
+
+/// What a subcommand asks for that tells nothing of octets.
+fn request(alloc: Global, name: &str, matches: &ArgMatches) -> Result<Request, Fault>
+    ensures read { UnlessMemory result (request_by name.now (rows_of (found_of matches.now))) }
+    ensures sized { IfOk result IsSized }
+{
+    match name {
+        "build" => build(alloc, matches),
+        "replay" => replay(matches),
         "migrate" => Ok(Request::Migrate),
-        "simulate" => Ok(Request::Simulate(session(alloc, entered)?)),
+        "simulate" => Ok(Request::Simulate(session(alloc, matches)?)),
         _ => Err(Fault::Words),
     }
 }
@@ -61,30 +75,20 @@ fn entered<'a, 'b>(matches: &'b ArgMatches<'a>) -> Option<(&'a str, &'b ArgMatch
     matches.subcommand()
 }
 
-/// Octets to be checked, or lines of them.
-fn check(alloc: Global, matches: &ArgMatches) -> Result<Request, Fault>
-    ensures read { UnlessMemory result (check_of (rows_of (found_of matches.now))) }
-    ensures sized { IfOk result IsSized }
+/// Octets of which something is told, or lines of them.
+fn told(alloc: Global, aim: Aim, matches: &ArgMatches) -> Result<Asked, Fault>
+    ensures read { UnlessMemory result (told_of aim (rows_of (found_of matches.now))) }
+    ensures sized { IfOk result AreSized }
 {
     let expected = expected(matches)?;
+    let task = Task { aim, expected };
     let hex = word(matches, "hex");
     let form = word(matches, "stdin");
     if asks_for_lines(hex, form) {
-        return Ok(Request::CheckLines(expected));
+        return Ok(Asked::Lines(task));
     }
     let given = read_given(alloc, hex, form)?;
-    Ok(Request::Check(Input { expected, given }))
-}
-
-/// Octets, and what they are taken for.
-fn input(alloc: Global, matches: &ArgMatches) -> Result<Input, Fault>
-    ensures read { UnlessMemory result (input_of (rows_of (found_of matches.now))) }
-    ensures least { IfOk result (λ input. 1 ≤ input.expected.ifs) }
-    ensures most { IfOk result (λ input. input.expected.ifs ≤ 254) }
-{
-    let expected = expected(matches)?;
-    let given = read_given(alloc, word(matches, "hex"), word(matches, "stdin"))?;
-    Ok(Input { expected, given })
+    Ok(Asked::Once(Request::Tell(task, given)))
 }
 
 /// A kind, an information size and a first number.
@@ -301,13 +305,16 @@ fn number(word: &str) -> Result<Number, Fault>
 }
 
 /// What a parse that gave no matches comes to: the text of a call for help, or a fault.
-fn help_or_fault(alloc: Global, error: &Error) -> Result<Request, Fault>
+fn help_or_fault(alloc: Global, error: &Error) -> Result<Asked, Fault>
     ensures read { IsHelpOrFault (error_kind error.now) result }
-    ensures sized { IfOk result IsSized }
+    ensures sized { IfOk result AreSized }
 {
     match error.kind() {
         ErrorKind::OutOfMemory => Err(Fault::Memory),
-        ErrorKind::DisplayHelp => Ok(Request::Help(Text::of(format!(in alloc; "{error}")?))),
+        ErrorKind::DisplayHelp => {
+            let help = Text::of(format!(in alloc; "{error}")?);
+            Ok(Asked::Once(Request::Help(help)))
+        }
         _ => Err(Fault::Words),
     }
 }

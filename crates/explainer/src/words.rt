@@ -73,7 +73,7 @@ fn form_note(alloc: Global, words: &[String], form: usize) -> Result<String, All
             "standard input: octets are two hexadecimal digits each, in groups that blanks part\n";
         return String::from_str(alloc, text);
     }
-    let what = if word_at(words, 1) == "check" {
+    let what = if matches!(word_at(words, 1), "check" | "show") {
         "a form is hex, octets or lines"
     } else {
         "a form is hex or octets"

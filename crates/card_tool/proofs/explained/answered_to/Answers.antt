@@ -1,51 +1,32 @@
 use Rattle.std.proofs.Common.{[], Ok}
 use Rattle.std.proofs.lemmas.Result.{err_from_is_err_and}
-use Rattle.card_words.specs.declared.request.Request.TheVariants.{BuildFill, BuildTidy, Check, Show}
+use Rattle.card_words.specs.declared.request.Request.TheVariants.{BuildFill, BuildTidy, Tell}
 use Rattle.card_kinds.specs.ForestTexts.{forest_codec}
 use Rattle.card_tool.specs.Judged.{IsKindNote, IsNoteBy}
-use Rattle.card_kinds.specs.Verdicts.{Checks, Shows, Tidies}
+use Rattle.card_kinds.specs.Verdicts.{Tidies}
+use Rattle.card_tool.specs.Answers.{IsTold}
 use Rattle.card_tool.proofs.Answering.{told-fault, told-wanting}
 use Rattle.card_tool.proofs.Explaining.{noted-given, wanting, with-note}
 use Rattle.card_tool.proofs.explained.answered_to.Goals as goal
 
-pub returns-in_err-octets-in-Check-clause-told : goal.returns-in_err-octets-in-Check-clause-told
-returns-in_err-octets-in-Check-clause-told g c =
+pub returns-in_err-octets-in-Tell-clause-told : goal.returns-in_err-octets-in-Tell-clause-told
+returns-in_err-octets-in-Tell-clause-told g c =
     let fault = err_from_is_err_and c.from_residual.result c.from_residual.ensures.1 in
-    rw (c.in-Check.is, fault.1, fault.2) (told-fault (Check c.in-Check.input) c.in-Check.input.given
-    (Checks c.in-Check.input.expected.kind c.in-Check.input.expected) (g.R.Source.remaining c.args.reader.now)
+    rw (c.in-Tell.is, fault.1, fault.2) (told-fault (Tell c.in-Tell.task c.in-Tell.given) c.in-Tell.given
+    (IsTold c.in-Tell.task) (g.R.Source.remaining c.args.reader.now)
     (g.R.Source.remaining c.octets_given.new.reader) (g.R.Source.failures c.args.reader.now)
     (g.R.Source.failures c.octets_given.new.reader) (λ need. need) (λ file text ended h. h)
-    c.in_err-octets-in-Check.field-0.0 c.in_err-octets-in-Check.ensures.taken)
+    c.in_err-octets-in-Tell.field-0.0 c.in_err-octets-in-Tell.ensures.taken)
 
-pub returns-in_err-judged-in-Check-clause-told : goal.returns-in_err-judged-in-Check-clause-told
-returns-in_err-judged-in-Check-clause-told g c =
-    let fault = err_from_is_err_and c.from_residual-in_err-judged-in-Check.result
-    c.from_residual-in_err-judged-in-Check.ensures.1 in
-    rw (c.in-Check.is, fault.1, fault.2) (told-wanting (Check c.in-Check.input) c.in-Check.input.given
-    (Checks c.in-Check.input.expected.kind c.in-Check.input.expected) (g.R.Source.remaining c.args.reader.now)
+pub returns-in_err-judged-in-Tell-clause-told : goal.returns-in_err-judged-in-Tell-clause-told
+returns-in_err-judged-in-Tell-clause-told g c =
+    let fault = err_from_is_err_and c.from_residual-in_err-judged-in-Tell.result
+    c.from_residual-in_err-judged-in-Tell.ensures.1 in
+    rw (c.in-Tell.is, fault.1, fault.2) (told-wanting (Tell c.in-Tell.task c.in-Tell.given) c.in-Tell.given
+    (IsTold c.in-Tell.task) (g.R.Source.remaining c.args.reader.now)
     (g.R.Source.remaining c.octets_given.new.reader) (g.R.Source.failures c.args.reader.now)
     (g.R.Source.failures c.octets_given.new.reader) (λ need. need) (λ file text ended h. h)
-    c.in_ok-octets-in-Check.octets c.in_ok-octets-in-Check.ensures.taken)
-
-pub returns-in_err-octets-in-Show-clause-told : goal.returns-in_err-octets-in-Show-clause-told
-returns-in_err-octets-in-Show-clause-told g c =
-    let fault = err_from_is_err_and c.from_residual-in_err-octets-in-Show.result
-    c.from_residual-in_err-octets-in-Show.ensures.1 in
-    rw (c.in-Show.is, fault.1, fault.2) (told-fault (Show c.in-Show.input) c.in-Show.input.given
-    (Shows c.in-Show.input.expected.kind c.in-Show.input.expected) (g.R.Source.remaining c.args.reader.now)
-    (g.R.Source.remaining c.octets_given-in-Show.new.reader) (g.R.Source.failures c.args.reader.now)
-    (g.R.Source.failures c.octets_given-in-Show.new.reader) (λ need. need) (λ file text ended h. h)
-    c.in_err-octets-in-Show.field-0.0 c.in_err-octets-in-Show.ensures.taken)
-
-pub returns-in_err-judged-in-Show-clause-told : goal.returns-in_err-judged-in-Show-clause-told
-returns-in_err-judged-in-Show-clause-told g c =
-    let fault = err_from_is_err_and c.from_residual-in_err-judged-in-Show.result
-    c.from_residual-in_err-judged-in-Show.ensures.1 in
-    rw (c.in-Show.is, fault.1, fault.2) (told-wanting (Show c.in-Show.input) c.in-Show.input.given
-    (Shows c.in-Show.input.expected.kind c.in-Show.input.expected) (g.R.Source.remaining c.args.reader.now)
-    (g.R.Source.remaining c.octets_given-in-Show.new.reader) (g.R.Source.failures c.args.reader.now)
-    (g.R.Source.failures c.octets_given-in-Show.new.reader) (λ need. need) (λ file text ended h. h)
-    c.in_ok-octets-in-Show.octets c.in_ok-octets-in-Show.ensures.taken)
+    c.in_ok-octets-in-Tell.octets c.in_ok-octets-in-Tell.ensures.taken)
 
 pub returns-in_err-octets-in-BuildTidy-clause-told : goal.returns-in_err-octets-in-BuildTidy-clause-told
 returns-in_err-octets-in-BuildTidy-clause-told g c =
@@ -76,31 +57,18 @@ returns-in_err-judged-in-BuildFill-clause-told g c =
     rw (fault.1, fault.2) (wanting c.args.request (g.R.Source.remaining c.args.reader.now)
     (g.R.Source.failures c.args.reader.now))
 
-pub returns-in_ok-judged-in-Check-clause-told : goal.returns-in_ok-judged-in-Check-clause-told
-returns-in_ok-judged-in-Check-clause-told g c =
-    let made = rw c.get.ensures at c.in_ok-judged-in-Check.ensures in
-    rw c.in-Check.is (noted-given (Check c.in-Check.input) c.in-Check.input.given
-    (Checks c.in-Check.input.expected.kind c.in-Check.input.expected)
-    (IsKindNote c.in-Check.input.expected.kind c.in-Check.input.expected) (g.R.Source.remaining c.args.reader.now)
+pub returns-in_ok-judged-in-Tell-clause-told : goal.returns-in_ok-judged-in-Tell-clause-told
+returns-in_ok-judged-in-Tell-clause-told g c =
+    let made = rw c.get.ensures at c.in_ok-judged-in-Tell.ensures in
+    rw c.in-Tell.is (noted-given (Tell c.in-Tell.task c.in-Tell.given) c.in-Tell.given
+    (IsTold c.in-Tell.task)
+    (IsKindNote c.in-Tell.task.expected.kind c.in-Tell.task.expected) (g.R.Source.remaining c.args.reader.now)
     (g.R.Source.remaining c.octets_given.new.reader) (g.R.Source.failures c.args.reader.now)
     (g.R.Source.failures c.octets_given.new.reader) (λ need. need) (λ file text ended h. h)
-    (λ file ended note h. h) c.in_ok-octets-in-Check.octets c.in_ok-octets-in-Check.ensures.taken
-    c.in_ok-judged-in-Check.judged.answer c.noted.result c.in_ok-judged-in-Check.judged.note c.noted.ensures.text.0
+    (λ file ended note h. h) c.in_ok-octets-in-Tell.octets c.in_ok-octets-in-Tell.ensures.taken
+    c.in_ok-judged-in-Tell.judged.answer c.noted.result c.in_ok-judged-in-Tell.judged.note c.noted.ensures.text.0
     made.0
     made.1 c.noted.ensures.text.1 c.noted.ensures.text.2 c.noted.ensures.status)
-
-pub returns-in_ok-judged-in-Show-clause-told : goal.returns-in_ok-judged-in-Show-clause-told
-returns-in_ok-judged-in-Show-clause-told g c =
-    let made = rw c.get-in-Show.ensures at c.in_ok-judged-in-Show.ensures in
-    rw c.in-Show.is (noted-given (Show c.in-Show.input) c.in-Show.input.given
-    (Shows c.in-Show.input.expected.kind c.in-Show.input.expected)
-    (IsKindNote c.in-Show.input.expected.kind c.in-Show.input.expected) (g.R.Source.remaining c.args.reader.now)
-    (g.R.Source.remaining c.octets_given-in-Show.new.reader) (g.R.Source.failures c.args.reader.now)
-    (g.R.Source.failures c.octets_given-in-Show.new.reader) (λ need. need) (λ file text ended h. h)
-    (λ file ended note h. h) c.in_ok-octets-in-Show.octets c.in_ok-octets-in-Show.ensures.taken
-    c.in_ok-judged-in-Show.judged.answer c.noted-in-Show.result c.in_ok-judged-in-Show.judged.note
-    c.noted-in-Show.ensures.text.0 made.0
-    made.1 c.noted-in-Show.ensures.text.1 c.noted-in-Show.ensures.text.2 c.noted-in-Show.ensures.status)
 
 pub returns-in_ok-judged-in-BuildTidy-clause-told : goal.returns-in_ok-judged-in-BuildTidy-clause-told
 returns-in_ok-judged-in-BuildTidy-clause-told g c =

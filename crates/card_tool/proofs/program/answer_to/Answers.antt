@@ -1,5 +1,5 @@
 use Rattle.std.proofs.Common.{◌∙◌}
-use Rattle.card_words.specs.declared.request.Request.TheVariants.{BuildChain, BuildFill, Simulate, Help}
+use Rattle.card_words.specs.declared.request.Request.TheVariants.{BuildChain, BuildFill, Simulate, Help, Version}
 use Rattle.card_tool.proofs.Answering.{told-at_once}
 use Rattle.card_tool.proofs.Inputs.{none-begun}
 use Rattle.card_tool.proofs.program.answer_to.Goals as goal
@@ -30,3 +30,8 @@ pub returns-in-Help-clause-told : goal.returns-in-Help-clause-told
 returns-in-Help-clause-told g c = rw c.in-Help.is
     (told-at_once (Help c.in-Help.text) _ _ _ _ (λ none. none)
     (c.told-in-Help.ensures.text ∙ c.into_inner.ensures, c.told-in-Help.ensures.status))
+
+pub returns-in_ok-from_str-in-Version-clause-told : goal.returns-in_ok-from_str-in-Version-clause-told
+returns-in_ok-from_str-in-Version-clause-told g c = rw c.in-Version.is
+    (told-at_once Version _ _ _ _ (λ none. none)
+    (c.told-in-Version.ensures.text ∙ c.in_ok-from_str-in-Version.ensures.ok, c.told-in-Version.ensures.status))

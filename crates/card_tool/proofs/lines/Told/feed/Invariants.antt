@@ -5,8 +5,8 @@ use Rattle.card_tool.proofs.lines.Told.feed.Given as goal
 -- the octets before this one were taken
 abbrev pub invariant-loop-octet : goal.invariant-loop-octet
 invariant-loop-octet l = record {
-  expected : l.self.expected ≡ l.fn.self.expected;
-  said : (read written : List ℕ) → HasSaid l.fn.self.expected read written l.fn.self.line.items l.fn.self.text.items
-      l.fn.self.status → HasSaid l.fn.self.expected (read ++ take l.octet-index l.piece) written l.self.line.items
+  task : l.self.task ≡ l.fn.self.task;
+  said : (read written : List ℕ) → HasSaid l.fn.self.task read written l.fn.self.line.items l.fn.self.text.items
+      l.fn.self.status → HasSaid l.fn.self.task (read ++ take l.octet-index l.piece) written l.self.line.items
       l.self.text.items l.self.status;
 }

@@ -1,0 +1,7 @@
+use Rattle.card_tool.proofs.judged.answer_about.Goals as goal
+
+pub returns-in-Check : goal.returns-in-Check
+returns-in-Check c = rw c.in-Check.is c.check.ensures
+
+pub returns-in-Show : goal.returns-in-Show
+returns-in-Show c = rw c.in-Show.is c.show.ensures
