@@ -50,7 +50,7 @@ _scard() {
     esac
     _scard_before
     case $option in
-    --stdin) words='hex octets lines' ;;
+    --stdin) words='hex octets dump source lines' ;;
     --end) words='terminal card' ;;
     --number) words='0 1' ;;
     --ifs | --ifsd | --lose | --damage | --spoil) ;;

@@ -2,10 +2,14 @@
 use Rattle.std.specs.Prelude.{List, ℕ, codes, Bool, false, Option, Some, None, Result, Ok, Err, if◌then◌else◌}
 use Rattle.std.specs.Str.{bytes_eq}
 use Rattle.octet_core.specs.Octets.{AreOctets}
+use Rattle.dumps.specs.Dump.{dump_octets}
+use Rattle.dumps.specs.Source.{source_octets}
+use Rattle.dumps.specs.declared.fault.DumpFault.{DumpFault}
+use Rattle.dumps.specs.declared.fault.DumpFault.TheVariants as dump
 use Rattle.card_words.specs.Loose.{loose_octets}
 use Rattle.card_words.specs.Value.{◌>>=◌, octets_of_word}
 use Rattle.card_words.specs.declared.fault.Fault.{Fault}
-use Rattle.card_words.specs.declared.fault.Fault.TheVariants.{Words}
+use Rattle.card_words.specs.declared.fault.Fault.TheVariants.{Hex, Memory, Words}
 use Rattle.card_words.specs.declared.given.Form.{Form}
 use Rattle.card_words.specs.declared.given.Form.TheVariants as form
 use Rattle.card_words.specs.declared.given.Given.{Given}
@@ -17,7 +21,9 @@ abbrev pub form_of : List ℕ → Result Form Fault
 form_of word =
     if bytes_eq word (codes "hex") then Ok form.Hex
     else (if bytes_eq word (codes "octets") then Ok form.Octets
-    else Err Words)
+    else (if bytes_eq word (codes "dump") then Ok form.Dump
+    else (if bytes_eq word (codes "source") then Ok form.Source
+    else Err Words)))
 
 -- a HEX word, or a form of standard input: one of them, and not both
 abbrev pub given_of : Option (List ℕ) → Option (List ℕ) → Result Given Fault
@@ -32,10 +38,18 @@ asks_for_lines _ _ = false
 
 -- ---- what they are
 
+-- what isn't in the form is no hexadecimal text
+abbrev pub of_dump : Result (List ℕ) DumpFault → Result (List ℕ) Fault
+of_dump (Ok octets) = Ok octets
+of_dump (Err dump.Form) = Err Hex
+of_dump (Err dump.Memory) = Err Memory
+
 -- the octets that a text in this form gives
 abbrev pub octets_in : Form → List ℕ → Result (List ℕ) Fault
 octets_in form.Hex text = loose_octets text
 octets_in form.Octets text = Ok text
+octets_in form.Dump text = of_dump (dump_octets text)
+octets_in form.Source text = of_dump (source_octets text)
 
 -- the octets, with what reading standard input gave
 abbrev pub octets_given : Given → Result (List ℕ) Fault → Result (List ℕ) Fault

@@ -1,6 +1,6 @@
 -- Octets as a text: hexadecimal in groups, which blanks part.
-use Rattle.std.specs.Prelude.{◌≡◌, ◌++◌, ◌&&◌, ◌||◌, ◌==◌, ℕ, drop, List, ◌∷◌, Bool, false, Result, Ok, Err, if◌then◌else◌}
-use Rattle.std.specs.List.{concat, slice_split}
+use Rattle.std.specs.Prelude.{◌≡◌, ◌++◌, ◌&&◌, ◌||◌, ◌==◌, ℕ, drop, List, [], ◌∷◌, Bool, false, Result, Ok, Err, if◌then◌else◌}
+use Rattle.std.specs.List.{concat, list_all, slice_split}
 use Rattle.hex.specs.Hex.{decode_of}
 use Rattle.card_words.specs.Value.{◌>>=◌, each, hex_octets, UnlessMemory}
 use Rattle.card_words.specs.declared.fault.Fault.{Fault}
@@ -22,9 +22,24 @@ digits_of group = if is_marked group then drop 2 group else group
 abbrev pub group_octets : List ℕ → Result (List ℕ) Fault
 group_octets group = hex_octets (decode_of (digits_of group))
 
+-- n, o, n, e, and then blanks
+abbrev pub is_none_before_blanks : List ℕ → Bool
+is_none_before_blanks (a ∷ b ∷ c ∷ d ∷ more) =
+    a == 110 && (b == 111 && (c == 110 && (d == 101 && list_all is_blank more)))
+is_none_before_blanks _ = false
+
+-- none alone, with blanks before and after
+abbrev pub is_none_alone : List ℕ → Bool
+is_none_alone [] = false
+is_none_alone (x ∷ text) = if is_blank x then is_none_alone text else is_none_before_blanks (x ∷ text)
+
 -- the octets of all groups; between two blanks there is one of no octets
+abbrev pub grouped_octets : List ℕ → Result (List ℕ) Fault
+grouped_octets text = each group_octets (slice_split is_blank text) >>= (λ groups. Ok (concat groups))
+
+-- the octets of a text: none where it says so alone
 abbrev pub loose_octets : List ℕ → Result (List ℕ) Fault
-loose_octets text = each group_octets (slice_split is_blank text) >>= (λ groups. Ok (concat groups))
+loose_octets text = if is_none_alone text then Ok [] else grouped_octets text
 
 -- the octets of one more group come after the others
 abbrev pub AddsGroup : List ℕ → List ℕ → List ℕ → Result (Unit {0}) Fault → Type 0

@@ -274,7 +274,7 @@ fn stdin_arg<'a>(alloc: Global) -> Arg<'a>
         alloc,
         "stdin",
         "FORM",
-        "In place of HEX: read the octets from standard input, as FORM says: hex, octets, or for check and show lines",
+        "In place of HEX: read octets from standard input, as FORM says: hex, octets, dump, source, or for check and show lines",
     )
 }
 

@@ -1,12 +1,13 @@
 //! Where octets come from: a word, or standard input.
 
 ghost use Rattle.std.specs.Prelude.{◌≡◌, option_map};
-ghost use Rattle.card_words.specs.Given.{asks_for_lines, form_of, given_of, octets_in};
+ghost use Rattle.card_words.specs.Given.{asks_for_lines, form_of, given_of, octets_in, of_dump};
 ghost use Rattle.card_words.specs.Value.{UnlessMemory};
 
 use crate::fault::Fault;
 use crate::loose::loose_octets;
 use crate::value::octets;
+use dumps::{DumpFault, dump_octets, source_octets};
 use octet_core::Octets;
 use std::alloc::Global;
 
@@ -18,6 +19,10 @@ pub enum Form {
     Hex,
     /// The octets themselves.
     Octets,
+    /// A dump as `xxd`, `hexdump -C` or `od -Ax -tx1` writes it.
+    Dump,
+    /// Octets as programs write them: `0x3B`, `\x3b`, `3Bh` or `3B`, in brackets or quotes, with comments.
+    Source,
 }
 
 /// Where octets come from.
@@ -30,14 +35,27 @@ pub enum Given {
 }
 
 impl Form {
-    /// The octets that a text in this form gives. A text that is no hexadecimal is `Hex`.
+    /// The octets that a text in this form gives. A text that isn't in it is `Hex`.
     pub fn octets(self, alloc: Global, text: Octets) -> Result<Octets, Fault>
         ensures { UnlessMemory result (octets_in self text) }
     {
         match self {
             Form::Hex => loose_octets(alloc, text.get()),
             Form::Octets => Ok(text),
+            Form::Dump => of_dump(dump_octets(alloc, text.get())),
+            Form::Source => of_dump(source_octets(alloc, text.get())),
         }
+    }
+}
+
+/// The octets of a dump or a source, or the fault that its fault is here.
+fn of_dump(read: Result<Octets, DumpFault>) -> Result<Octets, Fault>
+    ensures { result ≡ of_dump read }
+{
+    match read {
+        Ok(octets) => Ok(octets),
+        Err(DumpFault::Form) => Err(Fault::Hex),
+        Err(DumpFault::Memory) => Err(Fault::Memory),
     }
 }
 
@@ -75,6 +93,8 @@ fn read_form(word: &str) -> Result<Form, Fault>
     match word {
         "hex" => Ok(Form::Hex),
         "octets" => Ok(Form::Octets),
+        "dump" => Ok(Form::Dump),
+        "source" => Ok(Form::Source),
         _ => Err(Fault::Words),
     }
 }

@@ -1,17 +1,58 @@
 //! Octets as a text: hexadecimal in groups.
 
 ghost use Rattle.std.specs.Prelude.{◌≡◌};
-ghost use Rattle.card_words.specs.Loose.{digits_of, is_blank, loose_octets, AddsGroup};
+ghost use Rattle.std.specs.List.{list_all};
+ghost use Rattle.card_words.specs.Loose.{digits_of, grouped_octets, is_blank, is_none_alone, is_none_before_blanks, loose_octets, AddsGroup};
 ghost use Rattle.card_words.specs.Value.{UnlessMemory};
 
 use crate::fault::Fault;
 use octet_core::Octets;
 use std::alloc::Global;
 
-/// The octets that a text gives in hexadecimal, two digits each, in groups that blanks part. A text that is no
-/// hexadecimal is `Hex`.
+/// The octets that a text gives in hexadecimal, two digits each, in groups that blanks part; none where the
+/// text is `none` alone, with blanks before and after. A text that is no hexadecimal is `Hex`.
 pub fn loose_octets(alloc: Global, text: &[u8]) -> Result<Octets, Fault>
     ensures { UnlessMemory result (loose_octets text.now) }
+{
+    if is_none_alone(text) {
+        return Ok(Octets::of(Vec::new(alloc)));
+    }
+    grouped_octets(alloc, text)
+}
+
+/// Whether a text is `none`, with blanks before and after.
+fn is_none_alone(text: &[u8]) -> bool
+    ensures { result ≡ is_none_alone text.now }
+{
+    let mut rest = text;
+    while let [x, after @ ..] = rest {
+        if !is_blank(*x) {
+            break;
+        }
+        rest = after;
+    }
+    is_none_before_blanks(rest)
+}
+
+/// Whether a text is `none`, with blanks after it.
+fn is_none_before_blanks(text: &[u8]) -> bool
+    ensures { result ≡ is_none_before_blanks text.now }
+{
+    match text {
+        [b'n', b'o', b'n', b'e', after @ ..] => are_blanks(after),
+        _ => false,
+    }
+}
+
+fn are_blanks(text: &[u8]) -> bool
+    ensures { result ≡ list_all is_blank text.now }
+{
+    text.iter().all(|octet| is_blank(*octet))
+}
+
+/// The octets of the groups of a text.
+fn grouped_octets(alloc: Global, text: &[u8]) -> Result<Octets, Fault>
+    ensures { UnlessMemory result (grouped_octets text.now) }
 {
     let mut octets = Vec::with_capacity(alloc, text.len() / 2)?;
     for group in text.split(|octet| is_blank(*octet)) {

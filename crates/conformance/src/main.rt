@@ -13,7 +13,7 @@ use std::{fs, io};
 use tried::{Fault, tried};
 
 /// The files, which lie where the program runs.
-const NAMES: [&str; 21] = [
+const NAMES: [&str; 22] = [
     "atr",
     "atr.changes",
     "block",
@@ -32,6 +32,7 @@ const NAMES: [&str; 21] = [
     "simulate",
     "exchange",
     "hex",
+    "dumps",
     "lines",
     "words",
     "explain",

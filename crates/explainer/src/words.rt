@@ -68,17 +68,31 @@ fn given_note(alloc: Global, words: &[String], hex: usize) -> Result<String, All
 /// A form of standard input, and the text that is read there.
 fn form_note(alloc: Global, words: &[String], form: usize) -> Result<String, AllocError> {
     let word = option_value(words, "--stdin");
-    if word == "hex" {
-        let text =
-            "standard input: octets are two hexadecimal digits each, in groups that blanks part\n";
+    if let Some(text) = text_of_form(word) {
         return String::from_str(alloc, text);
     }
     let what = if matches!(word_at(words, 1), "check" | "show") {
-        "a form is hex, octets or lines"
+        "a form is hex, octets, dump, source or lines"
     } else {
-        "a form is hex or octets"
+        "a form is hex, octets, dump or source"
     };
     said(alloc, form, what)
+}
+
+/// What a text in a form is, where one may not be in it.
+fn text_of_form(word: &str) -> Option<&'static str> {
+    match word {
+        "hex" => Some(
+            "standard input: octets are two hexadecimal digits each, in groups that blanks part\n",
+        ),
+        "dump" => Some(
+            "standard input: a dump is what xxd, hexdump -C or od -Ax -tx1 writes, whole\n",
+        ),
+        "source" => Some(
+            "standard input: octets are 0x3B, \\x3b, 3Bh or 3B, all written in one way\n",
+        ),
+        _ => None,
+    }
 }
 
 /// What is built, and of which words.

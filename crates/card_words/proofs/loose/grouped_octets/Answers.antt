@@ -4,9 +4,9 @@ use Rattle.std.proofs.lemmas.Iterator.Splits.{YieldsList-from_slice_split}
 use Rattle.std.proofs.lemmas.List.{length_push}
 use Rattle.std.proofs.lemmas.Result.{err_from_is_err_and}
 use Rattle.std.specs.List.{slice_split}
-use Rattle.card_words.specs.Loose.{is_blank, loose_octets}
+use Rattle.card_words.specs.Loose.{is_blank, grouped_octets}
 use Rattle.card_words.proofs.Groups.{next-fault, next-group, no-more}
-use Rattle.card_words.proofs.loose.loose_octets.Goals as goal
+use Rattle.card_words.proofs.loose.grouped_octets.Goals as goal
 
 pub loop-group-preserved : goal.loop-group-preserved
 loop-group-preserved c =
@@ -16,7 +16,7 @@ loop-group-preserved c =
     c.loop-group.yielded _ c.loop-group.yielded_by _ _ c.in-Some.group c.in-Some.is c.next.ensures.steps in
     rw (length_push c.loop-group.yielded c.in-Some.group)
     (next-group c.loop-group.octets.items c.push_group.new.octets.items c.in-Some.group.now
-    (slice_split is_blank c.args.text.now) (length c.loop-group.yielded) (loose_octets c.args.text.now) at
+    (slice_split is_blank c.args.text.now) (length c.loop-group.yielded) (grouped_octets c.args.text.now) at
     c.in_ok-push_group.ensures c.loop-group.invariant)
 
 pub returns-in_err-push_group : goal.returns-in_err-push_group
@@ -28,7 +28,7 @@ returns-in_err-push_group c =
     let fault = err_from_is_err_and c.from_residual-in_err-push_group.result c.from_residual-in_err-push_group.ensures.1
     in
     rw (fault.1, fault.2) (next-fault c.loop-group.octets.items c.push_group.new.octets.items c.in-Some.group.now
-    (slice_split is_blank c.args.text.now) (length c.loop-group.yielded) (loose_octets c.args.text.now)
+    (slice_split is_blank c.args.text.now) (length c.loop-group.yielded) (grouped_octets c.args.text.now)
     c.in_err-push_group.field-0.0 at c.in_err-push_group.ensures c.loop-group.invariant)
 
 pub returns : goal.returns
@@ -38,4 +38,4 @@ returns c =
     c.split-group-items.ensures.done c.split-group-items.ensures.closure (λ x r q k. search (rules, tests))))
     c.loop-group.yielded _ c.loop-group.yielded_by _ _ c.in-None.is c.next.ensures.steps in
     rw c.of.ensures (inr (no-more c.loop-group.octets.items (slice_split is_blank c.args.text.now)
-    (length c.loop-group.yielded) (loose_octets c.args.text.now) end.1 c.loop-group.invariant))
+    (length c.loop-group.yielded) (grouped_octets c.args.text.now) end.1 c.loop-group.invariant))

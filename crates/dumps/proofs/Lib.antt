@@ -1,0 +1,5 @@
+pub mod Reading
+pub mod Lines
+pub mod Octets
+pub mod Sources
+pub mod SourceOctets

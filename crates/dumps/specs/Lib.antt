@@ -1,0 +1,5 @@
+pub mod Characters
+pub mod Dump
+pub mod Taking
+pub mod Words
+pub mod Source

@@ -1,0 +1,6 @@
+-- What a dump that is read has taken.
+use Rattle.dumps.specs.Dump.{Taken}
+use Rattle.dumps.specs.declared.line.Dump.{Dump}
+
+abbrev pub taken : Dump → Taken
+taken dump = record { octets = dump.octets.items; row = dump.row.items; before = dump.before }

@@ -1,0 +1,37 @@
+//! Why a text gives no octets.
+
+ghost use Rattle.std.specs.Prelude.{◌≡◌};
+
+use std::alloc::AllocError;
+use std::error::Error;
+use std::fmt::{self, Display, Formatter, Write};
+
+/// Why a text gives no octets.
+#[derive(Clone, Copy, Debug, PartialEq, Eq)]
+pub enum DumpFault {
+    /// The text isn't in the form.
+    Form,
+    /// A growth of memory was refused.
+    Memory,
+}
+
+impl Display for DumpFault {
+    fn fmt<W: Write>(&self, f: &mut Formatter<W>) -> fmt::Result {
+        match self {
+            DumpFault::Form => f.write_str("not in the form"),
+            DumpFault::Memory => f.write_str("memory"),
+        }
+    }
+}
+
+impl Error for DumpFault {}
+
+impl From<AllocError> for DumpFault {
+    ghost use Rattle.dumps.specs.declared.fault.DumpFault.{DumpFault};
+
+    ghost from_gives = { λ _ fault. fault ≡ DumpFault.Memory };
+
+    fn from(_: AllocError) -> DumpFault {
+        DumpFault::Memory
+    }
+}

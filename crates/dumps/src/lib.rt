@@ -1,0 +1,18 @@
+//! Octets as other programs write them: dumps with offsets, and lists in sources.
+//!
+//! What a text gives is a function of the text, by its lines in `specs/Dump.antt` and by its characters in
+//! `specs/Source.antt`: octets, or that it isn't in the form. A text that could be read in two ways isn't.
+#![tactic(auto)]
+
+pub mod dump;
+pub mod fault;
+mod line;
+mod row;
+pub mod source;
+mod text;
+mod turn;
+mod word;
+
+pub use dump::dump_octets;
+pub use fault::DumpFault;
+pub use source::source_octets;

@@ -1,0 +1,114 @@
+//! A row of a dump, after its offset.
+
+ghost use Rattle.std.specs.Prelude.{◌≡◌, ◌-◌, [], false, true, length, option_map, IfOk};
+ghost use Rattle.dumps.specs.Dump.{halves, has_column, is_bare, is_marked, is_row, row_groups, row_of, style_of, IsRow};
+ghost use Rattle.dumps.specs.Characters.{groups};
+
+use crate::fault::DumpFault;
+use crate::text::{after_blanks, after_shown, push_groups};
+use std::alloc::AllocError;
+
+/// Which program's row it is.
+#[derive(Clone, Copy, Debug, PartialEq, Eq)]
+pub(crate) enum Style {
+    /// `00000000: 3b80 8001 01                             ;....`, as xxd writes it.
+    Xxd,
+    /// `00000000  3b 80 80 01 01                                    |;....|`, as `hexdump -C` writes it.
+    Hexdump,
+    /// `000000 3b 80 80 01 01`, as `od -Ax -tx1` writes it, or with `>;....<` at the end.
+    Od,
+}
+
+/// Which program's row has this after an offset of so many digits, and what is after the blanks there.
+pub(crate) fn style_of(digits: usize, text: &[u8]) -> Option<(Style, &[u8])>
+    ensures { option_map (λ row. (row.0, row.1.now)) result ≡ style_of digits text.now }
+{
+    match text {
+        [b':', b' ', row @ ..] if digits >= 8 => Some((Style::Xxd, row)),
+        [b' ', b' ', row @ ..] if digits >= 8 => Some((Style::Hexdump, row)),
+        [_] => None,
+        [b' ', row @ ..] => Some((Style::Od, row)),
+        _ => None,
+    }
+}
+
+/// Puts the octets of a row in place of others.
+pub(crate) fn read_row(row: &mut Vec<u8>, style: Style, text: &[u8]) -> Result<(), DumpFault>
+    ensures { IsRow (row_of style text.now) row.new.items result }
+{
+    row.clear();
+    let rest = push_row(row, style, text)?;
+    if is_row(style, row, rest) {
+        Ok(())
+    } else {
+        Err(DumpFault::Form)
+    }
+}
+
+/// Adds the octets of a row to none, and gives what is after them and one blank.
+fn push_row<'a>(row: &mut Vec<u8>, style: Style, text: &'a [u8]) -> Result<&'a [u8], AllocError>
+    requires { row.old.items ≡ [] }
+    ensures { IfOk result (λ rest. (row.new.items, rest.now) ≡ row_groups style text.now) }
+{
+    match style {
+        Style::Xxd => push_groups(row, text, true, true),
+        Style::Od => push_groups(row, text, false, true),
+        Style::Hexdump => push_halves(row, text),
+    }
+}
+
+/// The same of a row in two halves of eight octets.
+fn push_halves<'a>(row: &mut Vec<u8>, text: &'a [u8]) -> Result<&'a [u8], AllocError>
+    requires { row.old.items ≡ [] }
+    ensures { IfOk result (λ rest.
+        (row.new.items, rest.now) ≡ halves (groups false true text.now)) }
+{
+    let rest = push_groups(row, text, false, true)?;
+    if row.len() == 8 {
+        return push_groups(row, rest, false, false);
+    }
+    Ok(rest)
+}
+
+/// Whether there is an octet, and the column that shows them.
+fn is_row(style: Style, octets: &[u8], text: &[u8]) -> bool
+    ensures { result ≡ is_row style (octets.now, text.now) }
+{
+    !octets.is_empty() && has_column(style, octets, text)
+}
+
+/// Whether the column that shows the octets comes after them. `od` may leave it out.
+fn has_column(style: Style, octets: &[u8], text: &[u8]) -> bool
+    ensures { result ≡ has_column style octets.now text.now }
+{
+    match style {
+        Style::Xxd => is_bare(octets, text),
+        Style::Hexdump => text.starts_with(b" ")
+            && is_marked(b'|', b'|', octets, after_blanks(text)),
+        Style::Od => {
+            text.is_empty()
+                || text.starts_with(b" ") && is_marked(b'>', b'<', octets, after_blanks(text))
+        }
+    }
+}
+
+/// Whether blanks are there, and then one character for each octet.
+fn is_bare(octets: &[u8], text: &[u8]) -> bool
+    ensures { result ≡ is_bare (length text.now - length octets.now) octets.now text.now }
+{
+    let pad = text.len().saturating_sub(octets.len());
+    let (blanks, column) = text.split_at(pad);
+    pad >= 1 && after_blanks(blanks).is_empty() && matches!(after_shown(octets, column), Some([]))
+}
+
+/// Whether a mark, one character for each octet and a mark are there.
+fn is_marked(first: u8, last: u8, octets: &[u8], text: &[u8]) -> bool
+    ensures { result ≡ is_marked first last octets.now text.now }
+{
+    match text {
+        [x, column @ ..] => {
+            *x == first && matches!(after_shown(octets, column), Some([y]) if *y == last)
+        }
+        [] => false,
+    }
+}

@@ -1,0 +1,149 @@
+//! Characters of a text, from the front: digits, groups of them, blanks.
+
+ghost use Rattle.std.specs.Prelude.{◌≡◌, ℕ, List, Option, Some, None, IfOk, option_map, if◌then◌else◌};
+ghost use Rattle.dumps.specs.Characters.{after_blanks, after_shown, digit, front_octet, groups, is_pair, joined_to, octet_at, offset_from, shown, step};
+
+use std::alloc::AllocError;
+
+/// What stands for a character that is no digit.
+pub(crate) const NO_DIGIT: u8 = 16;
+
+/// The greatest offset that is told from others: the most octets of an input.
+pub(crate) const GREATEST_OFFSET: usize = 4_194_304;
+
+/// The value of a digit in either case, 16 for any other character.
+pub(crate) fn digit(x: u8) -> u8
+    ensures { result ≡ digit x }
+{
+    match x {
+        b'0'..=b'9' => x - b'0',
+        b'A'..=b'F' => x - b'A' + 10,
+        b'a'..=b'f' => x - b'a' + 10,
+        _ => NO_DIGIT,
+    }
+}
+
+/// The octet that two digits write.
+pub(crate) fn pair(x: u8, y: u8) -> Option<u8>
+    ensures { result ≡ (if is_pair x y then Some (octet_at x y) else None) }
+{
+    let high = digit(x);
+    let low = digit(y);
+    if high < NO_DIGIT && low < NO_DIGIT {
+        Some(high * 16 + low)
+    } else {
+        None
+    }
+}
+
+/// The number that the digits in front of a text write, and what is after them. A number that is greater
+/// than the greatest offset counts as one more than that.
+pub(crate) fn offset(text: &[u8]) -> (usize, &[u8])
+    ensures { (result.0, result.1.now) ≡ offset_from 0 text.now }
+{
+    let mut number = 0;
+    let mut rest = text;
+    while let [x, after @ ..] = rest {
+        let value = digit(*x);
+        if value == NO_DIGIT {
+            break;
+        }
+        number = (number * 16 + usize::from(value)).min(GREATEST_OFFSET + 1);
+        rest = after;
+    }
+    (number, rest)
+}
+
+/// Adds the octets of the groups in front of a text, and gives what is after them. `joins` says whether a
+/// group may have more than one octet, `spaced` whether a blank is before the text.
+pub(crate) fn push_groups<'a>(
+    octets: &mut Vec<u8>,
+    text: &'a [u8],
+    joins: bool,
+    spaced: bool,
+) -> Result<&'a [u8], AllocError>
+    ensures { IfOk result (λ rest. (octets.new.items, rest.now)
+        ≡ joined_to octets.old.items (groups joins spaced text.now)) }
+{
+    let mut may_begin = spaced;
+    let mut rest = text;
+    while let Some((octet, after)) = step(rest, joins, may_begin) {
+        match octet {
+            None => may_begin = true,
+            Some(octet) => {
+                octets.push(octet)?;
+                may_begin = false;
+            }
+        }
+        rest = after;
+    }
+    Ok(rest)
+}
+
+/// The blank or the octet that a text of groups begins with, and what is after it.
+fn step(text: &[u8], joins: bool, spaced: bool) -> Option<(Option<u8>, &[u8])>
+    ensures { option_map (λ s. (s.0, s.1.now)) result ≡ step joins spaced text.now }
+{
+    match text {
+        [b' ', after @ ..] if !spaced => Some((None, after)),
+        _ => front_octet(text, spaced || joins),
+    }
+}
+
+/// The octet in front of a text, if it may be there, and what is after it.
+fn front_octet(text: &[u8], may_begin: bool) -> Option<(Option<u8>, &[u8])>
+    ensures { option_map (λ s. (s.0, s.1.now)) result ≡ front_octet may_begin text.now }
+{
+    match text {
+        [x, y, after @ ..] if may_begin => octet_and(pair(*x, *y), after),
+        _ => None,
+    }
+}
+
+/// An octet, if there is one, and what is after it.
+fn octet_and(octet: Option<u8>, after: &[u8]) -> Option<(Option<u8>, &[u8])>
+    ensures { option_map (λ s. (s.0, s.1.now)) result
+        ≡ option_map {U = Option ℕ × List ℕ} (λ o. (Some o, after.now)) octet }
+{
+    match octet {
+        Some(octet) => Some((Some(octet), after)),
+        None => None,
+    }
+}
+
+/// What is after the blanks in front of a text.
+pub(crate) fn after_blanks(text: &[u8]) -> &[u8]
+    ensures { result.now ≡ after_blanks text.now }
+{
+    let mut rest = text;
+    while let [b' ', after @ ..] = rest {
+        rest = after;
+    }
+    rest
+}
+
+/// The character by which a column shows an octet.
+fn shown(octet: u8) -> u8
+    ensures { result ≡ shown octet }
+{
+    match octet {
+        b' '..=b'~' => octet,
+        _ => b'.',
+    }
+}
+
+/// What is after the characters of these octets, which the text has to begin with.
+pub(crate) fn after_shown<'a>(octets: &[u8], text: &'a [u8]) -> Option<&'a [u8]>
+    ensures { option_map (λ rest. rest.now) result ≡ after_shown octets.now text.now }
+{
+    let mut left = octets;
+    let mut rest = text;
+    while let [octet, more @ ..] = left {
+        match rest {
+            [x, after @ ..] if *x == shown(*octet) => rest = after,
+            _ => return None,
+        }
+        left = more;
+    }
+    Some(rest)
+}

@@ -1,0 +1,114 @@
+//! The words of octets in a source, of at most four characters.
+
+ghost use Rattle.std.specs.Prelude.{◌≡◌};
+ghost use Rattle.dumps.specs.Words.{has_letter, is_prefix, longer, marked, octet_of, suffixed, written};
+
+use crate::text::{NO_DIGIT, digit, pair};
+
+/// How an octet is written.
+#[derive(Clone, Copy, Debug, PartialEq, Eq)]
+pub(crate) enum Writing {
+    /// `3B`.
+    Plain,
+    /// `0x3B`, or `0x0`.
+    Marked,
+    /// `3Bh`.
+    Suffixed,
+    /// `\x3b`.
+    Escaped,
+}
+
+/// The characters of a word so far.
+#[derive(Clone, Copy, Debug, PartialEq, Eq)]
+pub(crate) enum Word {
+    /// None.
+    Empty,
+    /// One.
+    One(u8),
+    /// Two.
+    Two(u8, u8),
+    /// Three.
+    Three(u8, u8, u8),
+    /// Four, the most that an octet has.
+    Four(u8, u8, u8, u8),
+}
+
+impl Word {
+    /// The word with one more character.
+    pub(crate) fn longer(self, x: u8) -> Option<Word>
+        ensures { result ≡ longer self x }
+    {
+        match self {
+            Word::Empty => Some(Word::One(x)),
+            Word::One(a) => Some(Word::Two(a, x)),
+            Word::Two(a, b) => Some(Word::Three(a, b, x)),
+            Word::Three(a, b, c) => Some(Word::Four(a, b, c, x)),
+            Word::Four(..) => None,
+        }
+    }
+
+    /// The octet that the word writes, and how.
+    pub(crate) fn octet(self) -> Option<(Writing, u8)>
+        ensures { result ≡ octet_of self }
+    {
+        match self {
+            Word::Two(a, b) => written(Writing::Plain, pair(a, b)),
+            Word::Three(b'0', b'x' | b'X', c) => marked(c),
+            Word::Three(a, b, c) => suffixed(a, b, c),
+            Word::Four(b'0', b'x' | b'X', c, d) => written(Writing::Marked, pair(c, d)),
+            Word::Four(b'\\', b'x', c, d) => written(Writing::Escaped, pair(c, d)),
+            _ => None,
+        }
+    }
+
+    /// Whether it is a pair with a letter, or more than a pair.
+    pub(crate) fn has_letter(self) -> bool
+        ensures { result ≡ has_letter self }
+    {
+        match self {
+            Word::Two(a, b) => a > b'9' || b > b'9',
+            Word::Three(..) | Word::Four(..) => true,
+            _ => false,
+        }
+    }
+
+    /// Whether it is Python's mark of a string of octets.
+    pub(crate) fn is_prefix(self) -> bool
+        ensures { result ≡ is_prefix self }
+    {
+        matches!(self, Word::One(b'b' | b'B'))
+    }
+}
+
+/// An octet that is written so, if there is one.
+fn written(writing: Writing, octet: Option<u8>) -> Option<(Writing, u8)>
+    ensures { result ≡ written writing octet }
+{
+    match octet {
+        Some(octet) => Some((writing, octet)),
+        None => None,
+    }
+}
+
+/// The octet that one digit writes after its mark.
+fn marked(x: u8) -> Option<(Writing, u8)>
+    ensures { result ≡ marked x }
+{
+    let value = digit(x);
+    if value == NO_DIGIT {
+        None
+    } else {
+        Some((Writing::Marked, value))
+    }
+}
+
+/// The octet that two digits write before an `h`.
+fn suffixed(a: u8, b: u8, c: u8) -> Option<(Writing, u8)>
+    ensures { result ≡ suffixed a b c }
+{
+    if c == b'h' || c == b'H' {
+        written(Writing::Suffixed, pair(a, b))
+    } else {
+        None
+    }
+}
