@@ -5,8 +5,7 @@
  * from libscard.a. It can do so over libscard.a alone: libscard.so has its own, and takes no others.
  *
  * The calls that take memory say so by MEMORY among their statuses in scard.h, and the calls of an open handle may give
- * it back. A program that makes none of these calls needs no such functions, where its linker drops unused sections
- * (-Wl,--gc-sections).
+ * it back. A program that makes none of these calls needs no such functions: the others are an object of their own.
  */
 #ifndef SCARD_HEAP_H
 #define SCARD_HEAP_H

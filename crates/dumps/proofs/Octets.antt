@@ -186,5 +186,6 @@ dump-octets text octets h =
     let last = both-steps (with_lines nothing_taken (slice_split is_line_end text)) _ octets h in
     let proper : IsProper last.0 =
     with-lines-proper (slice_split is_line_end text) nothing_taken last.0 (no-octets, no-octets) last.1 in
-    subst AreOctets (same last.0.octets octets (tested (nat_le (length last.0.octets) 4194304 && may_end last.0.before) (Ok last.0.octets) octets last.2))
+    subst AreOctets (same last.0.octets octets
+    (tested (nat_le (length last.0.octets) 4194304 && may_end last.0.before) (Ok last.0.octets) octets last.2))
     proper.0

@@ -5,21 +5,15 @@ ghost use Rattle.atr_core.specs.T1.{IsUsable};
 ghost use Rattle.t1_core.specs.Came.{class_of, quiet};
 ghost use Rattle.t1_core.specs.Terminal.{new_terminal, transmit, ask_ifs, takes};
 ghost use Rattle.t1_core.specs.Card.{new_card, replies, more_time, ask_ifs as card_ask_ifs, takes as card_takes};
-ghost use Rattle.scard_c.specs.declared.engine.Engine.TheVariants.{Terminal as TerminalEnd, Card as CardEnd};
-ghost use Rattle.scard_c.specs.Verdict.{wrong_argument, no_memory, ok_at};
-ghost use Rattle.scard_c.specs.Calls.{Takes};
-ghost use Rattle.scard_c.specs.Ends.{no_room, TerminalTakes, CardTakes, message_of, PutsMessage};
+ghost use Rattle.c_owned.specs.declared.engine.Engine.TheVariants.{Terminal as TerminalEnd, Card as CardEnd};
+ghost use Rattle.c_lent.specs.Verdict.{wrong_argument, no_memory, ok_at};
+ghost use Rattle.c_lent.specs.Turns.{no_room};
+ghost use Rattle.c_owned.specs.Ends.{TerminalTakes, CardTakes, message_of, PutsMessage};
 
-use crate::call::{Call, CardCall, TerminalCall};
-use crate::engine::Engine;
-use crate::handle::Handle;
-use crate::output::put;
-use crate::turn::{CTurn, NO_END};
-use crate::verdict::Verdict;
-use atr_core::T1Params;
-use block_core::LONGEST_BLOCK;
+use c_lent::turn::CTurn;
+use c_lent::verdict::Verdict;
+use c_owned::handle::Handle;
 use std::alloc::Global;
-use t1_core::{Card, Terminal};
 
 /// Opens a terminal for a card with these parameters of T=1; what the handle held is freed. It reserves all
 /// the memory that it needs. `ARGUMENT` where `ifsc` is 0 or 255, or an index is above 15. Unless it is
@@ -40,13 +34,7 @@ pub extern "C" fn scard_terminal_open(
     ensures memory { IsUsable (record { ifsc = ifsc; bwi = bwi; cwi = cwi }) →
         result.status ≢ 0 → result ≡ no_memory }
 {
-    let Some(params) = T1Params::new(ifsc, bwi, cwi) else {
-        return Verdict::argument();
-    };
-    match Terminal::new(alloc, params) {
-        Ok(terminal) => opened(alloc, handle, Engine::Terminal(terminal)),
-        Err(_) => Verdict::memory(),
-    }
+    c_owned::ends::terminal_open(alloc, handle, ifsc, bwi, cwi)
 }
 
 /// Opens a card with these parameters of T=1; what the handle held is freed. It reserves all the memory
@@ -68,27 +56,7 @@ pub extern "C" fn scard_card_open(
     ensures memory { IsUsable (record { ifsc = ifsc; bwi = bwi; cwi = cwi }) →
         result.status ≢ 0 → result ≡ no_memory }
 {
-    let Some(params) = T1Params::new(ifsc, bwi, cwi) else {
-        return Verdict::argument();
-    };
-    match Card::new(alloc, params) {
-        Ok(card) => opened(alloc, handle, Engine::Card(card)),
-        Err(_) => Verdict::memory(),
-    }
-}
-
-pub(crate) fn opened(alloc: Global, handle: &mut Handle, engine: Engine) -> Verdict
-    ensures ok { result.status ≡ 0 → (result ≡ ok_at 0) × (handle.new.engine ≡ Some engine) }
-    ensures stays { result.status ≢ 0 → handle.new.engine ≡ handle.old.engine }
-    ensures memory { result.status ≢ 0 → result ≡ no_memory }
-{
-    match Box::new(alloc, engine) {
-        Ok(engine) => {
-            handle.put(engine);
-            Verdict::ok(0)
-        }
-        Err(_) => Verdict::memory(),
-    }
+    c_owned::ends::card_open(alloc, handle, ifsc, bwi, cwi)
 }
 
 /// Frees what the handle holds, if anything.
@@ -96,7 +64,7 @@ pub(crate) fn opened(alloc: Global, handle: &mut Handle, engine: Engine) -> Verd
 pub extern "C" fn scard_close(alloc: Global, handle: &mut Handle)
     ensures { handle.new.engine ≡ None }
 {
-    drop(handle.take(alloc));
+    c_owned::ends::close(alloc, handle)
 }
 
 /// The terminal's application hands over a command of at most 65,544 octets.
@@ -114,12 +82,7 @@ pub extern "C" fn scard_terminal_transmit(
         TerminalTakes (λ _. transmit command.now)
         handle.old.engine handle.new.engine out.old out.new result }
 {
-    turn(
-        alloc,
-        handle,
-        Call::Terminal(TerminalCall::Transmit(command)),
-        out,
-    )
+    c_owned::ends::terminal_transmit(alloc, handle, command, out)
 }
 
 /// The line delivered these octets to the terminal as one block.
@@ -137,12 +100,7 @@ pub extern "C" fn scard_terminal_received(
         TerminalTakes (λ t. takes (class_of t.ifsd octets.now))
         handle.old.engine handle.new.engine out.old out.new result }
 {
-    turn(
-        alloc,
-        handle,
-        Call::Terminal(TerminalCall::Received(octets)),
-        out,
-    )
+    c_owned::ends::terminal_received(alloc, handle, octets, out)
 }
 
 /// Nothing came to the terminal within the waiting time.
@@ -155,7 +113,7 @@ pub extern "C" fn scard_terminal_quiet(alloc: Global, handle: &mut Handle, out: 
         TerminalTakes (λ _. takes quiet)
         handle.old.engine handle.new.engine out.old out.new result }
 {
-    turn(alloc, handle, Call::Terminal(TerminalCall::Quiet), out)
+    c_owned::ends::terminal_quiet(alloc, handle, out)
 }
 
 /// The terminal asks the card to send information fields of up to `size` octets, 1 to 254.
@@ -173,12 +131,7 @@ pub extern "C" fn scard_terminal_ask_ifs(
         TerminalTakes (λ _. ask_ifs size)
         handle.old.engine handle.new.engine out.old out.new result }
 {
-    turn(
-        alloc,
-        handle,
-        Call::Terminal(TerminalCall::AskIfs(size)),
-        out,
-    )
+    c_owned::ends::terminal_ask_ifs(alloc, handle, size, out)
 }
 
 /// The line delivered these octets to the card as one block.
@@ -196,7 +149,7 @@ pub extern "C" fn scard_card_received(
         CardTakes (λ c. card_takes (class_of c.ifsc octets.now))
         handle.old.engine handle.new.engine out.old out.new result }
 {
-    turn(alloc, handle, Call::Card(CardCall::Received(octets)), out)
+    c_owned::ends::card_received(alloc, handle, octets, out)
 }
 
 /// The card's host hands over its reply of at most 65,538 octets.
@@ -214,7 +167,7 @@ pub extern "C" fn scard_card_reply(
         CardTakes (λ _. replies octets.now)
         handle.old.engine handle.new.engine out.old out.new result }
 {
-    turn(alloc, handle, Call::Card(CardCall::Reply(octets)), out)
+    c_owned::ends::card_reply(alloc, handle, octets, out)
 }
 
 /// The card's host asks for more waiting time, by any multiple of it.
@@ -232,7 +185,7 @@ pub extern "C" fn scard_card_more_time(
         CardTakes (λ _. more_time multiple)
         handle.old.engine handle.new.engine out.old out.new result }
 {
-    turn(alloc, handle, Call::Card(CardCall::MoreTime(multiple)), out)
+    c_owned::ends::card_more_time(alloc, handle, multiple, out)
 }
 
 /// The card asks the terminal to send information fields of up to `size` octets, 1 to 254.
@@ -250,27 +203,7 @@ pub extern "C" fn scard_card_ask_ifs(
         CardTakes (λ _. card_ask_ifs size)
         handle.old.engine handle.new.engine out.old out.new result }
 {
-    turn(alloc, handle, Call::Card(CardCall::AskIfs(size)), out)
-}
-
-/// The turn of the end in a handle that a call gives.
-#[inline(always)]
-fn turn(alloc: Global, handle: &mut Handle, call: Call<'_>, out: &mut [u8]) -> CTurn
-    ensures room { length out.old < 258 → result ≡ no_room }
-    ensures stays { length out.old < 258 →
-        (handle.new.engine ≡ handle.old.engine) × (out.new ≡ out.old) }
-    ensures turn { 258 ≤ length out.old →
-        Takes call.entry handle.old.engine handle.new.engine out.old out.new result }
-{
-    if out.len() < LONGEST_BLOCK {
-        return CTurn::no_room();
-    }
-    let Some(mut engine) = handle.take(alloc) else {
-        return CTurn::of(NO_END);
-    };
-    let turn = engine.called(call, out);
-    handle.put(engine);
-    turn
+    c_owned::ends::card_ask_ifs(alloc, handle, size, out)
 }
 
 /// Puts the answer of a terminal into a buffer, from the turn that completes it on until the next command
@@ -281,19 +214,5 @@ pub extern "C" fn scard_message(alloc: Global, handle: &mut Handle, out: &mut [u
     ensures message { PutsMessage (message_of handle.old.engine) out.old out.new result }
     ensures stays { handle.new.engine ≡ handle.old.engine }
 {
-    let Some(engine) = handle.take(alloc) else {
-        return Verdict::argument();
-    };
-    let verdict = put_message(&engine, out);
-    handle.put(engine);
-    verdict
-}
-
-fn put_message(engine: &Engine, out: &mut [u8]) -> Verdict
-    ensures { PutsMessage (message_of (Some engine.now)) out.old out.new result }
-{
-    match engine.message() {
-        Some(message) => put(message, out),
-        None => Verdict::argument(),
-    }
+    c_owned::ends::message(alloc, handle, out)
 }

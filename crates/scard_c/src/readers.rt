@@ -1,32 +1,22 @@
 //! Readers of octets that come in pieces, in handles.
 
-ghost use Rattle.std.specs.Prelude.{◌≡◌, ◌≢◌, ◌≤◌, ◌<◌, ℕ, Some, IfSome, IfNone};
+ghost use Rattle.std.specs.Prelude.{◌≡◌, ◌≢◌, ◌≤◌, ◌<◌, Some, IfSome, IfNone};
 ghost use Rattle.atr_core.specs.Taking.{nothing_taken as no_atr};
 ghost use Rattle.block_core.specs.Taking.{nothing_taken as no_block};
 ghost use Rattle.chain_core.specs.Chain.{longest_message};
 ghost use Rattle.chain_core.specs.Taking.{nothing_taken as no_chain};
 ghost use Rattle.tlv_core.specs.Forest.{largest};
-ghost use Rattle.tlv_core.specs.Check.{Checked, HasChecked};
-ghost use Rattle.scard_c.specs.declared.engine.Engine.TheVariants.{InPieces};
-ghost use Rattle.scard_c.specs.declared.reader.Reader.TheVariants.{Atr as AtrIn, Block as BlockIn, Chain as ChainIn, Forest as ForestIn};
-ghost use Rattle.scard_c.specs.Verdict.{ok_at, no_memory, wrong_argument};
-ghost use Rattle.scard_c.specs.Number.{IsReserved, number_of};
-ghost use Rattle.scard_c.specs.Readers.{Feeds, Ends, AtrOf, GivesAtr, BlockOf, IsNewCheck};
+ghost use Rattle.c_owned.specs.declared.engine.Engine.TheVariants.{InPieces};
+ghost use Rattle.c_owned.specs.declared.reader.Reader.TheVariants.{Atr as AtrIn, Block as BlockIn, Chain as ChainIn};
+ghost use Rattle.c_lent.specs.Verdict.{ok_at, no_memory, wrong_argument};
+ghost use Rattle.c_lent.specs.Number.{IsReserved, number_of};
+ghost use Rattle.c_owned.specs.Readers.{Feeds, Ends, AtrOf, BlockOf, IsNewCheck};
 
-use crate::atr::{self, CAtr};
-use crate::block::{self, CBlock};
-use crate::ends::opened;
-use crate::engine::Engine;
-use crate::handle::Handle;
-use crate::number::{is_reserved, number_of};
-use crate::output::put;
-use crate::reader::Reader;
-use crate::verdict::{OK, Verdict};
-use atr_core::AtrReader;
-use block_core::{BlockReader, encode};
-use chain_core::{LONGEST_MESSAGE, Receiver};
+use c_lent::atr::CAtr;
+use c_lent::block::CBlock;
+use c_lent::verdict::Verdict;
+use c_owned::handle::Handle;
 use std::alloc::Global;
-use tlv_core::{ForestCheck, LARGEST_FOREST};
 
 /// Opens a reader of one answer to reset; what the handle held is freed. Unless it is `OK` the handle
 /// stays.
@@ -37,8 +27,7 @@ pub extern "C" fn scard_atr_reader_open(alloc: Global, handle: &mut Handle) -> V
     ensures memory { result.status ≢ 0 → result ≡ no_memory }
     ensures stays { result.status ≢ 0 → handle.new.engine ≡ handle.old.engine }
 {
-    let reader = Reader::Atr(AtrReader::new());
-    opened(alloc, handle, Engine::InPieces(reader))
+    c_owned::readers::atr_reader_open(alloc, handle)
 }
 
 /// Opens a reader of one block under an information size of 1 to 254, `ARGUMENT` for 0 and 255; what the
@@ -51,11 +40,7 @@ pub extern "C" fn scard_block_reader_open(alloc: Global, handle: &mut Handle, if
     ensures memory { (IsReserved ifs → ⊥) → result.status ≢ 0 → result ≡ no_memory }
     ensures stays { result.status ≢ 0 → handle.new.engine ≡ handle.old.engine }
 {
-    if is_reserved(ifs) {
-        return Verdict::argument();
-    }
-    let reader = Reader::Block(BlockReader::new(ifs));
-    opened(alloc, handle, Engine::InPieces(reader))
+    c_owned::readers::block_reader_open(alloc, handle, ifs)
 }
 
 /// Opens a receiver of one chain under an information size of 1 to 254, whose first block has the number
@@ -79,16 +64,7 @@ pub extern "C" fn scard_receiver_open(
         result.status ≢ 0 → result ≡ no_memory) }
     ensures stays { result.status ≢ 0 → handle.new.engine ≡ handle.old.engine }
 {
-    if is_reserved(ifs) || max > LONGEST_MESSAGE {
-        return Verdict::argument();
-    }
-    let Some(number) = number_of(ns) else {
-        return Verdict::argument();
-    };
-    match Receiver::new(alloc, ifs, number, max) {
-        Ok(receiver) => opened(alloc, handle, Engine::InPieces(Reader::Chain(receiver))),
-        Err(_) => Verdict::memory(),
-    }
+    c_owned::readers::receiver_open(alloc, handle, ifs, ns, max)
 }
 
 /// Opens a check of a forest of at most `max` octets, `ARGUMENT` above 1,048,576; what the handle held is
@@ -101,11 +77,7 @@ pub extern "C" fn scard_tlv_check_open(alloc: Global, handle: &mut Handle, max: 
     ensures memory { max ≤ largest → result.status ≢ 0 → result ≡ no_memory }
     ensures stays { result.status ≢ 0 → handle.new.engine ≡ handle.old.engine }
 {
-    if max > LARGEST_FOREST {
-        return Verdict::argument();
-    }
-    let check = Reader::Forest(ForestCheck::new(max));
-    opened(alloc, handle, Engine::InPieces(check))
+    c_owned::readers::tlv_check_open(alloc, handle, max)
 }
 
 /// Gives the next octets to a reader. `OK`: it is whole, and took `place` octets of this piece, the rest
@@ -115,12 +87,7 @@ pub extern "C" fn scard_tlv_check_open(alloc: Global, handle: &mut Handle, max: 
 pub extern "C" fn scard_reader_feed(alloc: Global, handle: &mut Handle, piece: &[u8]) -> Verdict
     ensures { Feeds handle.old.engine piece.now handle.new.engine result }
 {
-    let Some(mut engine) = handle.take(alloc) else {
-        return Verdict::argument();
-    };
-    let verdict = engine.feed(piece);
-    handle.put(engine);
-    verdict
+    c_owned::readers::reader_feed(alloc, handle, piece)
 }
 
 /// What there is to say of all octets that a reader was given: `OK` with place 0 where they are whole,
@@ -130,12 +97,7 @@ pub extern "C" fn scard_reader_finish(alloc: Global, handle: &mut Handle) -> Ver
     ensures answer { Ends handle.old.engine result }
     ensures stays { handle.new.engine ≡ handle.old.engine }
 {
-    let Some(engine) = handle.take(alloc) else {
-        return Verdict::argument();
-    };
-    let verdict = engine.finish();
-    handle.put(engine);
-    verdict
+    c_owned::readers::reader_finish(alloc, handle)
 }
 
 /// The answer to reset of a reader, once it is whole. `ARGUMENT` with place 0 where there is none.
@@ -148,33 +110,7 @@ pub extern "C" fn scard_atr_reader_value(
     ensures answer { AtrOf handle.old.engine out.old out.new result }
     ensures stays { handle.new.engine ≡ handle.old.engine }
 {
-    let Some(engine) = handle.take(alloc) else {
-        return Verdict::argument();
-    };
-    let verdict = atr_value(&engine, out);
-    handle.put(engine);
-    verdict
-}
-
-fn atr_value(engine: &Engine, out: &mut CAtr) -> Verdict
-    ensures { AtrOf (Some engine.now) out.old out.new result }
-{
-    match engine {
-        Engine::InPieces(Reader::Atr(reader)) => answer_of(reader, out),
-        _ => Verdict::argument(),
-    }
-}
-
-fn answer_of(reader: &AtrReader, out: &mut CAtr) -> Verdict
-    ensures { GivesAtr reader.now out.old out.new result }
-{
-    match reader.value() {
-        Some(atr) => {
-            *out = atr::seen(atr);
-            Verdict::ok(0)
-        }
-        None => Verdict::argument(),
-    }
+    c_owned::readers::atr_reader_value(alloc, handle, out)
 }
 
 /// The block of a reader, once it is whole, with its octets in a buffer. `ARGUMENT` with place 0 where there
@@ -189,26 +125,5 @@ pub extern "C" fn scard_block_reader_value(
     ensures answer { BlockOf handle.old.engine out.old out.new octets.old octets.new result }
     ensures stays { handle.new.engine ≡ handle.old.engine }
 {
-    let Some(engine) = handle.take(alloc) else {
-        return Verdict::argument();
-    };
-    let verdict = block_value(&engine, out, octets);
-    handle.put(engine);
-    verdict
-}
-
-fn block_value(engine: &Engine, out: &mut CBlock, octets: &mut [u8]) -> Verdict
-    ensures { BlockOf (Some engine.now) out.old out.new octets.old octets.new result }
-{
-    let Engine::InPieces(Reader::Block(reader)) = engine else {
-        return Verdict::argument();
-    };
-    let Some(block) = reader.value() else {
-        return Verdict::argument();
-    };
-    let verdict = put(encode(block).as_slice(), octets);
-    if verdict.status == OK {
-        *out = block::seen(block.nad(), block.pcb(), block.inf());
-    }
-    verdict
+    c_owned::readers::block_reader_value(alloc, handle, out, octets)
 }

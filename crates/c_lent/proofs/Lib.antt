@@ -1,0 +1,4 @@
+pub mod Firsts
+pub mod Lending
+pub mod Puts
+pub mod Turns

@@ -1,0 +1,65 @@
+-- What C is told of a turn whose octets were put into the buffer is what it is told of the turn.
+use Rattle.std.proofs.Common.{◌≡◌, ℕ, ◌++◌, List, drop, sym, ap, subst, ◌∙◌}
+use Rattle.std.specs.Prelude.{Result, Ok, Err}
+use Rattle.t1_core.specs.declared.turns.TerminalTurn.{TerminalTurn}
+use Rattle.t1_core.specs.declared.turns.TerminalTurn.TheVariants.{Send, Answered, IfsSet, GivenUp, Dead}
+use Rattle.t1_core.specs.declared.turns.TerminalPut.{TerminalPut}
+use Rattle.t1_core.specs.declared.turns.TerminalFault.{TerminalFault}
+use Rattle.t1_core.specs.declared.turns.TerminalFault.TheVariants as fault
+use Rattle.t1_core.specs.declared.turns.CardTurn.{CardTurn}
+use Rattle.t1_core.specs.declared.turns.CardTurn.TheVariants as card_turns
+use Rattle.t1_core.specs.declared.turns.CardPut.{CardPut}
+use Rattle.t1_core.specs.declared.turns.CardFault.{CardFault}
+use Rattle.t1_core.specs.declared.turns.CardFault.TheVariants as card_fault
+use Rattle.t1_core.specs.Put.{IsTerminalPut, IsCardPut}
+use Rattle.t1_core.specs.Waiting.{waiting_times}
+use Rattle.block_core.specs.Block.{Parts, IsPut}
+use Rattle.c_lent.specs.declared.turn.CTurn.{CTurn}
+use Rattle.c_lent.specs.Turns.{Sends, IsTerminalTurn, IsCardTurn}
+use Rattle.c_lent.specs.Calls.{told_terminal, told_card}
+
+sent : (wait : ℕ) (block : Parts) (old new : List ℕ) (count : ℕ) (turn : CTurn)
+    → turn ≡ record { kind = 0; wait = wait; count = count } → IsPut block old new count → Sends wait block old new turn
+sent wait block old new count turn is put = record {
+  octets = put.octets;
+  spells = put.spells;
+  turn_is = is ∙ ap (λ (n : ℕ). record { kind = 0; wait = wait; count = n }) put.counted;
+  buffer = put.buffer ∙ ap (λ (n : ℕ). put.octets ++ drop n old) put.counted;
+}
+
+terminal-told : (given : Result TerminalTurn TerminalFault) (old new : List ℕ)
+    (answer : Result TerminalPut TerminalFault) → IsTerminalPut given old new answer
+    → IsTerminalTurn given old new (told_terminal answer)
+terminal-told (Ok (Send block)) old new answer (count, is, put) =
+    sent (waiting_times (Send block)) block old new count (told_terminal answer) (ap told_terminal is) put
+terminal-told (Ok Answered) old new answer (is, same) = (ap told_terminal is, same)
+terminal-told (Ok IfsSet) old new answer (is, same) = (ap told_terminal is, same)
+terminal-told (Ok GivenUp) old new answer (is, same) = (ap told_terminal is, same)
+terminal-told (Ok Dead) old new answer (is, same) = (ap told_terminal is, same)
+terminal-told (Err fault.Dead) old new answer (is, same) = (ap told_terminal is, same)
+terminal-told (Err fault.Busy) old new answer (is, same) = (ap told_terminal is, same)
+terminal-told (Err fault.TooLong) old new answer (is, same) = (ap told_terminal is, same)
+terminal-told (Err fault.Reserved) old new answer (is, same) = (ap told_terminal is, same)
+terminal-told (Err fault.Idle) old new answer (is, same) = (ap told_terminal is, same)
+
+card-told : (given : Result CardTurn CardFault) (old new : List ℕ) (answer : Result CardPut CardFault)
+    → IsCardPut given old new answer → IsCardTurn given old new (told_card answer)
+card-told (Ok (card_turns.Send block)) old new answer (count, is, put) =
+    sent 0 block old new count (told_card answer) (ap told_card is) put
+card-told (Ok card_turns.Asked) old new answer (is, same) = (ap told_card is, same)
+card-told (Err card_fault.Order) old new answer (is, same) = (ap told_card is, same)
+card-told (Err card_fault.TooLong) old new answer (is, same) = (ap told_card is, same)
+card-told (Err card_fault.Reserved) old new answer (is, same) = (ap told_card is, same)
+
+-- what C is told of a terminal's turn whose octets were put into the buffer is what it is told of the turn
+pub terminal_told : (given : Result TerminalTurn TerminalFault) (old new : List ℕ)
+    (answer : Result TerminalPut TerminalFault) (turn : CTurn) → IsTerminalPut given old new answer
+    → turn ≡ told_terminal answer → IsTerminalTurn given old new turn
+terminal_told given old new answer turn put is =
+    subst (λ (t : CTurn). IsTerminalTurn given old new t) (sym is) (terminal-told given old new answer put)
+
+-- the same of a card's turn
+pub card_told : (given : Result CardTurn CardFault) (old new : List ℕ) (answer : Result CardPut CardFault)
+    (turn : CTurn) → IsCardPut given old new answer → turn ≡ told_card answer → IsCardTurn given old new turn
+card_told given old new answer turn put is =
+    subst (λ (t : CTurn). IsCardTurn given old new t) (sym is) (card-told given old new answer put)

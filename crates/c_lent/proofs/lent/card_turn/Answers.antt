@@ -1,0 +1,37 @@
+use Rattle.std.proofs.Common.{refl, sym, subst, arith}
+use Rattle.t1_core.specs.Card.{CardState, card_turn, turn_of}
+use Rattle.t1_core.specs.CardViews.{card_held}
+use Rattle.c_lent.specs.Calls.{card_input}
+use Rattle.c_lent.specs.Lent.{lent, TurnsCard}
+use Rattle.c_lent.proofs.Turns.{card_told}
+use Rattle.c_lent.proofs.Lending.{card-held-by}
+use Rattle.c_lent.proofs.lent.card_turn.Goals as goal
+
+pub returns : goal.returns
+returns c =
+    let p = c.in-Some.places in
+    let before : CardState = card_held p c.args.command.now c.args.reply.now in
+    record {
+      room = λ lt. absurd (omega (arith, lt, c.if-out-lt-LONGEST_BLOCK.false));
+      none = λ le none. absurd (none before (record {
+        places = p;
+        spelled = c.in-Some.ensures.some.0;
+        fit = c.in-Some.ensures.some.1;
+        held = refl;
+      }));
+      called = λ le t is.
+          subst (λ (s : CardState). TurnsCard s (card_input c.args.call s)
+          (lent c.of-2.result c.lend-put.new.command c.lend-put.new.reply)
+          c.args.out.now c.lend-put.new.out c.of_card.result)
+          (sym (card-held-by c.args.state.now c.args.command.now c.args.reply.now t p c.in-Some.ensures.some.0 is))
+          (record {
+            state = record {
+              places = c.lend-put.new.end;
+              spelled = c.of-2.ensures;
+              fit = c.lend-put.ensures.fit;
+              held = sym c.lend-put.ensures.state;
+            };
+            turn_is = card_told (turn_of (card_turn before (card_input c.args.call before))) c.args.out.now
+                c.lend-put.new.out c.lend-put.result c.of_card.result c.lend-put.ensures.turn c.of_card.ensures;
+          });
+    }

@@ -1,0 +1,71 @@
+-- The state of a receiver of a chain as C keeps it.
+use Rattle.std.specs.Prelude.{◌≡◌, ℕ, ◌==◌, if◌then◌else◌, List, length, Bool, Option, Some, None}
+use Rattle.octet_core.specs.declared.stop.Refusal.{Refusal}
+use Rattle.block_core.specs.declared.pcb.Number.{Number}
+use Rattle.chain_core.specs.declared.part.Part.{Part}
+use Rattle.chain_core.specs.declared.part.Part.TheVariants.{Nad, Pcb, Len, Rest}
+use Rattle.chain_core.specs.declared.places.ReceiverPlaces.{ReceiverPlaces}
+use Rattle.chain_core.specs.declared.reason.ChainReason.{ChainReason}
+use Rattle.chain_core.specs.declared.reason.ChainReason.TheVariants.{BadNad, BadPcb, NotInfo, BadSequence, TooManyBlocks, BadLen, OverIfs, TooLong, BadLrc}
+use Rattle.chain_core.specs.Taking.{Taking}
+use Rattle.chain_core.specs.Places.{AreReceiverPlaces, received_at}
+use Rattle.c_lent.specs.Number.{number_of}
+use Rattle.c_lent.specs.Kept.{mark_of}
+use Rattle.c_lent.specs.declared.kept_receiver.CReceiver.{CReceiver}
+
+-- what comes next of the block under way, by its number
+abbrev pub part_of : ℕ → Bool → ℕ → Option Part
+part_of kind more len =
+    if kind == 0 then Some Nad
+    else (if kind == 1 then Some Pcb
+    else (if kind == 2 then Some (Len more)
+    else (if kind == 3 then Some (Rest more len) else None)))
+
+-- a refusal at this place
+abbrev pub refused_at : ChainReason → ℕ → Option (Option (Refusal ChainReason))
+refused_at reason place = Some (Some (record { place = place; reason = reason }))
+
+-- the refusal that is kept, by the number of its reason, or 0 where there is none
+abbrev pub refusal_from : ℕ → ℕ → Option (Option (Refusal ChainReason))
+refusal_from n place =
+    if n == 0 then Some None
+    else (if n == 1 then refused_at BadNad place
+    else (if n == 2 then refused_at BadPcb place
+    else (if n == 3 then refused_at NotInfo place
+    else (if n == 4 then refused_at BadSequence place
+    else (if n == 5 then refused_at TooManyBlocks place
+    else (if n == 6 then refused_at BadLen place
+    else (if n == 7 then refused_at OverIfs place
+    else (if n == 8 then refused_at TooLong place
+    else (if n == 9 then refused_at BadLrc place else None)))))))))
+
+abbrev pub part_from : CReceiver → Option Bool → Option Part
+part_from c None = None
+part_from c (Some more) = part_of c.part more c.len
+
+abbrev pub receiver_from : CReceiver → Option Number → Option Part → Option Bool → Option (Option (Refusal ChainReason))
+    → Option ReceiverPlaces
+receiver_from c (Some first) (Some part) (Some is_done) (Some refusal) = Some (record {
+  ifs = c.ifs;
+  first = first;
+  max = c.max;
+  blocks = c.blocks;
+  joined = c.joined;
+  part = part;
+  came = c.came;
+  done = is_done;
+  refusal = refusal;
+})
+receiver_from c first part is_done refusal = None
+
+-- the places that a state spells, if any
+abbrev pub receiver_of : CReceiver → Option ReceiverPlaces
+receiver_of c = receiver_from c (number_of c.number) (part_from c (mark_of c.more)) (mark_of c.done)
+    (refusal_from c.refused c.refused_at)
+
+-- A state and a buffer are this receiver. Where they are none, no receiver is it.
+pub record IsReceiver (c : CReceiver) (message : List ℕ) (r : Taking) : Type 0 where
+  pub places : ReceiverPlaces
+  pub spelled : receiver_of c ≡ Some places
+  pub fit : AreReceiverPlaces places (length message)
+  pub held : r ≡ received_at places message

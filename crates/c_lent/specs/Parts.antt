@@ -1,0 +1,115 @@
+-- The parts of a forest as C sees them.
+use Rattle.std.specs.Prelude.{◌≡◌, ℕ, ◌+◌, ◌-◌, ◌==◌, ◌&&◌, min, Bool, false, List, [], ◌∷◌, length, take, map, cond, if◌then◌else◌, bytes_eq, slice_get, Option, Some, None}
+use Rattle.tlv_core.specs.Tag.{constructed_bit}
+use Rattle.tlv_core.specs.TagView.{padded}
+use Rattle.tlv_core.specs.Form.{further}
+use Rattle.tlv_core.specs.Tree.{Tree, End, Filler, Primitive, Constructed}
+use Rattle.tlv_core.specs.Forest.{spelling}
+use Rattle.tlv_core.specs.Parts.{Placed, value_place, preorder, first_on}
+use Rattle.tlv_core.specs.declared.node.Node.{Node}
+use Rattle.tlv_core.specs.declared.node.Node.TheVariants as node
+use Rattle.tlv_core.specs.declared.part.PlacedPart.{PlacedPart}
+use Rattle.tlv_core.specs.Flat.{placed_of}
+use Rattle.c_lent.specs.declared.parts.CTag.{CTag}
+use Rattle.c_lent.specs.declared.parts.CPart.{CPart}
+
+-- a tag: its octets, with 0 after them up to three, and how many it has
+abbrev pub tag_shown : List ℕ → CTag
+tag_shown tag = record { octets = padded tag; count = length tag }
+
+-- an object, with the number of octets of its length field
+abbrev pub part_shown : Placed → CPart
+part_shown p = record {
+  depth = p.depth;
+  is_constructed = constructed_bit p.tag;
+  len_octets = 1 + further p.form;
+  tag =
+      tag_shown p.tag;
+  place = p.place;
+  len = p.len;
+}
+
+-- the objects of a forest, each before those inside it
+abbrev pub parts_shown : Tree → List CPart
+parts_shown t = map part_shown (preorder 1 0 t)
+
+-- ---- one part after another
+
+-- a part as it is put into the array
+abbrev pub part_put : PlacedPart → CPart
+part_put part = part_shown (placed_of part)
+
+-- ---- the first object on a path of tags
+
+-- the octets of a tag that C gives
+abbrev pub tag_of : CTag → List ℕ
+tag_of t = take t.count t.octets
+
+-- whether this is the tag of the path after so many
+abbrev pub tag_is : Option CTag → List ℕ → Bool
+tag_is None tag = false
+tag_is (Some t) tag = bytes_eq (tag_of t) tag
+
+-- whether a part is the next of the path, where the outermost objects around it are its first tags, so many
+abbrev pub is_on : List CTag → ℕ → CPart → Bool
+is_on path met p = (p.depth == met + 1) && tag_is (slice_get path met) (tag_of p.tag)
+
+-- the parts from the first one on that ends the path; so many tags were met by the objects that are open before them
+abbrev pub found : List CTag → ℕ → List CPart → List CPart
+found path met [] = []
+found path met (p ∷ parts) =
+    if is_on path (min met (p.depth - 1)) p
+    then (if min met (p.depth - 1) + 1 == length path then p ∷ parts else found path (min met (p.depth - 1) + 1) parts)
+    else found path (min met (p.depth - 1)) parts
+
+-- the first that there is
+abbrev pub or_placed : Option Placed → Option Placed → Option Placed
+or_placed None other = other
+or_placed (Some p) other = Some p
+
+-- The first object with the tag of a path of one. On a longer path, the first that the rest of the path finds in the nodes
+-- of an object with the first tag, these tried in order. The list is at depth d, and its octets begin at this place.
+abbrev pub first_placed : List (List ℕ) → ℕ → ℕ → Tree → Option Placed
+first_placed [] d at t = None
+first_placed (tag ∷ path) d at End = None
+first_placed (tag ∷ path) d at (Filler rest) = first_placed (tag ∷ path) d (at + 1) rest
+first_placed (tag ∷ []) d at (Primitive own form value rest) =
+    cond (bytes_eq tag own) (Some (record
+    { depth = d; tag = own; form = form; place = value_place at own form (length value); len = length value }))
+    (first_placed (tag ∷ []) d (value_place at own form (length value) + length value) rest)
+first_placed (tag ∷ next ∷ path) d at (Primitive own form value rest) =
+    first_placed (tag ∷ next ∷ path) d (value_place at own form (length value) + length value) rest
+first_placed (tag ∷ []) d at (Constructed own form nodes rest) =
+    cond (bytes_eq tag own) (Some (record {
+      depth = d;
+      tag = own;
+      form = form;
+      place = value_place at own form (length (spelling nodes));
+      len =
+          length (spelling nodes);
+    }))
+    (first_placed (tag ∷ []) d (value_place at own form (length (spelling nodes)) + length (spelling nodes)) rest)
+first_placed (tag ∷ next ∷ path) d at (Constructed own form nodes rest) =
+    or_placed (cond (bytes_eq tag own) (first_placed (next ∷ path) (d + 1)
+    (value_place at own form (length (spelling nodes))) nodes) None)
+    (first_placed (tag ∷ next ∷ path) d (value_place at own form (length (spelling nodes)) + length (spelling nodes))
+    rest)
+
+abbrev pub first_shown : Option Placed → Option CPart
+first_shown None = None
+first_shown (Some p) = Some (part_shown p)
+
+-- a node as tlv_core's own search gives it, and the object with its place
+abbrev pub IsSameObject : Option Node → Option Placed → Type 0
+IsSameObject None None = Unit {0}
+IsSameObject None (Some p) = ⊥
+IsSameObject (Some n) None = ⊥
+IsSameObject (Some node.Filler) (Some p) = ⊥
+IsSameObject (Some (node.Primitive tag form value)) (Some p) = (p.tag ≡ tag) × (p.form ≡ form) × (p.len ≡ length value)
+IsSameObject (Some (node.Constructed tag form nodes)) (Some p) =
+    (p.tag ≡ tag) × (p.form ≡ form) × (p.len ≡ length (spelling nodes))
+
+-- what is found in the parts of a forest on this path: nothing, or the part of the object that tlv_core's `first` finds
+pub record FindsFirst (path : List (List ℕ)) (t : Tree) (found : Option CPart) : Type 0 where
+  pub is : found ≡ first_shown (first_placed path 1 0 t)
+  pub same : IsSameObject (first_on path t) (first_placed path 1 0 t)

@@ -1,0 +1,291 @@
+//! Answers to reset (ISO/IEC 7816-3, clause 8).
+
+ghost use Rattle.std.specs.Prelude.{◌≡◌, ◌≢◌, ◌≤◌, length, map, SomeIff};
+ghost use Rattle.octet_core.specs.Grammar.{self_ended, Accepts, Refuses};
+ghost use Rattle.atr_core.specs.Atr.{AtrParts, IsAtr, IsReason, tck_of};
+ghost use Rattle.atr_core.specs.T1.{t1_params_of};
+ghost use Rattle.atr_core.specs.Rates.{rates_of};
+ghost use Rattle.c_lent.specs.Verdict.{Tells, Puts, ok_at, wrong_argument};
+ghost use Rattle.c_lent.specs.Atr.{atr_reason, byte_of, interface_of, indicated_of, convention_of, atr_of, SaysAtr, IsDecoded, IsT1, rates_seen};
+
+use crate::output::put;
+use crate::verdict::{ARGUMENT, Numbered, Verdict};
+use arrayvec::ArrayVec;
+use atr_core::{
+    Atr, AtrReason, Convention, Indicated, Interface, ParamFault, check, decode, encode, rates,
+    t1_params,
+};
+
+/// The interface bytes TA, TB and TC that T0 or one TD announces. A byte is there where its mark isn't 0.
+#[repr(C)]
+#[derive(Clone, Copy, Default)]
+pub struct CInterface {
+    pub has_ta: u8,
+    pub ta: u8,
+    pub has_tb: u8,
+    pub tb: u8,
+    pub has_tc: u8,
+    pub tc: u8,
+}
+
+/// One TD: the protocol that it indicates, and the bytes after it.
+#[repr(C)]
+#[derive(Clone, Copy, Default)]
+pub struct CIndicated {
+    pub protocol: u8,
+    pub bytes: CInterface,
+}
+
+/// An answer to reset.
+#[repr(C)]
+#[derive(Clone, Copy)]
+pub struct CAtr {
+    /// 0 direct, where TS is 3B; any other inverse, where it is 3F.
+    pub convention: u8,
+    /// TA1, TB1 and TC1.
+    pub first: CInterface,
+    /// How many TDs there are, at most 31.
+    pub indicated_count: u8,
+    pub indicated: [CIndicated; 31],
+    /// How many historical bytes there are, at most 15.
+    pub historical_count: u8,
+    pub historical: [u8; 15],
+    /// Whether TCK is there. Only read back: `encode` computes it.
+    pub has_tck: u8,
+    pub tck: u8,
+}
+
+/// The parameters of T=1.
+#[repr(C)]
+#[derive(Clone, Copy)]
+pub struct CT1 {
+    pub ifsc: u8,
+    pub bwi: u8,
+    pub cwi: u8,
+}
+
+/// The integers Fi and Di, 0 for one that is reserved.
+#[repr(C)]
+#[derive(Clone, Copy)]
+pub struct CRates {
+    pub fi: u16,
+    pub di: u16,
+}
+
+/// The verdict on octets as an answer to reset.
+pub fn atr_check(octets: &[u8]) -> Verdict
+    ensures ok { result.status ≡ 0 →
+        (atr : AtrParts) × Accepts self_ended IsAtr octets.now atr result.place }
+    ensures place { result.status ≡ 0 → result ≡ ok_at result.place }
+    ensures refused { result.status ≢ 0 →
+        Tells atr_reason (Refuses self_ended IsAtr IsReason octets.now) result }
+{
+    match check(octets) {
+        Ok(taken) => Verdict::ok(taken),
+        Err(stop) => Verdict::stopped(stop),
+    }
+}
+
+/// The answer to reset with which the octets begin.
+pub fn atr_decode(octets: &[u8], out: &mut CAtr) -> Verdict
+    ensures ok { result.status ≡ 0 → IsDecoded octets.now result out.new }
+    ensures place { result.status ≡ 0 → result ≡ ok_at result.place }
+    ensures refused { result.status ≢ 0 →
+        Tells atr_reason (Refuses self_ended IsAtr IsReason octets.now) result }
+    ensures stays { result.status ≢ 0 → out.new ≡ out.old }
+{
+    match decode(octets) {
+        Ok((atr, taken)) => {
+            *out = seen(&atr);
+            Verdict::ok(taken)
+        }
+        Err(stop) => Verdict::stopped(stop),
+    }
+}
+
+/// Writes the octets of an answer, at most 33.
+pub fn atr_encode(atr: &CAtr, out: &mut [u8]) -> Verdict
+    ensures written { SaysAtr atr.now → Puts (IsAtr (atr_of atr.now)) out.old out.new result }
+    ensures unfit { (SaysAtr atr.now → ⊥) → (result ≡ wrong_argument 0) × (out.new ≡ out.old) }
+{
+    match made(atr) {
+        Some(atr) => put(encode(&atr).as_slice(), out),
+        None => Verdict::argument(),
+    }
+}
+
+/// The parameters of T=1: 0 where the answer offers usable ones, 1 where it doesn't offer T=1, 2 where
+/// IFSC is reserved, 3 where it asks for the CRC, and `ARGUMENT` where the struct says no answer.
+pub fn atr_t1_params(atr: &CAtr, out: &mut CT1) -> u8
+    ensures params { SaysAtr atr.now → IsT1 (t1_params_of (atr_of atr.now)) out.old out.new result }
+    ensures unfit { (SaysAtr atr.now → ⊥) → (result ≡ 4) × (out.new ≡ out.old) }
+{
+    let Some(atr) = made(atr) else {
+        return ARGUMENT;
+    };
+    match t1_params(&atr) {
+        Ok(params) => {
+            *out = CT1 {
+                ifsc: params.ifsc(),
+                bwi: params.bwi(),
+                cwi: params.cwi(),
+            };
+            0
+        }
+        Err(ParamFault::NoT1) => 1,
+        Err(ParamFault::ReservedIfsc) => 2,
+        Err(ParamFault::Crc) => 3,
+    }
+}
+
+/// The integers Fi and Di that TA1 gives.
+pub fn atr_rates(atr: &CAtr, out: &mut CRates) -> u8
+    ensures rates { SaysAtr atr.now →
+        (result ≡ 0) × (out.new ≡ rates_seen (rates_of (atr_of atr.now))) }
+    ensures unfit { (SaysAtr atr.now → ⊥) → (result ≡ 4) × (out.new ≡ out.old) }
+{
+    let Some(atr) = made(atr) else {
+        return ARGUMENT;
+    };
+    let (fi, di) = rates(&atr);
+    *out = CRates {
+        fi: fi.unwrap_or(0),
+        di: di.unwrap_or(0),
+    };
+    0
+}
+
+/// The answer that a struct says, if it says one.
+fn made(atr: &CAtr) -> Option<Atr>
+    ensures { SomeIff result (SaysAtr atr.now) (atr_of atr.now) }
+{
+    let indicated = atr.indicated.get(..atr.indicated_count as usize)?;
+    let historical = atr.historical.get(..atr.historical_count as usize)?;
+    Atr::new(
+        convention(atr.convention),
+        interface(atr.first),
+        listed(indicated),
+        octets(historical),
+    )
+}
+
+fn convention(number: u8) -> Convention
+    ensures { result ≡ convention_of number }
+{
+    if number == 0 {
+        Convention::Direct
+    } else {
+        Convention::Inverse
+    }
+}
+
+fn interface(c: CInterface) -> Interface
+    ensures { result ≡ interface_of c }
+{
+    Interface {
+        ta: byte(c.has_ta, c.ta),
+        tb: byte(c.has_tb, c.tb),
+        tc: byte(c.has_tc, c.tc),
+    }
+}
+
+fn byte(mark: u8, byte: u8) -> Option<u8>
+    ensures { result ≡ byte_of mark byte }
+{
+    if mark == 0 { None } else { Some(byte) }
+}
+
+fn octets(given: &[u8]) -> ArrayVec<u8, 15>
+    requires { length given.now ≤ 15 }
+    ensures { result.items ≡ given.now }
+{
+    let mut octets = ArrayVec::new();
+    octets.try_extend_from_slice(given).unwrap();
+    octets
+}
+
+fn listed(given: &[CIndicated]) -> ArrayVec<Indicated, 31>
+    requires { length given.now ≤ 31 }
+    ensures { result.items ≡ map indicated_of given.now }
+{
+    let mut listed = ArrayVec::new();
+    for c in given {
+        listed.push(Indicated {
+            protocol: c.protocol,
+            bytes: interface(c.bytes),
+        });
+    }
+    listed
+}
+
+/// An answer as C sees it.
+pub fn seen(atr: &Atr) -> CAtr
+    ensures atr { atr_of result ≡ atr.now }
+    ensures tck { byte_of result.has_tck result.tck ≡ tck_of atr.now }
+{
+    let listed = listed_seen(atr.indicated());
+    let mut indicated = [CIndicated::default(); 31];
+    indicated[..listed.len()].copy_from_slice(listed.as_slice());
+    let mut historical = [0; 15];
+    let octets = atr.historical();
+    historical[..octets.len()].copy_from_slice(octets);
+    let tck = atr.tck();
+    CAtr {
+        convention: convention_seen(atr.convention()),
+        first: interface_seen(atr.first()),
+        indicated_count: listed.len() as u8,
+        indicated,
+        historical_count: octets.len() as u8,
+        historical,
+        has_tck: u8::from(tck.is_some()),
+        tck: tck.unwrap_or(0),
+    }
+}
+
+fn listed_seen(indicated: &[Indicated]) -> ArrayVec<CIndicated, 31>
+    requires { length indicated.now ≤ 31 }
+    ensures { map indicated_of result.items ≡ indicated.now }
+{
+    let mut seen = ArrayVec::new();
+    for x in indicated {
+        seen.push(CIndicated {
+            protocol: x.protocol,
+            bytes: interface_seen(x.bytes),
+        });
+    }
+    seen
+}
+
+fn convention_seen(convention: Convention) -> u8
+    ensures { convention_of result ≡ convention }
+{
+    match convention {
+        Convention::Direct => 0,
+        Convention::Inverse => 1,
+    }
+}
+
+fn interface_seen(bytes: Interface) -> CInterface
+    ensures { interface_of result ≡ bytes }
+{
+    CInterface {
+        has_ta: u8::from(bytes.ta.is_some()),
+        ta: bytes.ta.unwrap_or(0),
+        has_tb: u8::from(bytes.tb.is_some()),
+        tb: bytes.tb.unwrap_or(0),
+        has_tc: u8::from(bytes.tc.is_some()),
+        tc: bytes.tc.unwrap_or(0),
+    }
+}
+
+impl Numbered for AtrReason {
+    ghost number = { atr_reason };
+
+    fn number(self) -> u8 {
+        match self {
+            AtrReason::BadTs => 1,
+            AtrReason::TooLong => 2,
+            AtrReason::BadTck => 3,
+        }
+    }
+}

@@ -1,0 +1,94 @@
+//! The calls of both ends of a session, as C makes them.
+
+ghost use Rattle.std.specs.Prelude.{◌≡◌, ◌≤◌, length};
+ghost use Rattle.t1_core.specs.Terminal.{terminal_turn, turn_of, state_after};
+ghost use Rattle.t1_core.specs.Card.{card_turn, turn_of as card_turn_of, state_after as card_after};
+ghost use Rattle.t1_core.specs.Put.{IsTerminalPut, IsCardPut};
+ghost use Rattle.t1_core.specs.Views.{terminal_held, AreTerminalPlaces};
+ghost use Rattle.t1_core.specs.CardViews.{card_held, AreCardPlaces};
+ghost use Rattle.c_lent.specs.Calls.{terminal_input, card_input};
+
+use t1_core::{CardFault, CardPlaces, CardPut, TerminalFault, TerminalPlaces, TerminalPut};
+
+/// A call of a terminal.
+#[derive(Clone, Copy)]
+pub enum TerminalCall<'a> {
+    /// A command.
+    Transmit(&'a [u8]),
+    /// The octets of a block that came.
+    Received(&'a [u8]),
+    /// No block came.
+    Quiet,
+    /// A size to ask for.
+    AskIfs(u8),
+}
+
+/// A call of a card.
+#[derive(Clone, Copy)]
+pub enum CardCall<'a> {
+    /// The octets of a block that came.
+    Received(&'a [u8]),
+    /// The reply of its host.
+    Reply(&'a [u8]),
+    /// A multiple of the waiting time to ask for.
+    MoreTime(u8),
+    /// A size to ask for.
+    AskIfs(u8),
+}
+
+impl<'a> TerminalCall<'a> {
+    /// The same of a terminal over lent buffers.
+    pub fn lend(
+        self,
+        end: &mut TerminalPlaces,
+        command: &mut [u8],
+        answer: &mut [u8],
+        out: &mut [u8],
+    ) -> Result<TerminalPut, TerminalFault>
+        requires room { 258 ≤ length out.old }
+        requires fit { AreTerminalPlaces end.old (length command.old) (length answer.old) }
+        ensures turn { IsTerminalPut
+            (turn_of (terminal_turn (terminal_held end.old command.old answer.old)
+            (terminal_input self.entry (terminal_held end.old command.old answer.old)))) out.old out.new result }
+        ensures fit { AreTerminalPlaces end.new (length command.new) (length answer.new) }
+        ensures state { terminal_held end.new command.new answer.new ≡
+            state_after (terminal_held end.old command.old answer.old)
+            (terminal_turn (terminal_held end.old command.old answer.old)
+            (terminal_input self.entry (terminal_held end.old command.old answer.old))) }
+    {
+        match self {
+            TerminalCall::Transmit(octets) => end.transmit_into(command, answer, octets, out),
+            TerminalCall::Received(octets) => end.received_into(command, answer, octets, out),
+            TerminalCall::Quiet => end.quiet_into(command, answer, out),
+            TerminalCall::AskIfs(size) => end.ask_ifs_into(command, answer, size, out),
+        }
+    }
+}
+
+impl<'a> CardCall<'a> {
+    /// The same of a card over lent buffers.
+    pub fn lend(
+        self,
+        end: &mut CardPlaces,
+        command: &mut [u8],
+        reply: &mut [u8],
+        out: &mut [u8],
+    ) -> Result<CardPut, CardFault>
+        requires room { 258 ≤ length out.old }
+        requires fit { AreCardPlaces end.old (length command.old) (length reply.old) }
+        ensures turn { IsCardPut (card_turn_of (card_turn (card_held end.old command.old reply.old)
+            (card_input self.entry (card_held end.old command.old reply.old)))) out.old out.new result }
+        ensures fit { AreCardPlaces end.new (length command.new) (length reply.new) }
+        ensures state { card_held end.new command.new reply.new ≡
+            card_after (card_held end.old command.old reply.old)
+            (card_turn (card_held end.old command.old reply.old)
+            (card_input self.entry (card_held end.old command.old reply.old))) }
+    {
+        match self {
+            CardCall::Received(octets) => end.received_into(command, reply, octets, out),
+            CardCall::Reply(octets) => end.reply_into(command, reply, octets, out),
+            CardCall::MoreTime(multiple) => end.more_time_into(command, reply, multiple, out),
+            CardCall::AskIfs(size) => end.ask_ifs_into(command, reply, size, out),
+        }
+    }
+}

@@ -1,0 +1,290 @@
+//! The states of both ends, where the caller keeps them and has no allocator.
+
+ghost use Rattle.std.specs.Prelude.{◌≡◌, IfSome, IfNone, Some};
+ghost use Rattle.t1_core.specs.declared.places.TerminalPlaces.{TerminalPlaces};
+ghost use Rattle.t1_core.specs.declared.places.CardPlaces.{CardPlaces};
+ghost use Rattle.t1_core.specs.Views.{AreTerminalPlaces};
+ghost use Rattle.t1_core.specs.CardViews.{AreCardPlaces};
+ghost use Rattle.c_lent.specs.Number.{number_of};
+ghost use Rattle.c_lent.specs.Kept.{mark_of, saved_from, cut_at, terminal_wait_of, terminal_of, card_wait_of, card_of};
+
+use crate::number::number_of;
+use block_core::Number;
+use t1_core::{CardAsked, CardPlaces, CardWait, Cut, TerminalPlaces, TerminalWait};
+
+/// The state of a terminal. Its fields are the library's own: no other value than those that a call left is
+/// of use, and each call tests them.
+#[repr(C)]
+#[derive(Clone, Copy)]
+pub struct CTerminal {
+    pub number: u8,
+    pub expected: u8,
+    pub failures: u8,
+    pub ifsc: u8,
+    pub ifsd: u8,
+    pub first_ifsc: u8,
+    pub wait: u8,
+    pub size: u8,
+    pub is_answered: u8,
+    pub place: usize,
+    pub most_command: usize,
+    pub most_answer: usize,
+    pub command_len: usize,
+    pub answer_len: usize,
+}
+
+/// The state of a card, as that of a terminal.
+#[repr(C)]
+#[derive(Clone, Copy)]
+pub struct CCard {
+    pub number: u8,
+    pub expected: u8,
+    pub has_saved: u8,
+    pub saved_size: u8,
+    pub ifsc: u8,
+    pub ifsd: u8,
+    pub first_ifsc: u8,
+    pub wait: u8,
+    pub size: u8,
+    pub saved_place: usize,
+    pub place: usize,
+    pub most_command: usize,
+    pub most_reply: usize,
+    pub command_len: usize,
+    pub reply_len: usize,
+}
+
+/// What a mark says: 0 no, 1 yes.
+pub fn mark_of(mark: u8) -> Option<bool>
+    ensures { result ≡ mark_of mark }
+{
+    match mark {
+        0 => Some(false),
+        1 => Some(true),
+        _ => None,
+    }
+}
+
+/// The mark of an answer.
+pub fn mark(is_so: bool) -> u8
+    ensures { mark_of result ≡ Some is_so }
+{
+    if is_so { 1 } else { 0 }
+}
+
+/// The octet of a number.
+pub fn octet(number: Number) -> u8
+    ensures { number_of result ≡ Some number }
+{
+    match number {
+        Number::Zero => 0,
+        Number::One => 1,
+    }
+}
+
+/// What a terminal waits in.
+fn terminal_wait_of(kind: u8, size: u8, place: usize) -> Option<TerminalWait>
+    ensures { result ≡ terminal_wait_of kind size place }
+{
+    match kind {
+        0 => Some(TerminalWait::Idle),
+        1 => Some(TerminalWait::Ack(Cut { place, size })),
+        2 => Some(TerminalWait::Answer(Cut { place, size })),
+        3 => Some(TerminalWait::More),
+        4 => Some(TerminalWait::Ifs(size)),
+        5 => Some(TerminalWait::Resynch(size)),
+        6 => Some(TerminalWait::Dead),
+        _ => None,
+    }
+}
+
+/// Its number, a size or a count, and a place.
+fn terminal_waiting(wait: TerminalWait) -> (u8, u8, usize)
+    ensures { terminal_wait_of result.0 result.1 result.2 ≡ Some wait }
+{
+    match wait {
+        TerminalWait::Idle => (0, 0, 0),
+        TerminalWait::Ack(cut) => (1, cut.size, cut.place),
+        TerminalWait::Answer(cut) => (2, cut.size, cut.place),
+        TerminalWait::More => (3, 0, 0),
+        TerminalWait::Ifs(size) => (4, size, 0),
+        TerminalWait::Resynch(asked) => (5, asked, 0),
+        TerminalWait::Dead => (6, 0, 0),
+    }
+}
+
+/// What a card waits in.
+fn card_wait_of(kind: u8, size: u8, place: usize) -> Option<CardWait>
+    ensures { result ≡ card_wait_of kind size place }
+{
+    match kind {
+        0 => Some(CardWait::Command),
+        1 => Some(CardWait::Joining),
+        2 => Some(CardWait::Host),
+        3 => Some(CardWait::Reply(Cut { place, size })),
+        4 => Some(CardWait::Asking(CardAsked::Size(size))),
+        5 => Some(CardWait::Asking(CardAsked::Time(size))),
+        _ => None,
+    }
+}
+
+/// Its number, a size or a multiple, and a place.
+fn card_waiting(wait: CardWait) -> (u8, u8, usize)
+    ensures { card_wait_of result.0 result.1 result.2 ≡ Some wait }
+{
+    match wait {
+        CardWait::Command => (0, 0, 0),
+        CardWait::Joining => (1, 0, 0),
+        CardWait::Host => (2, 0, 0),
+        CardWait::Reply(cut) => (3, cut.size, cut.place),
+        CardWait::Asking(CardAsked::Size(size)) => (4, size, 0),
+        CardWait::Asking(CardAsked::Time(multiple)) => (5, multiple, 0),
+    }
+}
+
+/// The block that is saved, where the mark says that one is.
+fn saved_from(has_saved: bool, place: usize, size: u8) -> Option<Cut>
+    ensures { result ≡ saved_from has_saved (cut_at place size) }
+{
+    if has_saved {
+        Some(Cut { place, size })
+    } else {
+        None
+    }
+}
+
+/// Whether a block is saved, and its place and size.
+fn saving(saved: Option<Cut>) -> (bool, usize, u8)
+    ensures { saved_from result.0 (cut_at result.1 result.2) ≡ saved }
+{
+    match saved {
+        Some(cut) => (true, cut.place, cut.size),
+        None => (false, 0, 0),
+    }
+}
+
+impl CTerminal {
+    /// The state of these places.
+    pub fn of(places: &TerminalPlaces) -> CTerminal
+        ensures { terminal_of result ≡ Some places.now }
+    {
+        let (wait, size, place) = terminal_waiting(places.wait);
+        CTerminal {
+            number: octet(places.number),
+            expected: octet(places.expected),
+            failures: places.failures,
+            ifsc: places.ifsc,
+            ifsd: places.ifsd,
+            first_ifsc: places.first_ifsc,
+            wait,
+            size,
+            is_answered: mark(places.is_answered),
+            place,
+            most_command: places.most_command,
+            most_answer: places.most_answer,
+            command_len: places.command_len,
+            answer_len: places.joined_len,
+        }
+    }
+
+    /// The places that it spells, if any.
+    fn spelled(&self) -> Option<TerminalPlaces>
+        ensures { result ≡ terminal_of self.now }
+    {
+        Some(TerminalPlaces {
+            number: number_of(self.number)?,
+            expected: number_of(self.expected)?,
+            failures: self.failures,
+            ifsc: self.ifsc,
+            ifsd: self.ifsd,
+            first_ifsc: self.first_ifsc,
+            wait: terminal_wait_of(self.wait, self.size, self.place)?,
+            is_answered: mark_of(self.is_answered)?,
+            most_command: self.most_command,
+            most_answer: self.most_answer,
+            command_len: self.command_len,
+            joined_len: self.answer_len,
+        })
+    }
+
+    /// The places that it spells, where they fit buffers of these sizes.
+    pub fn places(&self, command: usize, answer: usize) -> Option<TerminalPlaces>
+        ensures some { IfSome result (λ places.
+            (terminal_of self.now ≡ Some places) × AreTerminalPlaces places command answer) }
+        ensures none { IfNone result
+            ((places : TerminalPlaces) → terminal_of self.now ≡ Some places →
+            AreTerminalPlaces places command answer → ⊥) }
+    {
+        let places = self.spelled()?;
+        if places.fits(command, answer) {
+            Some(places)
+        } else {
+            None
+        }
+    }
+}
+
+impl CCard {
+    /// The state of these places.
+    pub fn of(places: &CardPlaces) -> CCard
+        ensures { card_of result ≡ Some places.now }
+    {
+        let (wait, size, place) = card_waiting(places.wait);
+        let (has_saved, saved_place, saved_size) = saving(places.saved);
+        CCard {
+            number: octet(places.number),
+            expected: octet(places.expected),
+            has_saved: mark(has_saved),
+            saved_size,
+            ifsc: places.ifsc,
+            ifsd: places.ifsd,
+            first_ifsc: places.first_ifsc,
+            wait,
+            size,
+            saved_place,
+            place,
+            most_command: places.most_command,
+            most_reply: places.most_reply,
+            command_len: places.command_len,
+            reply_len: places.reply_len,
+        }
+    }
+
+    /// The places that it spells, if any.
+    fn spelled(&self) -> Option<CardPlaces>
+        ensures { result ≡ card_of self.now }
+    {
+        let number = number_of(self.number)?;
+        let expected = number_of(self.expected)?;
+        let wait = card_wait_of(self.wait, self.size, self.place)?;
+        let has_saved = mark_of(self.has_saved)?;
+        Some(CardPlaces {
+            number,
+            expected,
+            saved: saved_from(has_saved, self.saved_place, self.saved_size),
+            ifsc: self.ifsc,
+            ifsd: self.ifsd,
+            first_ifsc: self.first_ifsc,
+            wait,
+            most_command: self.most_command,
+            most_reply: self.most_reply,
+            command_len: self.command_len,
+            reply_len: self.reply_len,
+        })
+    }
+
+    /// The places that it spells, where they fit buffers of these sizes.
+    pub fn places(&self, command: usize, reply: usize) -> Option<CardPlaces>
+        ensures some { IfSome result (λ places.
+            (card_of self.now ≡ Some places) × AreCardPlaces places command reply) }
+        ensures none { IfNone result ((places : CardPlaces) → card_of self.now ≡ Some places →
+            AreCardPlaces places command reply → ⊥) }
+    {
+        let places = self.spelled()?;
+        if places.fits(command, reply) {
+            Some(places)
+        } else {
+            None
+        }
+    }
+}

@@ -1,0 +1,147 @@
+//! The state of a receiver of a chain, where the caller keeps it and has no allocator.
+
+ghost use Rattle.std.specs.Prelude.{◌≡◌, IfSome, IfNone, Some};
+ghost use Rattle.octet_core.specs.declared.stop.Refusal.{Refusal};
+ghost use Rattle.chain_core.specs.declared.part.Part.{Part};
+ghost use Rattle.chain_core.specs.declared.reason.ChainReason.{ChainReason};
+ghost use Rattle.chain_core.specs.declared.places.ReceiverPlaces.{ReceiverPlaces};
+ghost use Rattle.chain_core.specs.Places.{AreReceiverPlaces};
+ghost use Rattle.c_lent.specs.KeptReceiver.{part_of, refusal_from, receiver_of};
+
+use crate::kept::{mark, mark_of, octet};
+use crate::number::number_of;
+use crate::verdict::Numbered;
+use chain_core::{ChainReason, Part, ReceiverPlaces};
+use octet_core::Refusal;
+
+/// The state of a receiver. Its fields are the library's own: no other value than those that a call left is of use,
+/// and each call tests them.
+#[repr(C)]
+#[derive(Clone, Copy)]
+pub struct CReceiver {
+    pub refused_at: usize,
+    pub max: u32,
+    pub blocks: u32,
+    pub joined: u32,
+    pub ifs: u8,
+    pub number: u8,
+    pub part: u8,
+    pub more: u8,
+    pub len: u8,
+    pub came: u8,
+    pub done: u8,
+    pub refused: u8,
+}
+
+/// What comes next of the block under way, by its number.
+fn part_of(kind: u8, more: bool, len: u8) -> Option<Part>
+    ensures { result ≡ part_of kind more len }
+{
+    match kind {
+        0 => Some(Part::Nad),
+        1 => Some(Part::Pcb),
+        2 => Some(Part::Len { more }),
+        3 => Some(Part::Rest { more, len }),
+        _ => None,
+    }
+}
+
+/// Its number, whether more blocks follow, and the length of the field.
+fn part_number(part: Part) -> (u8, bool, u8)
+    ensures { part_of result.0 result.1 result.2 ≡ Some part }
+{
+    match part {
+        Part::Nad => (0, false, 0),
+        Part::Pcb => (1, false, 0),
+        Part::Len { more } => (2, more, 0),
+        Part::Rest { more, len } => (3, more, len),
+    }
+}
+
+/// Why an octet was refused, by its number, 0 where none was.
+fn refusal_from(number: u8, place: usize) -> Option<Option<Refusal<ChainReason>>>
+    ensures { result ≡ refusal_from number place }
+{
+    let reason = match number {
+        0 => return Some(None),
+        1 => ChainReason::BadNad,
+        2 => ChainReason::BadPcb,
+        3 => ChainReason::NotInfo,
+        4 => ChainReason::BadSequence,
+        5 => ChainReason::TooManyBlocks,
+        6 => ChainReason::BadLen,
+        7 => ChainReason::OverIfs,
+        8 => ChainReason::TooLong,
+        9 => ChainReason::BadLrc,
+        _ => return None,
+    };
+    Some(Some(Refusal { place, reason }))
+}
+
+/// The number and the place of a refusal, both 0 where there is none.
+fn refusal_number(refusal: Option<Refusal<ChainReason>>) -> (u8, usize)
+    ensures { refusal_from result.0 result.1 ≡ Some refusal }
+{
+    match refusal {
+        None => (0, 0),
+        Some(refusal) => (refusal.reason.number(), refusal.place),
+    }
+}
+
+impl CReceiver {
+    /// The state of these places.
+    pub fn of(places: &ReceiverPlaces) -> CReceiver
+        ensures { receiver_of result ≡ Some places.now }
+    {
+        let (part, more, len) = part_number(places.part);
+        let (refused, refused_at) = refusal_number(places.refusal);
+        CReceiver {
+            refused_at,
+            max: places.max,
+            blocks: places.blocks,
+            joined: places.joined,
+            ifs: places.ifs,
+            number: octet(places.first),
+            part,
+            more: mark(more),
+            len,
+            came: places.came,
+            done: mark(places.done),
+            refused,
+        }
+    }
+
+    /// The places that it spells, if any.
+    fn spelled(&self) -> Option<ReceiverPlaces>
+        ensures { result ≡ receiver_of self.now }
+    {
+        let first = number_of(self.number)?;
+        let more = mark_of(self.more)?;
+        let part = part_of(self.part, more, self.len)?;
+        let done = mark_of(self.done)?;
+        let refusal = refusal_from(self.refused, self.refused_at)?;
+        Some(ReceiverPlaces {
+            ifs: self.ifs,
+            first,
+            max: self.max,
+            blocks: self.blocks,
+            joined: self.joined,
+            part,
+            came: self.came,
+            done,
+            refusal,
+        })
+    }
+
+    /// The places that it spells, where they are those of a receiver with a buffer of so many octets.
+    pub fn places(&self, room: usize) -> Option<ReceiverPlaces>
+        ensures some { IfSome result
+            (λ places. (receiver_of self.now ≡ Some places) × AreReceiverPlaces places room) }
+        ensures none { IfNone result
+            ((places : ReceiverPlaces) → receiver_of self.now ≡ Some places →
+            AreReceiverPlaces places room → ⊥) }
+    {
+        let places = self.spelled()?;
+        if places.fit(room) { Some(places) } else { None }
+    }
+}

@@ -1,0 +1,52 @@
+//! The sizes of the structs that C and the library share.
+
+ghost use Rattle.std.specs.Prelude.{◌≡◌, slice_index};
+ghost use Rattle.c_lent.specs.Layout.{sizes};
+
+use crate::apdu::{CCommand, CResponse};
+use crate::atr::{CAtr, CIndicated, CInterface, CRates, CT1};
+use crate::block::CBlock;
+use crate::kept::{CCard, CTerminal};
+use crate::kept_check::{CCheck, CHeader};
+use crate::kept_receiver::CReceiver;
+use crate::names::CText;
+use crate::parts::{CKnown, CPart, CTag};
+use crate::turn::CTurn;
+use crate::verdict::Verdict;
+use std::mem::size_of;
+
+/// A handle as C sees it, a pointer and a mark. What it holds is only seen where there is memory.
+#[repr(C)]
+pub struct CHandle {
+    pub at: *mut u8,
+    pub is_full: bool,
+}
+
+/// How many octets a struct has in the library, by its number in the header; 0 for any other number.
+pub fn struct_size(number: u8) -> usize
+    ensures { result ≡ slice_index sizes number }
+{
+    match number {
+        1 => size_of::<Verdict>(),
+        2 => size_of::<CInterface>(),
+        3 => size_of::<CIndicated>(),
+        4 => size_of::<CAtr>(),
+        5 => size_of::<CT1>(),
+        6 => size_of::<CRates>(),
+        7 => size_of::<CBlock>(),
+        8 => size_of::<CCommand>(),
+        9 => size_of::<CResponse>(),
+        10 => size_of::<CTurn>(),
+        11 => size_of::<CTag>(),
+        12 => size_of::<CPart>(),
+        13 => size_of::<CKnown<'_>>(),
+        14 => size_of::<CHandle>(),
+        15 => size_of::<CTerminal>(),
+        16 => size_of::<CCard>(),
+        17 => size_of::<CHeader>(),
+        18 => size_of::<CCheck>(),
+        19 => size_of::<CReceiver>(),
+        20 => size_of::<CText>(),
+        _ => 0,
+    }
+}

@@ -1,0 +1,57 @@
+//! A check of a forest that comes in pieces, without an allocator: the caller keeps the state.
+
+ghost use Rattle.std.specs.Prelude.{◌≡◌, ◌≤◌, ◌<◌, Some};
+ghost use Rattle.tlv_core.specs.Forest.{largest};
+ghost use Rattle.c_lent.specs.Verdict.{wrong_argument};
+ghost use Rattle.c_lent.specs.LentCheck.{IsBegunCheck, CheckFed, CheckEnded};
+ghost use Rattle.c_lent.specs.Pieces.{told_checked};
+
+use crate::kept_check::CCheck;
+use crate::verdict::Verdict;
+use octet_core::Stop;
+use tlv_core::{CheckPlaces, LARGEST_FOREST, TlvReason};
+
+/// Begins a check of a forest of at most `max` octets, whatever the state was.
+pub fn lent_check_begin(state: &mut CCheck, max: usize) -> Verdict
+    ensures ok { max ≤ largest → IsBegunCheck max state.new result }
+    ensures argument { largest < max → (result ≡ wrong_argument 0) × (state.new ≡ state.old) }
+{
+    if max > LARGEST_FOREST {
+        return Verdict::argument();
+    }
+    *state = CCheck::of(&CheckPlaces::begin(max));
+    Verdict::ok(0)
+}
+
+/// Gives the next octets to a check.
+pub fn lent_check_feed(state: &mut CCheck, piece: &[u8]) -> Verdict
+    ensures { CheckFed state.old state.new piece.now result }
+{
+    let Some(mut places) = state.places() else {
+        return Verdict::argument();
+    };
+    let answer = places.feed(piece);
+    *state = CCheck::of(&places);
+    checked(answer, piece.len())
+}
+
+/// What there is to say of all octets that a check was given: `OK` with place 0 where they are a
+/// forest, `SHORT` at their end where one goes on, or the refusal.
+pub fn lent_check_finish(state: &CCheck) -> Verdict
+    ensures { CheckEnded state.now result }
+{
+    match state.places() {
+        Some(places) => Verdict::ended(places.finish()),
+        None => Verdict::argument(),
+    }
+}
+
+/// What a check of a forest answered to a piece of this length.
+pub fn checked(answer: Result<(), Stop<TlvReason>>, count: usize) -> Verdict
+    ensures { result ≡ told_checked count answer }
+{
+    match answer {
+        Ok(()) => Verdict::more(count),
+        Err(stop) => Verdict::stopped(stop),
+    }
+}

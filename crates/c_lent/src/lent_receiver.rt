@@ -1,0 +1,78 @@
+//! A receiver of a chain without an allocator (ISO/IEC 7816-3, clause 11.6): the caller keeps the state, and lends it
+//! and the buffer of the message to each call.
+
+ghost use Rattle.std.specs.Prelude.{◌≡◌, ◌≢◌, ◌≤◌, ◌<◌, ℕ, List, length, IfSome, IfNone};
+ghost use Rattle.chain_core.specs.Chain.{longest_message};
+ghost use Rattle.chain_core.specs.Taking.{Taking, nothing_taken};
+ghost use Rattle.c_lent.specs.Verdict.{ok_at, wrong_argument};
+ghost use Rattle.c_lent.specs.Number.{IsReserved, number_of};
+ghost use Rattle.c_lent.specs.Lent.{IsAtFront};
+ghost use Rattle.c_lent.specs.KeptReceiver.{IsReceiver};
+ghost use Rattle.c_lent.specs.Turns.{joined_of};
+ghost use Rattle.c_lent.specs.LentReceiver.{ReceiverFed, ReceiverEnded};
+
+use crate::kept_receiver::CReceiver;
+use crate::number::{is_reserved, number_of};
+use crate::verdict::Verdict;
+use chain_core::{LONGEST_MESSAGE, ReceiverPlaces};
+
+/// Begins a receiver of one chain under an information size of 1 to 254, whose first block has the
+/// number `ns` and whose message has at most `max` octets, itself at most 131,072, whatever the state
+/// was.
+pub fn lent_receiver_begin(state: &mut CReceiver, ifs: u8, ns: u8, max: usize) -> Verdict
+    ensures ok { (IsReserved ifs → ⊥)
+        → IfSome (number_of ns) (λ number. max ≤ longest_message → (result ≡ ok_at 0) ×
+        ((message : List ℕ) → max ≤ length message → IsReceiver state.new message (nothing_taken ifs number max))) }
+    ensures size { IsReserved ifs → result ≡ wrong_argument 0 }
+    ensures number { IfNone (number_of ns) (result ≡ wrong_argument 0) }
+    ensures long { longest_message < max → result ≡ wrong_argument 0 }
+    ensures stays { result.status ≢ 0 → state.new ≡ state.old }
+{
+    if is_reserved(ifs) || max > LONGEST_MESSAGE {
+        return Verdict::argument();
+    }
+    let Some(number) = number_of(ns) else {
+        return Verdict::argument();
+    };
+    *state = CReceiver::of(&ReceiverPlaces::begin(ifs, number, max as u32));
+    Verdict::ok(0)
+}
+
+/// Gives the next octets to a receiver, which puts those of the message to the front of the buffer.
+pub fn lent_receiver_feed(state: &mut CReceiver, message: &mut [u8], piece: &[u8]) -> Verdict
+    ensures { ReceiverFed state.old message.old piece.now state.new message.new result }
+{
+    let Some(mut places) = state.places(message.len()) else {
+        return Verdict::argument();
+    };
+    let answer = places.feed(message, piece);
+    *state = CReceiver::of(&places);
+    Verdict::fed(answer)
+}
+
+/// What there is to say of all octets that a receiver was given: `OK` with place 0 where they are a
+/// chain, `SHORT` at their end where one goes on, or the refusal.
+pub fn lent_receiver_finish(state: &CReceiver, message: &[u8]) -> Verdict
+    ensures { ReceiverEnded state.now message.now result }
+{
+    match state.places(message.len()) {
+        Some(places) => Verdict::ended(places.finish()),
+        None => Verdict::argument(),
+    }
+}
+
+/// How many octets at the front of the buffer are the message, once the chain is whole.
+pub fn lent_receiver_message(state: &CReceiver, message: &[u8]) -> Verdict
+    ensures message { (r : Taking) → IsReceiver state.now message.now r
+        → IsAtFront (joined_of r) message.now result }
+    ensures none { ((r : Taking) → IsReceiver state.now message.now r → ⊥)
+        → result ≡ wrong_argument 0 }
+{
+    let Some(places) = state.places(message.len()) else {
+        return Verdict::argument();
+    };
+    match places.message_len() {
+        Some(count) => Verdict::ok(count),
+        None => Verdict::argument(),
+    }
+}

@@ -1,0 +1,28 @@
+//! What the library for C does without memory: the codecs, both ends of T=1, a check of a forest and a receiver of a
+//! chain over what the caller lends, and the names of all that it tells.
+//!
+//! scard_lent exports each call that C makes, under its name after `scard_`, and says of it what a caller has to know.
+#![tactic(auto)]
+
+pub mod apdu;
+pub mod atr;
+pub mod block;
+pub mod call;
+pub mod chain;
+pub mod kept;
+pub mod kept_check;
+pub mod kept_receiver;
+pub mod layout;
+pub mod lent;
+pub mod lent_check;
+pub mod lent_receiver;
+pub mod names;
+pub mod number;
+pub mod octets;
+pub mod output;
+pub mod parts;
+pub mod timing;
+pub mod tlv;
+pub mod turn;
+pub mod verdict;
+pub mod version;

@@ -1,0 +1,49 @@
+//! The values of enums by the numbers that C has for them.
+
+ghost use Rattle.std.specs.Prelude.{◌≡◌, ◌↔◌, IsTrue};
+ghost use Rattle.c_lent.specs.Number.{number_of, fault_of, subject_of, IsReserved};
+
+use block_core::{Fault, Number, S};
+
+/// The number of an I-block: 0 or 1.
+pub fn number_of(number: u8) -> Option<Number>
+    ensures { result ≡ number_of number }
+{
+    match number {
+        0 => Some(Number::Zero),
+        1 => Some(Number::One),
+        _ => None,
+    }
+}
+
+/// What an R-block says: 0 no fault, 1 the redundancy check, 2 another fault.
+pub fn fault_of(fault: u8) -> Option<Fault>
+    ensures { result ≡ fault_of fault }
+{
+    match fault {
+        0 => Some(Fault::Free),
+        1 => Some(Fault::Redundancy),
+        2 => Some(Fault::Other),
+        _ => None,
+    }
+}
+
+/// What an S-block is about: 0 RESYNCH, 1 IFS, 2 ABORT, 3 WTX.
+pub fn subject_of(about: u8) -> Option<S>
+    ensures { result ≡ subject_of about }
+{
+    match about {
+        0 => Some(S::Resynch),
+        1 => Some(S::Ifs),
+        2 => Some(S::Abort),
+        3 => Some(S::Wtx),
+        _ => None,
+    }
+}
+
+/// Whether a size is reserved: 0 and 255 are.
+pub fn is_reserved(size: u8) -> bool
+    ensures { IsTrue result ↔ IsReserved size }
+{
+    size == 0 || size == 255
+}

@@ -1,0 +1,19 @@
+//! Octets that are put into a buffer of the caller's.
+
+ghost use Rattle.std.specs.Prelude.{◌≡◌, ◌≢◌};
+ghost use Rattle.c_lent.specs.Verdict.{put_verdict, put_into};
+
+use crate::verdict::Verdict;
+
+/// Puts octets at the front of a buffer. Where it has too little room it stays as it was.
+pub fn put(octets: &[u8], out: &mut [u8]) -> Verdict
+    ensures verdict { result ≡ put_verdict octets.now out.old }
+    ensures buffer { out.new ≡ put_into octets.now out.old }
+    ensures stays { result.status ≢ 0 → out.new ≡ out.old }
+{
+    if octets.len() > out.len() {
+        return Verdict::lacking(octets.len());
+    }
+    out[..octets.len()].copy_from_slice(octets);
+    Verdict::ok(octets.len())
+}

@@ -1,0 +1,134 @@
+//! The parts of a forest (EMV 4.3 Book 3, Annex B; ISO/IEC 7816-4, clause 5.2.2).
+
+ghost use Rattle.std.specs.Prelude.{◌≡◌, ◌≢◌, ◌≤◌, ◌<◌, length, map, drop, slice_get};
+ghost use Rattle.tlv_core.specs.Forest.{IsProper};
+ghost use Rattle.tlv_core.specs.Tree.{Tree};
+ghost use Rattle.c_lent.specs.Verdict.{put_verdict, put_into};
+ghost use Rattle.c_lent.specs.Parts.{part_put, tag_shown, tag_of, tag_is, is_on, found, parts_shown, FindsFirst};
+
+use crate::verdict::Verdict;
+use tlv_core::{PlacedPart, Tag};
+
+/// A tag: `count` octets, 1 to 3, and 0 after them.
+#[repr(C)]
+#[derive(Clone, Copy)]
+pub struct CTag {
+    pub octets: [u8; 3],
+    pub count: u8,
+}
+
+/// An object of a forest. Its value is `len` octets from place `place` on of the octets; that of a
+/// constructed one has its nodes.
+#[repr(C)]
+#[derive(Clone, Copy)]
+pub struct CPart {
+    /// The depth at which it is, 1 to 16.
+    pub depth: u8,
+    /// 1 where it is constructed, else 0.
+    pub is_constructed: u8,
+    /// How many octets its length field has, 1 to 5.
+    pub len_octets: u8,
+    pub tag: CTag,
+    pub place: usize,
+    pub len: usize,
+}
+
+/// A value that is known for a tag. `format` is 0 numeric, 1 compressed numeric, 2 any other.
+#[repr(C)]
+#[derive(Clone, Copy)]
+pub struct CKnown<'a> {
+    pub tag: CTag,
+    pub format: u8,
+    pub value: &'a [u8],
+}
+
+/// The place among the parts of a forest of the first object on a path of tags, or their number where
+/// there is none: for a path of one tag, of the first outermost object that has it; for a longer one,
+/// of the first that the rest of the path finds inside an object with the first tag, such objects tried
+/// in order.
+pub fn tlv_first(parts: &[CPart], path: &[CTag]) -> usize
+    ensures inside { result ≤ length parts.now }
+    ensures found { drop result parts.now ≡ found path.now 0 parts.now }
+    ensures tree { (t : Tree) → IsProper 1 t → parts.now ≡ parts_shown t →
+        FindsFirst (map tag_of path.now) t (slice_get parts.now result) }
+{
+    first_of(parts, path)
+}
+
+/// The place of the first part that ends the path, or the number of parts.
+fn first_of(parts: &[CPart], path: &[CTag]) -> usize
+    ensures inside { result ≤ length parts.now }
+    ensures found { drop result parts.now ≡ found path.now 0 parts.now }
+{
+    let mut met = 0;
+    for (index, part) in parts.iter().enumerate() {
+        met = met.min((part.depth as usize).saturating_sub(1));
+        if is_on(path, met, part) {
+            met += 1;
+            if met == path.len() {
+                return index;
+            }
+        }
+    }
+    parts.len()
+}
+
+/// Whether a part is the next of the path after so many tags.
+fn is_on(path: &[CTag], met: usize, part: &CPart) -> bool
+    requires { met < 256 }
+    ensures { result ≡ is_on path.now met part.now }
+{
+    part.depth as usize == met + 1 && is_tag_after(path, met, &part.tag)
+}
+
+fn is_tag_after(path: &[CTag], met: usize, tag: &CTag) -> bool
+    ensures { result ≡ tag_is (slice_get path.now met) (tag_of tag.now) }
+{
+    match path.get(met) {
+        Some(own) => octets_of(own) == octets_of(tag),
+        None => false,
+    }
+}
+
+/// The octets of a tag: a count above 3 is taken as 3.
+pub fn octets_of(tag: &CTag) -> &[u8]
+    ensures { result.now ≡ tag_of tag.now }
+{
+    &tag.octets[..(tag.count as usize).min(3)]
+}
+
+/// Puts parts into an array, if it has room for them.
+pub fn put_parts(parts: &[PlacedPart], out: &mut [CPart]) -> Verdict
+    ensures verdict { result ≡ put_verdict (map part_put parts.now) out.old }
+    ensures array { out.new ≡ put_into (map part_put parts.now) out.old }
+    ensures stays { result.status ≢ 0 → out.new ≡ out.old }
+{
+    if parts.len() > out.len() {
+        return Verdict::lacking(parts.len());
+    }
+    for (index, part) in parts.iter().enumerate() {
+        put_part(part, &mut out[index]);
+    }
+    Verdict::ok(parts.len())
+}
+
+/// Puts a part into its place, field by field: as a whole, the octets between fields would be written too.
+fn put_part(part: &PlacedPart, place: &mut CPart)
+    ensures { place.new ≡ part_put part.now }
+{
+    place.depth = part.depth;
+    place.is_constructed = u8::from(part.tag.is_constructed());
+    place.len_octets = part.form.octets() as u8;
+    place.tag = tag_shown(&part.tag);
+    place.place = part.place as usize;
+    place.len = part.len as usize;
+}
+
+fn tag_shown(tag: &Tag) -> CTag
+    ensures { result ≡ tag_shown tag.now }
+{
+    CTag {
+        octets: tag.padded(),
+        count: tag.octets().len() as u8,
+    }
+}

@@ -1,0 +1,35 @@
+//! The waiting times of T=1 (ISO/IEC 7816-3, clause 11.4).
+
+ghost use Rattle.std.specs.Prelude.{◌≡◌};
+ghost use Rattle.atr_core.specs.T1.{IsUsable};
+ghost use Rattle.atr_core.specs.Waiting.{block_waiting, character_waiting};
+ghost use Rattle.c_lent.specs.Atr.{t1_values};
+
+use crate::atr::CT1;
+use atr_core::T1Params;
+
+/// The character waiting time CWT in elementary time units, 12 to 32,779: 11 + 2^CWI. 0 where the
+/// struct says no parameters: IFSC is 0 or 255, or an index is above 15.
+pub fn t1_cwt(params: &CT1) -> u32
+    ensures cwt { IsUsable (t1_values params.now) →
+        result ≡ character_waiting (t1_values params.now) }
+    ensures unfit { (IsUsable (t1_values params.now) → ⊥) → result ≡ 0 }
+{
+    match T1Params::new(params.ifsc, params.bwi, params.cwi) {
+        Some(params) => params.cwt_etu(),
+        None => 0,
+    }
+}
+
+/// The block waiting time BWT in parts of an elementary time unit, `fi` of which are one unit: 11 x
+/// `fi` + 2^BWI x 960 x 372 x `di`. 0 where the struct says no parameters.
+pub fn t1_bwt(params: &CT1, fi: u16, di: u16) -> u64
+    ensures bwt { IsUsable (t1_values params.now) →
+        result ≡ block_waiting (t1_values params.now) fi di }
+    ensures unfit { (IsUsable (t1_values params.now) → ⊥) → result ≡ 0 }
+{
+    match T1Params::new(params.ifsc, params.bwi, params.cwi) {
+        Some(params) => params.bwt(fi, di),
+        None => 0,
+    }
+}

@@ -1,0 +1,3 @@
+pub mod Loosed
+pub mod Values
+pub mod Placing

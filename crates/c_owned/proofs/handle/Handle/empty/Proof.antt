@@ -1,0 +1,55 @@
+-- `empty` puts the fields together, and keeps nothing.
+use Rattle.std.proofs.Common.{◌≡◌, List, [], ◌∷◌, ◌++◌, refl, sym, subst}
+use mathlib.Core.Bool.{false}
+use mir.Val.{Val, vbool}
+use base.Logic.{SProp, ent, emp, id⊢}
+use contract.Monad.{fact, fact_i}
+use Rattle.std.specs.Prelude.{Option, None}
+use Rattle.c_owned.specs.contracts.engine.Engine as engine
+use prog.Wp.{WpFn}
+use types.Kit.{‵, raw, ◌⊛◌, ◌$◌, ◌∵◌, !, qed, by, move, keep, split, fsplit, fjoin, suffices, rewrite, use0, feq_i}
+use types.Run.{lit, false_lit, no_more, and_then, returns, enter}
+use types.ByLocal.{alloc_all, pass_all, free_all, look_at, get, sets}
+use types.Part.{agg}
+use contract.Running.{tables}
+use denote.Exit.{yes}
+use denote.RattleType.{owns}
+use denote.Signature.{types_at, plain}
+use denote.RawPtr.{null_ptr, ptr_val}
+use denote.Steps.{nothing}
+use denote.Param.{layout}
+use denote.Triple.Entry.{alive}
+use denote.Triple.Walked.{Stays, stay_dropped, walk_of, Goes-dropped}
+use Rattle.core.proofs.cell.Inside.{one}
+use Rattle.std.proofs.alloc.Global.TheLaws as heap_laws
+use Rattle.std.proofs.raw_atomic.Walks.{proved_at, leaves}
+use Rattle.c_owned.proofs.Values.{three, Z, handle_in, handle_good}
+use Rattle.c_owned.specs.contracts.handle.Handle.empty.{ended, clauses}
+use Rattle.c_owned.specs.contracts.handle.Handle.empty.Key.{name as #self}
+use Rattle.c_owned.proofs.handle.Handle.empty.Statement.{statement}
+use Rattle.c_owned.proofs.handle.Handle.empty.Code as code
+
+pub empty_spec : {M : Type 1} → statement M
+empty_spec 𝓤 𝓛 𝓜 𝓡 wired =
+    let H = 𝓛.H in let 𝓣 = tables 𝓤 H 𝓜 𝓡 𝓡.env in let En = ended in let c = clauses 𝓛 𝓜.mem 𝓡.returns in let LZ =
+    heap_laws.the_row_laws in
+    let hs : Stays En.signature.params En.kept = (stay_dropped (plain (λ _. Z)) yes, tt) in
+    proved_at 𝓛 En hs c 𝓜 𝓡 (Goes-dropped 𝓛 0 (plain (λ _. Z)) yes (λ κs x f. refl), tt) #self code.function
+    (code.unfolded 𝓤 H 𝓜 𝓡 wired) (λ z are.
+    let κs = z.0.0 in let Same : Option engine.the_row.Denot → Type 0 = λ e. e ≡ e in let qs =
+    z.0.1 in let Post : Val → SProp 𝓤 = (walk_of 𝓛 En hs c).post z in let Run : List Val → SProp 𝓤 =
+    λ ws. WpFn 𝓤 H 𝓣.C 𝓣.Λ code.function ws Post in
+    let a = z.0.3.0 in let h = one (layout Z) z.0.4.0 ((LZ.lawful 𝓛).typed a z.0.4.0 are.0) in let w : Val =
+    three (ptr_val null_ptr) (vbool false) h.0 in
+    qed 𝓛 ((raw (alive 𝓛 En.signature κs qs) ⊛ ‵ (owns (types_at En.signature.params κs) z.0.3 z.0.4)) ∷ raw
+    ((c κs z.0.3).requires z.1) ∷ []) ∵ split ! $ move ! (1 ∷ []) $ fsplit ! $
+    rewrite ! 0 (λ (us : List Val). ‵ (Z.own_val a us)) h.1 refl $
+    suffices ! (Run (h.0 ∷ [])) (subst (λ (us : List Val). ent 𝓤 (Run (h.0 ∷ [])) (Run us)) (sym (λ i. h.1 i ++ []))
+    (id⊢ 𝓤 (Run (h.0 ∷ [])))) $
+    enter ! 𝓣.C 𝓣.Λ code.function (h.0 ∷ []) Post $ alloc_all ! (λ l. pass_all ! refl (h.2, tt) $
+    sets ! (agg ! (and_then ! (lit ! tt) (and_then ! (false_lit !) (and_then ! (get ! refl) (no_more !))))) refl
+    (handle_good null_ptr false h.0 h.2) $
+    feq_i ! (Option engine.the_row.Denot) None None refl $ handle_in ! null_ptr false a None h.0 $ use0 𝓛
+    (raw (fact 𝓤 (Same None))) (fact_i 𝓤 (Same None) (emp 𝓤) refl) $ nothing ! $ nothing ! $ fjoin ! $
+    returns ! (look_at ! 0 refl) $ free_all ! refl $ keep ! (4 ∷ 0 ∷ 2 ∷ 1 ∷ []) $ by !
+    (leaves 𝓛 En hs c z w (record { at = null_ptr; is_full = false; alloc = a; engine = None }) (tt, tt) (tt, tt))))

@@ -1,0 +1,9 @@
+pub mod Hex
+pub mod Apdu
+pub mod Tlv
+pub mod Parts
+pub mod Fill
+pub mod Held
+pub mod Ends
+pub mod Calls
+pub mod Readers

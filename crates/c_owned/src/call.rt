@@ -1,0 +1,60 @@
+//! The calls of either end in a handle, as C makes them.
+
+ghost use Rattle.std.specs.Prelude.{◌≡◌, ◌≤◌, length};
+ghost use Rattle.t1_core.specs.Terminal.{terminal_turn, turn_of, state_after};
+ghost use Rattle.t1_core.specs.Card.{card_turn, turn_of as card_turn_of, state_after as card_after};
+ghost use Rattle.t1_core.specs.Put.{IsTerminalPut, IsCardPut};
+ghost use Rattle.c_lent.specs.Calls.{terminal_input, card_input};
+
+use c_lent::call::{CardCall, TerminalCall};
+use t1_core::{Card, CardFault, CardPut, Terminal, TerminalFault, TerminalPut};
+
+/// A call of either end.
+#[derive(Clone, Copy)]
+pub(crate) enum Call<'a> {
+    Terminal(TerminalCall<'a>),
+    Card(CardCall<'a>),
+}
+
+/// Makes a call of a terminal, with the octets of the block that is sent in the buffer.
+#[inline(always)]
+pub(crate) fn call_terminal(
+    call: TerminalCall<'_>,
+    end: &mut Terminal,
+    out: &mut [u8],
+) -> Result<TerminalPut, TerminalFault>
+    requires { 258 ≤ length out.old }
+    ensures turn { IsTerminalPut
+        (turn_of (terminal_turn end.old (terminal_input call.entry end.old))) out.old out.new
+        result }
+    ensures state { end.new ≡ state_after end.old
+        (terminal_turn end.old (terminal_input call.entry end.old)) }
+{
+    match call {
+        TerminalCall::Transmit(command) => end.transmit_into(command, out),
+        TerminalCall::Received(octets) => end.received_into(octets, out),
+        TerminalCall::Quiet => end.quiet_into(out),
+        TerminalCall::AskIfs(size) => end.ask_ifs_into(size, out),
+    }
+}
+
+/// Makes a call of a card, with the octets of the block that is sent in the buffer.
+#[inline(always)]
+pub(crate) fn call_card(
+    call: CardCall<'_>,
+    end: &mut Card,
+    out: &mut [u8],
+) -> Result<CardPut, CardFault>
+    requires { 258 ≤ length out.old }
+    ensures turn { IsCardPut (card_turn_of (card_turn end.old (card_input call.entry end.old)))
+        out.old out.new result }
+    ensures state { end.new ≡ card_after end.old
+        (card_turn end.old (card_input call.entry end.old)) }
+{
+    match call {
+        CardCall::Received(octets) => end.received_into(octets, out),
+        CardCall::Reply(octets) => end.reply_into(octets, out),
+        CardCall::MoreTime(multiple) => end.more_time_into(multiple, out),
+        CardCall::AskIfs(size) => end.ask_ifs_into(size, out),
+    }
+}

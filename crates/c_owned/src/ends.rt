@@ -1,0 +1,243 @@
+//! Both ends of T=1 in handles (ISO/IEC 7816-3, clause 11.6).
+
+ghost use Rattle.std.specs.Prelude.{◌≡◌, ◌≢◌, ◌≤◌, ◌<◌, length, None, Some};
+ghost use Rattle.atr_core.specs.T1.{IsUsable};
+ghost use Rattle.t1_core.specs.Came.{class_of, quiet};
+ghost use Rattle.t1_core.specs.Terminal.{new_terminal, transmit, ask_ifs, takes};
+ghost use Rattle.t1_core.specs.Card.{new_card, replies, more_time, ask_ifs as card_ask_ifs, takes as card_takes};
+ghost use Rattle.c_owned.specs.declared.engine.Engine.TheVariants.{Terminal as TerminalEnd, Card as CardEnd};
+ghost use Rattle.c_lent.specs.Verdict.{wrong_argument, no_memory, ok_at};
+ghost use Rattle.c_owned.specs.Calls.{Takes};
+ghost use Rattle.c_lent.specs.Turns.{no_room};
+ghost use Rattle.c_owned.specs.Ends.{TerminalTakes, CardTakes, message_of, PutsMessage};
+
+use crate::call::Call;
+use crate::engine::Engine;
+use crate::handle::Handle;
+use atr_core::T1Params;
+use block_core::LONGEST_BLOCK;
+use c_lent::call::{CardCall, TerminalCall};
+use c_lent::output::put;
+use c_lent::turn::{CTurn, NO_END};
+use c_lent::verdict::Verdict;
+use std::alloc::Global;
+use t1_core::{Card, Terminal};
+
+/// Opens a terminal for a card with these parameters of T=1; what the handle held is freed.
+pub fn terminal_open(alloc: Global, handle: &mut Handle, ifsc: u8, bwi: u8, cwi: u8) -> Verdict
+    ensures ok { result.status ≡ 0 →
+        (result ≡ ok_at 0) × (handle.new.engine ≡ Some (TerminalEnd (new_terminal ifsc))) }
+    ensures stays { result.status ≢ 0 → handle.new.engine ≡ handle.old.engine }
+    ensures argument { (IsUsable (record { ifsc = ifsc; bwi = bwi; cwi = cwi }) → ⊥)
+        → result ≡ wrong_argument 0 }
+    ensures memory { IsUsable (record { ifsc = ifsc; bwi = bwi; cwi = cwi }) →
+        result.status ≢ 0 → result ≡ no_memory }
+{
+    let Some(params) = T1Params::new(ifsc, bwi, cwi) else {
+        return Verdict::argument();
+    };
+    match Terminal::new(alloc, params) {
+        Ok(terminal) => opened(alloc, handle, Engine::Terminal(terminal)),
+        Err(_) => Verdict::memory(),
+    }
+}
+
+/// Opens a card with these parameters of T=1; what the handle held is freed.
+pub fn card_open(alloc: Global, handle: &mut Handle, ifsc: u8, bwi: u8, cwi: u8) -> Verdict
+    ensures ok { result.status ≡ 0 →
+        (result ≡ ok_at 0) × (handle.new.engine ≡ Some (CardEnd (new_card ifsc))) }
+    ensures stays { result.status ≢ 0 → handle.new.engine ≡ handle.old.engine }
+    ensures argument { (IsUsable (record { ifsc = ifsc; bwi = bwi; cwi = cwi }) → ⊥)
+        → result ≡ wrong_argument 0 }
+    ensures memory { IsUsable (record { ifsc = ifsc; bwi = bwi; cwi = cwi }) →
+        result.status ≢ 0 → result ≡ no_memory }
+{
+    let Some(params) = T1Params::new(ifsc, bwi, cwi) else {
+        return Verdict::argument();
+    };
+    match Card::new(alloc, params) {
+        Ok(card) => opened(alloc, handle, Engine::Card(card)),
+        Err(_) => Verdict::memory(),
+    }
+}
+
+pub(crate) fn opened(alloc: Global, handle: &mut Handle, engine: Engine) -> Verdict
+    ensures ok { result.status ≡ 0 → (result ≡ ok_at 0) × (handle.new.engine ≡ Some engine) }
+    ensures stays { result.status ≢ 0 → handle.new.engine ≡ handle.old.engine }
+    ensures memory { result.status ≢ 0 → result ≡ no_memory }
+{
+    match Box::new(alloc, engine) {
+        Ok(engine) => {
+            handle.put(engine);
+            Verdict::ok(0)
+        }
+        Err(_) => Verdict::memory(),
+    }
+}
+
+/// Frees what the handle holds, if anything.
+pub fn close(alloc: Global, handle: &mut Handle)
+    ensures { handle.new.engine ≡ None }
+{
+    drop(handle.take(alloc));
+}
+
+/// The terminal's application hands over a command of at most 65,544 octets.
+pub fn terminal_transmit(
+    alloc: Global,
+    handle: &mut Handle,
+    command: &[u8],
+    out: &mut [u8],
+) -> CTurn
+    ensures room { length out.old < 258 → result ≡ no_room }
+    ensures stays { length out.old < 258 →
+        (handle.new.engine ≡ handle.old.engine) × (out.new ≡ out.old) }
+    ensures turn { 258 ≤ length out.old →
+        TerminalTakes (λ _. transmit command.now)
+        handle.old.engine handle.new.engine out.old out.new result }
+{
+    turn(
+        alloc,
+        handle,
+        Call::Terminal(TerminalCall::Transmit(command)),
+        out,
+    )
+}
+
+/// The line delivered these octets to the terminal as one block.
+pub fn terminal_received(alloc: Global, handle: &mut Handle, octets: &[u8], out: &mut [u8]) -> CTurn
+    ensures room { length out.old < 258 → result ≡ no_room }
+    ensures stays { length out.old < 258 →
+        (handle.new.engine ≡ handle.old.engine) × (out.new ≡ out.old) }
+    ensures turn { 258 ≤ length out.old →
+        TerminalTakes (λ t. takes (class_of t.ifsd octets.now))
+        handle.old.engine handle.new.engine out.old out.new result }
+{
+    turn(
+        alloc,
+        handle,
+        Call::Terminal(TerminalCall::Received(octets)),
+        out,
+    )
+}
+
+/// Nothing came to the terminal within the waiting time.
+pub fn terminal_quiet(alloc: Global, handle: &mut Handle, out: &mut [u8]) -> CTurn
+    ensures room { length out.old < 258 → result ≡ no_room }
+    ensures stays { length out.old < 258 →
+        (handle.new.engine ≡ handle.old.engine) × (out.new ≡ out.old) }
+    ensures turn { 258 ≤ length out.old →
+        TerminalTakes (λ _. takes quiet)
+        handle.old.engine handle.new.engine out.old out.new result }
+{
+    turn(alloc, handle, Call::Terminal(TerminalCall::Quiet), out)
+}
+
+/// The terminal asks the card to send information fields of up to `size` octets, 1 to 254.
+pub fn terminal_ask_ifs(alloc: Global, handle: &mut Handle, size: u8, out: &mut [u8]) -> CTurn
+    ensures room { length out.old < 258 → result ≡ no_room }
+    ensures stays { length out.old < 258 →
+        (handle.new.engine ≡ handle.old.engine) × (out.new ≡ out.old) }
+    ensures turn { 258 ≤ length out.old →
+        TerminalTakes (λ _. ask_ifs size)
+        handle.old.engine handle.new.engine out.old out.new result }
+{
+    turn(
+        alloc,
+        handle,
+        Call::Terminal(TerminalCall::AskIfs(size)),
+        out,
+    )
+}
+
+/// The line delivered these octets to the card as one block.
+pub fn card_received(alloc: Global, handle: &mut Handle, octets: &[u8], out: &mut [u8]) -> CTurn
+    ensures room { length out.old < 258 → result ≡ no_room }
+    ensures stays { length out.old < 258 →
+        (handle.new.engine ≡ handle.old.engine) × (out.new ≡ out.old) }
+    ensures turn { 258 ≤ length out.old →
+        CardTakes (λ c. card_takes (class_of c.ifsc octets.now))
+        handle.old.engine handle.new.engine out.old out.new result }
+{
+    turn(alloc, handle, Call::Card(CardCall::Received(octets)), out)
+}
+
+/// The card's host hands over its reply of at most 65,538 octets.
+pub fn card_reply(alloc: Global, handle: &mut Handle, octets: &[u8], out: &mut [u8]) -> CTurn
+    ensures room { length out.old < 258 → result ≡ no_room }
+    ensures stays { length out.old < 258 →
+        (handle.new.engine ≡ handle.old.engine) × (out.new ≡ out.old) }
+    ensures turn { 258 ≤ length out.old →
+        CardTakes (λ _. replies octets.now)
+        handle.old.engine handle.new.engine out.old out.new result }
+{
+    turn(alloc, handle, Call::Card(CardCall::Reply(octets)), out)
+}
+
+/// The card's host asks for more waiting time, by any multiple of it.
+pub fn card_more_time(alloc: Global, handle: &mut Handle, multiple: u8, out: &mut [u8]) -> CTurn
+    ensures room { length out.old < 258 → result ≡ no_room }
+    ensures stays { length out.old < 258 →
+        (handle.new.engine ≡ handle.old.engine) × (out.new ≡ out.old) }
+    ensures turn { 258 ≤ length out.old →
+        CardTakes (λ _. more_time multiple)
+        handle.old.engine handle.new.engine out.old out.new result }
+{
+    turn(alloc, handle, Call::Card(CardCall::MoreTime(multiple)), out)
+}
+
+/// The card asks the terminal to send information fields of up to `size` octets, 1 to 254.
+pub fn card_ask_ifs(alloc: Global, handle: &mut Handle, size: u8, out: &mut [u8]) -> CTurn
+    ensures room { length out.old < 258 → result ≡ no_room }
+    ensures stays { length out.old < 258 →
+        (handle.new.engine ≡ handle.old.engine) × (out.new ≡ out.old) }
+    ensures turn { 258 ≤ length out.old →
+        CardTakes (λ _. card_ask_ifs size)
+        handle.old.engine handle.new.engine out.old out.new result }
+{
+    turn(alloc, handle, Call::Card(CardCall::AskIfs(size)), out)
+}
+
+/// The turn of the end in a handle that a call gives.
+#[inline(always)]
+fn turn(alloc: Global, handle: &mut Handle, call: Call<'_>, out: &mut [u8]) -> CTurn
+    ensures room { length out.old < 258 → result ≡ no_room }
+    ensures stays { length out.old < 258 →
+        (handle.new.engine ≡ handle.old.engine) × (out.new ≡ out.old) }
+    ensures turn { 258 ≤ length out.old →
+        Takes call.entry handle.old.engine handle.new.engine out.old out.new result }
+{
+    if out.len() < LONGEST_BLOCK {
+        return CTurn::no_room();
+    }
+    let Some(mut engine) = handle.take(alloc) else {
+        return CTurn::of(NO_END);
+    };
+    let turn = engine.called(call, out);
+    handle.put(engine);
+    turn
+}
+
+/// Puts the answer of a terminal into a buffer, from the turn that completes it on until the next
+/// command is taken; or the command of a card, while its host owes the reply; or the message of a
+/// receiver of chains, once the chain is whole.
+pub fn message(alloc: Global, handle: &mut Handle, out: &mut [u8]) -> Verdict
+    ensures message { PutsMessage (message_of handle.old.engine) out.old out.new result }
+    ensures stays { handle.new.engine ≡ handle.old.engine }
+{
+    let Some(engine) = handle.take(alloc) else {
+        return Verdict::argument();
+    };
+    let verdict = put_message(&engine, out);
+    handle.put(engine);
+    verdict
+}
+
+fn put_message(engine: &Engine, out: &mut [u8]) -> Verdict
+    ensures { PutsMessage (message_of (Some engine.now)) out.old out.new result }
+{
+    match engine.message() {
+        Some(message) => put(message, out),
+        None => Verdict::argument(),
+    }
+}

@@ -1,7 +1,0 @@
-use Rattle.std.proofs.Common.{◌≡◌, map, take}
-use Rattle.scard_c.specs.Atr.{indicated_of}
-use Rattle.scard_c.proofs.atr.listed_seen.Given as goal
-
--- the TDs so far
-abbrev pub invariant-loop-x : goal.invariant-loop-x
-invariant-loop-x l = map indicated_of l.seen.items ≡ take l.x-index l.indicated

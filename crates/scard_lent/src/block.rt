@@ -1,0 +1,88 @@
+//! Blocks of T=1 (ISO/IEC 7816-3, clause 11.3).
+
+ghost use Rattle.std.specs.Prelude.{◌≡◌, ◌≢◌, ◌⊎◌, ◌≤◌, ◌<◌, length, [], IfSome, IfNone};
+ghost use Rattle.octet_core.specs.Grammar.{self_ended, Refuses};
+ghost use Rattle.block_core.specs.Block.{Parts, IsBlock, IsReason, Suits};
+ghost use Rattle.block_core.specs.declared.pcb.Pcb.TheVariants.{Info, Ready, Request, Response};
+ghost use Rattle.c_lent.specs.Verdict.{Tells, Puts, ok_at, wrong_argument};
+ghost use Rattle.c_lent.specs.Number.{IsReserved, number_of, fault_of, subject_of};
+ghost use Rattle.c_lent.specs.Block.{block_reason, IsDecoded, IsUnfit, IsOf};
+
+use c_lent::block::CBlock;
+use c_lent::verdict::Verdict;
+
+/// The block with which the octets begin, under an information size of 1 to 254. `OK` says how many octets
+/// it takes.
+#[unsafe(no_mangle)]
+pub extern "C" fn scard_block_decode(octets: &[u8], ifs: u8, out: &mut CBlock) -> Verdict
+    ensures ok { result.status ≡ 0 → IsDecoded ifs octets.now result out.new }
+    ensures place { result.status ≡ 0 → result ≡ ok_at result.place }
+    ensures refused { (IsReserved ifs → ⊥) → result.status ≢ 0 →
+        Tells block_reason (Refuses self_ended (IsBlock ifs) (IsReason ifs) octets.now) result }
+    ensures argument { IsReserved ifs → result ≡ wrong_argument 0 }
+    ensures stays { result.status ≢ 0 → out.new ≡ out.old }
+{
+    c_lent::block::block_decode(octets, ifs, out)
+}
+
+/// Writes an I-block. `ARGUMENT` with place 0 where `ns` is neither 0 nor 1, or the field has more than 254
+/// octets.
+#[unsafe(no_mangle)]
+pub extern "C" fn scard_block_i(nad: u8, ns: u8, more: bool, inf: &[u8], out: &mut [u8]) -> Verdict
+    ensures written { IfSome (number_of ns) (λ number. length inf.now ≤ 254 →
+        Puts (IsBlock 254 (record { nad = nad; pcb = Info number more; inf = inf.now })) out.old out.new result) }
+    ensures number { IfNone (number_of ns) (result ≡ wrong_argument 0) }
+    ensures long { 254 < length inf.now → result ≡ wrong_argument 0 }
+    ensures stays { result.status ≢ 0 → out.new ≡ out.old }
+{
+    c_lent::block::block_i(nad, ns, more, inf, out)
+}
+
+/// Writes an R-block. `ARGUMENT` with place 0 where `nr` is neither 0 nor 1, or `fault` is above 2.
+#[unsafe(no_mangle)]
+pub extern "C" fn scard_block_r(nad: u8, nr: u8, fault: u8, out: &mut [u8]) -> Verdict
+    ensures written { IfSome (number_of nr) (λ number. IfSome (fault_of fault) (λ fault.
+        Puts (IsBlock 254 (record { nad = nad; pcb = Ready number fault; inf = [] })) out.old out.new result)) }
+    ensures number { IfNone (number_of nr) (result ≡ wrong_argument 0) }
+    ensures fault { IfNone (fault_of fault) (result ≡ wrong_argument 0) }
+    ensures stays { result.status ≢ 0 → out.new ≡ out.old }
+{
+    c_lent::block::block_r(nad, nr, fault, out)
+}
+
+/// Writes an S-block that asks. `ARGUMENT` with place 0 where `about` is above 3, or the field isn't what
+/// it calls for.
+#[unsafe(no_mangle)]
+pub extern "C" fn scard_block_s_request(nad: u8, about: u8, inf: &[u8], out: &mut [u8]) -> Verdict
+    ensures written { IfSome (subject_of about) (λ s. Suits 254 (Request s) inf.now →
+        Puts (IsBlock 254 (record { nad = nad; pcb = Request s; inf = inf.now })) out.old out.new result) }
+    ensures about { IfNone (subject_of about) (result ≡ wrong_argument 0) }
+    ensures unfit { IfSome (subject_of about) (λ s. (Suits 254 (Request s) inf.now → ⊥) →
+        result ≡ wrong_argument 0) }
+    ensures stays { result.status ≢ 0 → out.new ≡ out.old }
+{
+    c_lent::block::block_s_request(nad, about, inf, out)
+}
+
+/// Writes an S-block that answers. `ARGUMENT` with place 0 where `about` is above 3, or the field isn't
+/// what the request calls for.
+#[unsafe(no_mangle)]
+pub extern "C" fn scard_block_s_response(nad: u8, about: u8, inf: &[u8], out: &mut [u8]) -> Verdict
+    ensures written { IfSome (subject_of about) (λ s. Suits 254 (Response s) inf.now →
+        Puts (IsBlock 254 (record { nad = nad; pcb = Response s; inf = inf.now })) out.old out.new result) }
+    ensures about { IfNone (subject_of about) (result ≡ wrong_argument 0) }
+    ensures unfit { IfSome (subject_of about) (λ s. (Suits 254 (Response s) inf.now → ⊥) →
+        result ≡ wrong_argument 0) }
+    ensures stays { result.status ≢ 0 → out.new ≡ out.old }
+{
+    c_lent::block::block_s_response(nad, about, inf, out)
+}
+
+/// Writes the block with this control octet and field. `ARGUMENT` with place 0 where there is none.
+#[unsafe(no_mangle)]
+pub extern "C" fn scard_block_encode(nad: u8, pcb: u8, inf: &[u8], out: &mut [u8]) -> Verdict
+    ensures { ((v : Parts) × IsOf nad pcb inf.now v × Puts (IsBlock 254 v) out.old out.new result)
+        ⊎ (IsUnfit pcb inf.now × (result ≡ wrong_argument 0) × (out.new ≡ out.old)) }
+{
+    c_lent::block::block_encode(nad, pcb, inf, out)
+}

@@ -1,0 +1,71 @@
+//! A receiver of a chain without an allocator (ISO/IEC 7816-3, clause 11.6): the caller keeps the state, and lends it
+//! and the buffer of the message to each call.
+
+ghost use Rattle.std.specs.Prelude.{◌≡◌, ◌≢◌, ◌≤◌, ◌<◌, ℕ, List, length, IfSome, IfNone};
+ghost use Rattle.chain_core.specs.Chain.{longest_message};
+ghost use Rattle.chain_core.specs.Taking.{Taking, nothing_taken};
+ghost use Rattle.c_lent.specs.Verdict.{ok_at, wrong_argument};
+ghost use Rattle.c_lent.specs.Number.{IsReserved, number_of};
+ghost use Rattle.c_lent.specs.Lent.{IsAtFront};
+ghost use Rattle.c_lent.specs.KeptReceiver.{IsReceiver};
+ghost use Rattle.c_lent.specs.Turns.{joined_of};
+ghost use Rattle.c_lent.specs.LentReceiver.{ReceiverFed, ReceiverEnded};
+
+use c_lent::kept_receiver::CReceiver;
+use c_lent::verdict::Verdict;
+
+/// Begins a receiver of one chain under an information size of 1 to 254, whose first block has the number `ns` and
+/// whose message has at most `max` octets, itself at most 131,072, whatever the state was. Each buffer that is lent
+/// from then on has room for `max` octets. `ARGUMENT` where an argument is none of these: then nothing changes.
+#[unsafe(no_mangle)]
+pub extern "C" fn scard_lent_receiver_begin(
+    state: &mut CReceiver,
+    ifs: u8,
+    ns: u8,
+    max: usize,
+) -> Verdict
+    ensures ok { (IsReserved ifs → ⊥)
+        → IfSome (number_of ns) (λ number. max ≤ longest_message → (result ≡ ok_at 0) ×
+        ((message : List ℕ) → max ≤ length message → IsReceiver state.new message (nothing_taken ifs number max))) }
+    ensures size { IsReserved ifs → result ≡ wrong_argument 0 }
+    ensures number { IfNone (number_of ns) (result ≡ wrong_argument 0) }
+    ensures long { longest_message < max → result ≡ wrong_argument 0 }
+    ensures stays { result.status ≢ 0 → state.new ≡ state.old }
+{
+    c_lent::lent_receiver::lent_receiver_begin(state, ifs, ns, max)
+}
+
+/// Gives the next octets to a receiver, which puts those of the message to the front of the buffer. `OK`: the chain
+/// is whole, and took `place` octets of this piece, the rest isn't its own. `MORE`: it took them all. `AT`: the octet
+/// at `place`, counted from the first ever given, is refused; from then on it is refused again. `ARGUMENT` where the
+/// state and the buffer are no receiver: then nothing changes.
+#[unsafe(no_mangle)]
+pub extern "C" fn scard_lent_receiver_feed(
+    state: &mut CReceiver,
+    message: &mut [u8],
+    piece: &[u8],
+) -> Verdict
+    ensures { ReceiverFed state.old message.old piece.now state.new message.new result }
+{
+    c_lent::lent_receiver::lent_receiver_feed(state, message, piece)
+}
+
+/// What there is to say of all octets that a receiver was given: `OK` with place 0 where they are a chain, `SHORT` at
+/// their end where one goes on, or the refusal. `ARGUMENT` where the state and the buffer are no receiver.
+#[unsafe(no_mangle)]
+pub extern "C" fn scard_lent_receiver_finish(state: &CReceiver, message: &[u8]) -> Verdict
+    ensures { ReceiverEnded state.now message.now result }
+{
+    c_lent::lent_receiver::lent_receiver_finish(state, message)
+}
+
+/// How many octets at the front of the buffer are the message, once the chain is whole. `ARGUMENT` where it isn't.
+#[unsafe(no_mangle)]
+pub extern "C" fn scard_lent_receiver_message(state: &CReceiver, message: &[u8]) -> Verdict
+    ensures message { (r : Taking) → IsReceiver state.now message.now r
+        → IsAtFront (joined_of r) message.now result }
+    ensures none { ((r : Taking) → IsReceiver state.now message.now r → ⊥)
+        → result ≡ wrong_argument 0 }
+{
+    c_lent::lent_receiver::lent_receiver_message(state, message)
+}

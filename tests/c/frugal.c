@@ -1,0 +1,74 @@
+/* A program that has no functions for memory: it is linked with `-lscard` and no flag, and tools/test-c looks at what
+ * it wants. A session of both ends over lent buffers, a check of a forest, a receiver of a chain, and the LRC.
+ */
+#include "scard.h"
+
+#include <stdint.h>
+#include <string.h>
+
+enum { ROOM = 64, SIZE = 32 };
+
+static struct scard_lent_terminal terminal;
+static struct scard_lent_card card;
+static uint8_t commands[2][ROOM], answers[2][ROOM]; /* those of the terminal, and those of the card */
+static uint8_t block[SCARD_BLOCK_ROOM];
+
+static const uint8_t select_it[] = {0x00, 0xA4, 0x04, 0x00};
+static const uint8_t done[] = {0x90, 0x00};
+
+/* Whether the command comes to the card's host, and its reply comes back. */
+static int session(void)
+{
+    struct scard_turn turn;
+    if (scard_lent_terminal_begin(&terminal, commands[0], ROOM, answers[0], ROOM, SIZE, 4, 5).status != SCARD_OK
+        || scard_lent_card_begin(&card, commands[1], ROOM, answers[1], ROOM, SIZE, 4, 5).status != SCARD_OK) {
+        return 0;
+    }
+    turn = scard_lent_terminal_transmit(&terminal, commands[0], ROOM, answers[0], ROOM, select_it, sizeof select_it,
+                                        block, sizeof block);
+    if (turn.kind != SCARD_SEND || scard_lrc(block, turn.count) != 0) {
+        return 0;
+    }
+    turn = scard_lent_card_received(&card, commands[1], ROOM, answers[1], ROOM, block, turn.count, block, sizeof block);
+    if (turn.kind != SCARD_DONE || scard_lent_card_command(&card, commands[1], ROOM, answers[1], ROOM).place != 4
+        || memcmp(commands[1], select_it, sizeof select_it) != 0) {
+        return 0;
+    }
+    turn = scard_lent_card_reply(&card, commands[1], ROOM, answers[1], ROOM, done, sizeof done, block, sizeof block);
+    if (turn.kind != SCARD_SEND) {
+        return 0;
+    }
+    turn = scard_lent_terminal_received(&terminal, commands[0], ROOM, answers[0], ROOM, block, turn.count, block,
+                                        sizeof block);
+    return turn.kind == SCARD_DONE
+        && scard_lent_terminal_answer(&terminal, commands[0], ROOM, answers[0], ROOM).place == sizeof done
+        && memcmp(answers[0], done, sizeof done) == 0;
+}
+
+/* Whether a forest in two pieces is one. */
+static int forest(void)
+{
+    static const uint8_t octets[] = {0x6F, 0x02, 0x84, 0x00};
+    struct scard_lent_check check;
+    return scard_lent_check_begin(&check, SCARD_TLV_LARGEST).status == SCARD_OK
+        && scard_lent_check_feed(&check, octets, 3).status == SCARD_MORE
+        && scard_lent_check_finish(&check).status == SCARD_SHORT
+        && scard_lent_check_feed(&check, octets + 3, 1).status == SCARD_MORE
+        && scard_lent_check_finish(&check).status == SCARD_OK;
+}
+
+/* Whether a chain of one block is received. */
+static int chain(void)
+{
+    struct scard_lent_receiver receiver;
+    struct scard_verdict verdict = scard_block_i(0, 0, false, done, sizeof done, block, sizeof block);
+    return verdict.status == SCARD_OK
+        && scard_lent_receiver_begin(&receiver, SIZE, 0, ROOM).status == SCARD_OK
+        && scard_lent_receiver_feed(&receiver, answers[0], ROOM, block, verdict.place).status == SCARD_OK
+        && scard_lent_receiver_message(&receiver, answers[0], ROOM).place == sizeof done;
+}
+
+int main(void)
+{
+    return session() && forest() && chain() ? 0 : 1;
+}
