@@ -14,7 +14,8 @@ TELLS = {"Display": re.compile("print|named"), "Debug": re.compile("show"), "Par
 # Crates that are tested through the one above them.
 TESTED = {"dumps": "card_tool", "card_words": "card_tool", "card_kinds": "card_tool", "explainer": "card_tool"}
 # The modules of the crates of tests that aren't called as their crate is without its '_core'.
-MODULES = {"card_tool": "tool", "round_trips": "again", "testing": "helpers"}
+MODULES = {"card_tool": "tool", "notes": "noted", "round_trips": "again", "simulator": "simulated",
+           "testing": "helpers"}
 NEVER = re.compile(r"(?!)")
 
 

@@ -74,9 +74,10 @@ function wordOf(octets) {
 }
 
 // The octets of a text, as the program's `--stdin hex` has them: two digits each, in groups that blanks part, each
-// with or without 0x before it. null where the text is none.
+// with or without 0x before it; `none` alone is no octets. null for any other text.
 function octetsOf(text) {
   const words = text.split(/[ \t\n\r]+/).filter((word) => word !== "");
+  if (words.length === 1 && words[0] === "none") return new Uint8Array(0);
   const groups = words.map((word) => word.replace(/^0[xX](?=.)/, ""));
   if (groups.some((group) => group.length % 2 || !/^[0-9A-Fa-f]*$/.test(group))) return null;
   const digits = groups.join("");

@@ -3,7 +3,6 @@ pub mod Command
 pub mod Response
 pub mod Status
 pub mod Arrival
-
 -- what the code keeps between calls, what calls answer, and what is printed
 pub mod Borrowed
 pub mod Sending

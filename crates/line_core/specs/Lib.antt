@@ -6,6 +6,5 @@ pub mod Commanding
 pub mod Resynch
 pub mod Streams
 pub mod Joined
-
 -- what the code keeps between calls, what calls answer, and what is printed
 pub mod Names

@@ -3,7 +3,6 @@ pub mod Octets
 pub mod Grammar
 pub mod Hexadecimal
 pub mod Decimal
-
 -- what the code keeps between calls, what calls answer, and what is printed
 pub mod Failures
 pub mod Counted

@@ -5,7 +5,6 @@ pub mod Card
 pub mod Waiting
 pub mod Link
 pub mod Promises
-
 -- what the code keeps between calls, what calls answer, and what is printed
 pub mod Views
 pub mod CardViews

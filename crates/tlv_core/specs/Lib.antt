@@ -11,7 +11,6 @@ pub mod Tidy
 pub mod Dol
 pub mod Fill
 pub mod Laws
-
 -- what the code keeps between calls, what calls answer, and what is printed
 pub mod TagView
 pub mod TagPart
@@ -33,7 +32,6 @@ pub mod Grown
 pub mod Read
 pub mod Same
 pub mod Names
-
 -- proofs, and what proofs compute by: here since the model or a field of a type names them
 pub mod TreeCode
 pub mod NodesFall
