@@ -152,7 +152,7 @@ const PIECES: [(&[&str], &str, &str, Status); 5] = [
     (
         &["check", "atr", "--stdin", "lines"],
         "3B0\n3B00\r\nnone\n00\n3B00",
-        "fault: hex\nok 2 octets\nfault: hex\nrefused at 0: BadTs\nok 2 octets\n",
+        "fault: hex\nok 2 octets\nshort at 0\nrefused at 0: BadTs\nok 2 octets\n",
         Status::Fault,
     ),
     (
