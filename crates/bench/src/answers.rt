@@ -19,7 +19,7 @@ const ANSWERS: [&[u8]; 2] = [
 
 /// Checks each answer, and decodes it as often whole, and as often octet by octet.
 pub(crate) fn decode_each(rt: &HostRuntime, timed: bool) -> io::Result<()> {
-    for octets in ANSWERS {
+    for &octets in &ANSWERS {
         let started = Instant::now(rt)?;
         if !is_checked(octets) {
             return Err(ErrorKind::InvalidData.into());

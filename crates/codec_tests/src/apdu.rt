@@ -225,7 +225,7 @@ fn gives_select(alloc: Global, reader: &mut Counted<Feeder<'_>>, ifs: u8) -> Res
 fn a_command_is_received(rt: HostRuntime) -> Result<(), Fail> {
     let octets = of_hex(rt.alloc(), "00200200A4860060020400660000010001FF")?;
     const ROWS: [usize; 3] = [1, 2, 4096];
-    for step in ROWS {
+    for &step in &ROWS {
         let mut reader = reader_of(octets.as_slice(), step);
         assert!(rt; gives_select(rt.alloc(), &mut reader, 2)?);
     }

@@ -182,7 +182,7 @@ fn at_once(octets: &[u8]) -> Result<usize, Stop<AtrReason>> {
 
 #[test]
 fn one_pass_agrees_with_octet_by_octet(rt: HostRuntime) {
-    for octets in WHOLE_OR_NOT {
+    for &octets in &WHOLE_OR_NOT {
         for end in 0..=octets.len() {
             let front = &octets[..end];
             let wanted = octet_by_octet(front);

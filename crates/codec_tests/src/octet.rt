@@ -27,7 +27,7 @@ fn writes_all_octets(rt: HostRuntime) {
 #[test]
 fn stops_at_a_writer_that_fails(rt: HostRuntime) {
     const ROWS: [After; 3] = [After::End, After::Fails, After::Interrupted];
-    for after in ROWS {
+    for &after in &ROWS {
         let mut writer = Counted::new(Taker::new(3, 2, after));
         assert!(rt;
             same(
@@ -122,9 +122,9 @@ fn a_failed_write_is_answered_and_not_tried_again(rt: HostRuntime) {
 #[test]
 fn writes_no_more_after_a_call_that_failed(rt: HostRuntime) {
     const ROWS: [After; 3] = [After::End, After::Fails, After::Interrupted];
-    for fault in ROWS {
+    for &fault in &ROWS {
         const MORE: [(usize, &str); 4] = [(0, "FF"), (1, "0FF"), (4, "00A4FF"), (5, "00A40FF")];
-        for (written, kept) in MORE {
+        for &(written, kept) in &MORE {
             let taker = Taker::new(8, 4, After::End);
             let mut writer = Counted::new(FailsOnce::new(taker, written, fault));
             assert!(rt;

@@ -39,7 +39,7 @@ const NAMES: [&str; 22] = [
 ];
 
 fn main(rt: HostRuntime) -> io::Result<ExitCode> {
-    for name in NAMES {
+    for &name in &NAMES {
         let file = fs::read_to_string(&rt, name)?;
         match tried(rt.alloc(), file.as_str()) {
             Ok(lines) => println!(rt; "{name}: {lines} lines")?,

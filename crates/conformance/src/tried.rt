@@ -50,7 +50,7 @@ const STEPS: [usize; 3] = [1, 3, 4096];
 
 /// Runs one line, and once for each step where it has standard input.
 fn try_line(alloc: Global, line: u64, text: &str) -> Result<(), Fault> {
-    for step in STEPS {
+    for &step in &STEPS {
         let Some(row) = row_of(alloc, text)? else {
             return Err(Fault::Form { line });
         };

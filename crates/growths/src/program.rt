@@ -56,10 +56,10 @@ const READ_ROWS: [(&str, &str, &str); 3] = [
 /// What the program says of each row's words. At most one of them is out of memory.
 pub(crate) fn lines(alloc: Global) -> Outcome {
     let mut outcome = Outcome::Right;
-    for (line, text) in ROWS {
+    for &(line, text) in &ROWS {
         outcome = outcome.and(said(alloc, line, FILE, text).unwrap_or(Outcome::Memory));
     }
-    for (line, read, text) in READ_ROWS {
+    for &(line, read, text) in &READ_ROWS {
         outcome = outcome.and(said(alloc, line, read, text).unwrap_or(Outcome::Memory));
     }
     outcome

@@ -53,7 +53,7 @@ const LINES: [&str; 36] = [
 /// Each text is cut short by a writer that fails after each number of its octets.
 pub(crate) fn fail_each(alloc: Global, share: Share) -> Result<String, Fault> {
     let mut writers = 0u64;
-    for line in LINES {
+    for &line in &LINES {
         let (text, _) = told(alloc, line, 4096, 4096, Failing::Fails)?;
         for place in 0..text.len() {
             if share.has(place) {

@@ -51,7 +51,7 @@ const SIZE: u8 = 2;
 pub(crate) fn fail_each(alloc: Global) -> Result<String, Fault> {
     let mut writers = 0u64;
     let mut readers = 0u64;
-    for (message, text, chain) in ROWS {
+    for &(message, text, chain) in &ROWS {
         let carried = Carried {
             message,
             octets: of_hex(alloc, text)?,

@@ -139,7 +139,7 @@ const ROWS: [(Kind, &str); 73] = [
 /// All lists of octets.
 pub(crate) fn vectors(alloc: Global) -> Result<Vec<Vector>, Fault> {
     let mut vectors = Vec::new(alloc);
-    for (kind, text) in ROWS {
+    for &(kind, text) in &ROWS {
         vectors.push(Vector {
             kind,
             octets: of_hex(alloc, text)?,

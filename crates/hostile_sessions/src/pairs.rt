@@ -52,7 +52,7 @@ pub(crate) fn disturb_each(alloc: Global, share: Share) -> Result<String, Fault>
     let mut disturbed = Disturbed::default();
     for number in 1..BLOCKS + 1 {
         if share.has(BLOCKS.saturating_sub(number) as usize) {
-            for event in WAYS {
+            for &event in &WAYS {
                 let first = Disturbance { number, event };
                 disturbed = disturb(alloc, first, disturbed)?;
             }
@@ -71,7 +71,7 @@ fn disturb(alloc: Global, first: Disturbance, disturbed: Disturbed) -> Result<Di
     expect(alloc, &exchange, first, 0, is_right)?;
     let mut disturbed = disturbed.and(true);
     for number in first.number.saturating_add(1)..blocks(&exchange).saturating_add(1) {
-        for event in WAYS {
+        for &event in &WAYS {
             let second = Disturbance { number, event };
             let exchange = record(alloc, &[first, second])?;
             let is_answered = is_answered(&exchange);

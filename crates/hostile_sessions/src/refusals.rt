@@ -72,7 +72,7 @@ pub(crate) fn refuse_each(
     for session in sessions.iter().take(count) {
         let lines = session.lines().get();
         for place in 0..=lines.len() {
-            for call in CALLS {
+            for &call in &CALLS {
                 if is_put(alloc, session, place, call, handed)? {
                     refused = refused.saturating_add(1);
                 }

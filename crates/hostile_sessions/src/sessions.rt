@@ -21,7 +21,7 @@ const NAMES: [&str; 8] = [
 /// The octets of each file.
 pub(crate) fn files(rt: &HostRuntime) -> Result<Vec<Vec<u8>>, Fault> {
     let mut files = Vec::new(rt.alloc());
-    for name in NAMES {
+    for &name in &NAMES {
         files.push(octets(rt, name)?)?;
     }
     Ok(files)

@@ -77,7 +77,7 @@ const FAULTS: [(SimulationFault, &str); 3] = [
 
 #[test]
 fn faults_are_printed(rt: HostRuntime) {
-    for (fault, text) in FAULTS {
+    for &(fault, text) in &FAULTS {
         assert!(rt; shows(rt.alloc(), &fault, text));
     }
 }

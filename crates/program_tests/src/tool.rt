@@ -55,10 +55,10 @@ fn answers_a_call_for_help(rt: HostRuntime) -> Result<(), Fail> {
         &["simulate", "--help"],
     ];
     const PARTS: [&str; 3] = ["Usage: scard", "Exit status:", "Examples:"];
-    for line in ROWS {
+    for &line in &ROWS {
         let (writer, status) = told(rt.alloc(), line, 4096, After::End)?;
         assert!(rt; same(status, Status::Accepted));
-        for part in PARTS {
+        for &part in &PARTS {
             assert!(rt; has(writer.kept(), part.as_bytes()), "{part}");
         }
     }
@@ -68,7 +68,7 @@ fn answers_a_call_for_help(rt: HostRuntime) -> Result<(), Fail> {
         &["show", "--help"],
         &["build", "--help"],
     ];
-    for line in MORE {
+    for &line in &MORE {
         let (writer, _) = told(rt.alloc(), line, 4096, After::End)?;
         assert!(rt; has(writer.kept(), b"--stdin"));
     }
@@ -80,7 +80,7 @@ fn a_failing_writer_holds_a_prefix(rt: HostRuntime) -> Result<(), Fail> {
     let line: &[&str] = &["check", "block", "00000500A4040000A5"];
     let text = b"ok 9 octets\n";
     const ROWS: [After; 3] = [After::End, After::Fails, After::Interrupted];
-    for after in ROWS {
+    for &after in &ROWS {
         for room in 0..12 {
             let (writer, status) = told(rt.alloc(), line, room, after)?;
             assert!(rt; same(status, Status::Fault));

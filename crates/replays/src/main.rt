@@ -20,7 +20,7 @@ const NAMES: [&str; 8] = [
 ];
 
 fn main(rt: HostRuntime) -> io::Result<()> {
-    for name in NAMES {
+    for &name in &NAMES {
         let text = fs::read(&rt, name)?;
         match read_exchange(rt.alloc(), text.as_slice()) {
             Ok(exchange) => tell(&rt, name, text.as_slice(), &exchange)?,

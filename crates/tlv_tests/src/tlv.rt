@@ -36,7 +36,7 @@ fn tags_are_whole(rt: HostRuntime) -> Result<(), Fail> {
         ("BF0C", true, [0xBF, 0x0C, 0x00]),
         ("DF8101", false, [0xDF, 0x81, 0x01]),
     ];
-    for (text, constructed, padded) in ROWS {
+    for &(text, constructed, padded) in &ROWS {
         let tag = tag(&rt, text)?;
         assert!(rt; same(tag.is_constructed(), constructed), "{text}");
         assert!(rt; same(tag.padded(), padded), "{text}");
