@@ -432,7 +432,7 @@ struct scard_part {
 
 /* Writes the objects of a forest of at most `max` octets, each before those inside it, without the fillers, to the
  * array `parts`; `place` is how many there are. Room, in parts: what the verdict's place says; half of `count`
- * suffices. OK, SHORT, AT, MEMORY, ARGUMENT.
+ * suffices. OK, SHORT, AT, ARGUMENT: where it isn't OK the array stays as it was. No memory.
  */
 SCARD_MUST_USE
 struct scard_verdict scard_tlv_parts(const uint8_t *octets, size_t count, size_t max,
@@ -444,9 +444,22 @@ struct scard_verdict scard_tlv_parts(const uint8_t *octets, size_t count, size_t
  */
 size_t scard_tlv_first(const struct scard_part *parts, size_t count, const struct scard_tag *path, size_t tags);
 
-/* The verdict on octets as a data object list: tags, each with a length octet. OK, SHORT, AT, MEMORY. */
+/* The verdict on octets as a data object list: tags, each with a length octet. OK, SHORT, AT. No memory. */
 SCARD_MUST_USE
 struct scard_verdict scard_dol_check(const uint8_t *octets, size_t count);
+
+/* An entry of a data object list. */
+struct scard_entry {
+    struct scard_tag tag;
+    uint8_t len; /* how many octets its value is to have */
+};
+
+/* Writes the entries of a data object list, in their order, to the array `entries`; `place` is how many there are.
+ * Room, in entries: what the verdict's place says; half of `count` suffices. OK, SHORT, AT, ARGUMENT: where it isn't
+ * OK the array stays as it was. No memory.
+ */
+SCARD_MUST_USE
+struct scard_verdict scard_dol_entries(const uint8_t *octets, size_t count, struct scard_entry *entries, size_t room);
 
 /* How a value is cut and padded to a length. */
 enum scard_format {
@@ -850,7 +863,8 @@ enum scard_struct {
     SCARD_STRUCT_LENT_HEADER = 17,
     SCARD_STRUCT_LENT_CHECK = 18,
     SCARD_STRUCT_LENT_RECEIVER = 19,
-    SCARD_STRUCT_TEXT = 20
+    SCARD_STRUCT_TEXT = 20,
+    SCARD_STRUCT_ENTRY = 21
 };
 
 /* How many octets a struct has in the library, to be compared with its sizeof; 0 for any other number. */

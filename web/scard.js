@@ -10,10 +10,10 @@ const LONGEST_BLOCK = 258;
 const LONGEST_TEXT = 4194304;
 
 const [OK, SHORT, AT, MORE] = [0, 1, 2, 6];
-const CODECS = { atr: 1, block: 2, chain: 3, command: 4, response: 5, tlv: 6 };
+const CODECS = { atr: 1, block: 2, chain: 3, command: 4, response: 5, tlv: 6, dol: 7 };
 const KINDS = Object.keys(CODECS);
 // The structs of the header that are read here, by their numbers, with the sizes that this page reckons with.
-const SIZES = { 1: 16, 4: 243, 5: 3, 6: 4, 7: 4, 8: 32, 9: 16, 19: 32, 20: 16 };
+const SIZES = { 1: 16, 4: 243, 5: 3, 6: 4, 7: 4, 8: 32, 9: 16, 11: 4, 12: 24, 19: 32, 20: 16, 21: 5 };
 
 const SUBJECTS = ["RESYNCH", "IFS", "ABORT", "WTX"];
 const SHAPES = ["", "case 1", "case 2 short", "case 3 short", "case 4 short", "case 2 extended", "case 3 extended",
@@ -58,6 +58,11 @@ const SENTENCES = {
     LengthForm: "a length begins with 00 to 7F or 81 to 84",
     Overrun: "this says more octets than are left in the object around it",
     TooLong: "a forest has at most 1048576 octets",
+  },
+  dol: {
+    TagZero: "a tag doesn't begin with 00",
+    TagSecond: "the low seven bits of a second tag octet aren't all 0",
+    TagLong: "a tag has at most three octets, so its third is at most 7F",
   },
 };
 
@@ -159,14 +164,14 @@ class Scard {
     return String.fromCharCode(...memory.at(place, count - 1));
   }
 
-  // What there is to say of octets of a kind. `check` is the line of the program's `check`, `lines` those of its `show`
-  // and undefined where the page has none; `left` is how many octets come after the value. Of what is refused `place`
-  // is where, and `sentence` what is expected there.
+  // What there is to say of octets of a kind. `check` is the line of the program's `check`, `lines` are those of its
+  // `show`, and `left` is how many octets come after the value. Of what is refused `place` is where, and `sentence` is
+  // what is expected there.
   told(kind, octets, ifs = 254, first = 0) {
     const { verdict, lines } = this[kind](octets, ifs, first);
     const { status, reason, place } = verdict;
     if (status === OK) {
-      return { is: "ok", check: `ok ${place} octets`, lines: lines && lines(), left: octets.length - place };
+      return { is: "ok", check: `ok ${place} octets`, lines: lines(), left: octets.length - place };
     }
     if (status === SHORT) {
       const check = `short at ${place}`;
@@ -286,8 +291,50 @@ class Scard {
   }
 
   tlv(octets) {
-    return { verdict: this.verdict("scard_tlv_check", ...this.memory.lend(octets), BigInt(LARGEST_FOREST)) };
+    const [lent, max] = [this.memory.lend(octets), BigInt(LARGEST_FOREST)];
+    const verdict = this.verdict("scard_tlv_check", ...lent, max);
+    const lines = () => {
+      const objects = this.written("scard_tlv_parts", [...lent, max], octets.length, 24);
+      return [`objects ${objects.length}`, ...objects.map((object) => this.objectLine(octets, object))];
+    };
+    return { verdict, lines };
   }
+
+  // The line of an object: its tag, its length field as it is spelled, and its value, or that it is constructed.
+  objectLine(octets, object) {
+    const { memory } = this;
+    const [depth, isConstructed, width, ...tag] = memory.at(object, 7);
+    const [place, count] = [memory.number(object + 8), memory.number(object + 16)];
+    const value = isConstructed ? "constructed" : wordOf(octets.subarray(place, place + count));
+    return `${"  ".repeat(depth - 1)}${tagOf(tag)} ${hexOf(octets.subarray(place - width, place))} ${value}`;
+  }
+
+  dol(octets) {
+    const lent = this.memory.lend(octets);
+    const verdict = this.verdict("scard_dol_check", ...lent);
+    const lines = () => {
+      const entries = this.written("scard_dol_entries", lent, octets.length, 5);
+      const shown = entries.map((entry) => this.memory.at(entry, 5));
+      return [`entries ${entries.length}`, ...shown.map((entry) => `${tagOf(entry)} ${entry[4]}`)];
+    };
+    return { verdict, lines };
+  }
+
+  // Has a call write its structs, of so many octets each, into memory after the octets that it is lent, and gives their
+  // places. There are at most half as many as octets.
+  written(name, given, octets, size) {
+    const { memory } = this;
+    const at = Math.ceil((memory.octets + octets) / 8) * 8;
+    const room = octets >> 1;
+    memory.room(at + room * size);
+    const { place } = this.verdict(name, ...given, BigInt(at), BigInt(room));
+    return Array.from({ length: place }, (_, number) => at + number * size);
+  }
+}
+
+// The octets of a tag, of the four that the struct has: three, and how many it is.
+function tagOf(tag) {
+  return hexOf(tag.slice(0, tag[3]));
 }
 
 // What a control octet of a block says.

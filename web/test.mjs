@@ -58,7 +58,7 @@ function asked({ words, input }, kinds) {
   [found.kind, found.text] = found.words;
   const isForm = found.form === undefined || found.form === "hex" || found.form === "lines";
   const isRight = isForm && found.words.length === (found.form ? 1 : 2);
-  if (!isRight || !kinds.includes(found.kind) || (subcommand === "show" && found.kind === "tlv")) return null;
+  if (!isRight || !kinds.includes(found.kind)) return null;
   if (!(found.ifs >= 1 && found.ifs <= 254 && found.first <= 1)) return null;
   if (found.form) found.text = input;
   // A word of the command line is one group without 0x, or `none`: where it is another text, the page has none such.

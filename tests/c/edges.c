@@ -32,6 +32,7 @@ static void nothing(void)
     CHECK(scard_tlv_parts(NULL, 0, 0, NULL, 0).status == SCARD_OK);
     CHECK(scard_tlv_first(NULL, 0, NULL, 0) == 0);
     CHECK(scard_dol_check(NULL, 0).status == SCARD_OK);
+    CHECK(scard_dol_entries(NULL, 0, NULL, 0).status == SCARD_OK);
     CHECK(scard_dol_fill(NULL, 0, NULL, 0, NULL, 0).status == SCARD_OK);
     CHECK(scard_reader_feed(&handle, NULL, 0).status == SCARD_ARGUMENT);
     CHECK(scard_reader_finish(&handle).status == SCARD_ARGUMENT);

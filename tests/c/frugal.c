@@ -1,5 +1,6 @@
 /* A program that has no functions for memory: it is linked with `-lscard` and no flag, and tools/test-c looks at what
- * it wants. A session of both ends over lent buffers, a check of a forest, a receiver of a chain, and the LRC.
+ * it wants. A session of both ends over lent buffers, a check and the parts of a forest, the entries of a list, a
+ * receiver of a chain, and the LRC.
  */
 #include "scard.h"
 
@@ -57,6 +58,20 @@ static int forest(void)
         && scard_lent_check_finish(&check).status == SCARD_OK;
 }
 
+/* Whether the parts of a forest and the entries of a list are found. */
+static int objects(void)
+{
+    static const uint8_t octets[] = {0x6F, 0x03, 0x84, 0x01, 0xAA}, list[] = {0x9F, 0x02, 0x06, 0x95, 0x05};
+    struct scard_part parts[2];
+    struct scard_entry entries[2];
+    return scard_tlv_parts(octets, sizeof octets, sizeof octets, parts, 2).status == SCARD_OK
+        && parts[1].place == 4 && parts[1].len == 1
+        && scard_tlv_first(parts, 2, &parts[0].tag, 1) == 0
+        && scard_dol_check(list, sizeof list).status == SCARD_OK
+        && scard_dol_entries(list, sizeof list, entries, 2).status == SCARD_OK
+        && entries[1].tag.octets[0] == 0x95 && entries[1].len == 5;
+}
+
 /* Whether a chain of one block is received. */
 static int chain(void)
 {
@@ -70,5 +85,5 @@ static int chain(void)
 
 int main(void)
 {
-    return session() && forest() && chain() ? 0 : 1;
+    return session() && forest() && objects() && chain() ? 0 : 1;
 }

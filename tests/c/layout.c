@@ -28,10 +28,11 @@ static void sizes(void)
     SIZE(SCARD_STRUCT_LENT_CHECK, scard_lent_check);
     SIZE(SCARD_STRUCT_LENT_RECEIVER, scard_lent_receiver);
     SIZE(SCARD_STRUCT_TEXT, scard_text);
+    SIZE(SCARD_STRUCT_ENTRY, scard_entry);
     CHECK(sizeof(struct scard_lent_terminal) < 128 && sizeof(struct scard_lent_card) < 128);
     CHECK(sizeof(struct scard_lent_check) == 92 && sizeof(struct scard_lent_check) < 128);
     CHECK(sizeof(struct scard_lent_receiver) == 32);
-    CHECK(scard_struct_size(0) == 0 && scard_struct_size(21) == 0 && scard_struct_size(255) == 0);
+    CHECK(scard_struct_size(0) == 0 && scard_struct_size(22) == 0 && scard_struct_size(255) == 0);
 }
 
 static void places(void)

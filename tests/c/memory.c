@@ -108,27 +108,6 @@ static struct scard_verdict tidy(uint8_t *out, size_t room)
     return scard_tlv_tidy(forest, sizeof forest, SCARD_TLV_LARGEST, out, room);
 }
 
-/* The places of the parts, where the call wrote them. */
-static struct scard_verdict parts(uint8_t *out, size_t room)
-{
-    struct scard_part found[3];
-    struct scard_verdict v;
-    size_t part;
-    memset(found, 0x55, sizeof found);
-    v = scard_tlv_parts(forest, sizeof forest, SCARD_TLV_LARGEST, found, 3);
-    for (part = 0; part < 3 && part < room; part++) {
-        out[part] = (uint8_t)found[part].place;
-    }
-    return v;
-}
-
-static struct scard_verdict dol_check(uint8_t *out, size_t room)
-{
-    (void)out;
-    (void)room;
-    return scard_dol_check(dol, sizeof dol);
-}
-
 static struct scard_verdict fill(uint8_t *out, size_t room)
 {
     static const uint8_t value[] = {0x12, 0x34};
@@ -156,8 +135,6 @@ static const struct task tasks[] = {
     {long_field, "00A400000000029F02", 9},
     {response, "9F029000", 4},
     {tidy, "6F05A5038401AA", 7},
-    {parts, "040609", 3},
-    {dol_check, "", 5},
     {fill, "0012340000", 5},
 };
 

@@ -128,26 +128,70 @@ static void fills(void)
     free(list.at);
 }
 
-/* Each front of a forest, in blocks of exactly the sizes: the parts are inside, and found by the tags around them. */
+static int is_entry(const struct scard_entry *entry, const char *tag, int len)
+{
+    return is_hex(entry->tag.octets, entry->tag.count, tag) && entry->len == len;
+}
+
+static void entries(void)
+{
+    struct octets list = of_hex("9F02065A08DF810103");
+    struct scard_entry all[3], few[2];
+    struct scard_verdict v = scard_dol_entries(list.at, list.count, all, 3);
+    size_t front;
+    CHECK(v.status == SCARD_OK && v.place == 3);
+    CHECK(is_entry(&all[0], "9F02", 6) && is_entry(&all[1], "5A", 8) && is_entry(&all[2], "DF8101", 3));
+    CHECK(all[1].tag.octets[1] == 0 && all[1].tag.octets[2] == 0);
+    memset(few, 0x55, sizeof few);
+    v = scard_dol_entries(list.at, list.count, few, 2);
+    CHECK(strcmp(line_of(v, SCARD_CODEC_DOL), "argument 3") == 0 && few[0].len == 0x55 && few[1].len == 0x55);
+    CHECK(scard_dol_entries(list.at, list.count, NULL, 0).place == 3);
+    for (front = 0; front < list.count; front++) {
+        struct scard_verdict checked = scard_dol_check(list.at, front);
+        memset(few, 0x55, sizeof few);
+        v = scard_dol_entries(list.at, front, few, 2);
+        CHECK(v.status == checked.status && v.reason == checked.reason);
+        CHECK(v.status == SCARD_OK ? v.place == (size_t)(front > 0) + (front > 3)
+                                   : v.place == front && few[0].len == 0x55 && few[1].len == 0x55);
+    }
+    list.at[3] = 0;
+    v = scard_dol_entries(list.at, list.count, few, 2);
+    CHECK(strcmp(line_of(v, SCARD_CODEC_DOL), "refused at 3: TagZero") == 0);
+    free(list.at);
+}
+
+/* Each front of a forest, in blocks of exactly the sizes: the parts are inside, and found by the tags around them. An
+ * array with room for one less stays as it was, and so does one where the front is short. */
 static void fronts(void)
 {
     struct octets octets = of_hex("006F108407A0000000041010A505BF0C0250009F3303E0F8C800DF8101820001AA");
     size_t front, place, count;
     for (front = 0; front <= octets.count; front++) {
         struct octets own;
-        struct scard_part *all;
+        struct scard_part *all, few[2];
+        struct scard_verdict v;
         own.count = front;
         own.at = (uint8_t *)malloc(front);
         if (front > 0) {
             memcpy(own.at, octets.at, front);
         }
         if (scard_tlv_check(own.at, own.count, SCARD_TLV_LARGEST).status != SCARD_OK) {
-            struct scard_verdict v = scard_tlv_parts(own.at, own.count, SCARD_TLV_LARGEST, NULL, 0);
+            v = scard_tlv_parts(own.at, own.count, SCARD_TLV_LARGEST, NULL, 0);
             CHECK(v.status == SCARD_SHORT && v.place == front);
+            memset(few, 0x55, sizeof few);
+            v = scard_tlv_parts(own.at, own.count, SCARD_TLV_LARGEST, few, 2);
+            CHECK(v.status == SCARD_SHORT && v.place == front && few[0].depth == 0x55 && few[1].depth == 0x55);
             free(own.at);
             continue;
         }
         all = parts_of(own, &count);
+        if (count > 0) {
+            all[0].depth = 0x55;
+            v = scard_tlv_parts(own.at, own.count, SCARD_TLV_LARGEST, all, count - 1);
+            CHECK(v.status == SCARD_ARGUMENT && v.place == count && all[0].depth == 0x55);
+            v = scard_tlv_parts(own.at, own.count, SCARD_TLV_LARGEST, all, count);
+            CHECK(v.status == SCARD_OK && v.place == count && all[0].depth == 1);
+        }
         for (place = 0; place < count; place++) {
             CHECK(all[place].place + all[place].len <= front);
             if (all[place].depth == 1) {
@@ -165,6 +209,7 @@ int main(void)
     parts();
     firsts();
     fills();
+    entries();
     fronts();
     return verdict_of_checks("objects");
 }

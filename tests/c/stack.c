@@ -57,6 +57,7 @@ static struct scard_block block;
 static struct scard_lent_check check;
 static struct scard_lent_receiver receiver;
 static struct scard_part parts[2048];
+static struct scard_entry entries[2];
 static struct scard_text text;
 static const uint8_t answer_to_reset[] = {0x3B, 0x85, 0x81, 0x31, 0xFE, 0x45, 0x80, 0x73, 0x80, 0x01, 0x40, 0xBC};
 static const uint8_t list[] = {0x9F, 0x02, 0x06, 0x5A, 0x08};
@@ -212,6 +213,7 @@ static void tlv_tidy(void)
 static void lists(void)
 {
     verdict = scard_dol_check(list, sizeof list);
+    verdict = scard_dol_entries(list, sizeof list, entries, 2);
     verdict = scard_dol_fill(list, sizeof list, NULL, 0, out, sizeof out);
 }
 

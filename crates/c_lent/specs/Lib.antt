@@ -7,6 +7,7 @@ pub mod Atr
 pub mod Chain
 pub mod Tlv
 pub mod Parts
+pub mod Dol
 pub mod Turns
 pub mod Calls
 pub mod Pieces

@@ -1,5 +1,5 @@
 -- Verdicts as C sees them, and octets that are put into a buffer of the caller's.
-use Rattle.std.specs.Prelude.{◌≡◌, ℕ, ◌≤◌, List, ◌++◌, length, drop, nat_le, if◌then◌else◌, Bool, true, false, Result, Ok, Err}
+use Rattle.std.specs.Prelude.{◌≡◌, ℕ, ◌≤◌, List, [], ◌∷◌, ◌++◌, length, drop, nat_le, if◌then◌else◌, Bool, true, false, Result, Ok, Err}
 use Rattle.octet_core.specs.declared.stop.Stop.{Stop}
 use Rattle.octet_core.specs.declared.stop.Stop.TheVariants.{Short, At}
 use Rattle.octet_core.specs.declared.stop.Refused.{Refused}
@@ -63,6 +63,12 @@ put_verdict given buffer = if nat_le (length given) (length buffer) then ok_at (
 -- the buffer after it: what was put in and what was after it, or as it was where it has too little room
 abbrev pub put_into : {A : Type 0} → List A → List A → List A
 put_into given buffer = if nat_le (length given) (length buffer) then given ++ drop (length given) buffer else buffer
+
+-- the array after these are put into it as far as it has room
+abbrev pub filled : {A : Type 0} → List A → List A → List A
+filled [] array = array
+filled (x ∷ given) [] = []
+filled (x ∷ given) (y ∷ array) = x ∷ filled given array
 
 -- octets of this kind are put into a buffer
 pub record Puts (Spells : List ℕ → Type 0) (old new : List ℕ) (v : Verdict) : Type 0 where

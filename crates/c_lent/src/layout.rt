@@ -6,6 +6,7 @@ ghost use Rattle.c_lent.specs.Layout.{sizes};
 use crate::apdu::{CCommand, CResponse};
 use crate::atr::{CAtr, CIndicated, CInterface, CRates, CT1};
 use crate::block::CBlock;
+use crate::dol::CEntry;
 use crate::kept::{CCard, CTerminal};
 use crate::kept_check::{CCheck, CHeader};
 use crate::kept_receiver::CReceiver;
@@ -47,6 +48,7 @@ pub fn struct_size(number: u8) -> usize
         18 => size_of::<CCheck>(),
         19 => size_of::<CReceiver>(),
         20 => size_of::<CText>(),
+        21 => size_of::<CEntry>(),
         _ => 0,
     }
 }

@@ -1,5 +1,5 @@
-//! What the library for C does without memory: the codecs, both ends of T=1, a check of a forest and a receiver of a
-//! chain over what the caller lends, and the names of all that it tells.
+//! What the library for C does without memory: the codecs, the objects of a forest and the entries of a list, both ends
+//! of T=1, a check of a forest and a receiver of a chain over what the caller lends, and the names of all that it tells.
 //!
 //! scard_lent exports each call that C makes, under its name after `scard_`, and says of it what a caller has to know.
 #![tactic(auto)]
@@ -9,6 +9,7 @@ pub mod atr;
 pub mod block;
 pub mod call;
 pub mod chain;
+pub mod dol;
 pub mod kept;
 pub mod kept_check;
 pub mod kept_receiver;

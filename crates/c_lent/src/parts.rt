@@ -1,13 +1,17 @@
 //! The parts of a forest (EMV 4.3 Book 3, Annex B; ISO/IEC 7816-4, clause 5.2.2).
 
-ghost use Rattle.std.specs.Prelude.{◌≡◌, ◌≢◌, ◌≤◌, ◌<◌, length, map, drop, slice_get};
-ghost use Rattle.tlv_core.specs.Forest.{IsProper};
+ghost use Rattle.std.specs.Prelude.{◌≡◌, ◌≢◌, ◌≤◌, ◌<◌, length, map, drop, slice_get, IfOk, IfErr};
+ghost use Rattle.octet_core.specs.Grammar.{whole, Refuses};
+ghost use Rattle.tlv_core.specs.Forest.{IsForest, IsProper, largest};
+ghost use Rattle.tlv_core.specs.Reasons.{IsReason};
 ghost use Rattle.tlv_core.specs.Tree.{Tree};
-ghost use Rattle.c_lent.specs.Verdict.{put_verdict, put_into};
-ghost use Rattle.c_lent.specs.Parts.{part_put, tag_shown, tag_of, tag_is, is_on, found, parts_shown, FindsFirst};
+ghost use Rattle.c_lent.specs.Verdict.{IsRefusal, Tells, wrong_argument};
+ghost use Rattle.c_lent.specs.Tlv.{tlv_reason};
+ghost use Rattle.c_lent.specs.Parts.{part_put, tag_shown, tag_of, tag_is, is_on, found, parts_shown, FindsFirst, PutsParts, ArePut};
 
 use crate::verdict::Verdict;
-use tlv_core::{PlacedPart, Tag};
+use octet_core::Stop;
+use tlv_core::{LARGEST_FOREST, PartWalk, PlacedPart, Tag, TlvReason};
 
 /// A tag: `count` octets, 1 to 3, and 0 after them.
 #[repr(C)]
@@ -97,22 +101,51 @@ pub fn octets_of(tag: &CTag) -> &[u8]
     &tag.octets[..(tag.count as usize).min(3)]
 }
 
-/// Puts parts into an array, if it has room for them.
-pub fn put_parts(parts: &[PlacedPart], out: &mut [CPart]) -> Verdict
-    ensures verdict { result ≡ put_verdict (map part_put parts.now) out.old }
-    ensures array { out.new ≡ put_into (map part_put parts.now) out.old }
+/// Puts the parts of a forest of at most `max` octets into an array: its objects in the order of their
+/// headers, each before those inside it, without the fillers.
+///
+/// It goes over the octets twice: what is refused, or has too little room, leaves the array as it was.
+pub fn tlv_parts(octets: &[u8], max: usize, out: &mut [CPart]) -> Verdict
+    ensures parts { max ≤ largest → (IsRefusal result → ⊥) →
+        PutsParts max octets.now out.old out.new result }
+    ensures refused { IsRefusal result →
+        Tells tlv_reason (Refuses whole (IsForest max) (IsReason max) octets.now) result }
+    ensures argument { largest < max → result ≡ wrong_argument 0 }
     ensures stays { result.status ≢ 0 → out.new ≡ out.old }
 {
-    if parts.len() > out.len() {
-        return Verdict::lacking(parts.len());
+    if max > LARGEST_FOREST {
+        return Verdict::argument();
     }
-    for (index, part) in parts.iter().enumerate() {
-        put_part(part, &mut out[index]);
+    let count = match put_parts(octets, max, &mut []) {
+        Ok(count) => count,
+        Err(stop) => return Verdict::stopped(stop),
+    };
+    if count > out.len() {
+        return Verdict::lacking(count);
     }
-    Verdict::ok(parts.len())
+    let _again = put_parts(octets, max, out);
+    Verdict::ok(count)
+}
+
+/// Puts the parts of a forest into an array as far as it has room, and says how many there are.
+fn put_parts(octets: &[u8], max: usize, out: &mut [CPart]) -> Result<usize, Stop<TlvReason>>
+    requires { max ≤ largest }
+    ensures ok { IfOk result (ArePut max octets.now out.old out.new) }
+    ensures refused { IfErr result (Refuses whole (IsForest max) (IsReason max) octets.now) }
+{
+    let mut walk = PartWalk::new(max);
+    let mut count = 0;
+    while let Some(part) = walk.next_part(octets)? {
+        if count < out.len() {
+            put_part(&part, &mut out[count]);
+        }
+        count += 1;
+    }
+    Ok(count)
 }
 
 /// Puts a part into its place, field by field: as a whole, the octets between fields would be written too.
+#[inline(always)]
 fn put_part(part: &PlacedPart, place: &mut CPart)
     ensures { place.new ≡ part_put part.now }
 {
@@ -124,7 +157,8 @@ fn put_part(part: &PlacedPart, place: &mut CPart)
     place.len = part.len as usize;
 }
 
-fn tag_shown(tag: &Tag) -> CTag
+/// A tag as C sees it.
+pub(crate) fn tag_shown(tag: &Tag) -> CTag
     ensures { result ≡ tag_shown tag.now }
 {
     CTag {

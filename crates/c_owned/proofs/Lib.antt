@@ -1,3 +1,2 @@
 pub mod Loosed
 pub mod Values
-pub mod Placing

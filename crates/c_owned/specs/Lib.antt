@@ -1,7 +1,6 @@
 pub mod Hex
 pub mod Apdu
 pub mod Tlv
-pub mod Parts
 pub mod Fill
 pub mod Held
 pub mod Ends

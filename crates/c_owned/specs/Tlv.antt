@@ -1,15 +1,10 @@
--- Data objects that are made tidy, and data object lists, as C sees them.
+-- Data objects that are made tidy, as C sees them.
 use Rattle.std.specs.Prelude.{ℕ, List}
 use Rattle.tlv_core.specs.Tree.{Tree}
 use Rattle.tlv_core.specs.Forest.{IsForest, largest}
 use Rattle.tlv_core.specs.Tidy.{tidy}
-use Rattle.tlv_core.specs.Dol.{IsDol}
 use Rattle.c_lent.specs.Verdict.{Puts}
 use Rattle.c_lent.specs.declared.verdict.Verdict.{Verdict}
-
--- all the octets are a data object list
-abbrev pub IsSomeDol : List ℕ → Type 0
-IsSomeDol octets = (entries : List (List ℕ × ℕ)) × IsDol entries octets
 
 -- the tidy form of the forest that all the octets are is put into the buffer
 abbrev pub IsTidied : ℕ → List ℕ → List ℕ → List ℕ → Verdict → Type 0

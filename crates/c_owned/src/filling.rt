@@ -6,7 +6,7 @@ ghost use Rattle.tlv_core.specs.Dol.{IsDol, IsDolReason};
 ghost use Rattle.tlv_core.specs.Fill.{HasDuplicate, filled};
 ghost use Rattle.c_lent.specs.Verdict.{IsRefusal, Tells, no_memory, twice_known, wrong_argument, put_verdict, put_into};
 ghost use Rattle.c_lent.specs.Tlv.{dol_reason};
-ghost use Rattle.c_owned.specs.Tlv.{IsSomeDol};
+ghost use Rattle.c_lent.specs.Dol.{IsSomeDol};
 ghost use Rattle.c_owned.specs.Fill.{format_of, IsKnown, AreKnown, known_seen, Fills};
 
 use crate::apdu::copy_of;

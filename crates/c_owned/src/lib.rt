@@ -1,5 +1,5 @@
-//! What the library for C does with memory of the program: what it encodes, fills and lists, and the ends and readers
-//! that handles hold.
+//! What the library for C does with memory of the program: what it encodes and fills, and the ends and readers that
+//! handles hold.
 //!
 //! scard_c exports each call that C makes, under its name after `scard_`, and says of it what a caller has to know.
 #![tactic(auto)]
@@ -12,7 +12,6 @@ pub mod filling;
 pub mod handle;
 pub mod hexadecimal;
 mod loose;
-pub mod parts;
 pub mod reader;
 pub mod readers;
 pub mod tlv;

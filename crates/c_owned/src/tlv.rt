@@ -1,19 +1,18 @@
 //! Data objects (EMV 4.3 Book 3, Annex B; ISO/IEC 7816-4, clause 5.2.2).
 
-ghost use Rattle.std.specs.Prelude.{◌≡◌, ◌≢◌, ◌≤◌, ◌<◌, length, IfOk};
+ghost use Rattle.std.specs.Prelude.{◌≡◌, ◌≢◌, ◌≤◌, ◌<◌, IfOk};
 ghost use Rattle.octet_core.specs.Grammar.{whole, Refuses};
 ghost use Rattle.tlv_core.specs.Forest.{IsForest, largest};
-ghost use Rattle.tlv_core.specs.Dol.{IsDol, IsDolReason};
 ghost use Rattle.tlv_core.specs.Tidy.{tidy as tidy_form};
 ghost use Rattle.tlv_core.specs.Reasons.{IsReason};
-ghost use Rattle.c_lent.specs.Verdict.{IsRefusal, Tells, ok_at, no_memory, wrong_argument};
-ghost use Rattle.c_lent.specs.Tlv.{tlv_reason, dol_reason};
-ghost use Rattle.c_owned.specs.Tlv.{IsSomeDol, IsTidied};
+ghost use Rattle.c_lent.specs.Verdict.{IsRefusal, Tells, no_memory, wrong_argument};
+ghost use Rattle.c_lent.specs.Tlv.{tlv_reason};
+ghost use Rattle.c_owned.specs.Tlv.{IsTidied};
 
 use c_lent::output::put;
 use c_lent::verdict::Verdict;
 use std::alloc::{AllocError, Global};
-use tlv_core::{Dol, Forest, LARGEST_FOREST, decode, encode, tidy};
+use tlv_core::{Forest, LARGEST_FOREST, decode, encode, tidy};
 
 /// Writes the tidy form of a forest of at most `max` octets: the same objects without fillers, each
 /// length in its shortest form.
@@ -44,18 +43,4 @@ fn tidied(alloc: Global, forest: &Forest) -> Result<Vec<u8>, AllocError>
 {
     let tidied = tidy(alloc, forest)?;
     encode(alloc, &tidied)
-}
-
-/// The verdict on octets as a data object list (EMV 4.3 Book 3, clause 5.4).
-pub fn dol_check(alloc: Global, octets: &[u8]) -> Verdict
-    ensures ok { result.status ≡ 0 → IsSomeDol octets.now }
-    ensures place { result.status ≡ 0 → result ≡ ok_at (length octets.now) }
-    ensures refused { result.status ≢ 0 → result.status ≢ 3 →
-        Tells dol_reason (Refuses whole IsDol IsDolReason octets.now) result }
-    ensures memory { result.status ≡ 3 → result ≡ no_memory }
-{
-    match Dol::decode(alloc, octets) {
-        Ok(_) => Verdict::ok(octets.len()),
-        Err(refused) => Verdict::refused(refused),
-    }
 }

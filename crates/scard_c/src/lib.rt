@@ -5,6 +5,5 @@ pub mod apdu;
 pub mod ends;
 pub mod filling;
 pub mod hexadecimal;
-pub mod parts;
 pub mod readers;
 pub mod tlv;

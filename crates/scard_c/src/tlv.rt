@@ -1,13 +1,12 @@
 //! Data objects (EMV 4.3 Book 3, Annex B; ISO/IEC 7816-4, clause 5.2.2).
 
-ghost use Rattle.std.specs.Prelude.{◌≡◌, ◌≢◌, ◌≤◌, ◌<◌, length};
+ghost use Rattle.std.specs.Prelude.{◌≡◌, ◌≢◌, ◌≤◌, ◌<◌};
 ghost use Rattle.octet_core.specs.Grammar.{whole, Refuses};
 ghost use Rattle.tlv_core.specs.Forest.{IsForest, largest};
-ghost use Rattle.tlv_core.specs.Dol.{IsDol, IsDolReason};
 ghost use Rattle.tlv_core.specs.Reasons.{IsReason};
-ghost use Rattle.c_lent.specs.Verdict.{IsRefusal, Tells, ok_at, no_memory, wrong_argument};
-ghost use Rattle.c_lent.specs.Tlv.{tlv_reason, dol_reason};
-ghost use Rattle.c_owned.specs.Tlv.{IsSomeDol, IsTidied};
+ghost use Rattle.c_lent.specs.Verdict.{IsRefusal, Tells, no_memory, wrong_argument};
+ghost use Rattle.c_lent.specs.Tlv.{tlv_reason};
+ghost use Rattle.c_owned.specs.Tlv.{IsTidied};
 
 use c_lent::verdict::Verdict;
 use std::alloc::Global;
@@ -32,16 +31,4 @@ pub extern "C" fn scard_tlv_tidy(
     ensures stays { result.status ≢ 0 → out.new ≡ out.old }
 {
     c_owned::tlv::tlv_tidy(alloc, octets, max, out)
-}
-
-/// The verdict on octets as a data object list (EMV 4.3 Book 3, clause 5.4).
-#[unsafe(no_mangle)]
-pub extern "C" fn scard_dol_check(alloc: Global, octets: &[u8]) -> Verdict
-    ensures ok { result.status ≡ 0 → IsSomeDol octets.now }
-    ensures place { result.status ≡ 0 → result ≡ ok_at (length octets.now) }
-    ensures refused { result.status ≢ 0 → result.status ≢ 3 →
-        Tells dol_reason (Refuses whole IsDol IsDolReason octets.now) result }
-    ensures memory { result.status ≡ 3 → result ≡ no_memory }
-{
-    c_owned::tlv::dol_check(alloc, octets)
 }

@@ -5,6 +5,7 @@ pub mod apdu;
 pub mod atr;
 pub mod block;
 pub mod chain;
+pub mod dol;
 pub mod layout;
 pub mod lent;
 pub mod lent_check;

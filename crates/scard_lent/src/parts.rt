@@ -1,11 +1,33 @@
 //! The parts of a forest (EMV 4.3 Book 3, Annex B; ISO/IEC 7816-4, clause 5.2.2).
 
-ghost use Rattle.std.specs.Prelude.{◌≡◌, ◌≤◌, length, map, drop, slice_get};
-ghost use Rattle.tlv_core.specs.Forest.{IsProper};
+ghost use Rattle.std.specs.Prelude.{◌≡◌, ◌≢◌, ◌≤◌, ◌<◌, length, map, drop, slice_get};
+ghost use Rattle.octet_core.specs.Grammar.{whole, Refuses};
+ghost use Rattle.tlv_core.specs.Forest.{IsForest, IsProper, largest};
+ghost use Rattle.tlv_core.specs.Reasons.{IsReason};
 ghost use Rattle.tlv_core.specs.Tree.{Tree};
-ghost use Rattle.c_lent.specs.Parts.{tag_of, found, parts_shown, FindsFirst};
+ghost use Rattle.c_lent.specs.Verdict.{IsRefusal, Tells, wrong_argument};
+ghost use Rattle.c_lent.specs.Tlv.{tlv_reason};
+ghost use Rattle.c_lent.specs.Parts.{tag_of, found, parts_shown, FindsFirst, PutsParts};
 
 use c_lent::parts::{CPart, CTag};
+use c_lent::verdict::Verdict;
+
+/// Puts the parts of a forest of at most `max` octets into an array: its objects in the order of their
+/// headers, each before those inside it, without the fillers. `OK` says how many there are. It takes no memory.
+///
+/// `ARGUMENT` with place 0 where `max` is above 1,048,576, and with their number where the array is too
+/// short.
+#[unsafe(no_mangle)]
+pub extern "C" fn scard_tlv_parts(octets: &[u8], max: usize, out: &mut [CPart]) -> Verdict
+    ensures parts { max ≤ largest → (IsRefusal result → ⊥) →
+        PutsParts max octets.now out.old out.new result }
+    ensures refused { IsRefusal result →
+        Tells tlv_reason (Refuses whole (IsForest max) (IsReason max) octets.now) result }
+    ensures argument { largest < max → result ≡ wrong_argument 0 }
+    ensures stays { result.status ≢ 0 → out.new ≡ out.old }
+{
+    c_lent::parts::tlv_parts(octets, max, out)
+}
 
 /// The place among the parts of a forest of the first object on a path of tags, or their number where there
 /// is none: for a path of one tag, of the first outermost object that has it; for a longer one, of the

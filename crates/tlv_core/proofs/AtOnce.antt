@@ -1,7 +1,7 @@
 -- The parts of a forest so far, as objects with a short header are taken at once.
 use Rattle.std.proofs.Common.{◌≡◌, ℕ, ◌+◌, ◌<◌, ◌≤◌, List, [], ◌∷◌, ◌++◌, length, take, drop, refl, sym, ap, subst, ◌∙◌, arith, Bool, true, false, cond, zero, suc, append-nil}
-use Rattle.std.specs.Prelude.{map, None}
-use Rattle.std.proofs.lemmas.List.{length-take, length-drop, map-append}
+use Rattle.std.specs.Prelude.{None}
+use Rattle.std.proofs.lemmas.List.{length-take, length-drop}
 use Rattle.octet_core.specs.Octets.{AreOctets}
 use Rattle.octet_core.proofs.Lists.{octets-take, octets-drop}
 use Rattle.tlv_core.specs.declared.form.Form.{Form}
@@ -14,7 +14,7 @@ use Rattle.tlv_core.specs.Reasons.{Kept, HasTaken}
 use Rattle.tlv_core.specs.Short.{MayCome, taken_of, opened, after_short}
 use Rattle.tlv_core.specs.Steps.{spent}
 use Rattle.tlv_core.specs.Grown.{Opened, Grown, HasGrown}
-use Rattle.tlv_core.specs.Flat.{placed_at, placed_list, placed, IsKept, HasFlat}
+use Rattle.tlv_core.specs.Flat.{placed_at, placed_list, placed, HasGiven}
 use Rattle.tlv_core.proofs.One.{join}
 use Rattle.tlv_core.proofs.Ends.{kept}
 use Rattle.tlv_core.proofs.Fed.{take_taken_more}
@@ -23,7 +23,7 @@ use Rattle.tlv_core.proofs.Entering.{Fits, item_added, open_added, short_fits}
 use Rattle.tlv_core.proofs.Growing.{open_length}
 use Rattle.tlv_core.proofs.Placing.{inner_place, inner_place-is, inside, placed-more, placed-last, preorder-join}
 use Rattle.tlv_core.proofs.Flattening.{Grew, All, closed_grew, none_placed}
-use Rattle.tlv_core.proofs.Walked.{flat_grew}
+use Rattle.tlv_core.proofs.Walked.{given_grew}
 
 -- its object, at the depth of the innermost list
 abbrev pub added : Kept → ℕ → ℕ → List ℕ → Form → List Placed
@@ -142,22 +142,16 @@ at_once_grew b octets k o g taken may are h =
     may.here short.is)
 
 -- the parts so far, with that of the object
-pub flat_at_once : {P V : Type 0} (see : P → V) (at : Placed → V) (b : List ℕ) (k : Kept) (old new : List P)
-    (o : ShortHeader) → AreOctets b → MayCome k (drop k.count b) o
-    → IsKept see (at (record {
-      depth = 1 + length k.rooms;
-      tag = o.tag;
-      form = o.form;
-      place = k.count + o.header;
-      len = o.len;
-    })) old new → HasFlat see at b k old → HasFlat see at b (after_short k o) new
-flat_at_once {V = V} see at b k old new o octets may e h =
+pub given_at_once : (b : List ℕ) (k : Kept) (parts : List Placed) (o : ShortHeader) → AreOctets b
+    → MayCome k (drop k.count b) o → HasGiven b k parts
+    → HasGiven b (after_short k o) (parts ++ added k o.header o.len o.tag o.form)
+given_at_once b k parts o octets may h =
     let rest = drop k.count b in
     let are : AreOctets rest = octets-drop k.count b octets in
     let now = take k.count b in
     let more = added k o.header o.len o.tag o.form in
-    flat_grew see at b (after_short k o) (now ++ take (taken_of o) rest) (placed h.tree ++ more) new
+    given_grew b (after_short k o) (now ++ take (taken_of o) rest) (placed h.tree ++ more) (parts ++ more)
     (omega (arith, may.here, length-drop k.count b, h.within)) (take_taken_more k.count (taken_of o) b)
     (short_taken now rest k o may are h.taken)
     (at_once_grew now rest k o h.tree h.taken may are h.grown)
-    (e ∙ ap (λ (l : List V). l ++ map at more) h.parts_are ∙ sym (map-append at (placed h.tree) more))
+    (ap (λ (l : List Placed). l ++ more) h.are)

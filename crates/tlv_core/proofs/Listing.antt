@@ -1,7 +1,7 @@
 -- Data object lists, octet by octet and entry by entry.
 use Rattle.std.proofs.Common.{◌≡◌, ℕ, ◌+◌, ◌%◌, ◌<◌, ◌≤◌, List, [], ◌∷◌, ◌++◌, length, take, get_or, refl, sym, ap, subst, ◌∙◌, inl, inr, arith, append-nil, append_assoc, zero, suc, cond, Bool, true, false, not}
 use Rattle.std.proofs.lemmas.Bool.{false≢true}
-use Rattle.std.specs.Prelude.{Option, Some, None, MatchOption, Result, IfErr}
+use Rattle.std.specs.Prelude.{Option, Some, None, MatchOption, IfNone, Result, IfErr}
 use Rattle.std.specs.Option.{ok_or}
 use Rattle.std.proofs.lemmas.List.{take_more}
 use Rattle.octet_core.specs.Grammar.{IsFirst, Refuses, whole}
@@ -12,7 +12,7 @@ use Rattle.tlv_core.specs.declared.reason.DolReason.{DolReason}
 use Rattle.tlv_core.specs.declared.reason.DolReason.TheVariants.{TagZero, TagSecond, TagLong}
 use Rattle.tlv_core.specs.Tag.{IsTag, IsLong}
 use Rattle.tlv_core.specs.TagPart.{part_octets, IsTagPart}
-use Rattle.tlv_core.specs.Dol.{entry_octets, AreEntries, dol_spelling, IsDol, IsPartAfter, IsWrongEntry, IsDolReason, dol_reasons}
+use Rattle.tlv_core.specs.Dol.{entry_octets, AreEntries, dol_spelling, IsDol, HasListed, place_after, IsPartAfter, IsWrongEntry, IsDolReason, dol_reasons}
 use Rattle.tlv_core.proofs.Entries.{Entry, Stands, entries_append, spelling_append, refuses_at, short_entry}
 
 -- ---- the line of the table
@@ -95,6 +95,21 @@ listing_longer b i old now p next lt l more is after =
           ∙ ap (λ (k : List ℕ). dol_spelling old ++ k) (sym longer.1);
     })
 
+-- the octet is the length of an entry, which is given
+pub listed_more : (b : List ℕ) (from i : ℕ) (entries : List Entry) (tag : List ℕ) (p : TagPart) → i < length b
+    → get_or b i 0 < 256 → i ≡ from + length (part_octets p) → p ≡ part.Tagged tag → Listing (take i b) entries p
+    → HasListed b (place_after from (tag, get_or b i 0)) (entries ++ (tag, get_or b i 0) ∷ [])
+listed_more b from i entries tag p lt small place e l =
+    let entry : Entry = (tag, get_or b i 0) in
+    let more = listing_pushed b i entries (entries ++ entry ∷ []) tag p part.Nothing lt small l e refl
+    (subst (λ (q : TagPart). IsPartAfter q (get_or b i 0) part.Nothing) (sym e) refl) in
+    let after : i + 1 ≡ place_after from entry = omega (arith, place, ap (λ (q : TagPart). length (part_octets q)) e) in
+    record {
+      within = omega (arith, lt, after);
+      each = more.each;
+      is = ap (λ (n : ℕ). take n b) (sym after) ∙ more.is ∙ append-nil (dol_spelling (entries ++ entry ∷ []));
+    }
+
 -- an octet is refused at its place, for the first line of the table that it meets
 pub listing_refused : (b : List ℕ) (i : ℕ) (entries : List Entry) (p : TagPart) (r : DolReason) → i < length b
     → Listing (take i b) entries p → IsFirst dol_reasons (IsWrongEntry (part_octets p) (get_or b i 0)) r
@@ -145,8 +160,13 @@ pub each_more : (es : List Entry) (i : ℕ) (e : Entry) → i < length es → e 
 each_more es i e lt is before tag small =
     subst AreEntries (sym (more_entries es i e lt is)) (entries_append (take i es) e before tag small)
 
--- a push that didn't fail has added the entry
-pub pushed : (ok failed : Bool) (old now : List Entry) (e : Entry) → now ≡ cond ok (old ++ e ∷ []) old → ok ≡ not failed
-    → failed ≡ false → now ≡ old ++ e ∷ []
-pushed true failed old now e is n f = is
-pushed false failed old now e is n f = absurd (false≢true (n ∙ ap not f))
+-- a push that didn't fail has added the item
+pub pushed : {X : Type 0} (ok failed : Bool) (old now : List X) (x : X) → now ≡ cond ok (old ++ x ∷ []) old
+    → ok ≡ not failed → failed ≡ false → now ≡ old ++ x ∷ []
+pushed true failed old now x is n f = is
+pushed false failed old now x is n f = absurd (false≢true (n ∙ ap not f))
+
+-- what holds where there is none
+pub where_none : {A P : Type 0} (o : Option A) → ((x : A) → o ≡ Some x → ⊥) → IfNone o P → P
+where_none None none h = h
+where_none (Some x) none h = absurd (none x refl)

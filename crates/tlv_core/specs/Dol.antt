@@ -1,5 +1,6 @@
 -- Data object lists (EMV 4.3 Book 3, clause 5.4).
-use Rattle.std.specs.Prelude.{◌≡◌, ℕ, ◌%◌, ◌<◌, ◌≤◌, List, [], ◌∷◌, ◌++◌}
+use Rattle.std.specs.Prelude.{◌≡◌, ℕ, ◌+◌, ◌%◌, ◌<◌, ◌≤◌, List, [], ◌∷◌, ◌++◌, length, take, Option, Some, None, Result, Ok, Err}
+use Rattle.octet_core.specs.declared.stop.Stop.{Stop}
 use Rattle.octet_core.specs.Grammar.{IsFirst, OneVerdict, whole}
 use Rattle.tlv_core.specs.Tag.{IsTag}
 use Rattle.tlv_core.specs.TagPart.{part_octets, IsTagPart}
@@ -27,6 +28,26 @@ dol_spelling (e ∷ entries) = entry_octets e ++ dol_spelling entries
 pub record IsDol (entries : List (List ℕ × ℕ)) (b : List ℕ) : Type 0 where
   pub each : AreEntries entries
   pub is : b ≡ dol_spelling entries
+
+-- ---- a walk over the entries
+
+-- A walk over the octets b that is at this place has given these entries: the octets before it are theirs.
+pub record HasListed (b : List ℕ) (place : ℕ) (entries : List (List ℕ × ℕ)) : Type 0 where
+  pub within : place ≤ length b
+  pub each : AreEntries entries
+  pub is : take place b ≡ dol_spelling entries
+
+-- what one call of a walk gives
+abbrev pub listed_by : Result (Option (List ℕ × ℕ)) (Stop DolReason) → List (List ℕ × ℕ)
+listed_by (Ok (Some entry)) = entry ∷ []
+listed_by (Ok None) = []
+listed_by (Err stop) = []
+
+-- the place after an entry that begins at this one
+abbrev pub place_after : ℕ → List ℕ × ℕ → ℕ
+place_after place entry = place + (length entry.0 + 1)
+
+-- ---- refusals
 
 -- h is a part of an entry: nothing, or its first octets without the last
 pub record IsBegunEntry (h : List ℕ) : Type 0 where

@@ -1,10 +1,14 @@
 -- The parts of a forest, each with its value.
-use Rattle.std.specs.Prelude.{◌≡◌, ℕ, ◌+◌, ◌≤◌, List, [], ◌∷◌, ◌++◌, length, take, drop, map, Option, Some, None}
+use Rattle.std.specs.Prelude.{◌≡◌, ℕ, ◌+◌, ◌<◌, ◌≤◌, List, [], ◌∷◌, ◌++◌, length, take, drop, map, Option, Some, None, Result, Ok, Err}
+use Rattle.octet_core.specs.declared.stop.Stop.{Stop}
 use Rattle.tlv_core.specs.declared.form.Form.{Form}
+use Rattle.tlv_core.specs.declared.header.ObjectHeader.{ObjectHeader}
 use Rattle.tlv_core.specs.declared.part.Part.{Part}
 use Rattle.tlv_core.specs.declared.part.PlacedPart.{PlacedPart}
 use Rattle.tlv_core.specs.Tree.{Tree, End, Filler, Primitive, Constructed}
-use Rattle.tlv_core.specs.Forest.{spelling}
+use Rattle.tlv_core.specs.Form.{capacity}
+use Rattle.tlv_core.specs.Forest.{spelling, IsForest}
+use Rattle.tlv_core.specs.declared.reason.TlvReason.{TlvReason}
 use Rattle.tlv_core.specs.Parts.{Placed, value_place, preorder}
 use Rattle.tlv_core.specs.Reasons.{Kept, HasTaken}
 use Rattle.tlv_core.specs.Grown.{Opened, ValueSoFar, Grown, HasGrown}
@@ -66,9 +70,9 @@ part_seen part = record {
 abbrev pub placed_of : PlacedPart → Placed
 placed_of part = record { depth = part.depth; tag = part.tag; form = part.form; place = part.place; len = part.len }
 
--- what is seen of one object comes after what is seen of the others
-abbrev pub IsKept : {P V : Type 0} → (P → V) → V → List P → List P → Type 0
-IsKept see v old new = map see new ≡ map see old ++ v ∷ []
+-- an object with this header, at this depth, whose value begins at this place
+abbrev pub placed_from : ℕ → ℕ → ObjectHeader → Placed
+placed_from d place o = record { depth = d; tag = o.tag; form = o.form; place = place; len = o.len }
 
 -- ---- the objects so far, in a list at depth d whose octets begin at this place
 
@@ -104,11 +108,29 @@ placed_list list value d place = preorder d place list ++ placed_value d (place 
 abbrev pub placed : Grown → List Placed
 placed g = placed_in 1 0 g.opened (placed_list g.list g.value)
 
--- the first octets of b were taken, and these are the parts whose header is among them, by what is seen of each
-pub record HasFlat {P V : Type 0} (see : P → V) (at : Placed → V) (b : List ℕ) (k : Kept) (parts : List P) : Type 0
-  where
-    pub within : k.count ≤ length b
-    pub taken : HasTaken (take k.count b) k
-    pub tree : Grown
-    pub grown : HasGrown (take k.count b) k tree
-    pub parts_are : map see parts ≡ map at (placed tree)
+-- ---- a walk over the objects of a forest
+
+-- What a walk over the octets b that keeps this has given: the first octets were taken, and these are the objects whose
+-- header is among them.
+pub record HasGiven (b : List ℕ) (k : Kept) (parts : List Placed) : Type 0 where
+  pub within : k.count ≤ length b
+  pub taken : HasTaken (take k.count b) k
+  pub tree : Grown
+  pub grown : HasGrown (take k.count b) k tree
+  pub are : parts ≡ placed tree
+
+-- the octets b are a forest, and these are its objects
+pub record AreAllParts (max : ℕ) (b : List ℕ) (parts : List Placed) : Type 0 where
+  pub tree : Tree
+  pub forest : IsForest max tree b
+  pub are : parts ≡ preorder 1 0 tree
+
+-- what one call of a walk gives
+abbrev pub given_by : Result (Option PlacedPart) (Stop TlvReason) → List Placed
+given_by (Ok (Some part)) = placed_of part ∷ []
+given_by (Ok None) = []
+given_by (Err stop) = []
+
+-- the header of the object is in the octets b, and says its length in its form
+abbrev pub IsInside : List ℕ → PlacedPart → Type 0
+IsInside b part = (part.place ≤ length b) × (part.len < capacity part.form)

@@ -1,15 +1,14 @@
 //! Data object lists.
 
-ghost use Rattle.std.specs.Prelude.{◌≡◌, ℕ, ◌<◌, ◌++◌, ◌∷◌, [], List, length, IfOk, IfErr, OnOk};
-ghost use Rattle.octet_core.specs.Grammar.{Accepts, RefusesUnlessMemory, IsFirst, whole};
-ghost use Rattle.tlv_core.specs.TagPart.{part_octets, IsTagPart};
+ghost use Rattle.std.specs.Prelude.{◌≡◌, ◌<◌, ◌++◌, ◌∷◌, [], length, IfOk, IfErr, OnOk};
+ghost use Rattle.octet_core.specs.Grammar.{Accepts, RefusesUnlessMemory, whole};
 ghost use Rattle.tlv_core.specs.Tag.{IsTag};
-ghost use Rattle.tlv_core.specs.Dol.{IsDol, IsDolReason, IsPartAfter, IsWrongEntry, dol_reasons};
+ghost use Rattle.tlv_core.specs.Dol.{IsDol, IsDolReason};
 
+use crate::entry_walk::EntryWalk;
 use crate::reason::DolReason;
 use crate::tag::Tag;
-use crate::tag_part::{TagPart, tag_first, tag_second, tag_third};
-use octet_core::{Refused, Stop};
+use octet_core::Refused;
 use std::alloc::{AllocError, Global};
 use std::marker::Model;
 
@@ -50,25 +49,14 @@ impl Dol {
             (λ dol. Accepts whole IsDol octets.now dol (length octets.now)) }
         ensures refused { IfErr result (RefusesUnlessMemory whole IsDol IsDolReason octets.now) }
     {
+        let mut walk = EntryWalk::new();
         let mut entries = Vec::new(alloc);
-        let mut part = TagPart::Nothing;
-        for (place, octet) in octets.iter().enumerate() {
-            if let TagPart::Tagged(tag) = part {
-                if entries.push((tag, *octet)).is_err() {
-                    return Err(Refused::Memory);
-                }
-            }
-            match entry_next(part, *octet) {
-                Ok(next) => part = next,
-                Err(reason) => return Err(Refused::Stop(Stop::At { place, reason })),
+        while let Some(entry) = walk.next_entry(octets)? {
+            if entries.push(entry).is_err() {
+                return Err(Refused::Memory);
             }
         }
-        if let TagPart::Nothing = part {
-            return Ok(Dol { entries });
-        }
-        Err(Refused::Stop(Stop::Short {
-            place: octets.len(),
-        }))
+        Ok(Dol { entries })
     }
 
     /// The octets that spell the list, or lack of memory.
@@ -115,21 +103,4 @@ fn append_entry(out: &mut Vec<u8>, tag: &Tag, length: u8) -> Result<(), AllocErr
     out.extend_from_slice(tag.octets())?;
     out.push(length)?;
     Ok(())
-}
-
-/// What is under way after the octet, or why it is refused. The octet after a tag is its length, and then
-/// nothing is.
-fn entry_next(part: TagPart, octet: u8) -> Result<TagPart, DolReason>
-    requires { IsTagPart part }
-    ensures ok { IfOk result (IsPartAfter part octet) }
-    ensures err { IfErr result (IsFirst dol_reasons (IsWrongEntry (part_octets part) octet)) }
-{
-    match part {
-        TagPart::Nothing => tag_first(octet).ok_or(DolReason::TagZero),
-        TagPart::First(first) => tag_second(first, octet).ok_or(DolReason::TagSecond),
-        TagPart::Second(first, second) => {
-            tag_third(first, second, octet).ok_or(DolReason::TagLong)
-        }
-        TagPart::Tagged(_) => Ok(TagPart::Nothing),
-    }
 }

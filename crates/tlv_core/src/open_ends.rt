@@ -156,8 +156,10 @@ impl OpenEnds {
             (ends_of self.old ++ (self.old.count + whole) ∷ []) }
     {
         if self.level == 0 && taken == whole {
-            // nothing was open, and nothing is
+            // nothing was open, and nothing is; it is written again since the compiler counts many places in one step only
+            // where both ways write the number
             self.count += taken;
+            self.level = 0;
             return;
         }
         let place = self.place_for(whole, taken);

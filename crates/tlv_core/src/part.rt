@@ -1,9 +1,10 @@
 //! Parts of forests, lent from their octets.
 
-ghost use Rattle.std.specs.Prelude.{◌≡◌, ◌<◌, ◌-◌, ℕ, length};
+ghost use Rattle.std.specs.Prelude.{◌≡◌, ◌<◌, ◌-◌, ◌^◌, ℕ, length};
 ghost use Rattle.tlv_core.specs.Form.{capacity};
 
 use crate::form::Form;
+use crate::header::ObjectHeader;
 use crate::tag::Tag;
 use arrayvec::ArrayVec;
 use std::fmt::{self, Debug, Formatter, Write};
@@ -37,6 +38,26 @@ pub struct PlacedPart {
     pub place: u32,
     /// How many octets its value has.
     pub len: u32,
+}
+
+impl PlacedPart {
+    ghost use Rattle.tlv_core.specs.Flat.{placed_of, placed_from};
+
+    /// An object at this depth, whose value begins at `place`.
+    #[inline(always)]
+    pub(crate) fn of(depth: usize, object: ObjectHeader, place: usize) -> PlacedPart
+        requires depth { depth < 256 }
+        requires place { place < 2 ^ 32 }
+        ensures { placed_of result ≡ placed_from depth place object }
+    {
+        PlacedPart {
+            tag: object.tag,
+            form: object.form,
+            depth: depth as u8,
+            place: place as u32,
+            len: object.len,
+        }
+    }
 }
 
 impl Part<'_> {

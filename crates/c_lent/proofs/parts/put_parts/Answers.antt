@@ -1,60 +1,84 @@
-use Rattle.std.proofs.Common.{◌≡◌, ◌+◌, ◌<◌, ◌++◌, ◌∷◌, [], List, length, map, take, drop, sym, ap, ◌∙◌, arith, get_or}
-use Rattle.std.proofs.lemmas.List.{take_more_set, take_more, drop-set-lt, drop-drop, length-set, length-map, get_or-map, take-append-drop, take_all}
+use Rattle.std.proofs.Common.{◌≡◌, List, [], ◌∷◌, ◌++◌, ℕ, ◌<◌, length, map, set, refl, sym, ap, subst, ◌∙◌, arith}
+use Rattle.std.specs.Prelude.{Option, Ok, IfSome}
+use Rattle.std.proofs.lemmas.List.{map-append, length-append}
+use Rattle.std.proofs.lemmas.Result.{err_from_is_err_and}
+use Rattle.octet_core.specs.Grammar.{Refuses, whole}
+use Rattle.tlv_core.specs.declared.part.PlacedPart.{PlacedPart}
+use Rattle.tlv_core.specs.Forest.{IsForest}
+use Rattle.tlv_core.specs.Parts.{Placed}
+use Rattle.tlv_core.specs.Reasons.{IsReason}
+use Rattle.tlv_core.specs.Flat.{given_by, placed_of, HasGiven}
+use Rattle.tlv_core.proofs.Listing.{where_none}
 use Rattle.c_lent.specs.declared.parts.CPart.{CPart}
-use Rattle.c_lent.specs.Parts.{part_put}
-use Rattle.c_lent.specs.Verdict.{wrong_argument, ok_at}
-use Rattle.c_lent.proofs.Puts.{verdict-fits, verdict-lacks, buffer-fits, buffer-lacks}
+use Rattle.c_lent.specs.Parts.{part_shown, part_put}
+use Rattle.c_lent.specs.Verdict.{filled}
+use Rattle.c_lent.proofs.Puts.{put-next, left-out}
 use Rattle.c_lent.proofs.parts.put_parts.Goals as goal
+use Rattle.c_lent.proofs.parts.put_parts.Goals.{then-count-out, else-count-out}
 
-pub returns-then-parts-out-clause-verdict : goal.returns-then-parts-out-clause-verdict
-returns-then-parts-out-clause-verdict c =
-    let size = length-map c.args.parts.now part_put in
-    c.lacking.ensures ∙ ap wrong_argument (sym size)
-    ∙ sym (verdict-lacks (map part_put c.args.parts.now) c.args.out.now (omega (arith, size, c.if-parts-out.true)))
+pub loop-part-init : goal.loop-part-init
+loop-part-init c = (
+  c.new-walk.ensures.limit,
+  [],
+  c.new-walk.ensures.nothing c.args.octets.now,
+  refl,
+  omega arith,
+  refl,
+)
 
-pub returns-then-parts-out-clause-array : goal.returns-then-parts-out-clause-array
-returns-then-parts-out-clause-array c =
-    sym (buffer-lacks (map part_put c.args.parts.now) c.args.out.now
-    (omega (arith, length-map c.args.parts.now part_put, c.if-parts-out.true)))
+pub loop-part-smaller : goal.loop-part-smaller
+loop-part-smaller c =
+    let l = c.loop-part in
+    let more = subst (λ (n : Option PlacedPart). IfSome n (λ _. l.walk.count < c.next_part.new.self.count)) c.in-Some.is
+    c.in_ok-part.ensures.more in
+    let given = c.in_ok-part.ensures.given l.invariant.1 l.invariant.2 in
+    omega (arith, more, given.within)
 
-pub loop-index-preserved : goal.loop-index-preserved
-loop-index-preserved c =
-    let parts = c.args.parts.now in
-    let i = c.loop-index.index in
-    let x = c.index-parts-index.result in
-    let inside = c.loop-index-test.true in
-    let all : List CPart = map part_put parts in
-    let size = length-map parts part_put in
-    let shown : c.put_part.new.place ≡ get_or all i c.put_part.new.place =
-    c.put_part.ensures ∙ ap part_put c.index-parts-index.is
-    ∙ sym (get_or-map part_put parts i x c.put_part.new.place inside) in
-    let out = c.loop-index.out in
-    let room : i < length out = omega (arith, inside, c.loop-index.invariant.size, c.if-parts-out.false) in
+pub loop-part-preserved : goal.loop-part-preserved
+loop-part-preserved c =
+    let b = c.args.octets.now in
+    let old = c.args.out.now in
+    let l = c.loop-part in
+    let given = l.invariant.1 in
+    let all : List CPart = map part_shown given in
+    let part = c.in-Some.part in
+    let next = given ++ placed_of part ∷ [] in
+    let now = c.if-count-out.out in
+    let more = subst (λ (n : Option PlacedPart). IfSome n (λ _. l.walk.count < c.next_part.new.self.count)) c.in-Some.is
+    c.in_ok-part.ensures.more in
+    let shown : map part_shown next ≡ all ++ part_put part ∷ [] = map-append part_shown given (placed_of part ∷ []) in
+    let array : now ≡ filled (all ++ part_put part ∷ []) old =
+    elim c.if-count-out.branch [
+      | then-count-out w ↦
+          put-next all old l.out now l.count (part_put part) l.invariant.5 l.invariant.3 w.if-count-out.true
+          (w.out-is ∙ ap (λ (y : CPart). set l.out l.count y) w.put_part.ensures)
+      | else-count-out w ↦
+          left-out all old l.out now l.count (part_put part) l.invariant.5 l.invariant.3 w.if-count-out.false w.out-is
+    ] in (
+      c.in_ok-part.ensures.limit ∙ l.invariant.0,
+      next,
+      subst (λ (n : Option PlacedPart). HasGiven b c.next_part.new.self (given ++ given_by (Ok n))) c.in-Some.is
+          (c.in_ok-part.ensures.given given l.invariant.2),
+      omega (arith, l.invariant.3, ap length shown, length-append all (part_put part ∷ [])),
+      omega (arith, more, l.invariant.4),
+      array ∙ ap (λ (p : List CPart). filled p old) (sym shown),
+    )
+
+pub returns-clause-ok : goal.returns-clause-ok
+returns-clause-ok c =
+    let l = c.loop-part in
+    let all = where_none c.in_ok-part.field-0 c.in_default.not-Some
+    (c.in_ok-part.ensures.all l.invariant.1 l.invariant.2) in
     record {
-      size = length-set c.loop-index.out i c.put_part.new.place ∙ c.loop-index.invariant.size;
-      done = take_more_set out i c.put_part.new.place room
-          ∙ ap (λ (l : List CPart). l ++ c.put_part.new.place ∷ []) c.loop-index.invariant.done
-          ∙ ap (λ (y : CPart). take i all ++ y ∷ []) shown
-          ∙ sym (take_more all i c.put_part.new.place (omega (arith, size, inside)));
-      rest = drop-set-lt (i + 1) c.loop-index.out i c.put_part.new.place (omega arith)
-          ∙ sym (drop-drop 1 i c.loop-index.out)
-          ∙ ap (drop 1) c.loop-index.invariant.rest ∙ drop-drop 1 i c.args.out.now;
+      tree = all.tree;
+      forest = subst (λ (max : ℕ). IsForest max all.tree c.args.octets.now) l.invariant.0 all.forest;
+      number = l.invariant.3 ∙ ap (λ (p : List Placed). length (map part_shown p)) all.are;
+      array = l.invariant.5 ∙ ap (λ (p : List Placed). filled (map part_shown p) c.args.out.now) all.are;
     }
 
-pub returns-clause-verdict : goal.returns-clause-verdict
-returns-clause-verdict c =
-    let size = length-map c.args.parts.now part_put in
-    c.ok.ensures ∙ ap ok_at (sym size) ∙ sym
-    (verdict-fits (map part_put c.args.parts.now) c.args.out.now (omega (arith, size, c.if-parts-out.false)))
-
-pub returns-clause-array : goal.returns-clause-array
-returns-clause-array c =
-    let all : List CPart = map part_put c.args.parts.now in
-    let size = length-map c.args.parts.now part_put in
-    let i = c.loop-index.index in
-    let out = c.loop-index.out in
-    let end : i ≡ length all = omega (arith, size, c.loop-index-test.false, c.loop-index.auto.index-end) in
-    sym (take-append-drop i out)
-    ∙ ap (λ (l : List CPart). l ++ drop i out) (c.loop-index.invariant.done ∙ take_all i all (omega (arith, end)))
-    ∙ ap (λ (l : List CPart). all ++ l) (c.loop-index.invariant.rest ∙ ap (λ (k : _). drop k c.args.out.now) end)
-    ∙ sym (buffer-fits all c.args.out.now (omega (arith, size, c.if-parts-out.false)))
+pub returns-in_err-part-clause-refused : goal.returns-in_err-part-clause-refused
+returns-in_err-part-clause-refused c =
+    let l = c.loop-part in
+    let p = err_from_is_err_and c.from_residual.result c.from_residual.ensures.1 in
+    rw (p.1, p.2) (subst (λ (max : ℕ). Refuses whole (IsForest max) (IsReason max) c.args.octets.now
+    c.in_err-part.field-0.0) l.invariant.0 (c.in_err-part.ensures.refused l.invariant.1 l.invariant.2))

@@ -1,6 +1,9 @@
-use Rattle.std.proofs.Common.{take}
-use Rattle.tlv_core.proofs.Listing.{Listing}
+use Rattle.std.proofs.Common.{◌-◌, length}
+use Rattle.tlv_core.specs.Dol.{HasListed}
 use Rattle.tlv_core.proofs.dol.Dol.decode.Given as goal
 
-abbrev pub invariant-loop-place : goal.invariant-loop-place
-invariant-loop-place l = Listing (take l.place l.octets) l.entries.items l.part
+abbrev pub invariant-loop-entries : goal.invariant-loop-entries
+invariant-loop-entries l = HasListed l.octets l.walk l.entries.items
+
+abbrev pub decreases-loop-entries : goal.decreases-loop-entries
+decreases-loop-entries l = length l.octets - l.walk

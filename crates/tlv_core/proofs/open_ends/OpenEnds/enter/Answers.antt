@@ -158,10 +158,10 @@ invariant_of-self c =
     record {
       limit = s.limit;
       within = omega (arith, within s c.args.whole c.requires.fits, c.requires.within);
-      levels = s.levels;
-      ahead = λ i lt. absurd (omega (arith, lt, length-take s.level s.places, c.if-self-eq0.true));
-      nested = λ i lt. absurd (omega (arith, lt, length-take s.level s.places, c.if-self-eq0.true));
-      reached = λ i le. omega (arith, s.reached i le);
+      levels = omega arith;
+      ahead = λ i lt. absurd (omega (arith, lt));
+      nested = λ i lt. absurd (omega (arith, lt));
+      reached = λ i le. omega (arith, s.reached i (omega (arith, c.if-self-eq0.true)));
     }
 
 pub invariant_of-self-2 : goal.invariant_of-self-2

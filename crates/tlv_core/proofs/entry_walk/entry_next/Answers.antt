@@ -4,7 +4,7 @@ use Rattle.octet_core.specs.Grammar.{IsFirst}
 use Rattle.tlv_core.specs.Dol.{IsWrongEntry, dol_reasons}
 use Rattle.tlv_core.specs.declared.reason.DolReason.TheVariants.{TagZero, TagSecond, TagLong}
 use Rattle.tlv_core.proofs.Listing.{err_of, line_zero, line_second, line_third}
-use Rattle.tlv_core.proofs.dol.entry_next.Goals as goal
+use Rattle.tlv_core.proofs.entry_walk.entry_next.Goals as goal
 
 pub returns-in-Nothing-clause-err : goal.returns-in-Nothing-clause-err
 returns-in-Nothing-clause-err c = err_of _ _

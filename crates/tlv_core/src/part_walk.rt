@@ -1,0 +1,165 @@
+//! A walk over the parts of a forest, whose caller keeps it.
+
+ghost use Rattle.std.specs.Prelude.{◌≡◌, ℕ, ◌<◌, ◌≤◌, List, [], ◌∷◌, ◌++◌, length, IfOk, IfErr, OnOk, IfSome, IfNone};
+ghost use Rattle.octet_core.specs.Grammar.{Refuses, whole};
+ghost use Rattle.tlv_core.specs.Forest.{IsForest};
+ghost use Rattle.tlv_core.specs.Parts.{Placed};
+ghost use Rattle.tlv_core.specs.Reasons.{IsReason};
+ghost use Rattle.tlv_core.specs.Progress.{kept_of};
+ghost use Rattle.tlv_core.specs.Flat.{HasGiven, AreAllParts, IsInside, given_by, placed_of};
+
+use crate::part::PlacedPart;
+use crate::progress::Progress;
+use crate::reason::TlvReason;
+use octet_core::Stop;
+use std::marker::Model;
+
+/// A walk over the objects of a forest, in the order of their headers, each before those inside it, without the
+/// fillers. It takes no memory and has no recursion: it keeps how far it came in the octets, the places at which open
+/// objects end, at most 16, and the octets of a header, at most seven.
+///
+/// Contracts see what the octets so far leave open.
+#[derive(Drop)]
+pub struct PartWalk {
+    progress: Progress,
+}
+
+impl Model for PartWalk {
+    ghost use Rattle.tlv_core.specs.Reasons.{Kept};
+    ghost use Rattle.tlv_core.specs.Progress.{kept_of};
+
+    ghost Value = { Kept };
+
+    ghost view = { λ walk. kept_of walk.progress };
+}
+
+impl PartWalk {
+    /// A walk over the octets of a forest of at most `max` octets, itself at most 1,048,576, before its first object.
+    pub fn new(max: usize) -> PartWalk
+        requires { max ≤ 1048576 }
+        ensures limit { result.max ≡ max }
+        ensures nothing { (b : List ℕ) → HasGiven b result [] }
+    {
+        PartWalk {
+            progress: Progress::new(max),
+        }
+    }
+
+    /// The next object by its place, or `None` after the last where all the octets are a forest; or why they are none:
+    /// `Short` at their end where a forest goes on, `At` the first octet after which none does. The octets are the same
+    /// in each call. After the last object, and after a refusal, each call answers the same.
+    #[inline(always)]
+    pub fn next_part(&mut self, octets: &[u8]) -> Result<Option<PlacedPart>, Stop<TlvReason>>
+        ensures limit { self.new.max ≡ self.old.max }
+        ensures more { IfOk result (λ next. IfSome next (λ _. self.old.count < self.new.count)) }
+        ensures inside { IfOk result (λ next. IfSome next (IsInside octets.now)) }
+        ensures given { (parts : List Placed) → HasGiven octets.now self.old parts
+            → HasGiven octets.now self.new (parts ++ given_by result) }
+
+        ensures all { (parts : List Placed) → HasGiven octets.now self.old parts
+            → IfOk result (λ next. IfNone next (AreAllParts self.old.max octets.now parts)) }
+        ensures refused { (parts : List Placed) → HasGiven octets.now self.old parts
+            → IfErr result (Refuses whole (IsForest self.old.max) (IsReason self.old.max) octets.now) }
+    {
+        next_part(&mut self.progress, octets)
+    }
+}
+
+/// The next object, as [`PartWalk::next_part`] gives it. All of it is in line but for the octets of a long header: a
+/// result that a call moves through memory costs more than an object.
+#[inline(always)]
+fn next_part(progress: &mut Progress, octets: &[u8]) -> Result<Option<PlacedPart>, Stop<TlvReason>>
+    ensures limit { progress.new.ends.max ≡ progress.old.ends.max }
+    ensures more { IfOk result
+        (λ next. IfSome next (λ _. progress.old.ends.count < progress.new.ends.count)) }
+    ensures inside { IfOk result (λ next. IfSome next (IsInside octets.now)) }
+    ensures given { (parts : List Placed) → HasGiven octets.now (kept_of progress.old) parts
+        → HasGiven octets.now (kept_of progress.new) (parts ++ given_by result) }
+    ensures all { (parts : List Placed) → HasGiven octets.now (kept_of progress.old) parts
+        → IfOk result (λ next. IfNone next (AreAllParts progress.old.ends.max octets.now parts)) }
+    ensures refused { (parts : List Placed) → HasGiven octets.now (kept_of progress.old) parts
+        → IfErr result (Refuses whole
+        (IsForest progress.old.ends.max) (IsReason progress.old.ends.max) octets.now) }
+{
+    while progress.count() < octets.len() {
+        if let Some(part) = advance(progress, octets)? {
+            return Ok(Some(part));
+        }
+    }
+    if progress.is_idle() {
+        return Ok(None);
+    }
+    Err(Stop::Short {
+        place: progress.count(),
+    })
+}
+
+/// Takes the next octets of a forest: a run of the value under way, an object with a short header, or one octet. Where
+/// that completes the header of an object, it is given.
+#[inline(always)]
+fn advance(progress: &mut Progress, octets: &[u8]) -> Result<Option<PlacedPart>, Stop<TlvReason>>
+    requires { progress.old.ends.count < length octets.now }
+    ensures limit { progress.new.ends.max ≡ progress.old.ends.max }
+    ensures more { OnOk result (progress.old.ends.count < progress.new.ends.count) }
+    ensures inside { IfOk result (λ next. IfSome next (IsInside octets.now)) }
+    ensures given { (parts : List Placed) → HasGiven octets.now (kept_of progress.old) parts
+        → HasGiven octets.now (kept_of progress.new) (parts ++ given_by result) }
+    ensures refused { (parts : List Placed) → HasGiven octets.now (kept_of progress.old) parts
+        → IfErr result (Refuses whole
+        (IsForest progress.old.ends.max) (IsReason progress.old.ends.max) octets.now) }
+{
+    let left = progress.value_left();
+    if left > 0 {
+        progress.skip(left.min(octets.len() - progress.count()));
+        return Ok(None);
+    }
+    if let Some(part) = take_short(progress, octets) {
+        return Ok(Some(part));
+    }
+    take_first(progress, octets)
+}
+
+/// Takes an object with a short header, if one comes next.
+#[inline(always)]
+fn take_short(progress: &mut Progress, octets: &[u8]) -> Option<PlacedPart>
+    requires here { progress.old.ends.count ≤ length octets.now }
+    requires idle { progress.old.value_left ≡ 0 }
+    ensures limit { progress.new.ends.max ≡ progress.old.ends.max }
+    ensures more { IfSome result (λ _. progress.old.ends.count < progress.new.ends.count) }
+    ensures inside { IfSome result (IsInside octets.now) }
+    ensures some { IfSome result
+        (λ part. (parts : List Placed) → HasGiven octets.now (kept_of progress.old) parts
+        → HasGiven octets.now (kept_of progress.new) (parts ++ placed_of part ∷ [])) }
+    ensures none { IfNone result (progress.new ≡ progress.old) }
+{
+    let count = progress.count();
+    let short = progress.next_short(&octets[count..])?;
+    let place = count + usize::from(short.header);
+    let part = PlacedPart::of(progress.level() + 1, short.object(), place);
+    progress.pass(short);
+    Some(part)
+}
+
+/// Takes one octet of a header, or a filler. Where that completes the header of an object, it is given.
+#[inline(always)]
+fn take_first(progress: &mut Progress, octets: &[u8]) -> Result<Option<PlacedPart>, Stop<TlvReason>>
+    requires here { progress.old.ends.count < length octets.now }
+    requires idle { progress.old.value_left ≡ 0 }
+    ensures limit { progress.new.ends.max ≡ progress.old.ends.max }
+    ensures more { OnOk result (progress.old.ends.count < progress.new.ends.count) }
+    ensures inside { IfOk result (λ next. IfSome next (IsInside octets.now)) }
+    ensures given { (parts : List Placed) → HasGiven octets.now (kept_of progress.old) parts
+        → HasGiven octets.now (kept_of progress.new) (parts ++ given_by result) }
+    ensures refused { (parts : List Placed) → HasGiven octets.now (kept_of progress.old) parts
+        → IfErr result (Refuses whole
+        (IsForest progress.old.ends.max) (IsReason progress.old.ends.max) octets.now) }
+{
+    let depth = progress.level() + 1;
+    match progress.take(octets[progress.count()]) {
+        Ok(next) => match next.object() {
+            Some(object) => Ok(Some(PlacedPart::of(depth, object, progress.count()))),
+            None => Ok(None),
+        },
+        Err(reason) => Err(progress.refusal(reason).stop()),
+    }
+}
