@@ -8,7 +8,7 @@ _scard_before() {
     for ((at = 1; at < COMP_CWORD; at++)); do
         before=${COMP_WORDS[at]}
         case $before in
-        = | -- | --explain | --help | --version | --*=*) ;;
+        = | -- | --explain | --notes | --help | --version | --*=*) ;;
         --*) value=comes ;;
         *)
             if [ "$value" ]; then
@@ -25,7 +25,8 @@ _scard_before() {
 # Sets words to those that can come at the place, where no option's value does.
 _scard_words() {
     case ${COMP_WORDS[1]} in
-    check | show) words='--stdin --ifs --number --explain --help' ;;
+    check) words='--stdin --ifs --number --explain --help' ;;
+    show) words='--stdin --ifs --number --notes --explain --help' ;;
     build) words='--explain --help' ;;
     replay) words='--end --explain --help' ;;
     migrate) words='--explain --help' ;;

@@ -4,3 +4,4 @@ pub mod Chains
 pub mod Forests
 pub mod Duplicates
 pub mod OneVerdict
+pub mod NoSign

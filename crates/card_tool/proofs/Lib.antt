@@ -1,5 +1,6 @@
 pub mod Exchanges
 pub mod Simulations
+pub mod Annotating
 pub mod OneAnswer
 pub mod OneText
 pub mod Inputs

@@ -1,12 +1,15 @@
 -- That what is asked for has one answer.
-use Rattle.std.proofs.Common.{◌≡◌, ◌≤◌, ◌∙◌, ◌++◌, ℕ, List, [], ◌∷◌, Bool, true, false, if◌then◌else◌, nat_le, Result, Ok, Err, IfOk, ap, length, sym, refl}
+use Rattle.std.proofs.Common.{◌≡◌, ◌≤◌, ◌∙◌, ◌++◌, ℕ, List, [], ◌∷◌, Bool, true, false, if◌then◌else◌, nat_le, Result, Ok, Err, IfOk, ap, append_assoc, length, subst, sym, refl}
 use Rattle.octet_core.specs.Octets.{AreOctets}
 use Rattle.card_tool.specs.ExchangeTexts.{Migrates, Replays}
 use Rattle.card_kinds.proofs.OneOf.{OneText, ended-by, plain}
 use Rattle.card_tool.proofs.Exchanges.{migrated-once, replayed-once}
 use Rattle.card_tool.proofs.Simulations.{simulated-once}
-use Rattle.card_tool.specs.Answers.{line_end, AreLinesTold, IsAnswerAsked, IsAnswerTo, IsLineTold, IsTold, IsToldOf, Tells}
-use Rattle.card_kinds.specs.Verdicts.{Tidies}
+use Rattle.card_tool.specs.Answers.{line_end, plain_aim, plain_asked, plain_request, plain_task, plain_text, plain_told, AreLinesTold, IsAnswerAsked, IsAnswerTo, IsLineTold, IsTold, IsToldOf, Tells}
+use Rattle.card_kinds.specs.Verdicts.{Shows, Tidies}
+use Rattle.card_tool.proofs.Annotating.{none-noted}
+use Rattle.notes.proofs.Cutting.{cut-apart}
+use Rattle.notes.specs.Noted.{without_notes}
 use Rattle.card_words.specs.Texts.{fault_text}
 use Rattle.card_words.specs.declared.fault.Fault.{Fault}
 use Rattle.card_kinds.proofs.OneVerdict.{checked, shown, tidied, filled-once}
@@ -15,7 +18,7 @@ use Rattle.chain_core.specs.Cut.{cut_of}
 use Rattle.card_kinds.specs.ChainTexts.{blocks_text}
 use Rattle.card_words.specs.Given.{octets_given}
 use Rattle.card_words.specs.Loose.{loose_octets}
-use Rattle.card_words.specs.declared.fault.Fault.TheVariants.{TooLarge}
+use Rattle.card_words.specs.declared.fault.Fault.TheVariants.{Words, Hex, Memory, Read, TooLarge}
 use Rattle.card_words.specs.declared.given.Form.TheVariants as form
 use Rattle.card_words.specs.declared.given.Given.TheVariants as given
 use Rattle.card_tool.specs.Files.{largest_file}
@@ -24,7 +27,7 @@ use Rattle.card_words.specs.Words.{AreSized, HasOctets, HaveOctets, IsOnce, IsSi
 use Rattle.card_words.proofs.Givens.{octets-given}
 use Rattle.card_words.specs.Version.{version_line}
 use Rattle.card_words.specs.declared.request.Aim.{Aim}
-use Rattle.card_words.specs.declared.request.Aim.TheVariants.{Check, Show}
+use Rattle.card_words.specs.declared.request.Aim.TheVariants.{Check, Show, Note}
 use Rattle.card_words.specs.declared.request.Asked.{Asked}
 use Rattle.card_words.specs.declared.request.Asked.TheVariants.{Once, Lines}
 use Rattle.card_words.specs.declared.request.Expected.{Expected}
@@ -56,23 +59,25 @@ told-of : (Told : List ℕ → List ℕ → Status → Type 0) → ((octets : Li
 told-of Told once (Ok octets) = once octets
 told-of Told once (Err fault) = ended-by (fault_text fault) status.Fault
 
--- what is told of octets
+-- what is told of octets without notes
 tells-once : (aim : Aim) (expected : Expected) → expected.ifs ≤ 254 → (b : List ℕ) → AreOctets b
-    → OneText (Tells aim expected b)
+    → OneText (Tells (plain_aim aim) expected b)
 tells-once Check expected small b = checked expected.kind expected b small
 tells-once Show expected small b = shown expected.kind expected b small
+tells-once Note expected small b = shown expected.kind expected b small
 
--- a line's text
-line-once : (task : Task) → task.expected.ifs ≤ 254 → (line : List ℕ) → OneText (IsLineTold task line)
+-- a line's text without notes
+line-once : (task : Task) → task.expected.ifs ≤ 254 → (line : List ℕ) → OneText (IsLineTold (plain_task task) line)
 line-once task small line =
-    let told = told-octets (IsTold task) (tells-once task.aim task.expected small) (line_octets line) (line-octets line)
+    let told = told-octets (IsTold (plain_task task)) (tells-once task.aim task.expected small) (line_octets line)
+    (line-octets line)
     in
     record {
       one = λ t u s q h g.
           let same = told.one h.told g.told s q h.is_told g.is_told in
-          (h.is_text ∙ ap (λ (l : List ℕ). l ++ line_end task.aim) same.0 ∙ sym g.is_text, same.1);
+          (h.is_text ∙ ap (λ (l : List ℕ). l ++ line_end (plain_aim task.aim)) same.0 ∙ sym g.is_text, same.1);
       some = (
-        told.some.0 ++ line_end task.aim,
+        told.some.0 ++ line_end (plain_aim task.aim),
         told.some.1,
         record { told = told.some.0; is_told = told.some.2; is_text = refl },
       );
@@ -114,11 +119,12 @@ module _ (Line : List ℕ → List ℕ → Status → Type 0) (once : (line : Li
   told-each-once : (lines : List (List ℕ)) → OneText (AreTold Line lines)
   told-each-once lines = record { one = one-told-each lines; some = some-told-each lines }
 
--- a request has one text with one status, where its size is one and what it has and reads for octets are octets
-pub one-answer : (request : Request) (file : Result (List ℕ) Fault) → IsSized request → HasOctets request
-    → (NeedsOctets request → IfOk file AreOctets) → OneText (IsAnswerTo request file)
+-- A request has one text with one status without notes, where its size is one and what it has and reads for octets are
+-- octets.
+one-answer : (request : Request) (file : Result (List ℕ) Fault) → IsSized request → HasOctets request
+    → (NeedsOctets request → IfOk file AreOctets) → OneText (IsAnswerTo (plain_request request) file)
 one-answer (Tell task given) file sized octets as_read =
-    told-octets (IsTold task) (tells-once task.aim task.expected sized.1) (octets_given given file)
+    told-octets (IsTold (plain_task task)) (tells-once task.aim task.expected sized.1) (octets_given given file)
     (octets-given given file octets as_read)
 one-answer (BuildChain ifs number message) file sized octets as_read =
     plain (blocks_text (chain_blocks number (cut_of ifs message)))
@@ -132,9 +138,156 @@ one-answer (Help help) file sized octets as_read = plain help
 one-answer Version file sized octets as_read = plain version_line
 
 -- the same of what is asked for
-pub one-asked : (asked : Asked) (file : Result (List ℕ) Fault) → AreSized asked → HaveOctets asked
-    → (IsOnce NeedsOctets asked → IfOk file AreOctets) → OneText (IsAnswerAsked asked file)
+one-asked : (asked : Asked) (file : Result (List ℕ) Fault) → AreSized asked → HaveOctets asked
+    → (IsOnce NeedsOctets asked → IfOk file AreOctets) → OneText (IsAnswerAsked (plain_asked asked) file)
 one-asked (Once request) file sized octets as_read = one-answer request file sized octets as_read
 one-asked (Lines task) file sized octets as_read =
-    told-of (λ b. AreLinesTold task (all_lines b))
-    (λ b. told-each-once (IsLineTold task) (line-once task sized.1) (all_lines b)) file
+    told-of (λ b. AreLinesTold (plain_task task) (all_lines b))
+    (λ b. told-each-once (IsLineTold (plain_task task)) (line-once task sized.1) (all_lines b)) file
+
+-- ---- with notes
+
+-- what is told without notes is right with them too, where none is put
+noted-too : (aim : Aim) (expected : Expected) (b text : List ℕ) (ended : Status)
+    → Tells (plain_aim aim) expected b text ended → Tells aim expected b text ended
+noted-too Check expected b text ended h = h
+noted-too Show expected b text ended h = h
+noted-too Note expected b text ended h = none-noted expected b text ended h
+
+told-too : (task : Task) (r : Result (List ℕ) Fault) (text : List ℕ) (ended : Status)
+    → IsToldOf (IsTold (plain_task task)) r text ended → IsToldOf (IsTold task) r text ended
+told-too task (Ok b) text ended h = noted-too task.aim task.expected b text ended h
+told-too task (Err fault) text ended h = h
+
+same-end : (aim : Aim) → line_end (plain_aim aim) ≡ line_end aim
+same-end Check = refl
+same-end Show = refl
+same-end Note = refl
+
+line-too : (task : Task) (line text : List ℕ) (ended : Status) → IsLineTold (plain_task task) line text ended
+    → IsLineTold task line text ended
+line-too task line text ended h = record {
+  told = h.told;
+  is_told = told-too task (line_octets line) h.told ended h.is_told;
+  is_text = h.is_text ∙ ap (λ (l : List ℕ). h.told ++ l) (same-end task.aim);
+}
+
+lines-too : (task : Task) (lines : List (List ℕ)) (text : List ℕ) (ended : Status)
+    → AreLinesTold (plain_task task) lines text ended → AreLinesTold task lines text ended
+lines-too task [] text ended h = h
+lines-too task (line ∷ lines) text ended h = record {
+  first = h.first;
+  one = h.one;
+  more = h.more;
+  others = h.others;
+  is_first = line-too task line h.first h.one h.is_first;
+  is_more = lines-too task lines h.more h.others h.is_more;
+  is_text = h.is_text;
+  is_ended = h.is_ended;
+}
+
+asked-too : (asked : Asked) (file : Result (List ℕ) Fault) (text : List ℕ) (ended : Status)
+    → IsAnswerAsked (plain_asked asked) file text ended → IsAnswerAsked asked file text ended
+asked-too (Once (Tell task given)) file text ended h = told-too task (octets_given given file) text ended h
+asked-too (Once (BuildChain ifs number message)) file text ended h = h
+asked-too (Once (BuildTidy given)) file text ended h = h
+asked-too (Once (BuildFill list known)) file text ended h = h
+asked-too (Once (Replay side)) file text ended h = h
+asked-too (Once Migrate) file text ended h = h
+asked-too (Once (Simulate session)) file text ended h = h
+asked-too (Once (Help help)) file text ended h = h
+asked-too (Once Version) file text ended h = h
+asked-too (Lines task) (Ok b) text ended h = lines-too task (all_lines b) text ended h
+asked-too (Lines task) (Err fault) text ended h = h
+
+-- ---- cut at the notes
+
+-- a text that is told of octets with notes is the one without them once it is cut
+cut-told : (aim : Aim) (expected : Expected) (b text : List ℕ) (ended : Status) → Tells aim expected b text ended
+    → Tells (plain_aim aim) expected b (plain_told aim text) ended
+cut-told Check expected b text ended h = h
+cut-told Show expected b text ended h = h
+cut-told Note expected b text ended h =
+    subst (λ (l : List ℕ). Shows expected.kind expected b l ended) (sym h.is_cut) h.is_shown
+
+-- no line of a fault has a note
+cut-fault : (aim : Aim) (fault : Fault) → plain_told aim (fault_text fault) ≡ fault_text fault
+cut-fault Check fault = refl
+cut-fault Show fault = refl
+cut-fault Note Words = refl
+cut-fault Note Hex = refl
+cut-fault Note Memory = refl
+cut-fault Note Read = refl
+cut-fault Note TooLarge = refl
+
+cut-octets : (task : Task) (r : Result (List ℕ) Fault) (text : List ℕ) (ended : Status)
+    → IsToldOf (IsTold task) r text ended → IsToldOf (IsTold (plain_task task)) r (plain_told task.aim text) ended
+cut-octets task (Ok b) text ended h = cut-told task.aim task.expected b text ended h
+cut-octets task (Err fault) text ended h = (ap (plain_told task.aim) h.0 ∙ cut-fault task.aim fault, h.1)
+
+-- what comes after the answer to a line is cut apart from it
+cut-line : (aim : Aim) (told more : List ℕ)
+    → plain_told aim ((told ++ line_end aim) ++ more) ≡ (plain_told aim told ++ line_end (plain_aim aim))
+    ++ plain_told aim more
+cut-line Check told more = refl
+cut-line Show told more = refl
+cut-line Note told more =
+    ap without_notes (append_assoc told (10 ∷ []) more) ∙ cut-apart false told more
+    ∙ sym (append_assoc (without_notes told) (10 ∷ []) (without_notes more))
+
+cut-nothing : (aim : Aim) → plain_told aim [] ≡ []
+cut-nothing Check = refl
+cut-nothing Show = refl
+cut-nothing Note = refl
+
+cut-lines : (task : Task) (lines : List (List ℕ)) (text : List ℕ) (ended : Status)
+    → AreLinesTold task lines text ended → AreLinesTold (plain_task task) lines (plain_told task.aim text) ended
+cut-lines task [] text ended h = (ap (plain_told task.aim) h.0 ∙ cut-nothing task.aim, h.1)
+cut-lines task (line ∷ lines) text ended h =
+    let one = h.is_first in
+    record {
+      first = plain_told task.aim one.told ++ line_end (plain_aim task.aim);
+      one = h.one;
+      more = plain_told task.aim h.more;
+      others = h.others;
+      is_first = record {
+        told = plain_told task.aim one.told;
+        is_told = cut-octets task (line_octets line) one.told h.one one.is_told;
+        is_text = refl;
+      };
+      is_more = cut-lines task lines h.more h.others h.is_more;
+      is_text = ap (plain_told task.aim) (h.is_text ∙ ap (λ (l : List ℕ). l ++ h.more) one.is_text)
+          ∙ cut-line task.aim one.told h.more;
+      is_ended = h.is_ended;
+    }
+
+-- what is told with notes is told without them once it is cut
+pub notes-cut : (asked : Asked) (file : Result (List ℕ) Fault) (text : List ℕ) (ended : Status)
+    → IsAnswerAsked asked file text ended → IsAnswerAsked (plain_asked asked) file (plain_text asked text) ended
+notes-cut (Once (Tell task given)) file text ended h = cut-octets task (octets_given given file) text ended h
+notes-cut (Once (BuildChain ifs number message)) file text ended h = h
+notes-cut (Once (BuildTidy given)) file text ended h = h
+notes-cut (Once (BuildFill list known)) file text ended h = h
+notes-cut (Once (Replay side)) file text ended h = h
+notes-cut (Once Migrate) file text ended h = h
+notes-cut (Once (Simulate session)) file text ended h = h
+notes-cut (Once (Help help)) file text ended h = h
+notes-cut (Once Version) file text ended h = h
+notes-cut (Lines task) (Ok b) text ended h = cut-lines task (all_lines b) text ended h
+notes-cut (Lines task) (Err fault) text ended h = (ap (plain_told task.aim) h.0 ∙ cut-fault task.aim fault, h.1)
+
+-- ---- both
+
+-- what is asked for has one text once it is cut at its notes, and one status
+pub one-cut : (asked : Asked) (file : Result (List ℕ) Fault) → AreSized asked → HaveOctets asked
+    → (IsOnce NeedsOctets asked → IfOk file AreOctets) → (t u : List ℕ) (s q : Status) → IsAnswerAsked asked file t s
+    → IsAnswerAsked asked file u q → (plain_text asked t ≡ plain_text asked u) × (s ≡ q)
+one-cut asked file sized octets as_read t u s q h g =
+    (one-asked asked file sized octets as_read).one (plain_text asked t) (plain_text asked u) s q
+    (notes-cut asked file t s h) (notes-cut asked file u q g)
+
+pub some-asked : (asked : Asked) (file : Result (List ℕ) Fault) → AreSized asked → HaveOctets asked
+    → (IsOnce NeedsOctets asked → IfOk file AreOctets) → (t : List ℕ) × (s : Status) × IsAnswerAsked asked file t s
+some-asked asked file sized octets as_read =
+    let plain = (one-asked asked file sized octets as_read).some in
+    (plain.0, plain.1, asked-too asked file plain.0 plain.1 plain.2)

@@ -16,14 +16,17 @@ use Rattle.card_words.specs.declared.fault.Fault.{Fault}
 use Rattle.card_words.specs.declared.fault.Fault.TheVariants.{Words, Hex, Memory, Read, TooLarge}
 use Rattle.card_words.specs.Version.{asks_for_version}
 use Rattle.card_words.specs.declared.request.Asked.{Asked}
-use Rattle.card_words.specs.declared.request.Asked.TheVariants.{Once}
-use Rattle.card_words.specs.declared.request.Request.TheVariants.{Help, Version}
-use Rattle.card_tool.specs.Answers.{IsAnswer, IsAnswerAsked}
+use Rattle.card_words.specs.declared.request.Asked.TheVariants.{Once, Lines}
+use Rattle.card_words.specs.declared.request.Aim.{Aim}
+use Rattle.card_words.specs.declared.request.Aim.TheVariants.{Check, Show, Note}
+use Rattle.card_words.specs.declared.request.Request.TheVariants.{BuildChain, BuildTidy, BuildFill, Tell, Replay, Migrate, Simulate, Help, Version}
+use Rattle.card_tool.specs.Answers.{plain_text, plain_told, AsksForNotes, AskForNotes, IsAnswer, IsAnswerAsked, IsSameText}
+use Rattle.notes.specs.Noted.{without_notes}
 use Rattle.card_tool.specs.Files.{file_of, largest_file, ReadsWhole}
 use Rattle.card_kinds.specs.declared.status.Status.{Status}
 use Rattle.card_kinds.specs.declared.status.Status.TheVariants as status
 use Rattle.card_tool.proofs.Answering.{needs-octets}
-use Rattle.card_tool.proofs.OneAnswer.{one-asked}
+use Rattle.card_tool.proofs.OneAnswer.{one-cut, some-asked}
 
 -- ---- words
 
@@ -32,6 +35,38 @@ one-fault : (fault : Fault) (text other : List ℕ) (ended different : Status) �
     × (ended ≡ different)
 one-fault fault text other ended different h g = (h.0 ∙ sym g.0, h.1 ∙ sym g.1)
 
+-- two texts that are one once they are cut are one, or notes are asked for
+by-aim : (aim : Aim) (text other : List ℕ) → plain_told aim text ≡ plain_told aim other
+    → (text ≡ other) ⊎ ((aim ≡ Note) × (without_notes text ≡ without_notes other))
+by-aim Check text other h = inl h
+by-aim Show text other h = inl h
+by-aim Note text other h = inr (refl, h)
+
+same-or-noted : (asked : Asked) (text other : List ℕ) → plain_text asked text ≡ plain_text asked other
+    → (text ≡ other) ⊎ (AsksForNotes asked × (without_notes text ≡ without_notes other))
+same-or-noted (Once (Tell task given)) text other h = by-aim task.aim text other h
+same-or-noted (Once (BuildChain ifs number message)) text other h = inl h
+same-or-noted (Once (BuildTidy given)) text other h = inl h
+same-or-noted (Once (BuildFill list known)) text other h = inl h
+same-or-noted (Once (Replay side)) text other h = inl h
+same-or-noted (Once Migrate) text other h = inl h
+same-or-noted (Once (Simulate session)) text other h = inl h
+same-or-noted (Once (Help help)) text other h = inl h
+same-or-noted (Once Version) text other h = inl h
+same-or-noted (Lines task) text other h = by-aim task.aim text other h
+
+asks-notes : (words : List (List ℕ)) (asked : Asked) → IsRead words (Ok asked) → AsksForNotes asked
+    → AskForNotes words
+asks-notes words asked (called_for_version version e) notes =
+    let is : asked ≡ Once Version = cc e in
+    absurd (subst AsksForNotes is notes)
+asks-notes words asked (taken are e) notes =
+    (are, subst (λ (r : Result Asked Fault). MatchResult r AsksForNotes (λ _. ⊥)) e notes)
+asks-notes words asked (called_for_help parsed among help e) notes =
+    let is : asked ≡ Once (Help help) = cc e in
+    absurd (subst AsksForNotes is notes)
+asks-notes words asked (not_taken parsed other e) notes = cc e
+
 -- the same words were read twice as this
 read-once : (words : List (List ℕ)) (read : Result Asked Fault) → IsRead words read → (file : Result (List ℕ) Fault)
     → (AskForOctets words → IfOk file AreOctets) → (text other : List ℕ) (ended different : Status)
@@ -39,13 +74,18 @@ read-once : (words : List (List ℕ)) (read : Result Asked Fault) → IsRead wor
     (λ fault. (text ≡ fault_text fault) × (ended ≡ status.Fault))
     → MatchResult read (λ asked. IsAnswerAsked asked file other different)
     (λ fault. (other ≡ fault_text fault) × (different ≡ status.Fault))
-    → (text ≡ other) × (ended ≡ different)
+    → IsSameText words text other × (ended ≡ different)
 read-once words (Ok asked) read file octets text other ended different h g =
     let proper = read-proper words asked read in
-    (one-asked asked file proper.0 proper.1 (λ need. octets (needs-octets words asked read need))).one text other
-    ended different h g
+    let same = one-cut asked file proper.0 proper.1 (λ need. octets (needs-octets words asked read need)) text other
+    ended different h g in
+    elim (same-or-noted asked text other same.0) [
+      | inl text_is ↦ (inl text_is, same.1)
+      | inr noted ↦ (inr (asks-notes words asked read noted.0, noted.1), same.1)
+    ]
 read-once words (Err fault) read file octets text other ended different h g =
-    one-fault fault text other ended different h g
+    let same = one-fault fault text other ended different h g in
+    (inl same.0, same.1)
 
 no-other : (kinds : Kinds) → kinds ≡ [] → HasOther kinds → ⊥
 no-other kinds none other = let among = subst (IsAmong other.0) none other.1 in among
@@ -71,7 +111,7 @@ read-same words read again (not_taken parsed other e) (not_taken parsed_too anot
 -- the same words and file, of octets where they are asked for, have one text and status, but for a call for help
 pub one-text : (words : List (List ℕ)) (file : Result (List ℕ) Fault) (text other : List ℕ) (ended different : Status)
     → (AskForOctets words → IfOk file AreOctets) → IsAnswer words file text ended → IsAnswer words file other different
-    → IsAmong DisplayHelp (fault_of scard words) ⊎ ((text ≡ other) × (ended ≡ different))
+    → IsAmong DisplayHelp (fault_of scard words) ⊎ (IsSameText words text other × (ended ≡ different))
 one-text words file text other ended different octets h g =
     elim (read-same words h.read g.read h.is_read g.is_read) [
       | inl help ↦ inl help
@@ -108,8 +148,7 @@ some-answer : (words : List (List ℕ)) (file : Result (List ℕ) Fault) → (As
     × IsAnswer words file text ended
 some-answer words file octets (Ok asked) read =
     let proper = read-proper words asked read in
-    let told = (one-asked asked file proper.0 proper.1 (λ need. octets (needs-octets words asked read need))).some
-    in
+    let told = some-asked asked file proper.0 proper.1 (λ need. octets (needs-octets words asked read need)) in
     (told.0, told.1, record { read = Ok asked; is_read = read; is_answer = told.2 })
 some-answer words file octets (Err fault) read =
     (fault_text fault, status.Fault, record { read = Err fault; is_read = read; is_answer = (refl, refl) })

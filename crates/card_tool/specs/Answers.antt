@@ -1,5 +1,5 @@
 -- What the program answers: one text and one status.
-use Rattle.std.specs.Prelude.{◌≡◌, ◌<◌, ◌++◌, ℕ, ◌⊎◌, List, [], Option, codes, length, take, Result, Ok, Err, MatchResult}
+use Rattle.std.specs.Prelude.{◌≡◌, ◌≢◌, ◌<◌, ◌++◌, ℕ, ◌⊎◌, List, [], Option, codes, length, take, Result, Ok, Err, MatchResult}
 use Rattle.std.specs.Io.KnownBytes.{Appends}
 use Rattle.octet_core.specs.Failures.{HasFailed}
 use Rattle.card_kinds.specs.Verdicts.{Checks, Shows, Tidies, IsFilled}
@@ -13,17 +13,20 @@ use Rattle.card_tool.specs.Files.{ReadsWhole}
 use Rattle.card_tool.specs.Lines.{all_lines, line_octets, AreTold}
 use Rattle.card_words.specs.Given.{octets_given}
 use Rattle.card_words.specs.Version.{version_line}
-use Rattle.card_words.specs.Words.{once_of, AskForFile, IsRead, NeedsFile}
+use Rattle.clap.specs.Words.{subcommand_of}
+use Rattle.card_words.specs.Words.{asked_of, once_of, scard, AreTaken, AskForFile, IsRead, NeedsFile}
 use Rattle.card_kinds.specs.declared.status.Status.{Status}
 use Rattle.card_kinds.specs.declared.status.Status.TheVariants as status
 use Rattle.card_words.specs.declared.fault.Fault.{Fault}
 use Rattle.card_words.specs.declared.fault.Fault.TheVariants.{Memory}
 use Rattle.card_kinds.specs.declared.answer.Answer.{Answer}
 use Rattle.card_words.specs.declared.request.Aim.{Aim}
-use Rattle.card_words.specs.declared.request.Aim.TheVariants.{Check, Show}
+use Rattle.card_words.specs.declared.request.Aim.TheVariants.{Check, Show, Note}
 use Rattle.card_words.specs.declared.request.Asked.{Asked}
 use Rattle.card_words.specs.declared.request.Asked.TheVariants.{Once, Lines}
 use Rattle.card_words.specs.declared.request.Expected.{Expected}
+use Rattle.card_words.specs.declared.request.Kind.{Kind}
+use Rattle.notes.specs.Noted.{IsNoted, without_notes}
 use Rattle.card_words.specs.declared.request.Request.{Request}
 use Rattle.card_words.specs.declared.request.Request.TheVariants.{BuildChain, BuildTidy, BuildFill, Tell, Replay, Migrate, Simulate, Help, Version}
 use Rattle.card_words.specs.declared.request.Task.{Task}
@@ -33,10 +36,20 @@ abbrev pub IsToldOf : (List ℕ → List ℕ → Status → Type 0) → Result (
 IsToldOf Told octets text ended = MatchResult octets (λ b. Told b text ended)
     (λ fault. (text ≡ fault_text fault) × (ended ≡ status.Fault))
 
+-- The value with notes after its lines. Cut at its notes it is what `show` says without them, and a refusal has none.
+-- Which words the notes have is open.
+pub record ShowsNoted (kind : Kind) (expected : Expected) (b text : List ℕ) (ended : Status) : Type 0 where
+  pub plain : List ℕ
+  pub is_shown : Shows kind expected b plain ended
+  pub is_noted : IsNoted plain text
+  pub is_cut : without_notes text ≡ plain
+  pub unnoted : ended ≢ status.Accepted → text ≡ plain
+
 -- what is told of octets
 abbrev pub Tells : Aim → Expected → List ℕ → List ℕ → Status → Type 0
 Tells Check expected = Checks expected.kind expected
 Tells Show expected = Shows expected.kind expected
+Tells Note expected = ShowsNoted expected.kind expected
 
 abbrev pub IsTold : Task → List ℕ → List ℕ → Status → Type 0
 IsTold task = Tells task.aim task.expected
@@ -45,6 +58,7 @@ IsTold task = Tells task.aim task.expected
 abbrev pub line_end : Aim → List ℕ
 line_end Check = []
 line_end Show = codes "\n"
+line_end Note = codes "\n"
 
 -- the text and the status of one line
 pub record IsLineTold (task : Task) (line text : List ℕ) (ended : Status) : Type 0 where
@@ -72,6 +86,52 @@ IsAnswerTo Version file text ended = (text ≡ version_line) × (ended ≡ statu
 abbrev pub IsAnswerAsked : Asked → Result (List ℕ) Fault → List ℕ → Status → Type 0
 IsAnswerAsked (Once request) file text ended = IsAnswerTo request file text ended
 IsAnswerAsked (Lines task) file text ended = IsToldOf (λ b. AreLinesTold task (all_lines b)) file text ended
+
+-- ---- without notes
+
+-- what is told where no notes are asked for
+abbrev pub plain_aim : Aim → Aim
+plain_aim Check = Check
+plain_aim Show = Show
+plain_aim Note = Show
+
+abbrev pub plain_task : Task → Task
+plain_task task = record task { aim = plain_aim task.aim }
+
+abbrev pub plain_request : Request → Request
+plain_request (Tell task given) = Tell (plain_task task) given
+plain_request other = other
+
+abbrev pub plain_asked : Asked → Asked
+plain_asked (Once request) = Once (plain_request request)
+plain_asked (Lines task) = Lines (plain_task task)
+
+-- a text that is told, with each line cut at its first note where notes are asked for
+abbrev pub plain_told : Aim → List ℕ → List ℕ
+plain_told Note text = without_notes text
+plain_told _ text = text
+
+abbrev pub plain_answer : Request → List ℕ → List ℕ
+plain_answer (Tell task given) text = plain_told task.aim text
+plain_answer _ text = text
+
+abbrev pub plain_text : Asked → List ℕ → List ℕ
+plain_text (Once request) text = plain_answer request text
+plain_text (Lines task) text = plain_told task.aim text
+
+-- notes are asked for
+abbrev pub AsksForNotes : Asked → Type 0
+AsksForNotes (Once (Tell task given)) = task.aim ≡ Note
+AsksForNotes (Once _) = ⊥
+AsksForNotes (Lines task) = task.aim ≡ Note
+
+abbrev pub AskForNotes : List (List ℕ) → Type 0
+AskForNotes words = AreTaken words × MatchResult (asked_of (subcommand_of scard words)) AsksForNotes (λ _. ⊥)
+
+-- two texts of the same words are one, or where notes are asked for once they are cut at them
+abbrev pub IsSameText : List (List ℕ) → List ℕ → List ℕ → Type 0
+IsSameText words text other =
+    (text ≡ other) ⊎ (AskForNotes words × (without_notes text ≡ without_notes other))
 
 -- the request that words are read as, or that memory ran out
 abbrev pub IsReadFrom : List (List ℕ) → Result Request Fault → Type 0

@@ -6,17 +6,19 @@
 ghost use Rattle.std.specs.Prelude.{◌≡◌, ◌++◌, List, ℕ, IfOk, string_bytes};
 ghost use Rattle.card_tool.specs.Answers.{IsReadFrom, IsRight, IsRightTo};
 ghost use Rattle.card_tool.specs.Explained.{GivesExplained, IsAdded, IsFaulted, IsFaultNote, IsNoted, IsNotedTo, IsSimulationNote};
-ghost use Rattle.card_tool.specs.Files.{IsBegun};
+ghost use Rattle.card_tool.specs.Files.{IsBegun, IsTaken};
+ghost use Rattle.card_words.specs.Given.{octets_in, IsFromReader};
+ghost use Rattle.card_words.specs.Value.{UnlessMemory};
 ghost use Rattle.card_words.specs.Words.{texts, AskForFile, IsSized, NeedsFile};
 
 use crate::exchange::{migrated_with_note, replayed_with_note};
-use crate::file::{LARGEST_FILE, octets_given, read_whole};
+use crate::file::{LARGEST_FILE, read_whole};
 use crate::judged::{answer_with_note, filled, tidied};
 use crate::program::answer_to;
 use crate::simulation;
 use card_kinds::{Answer, Status};
-use card_words::{Fault, Request, Session};
-use explainer::{large_note, session_note, words_note};
+use card_words::{Fault, Form, Given, Request, Session};
+use explainer::{large_note, session_note, text_note, words_note};
 use octet_core::{Octets, Source};
 use std::alloc::{AllocError, Global};
 
@@ -37,18 +39,20 @@ pub(crate) fn explained<R: Source>(
     ensures unread { (AskForFile (texts words.now) → ⊥) → reader.new ≡ reader.old }
     ensures few { IsBegun (R.remaining reader.old) (R.remaining reader.new) 4194305 }
 {
-    match answered(alloc, words, read, reader) {
+    let mut on_text = None;
+    match answered(alloc, words, read, reader, &mut on_text) {
         Ok(answer) => Ok(answer),
-        Err(fault) => faulted(alloc, words, fault),
+        Err(fault) => faulted(alloc, words, fault, on_text),
     }
 }
 
-/// The same, without the explanation of a fault.
+/// The same, without the explanation of a fault; of a text that isn't in its form it is kept in `on_text`.
 fn answered<R: Source>(
     alloc: Global,
     words: &[String],
     read: Result<Request, Fault>,
     reader: &mut R,
+    on_text: &mut Option<String>,
 ) -> Result<Answer, Fault>
     requires read { IsReadFrom (texts words.now) read }
     requires sized { IfOk read IsSized }
@@ -61,7 +65,7 @@ fn answered<R: Source>(
     ensures few { IsBegun (R.remaining reader.old) (R.remaining reader.new) 4194305 }
 {
     let request = read?;
-    answered_to(alloc, words, request, reader)
+    answered_to(alloc, words, request, reader, on_text)
 }
 
 /// The text and the status of a request, with what is to be said of its octets.
@@ -70,6 +74,7 @@ fn answered_to<R: Source>(
     words: &[String],
     request: Request,
     reader: &mut R,
+    on_text: &mut Option<String>,
 ) -> Result<Answer, Fault>
     requires sized { IsSized request }
     ensures told { GivesExplained
@@ -82,12 +87,12 @@ fn answered_to<R: Source>(
 {
     match request {
         Request::Tell(task, given) => {
-            let octets = octets_given(alloc, given, reader)?;
+            let octets = octets_explained(alloc, given, reader, on_text)?;
             let judged = answer_with_note(alloc, task, octets.get())?;
             Ok(noted(judged.answer, judged.note))
         }
         Request::BuildTidy(given) => {
-            let octets = octets_given(alloc, given, reader)?;
+            let octets = octets_explained(alloc, given, reader, on_text)?;
             let judged = tidied(alloc, octets.get())?;
             Ok(noted(judged.answer, judged.note))
         }
@@ -97,6 +102,45 @@ fn answered_to<R: Source>(
         }
         other => exchange_explained(alloc, other, reader),
     }
+}
+
+/// The octets that are given. Of a text that isn't in its form `on_text` is what is to be said, where memory for that
+/// isn't refused.
+fn octets_explained<R: Source>(
+    alloc: Global,
+    given: Given,
+    reader: &mut R,
+    on_text: &mut Option<String>,
+) -> Result<Octets, Fault>
+    ensures taken { IsTaken given (R.remaining reader.old) (R.remaining reader.new)
+        (R.failures reader.old) (R.failures reader.new) result }
+    ensures unread { (IsFromReader given → ⊥) → reader.new ≡ reader.old }
+    ensures few { IsBegun (R.remaining reader.old) (R.remaining reader.new) 4194305 }
+{
+    match given {
+        Given::Word(octets) => Ok(octets),
+        Given::Read(form) => {
+            let text = read_whole(alloc, reader)?;
+            read_as(alloc, form, text, on_text)
+        }
+    }
+}
+
+/// The octets that a text in a form gives, or what is to be said of it in `on_text`.
+fn read_as(
+    alloc: Global,
+    form: Form,
+    text: Octets,
+    on_text: &mut Option<String>,
+) -> Result<Octets, Fault>
+    ensures { UnlessMemory result (octets_in form text) }
+{
+    let kept = text.get().to_vec(alloc)?;
+    let read = form.octets(alloc, text);
+    if let Err(Fault::Hex) = &read {
+        *on_text = text_note(alloc, form, kept.as_slice()).ok();
+    }
+    read
 }
 
 /// The text and the status of a request that isn't one about octets, with what is to be said of its file or session.
@@ -161,14 +205,32 @@ fn noted(answer: Answer, note: Result<String, AllocError>) -> Answer
     }
 }
 
-/// The line of a fault, with what is wrong with the words or too large.
-fn faulted(alloc: Global, words: &[String], fault: Fault) -> Result<Answer, Fault>
+/// The line of a fault, with what is wrong with the words or with a text, or too large.
+fn faulted(
+    alloc: Global,
+    words: &[String],
+    fault: Fault,
+    on_text: Option<String>,
+) -> Result<Answer, Fault>
     ensures { IsFaulted fault result }
 {
     match fault {
-        Fault::Words | Fault::Hex => fault_noted(alloc, fault, words_note(alloc, words)),
+        Fault::Words => fault_noted(alloc, fault, words_note(alloc, words)),
+        Fault::Hex => fault_noted(alloc, fault, on_digits(alloc, words, on_text)),
         Fault::TooLarge => fault_noted(alloc, fault, large_note(alloc, LARGEST_FILE)),
         Fault::Memory | Fault::Read => Err(fault),
+    }
+}
+
+/// What is wrong with a text, or with a word.
+fn on_digits(
+    alloc: Global,
+    words: &[String],
+    on_text: Option<String>,
+) -> Result<String, AllocError> {
+    match on_text {
+        Some(note) => Ok(note),
+        None => words_note(alloc, words),
     }
 }
 

@@ -10,6 +10,7 @@ ghost use Rattle.card_tool.specs.Answers.{IsTold};
 ghost use Rattle.card_tool.specs.Explained.{IsFillNote};
 ghost use Rattle.card_tool.specs.Judged.{AreOf, IsKindNote, IsNoteBy};
 
+use crate::annotated::annotated;
 use apdu_core::{Command, Response};
 use atr_core::Atr;
 use block_core::Block;
@@ -39,6 +40,10 @@ pub(crate) fn answer_about(alloc: Global, task: Task, octets: &[u8]) -> Result<A
     match task.aim {
         Aim::Check => check(alloc, task.expected, octets),
         Aim::Show => show(alloc, task.expected, octets),
+        Aim::Note => {
+            let answer = show(alloc, task.expected, octets)?;
+            annotated(alloc, task.expected, octets, answer)
+        }
     }
 }
 
@@ -56,6 +61,11 @@ pub(crate) fn answer_with_note(
     match task.aim {
         Aim::Check => checked(alloc, task.expected, octets),
         Aim::Show => shown(alloc, task.expected, octets),
+        Aim::Note => {
+            let WithNote { answer, note } = shown(alloc, task.expected, octets)?;
+            let answer = annotated(alloc, task.expected, octets, answer)?;
+            Ok(WithNote { answer, note })
+        }
     }
 }
 

@@ -9,6 +9,7 @@
 //! at the root too.
 #![tactic(auto)]
 
+mod annotated;
 pub mod conversation;
 mod exchange;
 mod explained;

@@ -264,7 +264,7 @@ fn line_end(aim: Aim) -> &'static str
 {
     match aim {
         Aim::Check => "",
-        Aim::Show => "\n",
+        Aim::Show | Aim::Note => "\n",
     }
 }
 

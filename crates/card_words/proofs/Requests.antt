@@ -11,7 +11,7 @@ use Rattle.octet_core.specs.Octets.{AreOctets}
 use Rattle.card_words.specs.Given.{asks_for_lines, form_of, given_of, GivesOctets}
 use Rattle.card_words.specs.Session.{blocks_of, pair_of, pairs_of, AreOctetPairs, IsSize}
 use Rattle.card_words.specs.Value.{◌>>=◌, hex_octets, octets_of_word, parted, UnlessMemory}
-use Rattle.card_words.specs.Words.{byte_or, size_of, number_of, number_of_word, needed, kind_of, expected_of, short_message, told_by, told_of, chain_by, chain_of, tidy_of, fill_of, build_words, build_of, end_of_word, replay_of, all_or_none, asked_size, session_of, request_by, asked_by, asked_of, scard, HasOctets, HaveOctets, IsRead, AreSized, IsSized, IsTaskSized, called_for_version, taken, called_for_help, not_taken}
+use Rattle.card_words.specs.Words.{byte_or, size_of, number_of, number_of_word, needed, kind_of, expected_of, short_message, told_by, told_of, chain_by, chain_of, tidy_of, fill_of, build_words, build_of, end_of_word, replay_of, all_or_none, asked_size, session_of, request_by, show_aim, asked_by, asked_of, scard, HasOctets, HaveOctets, IsRead, AreSized, IsSized, IsTaskSized, called_for_version, taken, called_for_help, not_taken}
 use Rattle.card_words.specs.declared.fault.Fault.{Fault}
 use Rattle.card_words.specs.declared.fault.Fault.TheVariants.{Words}
 use Rattle.card_words.specs.declared.session.Pair.{Pair}
@@ -19,7 +19,7 @@ use Rattle.card_words.specs.declared.session.Session.{Session}
 use Rattle.card_words.specs.declared.given.Given.{Given}
 use Rattle.card_words.specs.declared.request.Expected.{Expected}
 use Rattle.card_words.specs.declared.request.Aim.{Aim}
-use Rattle.card_words.specs.declared.request.Aim.TheVariants.{Check, Show}
+use Rattle.card_words.specs.declared.request.Aim.TheVariants.{Check}
 use Rattle.card_words.specs.declared.request.Task.{Task}
 use Rattle.card_words.specs.declared.request.Asked.{Asked}
 use Rattle.card_words.specs.declared.request.Asked.TheVariants.{Once, Lines}
@@ -254,8 +254,8 @@ named-proper name rows asked h =
     elim (one-of (bytes_eq name (codes "check")) (told_of Check rows) _ asked h) [
       | inl check ↦ aimed-proper Check rows asked check
       | inr other ↦
-          elim (one-of (bytes_eq name (codes "show")) (told_of Show rows) _ asked other) [
-            | inl show ↦ aimed-proper Show rows asked show
+          elim (one-of (bytes_eq name (codes "show")) (told_of (show_aim rows) rows) _ asked other) [
+            | inl show ↦ aimed-proper (show_aim rows) rows asked show
             | inr rest ↦
                 let request = both-steps (request_by name rows) _ asked rest in
                 subst AreProper (same _ asked request.2) (request-proper name rows request.0 request.1)

@@ -24,7 +24,7 @@ use Rattle.card_words.specs.declared.request.End.{End}
 use Rattle.card_words.specs.declared.request.End.TheVariants as end
 use Rattle.card_words.specs.declared.request.Expected.{Expected}
 use Rattle.card_words.specs.declared.request.Aim.{Aim}
-use Rattle.card_words.specs.declared.request.Aim.TheVariants.{Check, Show}
+use Rattle.card_words.specs.declared.request.Aim.TheVariants.{Check, Show, Note}
 use Rattle.card_words.specs.declared.request.Task.{Task}
 use Rattle.card_words.specs.declared.request.Asked.{Asked}
 use Rattle.card_words.specs.declared.request.Asked.TheVariants.{Once, Lines}
@@ -37,9 +37,13 @@ use Rattle.clap.specs.declared.builder.action.ArgAction.TheVariants.{Append, Set
 
 -- ---- the form of the words; each value has a name in help
 
+-- an option without a value
+abbrev pub flag_rule : List ℕ → Rule
+flag_rule name = record (new_rule name) { long = Some name; action = Some SetTrue }
+
 -- the option that asks for an explanation, which every subcommand has
 abbrev pub explain_rule : Rule
-explain_rule = record (new_rule (codes "explain")) { long = Some (codes "explain"); action = Some SetTrue }
+explain_rule = flag_rule (codes "explain")
 
 abbrev pub begun_app : List ℕ → App
 begun_app name = with_rule (new_app name) explain_rule
@@ -77,6 +81,13 @@ expected_app name = with_rule (with_rule (with_rule (begun_app name) kind_rule) 
 -- the same with the octets
 abbrev pub input_app : List ℕ → App
 input_app name = with_rule (with_rule (expected_app name) hex_rule) stdin_rule
+
+-- the subcommand that shows a value, with notes where an option asks for them
+abbrev pub notes_rule : Rule
+notes_rule = flag_rule (codes "notes")
+
+abbrev pub show_app : App
+show_app = with_rule (input_app (codes "show")) notes_rule
 
 abbrev pub what_rule : Rule
 what_rule = required_rule (codes "what")
@@ -120,7 +131,7 @@ simulate_app = with_rule (with_rule (with_rule session_app (option_rule (codes "
 -- the program as a command, first with what it says of octets
 abbrev pub octets_app : App
 octets_app = with_subcommand (with_subcommand
-    (with_subcommand (new_app (codes "scard")) (input_app (codes "check")).top) (input_app (codes "show")).top)
+    (with_subcommand (new_app (codes "scard")) (input_app (codes "check")).top) show_app.top)
     build_app.top
 
 unfoldable pub scard : App
@@ -189,6 +200,14 @@ told_by task hex form =
 abbrev pub told_of : Aim → List Row → Result Asked Fault
 told_of aim rows = expected_of rows >>= (λ expected.
     told_by (record { aim = aim; expected = expected }) (first_of (codes "hex") rows) (first_of (codes "stdin") rows))
+
+-- what `show` tells: the value, with notes where a flag that is true asks for them
+abbrev pub aim_by : Option (List ℕ) → Aim
+aim_by None = Show
+aim_by (Some word) = if bytes_eq word (codes "true") then Note else Show
+
+abbrev pub show_aim : List Row → Aim
+show_aim rows = aim_by (first_of (codes "notes") rows)
 
 -- a message that a chain can carry
 abbrev pub short_message : List ℕ → Result (List ℕ) Fault
@@ -283,7 +302,7 @@ once_of read = read >>= (λ request. Ok (Once request))
 abbrev pub asked_by : List ℕ → List Row → Result Asked Fault
 asked_by name rows =
     if bytes_eq name (codes "check") then told_of Check rows
-    else (if bytes_eq name (codes "show") then told_of Show rows
+    else (if bytes_eq name (codes "show") then told_of (show_aim rows) rows
     else once_of (request_by name rows))
 
 abbrev pub asked_of : Option (List ℕ × List Row) → Result Asked Fault

@@ -3,7 +3,7 @@
 ghost use Rattle.std.specs.Prelude.{◌≡◌, IfOk, false};
 ghost use Rattle.clap.specs.Words.{app_of, rule_of};
 ghost use Rattle.clap.specs.declared.builder.command.Command.TheViews.{out-Command};
-ghost use Rattle.card_words.specs.Words.{atr_rule, begun_app, build_app, end_rule, expected_app, explain_rule, hex_rule, ifs_rule, ifsd_rule, input_app, kind_rule, migrate_app, number_rule, octets_app, option_rule, pairs_rule, replay_app, required_rule, scard, session_app, simulate_app, stdin_rule, what_rule, words_rule};
+ghost use Rattle.card_words.specs.Words.{atr_rule, begun_app, build_app, end_rule, expected_app, explain_rule, flag_rule, hex_rule, ifs_rule, ifsd_rule, input_app, kind_rule, migrate_app, notes_rule, number_rule, octets_app, option_rule, pairs_rule, replay_app, required_rule, scard, session_app, show_app, simulate_app, stdin_rule, what_rule, words_rule};
 
 use crate::help::{BUILD, CHECK, MIGRATE, PROGRAM, Page, REPLAY, SHOW, SIMULATE, with_page};
 use clap::{Arg, ArgAction, Command, value_parser};
@@ -27,12 +27,31 @@ fn octets_command<'a>(alloc: Global) -> Result<Command<'a>, AllocError>
     ensures { IfOk result (λ command. app_of command ≡ octets_app) }
 {
     let check = input_command(alloc, "check", &CHECK)?;
-    let show = input_command(alloc, "show", &SHOW)?;
+    let show = show_command(alloc)?;
     let build = build_command(alloc)?;
     with_page(Command::new(alloc, "scard"), &PROGRAM)
         .subcommand(check)?
         .subcommand(show)?
         .subcommand(build)
+}
+
+/// The subcommand that shows a value.
+fn show_command<'a>(alloc: Global) -> Result<Command<'a>, AllocError>
+    ensures app { IfOk result (λ command. app_of command ≡ show_app) }
+    ensures local { IfOk result (λ command. (out-Command command).has_globals ≡ false) }
+{
+    input_command(alloc, "show", &SHOW)?.arg(notes_arg(alloc))
+}
+
+fn notes_arg<'a>(alloc: Global) -> Arg<'a>
+    ensures rule { rule_of result ≡ notes_rule }
+    ensures local { result.global ≡ false }
+{
+    flag_arg(
+        alloc,
+        "notes",
+        "Say after the lines of the value, behind a number sign, what they mean",
+    )
 }
 
 /// A subcommand that takes octets, and what they are taken for.
@@ -80,10 +99,22 @@ fn explain_arg<'a>(alloc: Global) -> Arg<'a>
     ensures rule { rule_of result ≡ explain_rule }
     ensures local { result.global ≡ false }
 {
-    Arg::new(alloc, "explain")
-        .long("explain")
+    flag_arg(
+        alloc,
+        "explain",
+        "Say after the line of a fault or a refusal what is wrong, and where",
+    )
+}
+
+/// An option without a value.
+fn flag_arg<'a>(alloc: Global, name: &'a str, help: &'a str) -> Arg<'a>
+    ensures rule { rule_of result ≡ flag_rule name.now }
+    ensures local { result.global ≡ false }
+{
+    Arg::new(alloc, name)
+        .long(name)
         .action(ArgAction::SetTrue)
-        .help("Say after the line of a fault or a refusal what is wrong, and where")
+        .help(help)
 }
 
 /// The subcommand that builds what a word says.

@@ -104,11 +104,13 @@ Examples:
 /// The page of `show`.
 pub(crate) const SHOW: Page<'static> = Page {
     about: "Show the value that octets spell, line by line",
-    usage: "scard show <KIND> <HEX> [--ifs <N>] [--number <N>]
-       scard show <KIND> --stdin <FORM> [--ifs <N>] [--number <N>]",
+    usage: "scard show <KIND> <HEX> [--ifs <N>] [--number <N>] [--notes]
+       scard show <KIND> --stdin <FORM> [--ifs <N>] [--number <N>] [--notes]",
     after: "The kinds block and chain use --ifs, and chain uses --number; the others leave them unused.
 With --stdin lines each line of standard input is hexadecimal, and is answered as it comes, by its value or what it is
 refused by, and an empty line.
+With --notes a line may go on with two blanks, a number sign, a blank and what it means. Cut there it is the line that
+comes without --notes.
 
 Exit status:
   0  the value was shown; of lines, all of them
@@ -117,6 +119,7 @@ Exit status:
 
 Examples:
   scard show atr 3B808131204555
+  scard show command 00A4040007A000000004101000 --notes
   scard show tlv 6F108407A0000000041010A505BF0C025000 --explain",
 };
 

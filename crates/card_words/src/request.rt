@@ -55,6 +55,8 @@ pub enum Aim {
     Check,
     /// The value that they spell.
     Show,
+    /// The value that they spell, with notes after its lines.
+    Note,
 }
 
 /// What is told of octets, and what they are taken for.

@@ -4,7 +4,7 @@ ghost use Rattle.std.specs.Prelude.{◌≡◌, ◌⊎◌, ◌≤◌, [], Err, If
 ghost use Rattle.clap.specs.Words.{all_of, fault_of, first_of, found_of, rows_of, subcommand_of, subcommand_rows_of};
 ghost use Rattle.clap.specs.Kinds.{HasKind};
 ghost use Rattle.clap.specs.Values.{kind_of as error_kind};
-ghost use Rattle.card_words.specs.Words.{asked_of, build_of, build_words, chain_of, end_of_word, asked_size, expected_of, session_of, kind_of, number_of, number_of_word, replay_of, request_by, scard, size_of, texts, tidy_of, told_of, fill_of, HaveOctets, IsHelpOrFault, IsRead, AreSized, IsSized};
+ghost use Rattle.card_words.specs.Words.{asked_of, build_of, build_words, chain_of, end_of_word, asked_size, expected_of, session_of, kind_of, number_of, number_of_word, replay_of, show_aim, request_by, scard, size_of, texts, tidy_of, told_of, fill_of, HaveOctets, IsHelpOrFault, IsRead, AreSized, IsSized};
 ghost use Rattle.card_words.specs.Session.{IsSize};
 ghost use Rattle.card_words.specs.Value.{UnlessMemory};
 
@@ -48,7 +48,7 @@ fn asked(alloc: Global, matches: &ArgMatches) -> Result<Asked, Fault>
     };
     match name {
         "check" => told(alloc, Aim::Check, entered),
-        "show" => told(alloc, Aim::Show, entered),
+        "show" => told(alloc, show_aim(entered), entered),
         _ => Ok(Asked::Once(request(alloc, name, entered)?)),
     }
 }
@@ -89,6 +89,16 @@ fn told(alloc: Global, aim: Aim, matches: &ArgMatches) -> Result<Asked, Fault>
     }
     let given = read_given(alloc, hex, form)?;
     Ok(Asked::Once(Request::Tell(task, given)))
+}
+
+/// What `show` tells: the value, with notes where they are asked for.
+fn show_aim(matches: &ArgMatches) -> Aim
+    ensures { result ≡ show_aim (rows_of (found_of matches.now)) }
+{
+    match word(matches, "notes") {
+        Some("true") => Aim::Note,
+        _ => Aim::Show,
+    }
 }
 
 /// A kind, an information size and a first number.

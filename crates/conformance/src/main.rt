@@ -13,7 +13,7 @@ use std::{fs, io};
 use tried::{Fault, tried};
 
 /// The files, which lie where the program runs.
-const NAMES: [&str; 22] = [
+const NAMES: [&str; 23] = [
     "atr",
     "atr.changes",
     "block",
@@ -36,6 +36,7 @@ const NAMES: [&str; 22] = [
     "lines",
     "words",
     "explain",
+    "notes",
 ];
 
 fn main(rt: HostRuntime) -> io::Result<ExitCode> {

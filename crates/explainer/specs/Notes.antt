@@ -96,6 +96,15 @@ abbrev pub odd_note : ℕ → ℕ → List ℕ
 odd_note number count = codes "word " ++ (decimal number
     ++ (codes ": an odd number of digits, " ++ (decimal count ++ codes "\n")))
 
+-- ---- texts of standard input
+
+-- a place of a text by its line and column, what is wrong there, its line, and a mark under the place
+abbrev pub place_note : ℕ → ℕ → List ℕ → List ℕ → ℕ → List ℕ
+place_note number column what line before =
+    codes "line " ++ (decimal number ++ (codes ", column " ++ (decimal column
+    ++ (codes ": " ++ (what ++ (codes "\n" ++ (line ++ (codes "\n"
+    ++ (repeat before (codes " ") ++ codes "^\n")))))))))
+
 -- ---- files
 
 -- a line of a file by its number, with its text, and what is to be said of it

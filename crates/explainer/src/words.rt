@@ -2,7 +2,7 @@
 
 use crate::place::{option_place, option_value, place_of, word_at};
 use crate::word::{hex_note, said};
-use card_words::parser_message;
+use card_words::{Form, parser_message};
 use std::alloc::{AllocError, Global};
 
 /// What a person wants to know of words, of which the first is the program's name: what the parser of command lines
@@ -82,16 +82,24 @@ fn form_note(alloc: Global, words: &[String], form: usize) -> Result<String, All
 /// What a text in a form is, where one may not be in it.
 fn text_of_form(word: &str) -> Option<&'static str> {
     match word {
-        "hex" => Some(
-            "standard input: octets are two hexadecimal digits each, in groups that blanks part\n",
-        ),
-        "dump" => Some(
-            "standard input: a dump is what xxd, hexdump -C or od -Ax -tx1 writes, whole\n",
-        ),
-        "source" => Some(
-            "standard input: octets are 0x3B, \\x3b, 3Bh or 3B, all written in one way\n",
-        ),
+        "hex" => Some(what_form(Form::Hex)),
+        "dump" => Some(what_form(Form::Dump)),
+        "source" => Some(what_form(Form::Source)),
         _ => None,
+    }
+}
+
+/// What a text in a form is, as a line; nothing of octets, which any text is.
+pub(crate) fn what_form(form: Form) -> &'static str {
+    match form {
+        Form::Hex => {
+            "standard input: octets are two hexadecimal digits each, in groups that blanks part\n"
+        }
+        Form::Octets => "",
+        Form::Dump =>
+            "standard input: a dump is what xxd, hexdump -C or od -Ax -tx1 writes, whole\n",
+        Form::Source =>
+            "standard input: octets are 0x3B, \\x3b, 3Bh or 3B, all written in one way\n",
     }
 }
 

@@ -18,7 +18,7 @@ const NEWER: &str =
 asked 00A4040000\nreply 9000\nc 000002900092\nanswer 9000\n";
 
 /// Words, and the text that the program writes.
-const ROWS: [(&str, &str); 12] = [
+const ROWS: [(&str, &str); 14] = [
     ("check block 00000500A4040000A5", "ok 9 octets\n"),
     ("check atr 3B808131204555", "ok 7 octets\n"),
     (
@@ -31,6 +31,14 @@ const ROWS: [(&str, &str); 12] = [
     ),
     ("show response 9000", "part none\nstatus 9000 normal\n"),
     ("show tlv 00005A81011200", "objects 1\n5A 8101 12\n"),
+    (
+        "show response 6A82 --notes",
+        "part none\nstatus 6A82 checking  # file or application not found\n",
+    ),
+    (
+        "show tlv 500141 --notes",
+        "objects 1\n50 01 41  # 1 octet, application class, \"A\"\n",
+    ),
     ("build chain 2 0 00A404", "00200200A486\n0040010445\n"),
     ("build tidy 00005A81011200", "5A0112\n"),
     (

@@ -76,3 +76,57 @@ cut-noted (x ∷ plain) noted lacks h =
     let rest = All-tail is-no-sign x plain lacks in
     rw h.3 (one-cut x h.0 h.1 (second-noted plain h.1 rest h.4) h.2
     ∙ ap (λ (l : List ℕ). x ∷ l) (cut-noted plain h.1 rest h.4))
+
+-- ---- texts in a row
+
+-- what comes before a line end is cut apart from what comes after it
+begins-apart : (x : ℕ) (rest more : List ℕ) → begins_note (x ∷ (rest ++ (10 ∷ more))) ≡ begins_note (x ∷ rest)
+begins-apart x [] [] = refl
+begins-apart x [] (c ∷ []) = refl
+begins-apart x [] (c ∷ d ∷ more) = go (x == 32)
+  where
+    go : (t : Bool) → (if t then false else false) ≡ false
+    go true = refl
+    go false = refl
+begins-apart x (b ∷ []) [] = refl
+begins-apart x (b ∷ []) (d ∷ more) = go (x == 32) (b == 32)
+  where
+    go : (t u : Bool) → (if t then (if u then false else false) else false) ≡ false
+    go true true = refl
+    go true false = refl
+    go false u = refl
+begins-apart x (b ∷ c ∷ []) more = go (x == 32) (b == 32) (c == 35)
+  where
+    go : (t u v : Bool) → (if t then (if u then (if v then false else false) else false) else false) ≡ false
+    go true true true = refl
+    go true true false = refl
+    go true false v = refl
+    go false u v = refl
+begins-apart x (b ∷ c ∷ d ∷ rest) more = refl
+
+none-at-end : (more : List ℕ) → begins_note (10 ∷ more) ≡ false
+none-at-end [] = refl
+none-at-end (b ∷ []) = refl
+none-at-end (b ∷ c ∷ []) = refl
+none-at-end (b ∷ c ∷ d ∷ more) = refl
+
+chosen : (t : Bool) (a b c d more : List ℕ) → a ≡ c ++ more → b ≡ d ++ more
+    → (if t then a else b) ≡ (if t then c else d) ++ more
+chosen true a b c d more h g = h
+chosen false a b c d more h g = g
+
+pub cut-apart : (inside : Bool) (text more : List ℕ) → cut_in inside (text ++ (10 ∷ more)) ≡ cut_in inside text
+    ++ (10 ∷ cut_in false more)
+cut-apart true [] more = refl
+cut-apart false [] more = rw (none-at-end more) refl
+cut-apart true (x ∷ text) more =
+    chosen (x == 10) _ _ _ _ (10 ∷ cut_in false more) (ap (λ (l : List ℕ). x ∷ l) (cut-apart false text more))
+    (cut-apart true text more)
+cut-apart false (x ∷ text) more =
+    rw (begins-apart x text more) (chosen (begins_note (x ∷ text)) _ _ _ _ (10 ∷ cut_in false more)
+    (cut-apart true text more) (ap (λ (l : List ℕ). x ∷ l) (cut-apart false text more)))
+
+-- a text has notes where none is put
+pub noted-by-none : (plain : List ℕ) → IsNoted plain plain
+noted-by-none [] = refl
+noted-by-none (x ∷ plain) = ([], plain, nothing refl, refl, noted-by-none plain)

@@ -29,7 +29,7 @@ fn push_indicated(
 ) -> Result<(), AllocError> {
     let mut is_first = true;
     for x in indicated {
-        notes.push(format!(in alloc; "offers T={}", x.protocol)?)?;
+        notes.push(td_note(alloc, x.protocol)?)?;
         if is_first {
             push_mode(alloc, notes, x.bytes)?;
         } else {
@@ -38,6 +38,14 @@ fn push_indicated(
         is_first = false;
     }
     Ok(())
+}
+
+/// What a TD offers: T=15 is no protocol.
+fn td_note(alloc: Global, protocol: u8) -> Result<String, AllocError> {
+    match protocol {
+        15 => String::from_str(alloc, "global interface bytes"),
+        _ => format!(in alloc; "offers T={protocol}"),
+    }
 }
 
 /// The notes of TA2, TB2 and TC2.
@@ -67,7 +75,7 @@ fn tck_note(alloc: Global, tck: Option<u8>) -> Result<String, AllocError> {
 
 fn t1_note(alloc: Global, atr: &Atr) -> Result<String, AllocError> {
     match t1_params(atr) {
-        Ok(_) => String::from_str(alloc, "LRC"),
+        Ok(_) => String::from_str(alloc, "redundancy code LRC"),
         Err(_) => Ok(String::new(alloc)),
     }
 }

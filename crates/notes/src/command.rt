@@ -25,7 +25,7 @@ const INSTRUCTIONS: [(u8, &str); 51] = [
     (0x44, "ACTIVATE FILE"),
     (0x46, "GENERATE ASYMMETRIC KEY PAIR"),
     (0x70, "MANAGE CHANNEL"),
-    (0x82, "EXTERNAL AUTHENTICATE"),
+    (0x82, "EXTERNAL or MUTUAL AUTHENTICATE"),
     (0x84, "GET CHALLENGE"),
     (0x86, "GENERAL AUTHENTICATE"),
     (0x87, "GENERAL AUTHENTICATE"),
@@ -76,29 +76,66 @@ pub fn command_notes(alloc: Global, command: &CommandRef<'_>) -> Result<Vec<Stri
 /// The instruction by its name, where the class isn't proprietary and it has one, and the class in words.
 fn header_note(alloc: Global, class: u8, instruction: u8) -> Result<String, AllocError> {
     let class_says = class_note(alloc, class)?;
-    match instruction_name(instruction) {
-        Some(name) if class < 0x80 => format!(in alloc; "{name}, {class_says}"),
-        _ => Ok(class_says),
+    match instruction_name(class, instruction) {
+        Some(name) => format!(in alloc; "{name}, {class_says}"),
+        None => Ok(class_says),
     }
 }
 
 /// A class in words (ISO/IEC 7816-4:2005, 5.1.1, tables 2 and 3).
 fn class_note(alloc: Global, class: u8) -> Result<String, AllocError> {
-    let secured = match class & 0x0C {
-        0x00 => "no secure messaging",
-        0x04 => "secure messaging in a proprietary format",
-        0x08 => "secure messaging, header not processed",
-        _ => "secure messaging, header authenticated",
-    };
     match class {
-        0x00..=0x1F => format!(in alloc; "{secured}, channel {}", class & 0x03),
+        0x00..=0x1F => standard_note(alloc, class, secured(class), class & 0x03),
         0x20..=0x3F => String::from_str(alloc, "reserved class"),
-        0x40..=0x7F => format!(in alloc; "further class, channel {}", (class & 0x0F) + 4),
+        0x40..=0x7F => standard_note(alloc, class, further_secured(class), (class & 0x0F) + 4),
+        0xFF => String::from_str(alloc, "invalid class"),
         _ => String::from_str(alloc, "proprietary class"),
     }
 }
 
-fn instruction_name(instruction: u8) -> Option<&'static str> {
+/// What a class of the standard says: its secure messaging, its channel, and whether more commands of a chain follow.
+fn standard_note(
+    alloc: Global,
+    class: u8,
+    secured: &str,
+    channel: u8,
+) -> Result<String, AllocError> {
+    if class & 0x10 == 0 {
+        format!(in alloc; "{secured}, channel {channel}")
+    } else {
+        format!(in alloc; "{secured}, channel {channel}, more commands of its chain follow")
+    }
+}
+
+/// The secure messaging of a class below 20.
+fn secured(class: u8) -> &'static str {
+    match class & 0x0C {
+        0x00 => "no secure messaging",
+        0x04 => "secure messaging in a proprietary format",
+        0x08 => "secure messaging, header not processed",
+        _ => "secure messaging, header authenticated",
+    }
+}
+
+/// The secure messaging of a class from 40 on.
+fn further_secured(class: u8) -> &'static str {
+    if class & 0x20 == 0 {
+        "no secure messaging"
+    } else {
+        "secure messaging, header not processed"
+    }
+}
+
+/// The name of an instruction in a class of the standard, or that it is none in any class.
+fn instruction_name(class: u8, instruction: u8) -> Option<&'static str> {
+    match (class, instruction) {
+        (_, 0x60..=0x6F | 0x90..=0x9F) => Some("invalid instruction"),
+        (0x00..=0x1F | 0x40..=0x7F, _) => standard_name(instruction),
+        _ => None,
+    }
+}
+
+fn standard_name(instruction: u8) -> Option<&'static str> {
     for (code, name) in &INSTRUCTIONS {
         if *code == instruction {
             return Some(name);
@@ -116,6 +153,7 @@ fn part_note(alloc: Global, len: usize) -> Result<String, AllocError> {
 
 fn le_note(alloc: Global, le: Option<u32>) -> Result<String, AllocError> {
     match le {
+        Some(1) => String::from_str(alloc, "at most 1 octet in the answer"),
         Some(le) => format!(in alloc; "at most {le} octets in the answer"),
         None => Ok(String::new(alloc)),
     }

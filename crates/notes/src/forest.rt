@@ -1,6 +1,6 @@
 //! Notes on data objects.
 
-use crate::text::quoted;
+use crate::text::{octets_counted, quoted};
 use std::alloc::{AllocError, Global};
 use tlv_core::Part;
 
@@ -16,10 +16,10 @@ pub fn forest_notes(alloc: Global, parts: &[Part<'_>]) -> Result<Vec<String>, Al
 }
 
 fn part_note(alloc: Global, part: &Part<'_>) -> Result<String, AllocError> {
-    let len = part.value.len();
+    let count = octets_counted(alloc, part.value.len())?;
     let class = class_name(part.tag.octets().first().copied().unwrap_or(0));
     let text = text_note(alloc, part)?;
-    format!(in alloc; "{len} octets, {class} class{text}")
+    format!(in alloc; "{count}, {class} class{text}")
 }
 
 /// The value as text, after what parts it from the class.

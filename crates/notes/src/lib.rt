@@ -12,6 +12,7 @@ pub mod command;
 pub mod forest;
 pub mod joining;
 pub mod laws;
+pub mod list;
 pub mod response;
 mod text;
 
@@ -20,4 +21,5 @@ pub use block::block_notes;
 pub use command::command_notes;
 pub use forest::forest_notes;
 pub use joining::noted;
+pub use list::{chain_notes, dol_notes};
 pub use response::response_notes;

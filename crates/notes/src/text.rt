@@ -1,4 +1,4 @@
-//! Octets as text.
+//! Octets as text, and numbers of octets.
 
 use std::alloc::{AllocError, Global};
 
@@ -20,6 +20,24 @@ pub(crate) fn quoted(alloc: Global, octets: &[u8]) -> Result<String, AllocError>
     }
     text.push('"')?;
     Ok(text)
+}
+
+/// So many octets, in words.
+pub(crate) fn octets_counted(alloc: Global, count: usize) -> Result<String, AllocError> {
+    if count == 1 {
+        String::from_str(alloc, "1 octet")
+    } else {
+        format!(in alloc; "{count} octets")
+    }
+}
+
+/// The same where there are some, and else nothing.
+pub(crate) fn some_counted(alloc: Global, count: usize) -> Result<String, AllocError> {
+    if count == 0 {
+        Ok(String::new(alloc))
+    } else {
+        octets_counted(alloc, count)
+    }
 }
 
 fn is_printable(octet: u8) -> bool {

@@ -9,10 +9,10 @@ use tlv_core::FlatForest;
 
 /// Octets and the notes on them, each of which a bar ends.
 const RESPONSES: [[&str; 2]; 7] = [
-    ["9000", "|normal|"],
+    ["9000", "|no further qualification|"],
     ["6100", "|256 octets to read|"],
     ["6110", "|16 octets to read|"],
-    ["63C2", "|2 tries left|"],
+    ["63C2", "|counter at 2, as of tries left|"],
     ["6A82", "|file or application not found|"],
     ["6C08", "|wrong Le: 8 octets there|"],
     ["01029F00", "||"],
@@ -30,41 +30,41 @@ const COMMANDS: [[&str; 2]; 4] = [
     ],
     [
         "4CB0000000",
-        "|READ BINARY, further class, channel 16||at most 256 octets in the answer|",
+        "|READ BINARY, no secure messaging, channel 16||at most 256 octets in the answer|",
     ],
 ];
 
 const BLOCKS: [[&str; 2]; 4] = [
     [
         "00000500A4040000A5",
-        "|I-block 0, the last of its chain||as computed|",
+        "|I-block 0, the last of its chain|5 octets|exclusive-or of the octets before it|",
     ],
     [
         "006001AACB",
-        "|I-block 1, more of its chain follow||as computed|",
+        "|I-block 1, more blocks of its chain follow|1 octet|exclusive-or of the octets before it|",
     ],
     [
         "00910091",
-        "|asks for block 1 again: parity or LRC||as computed|",
+        "|asks for block 1 again: parity or LRC||exclusive-or of the octets before it|",
     ],
     [
         "00C10120E0",
-        "|asks for an information field size of 32||as computed|",
+        "|asks for an information field size of 32|1 octet|exclusive-or of the octets before it|",
     ],
 ];
 
 const FORESTS: [[&str; 2]; 2] = [
-    ["500141", "|1 octets, application class, \"A\"|"],
+    ["500141", "|1 octet, application class, \"A\"|"],
     [
         "6F03840100",
-        "|3 octets, application class|1 octets, context-specific class|",
+        "|3 octets, application class|1 octet, context-specific class|",
     ],
 ];
 
 const ANSWERS: [[&str; 2]; 2] = [
     [
         "3B808131204555",
-        "|offers T=1|offers T=1||||exclusive-or of T0 to here is 00|||LRC|",
+        "|offers T=1|offers T=1||||exclusive-or of T0 to here is 00|||redundancy code LRC|",
     ],
     ["3B024142", "|\"AB\"|||||"],
 ];

@@ -14,8 +14,8 @@ returns-in_err-octets-in-Tell-clause-told g c =
     let fault = err_from_is_err_and c.from_residual.result c.from_residual.ensures.1 in
     rw (c.in-Tell.is, fault.1, fault.2) (told-fault (Tell c.in-Tell.task c.in-Tell.given) c.in-Tell.given
     (IsTold c.in-Tell.task) (g.R.Source.remaining c.args.reader.now)
-    (g.R.Source.remaining c.octets_given.new.reader) (g.R.Source.failures c.args.reader.now)
-    (g.R.Source.failures c.octets_given.new.reader) (λ need. need) (λ file text ended h. h)
+    (g.R.Source.remaining c.octets_explained.new.reader) (g.R.Source.failures c.args.reader.now)
+    (g.R.Source.failures c.octets_explained.new.reader) (λ need. need) (λ file text ended h. h)
     c.in_err-octets-in-Tell.field-0.0 c.in_err-octets-in-Tell.ensures.taken)
 
 pub returns-in_err-judged-in-Tell-clause-told : goal.returns-in_err-judged-in-Tell-clause-told
@@ -24,8 +24,8 @@ returns-in_err-judged-in-Tell-clause-told g c =
     c.from_residual-in_err-judged-in-Tell.ensures.1 in
     rw (c.in-Tell.is, fault.1, fault.2) (told-wanting (Tell c.in-Tell.task c.in-Tell.given) c.in-Tell.given
     (IsTold c.in-Tell.task) (g.R.Source.remaining c.args.reader.now)
-    (g.R.Source.remaining c.octets_given.new.reader) (g.R.Source.failures c.args.reader.now)
-    (g.R.Source.failures c.octets_given.new.reader) (λ need. need) (λ file text ended h. h)
+    (g.R.Source.remaining c.octets_explained.new.reader) (g.R.Source.failures c.args.reader.now)
+    (g.R.Source.failures c.octets_explained.new.reader) (λ need. need) (λ file text ended h. h)
     c.in_ok-octets-in-Tell.octets c.in_ok-octets-in-Tell.ensures.taken)
 
 pub returns-in_err-octets-in-BuildTidy-clause-told : goal.returns-in_err-octets-in-BuildTidy-clause-told
@@ -34,8 +34,8 @@ returns-in_err-octets-in-BuildTidy-clause-told g c =
     c.from_residual-in_err-octets-in-BuildTidy.ensures.1 in
     rw (c.in-BuildTidy.is, fault.1, fault.2)
     (told-fault (BuildTidy c.in-BuildTidy.given) c.in-BuildTidy.given Tidies
-    (g.R.Source.remaining c.args.reader.now) (g.R.Source.remaining c.octets_given-in-BuildTidy.new.reader)
-    (g.R.Source.failures c.args.reader.now) (g.R.Source.failures c.octets_given-in-BuildTidy.new.reader)
+    (g.R.Source.remaining c.args.reader.now) (g.R.Source.remaining c.octets_explained-in-BuildTidy.new.reader)
+    (g.R.Source.failures c.args.reader.now) (g.R.Source.failures c.octets_explained-in-BuildTidy.new.reader)
     (λ need. need) (λ file text ended h. h) c.in_err-octets-in-BuildTidy.field-0.0
     c.in_err-octets-in-BuildTidy.ensures.taken)
 
@@ -45,8 +45,8 @@ returns-in_err-judged-in-BuildTidy-clause-told g c =
     c.from_residual-in_err-judged-in-BuildTidy.ensures.1 in
     rw (c.in-BuildTidy.is, fault.1, fault.2)
     (told-wanting (BuildTidy c.in-BuildTidy.given) c.in-BuildTidy.given Tidies
-    (g.R.Source.remaining c.args.reader.now) (g.R.Source.remaining c.octets_given-in-BuildTidy.new.reader)
-    (g.R.Source.failures c.args.reader.now) (g.R.Source.failures c.octets_given-in-BuildTidy.new.reader)
+    (g.R.Source.remaining c.args.reader.now) (g.R.Source.remaining c.octets_explained-in-BuildTidy.new.reader)
+    (g.R.Source.failures c.args.reader.now) (g.R.Source.failures c.octets_explained-in-BuildTidy.new.reader)
     (λ need. need) (λ file text ended h. h) c.in_ok-octets-in-BuildTidy.octets
     c.in_ok-octets-in-BuildTidy.ensures.taken)
 
@@ -63,8 +63,8 @@ returns-in_ok-judged-in-Tell-clause-told g c =
     rw c.in-Tell.is (noted-given (Tell c.in-Tell.task c.in-Tell.given) c.in-Tell.given
     (IsTold c.in-Tell.task)
     (IsKindNote c.in-Tell.task.expected.kind c.in-Tell.task.expected) (g.R.Source.remaining c.args.reader.now)
-    (g.R.Source.remaining c.octets_given.new.reader) (g.R.Source.failures c.args.reader.now)
-    (g.R.Source.failures c.octets_given.new.reader) (λ need. need) (λ file text ended h. h)
+    (g.R.Source.remaining c.octets_explained.new.reader) (g.R.Source.failures c.args.reader.now)
+    (g.R.Source.failures c.octets_explained.new.reader) (λ need. need) (λ file text ended h. h)
     (λ file ended note h. h) c.in_ok-octets-in-Tell.octets c.in_ok-octets-in-Tell.ensures.taken
     c.in_ok-judged-in-Tell.judged.answer c.noted.result c.in_ok-judged-in-Tell.judged.note c.noted.ensures.text.0
     made.0
@@ -75,8 +75,8 @@ returns-in_ok-judged-in-BuildTidy-clause-told g c =
     let made = rw c.get-in-BuildTidy.ensures at c.in_ok-judged-in-BuildTidy.ensures in
     rw c.in-BuildTidy.is (noted-given (BuildTidy c.in-BuildTidy.given) c.in-BuildTidy.given Tidies
     (IsNoteBy forest_codec) (g.R.Source.remaining c.args.reader.now)
-    (g.R.Source.remaining c.octets_given-in-BuildTidy.new.reader) (g.R.Source.failures c.args.reader.now)
-    (g.R.Source.failures c.octets_given-in-BuildTidy.new.reader) (λ need. need) (λ file text ended h. h)
+    (g.R.Source.remaining c.octets_explained-in-BuildTidy.new.reader) (g.R.Source.failures c.args.reader.now)
+    (g.R.Source.failures c.octets_explained-in-BuildTidy.new.reader) (λ need. need) (λ file text ended h. h)
     (λ file ended note h. h) c.in_ok-octets-in-BuildTidy.octets c.in_ok-octets-in-BuildTidy.ensures.taken
     c.in_ok-judged-in-BuildTidy.judged.answer c.noted-in-BuildTidy.result c.in_ok-judged-in-BuildTidy.judged.note
     c.noted-in-BuildTidy.ensures.text.0 made.0

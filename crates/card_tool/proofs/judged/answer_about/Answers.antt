@@ -5,3 +5,6 @@ returns-in-Check c = rw c.in-Check.is c.check.ensures
 
 pub returns-in-Show : goal.returns-in-Show
 returns-in-Show c = rw c.in-Show.is c.show.ensures
+
+pub returns-in_ok-answer-in-Note : goal.returns-in_ok-answer-in-Note
+returns-in_ok-answer-in-Note c = rw c.in-Note.is c.annotated.ensures

@@ -1,9 +1,9 @@
-use Rattle.card_tool.proofs.OneAnswer.{one-asked}
+use Rattle.card_tool.proofs.OneAnswer.{one-cut, some-asked}
 use Rattle.card_tool.proofs.laws.one_answer.Goals as goal
 
 pub returns : goal.returns
 returns c = record {
-  some = λ asked file sized octets as_read. (one-asked asked file sized octets as_read).some;
+  some = some-asked;
   one = λ asked file text other ended different sized octets as_read.
-      (one-asked asked file sized octets as_read).one text other ended different;
+      one-cut asked file sized octets as_read text other ended different;
 }

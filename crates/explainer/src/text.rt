@@ -1,0 +1,176 @@
+//! The note on a text of standard input that isn't in its form.
+
+ghost use Rattle.std.specs.Prelude.{◌≡◌, IfOk, IfSome, Some, slice_get, string_bytes};
+ghost use Rattle.explainer.specs.Notes.{place_note};
+
+use crate::words::what_form;
+use card_words::{Fault, Form};
+use octet_core::Octets;
+use std::alloc::{AllocError, Global};
+
+/// How many characters are shown before the one that is marked, at most.
+const BEFORE: usize = 40;
+
+/// How many characters are shown, at most.
+const SHOWN: usize = 60;
+
+/// What is wrong at a place of a text in hexadecimal.
+#[derive(Clone, Copy)]
+enum Wrong {
+    /// This octet is no digit.
+    Digit(u8),
+    /// A group begins here that has an odd number of digits.
+    Odd,
+    /// A `0x` begins here that has nothing after it.
+    Mark,
+}
+
+/// What a person wants to know of a text that isn't in its form: of one in hexadecimal the first place that is wrong,
+/// by its line and column, counted from 1, with its line and a mark under it; of each what the form is, and the option
+/// for another form that takes the text, where one does.
+pub fn text_note(alloc: Global, form: Form, text: &[u8]) -> Result<String, AllocError> {
+    let mut note = match form {
+        Form::Hex => hexadecimal_note(alloc, text)?,
+        Form::Octets | Form::Dump | Form::Source => String::new(alloc),
+    };
+    note.push_str(what_form(form))?;
+    note.push_str(other_form(alloc, form, text)?)?;
+    Ok(note)
+}
+
+/// The option for another form that takes the text, as a line.
+fn other_form(alloc: Global, form: Form, text: &[u8]) -> Result<&'static str, AllocError> {
+    if form != Form::Hex && takes(alloc, Form::Hex, text)? {
+        return Ok("--stdin hex takes this text\n");
+    }
+    if form != Form::Dump && takes(alloc, Form::Dump, text)? {
+        return Ok("--stdin dump takes this text\n");
+    }
+    if form != Form::Source && takes(alloc, Form::Source, text)? {
+        return Ok("--stdin source takes this text\n");
+    }
+    Ok("")
+}
+
+/// Whether a text is in a form.
+fn takes(alloc: Global, form: Form, text: &[u8]) -> Result<bool, AllocError> {
+    match form.octets(alloc, Octets::of(text.to_vec(alloc)?)) {
+        Ok(_) => Ok(true),
+        Err(Fault::Memory) => Err(AllocError),
+        Err(_) => Ok(false),
+    }
+}
+
+/// The first place of a text in hexadecimal that is wrong.
+fn hexadecimal_note(alloc: Global, text: &[u8]) -> Result<String, AllocError> {
+    if let Some((place, octet)) = stray_octet(text) {
+        return marked(alloc, text, place, Wrong::Digit(octet));
+    }
+    match wrong_group(text) {
+        Some((place, wrong)) => marked(alloc, text, place, wrong),
+        None => Ok(String::new(alloc)),
+    }
+}
+
+/// The first octet that is no digit, no blank and not in a `0x` that begins a group.
+fn stray_octet(text: &[u8]) -> Option<(usize, u8)>
+    ensures { IfSome result (λ found. slice_get text.now found.0 ≡ Some found.1) }
+{
+    let mut before = [b' ', b' '];
+    for (place, octet) in text.iter().enumerate() {
+        let [ahead, last] = before;
+        let is_mark = matches!(octet, b'x' | b'X') && last == b'0' && is_blank(ahead);
+        if !octet.is_ascii_hexdigit() && !is_blank(*octet) && !is_mark {
+            return Some((place, *octet));
+        }
+        before = [last, *octet];
+    }
+    None
+}
+
+/// The first group that isn't pairs of digits.
+fn wrong_group(text: &[u8]) -> Option<(usize, Wrong)> {
+    let mut place = 0_usize;
+    for group in text.split(|octet| is_blank(*octet)) {
+        if matches!(group, b"0x" | b"0X") {
+            return Some((place, Wrong::Mark));
+        }
+        if group.len() % 2 == 1 {
+            return Some((place, Wrong::Odd));
+        }
+        place = place.saturating_add(group.len()).saturating_add(1);
+    }
+    None
+}
+
+fn is_blank(octet: u8) -> bool {
+    matches!(octet, b' ' | b'\t' | b'\n' | b'\r')
+}
+
+/// A place of a text by its line and column, what is wrong there, the line, and a mark under the place.
+fn marked(alloc: Global, text: &[u8], place: usize, wrong: Wrong) -> Result<String, AllocError> {
+    let (number, start) = line_of(text, place);
+    let column = place.saturating_sub(start).saturating_add(1);
+    let what = sentence(alloc, wrong)?;
+    let first = start.max(place.saturating_sub(BEFORE));
+    let line = shown(alloc, text, first)?;
+    let before = place.saturating_sub(first);
+    placed(alloc, number, column, what.as_str(), line.as_str(), before)
+}
+
+/// A line and a column, what is wrong there, the characters of the line, and a mark after so many of them.
+fn placed(
+    alloc: Global,
+    number: usize,
+    column: usize,
+    what: &str,
+    line: &str,
+    before: usize,
+) -> Result<String, AllocError>
+    ensures { IfOk result (λ text.
+        string_bytes text ≡ place_note number column what.now line.now before) }
+{
+    let blanks = " ".repeat(alloc, before)?;
+    format!(in alloc; "line {number}, column {column}: {what}\n{line}\n{blanks}^\n")
+}
+
+/// The number of the line that has a place, from 1, and where it begins.
+fn line_of(text: &[u8], place: usize) -> (usize, usize) {
+    let mut number = 1_usize;
+    let mut start = 0_usize;
+    for (at, octet) in text.iter().enumerate() {
+        if *octet == b'\n' && at < place {
+            number = number.saturating_add(1);
+            start = at.saturating_add(1);
+        }
+    }
+    (number, start)
+}
+
+fn sentence(alloc: Global, wrong: Wrong) -> Result<String, AllocError> {
+    match wrong {
+        Wrong::Digit(octet) if is_printable(octet) => {
+            format!(in alloc; "no digit '{}'", char::from(octet))
+        }
+        Wrong::Digit(octet) => format!(in alloc; "no digit, but the octet {octet:02X}"),
+        Wrong::Odd => String::from_str(alloc, "a group with an odd number of digits"),
+        Wrong::Mark => String::from_str(alloc, "a 0x with no digits after it"),
+    }
+}
+
+/// The characters of a line from a place on, a question mark for each that isn't printable.
+fn shown(alloc: Global, text: &[u8], first: usize) -> Result<String, AllocError> {
+    let mut line = String::new(alloc);
+    for octet in text.iter().skip(first).take(SHOWN) {
+        match *octet {
+            b'\n' | b'\r' => break,
+            octet if is_printable(octet) => line.push(char::from(octet))?,
+            _ => line.push('?')?,
+        }
+    }
+    Ok(line)
+}
+
+fn is_printable(octet: u8) -> bool {
+    0x20 <= octet && octet <= 0x7E
+}
