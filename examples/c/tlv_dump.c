@@ -44,10 +44,6 @@ int main(int count, char **words)
         return 2;
     }
     found = scard_tlv_parts(octets, read.place, MOST, parts, MOST / 2);
-    if (found.status == SCARD_MEMORY) {
-        fputs("out of memory\n", stderr);
-        return 2;
-    }
     if (found.status != SCARD_OK) {
         printf("%s at %zu\n", found.status == SCARD_SHORT ? "short" : scard_reason_name(SCARD_CODEC_TLV, found.reason),
                found.place);
