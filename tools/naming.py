@@ -12,7 +12,7 @@ WORD = re.compile(r"\w+")
 # By what its name says a test tries the function of a trait that no text names.
 TELLS = {"Display": re.compile("print|named"), "Debug": re.compile("show"), "PartialEq": re.compile("equal")}
 # Crates that are tested through the one above them.
-TESTED = {"dumps": "card_tool", "card_words": "card_tool", "card_kinds": "card_tool", "explainer": "card_tool"}
+TESTED = {"dumps": "card_tool", "command_line": "card_tool", "card_words": "card_tool", "card_kinds": "card_tool", "explainer": "card_tool"}
 # The modules of the crates of tests that aren't called as their crate is without its '_core'.
 MODULES = {"card_tool": "tool", "notes": "noted", "round_trips": "again", "simulator": "simulated",
            "testing": "helpers"}

@@ -2,10 +2,10 @@
 use Rattle.std.proofs.Common.{◌≡◌, inl, inr, ℕ, List, MatchResult, Result, Ok, Err, IfOk, Some, string_bytes, subst}
 use Rattle.card_words.specs.declared.request.End.{End}
 use Rattle.card_kinds.specs.declared.status.Status.TheVariants as status
-use Rattle.exchange_core.specs.Exchange.{ExchangeParts}
-use Rattle.exchange_core.specs.Reading.{exchange_said, UnlessMemory}
+use Rattle.exchange_text.specs.Exchange.{ExchangeParts}
+use Rattle.exchange_text.specs.Reading.{exchange_said, UnlessMemory}
 use Rattle.exchange_core.specs.Replay.{IfDiffers, Replays}
-use Rattle.exchange_core.specs.declared.fault.ExchangeFault.{ExchangeFault}
+use Rattle.exchange_text.specs.declared.fault.ExchangeFault.{ExchangeFault}
 use Rattle.exchange_core.specs.declared.replaying.ReplayFault.{ReplayFault}
 use Rattle.exchange_core.specs.declared.replaying.ReplayFault.TheVariants.{Differs}
 use Rattle.exchange_core.specs.declared.replaying.Side.{Side}

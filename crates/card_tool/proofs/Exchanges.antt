@@ -7,15 +7,15 @@ use Rattle.octet_core.specs.Octets.{AreOctets}
 use Rattle.atr_core.proofs.Goes as atr_goes
 use Rattle.atr_core.proofs.Unique.{one-accepted}
 use Rattle.card_words.specs.declared.request.End.{End}
-use Rattle.exchange_core.specs.Exchange.{ExchangeParts, migrated}
-use Rattle.exchange_core.specs.Reading.{at, atr_by, atr_said, exchange_by, exchange_said, is_line_feed, lines_said, octets_said, parts_said, version_said, words_of}
+use Rattle.exchange_text.specs.Exchange.{ExchangeParts, migrated}
+use Rattle.exchange_text.specs.Reading.{at, atr_by, atr_said, exchange_by, exchange_said, is_line_feed, lines_said, octets_said, parts_said, version_said, words_of}
 use Rattle.exchange_core.specs.Replay as replay
-use Rattle.exchange_core.specs.Text.{exchange_text}
-use Rattle.exchange_core.specs.declared.exchange.Version.{Version}
-use Rattle.exchange_core.specs.declared.fault.ExchangeFault.{ExchangeFault}
+use Rattle.exchange_text.specs.Text.{exchange_text}
+use Rattle.exchange_text.specs.declared.exchange.Version.{Version}
+use Rattle.exchange_text.specs.declared.fault.ExchangeFault.{ExchangeFault}
 use Rattle.exchange_core.specs.declared.replaying.Side.{Side}
 use Rattle.exchange_core.proofs.Found.{one-replay, some-replay}
-use Rattle.exchange_core.proofs.Sound.{bind, octets-sound, same-ok}
+use Rattle.exchange_text.proofs.Sound.{bind, octets-sound, same-ok}
 use Rattle.card_tool.specs.ExchangeTexts.{agrees_text, differs_text, file_fault_text, side_of, IsReplayed, Migrates, Replays, agrees, differs}
 use Rattle.card_kinds.specs.declared.status.Status.{Status}
 use Rattle.card_kinds.specs.declared.status.Status.TheVariants as status

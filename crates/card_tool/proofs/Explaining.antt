@@ -1,7 +1,7 @@
 -- How an answer becomes one with an explanation.
 use Rattle.std.proofs.Common.{◌≡◌, ◌∙◌, ◌++◌, inl, inr, ℕ, List, [], Option, Some, None, Result, Ok, Err, IfOk, IfErr, OnOk, IsOkAnd, String, length, string_bytes, true, ap, append-nil, refl, subst, sym}
 use Rattle.std.specs.declared.alloc.Global.{Global}
-use Rattle.card_words.specs.Explain.{asks_to_explain}
+use Rattle.command_line.specs.Explain.{asks_to_explain}
 use Rattle.card_words.specs.Given.{octets_given, IsFromReader}
 use Rattle.card_words.specs.Texts.{fault_text}
 use Rattle.card_words.specs.Words.{IsRead, NeedsFile}
@@ -14,7 +14,7 @@ use Rattle.card_tool.specs.Answers.{AnswersTo, Gives, IsAnswerTo, IsRight, IsRig
 use Rattle.card_tool.specs.Explained.{differs, Fits, GivesExplained, IsAdded, IsExplained, IsDifferenceNote, IsFaulted, IsFaultNote, IsFillNote, IsLineNote, IsNoted, IsNotedTo, IsNoteTo, IsRightWith, on_fault, silent}
 use Rattle.card_tool.specs.Files.{IsTaken, ReadsWhole}
 use Rattle.card_tool.specs.ExchangeTexts.{IsOutcome}
-use Rattle.exchange_core.specs.Exchange.{ExchangeParts}
+use Rattle.exchange_text.specs.Exchange.{ExchangeParts}
 use Rattle.exchange_core.specs.Replay.{IfDiffers, Replays}
 use Rattle.exchange_core.specs.declared.replaying.ReplayFault.{ReplayFault}
 use Rattle.exchange_core.specs.declared.replaying.Side.{Side}

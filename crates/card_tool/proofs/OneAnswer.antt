@@ -25,7 +25,7 @@ use Rattle.card_tool.specs.Files.{largest_file}
 use Rattle.card_tool.specs.Lines.{all_lines, line_octets, worse, AreTold}
 use Rattle.card_words.specs.Words.{AreSized, HasOctets, HaveOctets, IsOnce, IsSized, NeedsOctets}
 use Rattle.card_words.proofs.Givens.{octets-given}
-use Rattle.card_words.specs.Version.{version_line}
+use Rattle.command_line.specs.Version.{version_line}
 use Rattle.card_words.specs.declared.request.Aim.{Aim}
 use Rattle.card_words.specs.declared.request.Aim.TheVariants.{Check, Show, Note}
 use Rattle.card_words.specs.declared.request.Asked.{Asked}

@@ -11,10 +11,11 @@ use Rattle.octet_core.specs.Failures.{most_failures}
 use Rattle.octet_core.specs.Octets.{AreOctets}
 use Rattle.card_words.proofs.Requests.{read-proper}
 use Rattle.card_words.specs.Texts.{fault_text}
-use Rattle.card_words.specs.Words.{asked_of, scard, AskForOctets, HasOther, IsRead, called_for_version, taken, called_for_help, not_taken}
+use Rattle.card_words.specs.Words.{asked_of, AskForOctets, HasOther, IsRead, called_for_version, taken, called_for_help, not_taken}
+use Rattle.command_line.specs.Form.{scard}
 use Rattle.card_words.specs.declared.fault.Fault.{Fault}
 use Rattle.card_words.specs.declared.fault.Fault.TheVariants.{Words, Hex, Memory, Read, TooLarge}
-use Rattle.card_words.specs.Version.{asks_for_version}
+use Rattle.command_line.specs.Version.{asks_for_version}
 use Rattle.card_words.specs.declared.request.Asked.{Asked}
 use Rattle.card_words.specs.declared.request.Asked.TheVariants.{Once, Lines}
 use Rattle.card_words.specs.declared.request.Aim.{Aim}

@@ -8,10 +8,10 @@ use Rattle.atr_core.proofs.Unique.{one-accepted}
 use Rattle.card_words.specs.Texts.{fault_text}
 use Rattle.card_words.specs.declared.fault.Fault.TheVariants.{TooLarge}
 use Rattle.card_words.specs.declared.session.Session.{Session}
-use Rattle.exchange_core.specs.Exchange.{ExchangeParts}
+use Rattle.exchange_text.specs.Exchange.{ExchangeParts}
 use Rattle.exchange_core.specs.Recording.{Recording}
 use Rattle.exchange_core.specs.Replay.{IsFound}
-use Rattle.exchange_core.specs.Text.{exchange_text}
+use Rattle.exchange_text.specs.Text.{exchange_text}
 use Rattle.exchange_core.proofs.Found.{one-found, verdict-found}
 use Rattle.simulator.specs.Simulation.{EndsAs, IsSimulated, exchange_of, new_recording, simulated, start}
 use Rattle.simulator.proofs.Long.{one-end, too-long}

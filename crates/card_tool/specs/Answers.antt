@@ -12,9 +12,10 @@ use Rattle.card_tool.specs.SimulationTexts.{Simulates}
 use Rattle.card_tool.specs.Files.{ReadsWhole}
 use Rattle.card_tool.specs.Lines.{all_lines, line_octets, AreTold}
 use Rattle.card_words.specs.Given.{octets_given}
-use Rattle.card_words.specs.Version.{version_line}
+use Rattle.command_line.specs.Version.{version_line}
 use Rattle.clap.specs.Words.{subcommand_of}
-use Rattle.card_words.specs.Words.{asked_of, once_of, scard, AreTaken, AskForFile, IsRead, NeedsFile}
+use Rattle.card_words.specs.Words.{asked_of, once_of, AreTaken, AskForFile, IsRead, NeedsFile}
+use Rattle.command_line.specs.Form.{scard}
 use Rattle.card_kinds.specs.declared.status.Status.{Status}
 use Rattle.card_kinds.specs.declared.status.Status.TheVariants as status
 use Rattle.card_words.specs.declared.fault.Fault.{Fault}

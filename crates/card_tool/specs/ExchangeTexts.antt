@@ -2,12 +2,12 @@
 use Rattle.std.specs.Prelude.{◌≡◌, ℕ, ◌+◌, List, ◌++◌, codes, decimal, length, Some, None, Result, Ok, Err, MatchResult}
 use Rattle.card_words.specs.declared.request.End.{End}
 use Rattle.card_words.specs.declared.request.End.TheVariants as end
-use Rattle.exchange_core.specs.Exchange.{ExchangeParts, migrated}
-use Rattle.exchange_core.specs.Faults.{exchange_fault_text}
-use Rattle.exchange_core.specs.Reading.{exchange_said}
+use Rattle.exchange_text.specs.Exchange.{ExchangeParts, migrated}
+use Rattle.exchange_text.specs.Faults.{exchange_fault_text}
+use Rattle.exchange_text.specs.Reading.{exchange_said}
 use Rattle.exchange_core.specs.Replay as replay
-use Rattle.exchange_core.specs.Text.{exchange_text}
-use Rattle.exchange_core.specs.declared.fault.ExchangeFault.{ExchangeFault}
+use Rattle.exchange_text.specs.Text.{exchange_text}
+use Rattle.exchange_text.specs.declared.fault.ExchangeFault.{ExchangeFault}
 use Rattle.exchange_core.specs.declared.replaying.ReplayFault.{ReplayFault}
 use Rattle.exchange_core.specs.declared.replaying.Side.{Side}
 use Rattle.exchange_core.specs.declared.replaying.Side.TheVariants as side

@@ -4,7 +4,7 @@
 -- counts of its calls that failed.
 use Rattle.std.specs.Prelude.{◌≡◌, ◌⊎◌, ◌++◌, ℕ, List, [], Option, Some, None, Result, Ok, Err, IfOk, IsOkAnd, MatchResult, String, string_bytes, false}
 use Rattle.std.specs.declared.alloc.Global.{Global}
-use Rattle.card_words.specs.Explain.{asks_to_explain}
+use Rattle.command_line.specs.Explain.{asks_to_explain}
 use Rattle.card_words.specs.Given.{octets_given}
 use Rattle.card_words.specs.Texts.{fault_text}
 use Rattle.card_words.specs.Words.{IsRead, NeedsFile}
@@ -19,11 +19,11 @@ use Rattle.card_kinds.specs.ListTexts.{list_codec}
 use Rattle.card_kinds.specs.declared.answer.Answer.{Answer}
 use Rattle.card_kinds.specs.declared.status.Status.{Status}
 use Rattle.card_kinds.specs.declared.status.Status.TheVariants as status
-use Rattle.exchange_core.specs.Exchange.{ExchangeParts}
-use Rattle.exchange_core.specs.Reading.{exchange_said}
+use Rattle.exchange_text.specs.Exchange.{ExchangeParts}
+use Rattle.exchange_text.specs.Reading.{exchange_said}
 use Rattle.exchange_core.specs.Replay as replay
-use Rattle.exchange_core.specs.declared.fault.ExchangeFault.{ExchangeFault}
-use Rattle.exchange_core.specs.declared.fault.ExchangeFault.TheVariants.{Header, End as EndAt, Word, Hex, Falls, Memory}
+use Rattle.exchange_text.specs.declared.fault.ExchangeFault.{ExchangeFault}
+use Rattle.exchange_text.specs.declared.fault.ExchangeFault.TheVariants.{Header, End as EndAt, Word, Hex, Falls, Memory}
 use Rattle.exchange_core.specs.declared.replaying.Side.{Side}
 use Rattle.tlv_core.specs.declared.known.Known.{Known}
 use Rattle.explainer.specs.Notes.{IsSessionNote, large_note, line_note}

@@ -3,10 +3,10 @@ use Rattle.std.specs.Prelude.{◌≡◌, ◌<◌, ◌≤◌, ℕ, List, length, 
 use Rattle.card_words.specs.Texts.{fault_text}
 use Rattle.card_words.specs.declared.fault.Fault.TheVariants.{TooLarge}
 use Rattle.card_words.specs.declared.session.Session.{Session}
-use Rattle.exchange_core.specs.Exchange.{ExchangeParts}
+use Rattle.exchange_text.specs.Exchange.{ExchangeParts}
 use Rattle.exchange_core.specs.Recording.{Recording}
 use Rattle.exchange_core.specs.Replay.{IsFound}
-use Rattle.exchange_core.specs.Text.{exchange_text}
+use Rattle.exchange_text.specs.Text.{exchange_text}
 use Rattle.simulator.specs.Simulation.{EndsAs, exchange_of}
 use Rattle.card_tool.specs.Files.{largest_file}
 use Rattle.card_kinds.specs.Texts.{refused_as_text}

@@ -1,8 +1,8 @@
 //! Recorded exchanges, replayed and migrated.
 
 ghost use Rattle.std.specs.Prelude.{◌≡◌, ◌≢◌, IfOk};
-ghost use Rattle.exchange_core.specs.Text.{exchange_text};
-ghost use Rattle.exchange_core.specs.declared.fault.ExchangeFault.TheVariants.{Memory};
+ghost use Rattle.exchange_text.specs.Text.{exchange_text};
+ghost use Rattle.exchange_text.specs.declared.fault.ExchangeFault.TheVariants.{Memory};
 ghost use Rattle.card_tool.specs.ExchangeTexts.{file_fault_text, side_of, IsOutcome, IsReplayed, Migrates, Replays};
 ghost use Rattle.card_tool.specs.Explained.{line_of, IsDifferenceNote, IsFileNote, IsLineNote, IsReplayNote};
 ghost use Rattle.card_tool.specs.Judged.{AreOf};

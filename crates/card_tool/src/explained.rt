@@ -9,7 +9,8 @@ ghost use Rattle.card_tool.specs.Explained.{GivesExplained, IsAdded, IsFaulted, 
 ghost use Rattle.card_tool.specs.Files.{IsBegun, IsTaken};
 ghost use Rattle.card_words.specs.Given.{octets_in, IsFromReader};
 ghost use Rattle.card_words.specs.Value.{UnlessMemory};
-ghost use Rattle.card_words.specs.Words.{texts, AskForFile, IsSized, NeedsFile};
+ghost use Rattle.card_words.specs.Words.{AskForFile, IsSized, NeedsFile};
+ghost use Rattle.command_line.specs.Form.{texts};
 
 use crate::exchange::{migrated_with_note, replayed_with_note};
 use crate::file::{LARGEST_FILE, read_whole};

@@ -3,7 +3,7 @@
 ghost use Rattle.std.specs.Prelude.{◌≡◌, ◌≢◌, IfOk, string_bytes};
 ghost use Rattle.card_tool.specs.ExchangeTexts.{IsOutcome};
 ghost use Rattle.card_tool.specs.Explained.{line_of, IsDifferenceNote, IsLineNote};
-ghost use Rattle.exchange_core.specs.declared.fault.ExchangeFault.TheVariants.{Memory};
+ghost use Rattle.exchange_text.specs.declared.fault.ExchangeFault.TheVariants.{Memory};
 ghost use Rattle.explainer.specs.Notes.{line_note};
 
 use exchange_core::{Exchange, ExchangeFault, ReplayFault, Side};

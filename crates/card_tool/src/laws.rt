@@ -10,7 +10,8 @@ ghost use Rattle.card_tool.specs.Answers.{plain_asked, plain_text, IsAnswer, IsA
 ghost use Rattle.card_tool.specs.Conversations.{Event};
 ghost use Rattle.card_tool.specs.Files.{file_of, ReadsWhole};
 ghost use Rattle.card_tool.specs.LineAnswers.{AnswersLines, heard_by, IsHearing, IsUpToDate, told_by};
-ghost use Rattle.card_words.specs.Words.{scard, AreSized, AskForOctets, HaveOctets, IsOnce, NeedsOctets};
+ghost use Rattle.card_words.specs.Words.{AreSized, AskForOctets, HaveOctets, IsOnce, NeedsOctets};
+ghost use Rattle.command_line.specs.Form.{scard};
 ghost use Rattle.card_words.specs.declared.fault.Fault.{Fault as AnyFault};
 ghost use Rattle.card_words.specs.declared.fault.Fault.TheVariants.{Memory};
 ghost use Rattle.card_words.specs.declared.request.Asked.{Asked as AnyAsked};

@@ -6,7 +6,8 @@ ghost use Rattle.card_tool.specs.Explained.{IsRightWith};
 ghost use Rattle.card_tool.specs.Files.{IsBegun};
 ghost use Rattle.card_tool.specs.LineAnswers.{AskForNoLines, WritesLines};
 ghost use Rattle.card_words.specs.Texts.{fault_text};
-ghost use Rattle.card_words.specs.Words.{texts, AskForFile, AskForLines, IsSized, NeedsFile};
+ghost use Rattle.card_words.specs.Words.{AskForFile, AskForLines, IsSized, NeedsFile};
+ghost use Rattle.command_line.specs.Form.{texts};
 ghost use Rattle.card_words.specs.declared.request.Task.{Task as AnyTask};
 ghost use Rattle.card_kinds.specs.declared.status.Status.TheVariants as ended;
 
@@ -16,7 +17,8 @@ use crate::judged::answer_about;
 use crate::lines::tell_lines;
 use crate::{exchange, simulation};
 use card_kinds::{Answer, Status, blocks, fill, tidy};
-use card_words::{Asked, Fault, Request, VERSION_LINE, asks_to_explain};
+use card_words::{Asked, Fault, Request};
+use command_line::{VERSION_LINE, asks_to_explain};
 use octet_core::{Sink, Source, write_octets};
 use std::alloc::{AllocError, Global};
 

@@ -24,8 +24,9 @@ use Rattle.card_words.specs.declared.request.Asked.{Asked}
 use Rattle.card_words.specs.declared.request.Request.TheVariants.{BuildChain}
 use Rattle.card_words.specs.Faults.{fault_of_hex}
 use Rattle.card_words.specs.Value.{hex_octets, octets_of_word, UnlessMemory}
-use Rattle.card_words.specs.Version.{asks_for_version}
-use Rattle.card_words.specs.Words.{byte_or, chain_by, chain_of, number_of_word, scard, size_of, IsHelpOrFault, IsRead, called_for_help, not_taken}
+use Rattle.command_line.specs.Version.{asks_for_version}
+use Rattle.card_words.specs.Words.{byte_or, chain_by, chain_of, number_of_word, size_of, IsHelpOrFault, IsRead, called_for_help, not_taken}
+use Rattle.command_line.specs.Form.{scard}
 use Rattle.card_words.specs.declared.fault.Fault.{Fault}
 use Rattle.card_words.specs.declared.fault.Fault.TheVariants.{Words, Hex, Memory}
 
@@ -64,16 +65,6 @@ refused-word word (hex.Digit place) h other =
 refused-word word hex.Memory h other = inl refl
 
 -- ---- a parse
-
--- where a parse succeeds, nothing is wrong with the words
-pub fails-ok : {T : Type 0} (kinds : Kinds) (r : Result T Error) → FailsBy kinds r → IfOk r (λ _. kinds ≡ [])
-fails-ok kinds (Ok x) h = h
-fails-ok kinds (Err e) h = tt
-
--- where it fails, its error is of a kind that is wrong with them
-pub fails-err : {T : Type 0} (kinds : Kinds) (r : Result T Error) → FailsBy kinds r → IfErr r (HasKind kinds)
-fails-err kinds (Ok x) h = tt
-fails-err kinds (Err e) h = h
 
 -- what a failed parse comes to by its kind is what the words are read as, or memory ran out
 pub help-or-fault : (words : List (List ℕ)) (kind : ErrorKind) (read : Result Asked Fault)

@@ -5,6 +5,4 @@ pub mod Loose
 pub mod Given
 pub mod Known
 pub mod Session
-pub mod Version
 pub mod Words
-pub mod Explain

@@ -4,22 +4,22 @@ ghost use Rattle.std.specs.Prelude.{◌≡◌, ◌⊎◌, ◌≤◌, [], Err, If
 ghost use Rattle.clap.specs.Words.{all_of, fault_of, first_of, found_of, rows_of, subcommand_of, subcommand_rows_of};
 ghost use Rattle.clap.specs.Kinds.{HasKind};
 ghost use Rattle.clap.specs.Values.{kind_of as error_kind};
-ghost use Rattle.card_words.specs.Words.{asked_of, build_of, build_words, chain_of, end_of_word, asked_size, expected_of, session_of, kind_of, number_of, number_of_word, replay_of, show_aim, request_by, scard, size_of, texts, tidy_of, told_of, fill_of, HaveOctets, IsHelpOrFault, IsRead, AreSized, IsSized};
+ghost use Rattle.card_words.specs.Words.{asked_of, build_of, build_words, chain_of, end_of_word, asked_size, expected_of, session_of, kind_of, number_of, number_of_word, replay_of, show_aim, request_by, size_of, tidy_of, told_of, fill_of, HaveOctets, IsHelpOrFault, IsRead, AreSized, IsSized};
+ghost use Rattle.command_line.specs.Form.{scard, texts};
 ghost use Rattle.card_words.specs.Session.{IsSize};
 ghost use Rattle.card_words.specs.Value.{UnlessMemory};
 
 use crate::fault::Fault;
-use crate::forms::program;
 use crate::given::{asks_for_lines, read_given};
 use crate::known::knowns;
 use crate::request::{Aim, Asked, End, Expected, Kind, Request, Task};
 use crate::session::{Session, read_blocks, read_pairs};
 use crate::value::octets;
-use crate::version::asks_for_version;
 use block_core::Number;
 use chain_core::LONGEST_MESSAGE;
 use clap::error::ErrorKind;
 use clap::{ArgMatches, Error};
+use command_line::{asks_for_version, matches_of};
 use octet_core::Text;
 use std::alloc::Global;
 
@@ -327,14 +327,4 @@ fn help_or_fault(alloc: Global, error: &Error) -> Result<Asked, Fault>
         }
         _ => Err(Fault::Words),
     }
-}
-
-pub(crate) fn matches_of<'a>(alloc: Global, words: &'a [String]) -> Result<ArgMatches<'a>, Error>
-    ensures taken { IfOk result (λ m. fault_of scard (texts words.now) ≡ []) }
-    ensures entered { IfOk result (λ m.
-        subcommand_rows_of m ≡ subcommand_of scard (texts words.now)) }
-    ensures kind { IfErr result (HasKind (fault_of scard (texts words.now))) }
-{
-    let program = program(alloc)?;
-    program.try_get_matches_from(words)
 }

@@ -3,7 +3,7 @@ use Rattle.std.proofs.Common.{◌≡◌, ℕ, List, [], ◌∷◌, refl, inl}
 use Rattle.std.specs.Prelude.{false}
 use Rattle.t1_core.specs.Link.{answered, given_up}
 use Rattle.exchange_core.specs.Told.{told, AnswersAreReplies}
-use Rattle.exchange_core.specs.declared.line.Line.TheVariants.{Command, Quiet, Answer, GivenUp, Reply, Time, Asked}
+use Rattle.exchange_text.specs.declared.line.Line.TheVariants.{Command, Quiet, Answer, GivenUp, Reply, Time, Asked}
 
 abbrev select : List ℕ
 select = 0x00 ∷ 0xA4 ∷ 0x04 ∷ 0x00 ∷ 0x00 ∷ []

@@ -13,17 +13,17 @@ use Rattle.t1_core.specs.declared.turns.TerminalTurn.TheVariants.{Send}
 use Rattle.t1_core.specs.declared.turns.CardTurn.{CardTurn}
 use Rattle.t1_core.specs.declared.turns.CardTurn.TheVariants.{Send as Sends}
 use Rattle.t1_core.proofs.Kept.{any_good}
-use Rattle.exchange_core.specs.Exchange.{are_proper}
-use Rattle.exchange_core.specs.Text.{line_text}
+use Rattle.exchange_text.specs.Exchange.{are_proper}
+use Rattle.exchange_text.specs.Text.{line_text}
 use Rattle.exchange_core.specs.Replay.{Replays, terminal_end, card_end, terminal_role, card_role, terminal_line, card_line, calls, terminal_gives, card_gives}
 use Rattle.exchange_core.specs.Recording.{Recording, link_of, IsRecording, MayCall, MayReply, IsSent, Turns, terminal_input, card_input, call_event, change_event, outcome_of, terminal_outcome, card_outcome, arrival_outcome, loss_outcome, telling, terminal_pending, card_pending, under_way_of, events_of, runs, arrival_of, whole, recorded, added, untold, carried, IfNotMemory, IsLent}
-use Rattle.exchange_core.specs.Given.{arrived}
+use Rattle.exchange_text.specs.Exchange.{arrived}
 use Rattle.exchange_core.specs.declared.carrying.Change.{Change}
 use Rattle.exchange_core.specs.declared.carrying.Change.TheVariants.{Kept, Damaged, Spoilt}
-use Rattle.exchange_core.specs.declared.exchange.Version.TheVariants.{One}
-use Rattle.exchange_core.specs.declared.line.Arrival.{Arrival}
-use Rattle.exchange_core.specs.declared.line.Line.{Line}
-use Rattle.exchange_core.specs.declared.line.Line.TheVariants.{Command, Ifsd, Quiet, Answer, IfsSet, GivenUp, Dead, Reply, Time, Ifsc, Asked, FromTerminal, FromCard, Moment, Note}
+use Rattle.exchange_text.specs.declared.exchange.Version.TheVariants.{One}
+use Rattle.exchange_text.specs.declared.line.Arrival.{Arrival}
+use Rattle.exchange_text.specs.declared.line.Line.{Line}
+use Rattle.exchange_text.specs.declared.line.Line.TheVariants.{Command, Ifsd, Quiet, Answer, IfsSet, GivenUp, Dead, Reply, Time, Ifsc, Asked, FromTerminal, FromCard, Moment, Note}
 use Rattle.exchange_core.specs.declared.event.EventFault.{EventFault}
 use Rattle.exchange_core.specs.declared.event.EventFault.TheVariants.{NothingUnderWay, Terminal as AtTerminal, Card as AtCard, Memory}
 use Rattle.exchange_core.specs.declared.event.LastTurn.{LastTurn}

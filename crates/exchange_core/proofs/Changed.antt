@@ -13,7 +13,7 @@ use Rattle.block_core.specs.Computed.{suits}
 use Rattle.block_core.proofs.Computed.{back, true_suits, both_of, by_lt, by_eq}
 use Rattle.t1_core.specs.Link.{Event, damages, spoils}
 use Rattle.block_core.proofs.Blocks.{spelling-xor}
-use Rattle.exchange_core.specs.Given.{arrived}
+use Rattle.exchange_text.specs.Exchange.{arrived}
 use Rattle.exchange_core.specs.Recording.{damaged_octets, arrival_of, arrival_event, change_event}
 use Rattle.exchange_core.specs.declared.carrying.Change.{Change}
 use Rattle.exchange_core.specs.declared.carrying.Change.TheVariants.{Kept, Damaged, Spoilt}

@@ -9,14 +9,14 @@ use Rattle.t1_core.specs.Link.{Event, run, tables, Link, happens, nothing, loses
 use Rattle.t1_core.specs.Promises.{AllHandOctets}
 use Rattle.t1_core.specs.declared.turns.TerminalTurn.TheVariants.{Send, Answered, IfsSet as SetIfs, GivenUp as GaveUp, Dead as Died}
 use Rattle.t1_core.specs.declared.turns.CardTurn.TheVariants.{Send as Sends, Asked as AskedHost}
-use Rattle.exchange_core.specs.Exchange.{are_proper}
+use Rattle.exchange_text.specs.Exchange.{are_proper}
 use Rattle.exchange_core.specs.Replay.{End, by_role, replay_lines, goes_on, terminal_end, terminal_line, card_end, card_line}
-use Rattle.exchange_core.specs.Text.{line_text}
+use Rattle.exchange_text.specs.Text.{line_text}
 use Rattle.t1_core.specs.CardViews.{owed}
 use Rattle.exchange_core.specs.Recording.{runs, onward, telling, terminal_pending, card_pending, events_of, line_events, under_way_of, IsSent}
-use Rattle.exchange_core.specs.declared.exchange.Version.TheVariants.{One}
-use Rattle.exchange_core.specs.declared.line.Line.{Line}
-use Rattle.exchange_core.specs.declared.line.Line.TheVariants.{Moment, Note}
+use Rattle.exchange_text.specs.declared.exchange.Version.TheVariants.{One}
+use Rattle.exchange_text.specs.declared.line.Line.{Line}
+use Rattle.exchange_text.specs.declared.line.Line.TheVariants.{Moment, Note}
 use Rattle.exchange_core.specs.declared.event.LastTurn.{LastTurn}
 use Rattle.exchange_core.specs.declared.event.LastTurn.TheVariants.{Nothing, Terminal, Card}
 

@@ -13,8 +13,8 @@ use Rattle.exchange_core.specs.Recording.{Recording, IsRecording, recorded, tell
 use Rattle.exchange_core.specs.Told.{Tells, Covers, told, AnswersAreReplies}
 use Rattle.exchange_core.specs.Records.{begun, after_event, after_events, EachRecordTells}
 use Rattle.exchange_core.specs.declared.carrying.Change.TheVariants.{Kept, Damaged, Spoilt}
-use Rattle.exchange_core.specs.declared.line.Line.{Line}
-use Rattle.exchange_core.specs.declared.line.Line.TheVariants as line
+use Rattle.exchange_text.specs.declared.line.Line.{Line}
+use Rattle.exchange_text.specs.declared.line.Line.TheVariants as line
 use Rattle.exchange_core.specs.declared.event.EventFault.{EventFault}
 use Rattle.exchange_core.specs.declared.event.LastTurn.{LastTurn}
 use Rattle.exchange_core.specs.declared.event.LastTurn.TheVariants as last

@@ -7,11 +7,11 @@ use Rattle.t1_core.specs.Link.{Link, UnderWay, nothing, to_card, to_terminal, ta
 use Rattle.t1_core.specs.Promises.{HandsOctets, AllHandOctets}
 use Rattle.t1_core.specs.declared.turns.TerminalTurn.{TerminalTurn}
 use Rattle.t1_core.specs.declared.turns.CardTurn.{CardTurn}
-use Rattle.exchange_core.specs.Exchange.{are_proper}
+use Rattle.exchange_text.specs.Exchange.{are_proper}
 use Rattle.exchange_core.specs.Replay.{terminal_end, card_end, terminal_role, card_role, calls, terminal_gives, card_gives}
 use Rattle.exchange_core.specs.Recording.{Recording, link_of, IsRecording, recorded, with_outcome, added, outcome_of, terminal_outcome, card_outcome, arrival_outcome, loss_outcome, terminal_pending, card_pending, under_way_of, events_of, runs, whole}
-use Rattle.exchange_core.specs.declared.exchange.Version.TheVariants.{One}
-use Rattle.exchange_core.specs.declared.line.Line.{Line}
+use Rattle.exchange_text.specs.declared.exchange.Version.TheVariants.{One}
+use Rattle.exchange_text.specs.declared.line.Line.{Line}
 use Rattle.exchange_core.specs.declared.event.EventFault.{EventFault}
 use Rattle.exchange_core.specs.declared.event.LastTurn.{LastTurn}
 use Rattle.exchange_core.specs.declared.event.LastTurn.TheVariants.{Terminal, Card}

@@ -20,8 +20,8 @@ use Rattle.exchange_core.specs.Recording.{Recording, link_of, closed, untold, ad
 use Rattle.exchange_core.specs.Told.{Told, Covers, IfAsking, IfAgain, MayAsk, Pauses, told, told_by, told_after, nothing_told}
 use Rattle.exchange_core.specs.declared.carrying.Change.{Change}
 use Rattle.exchange_core.specs.declared.carrying.Change.TheVariants.{Kept, Damaged, Spoilt}
-use Rattle.exchange_core.specs.declared.line.Line.{Line}
-use Rattle.exchange_core.specs.declared.line.Line.TheVariants as line
+use Rattle.exchange_text.specs.declared.line.Line.{Line}
+use Rattle.exchange_text.specs.declared.line.Line.TheVariants as line
 use Rattle.exchange_core.specs.declared.event.LastTurn.{LastTurn}
 use Rattle.exchange_core.specs.declared.event.LastTurn.TheVariants as last
 use Rattle.exchange_core.proofs.Pausing.{PausingStep, pausing, AsksNothing, idle-asks, Hears, WayHears, way-hears}

@@ -1,5 +1,5 @@
 -- The words of faults.
-use Rattle.std.specs.Prelude.{ℕ, List, ◌++◌, codes, decimal}
+use Rattle.std.specs.Prelude.{ℕ, List, ◌++◌, codes}
 use Rattle.t1_core.specs.Names.{terminal_fault_name, card_fault_name}
 use Rattle.exchange_core.specs.declared.event.EventFault.{EventFault}
 use Rattle.exchange_core.specs.declared.event.EventFault.TheVariants as event
@@ -7,20 +7,7 @@ use Rattle.exchange_core.specs.declared.event.RecorderFault.{RecorderFault}
 use Rattle.exchange_core.specs.declared.event.RecorderFault.TheVariants as recorder
 use Rattle.exchange_core.specs.declared.replaying.ReplayFault.{ReplayFault}
 use Rattle.exchange_core.specs.declared.replaying.ReplayFault.TheVariants as replay
-use Rattle.exchange_core.specs.declared.fault.ExchangeFault.{ExchangeFault}
-use Rattle.exchange_core.specs.declared.fault.ExchangeFault.TheVariants.{Header, End, Word, Hex, Falls, Memory}
-
--- a fault of a line, by its number
-abbrev pub at_line : ℕ → List ℕ → List ℕ
-at_line line name = codes "line " ++ (decimal line ++ (codes ": " ++ name))
-
-abbrev pub exchange_fault_text : ExchangeFault → List ℕ
-exchange_fault_text Header = codes "Header"
-exchange_fault_text (End line) = at_line line (codes "End")
-exchange_fault_text (Word line) = at_line line (codes "Word")
-exchange_fault_text (Hex line) = at_line line (codes "Hex")
-exchange_fault_text (Falls line) = at_line line (codes "Falls")
-exchange_fault_text Memory = codes "memory"
+use Rattle.exchange_text.specs.Faults.{at_line}
 
 abbrev pub event_fault_text : EventFault → List ℕ
 event_fault_text event.NothingUnderWay = codes "NothingUnderWay"

@@ -3,10 +3,10 @@ use Rattle.std.specs.Prelude.{ℕ, List, []}
 use Rattle.block_core.specs.Block.{spelling}
 use Rattle.exchange_core.specs.declared.given.Given.{Given}
 use Rattle.exchange_core.specs.declared.given.Given.TheVariants as given
-use Rattle.exchange_core.specs.declared.line.Arrival.{Arrival}
-use Rattle.exchange_core.specs.declared.line.Arrival.TheVariants.{Whole, Lost, Changed}
-use Rattle.exchange_core.specs.declared.line.Line.{Line}
-use Rattle.exchange_core.specs.declared.line.Line.TheVariants.{Answer, IfsSet, GivenUp, Dead, Asked, FromTerminal, FromCard}
+use Rattle.exchange_text.specs.declared.line.Arrival.{Arrival}
+use Rattle.exchange_text.specs.declared.line.Arrival.TheVariants.{Whole, Lost, Changed}
+use Rattle.exchange_text.specs.declared.line.Line.{Line}
+use Rattle.exchange_text.specs.declared.line.Line.TheVariants.{Answer, IfsSet, GivenUp, Dead, Asked, FromTerminal, FromCard}
 use Rattle.exchange_core.specs.declared.way.Way.{Way}
 use Rattle.exchange_core.specs.declared.way.Way.TheVariants.{In, Out, Past}
 use Rattle.exchange_core.specs.Replay.{Role, calls, gives, passes}
@@ -30,8 +30,3 @@ abbrev pub arrival_way : Arrival → Way
 arrival_way Whole = In
 arrival_way Lost = Past
 arrival_way (Changed octets) = In
-
-abbrev pub arrived : List ℕ → Arrival → List ℕ
-arrived sent Whole = sent
-arrived sent Lost = []
-arrived sent (Changed octets) = octets

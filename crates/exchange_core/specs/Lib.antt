@@ -1,8 +1,4 @@
 -- to be believed: what the standards, or this project, say
-pub mod Exchange
-pub mod Text
-pub mod Reading
-pub mod Words
 pub mod Replay
 pub mod Run
 pub mod Told
@@ -11,4 +7,3 @@ pub mod Records
 -- what the code keeps between calls, what calls answer, and what is printed
 pub mod Given
 pub mod Faults
-pub mod Names

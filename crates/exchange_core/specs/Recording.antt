@@ -11,15 +11,15 @@ use Rattle.t1_core.specs.Link as link
 use Rattle.t1_core.specs.Promises.{AllHandOctets}
 use Rattle.t1_core.specs.declared.turns.TerminalTurn.{TerminalTurn}
 use Rattle.t1_core.specs.declared.turns.CardTurn.{CardTurn}
-use Rattle.exchange_core.specs.Exchange.{are_proper}
-use Rattle.exchange_core.specs.Given.{arrived}
+use Rattle.exchange_text.specs.Exchange.{are_proper}
+use Rattle.exchange_text.specs.Exchange.{arrived}
 use Rattle.exchange_core.specs.Replay.{End, by_role, terminal_end, terminal_line, card_end, card_line, IsFound}
 use Rattle.exchange_core.specs.Told.{Covers, told}
-use Rattle.exchange_core.specs.declared.exchange.Version.TheVariants.{One}
-use Rattle.exchange_core.specs.declared.line.Arrival.{Arrival}
-use Rattle.exchange_core.specs.declared.line.Arrival.TheVariants.{Whole, Lost, Changed}
-use Rattle.exchange_core.specs.declared.line.Line.{Line}
-use Rattle.exchange_core.specs.declared.line.Line.TheVariants.{Command, Ifsd, Quiet, Reply, Time, Ifsc, FromTerminal, FromCard}
+use Rattle.exchange_text.specs.declared.exchange.Version.TheVariants.{One}
+use Rattle.exchange_text.specs.declared.line.Arrival.{Arrival}
+use Rattle.exchange_text.specs.declared.line.Arrival.TheVariants.{Whole, Lost, Changed}
+use Rattle.exchange_text.specs.declared.line.Line.{Line}
+use Rattle.exchange_text.specs.declared.line.Line.TheVariants.{Command, Ifsd, Quiet, Reply, Time, Ifsc, FromTerminal, FromCard}
 use Rattle.exchange_core.specs.declared.event.Event.{Event}
 use Rattle.exchange_core.specs.declared.event.Event.TheVariants.{Deliver, Damage, Spoil, Lose, Transmit, AskIfsd, Reply as HostReply, MoreTime, AskIfsc}
 use Rattle.exchange_core.specs.declared.event.EventFault.{EventFault}

@@ -14,11 +14,11 @@ use Rattle.t1_core.specs.declared.turns.TerminalTurn.TheVariants.{Send, Answered
 use Rattle.t1_core.specs.Names.{terminal_fault_name, card_fault_name}
 use Rattle.t1_core.specs.declared.turns.CardTurn.{CardTurn}
 use Rattle.t1_core.specs.declared.turns.CardTurn.TheVariants.{Send as Sends, Asked as AskedHost}
-use Rattle.exchange_core.specs.Text.{line_text}
-use Rattle.exchange_core.specs.declared.line.Arrival.{Arrival}
-use Rattle.exchange_core.specs.declared.line.Arrival.TheVariants.{Whole, Lost, Changed}
-use Rattle.exchange_core.specs.declared.line.Line.{Line}
-use Rattle.exchange_core.specs.declared.line.Line.TheVariants.{Command, Ifsd, Quiet, Answer, IfsSet, GivenUp, Dead, Reply, Time, Ifsc, Asked, FromTerminal, FromCard, Moment, Note}
+use Rattle.exchange_text.specs.Text.{line_text}
+use Rattle.exchange_text.specs.declared.line.Arrival.{Arrival}
+use Rattle.exchange_text.specs.declared.line.Arrival.TheVariants.{Whole, Lost, Changed}
+use Rattle.exchange_text.specs.declared.line.Line.{Line}
+use Rattle.exchange_text.specs.declared.line.Line.TheVariants.{Command, Ifsd, Quiet, Answer, IfsSet, GivenUp, Dead, Reply, Time, Ifsc, Asked, FromTerminal, FromCard, Moment, Note}
 use Rattle.exchange_core.specs.declared.replaying.Side.{Side}
 use Rattle.exchange_core.specs.declared.replaying.Side.TheVariants.{Terminal, Card}
 use Rattle.exchange_core.specs.declared.replaying.ReplayFault.{ReplayFault}

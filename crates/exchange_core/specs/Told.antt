@@ -5,8 +5,8 @@ use Rattle.t1_core.specs.Terminal.{Waits, idle, ack, answer, more, ifs, resynch,
 use Rattle.t1_core.specs.Card.{Waits as CardWaits, asking}
 use Rattle.t1_core.specs.Link.{Link, Exchange, unanswered, with_reply, without_answer}
 use Rattle.t1_core.specs.Promises.{Matches}
-use Rattle.exchange_core.specs.declared.line.Line.{Line}
-use Rattle.exchange_core.specs.declared.line.Line.TheVariants.{Command, Answer, GivenUp, Dead, Reply, Time, Ifsc, Asked}
+use Rattle.exchange_text.specs.declared.line.Line.{Line}
+use Rattle.exchange_text.specs.declared.line.Line.TheVariants.{Command, Answer, GivenUp, Dead, Reply, Time, Ifsc, Asked}
 
 pub record Told : Type 0 where
   -- each command line, with the answer line to it where there is one, or given up; the newest first

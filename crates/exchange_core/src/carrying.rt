@@ -11,8 +11,8 @@ ghost use Rattle.exchange_core.specs.Recording.{arrival_of, damaged_octets, as_l
 use crate::end::{card_called, terminal_called};
 use crate::event::EventFault;
 use crate::given::Given;
-use crate::line::{Arrival, Line};
 use block_core::{Block, Pcb, encode};
+use exchange_text::{Arrival, Line};
 use octet_core::Octets;
 use std::alloc::{AllocError, Global};
 use t1_core::{Card, CardTurn, Terminal, TerminalTurn};

@@ -10,8 +10,8 @@ ghost use Rattle.exchange_core.specs.Replay.{End, calls, terminal_end, card_end}
 ghost use Rattle.t1_core.specs.Names.{terminal_fault_name, card_fault_name};
 
 use crate::given::Given;
-use crate::line::Line;
 use crate::way::Way;
+use exchange_text::Line;
 use octet_core::Named;
 use t1_core::{Card, CardFault, CardTurn, Terminal, TerminalFault, TerminalTurn};
 
@@ -62,7 +62,7 @@ impl Replayed for Terminal {
     fn way(&self, line: &Line) -> Way {
         match line {
             Line::Command(_) | Line::Ifsd(_) | Line::Quiet => Way::In,
-            Line::FromCard { arrival, .. } => arrival.way(),
+            Line::FromCard { arrival, .. } => Way::of_arrival(arrival),
             Line::Answer(_) | Line::IfsSet | Line::GivenUp | Line::Dead => Way::Out,
             Line::FromTerminal { .. } => Way::Out,
             Line::Reply(_) | Line::Time(_) | Line::Ifsc(_) | Line::Asked(_) => Way::Past,
@@ -101,7 +101,7 @@ impl Replayed for Card {
     fn way(&self, line: &Line) -> Way {
         match line {
             Line::Reply(_) | Line::Time(_) | Line::Ifsc(_) => Way::In,
-            Line::FromTerminal { arrival, .. } => arrival.way(),
+            Line::FromTerminal { arrival, .. } => Way::of_arrival(arrival),
             Line::Asked(_) | Line::FromCard { .. } => Way::Out,
             Line::Command(_) | Line::Ifsd(_) | Line::Quiet => Way::Past,
             Line::Answer(_) | Line::IfsSet | Line::GivenUp | Line::Dead => Way::Past,

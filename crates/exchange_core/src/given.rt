@@ -4,12 +4,10 @@ ghost use Rattle.std.specs.Prelude.{◌≡◌, IfOk, string_bytes, bytes_eq};
 ghost use Rattle.block_core.specs.Block.{spelling};
 ghost use Rattle.exchange_core.specs.Given.{line_of};
 ghost use Rattle.exchange_core.specs.Replay.{is_met};
-ghost use Rattle.exchange_core.specs.Text.{line_text};
+ghost use Rattle.exchange_text.specs.Text.{line_text};
 
-use crate::line::Line;
-use crate::name::Name;
-use crate::writing::push_message;
 use block_core::{Block, encode};
+use exchange_text::{Line, Name, push_message};
 use std::alloc::{AllocError, Global};
 
 /// What an end gives: a turn as its line, with the message of the end lent.

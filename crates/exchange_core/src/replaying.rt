@@ -6,12 +6,11 @@ ghost use Rattle.exchange_core.specs.Replay.{Replays, IfDiffers, IsFound, replay
 ghost use Rattle.exchange_core.specs.Run.{IsRun};
 
 use crate::end::Replayed;
-use crate::exchange::Exchange;
 use crate::laws::agreeing_is_a_run;
-use crate::line::Line;
 use crate::way::Way;
 use atr_core::laws::one_accepted;
 use atr_core::{T1Params, decode, t1_params};
+use exchange_text::{Exchange, Line};
 use octet_core::{Named, Text};
 use std::alloc::{AllocError, Global};
 use std::error::Error;

@@ -1,10 +1,9 @@
 //! Which way a line goes.
 
 ghost use Rattle.std.specs.Prelude.{◌≡◌};
-ghost use Rattle.exchange_core.specs.Given.{arrival_way, arrived};
+ghost use Rattle.exchange_core.specs.Given.{arrival_way};
 
-use crate::line::Arrival;
-use octet_core::Octets;
+use exchange_text::Arrival;
 
 /// Which way a line goes, seen from an end.
 #[derive(Clone, Copy, Debug, PartialEq, Eq)]
@@ -17,25 +16,14 @@ pub(crate) enum Way {
     Past,
 }
 
-impl Arrival {
+impl Way {
     /// Which way a block goes at its receiver.
-    pub(crate) fn way(&self) -> Way
-        ensures { result ≡ arrival_way self.now }
+    pub fn of_arrival(arrival: &Arrival) -> Way
+        ensures { result ≡ arrival_way arrival.now }
     {
-        match self {
+        match arrival {
             Arrival::Whole | Arrival::Changed(_) => Way::In,
             Arrival::Lost => Way::Past,
-        }
-    }
-
-    /// The octets that arrive of those that were sent, none of a lost block.
-    pub(crate) fn octets<'a>(&'a self, sent: &'a Octets) -> &'a [u8]
-        ensures { result.now ≡ arrived sent.now self.now }
-    {
-        match self {
-            Arrival::Whole => sent.get(),
-            Arrival::Lost => &[],
-            Arrival::Changed(octets) => octets.get(),
         }
     }
 }

@@ -2,7 +2,8 @@
 
 use crate::place::{option_place, option_value, place_of, word_at};
 use crate::word::{hex_note, said};
-use card_words::{Form, parser_message};
+use card_words::Form;
+use command_line::parser_message;
 use std::alloc::{AllocError, Global};
 
 /// What a person wants to know of words, of which the first is the program's name: what the parser of command lines

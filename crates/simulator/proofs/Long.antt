@@ -5,12 +5,12 @@ use Rattle.t1_core.specs.Link as link
 use Rattle.t1_core.specs.Link.{UnderWay, nothing, to_card, to_terminal}
 use Rattle.card_words.specs.declared.session.Session.{Session}
 use Rattle.exchange_core.specs.Recording.{Recording, added, arrival_outcome, closed, outcome_of, recorded, untold, with_outcome, link_of, whole}
-use Rattle.exchange_core.specs.Text.{exchange_text, header_text, line_text, lines_text, octets_text}
+use Rattle.exchange_text.specs.Text.{exchange_text, header_text, line_text, lines_text, octets_text}
 use Rattle.exchange_core.specs.declared.event.EventFault.{EventFault}
 use Rattle.exchange_core.specs.declared.event.LastTurn.{LastTurn}
-use Rattle.exchange_core.specs.declared.exchange.Version.TheVariants.{One}
-use Rattle.exchange_core.specs.declared.line.Line.{Line}
-use Rattle.exchange_core.specs.declared.line.Line.TheVariants.{Command, Ifsd, Quiet, Reply, Time, Ifsc}
+use Rattle.exchange_text.specs.declared.exchange.Version.TheVariants.{One}
+use Rattle.exchange_text.specs.declared.line.Line.{Line}
+use Rattle.exchange_text.specs.declared.line.Line.TheVariants.{Command, Ifsd, Quiet, Reply, Time, Ifsc}
 use Rattle.t1_core.specs.Came.{damaged, invalid}
 use Rattle.simulator.specs.Simulation.{EndsAs, Next, Place, exchange_of, further, new_recording, next, onward, simulated, start}
 

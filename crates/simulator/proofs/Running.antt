@@ -10,8 +10,8 @@ use Rattle.exchange_core.specs.declared.event.LastTurn.{LastTurn}
 use Rattle.exchange_core.specs.declared.event.LastTurn.TheVariants.{Nothing, Terminal, Card}
 use Rattle.card_words.specs.declared.session.Pair.{Pair}
 use Rattle.card_words.specs.declared.session.Session.{Session}
-use Rattle.exchange_core.specs.declared.line.Line.{Line}
-use Rattle.exchange_core.specs.Exchange.{ExchangeParts}
+use Rattle.exchange_text.specs.declared.line.Line.{Line}
+use Rattle.exchange_text.specs.Exchange.{ExchangeParts}
 use Rattle.exchange_core.specs.Replay.{IsFound}
 use Rattle.simulator.specs.declared.fault.SimulationFault.{SimulationFault}
 use Rattle.simulator.specs.declared.fault.SimulationFault.TheVariants.{Refused, TooLarge, Memory as NoMemory}

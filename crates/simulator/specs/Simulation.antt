@@ -10,14 +10,14 @@ use Rattle.t1_core.specs.Terminal.{longest}
 use Rattle.t1_core.specs.Link as link
 use Rattle.t1_core.specs.declared.turns.TerminalTurn.TheVariants.{Send, Answered, IfsSet, GivenUp, Dead}
 use Rattle.t1_core.specs.declared.turns.CardTurn.TheVariants.{Send as Sends, Asked}
-use Rattle.exchange_core.specs.Exchange.{ExchangeParts}
+use Rattle.exchange_text.specs.Exchange.{ExchangeParts}
 use Rattle.exchange_core.specs.Recording.{Recording, closed, recorded}
 use Rattle.exchange_core.specs.Replay.{IsFound}
-use Rattle.exchange_core.specs.Text.{exchange_text}
+use Rattle.exchange_text.specs.Text.{exchange_text}
 use Rattle.exchange_core.specs.declared.event.EventFault.{EventFault}
 use Rattle.exchange_core.specs.declared.event.LastTurn.{LastTurn}
 use Rattle.exchange_core.specs.declared.event.LastTurn.TheVariants.{Nothing, Terminal, Card}
-use Rattle.exchange_core.specs.declared.exchange.Version.TheVariants.{One}
+use Rattle.exchange_text.specs.declared.exchange.Version.TheVariants.{One}
 use Rattle.simulator.specs.declared.fates.Fates.{Fates}
 use Rattle.simulator.specs.declared.fault.SimulationFault.{SimulationFault}
 use Rattle.simulator.specs.declared.fault.SimulationFault.TheVariants.{Refused, TooLarge, Memory}

@@ -1,6 +1,6 @@
 use Rattle.std.proofs.Common.{inl, inr}
 use Rattle.std.proofs.lemmas.Result.{err_from_is_err_and}
-use Rattle.card_words.specs.Words.{texts}
+use Rattle.command_line.specs.Form.{texts}
 use Rattle.card_tool.proofs.Answering.{refused-words}
 use Rattle.card_tool.proofs.Explaining.{explained-words}
 use Rattle.card_tool.proofs.explained.answered.Goals as goal

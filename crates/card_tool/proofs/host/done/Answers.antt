@@ -1,4 +1,4 @@
-use Rattle.card_words.specs.Words.{texts}
+use Rattle.command_line.specs.Form.{texts}
 use Rattle.card_tool.specs.Hosts.{faults, runs}
 use Rattle.card_tool.proofs.host.done.Goals as goal
 

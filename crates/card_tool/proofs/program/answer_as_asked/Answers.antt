@@ -1,6 +1,6 @@
 use Rattle.std.proofs.Common.{◌∙◌, inl, inr, sym}
 use Rattle.std.proofs.lemmas.Result.{err_from_is_err_and}
-use Rattle.card_words.specs.Words.{texts}
+use Rattle.command_line.specs.Form.{texts}
 use Rattle.card_tool.proofs.Answering.{answered-words, refused-words}
 use Rattle.card_tool.proofs.Explaining.{asked, unasked, unasked-fault}
 use Rattle.card_tool.proofs.program.answer_as_asked.Goals as goal

@@ -1,5 +1,5 @@
 use Rattle.std.proofs.Common.{◌∙◌, ap, sym}
-use Rattle.card_words.specs.Words.{texts}
+use Rattle.command_line.specs.Form.{texts}
 use Rattle.card_tool.proofs.Asking.{lines-asked, no-lines, no-words, read_as, request-read, same-task}
 use Rattle.card_tool.proofs.program.run.Goals as goal
 

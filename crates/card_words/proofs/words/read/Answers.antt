@@ -1,6 +1,6 @@
 use Rattle.std.proofs.Common.{sym, ◌∙◌}
 use Rattle.clap.specs.Values.{kind_of}
-use Rattle.card_words.specs.Words.{texts}
+use Rattle.command_line.specs.Form.{texts}
 use Rattle.clap.specs.Words.{subcommand_rows_of}
 use Rattle.card_words.proofs.Reading.{help-or-fault}
 use Rattle.card_words.proofs.Requests.{asked-octets}

@@ -1,7 +1,7 @@
 use Rattle.std.proofs.Common.{◌≡◌, ◌∷◌, [], ◌++◌, List, sym, ap, subst, ◌∙◌, rules, Ok, Err}
 use Rattle.t1_core.specs.Link.{tables, happens}
 use Rattle.exchange_core.specs.Recording.{Recording, recorded, link_of, IfNotMemory, MayCall, call_event}
-use Rattle.exchange_core.specs.declared.line.Line.{Line}
+use Rattle.exchange_text.specs.declared.line.Line.{Line}
 use Rattle.exchange_core.specs.declared.event.LastTurn.TheVariants.{Terminal}
 use Rattle.exchange_core.proofs.Acting.{leaves, called-acts, call-refused}
 use Rattle.exchange_core.proofs.recording.Recorder.calls_terminal.Goals as goal

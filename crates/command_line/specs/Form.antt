@@ -1,0 +1,109 @@
+-- The form of the words that the program takes, as clap has it; each value has a name in help.
+use Rattle.std.specs.Prelude.{ℕ, pos, List, codes, Some, true, map, String, string_bytes}
+use Rattle.std.specs.declared.alloc.Global.{Global}
+use Rattle.clap.specs.Words.{App, Rule, new_app, new_rule, with_rule, with_subcommand}
+use Rattle.clap.specs.declared.builder.value_parser.ValueParser.TheVariants as parser
+use Rattle.clap.specs.declared.builder.action.ArgAction.TheVariants.{Append, SetTrue}
+
+-- an option without a value
+abbrev pub flag_rule : List ℕ → Rule
+flag_rule name = record (new_rule name) { long = Some name; action = Some SetTrue }
+
+-- the option that asks for an explanation, which every subcommand has
+abbrev pub explain_rule : Rule
+explain_rule = flag_rule (codes "explain")
+
+abbrev pub begun_app : List ℕ → App
+begun_app name = with_rule (new_app name) explain_rule
+
+-- a word that has to be there
+abbrev pub required_rule : List ℕ → Rule
+required_rule name = record (new_rule name) { required = true; value_names = 1 }
+
+abbrev pub kind_rule : Rule
+kind_rule = required_rule (codes "kind")
+
+abbrev pub hex_rule : Rule
+hex_rule = record (new_rule (codes "hex")) { value_names = 1 }
+
+-- an option that takes any word
+abbrev pub option_rule : List ℕ → Rule
+option_rule name = record (new_rule name) { long = Some name; value_names = 1 }
+
+-- the form of octets on standard input
+abbrev pub stdin_rule : Rule
+stdin_rule = option_rule (codes "stdin")
+
+abbrev pub ifs_rule : Rule
+ifs_rule = record (new_rule (codes "ifs"))
+    { long = Some (codes "ifs"); value_names = 1; parser = Some (parser.Signed (pos 1) (pos 254)) }
+
+abbrev pub number_rule : Rule
+number_rule = record (new_rule (codes "number"))
+    { long = Some (codes "number"); value_names = 1; parser = Some (parser.Signed (pos 0) (pos 1)) }
+
+-- a subcommand that takes what octets are taken for: a kind, an information size and a first number
+abbrev pub expected_app : List ℕ → App
+expected_app name = with_rule (with_rule (with_rule (begun_app name) kind_rule) ifs_rule) number_rule
+
+-- the same with the octets
+abbrev pub input_app : List ℕ → App
+input_app name = with_rule (with_rule (expected_app name) hex_rule) stdin_rule
+
+-- the subcommand that shows a value, with notes where an option asks for them
+abbrev pub notes_rule : Rule
+notes_rule = flag_rule (codes "notes")
+
+abbrev pub show_app : App
+show_app = with_rule (input_app (codes "show")) notes_rule
+
+abbrev pub what_rule : Rule
+what_rule = required_rule (codes "what")
+
+abbrev pub words_rule : Rule
+words_rule = record (new_rule (codes "words")) { value_names = 1; action = Some Append }
+
+-- the subcommand that builds what a word says, of the words after it
+abbrev pub build_app : App
+build_app = with_rule (with_rule (with_rule (begun_app (codes "build")) what_rule) words_rule) stdin_rule
+
+abbrev pub end_rule : Rule
+end_rule = record (new_rule (codes "end")) { long = Some (codes "end"); value_names = 1; required = true }
+
+-- the subcommand that replays recorded exchanges at an end
+abbrev pub replay_app : App
+replay_app = with_rule (begun_app (codes "replay")) end_rule
+
+-- the subcommand that takes recorded exchanges into the newest version, which takes no words
+abbrev pub migrate_app : App
+migrate_app = begun_app (codes "migrate")
+
+abbrev pub atr_rule : Rule
+atr_rule = required_rule (codes "atr")
+
+abbrev pub pairs_rule : Rule
+pairs_rule = record (new_rule (codes "pairs")) { value_names = 1; action = Some Append }
+
+abbrev pub ifsd_rule : Rule
+ifsd_rule = record (new_rule (codes "ifsd"))
+    { long = Some (codes "ifsd"); value_names = 1; parser = Some (parser.Signed (pos 1) (pos 254)) }
+
+-- the subcommand that records a session of both ends, first with its words and the size that is asked for
+abbrev pub session_app : App
+session_app = with_rule (with_rule (with_rule (begun_app (codes "simulate")) atr_rule) pairs_rule) ifsd_rule
+
+abbrev pub simulate_app : App
+simulate_app = with_rule (with_rule (with_rule session_app (option_rule (codes "lose"))) (option_rule (codes "damage")))
+    (option_rule (codes "spoil"))
+
+-- the program as a command, first with what it says of octets
+abbrev pub octets_app : App
+octets_app = with_subcommand (with_subcommand
+    (with_subcommand (new_app (codes "scard")) (input_app (codes "check")).top) show_app.top)
+    build_app.top
+
+unfoldable pub scard : App
+scard = with_subcommand (with_subcommand (with_subcommand octets_app replay_app.top) migrate_app.top) simulate_app.top
+
+abbrev pub texts : List (String Global) → List (List ℕ)
+texts words = map string_bytes words

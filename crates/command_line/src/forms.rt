@@ -1,0 +1,321 @@
+//! The form of the words, as a command of `clap`.
+
+ghost use Rattle.std.specs.Prelude.{◌≡◌, IfOk, false};
+ghost use Rattle.clap.specs.Words.{app_of, rule_of};
+ghost use Rattle.clap.specs.declared.builder.command.Command.TheViews.{out-Command};
+ghost use Rattle.command_line.specs.Form.{atr_rule, begun_app, build_app, end_rule, expected_app, explain_rule, flag_rule, hex_rule, ifs_rule, ifsd_rule, input_app, kind_rule, migrate_app, notes_rule, number_rule, octets_app, option_rule, pairs_rule, replay_app, required_rule, scard, session_app, show_app, simulate_app, stdin_rule, what_rule, words_rule};
+
+use crate::help::{BUILD, CHECK, MIGRATE, PROGRAM, Page, REPLAY, SHOW, SIMULATE, with_page};
+use clap::{Arg, ArgAction, Command, value_parser};
+use std::alloc::{AllocError, Global};
+
+/// The program as a command of `clap`.
+pub(crate) fn program<'a>(alloc: Global) -> Result<Command<'a>, AllocError>
+    ensures { IfOk result (λ command. app_of command ≡ scard) }
+{
+    let replay = replay_command(alloc)?;
+    let migrate = migrate_command(alloc)?;
+    let simulate = simulate_command(alloc)?;
+    octets_command(alloc)?
+        .subcommand(replay)?
+        .subcommand(migrate)?
+        .subcommand(simulate)
+}
+
+/// The program's command with the subcommands on octets.
+fn octets_command<'a>(alloc: Global) -> Result<Command<'a>, AllocError>
+    ensures { IfOk result (λ command. app_of command ≡ octets_app) }
+{
+    let check = input_command(alloc, "check", &CHECK)?;
+    let show = show_command(alloc)?;
+    let build = build_command(alloc)?;
+    with_page(Command::new(alloc, "scard"), &PROGRAM)
+        .subcommand(check)?
+        .subcommand(show)?
+        .subcommand(build)
+}
+
+/// The subcommand that shows a value.
+fn show_command<'a>(alloc: Global) -> Result<Command<'a>, AllocError>
+    ensures app { IfOk result (λ command. app_of command ≡ show_app) }
+    ensures local { IfOk result (λ command. (out-Command command).has_globals ≡ false) }
+{
+    input_command(alloc, "show", &SHOW)?.arg(notes_arg(alloc))
+}
+
+fn notes_arg<'a>(alloc: Global) -> Arg<'a>
+    ensures rule { rule_of result ≡ notes_rule }
+    ensures local { result.global ≡ false }
+{
+    flag_arg(
+        alloc,
+        "notes",
+        "Say after the lines of the value, behind a number sign, what they mean",
+    )
+}
+
+/// A subcommand that takes octets, and what they are taken for.
+fn input_command<'a>(
+    alloc: Global,
+    name: &'a str,
+    page: &Page<'a>,
+) -> Result<Command<'a>, AllocError>
+    ensures app { IfOk result (λ command. app_of command ≡ input_app name.now) }
+    ensures local { IfOk result (λ command. (out-Command command).has_globals ≡ false) }
+{
+    expected_command(alloc, name, page)?
+        .arg(hex_arg(alloc))?
+        .arg(stdin_arg(alloc))
+}
+
+/// The same without the octets: a kind, an information size and a first number.
+fn expected_command<'a>(
+    alloc: Global,
+    name: &'a str,
+    page: &Page<'a>,
+) -> Result<Command<'a>, AllocError>
+    ensures app { IfOk result (λ command. app_of command ≡ expected_app name.now) }
+    ensures local { IfOk result (λ command. (out-Command command).has_globals ≡ false) }
+{
+    begun_command(alloc, name, page)?
+        .arg(kind_arg(alloc))?
+        .arg(ifs_arg(alloc))?
+        .arg(number_arg(alloc))
+}
+
+/// A subcommand with what all of them have: the option that asks for an explanation.
+fn begun_command<'a>(
+    alloc: Global,
+    name: &'a str,
+    page: &Page<'a>,
+) -> Result<Command<'a>, AllocError>
+    ensures app { IfOk result (λ command. app_of command ≡ begun_app name.now) }
+    ensures local { IfOk result (λ command. (out-Command command).has_globals ≡ false) }
+{
+    with_page(Command::new(alloc, name), page).arg(explain_arg(alloc))
+}
+
+fn explain_arg<'a>(alloc: Global) -> Arg<'a>
+    ensures rule { rule_of result ≡ explain_rule }
+    ensures local { result.global ≡ false }
+{
+    flag_arg(
+        alloc,
+        "explain",
+        "Say after the line of a fault or a refusal what is wrong, and where",
+    )
+}
+
+/// An option without a value.
+fn flag_arg<'a>(alloc: Global, name: &'a str, help: &'a str) -> Arg<'a>
+    ensures rule { rule_of result ≡ flag_rule name.now }
+    ensures local { result.global ≡ false }
+{
+    Arg::new(alloc, name)
+        .long(name)
+        .action(ArgAction::SetTrue)
+        .help(help)
+}
+
+/// The subcommand that builds what a word says.
+fn build_command<'a>(alloc: Global) -> Result<Command<'a>, AllocError>
+    ensures app { IfOk result (λ command. app_of command ≡ build_app) }
+    ensures local { IfOk result (λ command. (out-Command command).has_globals ≡ false) }
+{
+    begun_command(alloc, "build", &BUILD)?
+        .arg(what_arg(alloc))?
+        .arg(words_arg(alloc))?
+        .arg(stdin_arg(alloc))
+}
+
+/// The subcommand that replays recorded exchanges.
+fn replay_command<'a>(alloc: Global) -> Result<Command<'a>, AllocError>
+    ensures app { IfOk result (λ command. app_of command ≡ replay_app) }
+    ensures local { IfOk result (λ command. (out-Command command).has_globals ≡ false) }
+{
+    begun_command(alloc, "replay", &REPLAY)?.arg(end_arg(alloc))
+}
+
+/// The subcommand that takes recorded exchanges into the newest version.
+fn migrate_command<'a>(alloc: Global) -> Result<Command<'a>, AllocError>
+    ensures app { IfOk result (λ command. app_of command ≡ migrate_app) }
+    ensures local { IfOk result (λ command. (out-Command command).has_globals ≡ false) }
+{
+    begun_command(alloc, "migrate", &MIGRATE)
+}
+
+/// The subcommand that records a session of both ends.
+fn simulate_command<'a>(alloc: Global) -> Result<Command<'a>, AllocError>
+    ensures app { IfOk result (λ command. app_of command ≡ simulate_app) }
+    ensures local { IfOk result (λ command. (out-Command command).has_globals ≡ false) }
+{
+    session_command(alloc)?
+        .arg(list_arg(alloc, "lose", "The blocks that are lost, as 2,5"))?
+        .arg(list_arg(
+            alloc,
+            "damage",
+            "The blocks that arrive with their last octet changed",
+        ))?
+        .arg(list_arg(
+            alloc,
+            "spoil",
+            "The blocks that arrive with another node address",
+        ))
+}
+
+/// The same without the options that name blocks.
+fn session_command<'a>(alloc: Global) -> Result<Command<'a>, AllocError>
+    ensures app { IfOk result (λ command. app_of command ≡ session_app) }
+    ensures local { IfOk result (λ command. (out-Command command).has_globals ≡ false) }
+{
+    begun_command(alloc, "simulate", &SIMULATE)?
+        .arg(atr_arg(alloc))?
+        .arg(pairs_arg(alloc))?
+        .arg(ifsd_arg(alloc))
+}
+
+fn atr_arg<'a>(alloc: Global) -> Arg<'a>
+    ensures rule { rule_of result ≡ atr_rule }
+    ensures local { result.global ≡ false }
+{
+    required_arg(
+        alloc,
+        "atr",
+        "ATR",
+        "The card's answer to reset, in hexadecimal",
+    )
+}
+
+fn pairs_arg<'a>(alloc: Global) -> Arg<'a>
+    ensures rule { rule_of result ≡ pairs_rule }
+    ensures local { result.global ≡ false }
+{
+    Arg::new(alloc, "pairs")
+        .action(ArgAction::Append)
+        .value_name("COMMAND:REPLY")
+        .help("Commands and the replies to them, in hexadecimal or none")
+}
+
+fn ifsd_arg<'a>(alloc: Global) -> Arg<'a>
+    ensures rule { rule_of result ≡ ifsd_rule }
+    ensures local { result.global ≡ false }
+{
+    Arg::new(alloc, "ifsd")
+        .long("ifsd")
+        .value_parser(value_parser!(u8).range(1..=254))
+        .value_name("N")
+        .help("The information size that the terminal asks for first, 1 to 254")
+}
+
+/// An option that takes a list of blocks.
+fn list_arg<'a>(alloc: Global, name: &'a str, help: &'a str) -> Arg<'a>
+    ensures rule { rule_of result ≡ option_rule name.now }
+    ensures local { result.global ≡ false }
+{
+    option_arg(alloc, name, "LIST", help)
+}
+
+/// A word that has to be there, which help calls `value`.
+fn required_arg<'a>(alloc: Global, name: &'a str, value: &'a str, help: &'a str) -> Arg<'a>
+    ensures rule { rule_of result ≡ required_rule name.now }
+    ensures local { result.global ≡ false }
+{
+    Arg::new(alloc, name)
+        .required(true)
+        .value_name(value)
+        .help(help)
+}
+
+/// An option that takes any word, which help calls `value`.
+fn option_arg<'a>(alloc: Global, name: &'a str, value: &'a str, help: &'a str) -> Arg<'a>
+    ensures rule { rule_of result ≡ option_rule name.now }
+    ensures local { result.global ≡ false }
+{
+    Arg::new(alloc, name)
+        .long(name)
+        .value_name(value)
+        .help(help)
+}
+
+fn end_arg<'a>(alloc: Global) -> Arg<'a>
+    ensures rule { rule_of result ≡ end_rule }
+    ensures local { result.global ≡ false }
+{
+    Arg::new(alloc, "end")
+        .long("end")
+        .required(true)
+        .value_name("END")
+        .help("The end that is replayed: terminal or card")
+}
+
+fn what_arg<'a>(alloc: Global) -> Arg<'a>
+    ensures rule { rule_of result ≡ what_rule }
+    ensures local { result.global ≡ false }
+{
+    required_arg(alloc, "what", "WHAT", "What is built: chain, tidy or fill")
+}
+
+fn words_arg<'a>(alloc: Global) -> Arg<'a>
+    ensures rule { rule_of result ≡ words_rule }
+    ensures local { result.global ≡ false }
+{
+    Arg::new(alloc, "words")
+        .action(ArgAction::Append)
+        .value_name("WORD")
+        .help("The words that it is built of")
+}
+
+fn number_arg<'a>(alloc: Global) -> Arg<'a>
+    ensures rule { rule_of result ≡ number_rule }
+    ensures local { result.global ≡ false }
+{
+    Arg::new(alloc, "number")
+        .long("number")
+        .value_parser(value_parser!(u8).range(0..=1))
+        .value_name("N")
+        .help("The number of the first block of a chain, 0 or 1 [default: 0]")
+}
+
+fn kind_arg<'a>(alloc: Global) -> Arg<'a>
+    ensures rule { rule_of result ≡ kind_rule }
+    ensures local { result.global ≡ false }
+{
+    required_arg(
+        alloc,
+        "kind",
+        "KIND",
+        "What the octets are taken for: atr, block, chain, command, response, tlv or dol",
+    )
+}
+
+fn hex_arg<'a>(alloc: Global) -> Arg<'a>
+    ensures rule { rule_of result ≡ hex_rule }
+    ensures local { result.global ≡ false }
+{
+    Arg::new(alloc, "hex").value_name("HEX").help(
+        "The octets, two hexadecimal digits each, or none where there are none",
+    )
+}
+
+fn stdin_arg<'a>(alloc: Global) -> Arg<'a>
+    ensures rule { rule_of result ≡ stdin_rule }
+    ensures local { result.global ≡ false }
+{
+    option_arg(
+        alloc,
+        "stdin",
+        "FORM",
+        "In place of HEX: read octets from standard input, as FORM says: hex, octets, dump, source, or for check and show lines",
+    )
+}
+
+fn ifs_arg<'a>(alloc: Global) -> Arg<'a>
+    ensures rule { rule_of result ≡ ifs_rule }
+    ensures local { result.global ≡ false }
+{
+    Arg::new(alloc, "ifs")
+        .long("ifs")
+        .value_parser(value_parser!(u8).range(1..=254))
+        .value_name("N")
+        .help("The information size, 1 to 254 [default: 254]")
+}

@@ -1,6 +1,0 @@
-use Rattle.std.proofs.Common.{sym}
-use Rattle.exchange_core.proofs.Notes.{note-text}
-use Rattle.exchange_core.proofs.saying.note.Goals as goal
-
-pub returns-in-Err : goal.returns-in-Err
-returns-in-Err c = absurd (c.in-Err.ensures.cases.0 (note-text c.args.text.now (sym (c.if-not-is_note.ensures))))

@@ -1,0 +1,12 @@
+pub mod Migrating
+pub mod Cutting
+pub mod Naming
+pub mod Notes
+pub mod Digits
+pub mod Sequel
+pub mod Sound
+pub mod WholeSound
+pub mod Spelled
+pub mod Complete
+pub mod Faulty
+pub mod Texts

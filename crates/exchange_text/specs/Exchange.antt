@@ -1,0 +1,89 @@
+-- An exchange as a value, and which lines one may have.
+use Rattle.std.specs.Prelude.{◌≡◌, ◌&&◌, ◌<◌, ℕ, nat_le, List, [], ◌∷◌, length, Bool, true, false}
+use Rattle.std.specs.List.{list_all}
+use Rattle.octet_core.specs.Octets.{AreOctets}
+use Rattle.exchange_text.specs.declared.exchange.Version.{Version}
+use Rattle.exchange_text.specs.declared.exchange.Version.TheVariants.{One, Two}
+use Rattle.exchange_text.specs.declared.line.Arrival.{Arrival}
+use Rattle.exchange_text.specs.declared.line.Arrival.TheVariants.{Whole, Lost, Changed}
+use Rattle.exchange_text.specs.declared.line.Line.{Line}
+use Rattle.exchange_text.specs.declared.line.Line.TheVariants.{Command, Ifsd, Quiet, Answer, IfsSet, GivenUp, Dead, Reply, Time, Ifsc, Asked, FromTerminal, FromCard, Moment, Note}
+
+-- the version of its text, the octets of the answer to reset, and the lines after it
+pub record ExchangeParts : Type 0 where
+  pub version : Version
+  pub atr : List ℕ
+  pub lines : List Line
+
+-- the characters of a note
+abbrev pub is_printable : ℕ → Bool
+is_printable c = nat_le 0x20 c && nat_le c 0x7E
+
+abbrev pub is_note : List ℕ → Bool
+is_note text = nat_le 1 (length text) && nat_le (length text) 200 && list_all is_printable text
+
+-- in microseconds
+abbrev pub latest_moment : ℕ
+latest_moment = 999999999999999
+
+-- whether a line may come in an exchange of this version after a moment
+abbrev pub may_follow : Version → ℕ → Line → Bool
+may_follow One least (Moment moment) = false
+may_follow Two least (Moment moment) = nat_le least moment && nat_le moment latest_moment
+may_follow One least (Note text) = false
+may_follow Two least (Note text) = is_note text
+may_follow version least line = true
+
+-- the moment to which a line brings an exchange
+abbrev pub moment_after : ℕ → Line → ℕ
+moment_after least (Moment moment) = moment
+moment_after least line = least
+
+-- whether these lines may come, one after another, after a moment
+abbrev pub are_proper : Version → ℕ → List Line → Bool
+are_proper version least [] = true
+are_proper version least (line ∷ lines) =
+    may_follow version least line && are_proper version (moment_after least line) lines
+
+-- what an exchange is by its text of version 2
+abbrev pub migrated : ExchangeParts → ExchangeParts
+migrated e = record { version = Two; atr = e.atr; lines = e.lines }
+
+-- what a line has for octets are octets
+abbrev pub ArriveAsOctets : Arrival → Type 0
+ArriveAsOctets Whole = Unit {0}
+ArriveAsOctets Lost = Unit {0}
+ArriveAsOctets (Changed octets) = AreOctets octets
+
+abbrev pub HasOctets : Line → Type 0
+HasOctets (Command octets) = AreOctets octets
+HasOctets (Ifsd size) = size < 256
+HasOctets Quiet = Unit {0}
+HasOctets (Answer octets) = AreOctets octets
+HasOctets IfsSet = Unit {0}
+HasOctets GivenUp = Unit {0}
+HasOctets Dead = Unit {0}
+HasOctets (Reply octets) = AreOctets octets
+HasOctets (Time multiple) = multiple < 256
+HasOctets (Ifsc size) = size < 256
+HasOctets (Asked octets) = AreOctets octets
+HasOctets (FromTerminal sent arrival) = AreOctets sent × ArriveAsOctets arrival
+HasOctets (FromCard sent arrival) = AreOctets sent × ArriveAsOctets arrival
+HasOctets (Moment moment) = Unit {0}
+HasOctets (Note text) = Unit {0}
+
+abbrev pub AllHaveOctets : List Line → Type 0
+AllHaveOctets [] = Unit {0}
+AllHaveOctets (line ∷ lines) = HasOctets line × AllHaveOctets lines
+
+-- what an exchange is, with octets where it has octets
+pub record IsExchange (e : ExchangeParts) : Type 0 where
+  pub proper : are_proper e.version 0 e.lines ≡ true
+  pub atr : AreOctets e.atr
+  pub octets : AllHaveOctets e.lines
+
+-- the octets that arrive of those that were sent, none of a lost block
+abbrev pub arrived : List ℕ → Arrival → List ℕ
+arrived sent Whole = sent
+arrived sent Lost = []
+arrived sent (Changed octets) = octets

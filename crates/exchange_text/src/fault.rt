@@ -1,0 +1,89 @@
+//! Why a text is no exchange.
+
+ghost use Rattle.std.specs.Prelude.{◌≡◌};
+ghost use Rattle.exchange_text.specs.Reading.{fault_at};
+
+use std::alloc::AllocError;
+use std::fmt::{self, Display, Formatter, Write};
+use thiserror::Error;
+
+/// Why a text is no exchange: the first fault in it. Lines are counted from 1.
+#[derive(Clone, Copy, Debug, PartialEq, Eq, Error)]
+pub enum ExchangeFault {
+    /// The text doesn't begin with the header of a version and a line feed.
+    Header,
+    /// The text ends before the line's line feed, or after line 1.
+    End { line: usize },
+    /// The line's first word is unknown, it has too few or too many words, or another one is none of the
+    /// grammar's; also a moment or a note that isn't one, or that version 1 doesn't have.
+    Word { line: usize },
+    /// The line has octets or an octet that aren't spelled in upper-case hexadecimal.
+    Hex { line: usize },
+    /// The line's moment is below an earlier one.
+    Falls { line: usize },
+    /// A growth of memory was refused.
+    Memory,
+}
+
+/// The name of the fault, with its line before it, as in `line 3: Word`.
+impl Display for ExchangeFault {
+    ghost use Rattle.std.specs.Prelude.{Some};
+    ghost use Rattle.exchange_text.specs.Faults.{exchange_fault_text};
+
+    ghost output = { λ fault. Some (exchange_fault_text fault) };
+
+    fn fmt<W: Write>(&self, f: &mut Formatter<W>) -> fmt::Result {
+        match self {
+            ExchangeFault::Header => f.write_str("Header"),
+            ExchangeFault::End { line } => write!(f, "line {line}: End"),
+            ExchangeFault::Word { line } => write!(f, "line {line}: Word"),
+            ExchangeFault::Hex { line } => write!(f, "line {line}: Hex"),
+            ExchangeFault::Falls { line } => write!(f, "line {line}: Falls"),
+            ExchangeFault::Memory => f.write_str("memory"),
+        }
+    }
+}
+
+impl From<AllocError> for ExchangeFault {
+    ghost use Rattle.exchange_text.specs.declared.fault.ExchangeFault.{ExchangeFault};
+
+    ghost from_gives = { λ _ fault. fault ≡ ExchangeFault.Memory };
+
+    fn from(_: AllocError) -> ExchangeFault {
+        ExchangeFault::Memory
+    }
+}
+
+/// What is wrong with one line.
+#[derive(Clone, Copy, Debug, PartialEq, Eq)]
+pub(crate) enum LineFault {
+    /// Its words.
+    Word,
+    /// Its octets.
+    Hex,
+    /// A growth of memory was refused.
+    Memory,
+}
+
+impl LineFault {
+    /// The same of the line with this number.
+    pub(crate) fn at(self, line: usize) -> ExchangeFault
+        ensures { result ≡ fault_at line self }
+    {
+        match self {
+            LineFault::Word => ExchangeFault::Word { line },
+            LineFault::Hex => ExchangeFault::Hex { line },
+            LineFault::Memory => ExchangeFault::Memory,
+        }
+    }
+}
+
+impl From<AllocError> for LineFault {
+    ghost use Rattle.exchange_text.specs.declared.fault.LineFault.{LineFault};
+
+    ghost from_gives = { λ _ fault. fault ≡ LineFault.Memory };
+
+    fn from(_: AllocError) -> LineFault {
+        LineFault::Memory
+    }
+}

@@ -1,0 +1,106 @@
+//! The lines of an exchange.
+
+ghost use Rattle.std.specs.Prelude.{◌≡◌};
+ghost use Rattle.exchange_text.specs.Exchange.{arrived};
+
+use octet_core::{Octets, Text};
+use std::marker::Model;
+
+/// What became of a block on its way.
+#[derive(Debug, PartialEq, Eq, Drop)]
+pub enum Arrival {
+    /// It arrived as it was sent.
+    Whole,
+    /// It didn't arrive.
+    Lost,
+    /// These octets arrived in its place.
+    Changed(Octets),
+}
+
+impl Arrival {
+    /// The octets that arrive of those that were sent, none of a lost block.
+    pub fn octets<'a>(&'a self, sent: &'a Octets) -> &'a [u8]
+        ensures { result.now ≡ arrived sent.now self.now }
+    {
+        match self {
+            Arrival::Whole => sent.get(),
+            Arrival::Lost => &[],
+            Arrival::Changed(octets) => octets.get(),
+        }
+    }
+}
+
+/// One line of an exchange.
+#[derive(Debug, PartialEq, Eq, Drop)]
+pub enum Line {
+    /// The application hands the terminal a command.
+    Command(Octets),
+    /// The application asks for information fields of up to so many octets from the card.
+    Ifsd(u8),
+    /// Nothing came to the terminal within its waiting time.
+    Quiet,
+    /// The terminal gives the application this answer.
+    Answer(Octets),
+    /// The card took the information size that the application asked for.
+    IfsSet,
+    /// The terminal gave up what was under way, after RESYNCH.
+    GivenUp,
+    /// The terminal found the card dead.
+    Dead,
+    /// The card's host gives this reply.
+    Reply(Octets),
+    /// The card's host asks for so many times the waiting time.
+    Time(u8),
+    /// The card's host asks for information fields of up to so many octets from the terminal.
+    Ifsc(u8),
+    /// The card gives its host this command.
+    Asked(Octets),
+    /// The terminal sends a block.
+    FromTerminal { sent: Octets, arrival: Arrival },
+    /// The card sends a block.
+    FromCard { sent: Octets, arrival: Arrival },
+    /// So many microseconds after the start; in version 2 alone.
+    Moment(u64),
+    /// A remark, 1 to 200 characters 20 to 7E; in version 2 alone.
+    Note(Text),
+}
+
+/// Lines in their order, which contracts see as a list.
+#[derive(Debug, Drop)]
+pub struct Lines {
+    held: Vec<Line>,
+}
+
+impl Model for Lines {
+    ghost use Rattle.std.specs.Prelude.{List};
+    ghost use Rattle.exchange_text.specs.declared.line.Line.{Line};
+
+    ghost Value = { List Line };
+
+    ghost view = { λ lines. lines.held.items };
+}
+
+impl Lines {
+    ghost use Rattle.std.specs.Prelude.{◌≡◌};
+
+    /// The lines of a vector.
+    pub fn of(held: Vec<Line>) -> Self
+        ensures { result ≡ held.items }
+    {
+        Lines { held }
+    }
+
+    /// The lines, lent.
+    pub fn get(&self) -> &[Line]
+        ensures { result.now ≡ self.now }
+    {
+        self.held.as_slice()
+    }
+
+    /// The vector back.
+    pub fn into_inner(self) -> Vec<Line>
+        ensures { result.items ≡ self }
+    {
+        self.held
+    }
+}
