@@ -180,6 +180,40 @@ static inline const char *scard_reason_name(int codec, int reason)
     return name.text;
 }
 
+/* ---- what octets say in words ---- */
+
+/* What one or two octets are, for scard_note_of: the first, and the second where there is one. */
+enum scard_noted {
+    SCARD_NOTED_STATUS = 1,      /* SW1 and SW2 of a response (ISO/IEC 7816-4:2005, clause 5.1.3) */
+    SCARD_NOTED_INSTRUCTION = 2, /* CLA and INS of a command (clause 5.1.2) */
+    SCARD_NOTED_CLASS = 3,       /* CLA of a command (clause 5.1.1) */
+    SCARD_NOTED_PCB = 4,         /* PCB, and the first octet of the field or 0 (ISO/IEC 7816-3, clause 11.3.2.2) */
+    SCARD_NOTED_NAD = 5,         /* NAD (clause 11.3.2.1) */
+    SCARD_NOTED_TD = 6,          /* the protocol that a TD indicates, 0 to 15 (clause 8.2.3) */
+    SCARD_NOTED_TA2 = 7,         /* TA2 (clause 8.3) */
+    SCARD_NOTED_TAG = 8          /* the first octet of a tag (ISO/IEC 7816-4:2005, clause 5.2.2.1) */
+};
+
+/* Words that the library has, with a number among them: `before`, then the number in decimal digits where has_number
+ * is 1, then `after`. No 0 is after either text. Where there is no number, both its fields are 0 and `after` is empty.
+ */
+struct scard_note {
+    const char *before;
+    size_t before_size;
+    const char *after;
+    size_t after_size;
+    uint32_t number;
+    uint8_t has_number;
+};
+
+/* Writes what they say: of status bytes "file or application not found", of a class "no secure messaging, channel " and
+ * a number. Both texts are empty where the standard has no words for these octets, or nothing has this number.
+ */
+void scard_note_of(uint8_t about, uint8_t first, uint8_t second, struct scard_note *out);
+
+/* Whether octets are shown as text beside their hexadecimal: 1 to 40 of them, all from 20 to 7E. */
+bool scard_is_text(const uint8_t *octets, size_t count);
+
 /* ---- octets ---- */
 
 /* The longitudinal redundancy check (ISO/IEC 7816-3, clause 11.3): the exclusive-or of all octets, 0 for none. */
@@ -864,7 +898,8 @@ enum scard_struct {
     SCARD_STRUCT_LENT_CHECK = 18,
     SCARD_STRUCT_LENT_RECEIVER = 19,
     SCARD_STRUCT_TEXT = 20,
-    SCARD_STRUCT_ENTRY = 21
+    SCARD_STRUCT_ENTRY = 21,
+    SCARD_STRUCT_NOTE = 22
 };
 
 /* How many octets a struct has in the library, to be compared with its sizeof; 0 for any other number. */

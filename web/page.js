@@ -4,9 +4,12 @@
 const SHOWN_VALUES = 200;
 const SHOWN_LINES = 5000;
 const WAIT = 150;
+// For how many milliseconds it answers at a time, before what is typed has its turn.
+const PIECE = 10;
 
 const WHERE = "This browser has no WebAssembly with a 64-bit memory (Memory64), which this page needs: Chromium has it"
   + " from version 133 on, Firefox from version 134 on.";
+const LABELS = { octets: "Octets in hexadecimal", exchange: "Text of a recorded exchange" };
 
 const part = (id) => document.getElementById(id);
 
@@ -28,8 +31,7 @@ function block(label, ...inside) {
 
 // Lines, no more than a page can take.
 function text(lines) {
-  const more = lines.length - SHOWN_LINES;
-  return lines.slice(0, SHOWN_LINES).join("\n") + (more > 0 ? `\n(and ${more} more lines)` : "");
+  return [...lines.slice(0, SHOWN_LINES), ...rest(lines.length, SHOWN_LINES)].join("\n");
 }
 
 // The octets around the place where they are refused, with a mark that needs no colour.
@@ -44,7 +46,7 @@ function shown(answer) {
   const found = [];
   if (answer.sentence) found.push(made("p", answer.sentence));
   if (answer.is === "refused") found.push(marked(answer));
-  if (answer.is === "ok" && answer.lines) found.push(block("The value", text(answer.lines)));
+  if (answer.is === "ok" && answer.lines) found.push(block("The value", answer.lines.join("\n")));
   if (answer.is === "ok" && answer.left) found.push(made("p", `octets left after it: ${answer.left}`));
   return found;
 }
@@ -63,35 +65,63 @@ function verdictOf(answer) {
 }
 
 // What is said first of several values.
-function summary(answers) {
-  const accepted = answers.filter((it) => it.is === "ok").length;
-  const more = answers.length - SHOWN_VALUES;
+function summary(accepted, count) {
+  const more = count - SHOWN_VALUES;
   const rest = more > 0 ? `; of the last ${more} only this is said` : "";
-  return `${accepted} of ${answers.length} lines are accepted${rest}`;
+  return `${accepted} of ${count} lines are accepted${rest}`;
+}
+
+// An end: its verdict, and where it does otherwise why.
+function endOf({ name, verdict }) {
+  const why = verdict.notes.length ? [block(`Why the ${name} differs`, text(verdict.notes))] : [];
+  return made("article", made("h3", `${name}: `, verdictOf(verdict)), ...why);
 }
 
 // What is given in the form. It asks for what its kind has use for, and no more.
 function given() {
   const kind = part("kind").value;
+  const isExchange = kind === "exchange";
   part("first-part").hidden = kind !== "chain";
   part("ifs-part").hidden = kind !== "chain" && kind !== "block";
+  part("octets-part").hidden = isExchange;
+  part("text-label").textContent = isExchange ? LABELS.exchange : LABELS.octets;
+  part("text-note").hidden = isExchange;
+  part("exchange-note").hidden = !isExchange;
+  part("text").setAttribute("aria-describedby", isExchange ? "exchange-note" : "text-note");
   const ifs = part("ifs-part").hidden ? 254 : part("ifs").valueAsNumber;
   const first = part("first-part").hidden ? 0 : Number(part("first").value);
-  return { kind, text: part("text").value, ifs, first, each: part("each").checked };
+  const [each, notes] = ["each", "notes"].map((id) => !isExchange && part(id).checked);
+  return { kind, text: part("text").value, ifs, first, each, notes };
 }
 
-// Shows what there is to say of what is given.
-function answer(scard) {
-  const { kind, text, ifs, first, each } = given();
+// Shows what there is to say of what is given, in pieces.
+function* answered(scard) {
+  const { kind, text, ifs, first, each, notes } = given();
   part("shared").textContent = "";
   if (!(Number.isInteger(ifs) && ifs >= 1 && ifs <= 254)) return show("no", "The information size is 1 to 254.");
-  if (each) {
-    const answers = scard.answers(kind, text, ifs, first);
-    const articles = answers.slice(0, SHOWN_VALUES).map((it, at) => article(it, at + 1));
-    return show("", summary(answers), ...articles);
-  }
-  const one = scard.answer(kind, text, ifs, first);
+  if (kind === "exchange") return replayed(yield* scard.replay(text));
+  if (each) return yield* severally(scard.answers(kind, text, ifs, first, notes));
+  const one = yield* scard.answering(kind, text, ifs, first, notes, SHOWN_LINES);
   return show(one.is === "ok" ? "yes" : "no", one.check, ...shown(one));
+}
+
+function* severally(answers) {
+  let [accepted, count] = [0, 0];
+  const articles = [];
+  for (const answer of answers) {
+    accepted += answer.is === "ok" ? 1 : 0;
+    if (++count <= SHOWN_VALUES) articles.push(article(answer, count));
+    yield;
+  }
+  show("", summary(accepted, count), ...articles);
+}
+
+function replayed({ is, check, notes, replay }) {
+  if (is === "fault") return show("no", check, block("The line that is wrong", text(notes)));
+  const { ends, steps } = replay;
+  const isSame = ends.every((end) => end.verdict.is === "ok");
+  const said = ends.map(({ name, verdict }) => `${name}: ${verdict.check}`).join("; ");
+  return show(isSame ? "yes" : "no", said, ...ends.map(endOf), block("The exchange, step by step", text(steps)));
 }
 
 // Shows a line, and what is below it.
@@ -101,13 +131,36 @@ function show(kind, line, ...below) {
   part("out").replaceChildren(...below);
 }
 
+// Answers in pieces, until all is said or something else is asked.
+class Answering {
+  begin(pieces) {
+    clearTimeout(this.waiting);
+    this.pieces = pieces;
+    this.go();
+  }
+
+  go() {
+    const end = performance.now() + PIECE;
+    let done = false;
+    while (!done && performance.now() < end) ({ done } = this.pieces.next());
+    if (!done) this.waiting = setTimeout(() => this.go());
+  }
+
+  // Leaves what is under way, and begins where nothing else comes for a while.
+  later(pieces) {
+    clearTimeout(this.waiting);
+    this.waiting = setTimeout(() => this.begin(pieces), WAIT);
+  }
+}
+
 // Puts what is given into the form.
-function fill({ kind, text, ifs, first, each }) {
-  if (KINDS.includes(kind)) part("kind").value = kind;
+function fill({ kind, text, ifs, first, each, notes }) {
+  if ([...KINDS, "exchange"].includes(kind)) part("kind").value = kind;
   if (text !== undefined && text !== null) part("text").value = text;
   part("ifs").value = ifs || "254";
   part("first").value = first === "1" ? "1" : "0";
   part("each").checked = each === "1";
+  part("notes").checked = notes !== "0";
 }
 
 // Puts what the address has into the form, if anything.
@@ -118,36 +171,33 @@ function fromAddress() {
 
 // Puts what is given into the address. Only a button calls it: octets may be secret, and a browser keeps addresses.
 function share() {
-  const { kind, text, ifs, first, each } = given();
+  const { kind, text, ifs, first, each, notes } = given();
   const address = new URLSearchParams({ kind, text, ...(ifs !== 254 && { ifs }), ...(first && { first }),
-    ...(each && { each: "1" }) });
+    ...(each && { each: "1" }), ...(!notes && kind !== "exchange" && { notes: "0" }) });
   history.replaceState(null, "", `#${address}`);
   part("shared").textContent = "The address of this page has the octets now.";
 }
 
 // Begins to answer, each time that something else is given.
 function start(scard) {
-  let waiting;
-  const later = () => {
-    clearTimeout(waiting);
-    waiting = setTimeout(() => answer(scard), WAIT);
-  };
-  part("form").addEventListener("input", later);
+  const answering = new Answering();
+  const now = () => answering.begin(answered(scard));
+  part("form").addEventListener("input", () => answering.later(answered(scard)));
   part("form").addEventListener("submit", (event) => event.preventDefault());
   part("share").addEventListener("click", share);
   part("examples").addEventListener("click", (event) => {
     const button = event.target.closest("button");
     if (!button) return;
     fill(button.dataset);
-    answer(scard);
+    now();
   });
   addEventListener("hashchange", () => {
     fromAddress();
-    answer(scard);
+    now();
   });
   fill(part("examples").querySelector("button").dataset);
   fromAddress();
-  answer(scard);
+  now();
 }
 
 const octets = Uint8Array.from(atob(part("module").textContent.trim()), (character) => character.charCodeAt(0));

@@ -13,7 +13,11 @@ const [OK, SHORT, AT, MORE] = [0, 1, 2, 6];
 const CODECS = { atr: 1, block: 2, chain: 3, command: 4, response: 5, tlv: 6, dol: 7 };
 const KINDS = Object.keys(CODECS);
 // The structs of the header that are read here, by their numbers, with the sizes that this page reckons with.
-const SIZES = { 1: 16, 4: 243, 5: 3, 6: 4, 7: 4, 8: 32, 9: 16, 11: 4, 12: 24, 19: 32, 20: 16, 21: 5 };
+const SIZES = { 1: 16, 4: 243, 5: 3, 6: 4, 7: 4, 8: 32, 9: 16, 10: 16, 11: 4, 12: 24, 15: 56, 16: 64, 19: 32, 20: 16,
+  21: 5, 22: 40 };
+
+// What one or two octets are, as the header numbers it for scard_note_of.
+const NOTED = { status: 1, instruction: 2, class: 3, pcb: 4, nad: 5, td: 6, ta2: 7, tag: 8 };
 
 const SUBJECTS = ["RESYNCH", "IFS", "ABORT", "WTX"];
 const SHAPES = ["", "case 1", "case 2 short", "case 3 short", "case 4 short", "case 2 extended", "case 3 extended",
@@ -67,15 +71,38 @@ const SENTENCES = {
 };
 
 const PAIRS = Array.from({ length: 256 }, (_, octet) => octet.toString(16).toUpperCase().padStart(2, "0"));
+// The value of a digit by its code.
+const DIGITS = Uint8Array.from({ length: 128 }, (_, code) => parseInt(String.fromCharCode(code), 16) || 0);
 
 // Octets as upper-case hexadecimal.
 function hexOf(octets) {
-  return Array.from(octets, (octet) => PAIRS[octet]).join("");
+  let text = "";
+  for (let i = 0; i < octets.length; i++) text += PAIRS[octets[i]];
+  return text;
 }
 
 // The same, or that there are none.
 function wordOf(octets) {
   return octets.length ? hexOf(octets) : "none";
+}
+
+// So many octets, in words.
+function counted(count) {
+  return count === 1 ? "1 octet" : `${count} octets`;
+}
+
+// The same where there are some, and else nothing.
+function someCounted(count) {
+  return count ? counted(count) : "";
+}
+
+// A line without its note, and with it, if it has one: what a kind's lines are made by.
+function plain(line) {
+  return line;
+}
+function annotated(line, note) {
+  const words = note ? note() : "";
+  return words ? `${line}  # ${words}` : line;
 }
 
 // The octets of a text, as the program's `--stdin hex` has them: two digits each, in groups that blanks part, each
@@ -87,7 +114,9 @@ function octetsOf(text) {
   if (groups.some((group) => group.length % 2 || !/^[0-9A-Fa-f]*$/.test(group))) return null;
   const digits = groups.join("");
   const octets = new Uint8Array(digits.length / 2);
-  for (let i = 0; i < octets.length; i++) octets[i] = parseInt(digits.slice(2 * i, 2 * i + 2), 16);
+  for (let i = 0; i < octets.length; i++) {
+    octets[i] = DIGITS[digits.charCodeAt(2 * i)] * 16 + DIGITS[digits.charCodeAt(2 * i + 1)];
+  }
   return octets;
 }
 
@@ -129,18 +158,26 @@ class Memory {
   }
 
   view() {
-    return new DataView(this.memory.buffer);
+    if (this.seen?.buffer !== this.memory.buffer) this.seen = new DataView(this.memory.buffer);
+    return this.seen;
   }
 
+  // A size or a place, whose upper half is 0 in a memory of less than 4 GiB.
   number(place) {
-    return Number(this.view().getBigUint64(place, true));
+    return this.view().getUint32(place, true);
+  }
+
+  // The text to which a pointer and a length at this place lead.
+  text(at) {
+    return String.fromCharCode(...this.at(this.number(at), this.number(at + 8)));
   }
 }
 
-// The calls of the module: `told` says what there is to say of octets.
+// The calls of the module: `answering` has what there is to say of octets, `replay` of a recorded exchange.
 class Scard {
   constructor(instance) {
     this.calls = instance.exports;
+    this.notes = new Map();
     this.memory = new Memory(this.calls);
     for (const [number, size] of Object.entries(SIZES)) {
       const own = this.calls.scard_struct_size(Number(number));
@@ -156,79 +193,134 @@ class Scard {
     return { status, reason, place: memory.number(memory.verdict + 8) };
   }
 
-  // The name of a reason.
-  reason(kind, reason) {
+  // The name that a call gives, which a 0 ends.
+  name(call, ...given) {
+    this.calls[call](...given, BigInt(this.memory.other));
+    return this.memory.text(this.memory.other).slice(0, -1);
+  }
+
+  // What one or two octets say in words. It is kept, since a value asks for the same words again and again.
+  note(about, first, second = 0) {
+    const key = (NOTED[about] << 16) | (first << 8) | second;
+    if (!this.notes.has(key)) this.notes.set(key, this.noted(NOTED[about], first, second));
+    return this.notes.get(key);
+  }
+
+  noted(about, first, second) {
     const { memory } = this;
-    this.calls.scard_reason_text(CODECS[kind], reason, BigInt(memory.other));
-    const [place, count] = [memory.number(memory.other), memory.number(memory.other + 8)];
-    return String.fromCharCode(...memory.at(place, count - 1));
+    const at = memory.other;
+    this.calls.scard_note_of(about, first, second, BigInt(at));
+    const number = memory.at(at + 36, 1)[0] ? memory.number(at + 32) : "";
+    return memory.text(at) + number + memory.text(at + 16);
+  }
+
+  // Octets in the module's memory between quotation marks, where they are shown as text too.
+  quoted(at, count) {
+    const isText = this.calls.scard_is_text(BigInt(at), BigInt(count));
+    return isText ? `"${String.fromCharCode(...this.memory.at(at, count))}"` : "";
   }
 
   // What there is to say of octets of a kind. `check` is the line of the program's `check`, `lines` are those of its
-  // `show`, and `left` is how many octets come after the value. Of what is refused `place` is where, and `sentence` is
-  // what is expected there.
-  told(kind, octets, ifs = 254, first = 0) {
+  // `show`, the first `most` of them, and `left` is how many octets come after the value. Of what is refused `place` is
+  // where, and `sentence` is what is expected there. It stops after each line.
+  *telling(kind, octets, ifs = 254, first = 0, notes = false, most = Infinity) {
     const { verdict, lines } = this[kind](octets, ifs, first);
     const { status, reason, place } = verdict;
     if (status === OK) {
-      return { is: "ok", check: `ok ${place} octets`, lines: lines(), left: octets.length - place };
+      const shown = [];
+      for (const line of lines(notes ? annotated : plain, most)) {
+        shown.push(line);
+        yield;
+      }
+      return { is: "ok", check: `ok ${place} octets`, lines: shown, left: octets.length - place };
     }
     if (status === SHORT) {
       const check = `short at ${place}`;
       return { is: "short", check, lines: [check], place, sentence: `octets there: ${octets.length}; more must come` };
     }
     if (status !== AT) throw new Error(`status ${status}`);
-    const name = this.reason(kind, reason);
+    const name = this.name("scard_reason_text", CODECS[kind], reason);
     const check = `refused at ${place}: ${name}`;
     const sentence = `octet ${place} is ${PAIRS[octets[place]]}: ${SENTENCES[kind][name]}`;
     return { is: "refused", check, lines: [check], place, sentence };
   }
 
   // The same of a text in hexadecimal, with its octets, or that it is none.
-  answer(kind, text, ifs, first) {
+  *answering(kind, text, ...more) {
     if (text.length > LONGEST_TEXT) return { is: "fault", check: "fault: TooLarge", sentence: TOO_LARGE };
     const octets = octetsOf(text);
     if (!octets) return { is: "fault", check: "fault: hex", sentence: FORM };
-    return { octets, ...this.told(kind, octets, ifs, first) };
+    return { octets, ...(yield* this.telling(kind, octets, ...more)) };
   }
 
-  // The answers to the lines of a text, each by itself.
-  answers(kind, text, ifs, first) {
+  // What there is to say of the text of a recorded exchange: its replay at both ends, or its first fault. It stops
+  // after each line.
+  *replay(text) {
+    if (text.length > LONGEST_TEXT) return { is: "fault", check: "fault: TooLarge", notes: [TOO_LARGE] };
+    try {
+      const replay = new Replay(this, text, yield* exchangeOf(text));
+      yield* replay.run();
+      return { is: "replay", replay };
+    } catch (fault) {
+      if (!(fault instanceof Fault)) throw fault;
+      return faultOf(text, fault);
+    }
+  }
+
+  // The answers to the lines of a text, each by itself, one after another.
+  *answers(kind, text, ...more) {
     const lines = text.split("\n");
     if (lines.at(-1) === "") lines.pop();
-    return lines.map((line) => this.answer(kind, line, ifs, first));
+    for (const line of lines) yield finished(this.answering(kind, line, ...more));
   }
 
   atr(octets) {
     const verdict = this.verdict("scard_atr_decode", ...this.memory.lend(octets), BigInt(this.memory.value));
-    return { verdict, lines: () => this.atrLines() };
+    return { verdict, lines: (say) => this.atrLines(say) };
   }
 
   // The lines of the answer to reset that was decoded last.
-  atrLines() {
+  atrLines(say) {
     const { memory, calls } = this;
     const atr = memory.at(memory.value, 243);
-    const lines = [`convention ${atr[0] ? "inverse" : "direct"}`];
+    const lines = [say(`convention ${atr[0] ? "inverse" : "direct"}`)];
     const bytes = (at, number) => ["TA", "TB", "TC"].forEach((name, i) => {
-      if (atr[at + 2 * i]) lines.push(`${name}${number} ${PAIRS[atr[at + 2 * i + 1]]}`);
+      const [isThere, octet] = atr.subarray(at + 2 * i, at + 2 * i + 2);
+      const note = name === "TA" && number === 2 ? () => this.note("ta2", octet) : null;
+      if (isThere) lines.push(say(`${name}${number} ${PAIRS[octet]}`, note));
     });
     bytes(1, 1);
     for (let i = 0; i < atr[7]; i++) {
       const at = 8 + 7 * i;
       const next = i + 1 < atr[7] ? 0x80 : 0;
       const td = atr[at] | (atr[at + 1] ? 0x10 : 0) | (atr[at + 3] ? 0x20 : 0) | (atr[at + 5] ? 0x40 : 0) | next;
-      lines.push(`TD${i + 1} ${PAIRS[td]}`);
+      lines.push(say(`TD${i + 1} ${PAIRS[td]}`, () => this.note("td", atr[at])));
       bytes(at + 1, i + 2);
     }
-    lines.push(`historical ${wordOf(atr.subarray(226, 226 + atr[225]))}`);
-    lines.push(`tck ${atr[241] ? PAIRS[atr[242]] : "absent"}`);
+    const historical = [memory.value + 226, atr[225]];
+    lines.push(say(`historical ${wordOf(memory.at(...historical))}`, () => this.quoted(...historical)));
+    lines.push(atr[241] ? say(`tck ${PAIRS[atr[242]]}`, () => "exclusive-or of T0 to here is 00") : say("tck absent"));
     calls.scard_atr_rates(BigInt(memory.value), BigInt(memory.other));
     const rate = (at) => memory.view().getUint16(at, true) || "reserved";
-    lines.push(`F ${rate(memory.other)}`, `D ${rate(memory.other + 2)}`);
+    lines.push(say(`F ${rate(memory.other)}`), say(`D ${rate(memory.other + 2)}`));
+    const { refused, ifsc, bwi, cwi } = this.t1();
+    const params = `ifsc ${ifsc} bwi ${bwi} cwi ${cwi}`;
+    lines.push(say(`t1 ${refused ?? params}`, () => (refused ? "" : "redundancy code LRC")));
+    return lines;
+  }
+
+  // The parameters of T=1 of the answer to reset that was decoded last, or the name of what is wrong.
+  t1() {
+    const { memory, calls } = this;
     const refused = calls.scard_atr_t1_params(BigInt(memory.value), BigInt(memory.other));
     const [ifsc, bwi, cwi] = memory.at(memory.other, 3);
-    lines.push(`t1 ${refused ? NO_T1[refused] : `ifsc ${ifsc} bwi ${bwi} cwi ${cwi}`}`);
-    return lines;
+    return refused ? { refused: NO_T1[refused] } : { ifsc, bwi, cwi };
+  }
+
+  // The same of octets that are one whole answer to reset.
+  params(octets) {
+    const { status, place } = this.atr(octets).verdict;
+    return status === OK && place === octets.length ? this.t1() : { refused: "BadAtr" };
   }
 
   // The verdict on the block with which octets begin, and what was decoded of it.
@@ -241,7 +333,12 @@ class Scard {
 
   block(octets, ifs) {
     const { verdict, nad, pcb, inf, lrc } = this.decoded(octets, ifs);
-    const lines = () => [`nad ${PAIRS[nad]}`, `pcb ${pcbLine(pcb)}`, `inf ${wordOf(inf)}`, `lrc ${PAIRS[lrc]}`];
+    const lines = (say) => [
+      say(`nad ${PAIRS[nad]}`, () => this.note("nad", nad)),
+      say(`pcb ${pcbLine(pcb)}`, () => this.note("pcb", pcb, inf[0])),
+      say(`inf ${wordOf(inf)}`, () => someCounted(inf.length)),
+      say(`lrc ${PAIRS[lrc]}`, () => "exclusive-or of the octets before it"),
+    ];
     return { verdict, lines };
   }
 
@@ -255,37 +352,57 @@ class Scard {
     if (verdict.status !== OK) return { verdict };
     const { place } = this.verdict("scard_lent_receiver_message", state, message, room);
     const joined = wordOf(memory.at(memory.octets, place));
-    const taken = octets.subarray(0, verdict.place);
-    return { verdict, lines: () => [`blocks ${this.blocks(taken, ifs)}`, `message ${joined}`] };
+    const lines = (say) => {
+      const blocks = this.blocks(memory.octets + LONGEST_MESSAGE, verdict.place, ifs);
+      return [say(`blocks ${blocks}`), say(`message ${joined}`, () => someCounted(place))];
+    };
+    return { verdict, lines };
   }
 
-  // How many blocks there are in octets that are blocks alone.
-  blocks(octets, ifs) {
-    let [count, at] = [0, 0];
-    for (; at < octets.length; count++) at += this.decoded(octets.subarray(at, at + LONGEST_BLOCK), ifs).verdict.place;
-    return count;
+  // How many blocks there are in octets of the module's memory that are blocks alone.
+  blocks(at, count, ifs) {
+    const [end, value] = [at + count, BigInt(this.memory.value)];
+    let found = 0;
+    for (; at < end; found++) {
+      const most = BigInt(Math.min(end - at, LONGEST_BLOCK));
+      at += this.verdict("scard_block_decode", BigInt(at), most, ifs, value).place;
+    }
+    return found;
   }
 
   command(octets) {
     const { memory } = this;
     const verdict = this.verdict("scard_command_decode", ...memory.lend(octets), BigInt(memory.value));
-    const lines = () => {
+    const lines = (say) => {
       const command = memory.at(memory.value, 6);
       const [place, count] = [memory.number(memory.value + 16), memory.number(memory.value + 24)];
-      const le = command[5] ? memory.view().getUint32(memory.value + 8, true) : "none";
+      const le = command[5] ? memory.number(memory.value + 8) : "none";
       const part = octets.subarray(place, place + count);
-      return [SHAPES[command[4]], `header ${hexOf(command.subarray(0, 4))}`, `part ${wordOf(part)}`, `le ${le}`];
+      return [
+        say(SHAPES[command[4]]),
+        say(`header ${hexOf(command.subarray(0, 4))}`, () => this.headerNote(command[0], command[1])),
+        say(`part ${wordOf(part)}`, () => (count ? `Lc ${count}` : "")),
+        say(`le ${le}`, () => (command[5] ? `at most ${counted(le)} in the answer` : "")),
+      ];
     };
     return { verdict, lines };
+  }
+
+  // The instruction of a command by its name, if it has one, and the class in words.
+  headerNote(cla, ins) {
+    const [instruction, ofClass] = [this.note("instruction", cla, ins), this.note("class", cla)];
+    return instruction ? `${instruction}, ${ofClass}` : ofClass;
   }
 
   response(octets) {
     const { memory, calls } = this;
     const verdict = this.verdict("scard_response_decode", ...memory.lend(octets), BigInt(memory.value));
-    const lines = () => {
+    const lines = (say) => {
       const [sw1, sw2] = memory.at(memory.value, 2);
       const part = octets.subarray(0, memory.number(memory.value + 8));
-      return [`part ${wordOf(part)}`, `status ${hexOf([sw1, sw2])} ${CLASSES[calls.scard_status_class(sw1, sw2)]}`];
+      const ofClass = CLASSES[calls.scard_status_class(sw1, sw2)];
+      const note = () => this.note("status", sw1, sw2);
+      return [say(`part ${wordOf(part)}`), say(`status ${hexOf([sw1, sw2])} ${ofClass}`, note)];
     };
     return { verdict, lines };
   }
@@ -293,48 +410,74 @@ class Scard {
   tlv(octets) {
     const [lent, max] = [this.memory.lend(octets), BigInt(LARGEST_FOREST)];
     const verdict = this.verdict("scard_tlv_check", ...lent, max);
-    const lines = () => {
-      const objects = this.written("scard_tlv_parts", [...lent, max], octets.length, 24);
-      return [`objects ${objects.length}`, ...objects.map((object) => this.objectLine(octets, object))];
-    };
-    return { verdict, lines };
+    return { verdict, lines: (say, most) => this.objectLines(say, most, octets, [...lent, max]) };
+  }
+
+  *objectLines(say, most, octets, given) {
+    const { count, places } = this.written("scard_tlv_parts", given, octets.length, 24, most);
+    yield say(`objects ${count}`);
+    for (const at of places) yield this.objectLine(say, octets, at);
+    yield* rest(count, most);
   }
 
   // The line of an object: its tag, its length field as it is spelled, and its value, or that it is constructed.
-  objectLine(octets, object) {
+  objectLine(say, octets, object) {
     const { memory } = this;
     const [depth, isConstructed, width, ...tag] = memory.at(object, 7);
     const [place, count] = [memory.number(object + 8), memory.number(object + 16)];
     const value = isConstructed ? "constructed" : wordOf(octets.subarray(place, place + count));
-    return `${"  ".repeat(depth - 1)}${tagOf(tag)} ${hexOf(octets.subarray(place - width, place))} ${value}`;
+    const note = () => {
+      const text = isConstructed ? "" : this.quoted(memory.octets + place, count);
+      return [counted(count), this.note("tag", tag[0]), ...(text ? [text] : [])].join(", ");
+    };
+    return say(`${"  ".repeat(depth - 1)}${tagOf(tag)} ${hexOf(octets.subarray(place - width, place))} ${value}`, note);
   }
 
   dol(octets) {
     const lent = this.memory.lend(octets);
     const verdict = this.verdict("scard_dol_check", ...lent);
-    const lines = () => {
-      const entries = this.written("scard_dol_entries", lent, octets.length, 5);
-      const shown = entries.map((entry) => this.memory.at(entry, 5));
-      return [`entries ${entries.length}`, ...shown.map((entry) => `${tagOf(entry)} ${entry[4]}`)];
-    };
-    return { verdict, lines };
+    return { verdict, lines: (say, most) => this.entryLines(say, most, octets, lent) };
   }
 
-  // Has a call write its structs, of so many octets each, into memory after the octets that it is lent, and gives their
-  // places. There are at most half as many as octets.
-  written(name, given, octets, size) {
+  *entryLines(say, most, octets, given) {
+    const { count, places } = this.written("scard_dol_entries", given, octets.length, 5);
+    const entries = this.memory.at(places[0] ?? 0, 5 * count);
+    const asked = () => `asks for ${counted(entries.reduce((sum, octet, at) => sum + (at % 5 === 4 ? octet : 0), 0))}`;
+    yield say(`entries ${count}`, asked);
+    for (let at = 0; at < 5 * Math.min(count, most); at += 5) {
+      yield say(`${tagOf(entries.subarray(at, at + 4))} ${entries[at + 4]}`);
+    }
+    yield* rest(count, most);
+  }
+
+  // Has a call write its structs, of so many octets each, into memory after the octets that it is lent: how many there
+  // are, and the places of the first ones. There are at most half as many as octets.
+  written(name, given, octets, size, most = Infinity) {
     const { memory } = this;
     const at = Math.ceil((memory.octets + octets) / 8) * 8;
     const room = octets >> 1;
     memory.room(at + room * size);
-    const { place } = this.verdict(name, ...given, BigInt(at), BigInt(room));
-    return Array.from({ length: place }, (_, number) => at + number * size);
+    const { place: count } = this.verdict(name, ...given, BigInt(at), BigInt(room));
+    return { count, places: Array.from({ length: Math.min(count, most) }, (_, number) => at + number * size) };
   }
 }
 
 // The octets of a tag, of the four that the struct has: three, and how many it is.
 function tagOf(tag) {
   return hexOf(tag.slice(0, tag[3]));
+}
+
+// The last line, where a value has more than so many.
+function rest(count, most) {
+  return count > most ? [`(and ${count - most} more lines)`] : [];
+}
+
+// What work that is done in pieces comes to.
+function finished(work) {
+  for (;;) {
+    const { done, value } = work.next();
+    if (done) return value;
+  }
 }
 
 // What a control octet of a block says.
@@ -352,4 +495,10 @@ function around(octets, place) {
   const at = place - from;
   return { from, before: hexOf(shown.subarray(0, at)), there: hexOf(shown.subarray(at, at + 1)),
     after: hexOf(shown.subarray(at + 1)), mark: "  ".repeat(at) + "^^" };
+}
+
+// The same as lines.
+function aroundLines({ octets, place }) {
+  const { from, before, there, after, mark } = around(octets, place);
+  return [`octets from place ${from}:`, before + there + after, mark];
 }

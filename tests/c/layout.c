@@ -29,10 +29,11 @@ static void sizes(void)
     SIZE(SCARD_STRUCT_LENT_RECEIVER, scard_lent_receiver);
     SIZE(SCARD_STRUCT_TEXT, scard_text);
     SIZE(SCARD_STRUCT_ENTRY, scard_entry);
+    SIZE(SCARD_STRUCT_NOTE, scard_note);
     CHECK(sizeof(struct scard_lent_terminal) < 128 && sizeof(struct scard_lent_card) < 128);
     CHECK(sizeof(struct scard_lent_check) == 92 && sizeof(struct scard_lent_check) < 128);
     CHECK(sizeof(struct scard_lent_receiver) == 32);
-    CHECK(scard_struct_size(0) == 0 && scard_struct_size(22) == 0 && scard_struct_size(255) == 0);
+    CHECK(scard_struct_size(0) == 0 && scard_struct_size(23) == 0 && scard_struct_size(255) == 0);
 }
 
 static void places(void)
@@ -100,6 +101,11 @@ static void places(void)
     PLACE(scard_lent_receiver, refused, 27);
     PLACE(scard_text, text, 0);
     PLACE(scard_text, size, 8);
+    PLACE(scard_note, before_size, 8);
+    PLACE(scard_note, after, 16);
+    PLACE(scard_note, after_size, 24);
+    PLACE(scard_note, number, 32);
+    PLACE(scard_note, has_number, 36);
 }
 
 /* ---- what the library writes into the fields ---- */

@@ -59,6 +59,7 @@ static struct scard_lent_receiver receiver;
 static struct scard_part parts[2048];
 static struct scard_entry entries[2];
 static struct scard_text text;
+static struct scard_note note;
 static const uint8_t answer_to_reset[] = {0x3B, 0x85, 0x81, 0x31, 0xFE, 0x45, 0x80, 0x73, 0x80, 0x01, 0x40, 0xBC};
 static const uint8_t list[] = {0x9F, 0x02, 0x06, 0x5A, 0x08};
 
@@ -155,6 +156,9 @@ static void names(void)
     scard_status_text(SCARD_AT, &text);
     scard_turn_text(SCARD_DONE, &text);
     scard_reason_text(SCARD_CODEC_CHAIN, SCARD_CHAIN_TOO_LONG, &text);
+    scard_note_of(SCARD_NOTED_STATUS, 0x6F, 0x00, &note);
+    scard_note_of(SCARD_NOTED_INSTRUCTION, 0x00, 0xFE, &note);
+    verdict.status = scard_is_text(forest, 40);
 }
 
 static void blocks(void)

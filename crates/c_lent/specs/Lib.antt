@@ -19,4 +19,5 @@ pub mod LentCheck
 pub mod KeptReceiver
 pub mod LentReceiver
 pub mod Names
+pub mod Notes
 pub mod Version

@@ -11,6 +11,7 @@ use crate::kept::{CCard, CTerminal};
 use crate::kept_check::{CCheck, CHeader};
 use crate::kept_receiver::CReceiver;
 use crate::names::CText;
+use crate::note::CNote;
 use crate::parts::{CKnown, CPart, CTag};
 use crate::turn::CTurn;
 use crate::verdict::Verdict;
@@ -49,6 +50,7 @@ pub fn struct_size(number: u8) -> usize
         19 => size_of::<CReceiver>(),
         20 => size_of::<CText>(),
         21 => size_of::<CEntry>(),
+        22 => size_of::<CNote>(),
         _ => 0,
     }
 }

@@ -18,6 +18,7 @@ pub mod lent;
 pub mod lent_check;
 pub mod lent_receiver;
 pub mod names;
+pub mod note;
 pub mod number;
 pub mod octets;
 pub mod output;

@@ -1,7 +1,9 @@
 //! Notes on answers to reset.
 
-ghost use Rattle.std.specs.Prelude.{◌≤◌, IfOk, length};
+ghost use Rattle.std.specs.Prelude.{◌≡◌};
+ghost use Rattle.notes.specs.Says.{mode_says, said, td_says};
 
+use crate::note::Note;
 use crate::text::quoted;
 use atr_core::{Atr, Indicated, Interface, t1_params};
 use std::alloc::{AllocError, Global};
@@ -29,7 +31,7 @@ fn push_indicated(
 ) -> Result<(), AllocError> {
     let mut is_first = true;
     for x in indicated {
-        notes.push(td_note(alloc, x.protocol)?)?;
+        notes.push(td_note(x.protocol).text(alloc)?)?;
         if is_first {
             push_mode(alloc, notes, x.bytes)?;
         } else {
@@ -40,18 +42,27 @@ fn push_indicated(
     Ok(())
 }
 
-/// What a TD offers: T=15 is no protocol.
-fn td_note(alloc: Global, protocol: u8) -> Result<String, AllocError> {
+/// What a TD offers, by the protocol that it indicates: T=15 is none (ISO/IEC 7816-3, 8.2.3).
+pub fn td_note(protocol: u8) -> Note
+    ensures { said result.before.now result.number result.after.now ≡ td_says protocol }
+{
     match protocol {
-        15 => String::from_str(alloc, "global interface bytes"),
-        _ => format!(in alloc; "offers T={protocol}"),
+        15 => Note::of("global interface bytes"),
+        _ => Note::with("offers T=", protocol, ""),
     }
+}
+
+/// The mode that TA2 says (ISO/IEC 7816-3, 8.3).
+pub fn mode_note(ta2: u8) -> Note
+    ensures { said result.before.now result.number result.after.now ≡ mode_says ta2 }
+{
+    Note::with("specific mode, T=", ta2 % 16, "")
 }
 
 /// The notes of TA2, TB2 and TC2.
 fn push_mode(alloc: Global, notes: &mut Vec<String>, bytes: Interface) -> Result<(), AllocError> {
     if let Some(ta) = bytes.ta {
-        notes.push(format!(in alloc; "specific mode, T={}", ta & 0x0F)?)?;
+        notes.push(mode_note(ta).text(alloc)?)?;
     }
     push_empty(alloc, notes, Interface { ta: None, ..bytes })
 }

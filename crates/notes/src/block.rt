@@ -1,9 +1,11 @@
 //! Notes on blocks.
 
 ghost use Rattle.std.specs.Prelude.{◌≡◌, IfOk, length};
+ghost use Rattle.notes.specs.Says.{nad_says, pcb_says, said, supervisory_says, target};
 
+use crate::note::Note;
 use crate::text::some_counted;
-use block_core::{Block, Fault, Number, Pcb, S};
+use block_core::Block;
 use std::alloc::{AllocError, Global};
 
 /// The notes of a block, one a line: the addresses in its NAD where it has some, what its PCB says (ISO/IEC 7816-3,
@@ -11,72 +13,65 @@ use std::alloc::{AllocError, Global};
 pub fn block_notes(alloc: Global, block: &Block) -> Result<Vec<String>, AllocError>
     ensures { IfOk result (λ notes. length notes.items ≡ 4) }
 {
-    let nad = nad_note(alloc, block.nad())?;
-    let pcb = pcb_note(
-        alloc,
-        block.pcb(),
-        block.inf().first().copied().unwrap_or(0),
-    )?;
+    let nad = nad_note(block.nad()).text(alloc)?;
+    let first = block.inf().first().copied().unwrap_or(0);
+    let pcb = pcb_note(block.pcb().octet(), first).text(alloc)?;
     let inf = some_counted(alloc, block.inf().len())?;
     let lrc = String::from_str(alloc, "exclusive-or of the octets before it")?;
     Ok(vec![in alloc; nad, pcb, inf, lrc]?)
 }
 
-/// The addresses of a block, where NAD has some.
-fn nad_note(alloc: Global, nad: u8) -> Result<String, AllocError> {
-    if nad == 0 {
-        return Ok(String::new(alloc));
+/// The addresses of a block, where NAD has some (ISO/IEC 7816-3, 11.3.2.1): from which to which.
+pub fn nad_note(nad: u8) -> Note
+    ensures { said result.before.now result.number result.after.now ≡ nad_says nad }
+{
+    match nad {
+        0 => Note::of(""),
+        _ => Note::with("from ", nad % 8, target(nad / 16 % 8)),
     }
-    format!(in alloc; "from {} to {}", nad & 0x07, (nad >> 4) & 0x07)
 }
 
-/// What a PCB says, with the first octet of the field.
-fn pcb_note(alloc: Global, pcb: Pcb, first: u8) -> Result<String, AllocError> {
+fn target(address: u8) -> &'static str
+    ensures { result.now ≡ target address }
+{
+    match address {
+        0 => " to 0",
+        1 => " to 1",
+        2 => " to 2",
+        3 => " to 3",
+        4 => " to 4",
+        5 => " to 5",
+        6 => " to 6",
+        _ => " to 7",
+    }
+}
+
+/// What a PCB says with the first octet of its field (ISO/IEC 7816-3, 11.3.2.2): no words where no block has it.
+pub fn pcb_note(pcb: u8, first: u8) -> Note
+    ensures { said result.before.now result.number result.after.now ≡ pcb_says pcb first }
+{
     match pcb {
-        Pcb::Info { number, more } => info_note(alloc, digit(number), more),
-        Pcb::Ready { number, fault } => ready_note(alloc, digit(number), fault),
-        Pcb::Request(about) => request_note(alloc, about, first),
-        Pcb::Response(about) => response_note(alloc, about, first),
+        0x00 | 0x40 => Note::with("I-block ", pcb / 64, ", the last of its chain"),
+        0x20 | 0x60 => Note::with("I-block ", pcb / 64, ", more blocks of its chain follow"),
+        0x80 | 0x90 => Note::with("no error, asks for block ", pcb / 16 % 2, ""),
+        0x81 | 0x91 => Note::with("asks for block ", pcb / 16 % 2, " again: parity or LRC"),
+        0x82 | 0x92 => Note::with("asks for block ", pcb / 16 % 2, " again: another error"),
+        _ => supervisory_note(pcb, first),
     }
 }
 
-fn info_note(alloc: Global, number: u8, more: bool) -> Result<String, AllocError> {
-    if more {
-        format!(in alloc; "I-block {number}, more blocks of its chain follow")
-    } else {
-        format!(in alloc; "I-block {number}, the last of its chain")
-    }
-}
-
-fn ready_note(alloc: Global, number: u8, fault: Fault) -> Result<String, AllocError> {
-    match fault {
-        Fault::Free => format!(in alloc; "no error, asks for block {number}"),
-        Fault::Redundancy => format!(in alloc; "asks for block {number} again: parity or LRC"),
-        Fault::Other => format!(in alloc; "asks for block {number} again: another error"),
-    }
-}
-
-fn request_note(alloc: Global, about: S, first: u8) -> Result<String, AllocError> {
-    match about {
-        S::Resynch => String::from_str(alloc, "asks to begin again"),
-        S::Ifs => format!(in alloc; "asks for an information field size of {first}"),
-        S::Abort => String::from_str(alloc, "asks to end the chain"),
-        S::Wtx => format!(in alloc; "asks for {first} times the block waiting time"),
-    }
-}
-
-fn response_note(alloc: Global, about: S, first: u8) -> Result<String, AllocError> {
-    match about {
-        S::Resynch => String::from_str(alloc, "begins again"),
-        S::Ifs => format!(in alloc; "agrees to an information field size of {first}"),
-        S::Abort => String::from_str(alloc, "ends the chain"),
-        S::Wtx => format!(in alloc; "grants {first} times the block waiting time"),
-    }
-}
-
-fn digit(number: Number) -> u8 {
-    match number {
-        Number::Zero => 0,
-        Number::One => 1,
+fn supervisory_note(pcb: u8, first: u8) -> Note
+    ensures { said result.before.now result.number result.after.now ≡ supervisory_says pcb first }
+{
+    match pcb {
+        0xC0 => Note::of("asks to begin again"),
+        0xC1 => Note::with("asks for an information field size of ", first, ""),
+        0xC2 => Note::of("asks to end the chain"),
+        0xC3 => Note::with("asks for ", first, " times the block waiting time"),
+        0xE0 => Note::of("begins again"),
+        0xE1 => Note::with("agrees to an information field size of ", first, ""),
+        0xE2 => Note::of("ends the chain"),
+        0xE3 => Note::with("grants ", first, " times the block waiting time"),
+        _ => Note::of(""),
     }
 }

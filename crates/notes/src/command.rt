@@ -1,7 +1,9 @@
 //! Notes on commands.
 
-ghost use Rattle.std.specs.Prelude.{◌≡◌, IfOk, length};
+ghost use Rattle.std.specs.Prelude.{◌≡◌, ◌==◌, IfOk, length};
+ghost use Rattle.notes.specs.Says.{chained, class_says, instruction_says, named, said, secured};
 
+use crate::note::Note;
 use apdu_core::CommandRef;
 use std::alloc::{AllocError, Global};
 
@@ -73,75 +75,78 @@ pub fn command_notes(alloc: Global, command: &CommandRef<'_>) -> Result<Vec<Stri
     Ok(vec![in alloc; case, header, part, le]?)
 }
 
-/// The instruction by its name, where the class isn't proprietary and it has one, and the class in words.
+/// The instruction by its name, where it has one in this class, and the class in words.
 fn header_note(alloc: Global, class: u8, instruction: u8) -> Result<String, AllocError> {
-    let class_says = class_note(alloc, class)?;
+    let class_says = class_note(class).text(alloc)?;
     match instruction_name(class, instruction) {
-        Some(name) => format!(in alloc; "{name}, {class_says}"),
-        None => Ok(class_says),
+        "" => Ok(class_says),
+        name => format!(in alloc; "{name}, {class_says}"),
     }
 }
 
-/// A class in words (ISO/IEC 7816-4:2005, 5.1.1, tables 2 and 3).
-fn class_note(alloc: Global, class: u8) -> Result<String, AllocError> {
+/// A class in words (ISO/IEC 7816-4:2005, 5.1.1, tables 2 and 3): its secure messaging, its channel, and whether more
+/// commands of a chain follow.
+pub fn class_note(class: u8) -> Note
+    ensures { said result.before.now result.number result.after.now ≡ class_says class }
+{
+    let chain = chained(class / 16 % 2);
     match class {
-        0x00..=0x1F => standard_note(alloc, class, secured(class), class & 0x03),
-        0x20..=0x3F => String::from_str(alloc, "reserved class"),
-        0x40..=0x7F => standard_note(alloc, class, further_secured(class), (class & 0x0F) + 4),
-        0xFF => String::from_str(alloc, "invalid class"),
-        _ => String::from_str(alloc, "proprietary class"),
+        0x00..=0x1F => Note::with(secured(class / 4 % 4), class % 4, chain),
+        0x20..=0x3F => Note::of("reserved class"),
+        0x40..=0x7F => Note::with(secured(class / 32 % 2 * 2), class % 16 + 4, chain),
+        0xFF => Note::of("invalid class"),
+        _ => Note::of("proprietary class"),
     }
 }
 
-/// What a class of the standard says: its secure messaging, its channel, and whether more commands of a chain follow.
-fn standard_note(
-    alloc: Global,
-    class: u8,
-    secured: &str,
-    channel: u8,
-) -> Result<String, AllocError> {
-    if class & 0x10 == 0 {
-        format!(in alloc; "{secured}, channel {channel}")
-    } else {
-        format!(in alloc; "{secured}, channel {channel}, more commands of its chain follow")
+/// Secure messaging by its two bits, and the word before the channel.
+fn secured(bits: u8) -> &'static str
+    ensures { result.now ≡ secured bits }
+{
+    match bits {
+        0 => "no secure messaging, channel ",
+        1 => "secure messaging in a proprietary format, channel ",
+        2 => "secure messaging, header not processed, channel ",
+        _ => "secure messaging, header authenticated, channel ",
     }
 }
 
-/// The secure messaging of a class below 20.
-fn secured(class: u8) -> &'static str {
-    match class & 0x0C {
-        0x00 => "no secure messaging",
-        0x04 => "secure messaging in a proprietary format",
-        0x08 => "secure messaging, header not processed",
-        _ => "secure messaging, header authenticated",
+/// Whether more commands of a chain follow, by its bit.
+fn chained(bit: u8) -> &'static str
+    ensures { result.now ≡ chained bit }
+{
+    match bit {
+        0 => "",
+        _ => ", more commands of its chain follow",
     }
 }
 
-/// The secure messaging of a class from 40 on.
-fn further_secured(class: u8) -> &'static str {
-    if class & 0x20 == 0 {
-        "no secure messaging"
-    } else {
-        "secure messaging, header not processed"
+/// The name of an instruction in a class of the standard, or that it is none in any class (ISO/IEC 7816-4:2005, 5.1.2,
+/// table 4.2): no words where there is none.
+pub fn instruction_name(class: u8, instruction: u8) -> &'static str
+    ensures { result.now ≡ instruction_says class instruction }
+{
+    match instruction {
+        0x60..=0x6F | 0x90..=0x9F => "invalid instruction",
+        _ => match class {
+            0x00..=0x1F | 0x40..=0x7F => named(&INSTRUCTIONS, instruction),
+            _ => "",
+        },
     }
 }
 
-/// The name of an instruction in a class of the standard, or that it is none in any class.
-fn instruction_name(class: u8, instruction: u8) -> Option<&'static str> {
-    match (class, instruction) {
-        (_, 0x60..=0x6F | 0x90..=0x9F) => Some("invalid instruction"),
-        (0x00..=0x1F | 0x40..=0x7F, _) => standard_name(instruction),
-        _ => None,
-    }
-}
-
-fn standard_name(instruction: u8) -> Option<&'static str> {
-    for (code, name) in &INSTRUCTIONS {
+/// The name in the first of these rows that has an instruction, if any.
+fn named(rows: &'static [(u8, &'static str)], instruction: u8) -> &'static str
+    ensures { result.now ≡ named (λ row. row.0 == instruction) (λ row. row.1.now) rows.now }
+{
+    let mut rest = rows;
+    while let [(code, name), after @ ..] = rest {
         if *code == instruction {
-            return Some(name);
+            return name;
         }
+        rest = after;
     }
-    None
+    ""
 }
 
 fn part_note(alloc: Global, len: usize) -> Result<String, AllocError> {

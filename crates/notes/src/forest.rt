@@ -1,5 +1,8 @@
 //! Notes on data objects.
 
+ghost use Rattle.std.specs.Prelude.{◌≡◌};
+ghost use Rattle.notes.specs.Says.{tag_says};
+
 use crate::text::{octets_counted, quoted};
 use std::alloc::{AllocError, Global};
 use tlv_core::Part;
@@ -19,7 +22,7 @@ fn part_note(alloc: Global, part: &Part<'_>) -> Result<String, AllocError> {
     let count = octets_counted(alloc, part.value.len())?;
     let class = class_name(part.tag.octets().first().copied().unwrap_or(0));
     let text = text_note(alloc, part)?;
-    format!(in alloc; "{count}, {class} class{text}")
+    format!(in alloc; "{count}, {class}{text}")
 }
 
 /// The value as text, after what parts it from the class.
@@ -31,12 +34,14 @@ fn text_note(alloc: Global, part: &Part<'_>) -> Result<String, AllocError> {
     format!(in alloc; ", {text}")
 }
 
-/// The class of a tag by its first octet.
-fn class_name(first: u8) -> &'static str {
-    match first {
-        0x00..=0x3F => "universal",
-        0x40..=0x7F => "application",
-        0x80..=0xBF => "context-specific",
-        _ => "private",
+/// The class of a tag by its first octet (ISO/IEC 7816-4:2005, 5.2.2.1).
+pub fn class_name(first: u8) -> &'static str
+    ensures { result.now ≡ tag_says first }
+{
+    match first / 64 {
+        0 => "universal class",
+        1 => "application class",
+        2 => "context-specific class",
+        _ => "private class",
     }
 }

@@ -1,8 +1,9 @@
 //! Notes on responses.
 
-ghost use Rattle.std.specs.Prelude.{◌≡◌, IfOk, length};
+ghost use Rattle.std.specs.Prelude.{◌≡◌, ◌==◌, ◌&&◌, IfOk, length};
+ghost use Rattle.notes.specs.Says.{named, said, status_says, there};
 
-use crate::text::octets_counted;
+use crate::note::Note;
 use apdu_core::ResponseRef;
 use std::alloc::{AllocError, Global};
 
@@ -61,33 +62,56 @@ pub fn response_notes(alloc: Global, response: &ResponseRef<'_>) -> Result<Vec<S
     ensures { IfOk result (λ notes. length notes.items ≡ 2) }
 {
     let part = String::new(alloc);
-    let status = status_note(alloc, response.sw1(), response.sw2())?;
+    let status = status_note(response.sw1(), response.sw2()).text(alloc)?;
     Ok(vec![in alloc; part, status]?)
 }
 
-/// What status bytes say: nothing where they have no name.
-fn status_note(alloc: Global, sw1: u8, sw2: u8) -> Result<String, AllocError> {
-    match (sw1, sw2) {
-        (0x61, _) => format!(in alloc; "{} to read", octets_there(alloc, sw2)?),
-        (0x6C, _) => format!(in alloc; "wrong Le: {} there", octets_there(alloc, sw2)?),
-        (0x62 | 0x64, 0x02..=0x80) => {
-            format!(in alloc; "the card has {sw2} octets to be asked for")
+/// What status bytes say (ISO/IEC 7816-4:2005, 5.1.3, tables 5 and 6): no words where they have no name.
+pub fn status_note(sw1: u8, sw2: u8) -> Note
+    ensures { said result.before.now result.number result.after.now ≡ status_says sw1 sw2 }
+{
+    match sw1 {
+        0x61 => there("", sw2, " octet to read", " octets to read"),
+        0x6C => there("wrong Le: ", sw2, " octet there", " octets there"),
+        0x62 | 0x64 if 0x02 <= sw2 && sw2 <= 0x80 => {
+            Note::with("the card has ", sw2, " octets to be asked for")
         }
-        (0x63, 0xC0..=0xCF) => format!(in alloc; "counter at {}, as of tries left", sw2 - 0xC0),
-        _ => String::from_str(alloc, status_name(sw1, sw2)),
+        0x63 if 0xC0 <= sw2 && sw2 <= 0xCF => {
+            Note::with("counter at ", sw2 - 0xC0, ", as of tries left")
+        }
+        _ => Note::of(status_name(sw1, sw2)),
     }
 }
 
-/// SW2 as a number of octets, where 00 stands for 256.
-fn octets_there(alloc: Global, sw2: u8) -> Result<String, AllocError> {
-    octets_counted(alloc, if sw2 == 0 { 256 } else { usize::from(sw2) })
+/// SW2 as a number of octets, where 00 stands for 256, with the words after one octet or others.
+fn there(before: &'static str, sw2: u8, one: &'static str, others: &'static str) -> Note
+    ensures { said result.before.now result.number result.after.now
+        ≡ there before.now sw2 one.now others.now }
+{
+    Note {
+        before,
+        number: Some(if sw2 == 0 { 256 } else { u32::from(sw2) }),
+        after: if sw2 == 1 { one } else { others },
+    }
 }
 
-fn status_name(sw1: u8, sw2: u8) -> &'static str {
-    for (first, second, says) in &STATUSES {
+/// The name of status bytes, if any.
+fn status_name(sw1: u8, sw2: u8) -> &'static str
+    ensures { result.now ≡ named (λ row. row.0 == sw1 && row.1 == sw2) (λ row. row.2.now) STATUSES }
+{
+    named(&STATUSES, sw1, sw2)
+}
+
+/// The name in the first of these rows that has both octets, if any.
+fn named(rows: &'static [(u8, u8, &'static str)], sw1: u8, sw2: u8) -> &'static str
+    ensures { result.now ≡ named (λ row. row.0 == sw1 && row.1 == sw2) (λ row. row.2.now) rows.now }
+{
+    let mut rest = rows;
+    while let [(first, second, name), after @ ..] = rest {
         if *first == sw1 && *second == sw2 {
-            return says;
+            return name;
         }
+        rest = after;
     }
     ""
 }

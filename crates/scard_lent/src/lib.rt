@@ -11,6 +11,7 @@ pub mod lent;
 pub mod lent_check;
 pub mod lent_receiver;
 pub mod names;
+pub mod note;
 pub mod octets;
 pub mod parts;
 pub mod timing;

@@ -1,0 +1,11 @@
+use Rattle.std.proofs.Common.{◌≡◌, ◌==◌, length}
+use Rattle.notes.specs.Says.{named}
+use Rattle.notes.proofs.command.named.Given as goal
+
+abbrev pub invariant-loop-rest : goal.invariant-loop-rest
+invariant-loop-rest l =
+    named (λ row. row.0 == l.instruction) (λ row. row.1.now) l.rows
+    ≡ named (λ row. row.0 == l.instruction) (λ row. row.1.now) l.rest
+
+abbrev pub decreases-loop-rest : goal.decreases-loop-rest
+decreases-loop-rest l = length l.rest

@@ -1,0 +1,150 @@
+-- What octets say in words, by the tables of the standards.
+use Rattle.std.specs.Prelude.{◌==◌, ◌||◌, ◌&&◌, ◌+◌, ◌-◌, ◌*◌, ◌/◌, ◌%◌, nat_le, ℕ, List, [], ◌∷◌, length, codes, Option, Some, None, Bool, if◌then◌else◌}
+use Rattle.std.specs.List.{list_all}
+use Rattle.notes.specs.declared.command.TheConstants.{INSTRUCTIONS}
+use Rattle.notes.specs.declared.response.TheConstants.{STATUSES}
+
+-- words, a number after them, if any, and the words after that
+pub record NoteText : Type 0 where
+  pub before : List ℕ
+  pub number : Option ℕ
+  pub after : List ℕ
+
+abbrev pub said : List ℕ → Option ℕ → List ℕ → NoteText
+said before number after = record { before = before; number = number; after = after }
+
+-- words alone
+abbrev pub words : List ℕ → NoteText
+words text = said text None []
+
+-- the name that the first row of a table has of which something holds, if any
+abbrev pub named : {Row : Type 0} → (Row → Bool) → (Row → List ℕ) → List Row → List ℕ
+named is name [] = []
+named is name (row ∷ rows) = if is row then name row else named is name rows
+
+-- ---- commands (ISO/IEC 7816-4:2005, 5.1.1 and 5.1.2)
+
+-- secure messaging, by its two bits, and the word before the channel
+abbrev pub secured : ℕ → List ℕ
+secured bits =
+    if bits == 0 then codes "no secure messaging, channel "
+    else if bits == 1 then codes "secure messaging in a proprietary format, channel "
+    else if bits == 2 then codes "secure messaging, header not processed, channel "
+    else codes "secure messaging, header authenticated, channel "
+
+-- whether more commands of a chain follow, by its bit
+abbrev pub chained : ℕ → List ℕ
+chained bit = if bit == 0 then [] else codes ", more commands of its chain follow"
+
+-- a class
+abbrev pub class_says : ℕ → NoteText
+class_says class =
+    if nat_le class 0x1F then said (secured (class / 4 % 4)) (Some (class % 4)) (chained (class / 16 % 2))
+    else if nat_le class 0x3F then words (codes "reserved class")
+    else if nat_le class 0x7F
+    then said (secured (class / 32 % 2 * 2)) (Some (class % 16 + 4)) (chained (class / 16 % 2))
+    else if class == 0xFF then words (codes "invalid class")
+    else words (codes "proprietary class")
+
+-- whether a class is one of the standard's
+abbrev pub is_standard : ℕ → Bool
+is_standard class = nat_le class 0x1F || (nat_le 0x40 class && nat_le class 0x7F)
+
+-- an instruction in a class
+abbrev pub instruction_says : ℕ → ℕ → List ℕ
+instruction_says class instruction =
+    if (nat_le 0x60 instruction && nat_le instruction 0x6F) || (nat_le 0x90 instruction && nat_le instruction 0x9F)
+    then codes "invalid instruction"
+    else if is_standard class then named (λ row. row.0 == instruction) (λ row. row.1.now) INSTRUCTIONS
+    else []
+
+-- ---- responses (ISO/IEC 7816-4:2005, 5.1.3)
+
+-- SW2 as a number of octets, with the words after one octet or others
+abbrev pub there : List ℕ → ℕ → List ℕ → List ℕ → NoteText
+there before sw2 one others =
+    said before (Some (if sw2 == 0 then 256 else sw2)) (if sw2 == 1 then one else others)
+
+-- status bytes
+abbrev pub status_says : ℕ → ℕ → NoteText
+status_says sw1 sw2 =
+    if sw1 == 0x61 then there [] sw2 (codes " octet to read") (codes " octets to read")
+    else if sw1 == 0x6C then there (codes "wrong Le: ") sw2 (codes " octet there") (codes " octets there")
+    else if (sw1 == 0x62 || sw1 == 0x64) && (nat_le 0x02 sw2 && nat_le sw2 0x80)
+    then said (codes "the card has ") (Some sw2) (codes " octets to be asked for")
+    else if sw1 == 0x63 && (nat_le 0xC0 sw2 && nat_le sw2 0xCF)
+    then said (codes "counter at ") (Some (sw2 - 0xC0)) (codes ", as of tries left")
+    else words (named (λ row. row.0 == sw1 && row.1 == sw2) (λ row. row.2.now) STATUSES)
+
+-- ---- blocks (ISO/IEC 7816-3, 11.3.2)
+
+abbrev pub target : ℕ → List ℕ
+target address =
+    if address == 0 then codes " to 0"
+    else if address == 1 then codes " to 1"
+    else if address == 2 then codes " to 2"
+    else if address == 3 then codes " to 3"
+    else if address == 4 then codes " to 4"
+    else if address == 5 then codes " to 5"
+    else if address == 6 then codes " to 6"
+    else codes " to 7"
+
+-- the addresses of a block
+abbrev pub nad_says : ℕ → NoteText
+nad_says nad = if nad == 0 then words [] else said (codes "from ") (Some (nad % 8)) (target (nad / 16 % 8))
+
+-- the PCB of an S-block, with the first octet of its field
+abbrev pub supervisory_says : ℕ → ℕ → NoteText
+supervisory_says pcb first =
+    if pcb == 0xC0 then words (codes "asks to begin again")
+    else if pcb == 0xC1 then said (codes "asks for an information field size of ") (Some first) []
+    else if pcb == 0xC2 then words (codes "asks to end the chain")
+    else if pcb == 0xC3 then said (codes "asks for ") (Some first) (codes " times the block waiting time")
+    else if pcb == 0xE0 then words (codes "begins again")
+    else if pcb == 0xE1 then said (codes "agrees to an information field size of ") (Some first) []
+    else if pcb == 0xE2 then words (codes "ends the chain")
+    else if pcb == 0xE3 then said (codes "grants ") (Some first) (codes " times the block waiting time")
+    else words []
+
+-- a PCB, with the first octet of its field
+abbrev pub pcb_says : ℕ → ℕ → NoteText
+pcb_says pcb first =
+    if pcb == 0x00 || pcb == 0x40 then said (codes "I-block ") (Some (pcb / 64)) (codes ", the last of its chain")
+    else if pcb == 0x20 || pcb == 0x60
+    then said (codes "I-block ") (Some (pcb / 64)) (codes ", more blocks of its chain follow")
+    else if pcb == 0x80 || pcb == 0x90 then said (codes "no error, asks for block ") (Some (pcb / 16 % 2)) []
+    else if pcb == 0x81 || pcb == 0x91
+    then said (codes "asks for block ") (Some (pcb / 16 % 2)) (codes " again: parity or LRC")
+    else if pcb == 0x82 || pcb == 0x92
+    then said (codes "asks for block ") (Some (pcb / 16 % 2)) (codes " again: another error")
+    else supervisory_says pcb first
+
+-- ---- answers to reset (ISO/IEC 7816-3, 8.2.3 and 8.3)
+
+-- the protocol that a TD indicates
+abbrev pub td_says : ℕ → NoteText
+td_says protocol =
+    if protocol == 15 then words (codes "global interface bytes") else said (codes "offers T=") (Some protocol) []
+
+-- TA2
+abbrev pub mode_says : ℕ → NoteText
+mode_says ta2 = said (codes "specific mode, T=") (Some (ta2 % 16)) []
+
+-- ---- data objects (ISO/IEC 7816-4:2005, 5.2.2.1)
+
+-- the class of a tag, by its first octet
+abbrev pub tag_says : ℕ → List ℕ
+tag_says first =
+    if first / 64 == 0 then codes "universal class"
+    else if first / 64 == 1 then codes "application class"
+    else if first / 64 == 2 then codes "context-specific class"
+    else codes "private class"
+
+-- ---- octets as text
+
+abbrev pub is_printable : ℕ → Bool
+is_printable c = nat_le 0x20 c && nat_le c 0x7E
+
+-- octets that are shown as text too
+abbrev pub is_text : List ℕ → Bool
+is_text octets = nat_le 1 (length octets) && nat_le (length octets) 40 && list_all is_printable octets

@@ -1,0 +1,27 @@
+//! What octets say in words.
+
+ghost use Rattle.std.specs.Prelude.{◌≡◌};
+ghost use Rattle.notes.specs.Says.{is_text};
+ghost use Rattle.c_lent.specs.Notes.{note_text, number_told};
+
+use c_lent::note::CNote;
+
+/// What one or two octets say in words, by the number in the header of what they are; nothing where they say nothing,
+/// or for any other number.
+#[unsafe(no_mangle)]
+pub extern "C" fn scard_note_of(about: u8, first: u8, second: u8, out: &mut CNote)
+    ensures before { out.new.before.now ≡ (note_text about first second).before }
+    ensures number { (out.new.has_number, out.new.number)
+        ≡ number_told (note_text about first second).number }
+    ensures after { out.new.after.now ≡ (note_text about first second).after }
+{
+    c_lent::note::note_of(about, first, second, out)
+}
+
+/// Whether octets are shown as text too: 1 to 40, all printable characters, 20 to 7E.
+#[unsafe(no_mangle)]
+pub extern "C" fn scard_is_text(octets: &[u8]) -> bool
+    ensures { result ≡ is_text octets.now }
+{
+    notes::is_text(octets)
+}

@@ -1,0 +1,103 @@
+// The page beside the program, on octets and texts that are spoiled.
+//
+// usage: node [--experimental-wasm-memory64] web/damaged.mjs PAGE PROGRAM
+//
+// PAGE is what web/make made, PROGRAM the program scard. Octets of vectors/ are spoiled by a fixed sequence, 10,000
+// times in all, and what the page shows of each, with notes, is compared with what `show KIND --stdin lines --notes` of
+// the program prints of it. So are 200 texts of exchanges, with what `replay --explain` prints of each at both ends.
+// The last line is 'N passed, M failed'.
+import { spawnSync } from "node:child_process";
+import { readFileSync, readdirSync } from "node:fs";
+import { cases, loaded } from "./loaded.mjs";
+
+const COUNT = 10000;
+const EXCHANGES = 200;
+const LONGEST = 2048;
+const SHOWN = 10;
+
+const examples = new URL("../examples/", import.meta.url);
+const [page, program] = process.argv.slice(2);
+const { scard, KINDS, finished } = await loaded(page);
+
+// Numbers from 0 to one below `bound`, the same at each run (Marsaglia's xorshift).
+let state = 0x9e3779b9;
+function any(bound) {
+  state ^= state << 13;
+  state ^= state >>> 17;
+  state ^= state << 5;
+  return (state >>> 0) % bound;
+}
+
+// A list with one to three of its items changed, left out or put in, by what `other` gives.
+function spoiled(items, other) {
+  const found = [...items];
+  for (let times = any(3) + 1; times > 0; times--) {
+    const at = any(found.length + 1);
+    const [out, inside] = [[1, 1, 1, 1, 0][any(5)], any(5) ? [other()] : []];
+    found.splice(at, out, ...inside);
+  }
+  return found;
+}
+
+// The same, and one in six is cut off too.
+function spoiledOctets(octets) {
+  const found = spoiled(octets, () => any(256));
+  return Buffer.from(any(6) ? found : found.slice(0, any(found.length + 1)));
+}
+
+// Most of what is put into a text is of it.
+function spoiledText(text) {
+  return spoiled(text, () => (any(8) ? text[any(text.length)] : String.fromCharCode(any(128)))).join("");
+}
+
+// The octets of each kind that the vectors have as a word.
+function bases() {
+  const found = new Map(KINDS.map((kind) => [kind, []]));
+  for (const { words: [subcommand, kind, word] } of cases()) {
+    const isHex = ["check", "show"].includes(subcommand) && /^([0-9A-Fa-f]{2})+$/.test(word ?? "");
+    if (isHex && found.has(kind) && word.length <= 2 * LONGEST) found.get(kind).push(Buffer.from(word, "hex"));
+  }
+  return found;
+}
+
+const counts = { passed: 0, failed: 0 };
+function check(what, have, want) {
+  if (have === want) {
+    counts.passed++;
+  } else if (++counts.failed <= SHOWN) {
+    console.log(`damaged: ${what}: it says ${JSON.stringify(have)} and not ${JSON.stringify(want)}`);
+  }
+}
+
+// What the program prints.
+function printed(words, input) {
+  return spawnSync(program, words, { input, encoding: "latin1", maxBuffer: 1 << 28 }).stdout ?? "";
+}
+
+function compare(kind, lines) {
+  const input = lines.map((line) => `${line}\n`).join("");
+  const answers = printed(["show", kind, "--stdin", "lines", "--notes"], input).split("\n\n");
+  for (const [at, told] of [...scard.answers(kind, input, 254, 0, true)].entries()) {
+    check(`${kind} ${lines[at]}`, (told.lines ?? [told.check]).join("\n"), answers[at]);
+  }
+}
+
+function compareReplay(text) {
+  const { replay, ...fault } = finished(scard.replay(text));
+  for (const end of ["terminal", "card"]) {
+    const told = replay ? replay.ends.find((it) => it.name === end).verdict : fault;
+    const have = [told.check, ...told.notes].map((line) => `${line}\n`).join("");
+    check(`${end} ${JSON.stringify(text)}`, have, printed(["replay", "--end", end, "--explain"], text));
+  }
+}
+
+for (const [kind, octets] of bases()) {
+  const length = Math.ceil(COUNT / KINDS.length);
+  const found = Array.from({ length }, () => spoiledOctets(octets[any(octets.length)]));
+  compare(kind, found.map((line) => line.toString("hex") || "none"));
+}
+const names = readdirSync(examples).filter((it) => it.endsWith(".exchange")).sort();
+const texts = names.map((name) => readFileSync(new URL(name, examples), "latin1"));
+for (let times = 0; times < EXCHANGES; times++) compareReplay(spoiledText(texts[any(texts.length)]));
+console.log(`${counts.passed} passed, ${counts.failed} failed`);
+process.exitCode = counts.failed || counts.passed < COUNT ? 1 : 0;

@@ -1,0 +1,310 @@
+// Recorded exchanges: the text of a file is read, and both ends of T=1 are called as its lines say.
+//
+// The ends are the module's, over memory that is lent to them. docs/EXCHANGE-FILE.md has the grammar of a text, the
+// order of its faults, and what each line is to each end.
+"use strict";
+
+const LONGEST_COMMAND = 65544;
+const LONGEST_ANSWER = 65538;
+const SHOWN_OF_LINE = 80;
+
+const HEADERS = ["scard-exchange 1", "scard-exchange 2"];
+
+// What comes after the first word of a line.
+const FORMS = { command: "octets", ifsd: "octet", quiet: "alone", answer: "octets", "ifs-set": "alone",
+  "given-up": "alone", dead: "alone", reply: "octets", time: "octet", ifsc: "octet", asked: "octets", t: "block",
+  c: "block", at: "moment", note: "note" };
+
+// What is expected of a line, by its form and the fault in it.
+const EXPECTED = {
+  octets: () => "this word and OCTETS",
+  octet: () => "this word and HH",
+  alone: () => "this word alone",
+  block: (name) => `${name} OCTETS, ${name} OCTETS lost or ${name} OCTETS as OCTETS`,
+  moment: () => "at N, N in 1 to 15 decimal digits, in version 2",
+  note: () => "note TEXT, TEXT of 1 to 200 printable characters, in version 2",
+  none: () => "a first word that a line can have, as command, t, c, asked, reply, answer or quiet",
+};
+const WRONG = {
+  Header: "scard-exchange 1 or scard-exchange 2, and a line feed",
+  End: "a line feed at its end, and a line atr OCTETS after the header",
+  Hex: "OCTETS in upper-case hexadecimal, two digits each, or none; HH is one octet",
+  Falls: "a number that isn't below that of an earlier line at N",
+};
+
+// Each end: the letter of its blocks, the line that tells its message, and what a line is to it, the call that it
+// makes or a turn of the end. Any other line passes.
+const ENDS = {
+  terminal: { letter: "t", message: "answer", turns: ["t", "answer", "ifs-set", "given-up", "dead"],
+    called: { command: "transmit", ifsd: "ask_ifs", quiet: "quiet", c: "received" } },
+  card: { letter: "c", message: "asked", turns: ["c", "asked"],
+    called: { reply: "reply", time: "more_time", ifsc: "ask_ifs", t: "received" } },
+};
+// The numbers of an end's state that are shown, by their names in the header, and where each is.
+const NUMBERS = {
+  terminal: { number: 0, expected: 1, failures: 2, ifsc: 3, ifsd: 4 },
+  card: { number: 0, expected: 1, ifsc: 4, ifsd: 5 },
+};
+
+const LACKS = {
+  NoT1: "has no TD that offers T=1",
+  ReservedIfsc: "has 00 or FF for the card's information size, in the first TA for T=1",
+  Crc: "asks for the CRC, in the first TC for T=1, and only the LRC is done",
+};
+const REFUSED = "the end refuses this call in the state that it is in";
+const NOTHING = "this line has a turn of the end, which has none to give here";
+const UNMET = "the file ends here, and no line has the last turn of the end";
+const OTHER = "the end's turn has to be met by a line before anything else happens to it, and this is another line";
+
+// What is wrong with a text, and in which line.
+class Fault extends Error {
+  constructor(name, line) {
+    super(name);
+    this.line = line;
+  }
+}
+
+// Refuses a line unless something holds of it.
+function need(holds, name) {
+  if (!holds) throw new Fault(name);
+}
+
+function octetsSaid(word) {
+  const isHex = word !== "" && word.length % 2 === 0 && !/[^0-9A-F]/.test(word);
+  need(word === "none" || isHex, "Hex");
+  return octetsOf(word);
+}
+
+function octetSaid(word) {
+  need(/^[0-9A-F]{2}$/.test(word), "Hex");
+  return parseInt(word, 16);
+}
+
+// What arrived of a block: null of a lost one.
+function arrivedOf([sent, way, other, ...more]) {
+  const isLost = way === "lost" && other === undefined;
+  const isChanged = way === "as" && other !== undefined && !more.length;
+  need(sent !== undefined && (way === undefined || isLost || isChanged), "Word");
+  const octets = octetsSaid(sent);
+  if (isLost) return null;
+  return isChanged ? octetsSaid(other) : octets;
+}
+
+// What the words after the first one say, by the form of their line.
+const SAID = {
+  alone: (words) => need(words.length === 0, "Word"),
+  octets: (words) => {
+    need(words.length === 1, "Word");
+    return octetsSaid(words[0]);
+  },
+  octet: (words) => {
+    need(words.length === 1, "Word");
+    return octetSaid(words[0]);
+  },
+  block: arrivedOf,
+  moment: (words, version) => {
+    need(version === 2 && words.length === 1 && /^(0|[1-9][0-9]{0,14})$/.test(words[0]), "Word");
+    return Number(words[0]);
+  },
+  note: (words, version) => need(version === 2 && /^[ -~]{1,200}$/.test(words.join(" ")), "Word"),
+};
+
+// A line: its first word, what the others say, and its text as an end gives it.
+function lineOf(text, version) {
+  const [name, ...words] = text.split(" ");
+  need(Object.hasOwn(FORMS, name), "Word");
+  const said = SAID[FORMS[name]](words, version);
+  return { text, name, said, given: [name, ...words.slice(0, 1)].join(" ") };
+}
+
+// The answer to reset that the second line has.
+function atrOf(text) {
+  const [name, ...words] = text.split(" ");
+  need(name === "atr", "Word");
+  return SAID.octets(words);
+}
+
+// The exchange that a text is: its answer to reset, and its lines from the third on. It stops after each.
+function* exchangeOf(text) {
+  const texts = text.split("\n");
+  const rest = texts.pop();
+  const version = HEADERS.indexOf(texts[0]) + 1;
+  if (!version) throw new Fault("Header", 1);
+  const exchange = { count: texts.length, lines: [] };
+  let [number, earliest] = [2, 0];
+  try {
+    for (; number <= texts.length; number++) {
+      const line = texts[number - 1];
+      if (number === 2) exchange.atr = atrOf(line);
+      else exchange.lines.push(lineOf(line, version));
+      const { name, said } = exchange.lines.at(-1) ?? {};
+      if (name === "at") need(said >= earliest, "Falls");
+      if (name === "at") earliest = said;
+      yield;
+    }
+    need(rest === "" && number > 2, "End");
+  } catch (fault) {
+    if (fault instanceof Fault) fault.line = number;
+    throw fault;
+  }
+  return exchange;
+}
+
+// The line of a text with a number, as far as it is shown, and what there is to say of it.
+function lineNote(text, number, ...what) {
+  const line = (text.split("\n")[number - 1] ?? "").slice(0, SHOWN_OF_LINE).replace(/[^ -~]/g, "?");
+  return [`line ${number} of the file: ${line}`, ...what];
+}
+
+// What there is to say of a text that is no exchange.
+function faultOf(text, { message, line }) {
+  const first = (text.split("\n")[line - 1] ?? "").split(" ")[0];
+  const form = Object.hasOwn(FORMS, first) ? FORMS[first] : "none";
+  const word = line === 2 ? "atr OCTETS" : EXPECTED[form](first);
+  const check = message === "Header" ? "fault: Header" : `fault: line ${line}: ${message}`;
+  return { is: "fault", check, notes: lineNote(text, line, `expected: ${WRONG[message] ?? word}`) };
+}
+
+// An end of T=1 in the module, over memory from a place on: its state, its two buffers and the block that it sends.
+class End {
+  static ROOM = 64 + 2 * LONGEST_COMMAND + 264;
+
+  constructor(scard, name, at) {
+    const [command, answer] = [at + 64, at + 64 + LONGEST_COMMAND];
+    Object.assign(this, { scard, name, at, command, answer, out: answer + LONGEST_COMMAND, pending: null });
+    this.lent = [at, command, LONGEST_COMMAND, answer, LONGEST_ANSWER].map(BigInt);
+  }
+
+  exported(name, ...given) {
+    return this.scard.verdict(`scard_lent_${this.name}_${name}`, ...this.lent, ...given);
+  }
+
+  begin({ ifsc, bwi, cwi }) {
+    if (this.exported("begin", ifsc, bwi, cwi).status !== OK) throw new Error("an end doesn't begin");
+  }
+
+  // Makes the call that a line is, and gives the line that the end gives then, and how long it waits after that. A turn
+  // lies in memory as a verdict does.
+  call(name, said, room) {
+    const { memory } = this.scard;
+    const given = said instanceof Uint8Array ? memory.lend(said, room) : said === undefined ? [] : [said];
+    const turn = this.exported(name, ...given, BigInt(this.out), BigInt(LONGEST_BLOCK));
+    const [kind, wait, count] = [turn.status, turn.reason, turn.place];
+    return { gives: this.gives(kind, count), wait };
+  }
+
+  // The line that a turn of this kind is, with so many octets.
+  gives(kind, count) {
+    const { memory } = this.scard;
+    const { letter, message } = ENDS[this.name];
+    const name = this.scard.name("scard_turn_text", kind);
+    if (name === "SEND") return `${letter} ${hexOf(memory.at(this.out, count))}`;
+    if (name === "DONE") return `${message} ${wordOf(this.message())}`;
+    const [first, ...more] = name.toLowerCase().split("_");
+    if (first !== "refused") return [first, ...more].join("-");
+    return `refused ${more.map((word) => word[0].toUpperCase() + word.slice(1)).join("")}`;
+  }
+
+  // The terminal's answer, or the command that the card's host is given.
+  message() {
+    const [name, at] = this.name === "terminal" ? ["answer", this.answer] : ["command", this.command];
+    return this.scard.memory.at(at, this.exported(name).place);
+  }
+
+  // The numbers of its state.
+  state() {
+    const numbers = Object.entries(NUMBERS[this.name]);
+    return numbers.map(([name, at]) => `${name} ${this.scard.memory.at(this.at + at, 1)[0]}`).join(" ");
+  }
+
+  // What a line is to it: what it does then, in words. Where it does otherwise, `differs` is what it gives.
+  step(line, room) {
+    const { turns, called } = ENDS[this.name];
+    const isTurn = turns.includes(line.name);
+    const isCall = Object.hasOwn(called, line.name) && line.said !== null;
+    if (!isTurn && !isCall) return null;
+    if (isTurn && this.pending === line.given) {
+      this.pending = null;
+      return "gave this";
+    }
+    if (isTurn || this.pending !== null) return this.differ(this.pending ?? "nothing");
+    const { gives, wait } = this.call(called[line.name], line.said, room);
+    if (gives.startsWith("refused")) return this.differ(gives);
+    this.pending = gives;
+    return `${called[line.name]}, gives ${gives}${wait ? `, and waits ${wait} times BWT` : ""}`;
+  }
+
+  differ(gives) {
+    this.differs = gives;
+    return `gives ${gives}`;
+  }
+}
+
+// The verdict on an end that gives something else than a line of the file says, and why.
+function difference(text, number, gives, ...why) {
+  return { is: "differs", check: `line ${number}: engine gives ${gives}`, notes: lineNote(text, number, ...why) };
+}
+
+// Why an end differs from a line after that of the answer to reset, by what it gives there.
+function whyOf(gives) {
+  if (gives.startsWith("refused ")) return REFUSED;
+  return gives === "nothing" ? NOTHING : OTHER;
+}
+
+// The replay of an exchange at both ends. Each end has its `verdict` once `run` is done, which stops after each line.
+class Replay {
+  constructor(scard, text, exchange) {
+    const { memory } = scard;
+    Object.assign(this, { text, exchange, steps: [] });
+    this.ends = Object.keys(ENDS).map((name, at) => new End(scard, name, memory.octets + at * End.ROOM));
+    this.room = memory.octets + this.ends.length * End.ROOM;
+    memory.room(this.room);
+    this.begin(scard, exchange.atr);
+  }
+
+  begin(scard, atr) {
+    const params = scard.params(atr);
+    for (const end of this.ends) {
+      if (!params.refused) end.begin(params);
+      else end.verdict = difference(this.text, 2, `refused ${params.refused}`, ...atrWhy(scard, atr, params.refused));
+    }
+  }
+
+  // The ends that did all that the lines so far say.
+  get agreeing() {
+    return this.ends.filter((end) => !end.verdict);
+  }
+
+  *run() {
+    const { count, lines } = this.exchange;
+    for (const [at, line] of lines.entries()) {
+      if (this.agreeing.length) this.step(line, at + 3);
+      yield;
+    }
+    for (const end of this.agreeing) {
+      end.verdict = end.pending === null ? { is: "ok", check: `ok ${count} lines`, notes: [] }
+        : difference(this.text, count + 1, end.pending, UNMET);
+    }
+  }
+
+  // Takes a line at each end, and notes what that does, and after a block in which state it is.
+  step(line, number) {
+    this.steps.push(`${number}  ${line.text}`);
+    for (const end of this.agreeing) {
+      const does = end.step(line, this.room);
+      if (does !== null) this.steps.push(`     ${end.name}: ${does}`);
+      if (end.differs) end.verdict = difference(this.text, number, end.differs, whyOf(end.differs));
+    }
+    if (FORMS[line.name] !== "block") return;
+    for (const end of this.agreeing) this.steps.push(`     ${end.name}: at ${end.state()}`);
+  }
+}
+
+// What there is to say of an answer to reset that no session begins from.
+function atrWhy(scard, atr, name) {
+  if (Object.hasOwn(LACKS, name)) return [`the answer to reset ${LACKS[name]}`];
+  const told = { octets: atr, ...finished(scard.telling("atr", atr)) };
+  const taken = atr.length - told.left;
+  if (told.is === "ok") return [`octets of the answer to reset: ${taken}; octets left after it: ${told.left}`];
+  return told.is === "refused" ? [told.sentence, ...aroundLines(told)] : [told.sentence];
+}

@@ -1,0 +1,90 @@
+// The page's form, in a document of a few lines: no browser is asked for.
+//
+// usage: node [--experimental-wasm-memory64] web/form.mjs PAGE
+//
+// PAGE is what web/make made. Its whole script runs, each example is chosen, octets and a file are typed, and the
+// address is written and read again. What it looks like isn't tried. The last line is 'N passed, M failed'.
+import { readFileSync } from "node:fs";
+import vm from "node:vm";
+
+const page = readFileSync(process.argv[2], "utf8");
+const unescaped = (text) => text.replaceAll("&#10;", "\n");
+
+// What the script asks of an element.
+class Element {
+  constructor() {
+    Object.assign(this, { inside: [], handlers: {}, hidden: false, textContent: "", value: "", checked: false });
+  }
+  append(...parts) { this.inside.push(...parts); }
+  replaceChildren(...parts) { this.inside = parts; }
+  setAttribute() {}
+  addEventListener(name, handler) { this.handlers[name] = handler; }
+  querySelector() { return { dataset: examples[0] }; }
+  get valueAsNumber() { return Number(this.value); }
+  get text() { return this.textContent + this.inside.map((it) => it.text ?? it).join("\n"); }
+}
+
+const buttons = [...page.matchAll(/<button type="button"\s+(data-[^>]*)>/g)];
+const examples = buttons.map(([, given]) => Object.fromEntries([...given.matchAll(/data-(\w+)="([^"]*)"/g)]
+  .map(([, name, value]) => [name, unescaped(value)])));
+const parts = Object.fromEntries([...page.matchAll(/ id="([^"]+)"/g)].map(([, id]) => [id, new Element()]));
+parts.module.textContent = page.match(/id="module">([^<]*)</)[1];
+const [location, handlers] = [{ hash: "" }, {}];
+const world = vm.createContext({ performance, setTimeout, clearTimeout, WebAssembly, atob, URLSearchParams, location,
+  history: { replaceState: (_, __, address) => { location.hash = address; } },
+  document: { getElementById: (id) => parts[id], createElement: () => new Element() },
+  addEventListener: (name, handler) => { handlers[name] = handler; } });
+
+const counts = { passed: 0, failed: 0 };
+function check(what, have, want) {
+  if (have === want) {
+    counts.passed++;
+    return;
+  }
+  counts.failed++;
+  console.log(`form: ${what}: it says ${JSON.stringify(have)} and not ${JSON.stringify(want)}`);
+}
+
+// Waits until the line of the verdict is one, for two seconds at most.
+async function said(what, want) {
+  for (let times = 0; times < 200 && parts.status.textContent !== want; times++) {
+    await new Promise((go) => { setTimeout(go, 10); });
+  }
+  check(what, parts.status.textContent, want);
+}
+
+function type(kind, text) {
+  parts.kind.value = kind;
+  parts.text.value = text;
+  parts.each.checked = false;
+  parts.form.handlers.input();
+}
+
+vm.runInContext(page.match(/<script>([\s\S]*)<\/script>/)[1], world);
+const first = "ok 5 octets";
+await said("the first example", first);
+const SAID = [first, "refused at 8: BadLrc", "ok 17 octets", "ok 13 octets", "ok 2 octets", "refused at 3: Overrun",
+  "ok 8 octets", "2 of 3 lines are accepted", "terminal: ok 13 lines; card: ok 13 lines"];
+check("the examples", examples.length, SAID.length);
+for (const [at, dataset] of examples.entries()) {
+  parts.examples.handlers.click({ target: { closest: () => ({ dataset }) } });
+  await said(`example ${at + 1}`, SAID[at]);
+  parts.share.handlers.click();
+  const address = location.hash;
+  type("atr", "none");
+  await said("no octets", "short at 0");
+  location.hash = address;
+  handlers.hashchange();
+  await said(`the address of example ${at + 1}`, SAID[at]);
+}
+check("what a file asks for", [parts["octets-part"].hidden, parts["ifs-part"].hidden].join(), "true,true");
+type("exchange", "scard-exchange 1\natr 3B00\n\n");
+await said("a wrong line", "fault: line 3: Word");
+type("tlv", "5000".repeat(16384));
+await said("16,384 objects", "ok 32768 octets");
+check("what a forest shows", parts.out.text.endsWith("\n(and 11384 more lines)"), true);
+parts.ifs.value = "0";
+type("block", "00000500A4040000A5");
+await said("a size of 0", "The information size is 1 to 254.");
+console.log(`${counts.passed} passed, ${counts.failed} failed`);
+process.exitCode = counts.failed ? 1 : 0;
