@@ -1,9 +1,10 @@
 //! Forests and lists of parts that are equal, and those that differ in one thing.
 
+use super::as_value::{flat, forest};
 use std::alloc::Global;
 use std::test::Fail;
 use testing::{of_hex, same};
-use tlv_core::{FlatForest, Forest, LARGEST_FOREST, Node, decode};
+use tlv_core::{Forest, Node};
 
 /// The octets of two forests, whether the forests are equal, and whether their parts are.
 const PAIRS: [(&str, &str, bool, bool); 13] = [
@@ -22,23 +23,18 @@ const PAIRS: [(&str, &str, bool, bool); 13] = [
     ("5A011200", "5A0112", false, true),
 ];
 
-fn forest(alloc: Global, octets: &[u8]) -> Result<Forest, Fail> {
-    Ok(
-        decode(alloc, octets, LARGEST_FOREST)
-            .ok()
-            .ok_or("a forest")?,
-    )
-}
-
 /// Whether the parts that two lists of octets spell are equal.
 fn have_same_parts(alloc: Global, one: &[u8], other: &[u8]) -> Result<bool, Fail> {
-    let one = FlatForest::read(alloc, one, LARGEST_FOREST)
-        .ok()
-        .ok_or("a forest")?;
-    let other = FlatForest::read(alloc, other, LARGEST_FOREST)
-        .ok()
-        .ok_or("a forest")?;
+    let one = flat(alloc, one)?;
+    let other = flat(alloc, other)?;
     Ok(one == other)
+}
+
+/// Whether the parts of the forests that two texts spell are equal.
+fn part_same(alloc: Global, one: &str, other: &str) -> Result<bool, Fail> {
+    let one = of_hex(alloc, one)?;
+    let other = of_hex(alloc, other)?;
+    have_same_parts(alloc, one.as_slice(), other.as_slice())
 }
 
 /// Whether two forests are equal, if their lists of nodes say the same.
@@ -62,7 +58,7 @@ fn spell_same(alloc: Global, one: &str, other: &str) -> Result<Option<bool>, Fai
 
 #[test]
 fn forests_are_equal_node_by_node(rt: HostRuntime) -> Result<(), Fail> {
-    for (one, other, equal, _) in PAIRS {
+    for &(one, other, equal, _) in &PAIRS {
         let found = spell_same(rt.alloc(), one, other)?;
         assert!(rt; same(found, Some(equal)), "{one} {other}");
     }
@@ -88,10 +84,8 @@ fn nodes_are_equal_by_kind_too(rt: HostRuntime) -> Result<(), Fail> {
 
 #[test]
 fn parts_are_equal_field_by_field(rt: HostRuntime) -> Result<(), Fail> {
-    for (one, other, _, equal) in PAIRS {
-        let left = of_hex(rt.alloc(), one)?;
-        let right = of_hex(rt.alloc(), other)?;
-        let found = have_same_parts(rt.alloc(), left.as_slice(), right.as_slice())?;
+    for &(one, other, _, equal) in &PAIRS {
+        let found = part_same(rt.alloc(), one, other)?;
         assert!(rt; same(found, equal), "{one} {other}");
     }
     Ok(())

@@ -1,52 +1,61 @@
 //! Parts of forests, and the octets that are lent with them.
 
-use octet_core::{Refused, Stop, hex_upper};
+use super::as_value::{flat, in_hex, placed};
+use octet_core::{Refused, Stop};
 use std::alloc::Global;
 use std::process::Abort;
 use std::test::Fail;
 use testing::{of_hex, same};
-use tlv_core::{FlatForest, Form, LARGEST_FOREST, TlvReason, placed_parts};
+use tlv_core::{FlatForest, Form, LARGEST_FOREST, Part, PlacedPart, TlvReason, placed_parts};
 
 /// What is wanted of a part: its depth, its tag, and the place of its value with its octets.
 type Wanted = (usize, &'static str, usize, &'static str);
 
+/// Whether a part of a forest of these octets is this one.
+fn is_part(alloc: Global, octets: &[u8], part: &Part, wanted: &Wanted) -> Result<bool, Fail> {
+    let (depth, tag, place, value) = wanted;
+    let tag_text = in_hex(alloc, part.tag.octets())?;
+    let value_text = in_hex(alloc, part.value)?;
+    let is_there = octets
+        .get(*place..)
+        .is_some_and(|rest| rest.starts_with(part.value));
+    Ok(
+        is_there
+            && same((part.depth, part.place), (*depth, *place))
+            && same(tag_text.as_str(), *tag)
+            && same(value_text.as_str(), *value),
+    )
+}
+
 /// Whether the parts of a forest are these.
 fn check_parts(alloc: Global, rt: &impl Abort, text: &str, wanted: &[Wanted]) -> Result<(), Fail> {
     let octets = of_hex(alloc, text)?;
-    let flat = FlatForest::read(alloc, octets.as_slice(), LARGEST_FOREST)
-        .ok()
-        .ok_or("a forest")?;
+    let flat = flat(alloc, octets.as_slice())?;
+    let placed = placed(alloc, octets.as_slice())?;
     assert!(rt; same(flat.parts().len(), wanted.len()), "{text}");
-    for (part, (depth, tag, place, value)) in flat.parts().iter().zip(wanted) {
-        assert!(rt; same(part.depth, *depth), "{text}");
-        assert!(rt; same(part.place, *place), "{text}");
-        assert!(rt; same(hex_upper(alloc, part.tag.octets())?.as_str(), *tag));
-        assert!(rt; same(hex_upper(alloc, part.value)?.as_str(), *value));
-        let rest = octets.as_slice().get(*place..).ok_or("a place")?;
-        assert!(rt; rest.starts_with(part.value), "{text} at {place}");
+    for (part, wanted) in flat.parts().iter().zip(wanted) {
+        let is_part = is_part(alloc, octets.as_slice(), part, wanted)?;
+        assert!(rt; is_part, "{text} at {}", wanted.2);
     }
-    check_placed(alloc, rt, octets.as_slice(), &flat)
+    assert!(rt; are_placed(placed.as_slice(), flat.parts()), "{text}");
+    Ok(())
 }
 
 /// Whether the parts by their places alone are those of a forest.
-fn check_placed(
-    alloc: Global,
-    rt: &impl Abort,
-    octets: &[u8],
-    flat: &FlatForest,
-) -> Result<(), Fail> {
-    let placed = placed_parts(alloc, octets, LARGEST_FOREST)
-        .ok()
-        .ok_or("a forest")?;
-    assert!(rt; same(placed.len(), flat.parts().len()));
-    for (part, lent) in placed.as_slice().iter().zip(flat.parts()) {
-        assert!(rt; same(usize::from(part.depth), lent.depth));
-        assert!(rt; same(part.tag, lent.tag));
-        assert!(rt; same(part.form, lent.form));
-        assert!(rt; same(part.place as usize, lent.place));
-        assert!(rt; same(part.len as usize, lent.value.len()));
+fn are_placed(placed: &[PlacedPart], parts: &[Part]) -> bool {
+    let mut are_same = placed.len() == parts.len();
+    for (part, lent) in placed.iter().zip(parts) {
+        are_same = are_same && is_placed(part, lent);
     }
-    Ok(())
+    are_same
+}
+
+/// Whether a part by its place is this one.
+fn is_placed(part: &PlacedPart, lent: &Part) -> bool {
+    same(usize::from(part.depth), lent.depth)
+        && same((part.tag, part.form), (lent.tag, lent.form))
+        && same(part.place as usize, lent.place)
+        && same(part.len as usize, lent.value.len())
 }
 
 #[test]
@@ -107,17 +116,18 @@ fn tags_of_three_octets_have_parts(rt: HostRuntime) -> Result<(), Fail> {
 /// its length field has.
 const PLACES: [(usize, usize, usize); 4] = [(1, 4, 2), (5, 9, 3), (10, 12, 1), (12, 14, 1)];
 
+/// Where the header and the value of a part begin, and how many octets its length field has.
+fn places_of(part: &Part) -> (usize, usize, usize) {
+    (part.header_place(), part.place, part.form.octets())
+}
+
 #[test]
 fn parts_tell_their_places(rt: HostRuntime) -> Result<(), Fail> {
     let octets = of_hex(rt.alloc(), "0070810A00828200015070025000")?;
-    let flat = FlatForest::read(rt.alloc(), octets.as_slice(), LARGEST_FOREST)
-        .ok()
-        .ok_or("a forest")?;
+    let flat = flat(rt.alloc(), octets.as_slice())?;
     assert!(rt; same(flat.parts().len(), PLACES.len()));
-    for (part, (header, value, length_octets)) in flat.parts().iter().zip(PLACES) {
-        assert!(rt; same(part.header_place(), header));
-        assert!(rt; same(part.place, value));
-        assert!(rt; same(part.form.octets(), length_octets));
+    for (part, wanted) in flat.parts().iter().zip(&PLACES) {
+        assert!(rt; same(places_of(part), *wanted));
     }
     Ok(())
 }
@@ -126,39 +136,42 @@ fn parts_tell_their_places(rt: HostRuntime) -> Result<(), Fail> {
 fn fillers_are_no_parts(rt: HostRuntime) -> Result<(), Fail> {
     check_parts(rt.alloc(), &rt, "00005A81011200", &[(1, "5A", 5, "12")])?;
     let octets = of_hex(rt.alloc(), "00005A81011200")?;
-    let flat = FlatForest::read(rt.alloc(), octets.as_slice(), LARGEST_FOREST)
-        .ok()
-        .ok_or("a forest")?;
+    let flat = flat(rt.alloc(), octets.as_slice())?;
     for part in flat.parts() {
         assert!(rt; same(part.form, Form::Two));
     }
     Ok(())
 }
 
+/// Octets that are no forest, and where they stop.
+const NONE: [(&[u8], Stop<TlvReason>); 3] = [
+    (&[0x5A, 0x02], Stop::Short { place: 2 }),
+    (
+        &[0x70, 0x03, 0x5A, 0x02, 0x01],
+        Stop::At {
+            place: 3,
+            reason: TlvReason::Overrun,
+        },
+    ),
+    (
+        &[0x5A, 0x84, 0x01],
+        Stop::At {
+            place: 2,
+            reason: TlvReason::TooLong,
+        },
+    ),
+];
+
+/// Whether octets have no parts, with their values and by their places, and stop so.
+fn stop_so(alloc: Global, octets: &[u8], stop: Stop<TlvReason>) -> bool {
+    let refused = FlatForest::read(alloc, octets, LARGEST_FOREST).err();
+    let unplaced = placed_parts(alloc, octets, LARGEST_FOREST).err();
+    same(refused, Some(Refused::Stop(stop))) && same(unplaced, Some(Refused::Stop(stop)))
+}
+
 #[test]
-fn other_octets_have_no_parts(rt: HostRuntime) -> Result<(), Fail> {
-    for (text, stop) in [
-        ("5A02", Stop::Short { place: 2 }),
-        (
-            "70035A0201",
-            Stop::At {
-                place: 3,
-                reason: TlvReason::Overrun,
-            },
-        ),
-        (
-            "5A8401",
-            Stop::At {
-                place: 2,
-                reason: TlvReason::TooLong,
-            },
-        ),
-    ] {
-        let octets = of_hex(rt.alloc(), text)?;
-        let refused = FlatForest::read(rt.alloc(), octets.as_slice(), LARGEST_FOREST).err();
-        assert!(rt; same(refused, Some(Refused::Stop(stop))), "{text}");
-        let unplaced = placed_parts(rt.alloc(), octets.as_slice(), LARGEST_FOREST).err();
-        assert!(rt; same(unplaced, Some(Refused::Stop(stop))), "{text}");
+fn other_octets_have_no_parts(rt: HostRuntime) {
+    for &(octets, stop) in &NONE {
+        assert!(rt; stop_so(rt.alloc(), octets, stop), "{octets:?}");
     }
-    Ok(())
 }

@@ -16,7 +16,7 @@ const FORESTS: [&str; 6] = [
 
 #[test]
 fn places_say_what_a_check_says(rt: HostRuntime) -> Result<(), Fail> {
-    for text in FORESTS {
+    for &text in &FORESTS {
         let octets = of_hex(rt.alloc(), text)?;
         for step in 1..octets.len() + 1 {
             let mut check = ForestCheck::new(64);

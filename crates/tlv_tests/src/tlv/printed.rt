@@ -1,12 +1,12 @@
 //! What is printed of reasons and faults, and of values that may hold a message.
 
-use super::as_value::tag;
+use super::as_value::{flat, forest, list, tag};
 use octet_core::{Format, Named, Octets};
 use std::test::Fail;
 use testing::{debugs, of_hex, same, shows};
 use tlv_core::{
-    CheckPlaces, Dol, DolReason, FillFault, FlatForest, ForestCheck, ForestReader, Improper, Known,
-    LARGEST_FOREST, TlvReason, decode,
+    CheckPlaces, DolReason, FillFault, ForestCheck, ForestReader, Improper, Known, LARGEST_FOREST,
+    TlvReason,
 };
 
 const REASONS: [(TlvReason, &str); 6] = [
@@ -33,11 +33,11 @@ const IMPROPER: [(Improper, &str); 4] = [
 
 #[test]
 fn reasons_are_named(rt: HostRuntime) {
-    for (reason, name) in REASONS {
+    for &(reason, name) in &REASONS {
         assert!(rt; same(reason.name(), name));
         assert!(rt; shows(rt.alloc(), &reason, name));
     }
-    for (reason, name) in OF_LISTS {
+    for &(reason, name) in &OF_LISTS {
         assert!(rt; same(reason.name(), name));
         assert!(rt; shows(rt.alloc(), &reason, name));
     }
@@ -45,7 +45,7 @@ fn reasons_are_named(rt: HostRuntime) {
 
 #[test]
 fn faults_are_named(rt: HostRuntime) {
-    for (reason, name) in IMPROPER {
+    for &(reason, name) in &IMPROPER {
         assert!(rt; same(reason.name(), name));
         assert!(rt; shows(rt.alloc(), &reason, name));
     }
@@ -72,9 +72,7 @@ fn debug_of_a_check_shows_no_octet(rt: HostRuntime) {
 #[test]
 fn debug_of_parts_shows_no_octet(rt: HostRuntime) -> Result<(), Fail> {
     let alloc = rt.alloc();
-    let flat = FlatForest::read(alloc, &OBJECTS, LARGEST_FOREST)
-        .ok()
-        .ok_or("a forest")?;
+    let flat = flat(alloc, &OBJECTS)?;
     let seen = "Part { depth: 2, tag: Tag { octets: [90, 0, 0], count: 1 }, form: One, place: 4, \
         value_octets: 3 }";
     assert!(rt; debugs(alloc, flat.parts().last().ok_or("a part")?, seen));
@@ -85,9 +83,7 @@ fn debug_of_parts_shows_no_octet(rt: HostRuntime) -> Result<(), Fail> {
 #[test]
 fn debug_of_a_forest_shows_no_octet(rt: HostRuntime) -> Result<(), Fail> {
     let alloc = rt.alloc();
-    let forest = decode(alloc, &OBJECTS, LARGEST_FOREST)
-        .ok()
-        .ok_or("a forest")?;
+    let forest = forest(alloc, &OBJECTS)?;
     assert!(rt; debugs(alloc, &forest, "Forest { nodes: Nodes { nodes: 1 } }"));
     let seen = "Constructed { tag: Tag { octets: [112, 0, 0], count: 1 }, form: One, \
         nodes: Nodes { nodes: 1 } }";
@@ -115,15 +111,9 @@ fn debug_of_a_reader_and_a_value_shows_no_octet(rt: HostRuntime) -> Result<(), F
 #[test]
 fn lists_are_equal_entry_by_entry(rt: HostRuntime) -> Result<(), Fail> {
     let alloc = rt.alloc();
-    let first = Dol::decode(alloc, &[0x9A, 0x03, 0x5F, 0x2A, 0x02])
-        .ok()
-        .ok_or("a list")?;
-    let same_one = Dol::decode(alloc, &[0x9A, 0x03, 0x5F, 0x2A, 0x02])
-        .ok()
-        .ok_or("a list")?;
-    let other = Dol::decode(alloc, &[0x9A, 0x03, 0x5F, 0x2A, 0x03])
-        .ok()
-        .ok_or("a list")?;
+    let first = list(alloc, &[0x9A, 0x03, 0x5F, 0x2A, 0x02])?;
+    let same_one = list(alloc, &[0x9A, 0x03, 0x5F, 0x2A, 0x02])?;
+    let other = list(alloc, &[0x9A, 0x03, 0x5F, 0x2A, 0x03])?;
     assert!(rt; !same(&first, &other));
     assert!(rt; same(first, same_one));
     Ok(())
