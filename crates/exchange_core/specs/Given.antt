@@ -1,15 +1,15 @@
--- The code's view of an end: which way a line goes, and what a turn gives with the messages of the end lent.
-use Rattle.std.specs.Prelude.{ℕ, List, []}
+-- The code's view of an end: what a line does at it, and what a turn gives with the messages of the end lent.
+use Rattle.std.specs.Prelude.{ℕ, List, Option, Some, Result, Ok, Err}
 use Rattle.block_core.specs.Block.{spelling}
+use Rattle.exchange_core.specs.declared.end.Effect.{Effect}
+use Rattle.exchange_core.specs.declared.end.Effect.TheVariants.{Passed, Said, Early, Called}
 use Rattle.exchange_core.specs.declared.given.Given.{Given}
 use Rattle.exchange_core.specs.declared.given.Given.TheVariants as given
-use Rattle.exchange_text.specs.declared.line.Arrival.{Arrival}
-use Rattle.exchange_text.specs.declared.line.Arrival.TheVariants.{Whole, Lost, Changed}
+use Rattle.exchange_text.specs.declared.line.Arrival.TheVariants.{Whole}
 use Rattle.exchange_text.specs.declared.line.Line.{Line}
 use Rattle.exchange_text.specs.declared.line.Line.TheVariants.{Answer, IfsSet, GivenUp, Dead, Asked, FromTerminal, FromCard}
-use Rattle.exchange_core.specs.declared.way.Way.{Way}
-use Rattle.exchange_core.specs.declared.way.Way.TheVariants.{In, Out, Past}
-use Rattle.exchange_core.specs.Replay.{Role, calls, gives, passes}
+use Rattle.exchange_text.specs.Text.{line_text}
+use Rattle.exchange_core.specs.Replay.{End, gives, passes, by_role, refused}
 
 abbrev pub line_of : Given → Line
 line_of (given.FromTerminal block) = FromTerminal (spelling block.now) Whole
@@ -20,13 +20,11 @@ line_of given.IfsSet = IfsSet
 line_of given.GivenUp = GivenUp
 line_of given.Dead = Dead
 
-abbrev pub way_of : {S T : Type 0} → Role S T → Way
-way_of (calls given) = In
-way_of gives = Out
-way_of passes = Past
-
--- a lost block is nothing to its receiver
-abbrev pub arrival_way : Arrival → Way
-arrival_way Whole = In
-arrival_way Lost = Past
-arrival_way (Changed octets) = In
+-- What comes of a line that does this at an end, which is in state s after it; its refusals have these names.
+abbrev pub effect_of : {S T F : Type 0} → End S T → (F → List ℕ) → Line → S → Effect T F
+    → Result (S × Option T) (List ℕ)
+effect_of end name line s (Passed pending) = by_role end s pending line passes
+effect_of end name line s (Said pending) = by_role end s pending line gives
+effect_of end name line s (Early turn) = Err (line_text (end.line s turn))
+effect_of end name line s (Called (Ok turn)) = Ok (s, Some turn)
+effect_of end name line s (Called (Err fault)) = Err (refused (name fault))

@@ -229,20 +229,20 @@ pub record IsRecording (r : Recording) (t : TerminalState) (c : CardState) : Typ
 
 -- ---- calls of the ends
 
--- what a line is to the terminal that is called with it
+-- what a line is to the terminal that is called with it; any other is quiet
 abbrev pub terminal_input : TerminalState → Line → TerminalInput
 terminal_input t (Command octets) = transmit octets
 terminal_input t (Ifsd size) = ask_ifs size
 terminal_input t (FromCard sent arrival) = takes (class_of t.ifsd (arrived sent arrival))
 terminal_input t line = takes quiet
 
--- what a line is to the card that is called with it
+-- what a line is to the card that is called with it; any other is a block of which nothing came
 abbrev pub card_input : CardState → Line → CardInput
 card_input c (Reply octets) = replies octets
 card_input c (Time multiple) = more_time multiple
 card_input c (Ifsc size) = ask_ifsc size
 card_input c (FromTerminal sent arrival) = card_takes (class_of c.ifsc (arrived sent arrival))
-card_input c line = card_takes quiet
+card_input c line = card_takes (class_of c.ifsc [])
 
 abbrev pub Turns : TerminalState → TerminalInput → TerminalTurn → TerminalState → Type 0
 Turns t input turn next = (mark : Mark) × (terminal_turn t input ≡ Ok (turn, next, mark))
@@ -251,14 +251,6 @@ Turns t input turn next = (mark : Mark) × (terminal_turn t input ≡ Ok (turn, 
 abbrev pub as_list : Option Line → List Line
 as_list None = []
 as_list (Some line) = line ∷ []
-
--- a call of the card's host, or a block that comes to the card
-abbrev pub IsCardCall : Line → Type 0
-IsCardCall (Reply octets) = Unit {0}
-IsCardCall (Time multiple) = Unit {0}
-IsCardCall (Ifsc size) = Unit {0}
-IsCardCall (FromTerminal sent arrival) = Unit {0}
-IsCardCall line = ⊥
 
 -- a block is under way
 abbrev pub IsSent : UnderWay → Type 0

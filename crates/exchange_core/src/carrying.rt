@@ -3,19 +3,18 @@
 ghost use Rattle.std.specs.Prelude.{◌≡◌, ◌++◌, ◌+◌, ◌≤◌, [], ◌∷◌, IfOk, IfErr, OnOk, OnErr, Ok, Err, vec_len, vec_capacity};
 ghost use Rattle.octet_core.specs.Octets.{AreOctets};
 ghost use Rattle.block_core.specs.Block.{spelling};
-ghost use Rattle.t1_core.specs.Terminal.{terminal_turn};
-ghost use Rattle.t1_core.specs.Card.{card_turn};
+ghost use Rattle.t1_core.specs.Terminal.{terminal_turn, turn_of, state_after};
+ghost use Rattle.t1_core.specs.Card.{card_turn, turn_of as card_turn_of, state_after as card_state_after};
 ghost use Rattle.exchange_core.specs.Given.{line_of};
-ghost use Rattle.exchange_core.specs.Recording.{arrival_of, damaged_octets, as_lost, as_list, terminal_input, card_input, Turns, terminal_outcome, card_outcome, IfNotMemory, IsCardCall};
+ghost use Rattle.exchange_core.specs.Recording.{arrival_of, damaged_octets, as_lost, as_list, terminal_input, card_input, Turns, terminal_outcome, card_outcome, IfNotMemory};
 
-use crate::end::{card_called, terminal_called};
 use crate::event::EventFault;
 use crate::given::Given;
 use block_core::{Block, Pcb, encode};
 use exchange_text::{Arrival, Line};
 use octet_core::Octets;
 use std::alloc::{AllocError, Global};
-use t1_core::{Card, CardTurn, Terminal, TerminalTurn};
+use t1_core::{Card, CardFault, CardTurn, Terminal, TerminalFault, TerminalTurn};
 
 /// The node address of a block that is invalid to both ends.
 const ANOTHER_NODE: u8 = 1;
@@ -151,7 +150,6 @@ pub(crate) fn card_takes(
     told: Option<Line>,
     line: Line,
 ) -> Result<CardTurn, EventFault>
-    requires { IsCardCall line }
     ensures turn { IfOk result (λ turn.
         card_turn card.old (card_input card.old line) ≡ Ok (turn, card.new)) }
     ensures lines { OnOk result (lines.new.items ≡ lines.old.items ++ (as_list told ++ line ∷ [])) }
@@ -167,7 +165,6 @@ pub(crate) fn card_takes(
 
 /// Calls the card with a line. A refused call changes nothing.
 fn card_turned(card: &mut Card, line: &Line) -> Result<CardTurn, EventFault>
-    requires { IsCardCall line.now }
     ensures turn { IfOk result (λ turn.
         card_turn card.old (card_input card.old line.now) ≡ Ok (turn, card.new)) }
     ensures refused { IfErr result (λ fault.
@@ -177,6 +174,36 @@ fn card_turned(card: &mut Card, line: &Line) -> Result<CardTurn, EventFault>
     match card_called(card, line) {
         Ok(turn) => Ok(turn),
         Err(fault) => Err(EventFault::Card(fault)),
+    }
+}
+
+/// The call of the terminal that a line is; any other line counts as quiet.
+fn terminal_called(terminal: &mut Terminal, line: &Line) -> Result<TerminalTurn, TerminalFault>
+    ensures turn { result ≡ turn_of
+        (terminal_turn terminal.old (terminal_input terminal.old line.now)) }
+    ensures state { terminal.new
+        ≡ state_after terminal.old (terminal_turn terminal.old (terminal_input terminal.old line.now)) }
+{
+    match line {
+        Line::Command(octets) => terminal.transmit(octets.get()),
+        Line::Ifsd(size) => terminal.ask_ifs(*size),
+        Line::FromCard { sent, arrival } => terminal.received(arrival.octets(sent)),
+        _ => terminal.quiet(),
+    }
+}
+
+/// The call of the card that a line is; any other line counts as a block of which nothing came.
+fn card_called(card: &mut Card, line: &Line) -> Result<CardTurn, CardFault>
+    ensures turn { result ≡ card_turn_of (card_turn card.old (card_input card.old line.now)) }
+    ensures state { card.new
+        ≡ card_state_after card.old (card_turn card.old (card_input card.old line.now)) }
+{
+    match line {
+        Line::Reply(octets) => card.reply(octets.get()),
+        Line::Time(multiple) => card.more_time(*multiple),
+        Line::Ifsc(size) => card.ask_ifs(*size),
+        Line::FromTerminal { sent, arrival } => card.received(arrival.octets(sent)),
+        _ => card.received(&[]),
     }
 }
 

@@ -1,19 +1,26 @@
-//! The two ends, called line by line.
+//! The two ends, line by line.
 
-ghost use Rattle.std.specs.Prelude.{◌≡◌, ℕ, List, Ok, Err, IfOk, IfErr};
-ghost use Rattle.t1_core.specs.Terminal.{terminal_turn, turn_of, state_after};
-ghost use Rattle.t1_core.specs.Card.{card_turn, turn_of as card_turn_of, state_after as card_state_after};
-ghost use Rattle.exchange_core.specs.Given.{line_of, way_of};
-ghost use Rattle.exchange_core.specs.Recording.{terminal_input, card_input, IsCardCall};
-ghost use Rattle.exchange_core.specs.declared.way.Way.TheVariants.{In};
-ghost use Rattle.exchange_core.specs.Replay.{End, calls, terminal_end, card_end};
+ghost use Rattle.std.specs.Prelude.{◌≡◌, ℕ, List};
+ghost use Rattle.exchange_core.specs.Given.{line_of, effect_of};
+ghost use Rattle.exchange_core.specs.Replay.{End, replay_line, terminal_end, card_end};
 ghost use Rattle.t1_core.specs.Names.{terminal_fault_name, card_fault_name};
 
 use crate::given::Given;
-use crate::way::Way;
-use exchange_text::Line;
+use exchange_text::{Arrival, Line};
 use octet_core::Named;
 use t1_core::{Card, CardFault, CardTurn, Terminal, TerminalFault, TerminalTurn};
+
+/// What a line does at an end; the turn in it is the last one, which no line has met yet.
+pub(crate) enum Effect<T, F> {
+    /// It is nothing to the end.
+    Passed(Option<T>),
+    /// The end is said to give it.
+    Said(Option<T>),
+    /// It is a call, which isn't made, since a line has to meet this turn first.
+    Early(T),
+    /// It is a call, which gave a turn or was refused.
+    Called(Result<T, F>),
+}
 
 /// An end that a file is replayed for.
 pub(crate) trait Replayed {
@@ -29,17 +36,10 @@ pub(crate) trait Replayed {
     /// The name of a refusal.
     ghost refusal: { Self.Fault → List ℕ };
 
-    /// Which way the line goes.
-    fn way(&self, line: &Line) -> Way
-        ensures { result ≡ way_of (end.role self.now line.now) };
-
-    /// The call that the line is.
-    fn call(&mut self, line: &Line) -> Result<Self::Turn, Self::Fault>
-        requires { way_of (end.role self.old line.now) ≡ In }
-        ensures turn { IfOk result (λ turn.
-            end.role self.old line.now ≡ calls (Ok (turn, self.new))) }
-        ensures refused { IfErr result (λ fault.
-            end.role self.old line.now ≡ calls (Err (refusal fault))) };
+    /// What a line does, where no line has met the turn `pending` yet.
+    fn hears(&mut self, pending: Option<Self::Turn>, line: &Line) -> Effect<Self::Turn, Self::Fault>
+        ensures { replay_line end self.old pending line.now
+            ≡ effect_of end refusal line.now self.new result };
 
     /// The name of a refusal.
     fn refusal(fault: Self::Fault) -> &'static str
@@ -59,19 +59,30 @@ impl Replayed for Terminal {
 
     ghost refusal = { terminal_fault_name };
 
-    fn way(&self, line: &Line) -> Way {
-        match line {
-            Line::Command(_) | Line::Ifsd(_) | Line::Quiet => Way::In,
-            Line::FromCard { arrival, .. } => Way::of_arrival(arrival),
-            Line::Answer(_) | Line::IfsSet | Line::GivenUp | Line::Dead => Way::Out,
-            Line::FromTerminal { .. } => Way::Out,
-            Line::Reply(_) | Line::Time(_) | Line::Ifsc(_) | Line::Asked(_) => Way::Past,
-            Line::Moment(_) | Line::Note(_) => Way::Past,
+    fn hears(
+        &mut self,
+        pending: Option<TerminalTurn>,
+        line: &Line,
+    ) -> Effect<TerminalTurn, TerminalFault>
+        ensures { replay_line terminal_end self.old pending line.now
+            ≡ effect_of terminal_end terminal_fault_name line.now self.new result }
+    {
+        match (line, pending) {
+            (Line::Answer(_) | Line::IfsSet | Line::GivenUp, pending) => Effect::Said(pending),
+            (Line::Dead | Line::FromTerminal { .. }, pending) => Effect::Said(pending),
+            (Line::Reply(_) | Line::Time(_) | Line::Ifsc(_), pending) => Effect::Passed(pending),
+            (Line::Asked(_) | Line::Moment(_) | Line::Note(_), pending) => Effect::Passed(pending),
+            (Line::FromCard { sent, arrival }, pending) => match (arrival, pending) {
+                (Arrival::Lost, pending) => Effect::Passed(pending),
+                (_, Some(turn)) => Effect::Early(turn),
+                (Arrival::Whole, None) => Effect::Called(self.received(sent.get())),
+                (Arrival::Changed(octets), None) => Effect::Called(self.received(octets.get())),
+            },
+            (_, Some(turn)) => Effect::Early(turn),
+            (Line::Command(octets), None) => Effect::Called(self.transmit(octets.get())),
+            (Line::Ifsd(size), None) => Effect::Called(self.ask_ifs(*size)),
+            (Line::Quiet, None) => Effect::Called(self.quiet()),
         }
-    }
-
-    fn call(&mut self, line: &Line) -> Result<TerminalTurn, TerminalFault> {
-        terminal_called(self, line)
     }
 
     fn refusal(fault: TerminalFault) -> &'static str {
@@ -98,19 +109,26 @@ impl Replayed for Card {
 
     ghost refusal = { card_fault_name };
 
-    fn way(&self, line: &Line) -> Way {
-        match line {
-            Line::Reply(_) | Line::Time(_) | Line::Ifsc(_) => Way::In,
-            Line::FromTerminal { arrival, .. } => Way::of_arrival(arrival),
-            Line::Asked(_) | Line::FromCard { .. } => Way::Out,
-            Line::Command(_) | Line::Ifsd(_) | Line::Quiet => Way::Past,
-            Line::Answer(_) | Line::IfsSet | Line::GivenUp | Line::Dead => Way::Past,
-            Line::Moment(_) | Line::Note(_) => Way::Past,
+    fn hears(&mut self, pending: Option<CardTurn>, line: &Line) -> Effect<CardTurn, CardFault>
+        ensures { replay_line card_end self.old pending line.now
+            ≡ effect_of card_end card_fault_name line.now self.new result }
+    {
+        match (line, pending) {
+            (Line::Asked(_) | Line::FromCard { .. }, pending) => Effect::Said(pending),
+            (Line::Command(_) | Line::Ifsd(_) | Line::Quiet, pending) => Effect::Passed(pending),
+            (Line::Answer(_) | Line::IfsSet | Line::GivenUp, pending) => Effect::Passed(pending),
+            (Line::Dead | Line::Moment(_) | Line::Note(_), pending) => Effect::Passed(pending),
+            (Line::FromTerminal { sent, arrival }, pending) => match (arrival, pending) {
+                (Arrival::Lost, pending) => Effect::Passed(pending),
+                (_, Some(turn)) => Effect::Early(turn),
+                (Arrival::Whole, None) => Effect::Called(self.received(sent.get())),
+                (Arrival::Changed(octets), None) => Effect::Called(self.received(octets.get())),
+            },
+            (_, Some(turn)) => Effect::Early(turn),
+            (Line::Reply(octets), None) => Effect::Called(self.reply(octets.get())),
+            (Line::Time(multiple), None) => Effect::Called(self.more_time(*multiple)),
+            (Line::Ifsc(size), None) => Effect::Called(self.ask_ifs(*size)),
         }
-    }
-
-    fn call(&mut self, line: &Line) -> Result<CardTurn, CardFault> {
-        card_called(self, line)
     }
 
     fn refusal(fault: CardFault) -> &'static str {
@@ -122,39 +140,5 @@ impl Replayed for Card {
             CardTurn::Send(block) => Given::FromCard(block),
             CardTurn::Asked => Given::Asked(self.command().unwrap_or(&[])),
         }
-    }
-}
-
-/// The call of the terminal that a line is; any other line counts as quiet.
-pub(crate) fn terminal_called(
-    terminal: &mut Terminal,
-    line: &Line,
-) -> Result<TerminalTurn, TerminalFault>
-    ensures turn { result ≡ turn_of
-        (terminal_turn terminal.old (terminal_input terminal.old line.now)) }
-    ensures state { terminal.new
-        ≡ state_after terminal.old (terminal_turn terminal.old (terminal_input terminal.old line.now)) }
-{
-    match line {
-        Line::Command(octets) => terminal.transmit(octets.get()),
-        Line::Ifsd(size) => terminal.ask_ifs(*size),
-        Line::FromCard { sent, arrival } => terminal.received(arrival.octets(sent)),
-        _ => terminal.quiet(),
-    }
-}
-
-/// The call of the card that a line is.
-pub(crate) fn card_called(card: &mut Card, line: &Line) -> Result<CardTurn, CardFault>
-    requires { IsCardCall line.now }
-    ensures turn { result ≡ card_turn_of (card_turn card.old (card_input card.old line.now)) }
-    ensures state { card.new
-        ≡ card_state_after card.old (card_turn card.old (card_input card.old line.now)) }
-{
-    match line {
-        Line::Reply(octets) => card.reply(octets.get()),
-        Line::Time(multiple) => card.more_time(*multiple),
-        Line::Ifsc(size) => card.ask_ifs(*size),
-        Line::FromTerminal { sent, arrival } => card.received(arrival.octets(sent)),
-        _ => unreachable!(),
     }
 }

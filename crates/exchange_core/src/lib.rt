@@ -12,7 +12,6 @@ mod given;
 pub mod laws;
 pub mod recording;
 pub mod replaying;
-mod way;
 
 pub use event::{Event, EventFault, LastTurn, RecorderFault};
 pub use exchange_text::{

@@ -5,9 +5,8 @@ ghost use Rattle.exchange_core.specs.declared.replaying.ReplayFault.TheVariants.
 ghost use Rattle.exchange_core.specs.Replay.{Replays, IfDiffers, IsFound, replay_from, replay_line, replay_lines, refused};
 ghost use Rattle.exchange_core.specs.Run.{IsRun};
 
-use crate::end::Replayed;
+use crate::end::{Effect, Replayed};
 use crate::laws::agreeing_is_a_run;
-use crate::way::Way;
 use atr_core::laws::one_accepted;
 use atr_core::{T1Params, decode, t1_params};
 use exchange_text::{Exchange, Line};
@@ -153,15 +152,13 @@ fn replay_line<E: Replayed>(
     ensures differs { IfErr result (λ fault. IfDiffers fault (λ at gives.
         (at ≡ number) × (replay_line E.end end.old pending line.now ≡ Err gives))) }
 {
-    match (end.way(line), pending) {
-        (Way::Past, pending) => Ok(pending),
-        (Way::In, None) => match end.call(line) {
-            Ok(turn) => Ok(Some(turn)),
-            Err(fault) => differs(number, refused(alloc, E::refusal(fault))?),
-        },
-        (Way::Out, None) => differs(number, String::from_str(alloc, "nothing")?),
-        (Way::In, Some(turn)) => differs(number, end.given(&turn).text(alloc)?),
-        (Way::Out, Some(turn)) => {
+    match end.hears(pending, line) {
+        Effect::Passed(pending) => Ok(pending),
+        Effect::Called(Ok(turn)) => Ok(Some(turn)),
+        Effect::Called(Err(fault)) => differs(number, refused(alloc, E::refusal(fault))?),
+        Effect::Early(turn) => differs(number, end.given(&turn).text(alloc)?),
+        Effect::Said(None) => differs(number, String::from_str(alloc, "nothing")?),
+        Effect::Said(Some(turn)) => {
             let given = end.given(&turn);
             if given.is_met_by(line) {
                 Ok(None)
