@@ -1,8 +1,11 @@
 //! APDUs read from chains.
 
-ghost use Rattle.std.specs.Prelude.{◌≡◌, ◌≤◌, ◌++◌, ℕ, List, Some, IfOk, IfErr};
+ghost use Rattle.std.specs.Prelude.{◌≡◌, ◌≤◌, ◌++◌, ℕ, List, Some, IfOk, IfErr, length};
+ghost use Rattle.octet_core.specs.Grammar.{whole, Accepts, RefusesUnlessMemory};
+ghost use Rattle.octet_core.specs.declared.stop.Refused.TheVariants as refusal;
 ghost use Rattle.chain_core.specs.Chain.{IsChain, message_of};
 ghost use Rattle.chain_core.specs.Longest.{longest_command, longest_response};
+ghost use Rattle.chain_core.specs.Chain.{longest_message};
 ghost use Rattle.apdu_core.specs.Command as command;
 ghost use Rattle.apdu_core.specs.Command.{CommandParts, IsCommand};
 ghost use Rattle.apdu_core.specs.Response as response;
@@ -123,7 +126,7 @@ pub fn receive_command<R: Source>(
         → R.remaining reader.old ≡ Some (b ++ more)
         → ArrivesUnlessFault v more (R.remaining reader.new) result }
 {
-    read_command(alloc, reader, ifs, number)
+    read(alloc, reader, ifs, number, LONGEST_COMMAND)
 }
 
 /// Reads a chain (ISO/IEC 7816-3, clause 11.6) to its end and the response that its message is, which has
@@ -146,47 +149,69 @@ pub fn receive_response<R: Source>(
         → R.remaining reader.old ≡ Some (b ++ more)
         → ArrivesUnlessFault v more (R.remaining reader.new) result }
 {
-    read_response(alloc, reader, ifs, number)
+    read(alloc, reader, ifs, number, LONGEST_RESPONSE)
 }
 
-/// Reads a chain, and decodes its message as a command.
-fn read_command<R: Source>(
+/// An APDU that comes as the message of a chain.
+trait Apdu: Drop {
+    /// Why octets are none.
+    type Reason;
+
+    /// Which octets spell it, and why others don't.
+    ghost spells: { Self → List ℕ → Type 0 };
+
+    ghost reason: { Self.Reason → List ℕ → Type 0 };
+
+    /// The one that all these octets are.
+    fn decode(alloc: Global, octets: &[u8]) -> Result<Self, Refused<Self::Reason>>
+        ensures found { IfOk result (λ v. Accepts whole spells octets.now v (length octets.now)) }
+        ensures refused { IfErr result (RefusesUnlessMemory whole spells reason octets.now) }
+        ensures memory { result ≡ Err refusal.Memory
+            → (v : Self) × Accepts whole spells octets.now v (length octets.now) };
+}
+
+impl Apdu for Command {
+    type Reason = CommandReason;
+
+    ghost spells = { IsCommand };
+
+    ghost reason = { command.IsReason };
+
+    fn decode(alloc: Global, octets: &[u8]) -> Result<Command, Refused<CommandReason>> {
+        decode_command(alloc, octets)
+    }
+}
+
+impl Apdu for Response {
+    type Reason = ResponseReason;
+
+    ghost spells = { IsResponse };
+
+    ghost reason = { response.IsReason };
+
+    fn decode(alloc: Global, octets: &[u8]) -> Result<Response, Refused<ResponseReason>> {
+        decode_response(alloc, octets)
+    }
+}
+
+/// Reads a chain, and decodes its message, which has at most `limit` octets.
+fn read<A: Apdu, R: Source>(
     alloc: Global,
     reader: &mut R,
     ifs: u8,
     number: Number,
-) -> Result<Command, ReceiveFault<CommandReason>>
+    limit: usize,
+) -> Result<A, ReceiveFault<A::Reason>>
     requires least { 1 ≤ ifs }
     requires most { ifs ≤ 254 }
+    requires limit { limit ≤ longest_message }
     ensures received { IfOk result
-        (IsReceived IsCommand longest_command ifs number R.remaining R.failures reader.old reader.new) }
-    ensures fault { IfErr result (IsReceiveFault IsCommand command.IsReason longest_command ifs
-        number
-        R.remaining R.failures reader.old reader.new) }
+        (IsReceived A.spells limit ifs number R.remaining R.failures reader.old reader.new) }
+    ensures fault { IfErr result
+        (IsReceiveFault A.spells A.reason limit ifs number R.remaining R.failures reader.old reader.new) }
 {
-    let mut receiver = Receiver::new(alloc, ifs, number, LONGEST_COMMAND)?;
+    let mut receiver = Receiver::new(alloc, ifs, number, limit)?;
     read_chain(reader, &mut receiver)?;
-    let command = decode_command(alloc, receiver.message().unwrap())?;
-    Ok(command)
-}
-
-/// Reads a chain, and decodes its message as a response.
-fn read_response<R: Source>(
-    alloc: Global,
-    reader: &mut R,
-    ifs: u8,
-    number: Number,
-) -> Result<Response, ReceiveFault<ResponseReason>>
-    requires least { 1 ≤ ifs }
-    requires most { ifs ≤ 254 }
-    ensures received { IfOk result
-        (IsReceived IsResponse longest_response ifs number R.remaining R.failures reader.old reader.new) }
-    ensures fault { IfErr result (IsReceiveFault IsResponse response.IsReason longest_response ifs
-        number
-        R.remaining R.failures reader.old reader.new) }
-{
-    let mut receiver = Receiver::new(alloc, ifs, number, LONGEST_RESPONSE)?;
-    read_chain(reader, &mut receiver)?;
-    let response = decode_response(alloc, receiver.message().unwrap())?;
-    Ok(response)
+    let apdu = A::decode(alloc, receiver.message().unwrap())?;
+    Ok(apdu)
 }

@@ -6,5 +6,5 @@ use Rattle.apdu_core.proofs.receiving.receive_command.Goals as goal
 pub returns-clause-arrives : goal.returns-clause-arrives
 returns-clause-arrives g c = λ v sent b more chained spelled held.
     arrives-only IsCommand IsReason one-command 65544 c.args.ifs c.args.number g.R.Source.remaining g.R.Source.failures
-    c.args.reader.now c.read_command.new.reader v sent b more
-    chained spelled held c.read_command.result c.read_command.ensures.received c.read_command.ensures.fault
+    c.args.reader.now c.read.new.reader v sent b more
+    chained spelled held c.read.result c.read.ensures.received c.read.ensures.fault
