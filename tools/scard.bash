@@ -30,14 +30,15 @@ _scard_words() {
     build) words='--explain --help' ;;
     replay) words='--end --explain --help' ;;
     migrate) words='--explain --help' ;;
+    apdus) words='--explain --help' ;;
     simulate) words='--ifsd --lose --damage --spoil --explain --help' ;;
     esac
     [ "${COMP_WORDS[1]} $what" != 'build tidy' ] || words="$words --stdin"
     case $place:${COMP_WORDS[1]} in
-    1:*) words='check show build replay migrate simulate help --version --help' ;;
+    1:*) words='check show build replay migrate apdus simulate help --version --help' ;;
     2:check | 2:show) words="$words atr block chain command response tlv dol" ;;
     2:build) words="$words chain tidy fill" ;;
-    2:help) words='check show build replay migrate simulate' ;;
+    2:help) words='check show build replay migrate apdus simulate' ;;
     esac
 }
 
@@ -52,7 +53,7 @@ _scard() {
     _scard_before
     case $option in
     --stdin) words='hex octets dump source lines' ;;
-    --end) words='terminal card' ;;
+    --end) words='terminal card both' ;;
     --number) words='0 1' ;;
     --ifs | --ifsd | --lose | --damage | --spoil) ;;
     *) _scard_words ;;

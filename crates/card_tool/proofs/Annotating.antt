@@ -1,5 +1,5 @@
 -- That a value has notes which are cut off again, and a refusal none.
-use Rattle.std.proofs.Common.{◌≡◌, ◌≢◌, List, ℕ, refl, subst}
+use Rattle.std.proofs.Common.{◌≡◌, List, ℕ, refl, subst}
 use Rattle.card_kinds.proofs.NoSign.{no-sign}
 use Rattle.card_kinds.specs.Verdicts.{Shows}
 use Rattle.card_kinds.specs.declared.status.Status.{Status}

@@ -1,6 +1,8 @@
 -- Notes on the files of exchanges, by what replaying them came to.
-use Rattle.std.proofs.Common.{◌≡◌, inl, inr, ℕ, List, MatchResult, Result, Ok, Err, IfOk, Some, string_bytes, subst}
+use Rattle.std.proofs.Common.{◌≡◌, ◌++◌, inl, inr, ℕ, List, MatchResult, Result, Ok, Err, IfOk, IsOkAnd, Some, String, string_bytes, subst}
+use Rattle.std.specs.declared.alloc.Global.{Global}
 use Rattle.card_words.specs.declared.request.End.{End}
+use Rattle.card_kinds.specs.declared.answer.Answer.{Answer}
 use Rattle.card_kinds.specs.declared.status.Status.TheVariants as status
 use Rattle.exchange_text.specs.Exchange.{ExchangeParts}
 use Rattle.exchange_text.specs.Reading.{exchange_said, UnlessMemory}
@@ -9,9 +11,11 @@ use Rattle.exchange_text.specs.declared.fault.ExchangeFault.{ExchangeFault}
 use Rattle.exchange_core.specs.declared.replaying.ReplayFault.{ReplayFault}
 use Rattle.exchange_core.specs.declared.replaying.ReplayFault.TheVariants.{Differs}
 use Rattle.exchange_core.specs.declared.replaying.Side.{Side}
-use Rattle.card_tool.specs.Explained.{line_of, IsDifferenceNote, IsLineNote, IsReplayNote}
-use Rattle.card_tool.specs.ExchangeTexts.{file_fault_text, side_of, IsOutcome, IsReplayed, Replays as AreReplayed}
+use Rattle.exchange_core.specs.declared.replaying.Side.TheVariants as side
+use Rattle.card_tool.specs.Explained.{line_of, AreDifferenceNotes, IsDifferenceNote, IsLineNote, IsNoteAt, IsReplayNote}
+use Rattle.card_tool.specs.ExchangeTexts.{both_text, file_fault_text, AreReplayed, IsOutcome, IsReplayed, IsReplayedAt, Replays as ReplaysFile}
 use Rattle.card_tool.specs.Judged.{AreOf}
+use Rattle.card_tool.specs.Lines.{worse}
 use Rattle.card_tool.specs.declared.judged.WithNote.{WithNote}
 
 -- the line at which an end differs
@@ -25,12 +29,72 @@ differs-at r e which fault line gives is same h =
 -- an answer and a note that are of an exchange are of the file that was read as it
 pub of-exchange : (end : End) (file : List ℕ) (e : ExchangeParts) (made : WithNote)
     → UnlessMemory (Ok e) (exchange_said file)
-    → AreOf (IsReplayed e (side_of end)) (IsDifferenceNote e (side_of end)) made
-    → AreOf (AreReplayed end file) (IsReplayNote end file) made
+    → AreOf (IsReplayedAt end e) (IsNoteAt end e) made
+    → AreOf (ReplaysFile end file) (IsReplayNote end file) made
 of-exchange end file e made (inl memory) h = absurd (cc memory)
 of-exchange end file e made (inr said) h =
     subst (λ (r : Result ExchangeParts ExchangeFault). MatchResult r
-    (λ e. IsReplayed e (side_of end) made.answer.text made.answer.status)
+    (λ e. IsReplayedAt end e made.answer.text made.answer.status)
     (λ fault. (made.answer.text ≡ file_fault_text fault) × (made.answer.status ≡ status.Fault))
-    × IfOk made.note (λ note. MatchResult r (λ e. IsDifferenceNote e (side_of end) (string_bytes note))
+    × IfOk made.note (λ note. MatchResult r (λ e. IsNoteAt end e (string_bytes note))
     (λ fault. IsLineNote (line_of fault) (string_bytes note)))) said h
+
+module _ (e : ExchangeParts) where
+  -- the terminal's note and then the card's
+  joined-notes : {E : Type 0} (note one other : Result (String Global) E)
+      → IfOk one (λ text. IsDifferenceNote e side.Terminal (string_bytes text))
+      → IfOk other (λ text. IsDifferenceNote e side.Card (string_bytes text))
+      → IfOk note (λ text. IsOkAnd one (λ a. IsOkAnd other (λ b. string_bytes text ≡ string_bytes a
+      ++ string_bytes b)))
+      → IfOk note (λ text. AreDifferenceNotes e (string_bytes text))
+  joined-notes (Ok text) (Ok a) (Ok b) terminal card h = record {
+    terminal = string_bytes a;
+    card = string_bytes b;
+    is_terminal = terminal;
+    is_card = card;
+    is_note = h;
+  }
+  joined-notes (Ok text) (Ok a) (Err fault) terminal card h = absurd h
+  joined-notes (Ok text) (Err fault) other terminal card h = absurd h
+  joined-notes (Err fault) one other terminal card h = tt
+
+  -- what is said of both ends
+  pub of-both-ends : {E : Type 0} (r : Result Answer E) (terminal card : Answer)
+      → IsReplayed e side.Terminal terminal.text terminal.status → IsReplayed e side.Card card.text card.status
+      → IfOk r (λ both. both.text ≡ both_text terminal.text card.text)
+      → IfOk r (λ both. both.status ≡ worse terminal.status card.status)
+      → IfOk r (λ both. AreReplayed e both.text both.status)
+  of-both-ends (Ok both) terminal card one other text ended = record {
+    terminal = terminal.text;
+    one = terminal.status;
+    card = card.text;
+    other = card.status;
+    is_terminal = one;
+    is_card = other;
+    is_text = text;
+    is_ended = ended;
+  }
+  of-both-ends (Err fault) terminal card one other text ended = tt
+
+  -- the same with their notes
+  pub of-both : (terminal card made : WithNote)
+      → AreOf (IsReplayed e side.Terminal) (IsDifferenceNote e side.Terminal) terminal
+      → AreOf (IsReplayed e side.Card) (IsDifferenceNote e side.Card) card
+      → made.answer.text ≡ both_text terminal.answer.text card.answer.text
+      → made.answer.status ≡ worse terminal.answer.status card.answer.status
+      → IfOk made.note (λ text. IsOkAnd terminal.note (λ a. IsOkAnd card.note (λ b. string_bytes text ≡ string_bytes a
+      ++ string_bytes b)))
+      → AreOf (AreReplayed e) (AreDifferenceNotes e) made
+  of-both terminal card made one other text ended notes = (
+    record {
+      terminal = terminal.answer.text;
+      one = terminal.answer.status;
+      card = card.answer.text;
+      other = card.answer.status;
+      is_terminal = one.0;
+      is_card = other.0;
+      is_text = text;
+      is_ended = ended;
+    },
+    joined-notes made.note terminal.note card.note one.1 other.1 notes,
+  )

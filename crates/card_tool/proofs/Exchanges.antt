@@ -7,6 +7,8 @@ use Rattle.octet_core.specs.Octets.{AreOctets}
 use Rattle.atr_core.proofs.Goes as atr_goes
 use Rattle.atr_core.proofs.Unique.{one-accepted}
 use Rattle.card_words.specs.declared.request.End.{End}
+use Rattle.card_words.specs.declared.request.End.TheVariants as end
+use Rattle.apdu_list.specs.Listing.{apdus_text}
 use Rattle.exchange_text.specs.Exchange.{ExchangeParts, migrated}
 use Rattle.exchange_text.specs.Reading.{at, atr_by, atr_said, exchange_by, exchange_said, is_line_feed, lines_said, octets_said, parts_said, version_said, words_of}
 use Rattle.exchange_core.specs.Replay as replay
@@ -14,9 +16,11 @@ use Rattle.exchange_text.specs.Text.{exchange_text}
 use Rattle.exchange_text.specs.declared.exchange.Version.{Version}
 use Rattle.exchange_text.specs.declared.fault.ExchangeFault.{ExchangeFault}
 use Rattle.exchange_core.specs.declared.replaying.Side.{Side}
+use Rattle.exchange_core.specs.declared.replaying.Side.TheVariants as side
 use Rattle.exchange_core.proofs.Found.{one-replay, some-replay}
 use Rattle.exchange_text.proofs.Sound.{bind, octets-sound, same-ok}
-use Rattle.card_tool.specs.ExchangeTexts.{agrees_text, differs_text, file_fault_text, side_of, IsReplayed, Migrates, Replays, agrees, differs}
+use Rattle.card_tool.specs.ExchangeTexts.{agrees_text, both_text, differs_text, file_fault_text, AreReplayed, IsReplayed, IsReplayedAt, Lists, Migrates, Replays, agrees, differs}
+use Rattle.card_tool.specs.Lines.{worse}
 use Rattle.card_kinds.specs.declared.status.Status.{Status}
 use Rattle.card_kinds.specs.declared.status.Status.TheVariants as status
 use Rattle.card_kinds.proofs.OneOf.{OneText, ended-by, plain}
@@ -111,6 +115,46 @@ module _ (e : ExchangeParts) (which : Side) where
   some-replayed octets = let r = some-replay one-accepted e.atr e.lines which (atr_goes.one-verdict e.atr octets) in
       replayed-by r.0 r.1
 
+  replayed-at : AreOctets e.atr → OneText (IsReplayed e which)
+  replayed-at octets = record { one = one-replayed; some = some-replayed octets }
+
+module _ (e : ExchangeParts) where
+  one-both : (t u : List ℕ) (s q : Status) → AreReplayed e t s → AreReplayed e u q → (t ≡ u) × (s ≡ q)
+  one-both t u s q h g =
+      let terminal = one-replayed e side.Terminal h.terminal g.terminal h.one g.one h.is_terminal g.is_terminal in
+      let card = one-replayed e side.Card h.card g.card h.other g.other h.is_card g.is_card in (
+        h.is_text ∙ ap (λ (l : List ℕ). both_text l h.card) terminal.0 ∙ ap (both_text g.terminal) card.0
+            ∙ sym g.is_text,
+        h.is_ended ∙ ap (λ (w : Status). worse w h.other) terminal.1 ∙ ap (worse g.one) card.1 ∙ sym g.is_ended,
+      )
+
+  both-replayed : AreOctets e.atr → OneText (AreReplayed e)
+  both-replayed octets =
+      let terminal = some-replayed e side.Terminal octets in
+      let card = some-replayed e side.Card octets in
+      record {
+        one = one-both;
+        some = (
+          both_text terminal.0 card.0,
+          worse terminal.1 card.1,
+          record {
+            terminal = terminal.0;
+            one = terminal.1;
+            card = card.0;
+            other = card.1;
+            is_terminal = terminal.2;
+            is_card = card.2;
+            is_text = refl;
+            is_ended = refl;
+          },
+        );
+      }
+
+  at-once : (which : End) → AreOctets e.atr → OneText (IsReplayedAt which e)
+  at-once end.Terminal octets = replayed-at e side.Terminal octets
+  at-once end.Card octets = replayed-at e side.Card octets
+  at-once end.Both octets = both-replayed octets
+
 -- ---- files
 
 -- an exchange is told so, where it was said; else its text's fault
@@ -124,12 +168,15 @@ told-said Told (Err fault) once = ended-by (file_fault_text fault) status.Fault
 -- a file that is replayed comes to one text with one status
 pub replayed-once : (which : End) (file : List ℕ) → OneText (Replays which file)
 replayed-once which file =
-    told-said (λ e. IsReplayed e (side_of which)) (exchange_said file) (λ e is. record {
-      one = one-replayed e (side_of which);
-      some = some-replayed e (side_of which) (text-octets (slice_split is_line_feed file) e is);
-    })
+    told-said (λ e. IsReplayedAt which e) (exchange_said file)
+    (λ e is. at-once e which (text-octets (slice_split is_line_feed file) e is))
 
 -- and so does one that is migrated
 pub migrated-once : (file : List ℕ) → OneText (Migrates file)
 migrated-once file = told-said (λ e text ended. (text ≡ exchange_text (migrated e)) × (ended ≡ status.Accepted))
     (exchange_said file) (λ e is. plain (exchange_text (migrated e)))
+
+-- and one whose commands and answers are listed
+pub listed-once : (file : List ℕ) → OneText (Lists file)
+listed-once file = told-said (λ e text ended. (text ≡ apdus_text e.lines) × (ended ≡ status.Accepted))
+    (exchange_said file) (λ e is. plain (apdus_text e.lines))

@@ -2,6 +2,7 @@
 use Rattle.std.specs.Prelude.{◌≡◌, ℕ, ◌+◌, List, ◌++◌, codes, decimal, length, Some, None, Result, Ok, Err, MatchResult}
 use Rattle.card_words.specs.declared.request.End.{End}
 use Rattle.card_words.specs.declared.request.End.TheVariants as end
+use Rattle.apdu_list.specs.Listing.{apdus_text}
 use Rattle.exchange_text.specs.Exchange.{ExchangeParts, migrated}
 use Rattle.exchange_text.specs.Faults.{exchange_fault_text}
 use Rattle.exchange_text.specs.Reading.{exchange_said}
@@ -11,13 +12,9 @@ use Rattle.exchange_text.specs.declared.fault.ExchangeFault.{ExchangeFault}
 use Rattle.exchange_core.specs.declared.replaying.ReplayFault.{ReplayFault}
 use Rattle.exchange_core.specs.declared.replaying.Side.{Side}
 use Rattle.exchange_core.specs.declared.replaying.Side.TheVariants as side
+use Rattle.card_tool.specs.Lines.{worse}
 use Rattle.card_kinds.specs.declared.status.Status.{Status}
 use Rattle.card_kinds.specs.declared.status.Status.TheVariants as status
-
--- the end that is replayed
-abbrev pub side_of : End → Side
-side_of end.Terminal = side.Terminal
-side_of end.Card = side.Card
 
 -- the end does what all lines of the file say, the header's and that of the answer to reset too
 abbrev pub agrees_text : ExchangeParts → List ℕ
@@ -26,6 +23,10 @@ agrees_text e = codes "ok " ++ (decimal (length e.lines + 2) ++ codes " lines\n"
 -- the end gives something else at this line
 abbrev pub differs_text : ℕ → List ℕ → List ℕ
 differs_text line gives = codes "line " ++ (decimal line ++ (codes ": engine gives " ++ (gives ++ codes "\n")))
+
+-- what is said of both ends, each with its name before it
+abbrev pub both_text : List ℕ → List ℕ → List ℕ
+both_text terminal card = codes "terminal: " ++ (terminal ++ (codes "card: " ++ card))
 
 -- the text is none of a file
 abbrev pub file_fault_text : ExchangeFault → List ℕ
@@ -44,13 +45,32 @@ pub data IsReplayed (e : ExchangeParts) (which : Side) (text : List ℕ) (ended 
   differs : (line : ℕ) (gives : List ℕ) → replay.Replays e.atr e.lines which (Some (line, gives))
       → text ≡ differs_text line gives → ended ≡ status.Refused → IsReplayed e which text ended
 
+-- what it comes to at both ends, which end together as the worse of them
+pub record AreReplayed (e : ExchangeParts) (text : List ℕ) (ended : Status) : Type 0 where
+  pub terminal : List ℕ
+  pub one : Status
+  pub card : List ℕ
+  pub other : Status
+  pub is_terminal : IsReplayed e side.Terminal terminal one
+  pub is_card : IsReplayed e side.Card card other
+  pub is_text : text ≡ both_text terminal card
+  pub is_ended : ended ≡ worse one other
+
+abbrev pub IsReplayedAt : End → ExchangeParts → List ℕ → Status → Type 0
+IsReplayedAt end.Terminal e = IsReplayed e side.Terminal
+IsReplayedAt end.Card e = IsReplayed e side.Card
+IsReplayedAt end.Both e = AreReplayed e
+
 -- what a file's octets come to, where its exchange is told so; or their first fault
 abbrev pub Tells : (ExchangeParts → List ℕ → Status → Type 0) → List ℕ → List ℕ → Status → Type 0
 Tells Told file text ended = MatchResult (exchange_said file) (λ e. Told e text ended)
     (λ fault. (text ≡ file_fault_text fault) × (ended ≡ status.Fault))
 
 abbrev pub Replays : End → List ℕ → List ℕ → Status → Type 0
-Replays which = Tells (λ e. IsReplayed e (side_of which))
+Replays which = Tells (λ e. IsReplayedAt which e)
 
 abbrev pub Migrates : List ℕ → List ℕ → Status → Type 0
 Migrates = Tells (λ e text ended. (text ≡ exchange_text (migrated e)) × (ended ≡ status.Accepted))
+
+abbrev pub Lists : List ℕ → List ℕ → Status → Type 0
+Lists = Tells (λ e text ended. (text ≡ apdus_text e.lines) × (ended ≡ status.Accepted))

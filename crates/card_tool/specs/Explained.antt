@@ -12,8 +12,9 @@ use Rattle.card_words.specs.declared.fault.Fault.{Fault}
 use Rattle.card_words.specs.declared.fault.Fault.TheVariants as fault
 use Rattle.card_words.specs.declared.request.Asked.TheVariants.{Once}
 use Rattle.card_words.specs.declared.request.End.{End}
+use Rattle.card_words.specs.declared.request.End.TheVariants as end
 use Rattle.card_words.specs.declared.request.Request.{Request}
-use Rattle.card_words.specs.declared.request.Request.TheVariants.{BuildTidy, BuildFill, Tell, Replay, Migrate, Simulate}
+use Rattle.card_words.specs.declared.request.Request.TheVariants.{BuildTidy, BuildFill, Tell, Replay, Migrate, Apdus, Simulate}
 use Rattle.card_kinds.specs.ForestTexts.{forest_codec}
 use Rattle.card_kinds.specs.ListTexts.{list_codec}
 use Rattle.card_kinds.specs.declared.answer.Answer.{Answer}
@@ -25,10 +26,10 @@ use Rattle.exchange_core.specs.Replay as replay
 use Rattle.exchange_text.specs.declared.fault.ExchangeFault.{ExchangeFault}
 use Rattle.exchange_text.specs.declared.fault.ExchangeFault.TheVariants.{Header, End as EndAt, Word, Hex, Falls, Memory}
 use Rattle.exchange_core.specs.declared.replaying.Side.{Side}
+use Rattle.exchange_core.specs.declared.replaying.Side.TheVariants as side
 use Rattle.tlv_core.specs.declared.known.Known.{Known}
 use Rattle.explainer.specs.Notes.{IsSessionNote, large_note, line_note}
 use Rattle.card_tool.specs.Answers.{IsAnswerTo, IsRight, IsRightTo}
-use Rattle.card_tool.specs.ExchangeTexts.{side_of}
 use Rattle.card_tool.specs.Files.{largest_file, ReadsWhole}
 use Rattle.card_tool.specs.Judged.{IsKindNote, IsNoteBy}
 
@@ -57,9 +58,22 @@ pub data IsDifferenceNote (e : ExchangeParts) (which : Side) (note : List ℕ) :
   differs : (line : ℕ) (gives : List ℕ) → replay.Replays e.atr e.lines which (Some (line, gives))
       → IsLineNote line note → IsDifferenceNote e which note
 
+-- the notes on one that is replayed at both ends: the terminal's, and then the card's
+pub record AreDifferenceNotes (e : ExchangeParts) (note : List ℕ) : Type 0 where
+  pub terminal : List ℕ
+  pub card : List ℕ
+  pub is_terminal : IsDifferenceNote e side.Terminal terminal
+  pub is_card : IsDifferenceNote e side.Card card
+  pub is_note : note ≡ terminal ++ card
+
+abbrev pub IsNoteAt : End → ExchangeParts → List ℕ → Type 0
+IsNoteAt end.Terminal e = IsDifferenceNote e side.Terminal
+IsNoteAt end.Card e = IsDifferenceNote e side.Card
+IsNoteAt end.Both e = AreDifferenceNotes e
+
 -- the same of a text that is to be a file
 abbrev pub IsReplayNote : End → List ℕ → List ℕ → Type 0
-IsReplayNote end text note = MatchResult (exchange_said text) (λ e. IsDifferenceNote e (side_of end) note)
+IsReplayNote end text note = MatchResult (exchange_said text) (λ e. IsNoteAt end e note)
     (λ fault. IsLineNote (line_of fault) note)
 
 -- ---- notes on what a request is about
@@ -85,6 +99,7 @@ IsNoteTo (BuildTidy given) file ended note = IsOkAnd (octets_given given file) (
 IsNoteTo (BuildFill list known) file ended note = IsFillNote list known note
 IsNoteTo (Replay end) file ended note = IsOkAnd file (λ text. IsReplayNote end text note)
 IsNoteTo Migrate file ended note = IsOkAnd file (λ text. IsFileNote text note)
+IsNoteTo Apdus file ended note = IsOkAnd file (λ text. IsFileNote text note)
 IsNoteTo (Simulate session) file ended note = IsSimulationNote session.atr ended note
 IsNoteTo _ file ended note = ⊥
 

@@ -1,7 +1,7 @@
 pub mod Files
+pub mod Lines
 pub mod ExchangeTexts
 pub mod SimulationTexts
-pub mod Lines
 pub mod Conversations
 pub mod Answers
 pub mod LineAnswers

@@ -1,15 +1,19 @@
-//! Recorded exchanges, replayed and migrated.
+//! Recorded exchanges, replayed, migrated and listed.
 
-ghost use Rattle.std.specs.Prelude.{◌≡◌, ◌≢◌, IfOk};
+ghost use Rattle.std.specs.Prelude.{◌≡◌, ◌≢◌, ◌++◌, IfOk, IsOkAnd, string_bytes};
+ghost use Rattle.apdu_list.specs.Listing.{apdus_text};
 ghost use Rattle.exchange_text.specs.Text.{exchange_text};
 ghost use Rattle.exchange_text.specs.declared.fault.ExchangeFault.TheVariants.{Memory};
-ghost use Rattle.card_tool.specs.ExchangeTexts.{file_fault_text, side_of, IsOutcome, IsReplayed, Migrates, Replays};
-ghost use Rattle.card_tool.specs.Explained.{line_of, IsDifferenceNote, IsFileNote, IsLineNote, IsReplayNote};
+ghost use Rattle.card_tool.specs.ExchangeTexts.{both_text, file_fault_text, IsOutcome, IsReplayed, IsReplayedAt, Lists, Migrates, Replays};
+ghost use Rattle.card_tool.specs.Explained.{line_of, IsDifferenceNote, IsFileNote, IsLineNote, IsNoteAt, IsReplayNote};
 ghost use Rattle.card_tool.specs.Judged.{AreOf};
+ghost use Rattle.card_tool.specs.Lines.{worse};
 ghost use Rattle.card_kinds.specs.declared.status.Status.TheVariants as ended;
 
 use crate::file_notes::{difference_note, fault_note};
 use crate::judged::WithNote;
+use crate::lines::worse;
+use apdu_list::list_apdus;
 use card_kinds::{Answer, Status};
 use card_words::End;
 use exchange_core::{
@@ -18,22 +22,58 @@ use exchange_core::{
 use octet_core::Octets;
 use std::alloc::{AllocError, Global};
 
-/// Whether the end does what the file says, or the first line at which it gives something else, or the
-/// file's fault.
+/// Whether the end does what the file says, or the first line at which it gives something else, each of both
+/// ends where both are named; or the file's fault.
 pub(crate) fn replayed(alloc: Global, file: Octets, end: End) -> Result<Answer, AllocError>
     ensures { IfOk result (λ answer. Replays end file answer.text answer.status) }
 {
     match read_exchange(alloc, file.get()) {
-        Ok(exchange) => {
-            let side = side(end);
-            let outcome = replay(alloc, &exchange, side);
-            agreement(alloc, &exchange, side, &outcome)
-        }
+        Ok(exchange) => replayed_at(alloc, &exchange, end),
         Err(fault) => refused(alloc, fault),
     }
 }
 
-/// The same, with a note on the first line that the end does otherwise, or on that of the file's fault.
+/// Whether the end that is named does what the exchange says.
+fn replayed_at(alloc: Global, exchange: &Exchange, end: End) -> Result<Answer, AllocError>
+    ensures { IfOk result (λ answer. IsReplayedAt end exchange.now answer.text answer.status) }
+{
+    match end {
+        End::Terminal => replayed_by(alloc, exchange, Side::Terminal),
+        End::Card => replayed_by(alloc, exchange, Side::Card),
+        End::Both => {
+            let terminal = replayed_by(alloc, exchange, Side::Terminal)?;
+            let card = replayed_by(alloc, exchange, Side::Card)?;
+            both(alloc, &terminal, &card)
+        }
+    }
+}
+
+/// Whether this end does what the exchange says.
+fn replayed_by(alloc: Global, exchange: &Exchange, side: Side) -> Result<Answer, AllocError>
+    ensures { IfOk result (λ answer. IsReplayed exchange.now side answer.text answer.status) }
+{
+    let outcome = replay(alloc, exchange, side);
+    agreement(alloc, exchange, side, &outcome)
+}
+
+/// What is said of both ends, each with its name before it.
+fn both(alloc: Global, terminal: &Answer, card: &Answer) -> Result<Answer, AllocError>
+    ensures text { IfOk result (λ both. both.text ≡ both_text terminal.now.text card.now.text) }
+    ensures status { IfOk result (λ both.
+        both.status ≡ worse terminal.now.status card.now.status) }
+{
+    let mut text = Vec::new(alloc);
+    text.extend_from_slice("terminal: ".as_bytes())?;
+    text.extend_from_slice(terminal.text.get())?;
+    text.extend_from_slice("card: ".as_bytes())?;
+    text.extend_from_slice(card.text.get())?;
+    Ok(Answer {
+        text: Octets::of(text),
+        status: worse(terminal.status, card.status),
+    })
+}
+
+/// The same, with a note on the first line that an end does otherwise, or on that of the file's fault.
 pub(crate) fn replayed_with_note(
     alloc: Global,
     file: &[u8],
@@ -42,22 +82,57 @@ pub(crate) fn replayed_with_note(
     ensures { IfOk result (AreOf (Replays end file.now) (IsReplayNote end file.now)) }
 {
     match read_exchange(alloc, file) {
-        Ok(exchange) => agreement_with_note(alloc, file, &exchange, end),
+        Ok(exchange) => noted_at(alloc, file, &exchange, end),
         Err(fault) => refused_with_note(alloc, file, fault),
     }
 }
 
-/// Whether the end does what the exchange says, with a note.
-fn agreement_with_note(
+/// Whether the end that is named does what the exchange says, with a note.
+fn noted_at(
     alloc: Global,
     file: &[u8],
     exchange: &Exchange,
     end: End,
 ) -> Result<WithNote, AllocError>
-    ensures { IfOk result (AreOf (IsReplayed exchange.now (side_of end))
-        (IsDifferenceNote exchange.now (side_of end))) }
+    ensures { IfOk result (AreOf (IsReplayedAt end exchange.now) (IsNoteAt end exchange.now)) }
 {
-    let side = side(end);
+    match end {
+        End::Terminal => noted_by(alloc, file, exchange, Side::Terminal),
+        End::Card => noted_by(alloc, file, exchange, Side::Card),
+        End::Both => {
+            let terminal = noted_by(alloc, file, exchange, Side::Terminal)?;
+            let card = noted_by(alloc, file, exchange, Side::Card)?;
+            let answer = both(alloc, &terminal.answer, &card.answer)?;
+            let note = joined(terminal.note, card.note);
+            Ok(WithNote { answer, note })
+        }
+    }
+}
+
+/// One note and then another, where both could be made.
+fn joined(
+    first: Result<String, AllocError>,
+    second: Result<String, AllocError>,
+) -> Result<String, AllocError>
+    ensures { IfOk result (λ note. IsOkAnd first (λ one. IsOkAnd second (λ other.
+        string_bytes note ≡ string_bytes one ++ string_bytes other))) }
+{
+    let mut note = first?;
+    let other = second?;
+    note.push_str(other.as_str())?;
+    Ok(note)
+}
+
+/// Whether this end does what the exchange says, with a note.
+fn noted_by(
+    alloc: Global,
+    file: &[u8],
+    exchange: &Exchange,
+    side: Side,
+) -> Result<WithNote, AllocError>
+    ensures { IfOk result (AreOf (IsReplayed exchange.now side)
+        (IsDifferenceNote exchange.now side)) }
+{
     let outcome = replay(alloc, exchange, side);
     let answer = agreement(alloc, exchange, side, &outcome)?;
     let note = difference_note(alloc, file, exchange, side, &outcome);
@@ -104,6 +179,44 @@ pub(crate) fn migrated_with_note(alloc: Global, file: &[u8]) -> Result<WithNote,
         }
         Err(fault) => refused_with_note(alloc, file, fault),
     }
+}
+
+/// The commands and answers of the file, or its fault.
+pub(crate) fn listed(alloc: Global, file: Octets) -> Result<Answer, AllocError>
+    ensures { IfOk result (λ answer. Lists file answer.text answer.status) }
+{
+    match read_exchange(alloc, file.get()) {
+        Ok(exchange) => list(alloc, &exchange),
+        Err(fault) => refused(alloc, fault),
+    }
+}
+
+/// The commands and answers of the file, or its fault, with a note on the line that this is in.
+pub(crate) fn listed_with_note(alloc: Global, file: &[u8]) -> Result<WithNote, AllocError>
+    ensures { IfOk result (AreOf (Lists file.now) (IsFileNote file.now)) }
+{
+    match read_exchange(alloc, file) {
+        Ok(exchange) => {
+            let answer = list(alloc, &exchange)?;
+            Ok(WithNote {
+                answer,
+                note: Ok(String::new(alloc)),
+            })
+        }
+        Err(fault) => refused_with_note(alloc, file, fault),
+    }
+}
+
+/// The commands and answers of an exchange.
+fn list(alloc: Global, exchange: &Exchange) -> Result<Answer, AllocError>
+    ensures text { IfOk result (λ answer. answer.text ≡ apdus_text exchange.now.lines) }
+    ensures status { IfOk result (λ answer. answer.status ≡ ended.Accepted) }
+{
+    let text = list_apdus(alloc, exchange)?;
+    Ok(Answer {
+        text: Octets::of(text),
+        status: Status::Accepted,
+    })
 }
 
 /// Whether the end does what the exchange says, by what replaying it came to.
@@ -153,14 +266,4 @@ fn refused(alloc: Global, fault: ExchangeFault) -> Result<Answer, AllocError>
     }
     let text = format!(in alloc; "fault: {fault}\n")?;
     Ok(Answer::of(text, Status::Fault))
-}
-
-/// The end that is replayed.
-pub(crate) fn side(end: End) -> Side
-    ensures { result ≡ side_of end }
-{
-    match end {
-        End::Terminal => Side::Terminal,
-        End::Card => Side::Card,
-    }
 }

@@ -12,7 +12,7 @@ ghost use Rattle.card_words.specs.Value.{UnlessMemory};
 ghost use Rattle.card_words.specs.Words.{AskForFile, IsSized, NeedsFile};
 ghost use Rattle.command_line.specs.Form.{texts};
 
-use crate::exchange::{migrated_with_note, replayed_with_note};
+use crate::exchange::{listed_with_note, migrated_with_note, replayed_with_note};
 use crate::file::{LARGEST_FILE, read_whole};
 use crate::judged::{answer_with_note, filled, tidied};
 use crate::program::answer_to;
@@ -168,6 +168,11 @@ fn exchange_explained<R: Source>(
         Request::Migrate => {
             let file = read_whole(alloc, reader)?;
             let judged = migrated_with_note(alloc, file.get())?;
+            Ok(noted(judged.answer, judged.note))
+        }
+        Request::Apdus => {
+            let file = read_whole(alloc, reader)?;
+            let judged = listed_with_note(alloc, file.get())?;
             Ok(noted(judged.answer, judged.note))
         }
         Request::Simulate(session) => {

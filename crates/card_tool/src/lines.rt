@@ -269,7 +269,7 @@ fn line_end(aim: Aim) -> &'static str
 }
 
 /// The worse of two ends.
-fn worse(status: Status, other: Status) -> Status
+pub(crate) fn worse(status: Status, other: Status) -> Status
     ensures { result ≡ worse status other }
 {
     match (status, other) {

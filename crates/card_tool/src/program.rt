@@ -162,6 +162,10 @@ pub(crate) fn answer_to<R: Source>(
             let file = read_whole(alloc, reader)?;
             Ok(exchange::migrated(alloc, file)?)
         }
+        Request::Apdus => {
+            let file = read_whole(alloc, reader)?;
+            Ok(exchange::listed(alloc, file)?)
+        }
         Request::Simulate(session) => Ok(simulation::simulated(alloc, &session)?),
         Request::Help(text) => Ok(Answer::told(text.into_inner())),
         Request::Version => Ok(Answer::told(String::from_str(alloc, VERSION_LINE)?)),

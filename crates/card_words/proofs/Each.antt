@@ -22,12 +22,6 @@ then-one {A = A} said values one word words h = rw h (go (each said words))
     go (Ok more) = ap done (sym (append_assoc values (one ∷ []) more))
     go (Err fault) = refl
 
--- where the next word is at fault, that is the fault of all
-pub then-fault : {A : Type 0} (said : List ℕ → Result A Fault) (values : List A) (fault : Fault) (word : List ℕ)
-    (words : List (List ℕ)) → said word ≡ Err fault
-    → then values (each said (word ∷ words)) ≡ Err fault
-then-fault said values fault word words h = rw h refl
-
 -- one more word is read
 pub next-one : {A : Type 0} (said : List ℕ → Result A Fault) (values after : List A) (one : A)
     (words : List (Bor (List ℕ))) (i : ℕ) (d : Bor (List ℕ)) (all : Result (List A) Fault) → i < length words

@@ -25,7 +25,7 @@ use Rattle.card_words.specs.declared.request.Task.{Task}
 use Rattle.card_words.specs.declared.request.Asked.{Asked}
 use Rattle.card_words.specs.declared.request.Asked.TheVariants.{Once, Lines}
 use Rattle.card_words.specs.declared.request.Request.{Request}
-use Rattle.card_words.specs.declared.request.Request.TheVariants.{BuildTidy, Migrate, Help, Version}
+use Rattle.card_words.specs.declared.request.Request.TheVariants.{BuildTidy, Migrate, Apdus, Help, Version}
 
 -- where two steps come to a value, the first comes to one, and from that the second to this
 pub both-steps : {A B : Type 0} (r : Result A Fault) (f : A → Result B Fault) (b : B) → r >>= f ≡ Ok b → (a : A)
@@ -238,13 +238,17 @@ request-proper name rows request h =
             | inr last ↦
                 elim (one-of (bytes_eq name (codes "migrate")) (Ok Migrate) _ request last) [
                   | inl migrate ↦ subst IsProper (same Migrate request migrate) (tt, tt)
-                  | inr both ↦
-                      elim (one-of (bytes_eq name (codes "simulate")) _ (Err Words) request both) [
-                        | inl simulate ↦
-                            let session = both-steps (session_of rows) _ request simulate in
-                            let proper = session-proper rows session.0 session.1 in
-                            subst IsProper (same _ request session.2) (proper.0, (proper.1, proper.2))
-                        | inr none ↦ cc none
+                  | inr listed ↦
+                      elim (one-of (bytes_eq name (codes "apdus")) (Ok Apdus) _ request listed) [
+                        | inl apdus ↦ subst IsProper (same Apdus request apdus) (tt, tt)
+                        | inr both ↦
+                            elim (one-of (bytes_eq name (codes "simulate")) _ (Err Words) request both) [
+                              | inl simulate ↦
+                                  let session = both-steps (session_of rows) _ request simulate in
+                                  let proper = session-proper rows session.0 session.1 in
+                                  subst IsProper (same _ request session.2) (proper.0, (proper.1, proper.2))
+                              | inr none ↦ cc none
+                            ]
                       ]
                 ]
           ]

@@ -1,6 +1,6 @@
 -- A simulated session as words: an answer to reset, pairs COMMAND:REPLY, and lists of blocks.
-use Rattle.std.specs.Prelude.{◌≤◌, ◌==◌, ℕ, nat_lt, List, [], ◌∷◌, Option, Some, None, Result, Ok, Err, if◌then◌else◌}
-use Rattle.std.specs.List.{slice_split}
+use Rattle.std.specs.Prelude.{◌≤◌, ◌==◌, ◌&&◌, ◌+◌, ◌-◌, ◌++◌, ℕ, Bool, zero, suc, nat_le, nat_lt, length, List, [], ◌∷◌, Option, Some, None, Result, Ok, Err, if◌then◌else◌}
+use Rattle.std.specs.List.{slice_split, position_or_len, before_first, after_first}
 use Rattle.octet_core.specs.Decimal.{decimal_number}
 use Rattle.octet_core.specs.Octets.{AreOctets}
 use Rattle.card_words.specs.Value.{◌>>=◌, each, octets_of_word, parted}
@@ -35,9 +35,43 @@ counted (Some n) = if nat_lt 0 n then Ok n else Err Words
 abbrev pub block_number : List ℕ → Result ℕ Fault
 block_number word = counted (decimal_number word)
 
--- one number or more, parted by commas
+abbrev pub is_dash : ℕ → Bool
+is_dash x = x == 45
+
+-- A part of a list: a number, or two numbers with a dash between them, the first and the last of blocks that follow one
+-- another.
+abbrev pub block_range : List ℕ → Result (ℕ × ℕ) Fault
+block_range word =
+    if position_or_len is_dash word == length word then block_number word >>= (λ n. Ok (n, n))
+    else block_number (before_first is_dash word) >>= (λ first.
+    block_number (after_first is_dash word) >>= (λ last. Ok (first, last)))
+
+-- so many numbers, one after another
+abbrev pub numbers_from : ℕ → ℕ → List ℕ
+numbers_from first zero = []
+numbers_from first (suc count) = first ∷ numbers_from (first + 1) count
+
+-- how many blocks a list names at most, each as often as it is named
+abbrev pub most_named : ℕ
+most_named = 1000000
+
+-- the numbers of a range after those that the parts before it name; the last isn't below the first
+abbrev pub with_range : List ℕ → ℕ → ℕ → Result (List ℕ) Fault
+with_range numbers first last =
+    if nat_le first last && nat_le (length numbers + (last + 1 - first)) most_named
+    then Ok (numbers ++ numbers_from first (last + 1 - first))
+    else Err Words
+
+abbrev pub with_part : List ℕ → List ℕ → Result (List ℕ) Fault
+with_part numbers word = block_range word >>= (λ range. with_range numbers range.0 range.1)
+
+abbrev pub with_parts : List ℕ → List (List ℕ) → Result (List ℕ) Fault
+with_parts numbers [] = Ok numbers
+with_parts numbers (word ∷ words) = with_part numbers word >>= (λ longer. with_parts longer words)
+
+-- one part or more, parted by commas
 abbrev pub block_numbers : List ℕ → Result (List ℕ) Fault
-block_numbers word = each block_number (slice_split (λ x. x == 44) word)
+block_numbers word = with_parts [] (slice_split (λ x. x == 44) word)
 
 -- no blocks where there is no word
 abbrev pub blocks_of : Option (List ℕ) → Result (List ℕ) Fault

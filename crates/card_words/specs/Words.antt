@@ -29,7 +29,7 @@ use Rattle.card_words.specs.declared.request.Asked.{Asked}
 use Rattle.card_words.specs.declared.request.Asked.TheVariants.{Once, Lines}
 use Rattle.card_words.specs.declared.request.Request.{Request}
 use Rattle.card_words.specs.declared.session.Session.{Session}
-use Rattle.card_words.specs.declared.request.Request.TheVariants.{BuildChain, BuildTidy, BuildFill, Tell, Replay, Migrate, Simulate, Help, Version}
+use Rattle.card_words.specs.declared.request.Request.TheVariants.{BuildChain, BuildTidy, BuildFill, Tell, Replay, Migrate, Apdus, Simulate, Help, Version}
 use Rattle.block_core.specs.declared.pcb.Number.{Number}
 use Rattle.block_core.specs.declared.pcb.Number.TheVariants.{Zero, One}
 
@@ -149,12 +149,13 @@ build_of rows = do
   what ← needed (first_of (codes "what") rows)
   build_by what (all_or_none (all_of (codes "words") rows)) (first_of (codes "stdin") rows)
 
--- an end as a word
+-- an end as a word, or both
 abbrev pub end_of_word : List ℕ → Result End Fault
 end_of_word word =
     if bytes_eq word (codes "terminal") then Ok end.Terminal
     else (if bytes_eq word (codes "card") then Ok end.Card
-    else Err Words)
+    else (if bytes_eq word (codes "both") then Ok end.Both
+    else Err Words))
 
 abbrev pub replay_of : List Row → Result Request Fault
 replay_of rows = do
@@ -185,8 +186,9 @@ request_by name rows =
     if bytes_eq name (codes "build") then build_of rows
     else (if bytes_eq name (codes "replay") then replay_of rows
     else (if bytes_eq name (codes "migrate") then Ok Migrate
+    else (if bytes_eq name (codes "apdus") then Ok Apdus
     else (if bytes_eq name (codes "simulate") then session_of rows >>= (λ session. Ok (Simulate session))
-    else Err Words)))
+    else Err Words))))
 
 -- a request that was read, as what is asked for
 abbrev pub once_of : Result Request Fault → Result Asked Fault
@@ -213,6 +215,7 @@ IsSized (BuildTidy given) = Unit {0}
 IsSized (BuildFill list known) = Unit {0}
 IsSized (Replay side) = Unit {0}
 IsSized Migrate = Unit {0}
+IsSized Apdus = Unit {0}
 IsSized (Simulate session) = IsSize session.ifsd
 IsSized (Help help) = Unit {0}
 IsSized Version = Unit {0}
@@ -229,6 +232,7 @@ HasOctets (BuildTidy given) = GivesOctets given
 HasOctets (BuildFill list known) = AreOctets list
 HasOctets (Replay side) = Unit {0}
 HasOctets Migrate = Unit {0}
+HasOctets Apdus = Unit {0}
 HasOctets (Simulate session) = AreOctets session.atr × AreOctetPairs session.pairs
 HasOctets (Help help) = Unit {0}
 HasOctets Version = Unit {0}
@@ -243,6 +247,7 @@ NeedsFile (Tell task given) = IsFromReader given
 NeedsFile (BuildTidy given) = IsFromReader given
 NeedsFile (Replay side) = Unit {0}
 NeedsFile Migrate = Unit {0}
+NeedsFile Apdus = Unit {0}
 NeedsFile _ = ⊥
 
 -- a request that takes what it reads for octets, as they are

@@ -29,13 +29,15 @@ pub enum Kind {
     Dol,
 }
 
-/// An end of a line.
+/// An end of a line, or both of them.
 #[derive(Clone, Copy, Debug, PartialEq, Eq)]
 pub enum End {
     /// The terminal's end.
     Terminal,
     /// The card's end.
     Card,
+    /// Both, the terminal's first.
+    Both,
 }
 
 /// What octets are taken for.
@@ -152,10 +154,12 @@ pub enum Request {
         /// the octets are a list.
         known: Result<Knowns, Fault>,
     },
-    /// Whether the engine of this end does what the file of recorded exchanges says.
+    /// Whether the engine of this end, or of each, does what the file of recorded exchanges says.
     Replay(End),
     /// The file of recorded exchanges in the newest version.
     Migrate,
+    /// The commands and answers of the file of recorded exchanges.
+    Apdus,
     /// The exchange that a recorder of both ends writes of this session.
     Simulate(Session),
     /// This text, by which `clap` answers a call for help.

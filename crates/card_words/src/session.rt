@@ -1,7 +1,8 @@
 //! Simulated sessions as words.
 
-ghost use Rattle.std.specs.Prelude.{◌≡◌, ◌≤◌, ◌++◌, ◌∷◌, [], map, option_map, IfOk, OnOk};
-ghost use Rattle.card_words.specs.Session.{block_number, block_numbers, blocks_of, pair_by, pair_of, pairs_of};
+ghost use Rattle.std.specs.Prelude.{◌≡◌, ◌<◌, ◌≤◌, ◌+◌, ◌-◌, ◌^◌, ◌&&◌, ◌++◌, ◌∷◌, [], length, map, nat_le, option_map, IfOk, OnOk};
+ghost use Rattle.card_words.specs.Session.{block_number, block_numbers, block_range, blocks_of, most_named, numbers_from, pair_by, pair_of, pairs_of};
+ghost use Rattle.card_words.specs.Session as session;
 ghost use Rattle.card_words.specs.Value.{UnlessMemory};
 
 use crate::fault::Fault;
@@ -100,6 +101,45 @@ impl BlockNumbers {
     {
         self.numbers.as_slice()
     }
+
+    /// These and the blocks that a part of a list names.
+    fn with_part(self, word: &str) -> Result<BlockNumbers, Fault>
+        ensures { UnlessMemory result (session.with_part self word.now) }
+    {
+        let (first, last) = read_range(word)?;
+        self.with_range(first, last)
+    }
+
+    /// These and the blocks of a range, where these are not too many.
+    fn with_range(self, first: u64, last: u64) -> Result<BlockNumbers, Fault>
+        requires { last < 10 ^ 15 }
+        ensures { UnlessMemory result (session.with_range self first last) }
+    {
+        if !self.have_room(first, last) {
+            return Err(Fault::Words);
+        }
+        Ok(self.with_numbers(first, last + 1)?)
+    }
+
+    /// Whether a range is one, and a list may name its blocks after these.
+    fn have_room(&self, first: u64, last: u64) -> bool
+        requires { last < 10 ^ 15 }
+        ensures { result ≡ (nat_le first last
+            && nat_le (length self.now + (last + 1 - first)) most_named) }
+    {
+        first <= last && self.numbers.len() as u64 + (last + 1 - first) <= MOST_NAMED
+    }
+
+    /// These and the numbers from one on, up to another without it.
+    fn with_numbers(self, first: u64, end: u64) -> Result<BlockNumbers, AllocError>
+        ensures { IfOk result (λ named. named ≡ self ++ numbers_from first (end - first)) }
+    {
+        let mut numbers = self.numbers;
+        for number in first..end {
+            numbers.push(number)?;
+        }
+        Ok(BlockNumbers { numbers })
+    }
 }
 
 impl PartialEq for BlockNumbers {
@@ -175,8 +215,14 @@ fn read_parts(alloc: Global, command_word: &str, reply_word: &str) -> Result<Pai
     Ok(Pair { command, reply })
 }
 
-/// The blocks that a word names, none where there is no word.
-pub(crate) fn read_blocks(alloc: Global, word: Option<&str>) -> Result<BlockNumbers, Fault>
+/// How many blocks a list names at most, each as often as it is named.
+pub const MOST_NAMED: u64 = 1_000_000;
+
+/// The blocks that a word names, in numbers from 1 and ranges as `2-5` that commas part; none where there is no word.
+///
+/// `Words` where the word is no such list, the last number of a range is below its first, or it names more than
+/// `MOST_NAMED` blocks; `Memory` where a growth of memory was refused.
+pub fn read_blocks(alloc: Global, word: Option<&str>) -> Result<BlockNumbers, Fault>
     ensures { UnlessMemory result (blocks_of (option_map (λ word. word.now) word.entry)) }
 {
     match word {
@@ -189,28 +235,37 @@ pub(crate) fn read_blocks(alloc: Global, word: Option<&str>) -> Result<BlockNumb
 fn read_numbers(alloc: Global, word: &str) -> Result<BlockNumbers, Fault>
     ensures { UnlessMemory result (block_numbers word.now) }
 {
-    let mut list = Vec::new(alloc);
+    let mut named = BlockNumbers::of(Vec::new(alloc));
     let mut rest = word;
-    'numbers: while let Some((first, after)) = rest.split_once(',') {
-        let number = read_number(first)?;
-        push_number(&mut list, number)?;
+    'parts: while let Some((part, after)) = rest.split_once(',') {
+        named = named.with_part(part)?;
         rest = after;
     }
-    let last = read_number(rest)?;
-    push_number(&mut list, last)?;
-    Ok(BlockNumbers::of(list))
+    named.with_part(rest)
 }
 
-fn push_number(list: &mut Vec<u64>, number: u64) -> Result<(), AllocError>
-    ensures { OnOk result (list.new.items ≡ list.old.items ++ number ∷ []) }
+/// The first and the last block that a part of a list names.
+fn read_range(word: &str) -> Result<(u64, u64), Fault>
+    ensures read { result ≡ block_range word.now }
+    ensures small { IfOk result (λ range. range.1 < 10 ^ 15) }
 {
-    list.push(number)?;
-    Ok(())
+    match word.split_once('-') {
+        Some((first, last)) => {
+            let first = read_number(first)?;
+            let last = read_number(last)?;
+            Ok((first, last))
+        }
+        None => {
+            let number = read_number(word)?;
+            Ok((number, number))
+        }
+    }
 }
 
 /// The number of a block.
 fn read_number(word: &str) -> Result<u64, Fault>
-    ensures { result ≡ block_number word.now }
+    ensures read { result ≡ block_number word.now }
+    ensures small { IfOk result (λ number. number < 10 ^ 15) }
 {
     match decimal_of(word.as_bytes()) {
         Some(number) if number > 0 => Ok(number),

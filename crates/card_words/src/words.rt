@@ -62,6 +62,7 @@ fn request(alloc: Global, name: &str, matches: &ArgMatches) -> Result<Request, F
         "build" => build(alloc, matches),
         "replay" => replay(matches),
         "migrate" => Ok(Request::Migrate),
+        "apdus" => Ok(Request::Apdus),
         "simulate" => Ok(Request::Simulate(session(alloc, matches)?)),
         _ => Err(Fault::Words),
     }
@@ -254,13 +255,14 @@ fn kind(word: &str) -> Result<Kind, Fault>
     }
 }
 
-/// An end of a line. `clap` takes any word there.
+/// An end of a line, or both. `clap` takes any word there.
 fn end(word: &str) -> Result<End, Fault>
     ensures { result ≡ end_of_word word.now }
 {
     match word {
         "terminal" => Ok(End::Terminal),
         "card" => Ok(End::Card),
+        "both" => Ok(End::Both),
         _ => Err(Fault::Words),
     }
 }

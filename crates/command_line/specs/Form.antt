@@ -78,6 +78,10 @@ replay_app = with_rule (begun_app (codes "replay")) end_rule
 abbrev pub migrate_app : App
 migrate_app = begun_app (codes "migrate")
 
+-- the subcommand that lists the commands and answers of recorded exchanges, which takes no words
+abbrev pub apdus_app : App
+apdus_app = begun_app (codes "apdus")
+
 abbrev pub atr_rule : Rule
 atr_rule = required_rule (codes "atr")
 
@@ -103,7 +107,9 @@ octets_app = with_subcommand (with_subcommand
     build_app.top
 
 unfoldable pub scard : App
-scard = with_subcommand (with_subcommand (with_subcommand octets_app replay_app.top) migrate_app.top) simulate_app.top
+scard = with_subcommand (with_subcommand
+    (with_subcommand (with_subcommand octets_app replay_app.top) migrate_app.top) apdus_app.top)
+    simulate_app.top
 
 abbrev pub texts : List (String Global) → List (List ℕ)
 texts words = map string_bytes words

@@ -3,9 +3,9 @@
 ghost use Rattle.std.specs.Prelude.{◌≡◌, IfOk, false};
 ghost use Rattle.clap.specs.Words.{app_of, rule_of};
 ghost use Rattle.clap.specs.declared.builder.command.Command.TheViews.{out-Command};
-ghost use Rattle.command_line.specs.Form.{atr_rule, begun_app, build_app, end_rule, expected_app, explain_rule, flag_rule, hex_rule, ifs_rule, ifsd_rule, input_app, kind_rule, migrate_app, notes_rule, number_rule, octets_app, option_rule, pairs_rule, replay_app, required_rule, scard, session_app, show_app, simulate_app, stdin_rule, what_rule, words_rule};
+ghost use Rattle.command_line.specs.Form.{apdus_app, atr_rule, begun_app, build_app, end_rule, expected_app, explain_rule, flag_rule, hex_rule, ifs_rule, ifsd_rule, input_app, kind_rule, migrate_app, notes_rule, number_rule, octets_app, option_rule, pairs_rule, replay_app, required_rule, scard, session_app, show_app, simulate_app, stdin_rule, what_rule, words_rule};
 
-use crate::help::{BUILD, CHECK, MIGRATE, PROGRAM, Page, REPLAY, SHOW, SIMULATE, with_page};
+use crate::help::{APDUS, BUILD, CHECK, MIGRATE, PROGRAM, Page, REPLAY, SHOW, SIMULATE, with_page};
 use clap::{Arg, ArgAction, Command, value_parser};
 use std::alloc::{AllocError, Global};
 
@@ -15,10 +15,12 @@ pub(crate) fn program<'a>(alloc: Global) -> Result<Command<'a>, AllocError>
 {
     let replay = replay_command(alloc)?;
     let migrate = migrate_command(alloc)?;
+    let apdus = apdus_command(alloc)?;
     let simulate = simulate_command(alloc)?;
     octets_command(alloc)?
         .subcommand(replay)?
         .subcommand(migrate)?
+        .subcommand(apdus)?
         .subcommand(simulate)
 }
 
@@ -144,13 +146,21 @@ fn migrate_command<'a>(alloc: Global) -> Result<Command<'a>, AllocError>
     begun_command(alloc, "migrate", &MIGRATE)
 }
 
+/// The subcommand that lists the commands and answers of recorded exchanges.
+fn apdus_command<'a>(alloc: Global) -> Result<Command<'a>, AllocError>
+    ensures app { IfOk result (λ command. app_of command ≡ apdus_app) }
+    ensures local { IfOk result (λ command. (out-Command command).has_globals ≡ false) }
+{
+    begun_command(alloc, "apdus", &APDUS)
+}
+
 /// The subcommand that records a session of both ends.
 fn simulate_command<'a>(alloc: Global) -> Result<Command<'a>, AllocError>
     ensures app { IfOk result (λ command. app_of command ≡ simulate_app) }
     ensures local { IfOk result (λ command. (out-Command command).has_globals ≡ false) }
 {
     session_command(alloc)?
-        .arg(list_arg(alloc, "lose", "The blocks that are lost, as 2,5"))?
+        .arg(list_arg(alloc, "lose", "The blocks that are lost, as 2,5 or 2-5"))?
         .arg(list_arg(
             alloc,
             "damage",
@@ -245,7 +255,7 @@ fn end_arg<'a>(alloc: Global) -> Arg<'a>
         .long("end")
         .required(true)
         .value_name("END")
-        .help("The end that is replayed: terminal or card")
+        .help("The end that is replayed: terminal, card or both")
 }
 
 fn what_arg<'a>(alloc: Global) -> Arg<'a>

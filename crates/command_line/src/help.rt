@@ -148,10 +148,12 @@ Examples:
 
 /// The page of `replay`.
 pub(crate) const REPLAY: Page<'static> = Page {
-    about: "Replay the recorded exchange on standard input at one end",
+    about: "Replay the recorded exchange on standard input at one end, or at both",
     usage: "scard replay --end <END>",
-    after: "Exit status:
-  0  ok N lines: the end does all that the file says
+    after: "With --end both a line comes for each end, with terminal: or card: before it.
+
+Exit status:
+  0  ok N lines: the end does all that the file says, or both ends do
   1  line N: engine gives TEXT: it does otherwise there
   2  a fault of the file, as fault: Header or fault: line 3: Word
 
@@ -173,11 +175,34 @@ Examples:
   scard simulate 3B808131204555 00A4040000:9000 | scard migrate",
 };
 
+/// The page of `apdus`.
+pub(crate) const APDUS: Page<'static> = Page {
+    about: "List the commands of the recorded exchange on standard input, with what came of each",
+    usage: "scard apdus",
+    after: "A line comes for each command, with these names and values:
+  exchange  its number, from 1
+  command   its octets
+  answer    the octets of its answer; given-up or dead; open where none of these comes
+  blocks    how many blocks were sent for it
+  lost      which of them were lost, by their numbers in the whole file, as 2,5, or none
+  damaged   which of them arrived damaged, in the same way
+  time      microseconds, where the file has moments, or none
+
+Exit status:
+  0  the lines; nothing where the file has no command
+  2  a fault of the file, as fault: Header or fault: line 3: Word
+
+Examples:
+  scard apdus <examples/damaged_and_lost.exchange
+  scard simulate 3B808131204555 00A4040000:9000 00B0000000:6A82 --lose 2,5 | scard apdus",
+};
+
 /// The page of `simulate`.
 pub(crate) const SIMULATE: Page<'static> = Page {
     about: "Record a session of a terminal and a card, each of whose blocks may be disturbed",
     usage: "scard simulate <ATR> [COMMAND:REPLY]... [--ifsd <N>] [--lose <LIST>] [--damage <LIST>] [--spoil <LIST>]",
-    after: "LIST is numbers of blocks, parted by commas, from 1 in the order in which both ends send them.
+    after: "LIST is numbers of blocks and ranges as 2-5, parted by commas; they count from 1 in the order in which both
+ends send them.
 
 Exit status:
   0  the file of the exchange, which replays at both ends

@@ -2,7 +2,7 @@
 
 use crate::place::{option_place, option_value, place_of, word_at};
 use crate::word::{hex_note, said};
-use card_words::Form;
+use card_words::{Fault, Form, read_blocks};
 use command_line::parser_message;
 use std::alloc::{AllocError, Global};
 
@@ -26,7 +26,7 @@ fn word_note(alloc: Global, words: &[String]) -> Result<String, AllocError> {
         return build_note(alloc, words);
     }
     if subcommand == "replay" {
-        return option_note(alloc, words, "--end", "an end is terminal or card");
+        return option_note(alloc, words, "--end", "an end is terminal, card or both");
     }
     if subcommand == "simulate" {
         return session_note(alloc, words);
@@ -163,12 +163,12 @@ fn list_word_note(alloc: Global, words: &[String]) -> Result<String, AllocError>
 /// A session: its options, its answer to reset and its pairs.
 fn session_note(alloc: Global, words: &[String]) -> Result<String, AllocError> {
     for name in ["--lose", "--damage", "--spoil"] {
-        if option_place(words, name) < words.len() && !is_list(option_value(words, name)) {
+        if option_place(words, name) < words.len() && !is_list(alloc, option_value(words, name)) {
             return option_note(
                 alloc,
                 words,
                 name,
-                "a list is numbers from 1, parted by commas",
+                "a list is numbers from 1, or ranges as 2-5, parted by commas, and names at most 1000000 blocks",
             );
         }
     }
@@ -180,16 +180,9 @@ fn session_note(alloc: Global, words: &[String]) -> Result<String, AllocError> {
     pairs_note(alloc, words)
 }
 
-/// Whether a word is numbers that are parted by commas.
-fn is_list(word: &str) -> bool {
-    word.split(',').all(is_block_number)
-}
-
-fn is_block_number(word: &str) -> bool {
-    match octet_core::decimal_of(word.as_bytes()) {
-        Some(number) => number > 0,
-        None => false,
-    }
+/// Whether a word is a list of blocks, or that can't be told for want of memory.
+fn is_list(alloc: Global, word: &str) -> bool {
+    !matches!(read_blocks(alloc, Some(word)), Err(Fault::Words))
 }
 
 /// The first pair that is none.

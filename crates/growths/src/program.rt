@@ -18,7 +18,7 @@ const NEWER: &str =
 asked 00A4040000\nreply 9000\nc 000002900092\nanswer 9000\n";
 
 /// Words, and the text that the program writes.
-const ROWS: [(&str, &str); 14] = [
+const ROWS: [(&str, &str); 17] = [
     ("check block 00000500A4040000A5", "ok 9 octets\n"),
     ("check atr 3B808131204555", "ok 7 octets\n"),
     (
@@ -46,8 +46,17 @@ const ROWS: [(&str, &str); 14] = [
         "0000000010000978000000\n",
     ),
     ("replay --end card", "ok 8 lines\n"),
+    (
+        "replay --end both",
+        "terminal: ok 8 lines\ncard: ok 8 lines\n",
+    ),
     ("migrate", NEWER),
+    (
+        "apdus",
+        "exchange 1 command 00A4040000 answer 9000 blocks 2 lost none damaged none time none\n",
+    ),
     ("simulate 3B808131204555 00A4040000:9000", FILE),
+    ("simulate 3B808131204555 00A4040000:9000 --lose 7-9", FILE),
 ];
 
 /// Words that ask for octets of standard input, what it has, and the text that the program writes.

@@ -28,7 +28,12 @@ pub(crate) fn end_each(alloc: Global, share: Share) -> Result<String, Fault> {
     let given = chain(alloc)?;
     let mut most = 0u64;
     for text in TEXTS.iter().take(share.most(TEXTS.len())) {
-        for line in ["replay --end terminal", "replay --end card", "migrate"] {
+        for line in [
+            "replay --end terminal",
+            "replay --end card",
+            "migrate",
+            "apdus",
+        ] {
             most = most.max(file(alloc, line, text)?);
         }
     }

@@ -1,7 +1,7 @@
 use Rattle.std.proofs.Common.{[], Ok}
 use Rattle.std.proofs.lemmas.Result.{err_from_is_err_and}
-use Rattle.card_words.specs.declared.request.Request.TheVariants.{Migrate, Replay, Simulate}
-use Rattle.card_tool.specs.ExchangeTexts.{Migrates, Replays}
+use Rattle.card_words.specs.declared.request.Request.TheVariants.{Apdus, Migrate, Replay, Simulate}
+use Rattle.card_tool.specs.ExchangeTexts.{Lists, Migrates, Replays}
 use Rattle.card_tool.proofs.Answering.{file-fault, file-wanting}
 use Rattle.card_tool.proofs.Explaining.{wanting, with-note}
 use Rattle.card_tool.proofs.Inputs.{none-begun}
@@ -36,6 +36,16 @@ returns-in_err-file-in-Migrate-clause-told g c =
     (g.R.Source.failures c.read_whole-in-Migrate.new.reader) (λ file text ended h. h)
     c.in_err-file-in-Migrate.field-0.0 c.in_err-file-in-Migrate.ensures)
 
+pub returns-in_err-file-in-Apdus-clause-told : goal.returns-in_err-file-in-Apdus-clause-told
+returns-in_err-file-in-Apdus-clause-told g c =
+    let fault = err_from_is_err_and c.from_residual-in_err-file-in-Apdus.result
+    c.from_residual-in_err-file-in-Apdus.ensures.1 in
+    rw (c.in-Apdus.is, fault.1, fault.2)
+    (file-fault Apdus Lists (g.R.Source.remaining c.args.reader.now)
+    (g.R.Source.remaining c.read_whole-in-Apdus.new.reader) (g.R.Source.failures c.args.reader.now)
+    (g.R.Source.failures c.read_whole-in-Apdus.new.reader) (λ file text ended h. h)
+    c.in_err-file-in-Apdus.field-0.0 c.in_err-file-in-Apdus.ensures)
+
 pub returns-in_err-judged-in-Migrate-clause-told : goal.returns-in_err-judged-in-Migrate-clause-told
 returns-in_err-judged-in-Migrate-clause-told g c =
     let fault = err_from_is_err_and c.from_residual-in_err-judged-in-Migrate.result
@@ -45,6 +55,16 @@ returns-in_err-judged-in-Migrate-clause-told g c =
     (g.R.Source.remaining c.read_whole-in-Migrate.new.reader) (g.R.Source.failures c.args.reader.now)
     (g.R.Source.failures c.read_whole-in-Migrate.new.reader) (λ file text ended h. h) c.in_ok-file-in-Migrate.file
     c.in_ok-file-in-Migrate.ensures)
+
+pub returns-in_err-judged-in-Apdus-clause-told : goal.returns-in_err-judged-in-Apdus-clause-told
+returns-in_err-judged-in-Apdus-clause-told g c =
+    let fault = err_from_is_err_and c.from_residual-in_err-judged-in-Apdus.result
+    c.from_residual-in_err-judged-in-Apdus.ensures.1 in
+    rw (c.in-Apdus.is, fault.1, fault.2)
+    (file-wanting Apdus Lists (g.R.Source.remaining c.args.reader.now)
+    (g.R.Source.remaining c.read_whole-in-Apdus.new.reader) (g.R.Source.failures c.args.reader.now)
+    (g.R.Source.failures c.read_whole-in-Apdus.new.reader) (λ file text ended h. h) c.in_ok-file-in-Apdus.file
+    c.in_ok-file-in-Apdus.ensures)
 
 pub returns-in_err-answer-in-Simulate-clause-told : goal.returns-in_err-answer-in-Simulate-clause-told
 returns-in_err-answer-in-Simulate-clause-told g c =
@@ -74,6 +94,18 @@ returns-in_ok-judged-in-Migrate-clause-told g c =
     (λ asked. c.in_ok-file-in-Migrate.ensures) made.0 made.1 c.noted-in-Migrate.ensures.text.1
     c.noted-in-Migrate.ensures.text.2
     c.noted-in-Migrate.ensures.status)
+
+pub returns-in_ok-judged-in-Apdus-clause-told : goal.returns-in_ok-judged-in-Apdus-clause-told
+returns-in_ok-judged-in-Apdus-clause-told g c =
+    let made = rw c.get-in-Apdus.ensures at c.in_ok-judged-in-Apdus.ensures in
+    rw c.in-Apdus.is (with-note Apdus (g.R.Source.remaining c.args.reader.now)
+    (g.R.Source.remaining c.read_whole-in-Apdus.new.reader) (g.R.Source.failures c.args.reader.now)
+    (g.R.Source.failures c.read_whole-in-Apdus.new.reader) c.in_ok-judged-in-Apdus.judged.answer
+    c.noted-in-Apdus.result
+    c.in_ok-judged-in-Apdus.judged.note c.noted-in-Apdus.ensures.text.0 (Ok c.in_ok-file-in-Apdus.file)
+    (λ asked. c.in_ok-file-in-Apdus.ensures) made.0 made.1 c.noted-in-Apdus.ensures.text.1
+    c.noted-in-Apdus.ensures.text.2
+    c.noted-in-Apdus.ensures.status)
 
 pub returns-in_ok-answer-in-Simulate-clause-told : goal.returns-in_ok-answer-in-Simulate-clause-told
 returns-in_ok-answer-in-Simulate-clause-told g c =
