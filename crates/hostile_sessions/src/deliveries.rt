@@ -76,6 +76,19 @@ impl Delivered {
         }
         delivered
     }
+
+    /// The line of deliveries in so many states.
+    fn line(self, alloc: Global, count: usize) -> Result<String, Fault> {
+        let Delivered {
+            blocks,
+            damaged,
+            invalid,
+        } = self;
+        Ok(format!(in alloc;
+            "delivered in {count} states: {blocks} blocks, {damaged} damaged, {invalid} invalid, \
+            each with a whole exchange after it"
+        )?)
+    }
 }
 
 /// A state, and how it is reached.
@@ -91,19 +104,12 @@ struct Reached {
 /// whole exchange passes.
 pub(crate) fn deliver_each(alloc: Global, share: Share) -> Result<String, Fault> {
     let mut delivered = Delivered::default();
-    let count = share.most(STATES.len());
-    for state in STATES.iter().take(count) {
+    let states: &[State] = &STATES;
+    let count = share.most(states.len());
+    for state in states.iter().take(count) {
         delivered = deliver_in(alloc, state, share, delivered)?;
     }
-    let Delivered {
-        blocks,
-        damaged,
-        invalid,
-    } = delivered;
-    Ok(format!(in alloc;
-        "delivered in {count} states: {blocks} blocks, {damaged} damaged, {invalid} invalid, \
-        each with a whole exchange after it"
-    )?)
+    delivered.line(alloc, count)
 }
 
 /// Each block is delivered in a state.
@@ -115,9 +121,9 @@ fn deliver_in(
 ) -> Result<Delivered, Fault> {
     let reached = way_to(alloc, state)?;
     let mut delivered = delivered;
-    for block in BLOCKS.iter().take(share.most(BLOCKS.len())) {
-        let block = of_hex(alloc, block)?;
-        delivered = deliver(alloc, &reached, block.as_slice(), share, delivered)?;
+    let blocks: &[&str] = &BLOCKS;
+    for &block in blocks.iter().take(share.most(blocks.len())) {
+        delivered = deliver_text(alloc, &reached, block, share, delivered)?;
     }
     Ok(delivered)
 }
@@ -136,6 +142,18 @@ fn way_to(alloc: Global, state: &State) -> Result<Reached, Fault> {
 /// Two texts as one.
 fn joined(alloc: Global, head: &str, rest: &str) -> Result<String, Fault> {
     Ok(format!(in alloc; "{head}{rest}")?)
+}
+
+/// A block in hexadecimal is delivered in a state.
+fn deliver_text(
+    alloc: Global,
+    reached: &Reached,
+    block: &str,
+    share: Share,
+    delivered: Delivered,
+) -> Result<Delivered, Fault> {
+    let block = of_hex(alloc, block)?;
+    deliver(alloc, reached, block.as_slice(), share, delivered)
 }
 
 /// A block is delivered in a state, whole, and with each of its octets set to each other value.

@@ -116,21 +116,27 @@ fn application_calls(
 /// The record of a session.
 fn record(alloc: Global, generator: &mut Pcg32) -> Result<Exchange, Fault> {
     let mut recorder = recorder(alloc, &ATR)?;
+    go_through(alloc, generator, &mut recorder)?;
+    Ok(recorder.exchange()?)
+}
+
+/// All that happens in a session.
+fn go_through(alloc: Global, generator: &mut Pcg32, recorder: &mut Recorder) -> Result<(), Fault> {
     let mut exchanges = 1 + below(generator, MOST_EXCHANGES);
     for _ in 0..MOST_EVENTS {
         if recorder.under_way().is_some() {
             let event = fate(generator);
-            happens(&mut recorder, event)?;
+            happens(recorder, event)?;
         } else if *recorder.last() == LastTurn::Card(CardTurn::Asked) {
-            host_calls(alloc, generator, &mut recorder)?;
+            host_calls(alloc, generator, recorder)?;
         } else if exchanges == 0 || *recorder.last() == LastTurn::Terminal(TerminalTurn::Dead) {
             break;
         } else {
-            application_calls(alloc, generator, &mut recorder)?;
+            application_calls(alloc, generator, recorder)?;
             exchanges -= 1;
         }
     }
-    Ok(recorder.exchange()?)
+    Ok(())
 }
 
 /// How many answers there are, `None` where one isn't the last reply to the last command.

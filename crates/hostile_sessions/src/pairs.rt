@@ -2,7 +2,7 @@
 
 use crate::ends::is_replayed;
 use crate::records::{happens, recorder};
-use exchange_core::{Event, Exchange, LastTurn, Line};
+use exchange_core::{Event, Exchange, LastTurn, Line, Recorder};
 use std::alloc::Global;
 use t1_core::CardTurn;
 use testing::{Case, Fault, Share};
@@ -66,21 +66,31 @@ pub(crate) fn disturb_each(alloc: Global, share: Share) -> Result<String, Fault>
 
 /// Disturbs one block, and each one after it.
 fn disturb(alloc: Global, first: Disturbance, disturbed: Disturbed) -> Result<Disturbed, Fault> {
-    let exchange = record(alloc, &[first])?;
-    let is_right = is_answered(&exchange);
-    expect(alloc, &exchange, first, 0, is_right)?;
+    let blocks = disturb_first(alloc, first)?;
     let mut disturbed = disturbed.and(true);
-    for number in first.number.saturating_add(1)..blocks(&exchange).saturating_add(1) {
+    for number in first.number.saturating_add(1)..blocks.saturating_add(1) {
         for &event in &WAYS {
             let second = Disturbance { number, event };
-            let exchange = record(alloc, &[first, second])?;
-            let is_answered = is_answered(&exchange);
-            let is_right = is_answered || is_given_up(&exchange);
-            expect(alloc, &exchange, first, number, is_right)?;
-            disturbed = disturbed.and(is_answered);
+            disturbed = disturbed.and(disturb_both(alloc, first, second)?);
         }
     }
     Ok(disturbed)
+}
+
+/// Disturbs two blocks: whether the session is answered.
+fn disturb_both(alloc: Global, first: Disturbance, second: Disturbance) -> Result<bool, Fault> {
+    let exchange = record(alloc, &[first, second])?;
+    let is_answered = is_answered(&exchange);
+    let is_right = is_answered || is_given_up(&exchange);
+    expect(alloc, &exchange, first, second.number, is_right)?;
+    Ok(is_answered)
+}
+
+/// Disturbs one block: how many blocks the session has.
+fn disturb_first(alloc: Global, first: Disturbance) -> Result<u32, Fault> {
+    let exchange = record(alloc, &[first])?;
+    expect(alloc, &exchange, first, 0, is_answered(&exchange))?;
+    Ok(blocks(&exchange))
 }
 
 /// A session ended as it should, and replays.
@@ -113,7 +123,13 @@ impl Disturbed {
 /// The record of the session with these blocks disturbed.
 fn record(alloc: Global, disturbances: &[Disturbance]) -> Result<Exchange, Fault> {
     let mut recorder = recorder(alloc, &ATR)?;
-    let mut calls = CALLS.as_slice();
+    go_through(&mut recorder, disturbances)?;
+    Ok(recorder.exchange()?)
+}
+
+/// All that happens in the session with these blocks disturbed.
+fn go_through(recorder: &mut Recorder, disturbances: &[Disturbance]) -> Result<(), Fault> {
+    let mut calls: &[Event<'static>] = &CALLS;
     let mut number = 0u32;
     for _ in 0..MOST_EVENTS {
         let event = if recorder.under_way().is_some() {
@@ -126,9 +142,9 @@ fn record(alloc: Global, disturbances: &[Disturbance]) -> Result<Exchange, Fault
             calls = rest;
             *call
         };
-        happens(&mut recorder, event)?;
+        happens(recorder, event)?;
     }
-    Ok(recorder.exchange()?)
+    Ok(())
 }
 
 /// What happens to the block with this number.

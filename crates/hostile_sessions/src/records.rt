@@ -68,7 +68,7 @@ pub(crate) fn refuse_each(alloc: Global, share: Share) -> Result<String, Fault> 
 fn refused_in(alloc: Global, session: &[Event<'_>], long: &[u8]) -> Result<u64, Fault> {
     let mut refused = 0u64;
     for place in 0..=session.len() {
-        for event in events(long) {
+        for &event in &events(long) {
             if is_put(alloc, session, place, event)? {
                 refused = refused.saturating_add(1);
             }
@@ -110,27 +110,66 @@ fn is_put(
     let Some((before, after)) = session.split_at_checked(place) else {
         return Ok(false);
     };
-    let mut recorder = recorder(alloc, &ATR)?;
-    let mut is_followed = is_told(&mut recorder, before)?;
-    match recorder.happens(event) {
-        Ok(()) => return Ok(false),
-        Err(EventFault::Memory) => return Err(Fault::Memory),
-        Err(_) => {}
-    }
+    let Some(text) = refused_after(alloc, before, event)? else {
+        return Ok(false);
+    };
     let case = Case {
         what: "an event that is refused",
         octets: &ATR,
         place,
         piece: session.len(),
     };
-    let text = text(alloc, recorder)?;
-    let (plain, _) = told(alloc, before, &[])?;
-    is_followed &= text.as_slice() == plain.as_slice();
-    let (whole, is_whole) = told(alloc, session, &[])?;
-    let (with, is_with) = told_past(alloc, before, event, after)?;
-    let is_same = with.as_slice() == whole.as_slice();
-    case.expect(alloc, is_followed && is_whole && is_with && is_same)?;
+    let is_as_before = is_record(alloc, before, text.as_slice())?;
+    let goes_on = goes_on(alloc, session, place, event)?;
+    case.expect(alloc, is_as_before && goes_on)?;
     Ok(true)
+}
+
+/// The text of a session with an event after it that is refused; nothing where that is taken.
+fn refused_after(
+    alloc: Global,
+    before: &[Event<'_>],
+    event: Event<'_>,
+) -> Result<Option<Vec<u8>>, Fault> {
+    let mut recorder = recorder(alloc, &ATR)?;
+    if is_taken_after(&mut recorder, before, event)? {
+        return Ok(None);
+    }
+    Ok(Some(text(alloc, recorder)?))
+}
+
+/// Whether events are taken, and the one after them.
+fn is_taken_after(
+    recorder: &mut Recorder,
+    before: &[Event<'_>],
+    event: Event<'_>,
+) -> Result<bool, Fault> {
+    let is_begun = are_taken(recorder, before)?;
+    Ok(is_taken(recorder, event)? && is_begun)
+}
+
+/// Whether a session is recorded as without an event that is refused before the event at `place`.
+fn goes_on(
+    alloc: Global,
+    session: &[Event<'_>],
+    place: usize,
+    event: Event<'_>,
+) -> Result<bool, Fault> {
+    let Some((before, after)) = session.split_at_checked(place) else {
+        return Ok(false);
+    };
+    match told_past(alloc, before, event, after)? {
+        Some(text) => is_record(alloc, session, text.as_slice()),
+        None => Ok(false),
+    }
+}
+
+/// Whether the record of these events has this text.
+fn is_record(alloc: Global, events: &[Event<'_>], text: &[u8]) -> Result<bool, Fault> {
+    Ok(match told(alloc, events)? {
+        Some(told) => told.as_slice() == text,
+        None => false,
+    })
 }
 
 /// A recorder of a session with a card that has this answer to reset.
@@ -151,13 +190,20 @@ pub(crate) fn happens(recorder: &mut Recorder, event: Event<'_>) -> Result<(), F
     }
 }
 
+/// Whether an event is taken.
+fn is_taken(recorder: &mut Recorder, event: Event<'_>) -> Result<bool, Fault> {
+    match recorder.happens(event) {
+        Ok(()) => Ok(true),
+        Err(EventFault::Memory) => Err(Fault::Memory),
+        Err(_) => Ok(false),
+    }
+}
+
 /// Whether all events are taken.
-fn is_told(recorder: &mut Recorder, events: &[Event<'_>]) -> Result<bool, Fault> {
+fn are_taken(recorder: &mut Recorder, events: &[Event<'_>]) -> Result<bool, Fault> {
     for event in events {
-        match recorder.happens(*event) {
-            Ok(()) => {}
-            Err(EventFault::Memory) => return Err(Fault::Memory),
-            Err(_) => return Ok(false),
+        if !is_taken(recorder, *event)? {
+            return Ok(false);
         }
     }
     Ok(true)
@@ -168,27 +214,38 @@ fn text(alloc: Global, recorder: Recorder) -> Result<Vec<u8>, Fault> {
     Ok(write_exchange(alloc, &recorder.exchange()?)?)
 }
 
-/// The text of a session in two parts, and whether all its events were taken.
-fn told(
-    alloc: Global,
-    before: &[Event<'_>],
-    after: &[Event<'_>],
-) -> Result<(Vec<u8>, bool), Fault> {
+/// The text of a session; nothing where not all its events are taken.
+fn told(alloc: Global, events: &[Event<'_>]) -> Result<Option<Vec<u8>>, Fault> {
     let mut recorder = recorder(alloc, &ATR)?;
-    let is_taken = is_told(&mut recorder, before)? && is_told(&mut recorder, after)?;
-    Ok((text(alloc, recorder)?, is_taken))
+    if !are_taken(&mut recorder, events)? {
+        return Ok(None);
+    }
+    Ok(Some(text(alloc, recorder)?))
 }
 
-/// The same with one event between the parts, which isn't taken.
+/// The text of a session in two parts, with an event between them that isn't taken; nothing where it is, or not all
+/// others are.
 fn told_past(
     alloc: Global,
     before: &[Event<'_>],
     event: Event<'_>,
     after: &[Event<'_>],
-) -> Result<(Vec<u8>, bool), Fault> {
+) -> Result<Option<Vec<u8>>, Fault> {
     let mut recorder = recorder(alloc, &ATR)?;
-    let is_before = is_told(&mut recorder, before)?;
-    let is_refused = recorder.happens(event).is_err();
-    let is_after = is_told(&mut recorder, after)?;
-    Ok((text(alloc, recorder)?, is_before && is_refused && is_after))
+    if !are_taken_around(&mut recorder, before, event, after)? {
+        return Ok(None);
+    }
+    Ok(Some(text(alloc, recorder)?))
+}
+
+/// Whether events are taken, and one between them isn't.
+fn are_taken_around(
+    recorder: &mut Recorder,
+    before: &[Event<'_>],
+    event: Event<'_>,
+    after: &[Event<'_>],
+) -> Result<bool, Fault> {
+    let is_begun = are_taken(recorder, before)?;
+    let is_taken = is_taken(recorder, event)?;
+    Ok(are_taken(recorder, after)? && is_begun && !is_taken)
 }
