@@ -58,7 +58,7 @@ const ORDER: Wanted = Wanted::Card(CardFault::Order);
 const NONE: Fits = &[];
 
 /// Each state of the terminal, with its failures in a row, and each of the card.
-pub(crate) const STATES: [State; 17] = [
+pub(crate) static STATES: [State; 17] = [
     State {
         name: "new",
         text: "",
