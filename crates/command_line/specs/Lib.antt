@@ -1,3 +1,4 @@
 pub mod Form
+pub mod Building
 pub mod Version
 pub mod Explain

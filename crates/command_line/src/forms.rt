@@ -1,48 +1,67 @@
 //! The form of the words, as a command of `clap`.
 
-ghost use Rattle.std.specs.Prelude.{◌≡◌, IfOk, false};
-ghost use Rattle.clap.specs.Words.{app_of, rule_of};
-ghost use Rattle.clap.specs.declared.builder.command.Command.TheViews.{out-Command};
+ghost use Rattle.std.specs.Prelude.{◌≡◌, false};
+ghost use Rattle.std.specs.Prelude.{codes};
+ghost use Rattle.clap.specs.Words.{new_app, rule_of};
+ghost use Rattle.command_line.specs.Building.{AddsSubcommandTo, AddsTo, HasForm, IsLocal, StaysLocal};
 ghost use Rattle.command_line.specs.Form.{apdus_app, atr_rule, begun_app, build_app, end_rule, expected_app, explain_rule, flag_rule, hex_rule, ifs_rule, ifsd_rule, input_app, kind_rule, migrate_app, notes_rule, number_rule, octets_app, option_rule, pairs_rule, replay_app, required_rule, scard, session_app, show_app, simulate_app, stdin_rule, what_rule, words_rule};
 
 use crate::help::{APDUS, BUILD, CHECK, MIGRATE, PROGRAM, Page, REPLAY, SHOW, SIMULATE, with_page};
 use clap::{Arg, ArgAction, Command, value_parser};
 use std::alloc::{AllocError, Global};
 
+/// A command under way, or want of memory. Each step takes it from the one before, so that the functions below have
+/// one way out.
+type Built<'a> = Result<Command<'a>, AllocError>;
+
 /// The program as a command of `clap`.
-pub(crate) fn program<'a>(alloc: Global) -> Result<Command<'a>, AllocError>
-    ensures { IfOk result (λ command. app_of command ≡ scard) }
+pub(crate) fn program<'a>(alloc: Global) -> Built<'a>
+    ensures { HasForm scard result }
 {
-    let replay = replay_command(alloc)?;
-    let migrate = migrate_command(alloc)?;
-    let apdus = apdus_command(alloc)?;
-    let simulate = simulate_command(alloc)?;
-    octets_command(alloc)?
-        .subcommand(replay)?
-        .subcommand(migrate)?
-        .subcommand(apdus)?
-        .subcommand(simulate)
+    let replay = offering(octets_command(alloc), replay_command(alloc));
+    let migrate = offering(replay, migrate_command(alloc));
+    let apdus = offering(migrate, apdus_command(alloc));
+    offering(apdus, simulate_command(alloc))
 }
 
 /// The program's command with the subcommands on octets.
-fn octets_command<'a>(alloc: Global) -> Result<Command<'a>, AllocError>
-    ensures { IfOk result (λ command. app_of command ≡ octets_app) }
+fn octets_command<'a>(alloc: Global) -> Built<'a>
+    ensures { HasForm octets_app result }
 {
-    let check = input_command(alloc, "check", &CHECK)?;
-    let show = show_command(alloc)?;
-    let build = build_command(alloc)?;
-    with_page(Command::new(alloc, "scard"), &PROGRAM)
-        .subcommand(check)?
-        .subcommand(show)?
-        .subcommand(build)
+    let check = offering(begun_program(alloc), input_command(alloc, "check", &CHECK));
+    let show = offering(check, show_command(alloc));
+    offering(show, build_command(alloc))
+}
+
+/// The program's command without subcommands.
+fn begun_program<'a>(alloc: Global) -> Built<'a>
+    ensures { HasForm (new_app (codes "scard")) result }
+{
+    Ok(with_page(Command::new(alloc, "scard"), &PROGRAM))
+}
+
+/// A command with one more argument.
+fn asking<'a>(command: Built<'a>, arg: Arg<'a>) -> Built<'a>
+    ensures form { AddsTo command.entry arg.entry result }
+    ensures local { StaysLocal command.entry arg.entry result }
+{
+    command?.arg(arg)
+}
+
+/// A command with one more subcommand.
+fn offering<'a>(command: Built<'a>, subcommand: Built<'a>) -> Built<'a>
+    ensures { AddsSubcommandTo command.entry subcommand.entry result }
+{
+    let command = command?;
+    command.subcommand(subcommand?)
 }
 
 /// The subcommand that shows a value.
-fn show_command<'a>(alloc: Global) -> Result<Command<'a>, AllocError>
-    ensures app { IfOk result (λ command. app_of command ≡ show_app) }
-    ensures local { IfOk result (λ command. (out-Command command).has_globals ≡ false) }
+fn show_command<'a>(alloc: Global) -> Built<'a>
+    ensures form { HasForm show_app result }
+    ensures local { IsLocal result }
 {
-    input_command(alloc, "show", &SHOW)?.arg(notes_arg(alloc))
+    asking(input_command(alloc, "show", &SHOW), notes_arg(alloc))
 }
 
 fn notes_arg<'a>(alloc: Global) -> Arg<'a>
@@ -57,42 +76,28 @@ fn notes_arg<'a>(alloc: Global) -> Arg<'a>
 }
 
 /// A subcommand that takes octets, and what they are taken for.
-fn input_command<'a>(
-    alloc: Global,
-    name: &'a str,
-    page: &Page<'a>,
-) -> Result<Command<'a>, AllocError>
-    ensures app { IfOk result (λ command. app_of command ≡ input_app name.now) }
-    ensures local { IfOk result (λ command. (out-Command command).has_globals ≡ false) }
+fn input_command<'a>(alloc: Global, name: &'a str, page: &Page<'a>) -> Built<'a>
+    ensures form { HasForm (input_app name.now) result }
+    ensures local { IsLocal result }
 {
-    expected_command(alloc, name, page)?
-        .arg(hex_arg(alloc))?
-        .arg(stdin_arg(alloc))
+    let hex = asking(expected_command(alloc, name, page), hex_arg(alloc));
+    asking(hex, stdin_arg(alloc))
 }
 
 /// The same without the octets: a kind, an information size and a first number.
-fn expected_command<'a>(
-    alloc: Global,
-    name: &'a str,
-    page: &Page<'a>,
-) -> Result<Command<'a>, AllocError>
-    ensures app { IfOk result (λ command. app_of command ≡ expected_app name.now) }
-    ensures local { IfOk result (λ command. (out-Command command).has_globals ≡ false) }
+fn expected_command<'a>(alloc: Global, name: &'a str, page: &Page<'a>) -> Built<'a>
+    ensures form { HasForm (expected_app name.now) result }
+    ensures local { IsLocal result }
 {
-    begun_command(alloc, name, page)?
-        .arg(kind_arg(alloc))?
-        .arg(ifs_arg(alloc))?
-        .arg(number_arg(alloc))
+    let kind = asking(begun_command(alloc, name, page), kind_arg(alloc));
+    let ifs = asking(kind, ifs_arg(alloc));
+    asking(ifs, number_arg(alloc))
 }
 
 /// A subcommand with what all of them have: the option that asks for an explanation.
-fn begun_command<'a>(
-    alloc: Global,
-    name: &'a str,
-    page: &Page<'a>,
-) -> Result<Command<'a>, AllocError>
-    ensures app { IfOk result (λ command. app_of command ≡ begun_app name.now) }
-    ensures local { IfOk result (λ command. (out-Command command).has_globals ≡ false) }
+fn begun_command<'a>(alloc: Global, name: &'a str, page: &Page<'a>) -> Built<'a>
+    ensures form { HasForm (begun_app name.now) result }
+    ensures local { IsLocal result }
 {
     with_page(Command::new(alloc, name), page).arg(explain_arg(alloc))
 }
@@ -120,68 +125,74 @@ fn flag_arg<'a>(alloc: Global, name: &'a str, help: &'a str) -> Arg<'a>
 }
 
 /// The subcommand that builds what a word says.
-fn build_command<'a>(alloc: Global) -> Result<Command<'a>, AllocError>
-    ensures app { IfOk result (λ command. app_of command ≡ build_app) }
-    ensures local { IfOk result (λ command. (out-Command command).has_globals ≡ false) }
+fn build_command<'a>(alloc: Global) -> Built<'a>
+    ensures form { HasForm build_app result }
+    ensures local { IsLocal result }
 {
-    begun_command(alloc, "build", &BUILD)?
-        .arg(what_arg(alloc))?
-        .arg(words_arg(alloc))?
-        .arg(stdin_arg(alloc))
+    let what = asking(begun_command(alloc, "build", &BUILD), what_arg(alloc));
+    let words = asking(what, words_arg(alloc));
+    asking(words, stdin_arg(alloc))
 }
 
 /// The subcommand that replays recorded exchanges.
-fn replay_command<'a>(alloc: Global) -> Result<Command<'a>, AllocError>
-    ensures app { IfOk result (λ command. app_of command ≡ replay_app) }
-    ensures local { IfOk result (λ command. (out-Command command).has_globals ≡ false) }
+fn replay_command<'a>(alloc: Global) -> Built<'a>
+    ensures form { HasForm replay_app result }
+    ensures local { IsLocal result }
 {
-    begun_command(alloc, "replay", &REPLAY)?.arg(end_arg(alloc))
+    asking(begun_command(alloc, "replay", &REPLAY), end_arg(alloc))
 }
 
 /// The subcommand that takes recorded exchanges into the newest version.
-fn migrate_command<'a>(alloc: Global) -> Result<Command<'a>, AllocError>
-    ensures app { IfOk result (λ command. app_of command ≡ migrate_app) }
-    ensures local { IfOk result (λ command. (out-Command command).has_globals ≡ false) }
+fn migrate_command<'a>(alloc: Global) -> Built<'a>
+    ensures form { HasForm migrate_app result }
+    ensures local { IsLocal result }
 {
     begun_command(alloc, "migrate", &MIGRATE)
 }
 
 /// The subcommand that lists the commands and answers of recorded exchanges.
-fn apdus_command<'a>(alloc: Global) -> Result<Command<'a>, AllocError>
-    ensures app { IfOk result (λ command. app_of command ≡ apdus_app) }
-    ensures local { IfOk result (λ command. (out-Command command).has_globals ≡ false) }
+fn apdus_command<'a>(alloc: Global) -> Built<'a>
+    ensures form { HasForm apdus_app result }
+    ensures local { IsLocal result }
 {
     begun_command(alloc, "apdus", &APDUS)
 }
 
 /// The subcommand that records a session of both ends.
-fn simulate_command<'a>(alloc: Global) -> Result<Command<'a>, AllocError>
-    ensures app { IfOk result (λ command. app_of command ≡ simulate_app) }
-    ensures local { IfOk result (λ command. (out-Command command).has_globals ≡ false) }
+fn simulate_command<'a>(alloc: Global) -> Built<'a>
+    ensures form { HasForm simulate_app result }
+    ensures local { IsLocal result }
 {
-    session_command(alloc)?
-        .arg(list_arg(alloc, "lose", "The blocks that are lost, as 2,5 or 2-5"))?
-        .arg(list_arg(
+    let lose = asking(
+        session_command(alloc),
+        list_arg(alloc, "lose", "The blocks that are lost, as 2,5 or 2-5"),
+    );
+    let damage = asking(
+        lose,
+        list_arg(
             alloc,
             "damage",
             "The blocks that arrive with their last octet changed",
-        ))?
-        .arg(list_arg(
+        ),
+    );
+    asking(
+        damage,
+        list_arg(
             alloc,
             "spoil",
             "The blocks that arrive with another node address",
-        ))
+        ),
+    )
 }
 
 /// The same without the options that name blocks.
-fn session_command<'a>(alloc: Global) -> Result<Command<'a>, AllocError>
-    ensures app { IfOk result (λ command. app_of command ≡ session_app) }
-    ensures local { IfOk result (λ command. (out-Command command).has_globals ≡ false) }
+fn session_command<'a>(alloc: Global) -> Built<'a>
+    ensures form { HasForm session_app result }
+    ensures local { IsLocal result }
 {
-    begun_command(alloc, "simulate", &SIMULATE)?
-        .arg(atr_arg(alloc))?
-        .arg(pairs_arg(alloc))?
-        .arg(ifsd_arg(alloc))
+    let atr = asking(begun_command(alloc, "simulate", &SIMULATE), atr_arg(alloc));
+    let pairs = asking(atr, pairs_arg(alloc));
+    asking(pairs, ifsd_arg(alloc))
 }
 
 fn atr_arg<'a>(alloc: Global) -> Arg<'a>

@@ -1,13 +1,8 @@
-use Rattle.std.proofs.Common.{ap₂, ◌∙◌}
-use Rattle.std.proofs.lemmas.Result.{IfOk-weaker}
-use Rattle.clap.specs.Words.{with_rule}
 use Rattle.command_line.proofs.forms.session_command.Goals as goal
 
-pub returns-clause-app : goal.returns-clause-app
-returns-clause-app c =
-    let atr-is = c.in_ok-arg.ensures.shape c.atr_arg.ensures.local
-    ∙ ap₂ with_rule c.in_ok-begun_command.ensures.app c.atr_arg.ensures.rule in
-    let pairs-is = c.in_ok-arg-2.ensures.shape c.pairs_arg.ensures.local
-    ∙ ap₂ with_rule atr-is c.pairs_arg.ensures.rule in
-    IfOk-weaker c.arg-3.result _ _ (λ command added. added.shape c.ifsd_arg.ensures.local
-    ∙ ap₂ with_rule pairs-is c.ifsd_arg.ensures.rule) c.arg-3.ensures
+pub returns-clause-form : goal.returns-clause-form
+returns-clause-form c =
+    let atr-is = c.asking-atr.ensures.form _ _ c.begun_command.ensures.form c.atr_arg.ensures.rule
+        c.atr_arg.ensures.local in
+    let pairs-is = c.asking-pairs.ensures.form _ _ atr-is c.pairs_arg.ensures.rule c.pairs_arg.ensures.local in
+    c.asking.ensures.form _ _ pairs-is c.ifsd_arg.ensures.rule c.ifsd_arg.ensures.local
