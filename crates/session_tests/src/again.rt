@@ -9,99 +9,169 @@ use round_trips::{
     acted_on_once, atr_again, block_again, command_again, command_in_two_pieces, dol_again,
     exchanged_over_streams, forest_again, response_again, response_in_two_pieces,
 };
-use std::test::Fail;
+use std::alloc::Global;
+use std::process::Abort;
 use t1_core::Terminal;
 use testing::of_hex;
 use tlv_core::{Dol, LARGEST_FOREST};
 
+/// The octets of a hexadecimal text.
+fn octets(rt: &impl Abort, alloc: Global, text: &str) -> Vec<u8> {
+    of_hex(alloc, text).expect(rt, "octets")
+}
+
+/// SELECT with a body.
+fn select_with(rt: &impl Abort, body: Body) -> Command {
+    let select = Command::new([0x00, 0xA4, 0x04, 0x00], body);
+    select.ok().expect(rt, "a command")
+}
+
 /// SELECT with a name of seven octets.
-fn select(rt: &HostRuntime) -> Result<Command, Fail> {
-    let part = Octets::of(of_hex(rt.alloc(), "A0000000041010")?);
-    let body = Body::ShortBoth { part, le: 256 };
-    Ok(Command::new([0x00, 0xA4, 0x04, 0x00], body)?)
+fn select(rt: &impl Abort, alloc: Global) -> Command {
+    let part = Octets::of(octets(rt, alloc, "A0000000041010"));
+    select_with(rt, Body::ShortBoth { part, le: 256 })
 }
 
-fn done(rt: &HostRuntime) -> Result<Response, Fail> {
-    let part = Octets::of(of_hex(rt.alloc(), "6F008400")?);
-    Ok(Response::new(part, 0x90, 0x00)?)
+fn done(rt: &impl Abort, alloc: Global) -> Response {
+    let part = Octets::of(octets(rt, alloc, "6F008400"));
+    Response::new(part, 0x90, 0x00)
+        .ok()
+        .expect(rt, "a response")
 }
 
 #[test]
-fn a_block_comes_back(rt: HostRuntime) -> Result<(), Fail> {
-    let block = Block::info(0, Number::One, true, &[0x00, 0xA4]).ok_or("a block")?;
+fn a_block_comes_back(rt: HostRuntime) {
+    let block = Block::info(0, Number::One, true, &[0x00, 0xA4]).expect(&rt, "a block");
     assert!(rt; block_again(&block) == block);
-    Ok(())
+}
+
+/// The answer to reset that octets are.
+fn atr_of(rt: &impl Abort, octets: &[u8]) -> Atr {
+    let (atr, _) = atr_core::decode(octets).ok().expect(rt, "an answer");
+    atr
 }
 
 #[test]
-fn an_answer_to_reset_comes_back(rt: HostRuntime) -> Result<(), Fail> {
-    let octets = of_hex(rt.alloc(), "3B6500002063CB6800")?;
-    let (atr, _) = atr_core::decode(octets.as_slice())?;
+fn an_answer_to_reset_comes_back(rt: HostRuntime) {
+    let octets = octets(&rt, rt.alloc(), "3B6500002063CB6800");
+    let atr = atr_of(&rt, octets.as_slice());
     assert!(rt; atr_again(&atr) == atr);
-    Ok(())
+}
+
+/// Whether SELECT comes back.
+fn is_command_again(rt: &impl Abort, alloc: Global) -> bool {
+    let command = select(rt, alloc);
+    command_again(alloc, &command).expect(rt, "a command") == command
+}
+
+/// Whether a response comes back.
+fn is_response_again(rt: &impl Abort, alloc: Global) -> bool {
+    let response = done(rt, alloc);
+    response_again(alloc, &response).expect(rt, "a response") == response
 }
 
 #[test]
-fn apdus_come_back(rt: HostRuntime) -> Result<(), Fail> {
-    let command = select(&rt)?;
-    assert!(rt; command_again(rt.alloc(), &command)? == command);
-    let response = done(&rt)?;
-    assert!(rt; response_again(rt.alloc(), &response)? == response);
-    Ok(())
+fn apdus_come_back(rt: HostRuntime) {
+    assert!(rt; is_command_again(&rt, rt.alloc()));
+    assert!(rt; is_response_again(&rt, rt.alloc()));
+}
+
+/// The octets of the forest that comes back of one.
+fn forest_octets(rt: &impl Abort, alloc: Global, octets: &[u8]) -> Vec<u8> {
+    let forest = tlv_core::decode(alloc, octets, LARGEST_FOREST);
+    let forest = forest.ok().expect(rt, "a forest");
+    let again = forest_again(alloc, &forest).expect(rt, "a forest again");
+    tlv_core::encode(alloc, &again).expect(rt, "its octets")
 }
 
 #[test]
-fn a_forest_comes_back(rt: HostRuntime) -> Result<(), Fail> {
-    let octets = of_hex(rt.alloc(), "006F0A8408A000000003000000")?;
-    let forest = tlv_core::decode(rt.alloc(), octets.as_slice(), LARGEST_FOREST)?;
-    let again = forest_again(rt.alloc(), &forest)?;
-    let spelled = tlv_core::encode(rt.alloc(), &again)?;
+fn a_forest_comes_back(rt: HostRuntime) {
+    let octets = octets(&rt, rt.alloc(), "006F0A8408A000000003000000");
+    let spelled = forest_octets(&rt, rt.alloc(), octets.as_slice());
     assert!(rt; spelled.as_slice() == octets.as_slice());
-    Ok(())
+}
+
+/// The octets of the list that comes back of one.
+fn dol_octets(rt: &impl Abort, alloc: Global, octets: &[u8]) -> Vec<u8> {
+    let dol = Dol::decode(alloc, octets).ok().expect(rt, "a list");
+    let again = dol_again(alloc, &dol).expect(rt, "a list again");
+    again.encode(alloc).expect(rt, "its octets")
 }
 
 #[test]
-fn a_list_comes_back(rt: HostRuntime) -> Result<(), Fail> {
-    let octets = of_hex(rt.alloc(), "9F37045F2A02")?;
-    let dol = Dol::decode(rt.alloc(), octets.as_slice())?;
-    let again = dol_again(rt.alloc(), &dol)?;
-    let spelled = again.encode(rt.alloc())?;
+fn a_list_comes_back(rt: HostRuntime) {
+    let octets = octets(&rt, rt.alloc(), "9F37045F2A02");
+    let spelled = dol_octets(&rt, rt.alloc(), octets.as_slice());
     assert!(rt; spelled.as_slice() == octets.as_slice());
-    Ok(())
+}
+
+/// Whether SELECT arrives whose chain is cut here.
+fn is_command_in_two(rt: &impl Abort, alloc: Global, cut: usize) -> bool {
+    let command = select(rt, alloc);
+    let arrived = command_in_two_pieces(alloc, &command, 3, Number::One, cut);
+    arrived.expect(rt, "a command") == command
 }
 
 #[test]
-fn a_command_in_two_pieces_arrives(rt: HostRuntime) -> Result<(), Fail> {
-    let command = select(&rt)?;
+fn a_command_in_two_pieces_arrives(rt: HostRuntime) {
     for cut in 0..50usize {
-        let arrived = command_in_two_pieces(rt.alloc(), &command, 3, Number::One, cut)?;
-        assert!(rt; arrived == command);
+        assert!(rt; is_command_in_two(&rt, rt.alloc(), cut));
     }
-    Ok(())
+}
+
+/// Whether a response arrives whose chain is cut here.
+fn is_response_in_two(rt: &impl Abort, alloc: Global, cut: usize) -> bool {
+    let response = done(rt, alloc);
+    let arrived = response_in_two_pieces(alloc, &response, 254, Number::Zero, cut);
+    arrived.expect(rt, "a response") == response
 }
 
 #[test]
-fn a_response_in_two_pieces_arrives(rt: HostRuntime) -> Result<(), Fail> {
-    let response = done(&rt)?;
+fn a_response_in_two_pieces_arrives(rt: HostRuntime) {
     for cut in 0..20usize {
-        let arrived = response_in_two_pieces(rt.alloc(), &response, 254, Number::Zero, cut)?;
-        assert!(rt; arrived == response);
+        assert!(rt; is_response_in_two(&rt, rt.alloc(), cut));
     }
-    Ok(())
+}
+
+type Line<'a> = StreamLine<Counted<Feeder<'a>>, Counted<Taker>>;
+
+/// A line whose card says 9000 to each block.
+fn line() -> Line<'static> {
+    let source = Feeder::new(&[0x00, 0x00, 0x02, 0x90, 0x00, 0x92], 6, After::Repeats);
+    let sink = Taker::new(64, 64, After::End);
+    StreamLine::new(Counted::new(source), Counted::new(sink))
+}
+
+fn params(rt: &impl Abort) -> T1Params {
+    T1Params::new(32, 4, 5).expect(rt, "parameters")
+}
+
+fn is_done(t: &Terminal) -> bool {
+    t.answer() == Some(&[0x90, 0x00])
+}
+
+/// Whether SELECT is answered, in one block.
+fn is_exchanged(rt: &impl Abort, t: &mut Terminal, line: &mut Line<'_>) -> bool {
+    let command = select_with(rt, Body::ShortLe { le: 256 });
+    let mut buffer = [0; 5];
+    command.encoded_len() == 5
+        && exchanged_over_streams(t, line, &command, &mut buffer, 1).is_ok()
+        && is_done(t)
+}
+
+/// Whether SELECT is answered to a terminal that begins.
+fn is_acted_on(rt: &impl Abort, t: &mut Terminal, line: &mut Line<'_>) -> bool {
+    let command = select_with(rt, Body::ShortLe { le: 256 });
+    let mut buffer = [0; 5];
+    command.encoded_len() == 5
+        && acted_on_once(t, params(rt), line, &command, &mut buffer, 1).is_ok()
+        && is_done(t)
 }
 
 #[test]
-fn a_command_over_a_line(rt: HostRuntime) -> Result<(), Fail> {
-    let params = T1Params::new(32, 4, 5).ok_or("parameters")?;
-    let mut terminal = Terminal::new(rt.alloc(), params)?;
-    let command = Command::new([0x00, 0xA4, 0x04, 0x00], Body::ShortLe { le: 256 })?;
-    let mut buffer = [0; 5];
-    let block = [0x00, 0x00, 0x02, 0x90, 0x00, 0x92];
-    let source = Counted::new(Feeder::new(&block, 6, After::Repeats));
-    let mut line = StreamLine::new(source, Counted::new(Taker::new(64, 64, After::End)));
-    let first = exchanged_over_streams(&mut terminal, &mut line, &command, &mut buffer, 1);
-    assert!(rt; first.is_ok() && terminal.answer() == Some(&[0x90, 0x00]));
-    let again = acted_on_once(&mut terminal, params, &mut line, &command, &mut buffer, 1);
-    assert!(rt; again.is_ok() && terminal.answer() == Some(&[0x90, 0x00]));
-    Ok(())
+fn a_command_over_a_line(rt: HostRuntime) {
+    let mut t = Terminal::new(rt.alloc(), params(&rt)).expect(&rt, "a terminal");
+    let mut line = line();
+    assert!(rt; is_exchanged(&rt, &mut t, &mut line));
+    assert!(rt; is_acted_on(&rt, &mut t, &mut line));
 }

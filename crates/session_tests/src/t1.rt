@@ -15,99 +15,106 @@ use calls::{
     Call, CardCall, CardWanted, Wanted, assert_gives, called, card_gives, gives, is_answer,
 };
 use std::alloc::Global;
-use std::test::Fail;
+use std::process::Abort;
 use t1_core::{Card, CardFault, Terminal, TerminalFault};
-use testing::same;
 
 /// The parameters of a card that takes information fields of so many octets.
-fn params(ifsc: u8) -> Result<T1Params, Fail> {
-    Ok(T1Params::new(ifsc, 4, 5).ok_or("no parameters")?)
+fn params(rt: &impl Abort, ifsc: u8) -> T1Params {
+    T1Params::new(ifsc, 4, 5).expect(rt, "parameters")
 }
 
-fn terminal(alloc: Global) -> Result<Terminal, Fail> {
-    terminal_for(alloc, 32)
+fn terminal(rt: &impl Abort, alloc: Global) -> Terminal {
+    terminal_for(rt, alloc, 32)
 }
 
 /// A terminal whose card takes information fields of so many octets.
-fn terminal_for(alloc: Global, ifsc: u8) -> Result<Terminal, Fail> {
-    Ok(Terminal::new(alloc, params(ifsc)?)?)
+fn terminal_for(rt: &impl Abort, alloc: Global, ifsc: u8) -> Terminal {
+    Terminal::new(alloc, params(rt, ifsc)).expect(rt, "a terminal")
 }
 
-fn card(alloc: Global) -> Result<Card, Fail> {
-    Ok(Card::new(alloc, params(32)?)?)
+fn card(rt: &impl Abort, alloc: Global) -> Card {
+    card_for(rt, alloc, 32)
+}
+
+/// A card that takes information fields of so many octets.
+fn card_for(rt: &impl Abort, alloc: Global, ifsc: u8) -> Card {
+    Card::new(alloc, params(rt, ifsc)).expect(rt, "a card")
+}
+
+/// So many octets of one value.
+fn octets_of(rt: &impl Abort, alloc: Global, value: u8, count: usize) -> Vec<u8> {
+    vec![in alloc; value; count].expect(rt, "octets")
 }
 
 /// A terminal that sent a command of one block.
-fn in_answer(alloc: Global) -> Result<Terminal, Fail> {
-    let mut terminal = terminal(alloc)?;
-    gives(
-        &mut terminal,
-        Call::Transmit(&SELECT),
-        Wanted::Block(&SELECT_BLOCK),
-    )
-    .then_some(())
-    .ok_or("another block was sent")?;
-    Ok(terminal)
+fn in_answer(rt: &impl Abort, alloc: Global) -> Terminal {
+    let mut t = terminal(rt, alloc);
+    let wanted = Wanted::Block(&SELECT_BLOCK);
+    assert!(rt; gives(&mut t, Call::Transmit(&SELECT), wanted));
+    t
 }
 
 /// A card whose host owes the reply to a command of one block.
-fn in_reply(alloc: Global) -> Result<Card, Fail> {
-    let mut card = card(alloc)?;
-    card_gives(
-        &mut card,
-        CardCall::Received(&SELECT_BLOCK),
-        CardWanted::Asked,
-    )
-    .then_some(())
-    .ok_or("the host is not asked")?;
-    Ok(card)
+fn in_reply(rt: &impl Abort, alloc: Global) -> Card {
+    let mut c = card(rt, alloc);
+    let select = CardCall::Received(&SELECT_BLOCK);
+    assert!(rt; card_gives(&mut c, select, CardWanted::Asked));
+    c
 }
 
-/// How many times the waiting time the terminal waits after a call.
-fn waiting(t: &mut Terminal, call: Call<'_>) -> Result<u8, TerminalFault> {
+/// Whether the terminal waits so many times the waiting time after a call.
+fn waits(t: &mut Terminal, call: Call<'_>, times: u8) -> bool {
     match called(t, call) {
-        Ok(turn) => Ok(turn.waiting()),
-        Err(fault) => Err(fault),
+        Ok(turn) => turn.waiting() == times,
+        Err(_) => false,
     }
 }
 
 #[test]
-fn how_long_is_waited(rt: HostRuntime) -> Result<(), Fail> {
+fn how_long_is_waited(rt: HostRuntime) {
     for (request, times) in &TIMES {
-        let mut t = in_answer(rt.alloc())?;
-        assert!(rt; same(waiting(&mut t, Call::Received(request)), Ok(*times)));
-        assert!(rt; same(waiting(&mut t, Call::Quiet), Ok(1)));
-        assert!(rt; same(waiting(&mut t, Call::Received(&DONE_BLOCK)), Ok(1)));
+        let mut t = in_answer(&rt, rt.alloc());
+        assert!(rt; waits(&mut t, Call::Received(request), *times));
+        assert!(rt; waits(&mut t, Call::Quiet, 1));
+        assert!(rt; waits(&mut t, Call::Received(&DONE_BLOCK), 1));
     }
-    Ok(())
 }
 
+static GIVEN_UP_AFTER_AN_ANSWER: [(Call, Wanted); 7] = [
+    (Call::Received(&DONE_BLOCK), Wanted::Answered),
+    (Call::AskIfs(32), Wanted::Block(&ASK_FOR_32)),
+    (Call::Quiet, Wanted::Block(&ASK_FOR_32)),
+    (Call::Quiet, Wanted::Block(&ASK_FOR_32)),
+    (Call::Quiet, Wanted::Block(&ASK_FOR_32)),
+    (Call::Quiet, Wanted::Block(&RESYNCH)),
+    (Call::Received(&RESYNCHED), Wanted::GivenUp),
+];
+
 #[test]
-fn an_answer_outlives_a_question_given_up(rt: HostRuntime) -> Result<(), Fail> {
-    const ROWS: [(Call, Wanted); 7] = [
-        (Call::Received(&DONE_BLOCK), Wanted::Answered),
-        (Call::AskIfs(32), Wanted::Block(&ASK_FOR_32)),
-        (Call::Quiet, Wanted::Block(&ASK_FOR_32)),
-        (Call::Quiet, Wanted::Block(&ASK_FOR_32)),
-        (Call::Quiet, Wanted::Block(&ASK_FOR_32)),
-        (Call::Quiet, Wanted::Block(&RESYNCH)),
-        (Call::Received(&RESYNCHED), Wanted::GivenUp),
-    ];
-    let mut t = in_answer(rt.alloc())?;
-    assert_gives(&rt, &mut t, &ROWS);
+fn an_answer_outlives_a_question_given_up(rt: HostRuntime) {
+    let mut t = in_answer(&rt, rt.alloc());
+    assert_gives(&rt, &mut t, &GIVEN_UP_AFTER_AN_ANSWER);
     assert!(rt; is_answer(&t, &DONE));
-    Ok(())
+}
+
+/// Whether a terminal refuses a command of so many octets as too long.
+fn is_command_refused(rt: &impl Abort, alloc: Global, count: usize) -> bool {
+    let command = octets_of(rt, alloc, 0xA5, count);
+    let mut t = terminal(rt, alloc);
+    let wanted = Wanted::Refused(TerminalFault::TooLong);
+    gives(&mut t, Call::Transmit(command.as_slice()), wanted)
+}
+
+/// Whether a card refuses a reply of so many octets as too long.
+fn is_reply_refused(rt: &impl Abort, alloc: Global, count: usize) -> bool {
+    let reply = octets_of(rt, alloc, 0x5A, count);
+    let mut c = in_reply(rt, alloc);
+    let wanted = CardWanted::Refused(CardFault::TooLong);
+    card_gives(&mut c, CardCall::Reply(reply.as_slice()), wanted)
 }
 
 #[test]
-fn messages_that_are_too_long(rt: HostRuntime) -> Result<(), Fail> {
-    let command = vec![in rt.alloc(); 0xA5u8; 65_545]?;
-    let mut t = terminal(rt.alloc())?;
-    let transmit = Call::Transmit(command.as_slice());
-    assert!(rt; gives(&mut t, transmit, Wanted::Refused(TerminalFault::TooLong)));
-    let reply = vec![in rt.alloc(); 0x5Au8; 65_539]?;
-    let mut c = in_reply(rt.alloc())?;
-    let reply = CardCall::Reply(reply.as_slice());
-    assert!(rt; card_gives(&mut c, reply, CardWanted::Refused(CardFault::TooLong)));
-    Ok(())
+fn messages_that_are_too_long(rt: HostRuntime) {
+    assert!(rt; is_command_refused(&rt, rt.alloc(), 65_545));
+    assert!(rt; is_reply_refused(&rt, rt.alloc(), 65_539));
 }

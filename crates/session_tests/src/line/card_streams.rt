@@ -1,91 +1,88 @@
 //! A card that serves a reader and a writer of octets.
 
-use super::serving::replying;
-use super::{DONE, DONE_BLOCK, SELECT, SELECT_BLOCK, params, terminal};
+ghost use Rattle.std.specs.Prelude.{◌≤◌, ◌≢◌};
+
+use super::serving::{Served, end_of, replying};
+use super::streams::{Streams, has_carried, line_over};
+use super::{DONE, DONE_BLOCK, SELECT, SELECT_BLOCK, card, terminal};
 use line_core::{
     CardLine, ExchangeFault, Heard, LONGEST_ARRIVAL, Line, ServeFault, StreamLine, exchange, serve,
 };
 use octet_core::{After, Counted, FailsOnce, Feeder, Taker};
-use std::alloc::Global;
 use std::io::{self, ErrorKind, Read};
-use std::test::Fail;
-use t1_core::Card;
+use t1_core::{Card, Terminal};
 
-type Wire<'a> = StreamLine<Counted<Feeder<'a>>, Counted<Taker>>;
+type Wire<'a> = Streams<Feeder<'a>>;
 
-/// How a new card ends that serves at most so many blocks, and whose host says that all is done.
-fn served(
-    alloc: Global,
-    line: &mut Wire<'_>,
-    most_blocks: usize,
-) -> Result<Result<(), ServeFault>, Fail> {
-    let mut card = Card::new(alloc, params()?)?;
-    Ok(serve(&mut card, line, &mut replying(&DONE), most_blocks))
+/// Whether a card whose host says that all is done ends so, serving at most so many blocks.
+fn ends(c: &mut Card, line: &mut Wire<'_>, most_blocks: usize, wanted: Served) -> bool {
+    end_of(serve(c, line, &mut replying(&DONE), most_blocks)) == wanted
 }
 
 /// The block comes in parts and its answer goes in parts, and serving ends with the reader.
 #[test]
-fn a_reader_that_ends_after_a_block(rt: HostRuntime) -> Result<(), Fail> {
-    let source = Counted::new(Feeder::new(&SELECT_BLOCK, 4, After::End));
-    let sink = Counted::new(Taker::new(64, 4, After::End));
-    let mut line = StreamLine::new(source, sink);
-    assert!(rt; served(rt.alloc(), &mut line, 9)?.is_ok());
-    let (source, sink) = line.into_parts();
-    assert!(rt; source.into_inner().given() == 9);
-    assert!(rt; sink.into_inner().kept() == DONE_BLOCK.as_slice());
-    Ok(())
+fn a_reader_that_ends_after_a_block(rt: HostRuntime) {
+    let reader = Feeder::new(&SELECT_BLOCK, 4, After::End);
+    let mut line = line_over(reader, Taker::new(64, 4, After::End));
+    assert!(rt; ends(&mut card(&rt, rt.alloc()), &mut line, 9, Served::Done));
+    assert!(rt; has_carried(line, 9, &DONE_BLOCK));
 }
 
 #[test]
-fn a_budget_over_a_reader_without_an_end(rt: HostRuntime) -> Result<(), Fail> {
-    let source = Counted::new(Feeder::new(&SELECT_BLOCK, 9, After::Repeats));
-    let sink = Counted::new(Taker::new(64, 64, After::End));
-    let mut line = StreamLine::new(source, sink);
-    assert!(rt; matches!(served(rt.alloc(), &mut line, 1)?, Err(ServeFault::UsedUp)));
-    let (source, sink) = line.into_parts();
-    assert!(rt; source.into_inner().given() == 9);
-    assert!(rt; sink.into_inner().kept() == DONE_BLOCK.as_slice());
-    Ok(())
+fn a_budget_over_a_reader_without_an_end(rt: HostRuntime) {
+    let reader = Feeder::new(&SELECT_BLOCK, 9, After::Repeats);
+    let mut line = line_over(reader, Taker::new(64, 64, After::End));
+    assert!(rt; ends(&mut card(&rt, rt.alloc()), &mut line, 1, Served::UsedUp));
+    assert!(rt; has_carried(line, 9, &DONE_BLOCK));
 }
 
 #[test]
-fn a_reader_of_a_card_that_fails(rt: HostRuntime) -> Result<(), Fail> {
-    let source = Counted::new(Feeder::new(&[], 9, After::Fails));
-    let sink = Counted::new(Taker::new(64, 64, After::End));
-    let mut line = StreamLine::new(source, sink);
-    assert!(rt; matches!(served(rt.alloc(), &mut line, 9)?, Err(ServeFault::Line(_))));
-    assert!(rt; line.into_parts().1.into_inner().kept().is_empty());
-    Ok(())
+fn a_reader_of_a_card_that_fails(rt: HostRuntime) {
+    let reader = Feeder::new(&[], 9, After::Fails);
+    let mut line = line_over(reader, Taker::new(64, 64, After::End));
+    let failed = Served::Line(ErrorKind::Other);
+    assert!(rt; ends(&mut card(&rt, rt.alloc()), &mut line, 9, failed));
+    assert!(rt; has_carried(line, 0, &[]));
 }
 
 #[test]
-fn a_writer_of_a_card_that_is_full(rt: HostRuntime) -> Result<(), Fail> {
-    let source = Counted::new(Feeder::new(&SELECT_BLOCK, 9, After::End));
-    let sink = Counted::new(Taker::new(3, 64, After::End));
-    let mut line = StreamLine::new(source, sink);
-    assert!(rt;
-        matches!(
-            served(rt.alloc(), &mut line, 9)?,
-            Err(ServeFault::Line(fault)) if fault.kind() == ErrorKind::WriteZero
-        )
-    );
-    assert!(rt; line.into_parts().1.into_inner().kept() == &DONE_BLOCK[..3]);
-    Ok(())
+fn a_writer_of_a_card_that_is_full(rt: HostRuntime) {
+    let reader = Feeder::new(&SELECT_BLOCK, 9, After::End);
+    let mut line = line_over(reader, Taker::new(3, 64, After::End));
+    let full = Served::Line(ErrorKind::WriteZero);
+    assert!(rt; ends(&mut card(&rt, rt.alloc()), &mut line, 9, full));
+    assert!(rt; has_carried(line, 9, &DONE_BLOCK[..3]));
+}
+
+/// Whether a card hears these octets.
+fn hears(line: &mut Wire<'_>, octets: &[u8]) -> bool {
+    let mut room = [0; LONGEST_ARRIVAL];
+    line.hear(&mut room).ok() == Some(Heard::Octets(octets.len())) && room.starts_with(octets)
+}
+
+/// Whether a card hears that no more comes.
+fn hears_the_end(line: &mut Wire<'_>) -> bool {
+    let mut room = [0; LONGEST_ARRIVAL];
+    line.hear(&mut room).ok() == Some(Heard::Nothing)
+}
+
+/// Whether a terminal hears that no more comes, as a failure.
+fn fails_at_the_end(line: &mut Wire<'_>) -> bool {
+    let mut room = [0; LONGEST_ARRIVAL];
+    match line.talk(&SELECT_BLOCK, 1, &mut room) {
+        Ok(_) => false,
+        Err(fault) => fault.kind() == ErrorKind::UnexpectedEof,
+    }
 }
 
 /// What came of a block is handed over; then a card hears that no more comes, and a terminal that the line fails.
 #[test]
-fn a_reader_of_a_card_that_ends_in_a_block(rt: HostRuntime) -> Result<(), Fail> {
-    let source = Counted::new(Feeder::new(&SELECT_BLOCK[..4], 9, After::End));
-    let sink = Counted::new(Taker::new(64, 64, After::End));
-    let mut line = StreamLine::new(source, sink);
-    let mut room = [0; LONGEST_ARRIVAL];
-    assert!(rt; matches!(line.hear(&mut room), Ok(Heard::Octets(4))));
-    assert!(rt; room[..4] == SELECT_BLOCK[..4]);
-    assert!(rt; matches!(line.hear(&mut room), Ok(Heard::Nothing)));
-    let answer = line.talk(&SELECT_BLOCK, 1, &mut room);
-    assert!(rt; matches!(answer, Err(fault) if fault.kind() == ErrorKind::UnexpectedEof));
-    Ok(())
+fn a_reader_of_a_card_that_ends_in_a_block(rt: HostRuntime) {
+    let reader = Feeder::new(&SELECT_BLOCK[..4], 9, After::End);
+    let mut line = line_over(reader, Taker::new(64, 64, After::End));
+    assert!(rt; hears(&mut line, &SELECT_BLOCK[..4]));
+    assert!(rt; hears_the_end(&mut line));
+    assert!(rt; fails_at_the_end(&mut line));
 }
 
 /// A reader each call of which fails so.
@@ -98,22 +95,64 @@ impl Read for Failing {
     }
 }
 
-fn line_that_fails(kind: ErrorKind) -> StreamLine<Counted<Failing>, Counted<Taker>> {
-    let sink = Counted::new(Taker::new(64, 64, After::End));
-    StreamLine::new(Counted::new(Failing(kind)), sink)
+fn line_that_fails(kind: ErrorKind) -> Streams<Failing> {
+    line_over(Failing(kind), Taker::new(64, 64, After::End))
 }
 
-/// Whether what was heard is silence, where it has to be, and else a failure of this kind.
-fn is_told(heard: io::Result<Heard>, is_silence: bool, kind: ErrorKind) -> bool {
-    match heard {
-        Ok(heard) => is_silence && heard == Heard::Nothing,
-        Err(fault) => !is_silence && fault.kind() == kind,
+/// How a reader fails, and whether both ends are told of silence then, or else of this failure.
+#[derive(Clone, Copy)]
+struct Failure {
+    kind: ErrorKind,
+    is_silence: bool,
+}
+
+impl Failure {
+    /// Whether this was heard.
+    fn is_told(self, heard: io::Result<Heard>) -> bool {
+        match heard {
+            Ok(heard) => self.is_silence && heard == Heard::Nothing,
+            Err(fault) => self.is_other(fault.kind()),
+        }
+    }
+
+    fn is_other(self, kind: ErrorKind) -> bool {
+        !self.is_silence && kind == self.kind
+    }
+
+    fn is_heard(self) -> bool {
+        let mut room = [0; LONGEST_ARRIVAL];
+        self.is_told(line_that_fails(self.kind).hear(&mut room))
+    }
+
+    fn is_heard_after_a_block(self) -> bool {
+        let mut room = [0; LONGEST_ARRIVAL];
+        self.is_told(line_that_fails(self.kind).talk(&SELECT_BLOCK, 1, &mut room))
+    }
+
+    /// Whether serving ends by it.
+    fn ends_serving(self, c: &mut Card) -> bool {
+        let mut line = line_that_fails(self.kind);
+        match serve(c, &mut line, &mut replying(&DONE), 9) {
+            Ok(()) => self.is_silence,
+            Err(ServeFault::Line(fault)) => self.is_other(fault.kind()),
+            Err(_) => false,
+        }
+    }
+
+    /// Whether an exchange ends by it.
+    fn ends_an_exchange(self, t: &mut Terminal) -> bool {
+        let mut line = line_that_fails(self.kind);
+        match exchange(t, &mut line, &SELECT, 9) {
+            Err(ExchangeFault::Dead) => self.is_silence,
+            Err(ExchangeFault::Line(fault)) => self.is_other(fault.kind()),
+            _ => false,
+        }
     }
 }
 
 /// Time that is over is silence, and any other failure is the line's own, also to the calls of both ends.
 #[test]
-fn readers_that_fail(rt: HostRuntime) -> Result<(), Fail> {
+fn readers_that_fail(rt: HostRuntime) {
     let rows = [
         (ErrorKind::TimedOut, true),
         (ErrorKind::WouldBlock, true),
@@ -121,66 +160,69 @@ fn readers_that_fail(rt: HostRuntime) -> Result<(), Fail> {
         (ErrorKind::Interrupted, false),
     ];
     for (kind, is_silence) in rows {
-        let mut room = [0; LONGEST_ARRIVAL];
-        assert!(rt; is_told(line_that_fails(kind).hear(&mut room), is_silence, kind));
-        let heard = line_that_fails(kind).talk(&SELECT_BLOCK, 1, &mut room);
-        assert!(rt; is_told(heard, is_silence, kind));
-        let mut card = Card::new(rt.alloc(), params()?)?;
-        let is_served = match serve(
-            &mut card,
-            &mut line_that_fails(kind),
-            &mut replying(&DONE),
-            9,
-        ) {
-            Ok(()) => is_silence,
-            Err(ServeFault::Line(fault)) => !is_silence && fault.kind() == kind,
-            Err(_) => false,
-        };
-        assert!(rt; is_served);
-        let mut t = terminal(rt.alloc())?;
-        let is_exchanged = match exchange(&mut t, &mut line_that_fails(kind), &SELECT, 9) {
-            Err(ExchangeFault::Dead) => is_silence,
-            Err(ExchangeFault::Line(fault)) => !is_silence && fault.kind() == kind,
-            _ => false,
-        };
-        assert!(rt; is_exchanged);
+        let failure = Failure { kind, is_silence };
+        assert!(rt; failure.is_heard());
+        assert!(rt; failure.is_heard_after_a_block());
+        assert!(rt; failure.ends_serving(&mut card(&rt, rt.alloc())));
+        assert!(rt; failure.ends_an_exchange(&mut terminal(&rt, rt.alloc())));
     }
-    Ok(())
+}
+
+/// Whether a block is heard that comes in parts of this size.
+fn is_heard_in_parts(block: &[u8; 258], step: usize) -> bool
+    requires { 1 ≤ step }
+{
+    let reader = Feeder::new(block, step, After::Repeats);
+    let mut line = line_over(reader, Taker::new(64, 64, After::End));
+    hears(&mut line, block) && has_carried(line, 258, &[])
 }
 
 /// The longest block, in parts of each size.
 #[test]
-fn a_block_in_parts(rt: HostRuntime) -> Result<(), Fail> {
+fn a_block_in_parts(rt: HostRuntime) {
     let mut block = [0xA5; 258];
     block[2] = 254;
     for step in 1..=258 {
-        let source = Counted::new(Feeder::new(&block, step, After::Repeats));
-        let sink = Counted::new(Taker::new(64, 64, After::End));
-        let mut line = StreamLine::new(source, sink);
-        let mut room = [0; LONGEST_ARRIVAL];
-        assert!(rt; matches!(line.hear(&mut room), Ok(Heard::Octets(258))));
-        assert!(rt; room[..258] == block[..]);
-        assert!(rt; line.into_parts().0.into_inner().given() == 258);
+        assert!(rt; is_heard_in_parts(&block, step));
     }
-    Ok(())
+}
+
+/// A line whose reader and writer fail once.
+type Breaking<'a> = StreamLine<Counted<FailsOnce<Feeder<'a>>>, Counted<FailsOnce<Taker>>>;
+
+/// Whether so many octets of SELECT are heard before the failure.
+fn breaks_as_it_hears(line: &mut Breaking<'_>, left: usize) -> bool {
+    let mut room = [0; LONGEST_ARRIVAL];
+    let heard = line.hear(&mut room).ok();
+    heard == Some(Heard::Octets(left)) && SELECT_BLOCK.get(..left) == room.get(..left)
+}
+
+/// Whether so many octets of SELECT are written before the failure.
+fn breaks_as_it_says(mut line: Breaking<'_>, left: usize) -> bool {
+    let is_told = match line.say(&SELECT_BLOCK) {
+        Ok(()) => false,
+        Err(fault) => fault.kind() == ErrorKind::WriteZero,
+    };
+    let sink = line.into_parts().1.into_inner().into_inner();
+    is_told && SELECT_BLOCK.get(..left) == Some(sink.kept())
+}
+
+/// Whether a line breaks so after so many octets each way.
+fn breaks(fault: After, left: usize) -> bool
+    requires { fault ≢ After.Repeats }
+{
+    let source = FailsOnce::new(Feeder::new(&SELECT_BLOCK, 9, After::Repeats), left, fault);
+    let sink = FailsOnce::new(Taker::new(64, 9, After::End), left, fault);
+    let mut line = StreamLine::new(Counted::new(source), Counted::new(sink));
+    breaks_as_it_hears(&mut line, left) && breaks_as_it_says(line, left)
 }
 
 /// A call that fails, or is interrupted, after any octet of a block ends it there, and isn't tried again.
 #[test]
-fn a_reader_and_a_writer_that_fail_once(rt: HostRuntime) -> Result<(), Fail> {
+fn a_reader_and_a_writer_that_fail_once(rt: HostRuntime) {
     for fault in [After::Fails, After::Interrupted, After::End] {
         for left in 1..9 {
-            let source = FailsOnce::new(Feeder::new(&SELECT_BLOCK, 9, After::Repeats), left, fault);
-            let sink = FailsOnce::new(Taker::new(64, 9, After::End), left, fault);
-            let mut line = StreamLine::new(Counted::new(source), Counted::new(sink));
-            let mut room = [0; LONGEST_ARRIVAL];
-            assert!(rt; matches!(line.hear(&mut room), Ok(Heard::Octets(count)) if count == left));
-            assert!(rt; room[..left] == SELECT_BLOCK[..left]);
-            let said = line.say(&SELECT_BLOCK);
-            assert!(rt; matches!(said, Err(fault) if fault.kind() == ErrorKind::WriteZero));
-            let sink = line.into_parts().1.into_inner().into_inner();
-            assert!(rt; sink.kept() == &SELECT_BLOCK[..left]);
+            assert!(rt; breaks(fault, left));
         }
     }
-    Ok(())
 }

@@ -1,25 +1,26 @@
 //! A card that serves lines which give what is written down.
 
-use super::{ASK_AGAIN, DONE, DONE_BLOCK, LONG, SELECT, SELECT_BLOCK, Step, filled, params};
+use super::steps::{Step, Steps};
+use super::{DONE, DONE_BLOCK, LONG, SELECT, SELECT_BLOCK, card, octets_of};
 use line_core::{CardLine, Heard, Host, ServeFault, serve};
 use std::io::{self, ErrorKind};
-use std::test::Fail;
 use t1_core::{Card, CardFault};
+use testing::same;
 
-/// The line of a card that does what is written down, and then one thing for ever.
+const ASK_AGAIN: [u8; 4] = [0x00, 0x80, 0x00, 0x80];
+
+/// The line of a card that counts the blocks it sends.
 #[derive(Drop)]
 struct CardScript<'a> {
-    steps: &'a [Step<'a>],
-    then: Step<'a>,
+    steps: Steps<'a>,
     sends: bool,
     said: u64,
     is_done_said: bool,
 }
 
-fn card_over<'a>(steps: &'a [Step<'a>], then: Step<'a>) -> CardScript<'a> {
+fn card_over<'a>(first: &'a [Step<'a>], then: Step<'a>) -> CardScript<'a> {
     CardScript {
-        steps,
-        then,
+        steps: Steps { first, then },
         sends: true,
         said: 0,
         is_done_said: false,
@@ -30,18 +31,7 @@ impl CardLine for CardScript<'_> {
     ghost said = { λ _ _ _. Unit {0} };
 
     fn hear(&mut self, room: &mut [u8]) -> io::Result<Heard> {
-        let step = match self.steps {
-            [first, rest @ ..] => {
-                self.steps = rest;
-                *first
-            }
-            [] => self.then,
-        };
-        match step {
-            Step::Gives(octets) => Ok(filled(octets, room)),
-            Step::IsSilent => Ok(Heard::Nothing),
-            Step::Fails => Err(ErrorKind::Other.into()),
-        }
+        self.steps.heard(room)
     }
 
     fn say(&mut self, block: &[u8]) -> io::Result<()> {
@@ -85,73 +75,106 @@ impl Host for Replies<'_> {
     }
 }
 
+/// How serving ends.
+#[derive(Clone, Copy, PartialEq, Eq)]
+pub(super) enum Served {
+    Done,
+    Line(ErrorKind),
+    UsedUp,
+    Refused(CardFault),
+}
+
+pub(super) fn end_of(given: Result<(), ServeFault>) -> Served {
+    match given {
+        Ok(()) => Served::Done,
+        Err(ServeFault::Line(fault)) => Served::Line(fault.kind()),
+        Err(ServeFault::UsedUp) => Served::UsedUp,
+        Err(ServeFault::Refused(fault)) => Served::Refused(fault),
+    }
+}
+
+/// Whether serving at most so many blocks ends so, once so many were sent in all.
+fn ends(
+    c: &mut Card,
+    line: &mut CardScript<'_>,
+    host: &mut Replies<'_>,
+    most_blocks: usize,
+    wanted: Served,
+    said: u64,
+) -> bool {
+    end_of(serve(c, line, host, most_blocks)) == wanted && line.said == said
+}
+
 #[test]
-fn a_command_is_served(rt: HostRuntime) -> Result<(), Fail> {
-    let mut card = Card::new(rt.alloc(), params()?)?;
+fn a_command_is_served(rt: HostRuntime) {
+    let mut c = card(&rt, rt.alloc());
     let mut host = replying(&DONE);
-    let steps = [
+    let first = [
         Step::Gives(&LONG),
         Step::Gives(&[]),
         Step::Gives(&SELECT_BLOCK),
     ];
-    let mut line = card_over(&steps, Step::IsSilent);
-    assert!(rt; serve(&mut card, &mut line, &mut host, 9).is_ok());
-    assert!(rt; line.said == 3 && line.is_done_said);
-    assert!(rt; host.acted == 1 && host.is_select);
-    Ok(())
+    let mut line = card_over(&first, Step::IsSilent);
+    assert!(rt; ends(&mut c, &mut line, &mut host, 9, Served::Done, 3));
+    assert!(rt; line.is_done_said);
+    assert!(rt; same((host.acted, host.is_select), (1, true)));
 }
 
 #[test]
-fn a_budget_of_blocks(rt: HostRuntime) -> Result<(), Fail> {
-    let mut card = Card::new(rt.alloc(), params()?)?;
+fn a_budget_of_blocks(rt: HostRuntime) {
+    let mut c = card(&rt, rt.alloc());
     let mut host = replying(&DONE);
     let mut line = card_over(&[], Step::Gives(&SELECT_BLOCK));
-    for blocks in [0, 1] {
-        let served = serve(&mut card, &mut line, &mut host, blocks);
-        assert!(rt; matches!(served, Err(ServeFault::UsedUp)));
-        assert!(rt; line.said == blocks as u64);
-    }
+    assert!(rt; ends(&mut c, &mut line, &mut host, 0, Served::UsedUp, 0));
+    assert!(rt; ends(&mut c, &mut line, &mut host, 1, Served::UsedUp, 1));
     assert!(rt; line.is_done_said);
-    Ok(())
+}
+
+/// Whether serving ends so by a failure of the line, before a block is sent.
+fn fails(c: &mut Card, mut line: CardScript<'_>, host: &mut Replies<'_>) -> bool {
+    let failed = Served::Line(ErrorKind::Other);
+    ends(c, &mut line, host, 9, failed, 0)
+}
+
+/// Whether the block that wasn't sent is sent where it is asked for again.
+fn is_repaired(c: &mut Card, host: &mut Replies<'_>) -> bool {
+    let mut line = card_over(&[Step::Gives(&ASK_AGAIN)], Step::IsSilent);
+    ends(c, &mut line, host, 9, Served::Done, 1) && line.is_done_said
 }
 
 #[test]
-fn a_card_whose_line_fails(rt: HostRuntime) -> Result<(), Fail> {
-    let mut card = Card::new(rt.alloc(), params()?)?;
+fn a_card_whose_line_fails(rt: HostRuntime) {
+    let mut c = card(&rt, rt.alloc());
     let mut host = replying(&DONE);
-    let mut deaf = card_over(&[], Step::Fails);
-    assert!(rt;
-        matches!(
-            serve(&mut card, &mut deaf, &mut host, 9),
-            Err(ServeFault::Line(_))
-        )
-    );
+    let deaf = card_over(&[], Step::Fails);
     let mut mute = card_over(&[], Step::Gives(&SELECT_BLOCK));
     mute.sends = false;
-    assert!(rt;
-        matches!(
-            serve(&mut card, &mut mute, &mut host, 9),
-            Err(ServeFault::Line(_))
-        )
-    );
-    let mut repaired = card_over(&[Step::Gives(&ASK_AGAIN)], Step::IsSilent);
-    assert!(rt; serve(&mut card, &mut repaired, &mut host, 9).is_ok());
-    assert!(rt; repaired.is_done_said);
+    assert!(rt; fails(&mut c, deaf, &mut host));
+    assert!(rt; fails(&mut c, mute, &mut host));
+    assert!(rt; is_repaired(&mut c, &mut host));
     assert!(rt; host.acted == 1);
-    Ok(())
+}
+
+/// Whether a card takes this reply.
+fn takes(c: &mut Card, reply: &[u8]) -> bool {
+    c.reply(reply).is_ok()
+}
+
+/// Whether a card refuses a host's reply, and then what comes, and the host acts once.
+fn is_refused(c: &mut Card, reply: &[u8]) -> bool {
+    let mut host = replying(reply);
+    let mut line = card_over(&[], Step::Gives(&SELECT_BLOCK));
+    let too_long = Served::Refused(CardFault::TooLong);
+    let order = Served::Refused(CardFault::Order);
+    ends(c, &mut line, &mut host, 9, too_long, 0)
+        && ends(c, &mut line, &mut host, 9, order, 0)
+        && host.acted == 1
 }
 
 #[test]
-fn a_reply_that_is_too_long(rt: HostRuntime) -> Result<(), Fail> {
-    let mut card = Card::new(rt.alloc(), params()?)?;
-    let long = vec![in rt.alloc(); 0u8; 65_539]?;
-    let mut host = replying(long.as_slice());
-    let mut line = card_over(&[], Step::Gives(&SELECT_BLOCK));
-    for fault in [CardFault::TooLong, CardFault::Order] {
-        let served = serve(&mut card, &mut line, &mut host, 9);
-        assert!(rt; matches!(served, Err(ServeFault::Refused(given)) if given == fault));
-    }
-    assert!(rt; line.said == 0 && host.acted == 1);
-    assert!(rt; card.reply(&DONE).is_ok());
-    Ok(())
+fn a_reply_that_is_too_long(rt: HostRuntime) {
+    let mut c = card(&rt, rt.alloc());
+    let long = octets_of(&rt, rt.alloc(), 0, 65_539);
+    assert!(rt; is_refused(&mut c, long.as_slice()));
+    assert!(rt; takes(&mut c, &DONE));
 }

@@ -3,7 +3,7 @@
 use super::blocks::{DONE, DONE_BLOCK, SELECT, SELECT_BLOCK};
 use super::calls::{Call, CardCall};
 use super::params;
-use std::test::Fail;
+use std::process::Abort;
 use t1_core::{
     CardFault, CardPlaces, CardPut, CardWait, TerminalFault, TerminalPlaces, TerminalPut,
     TerminalWait,
@@ -50,41 +50,50 @@ fn awaits_block(t: &TerminalPlaces, joined: &[u8]) -> bool {
     t.fits(5, joined.len()) && t.awaits_block() && t.answer(joined).is_none()
 }
 
+/// A terminal with buffers for 5 octets of a command and 2 of an answer.
+#[derive(Drop)]
+struct LentTerminal {
+    places: TerminalPlaces,
+    held: [u8; 5],
+    joined: [u8; 2],
+    out: [u8; 258],
+}
+
+impl LentTerminal {
+    fn new(rt: &impl Abort) -> Self {
+        let (mut held, mut joined) = ([0xFF; 5], [0xFF; 2]);
+        let places = TerminalPlaces::begin(params(rt, 32), &mut held, &mut joined);
+        LentTerminal {
+            places,
+            held,
+            joined,
+            out: [0; 258],
+        }
+    }
+
+    /// Whether a call gives this.
+    fn gives(&mut self, call: Call<'_>, wanted: Result<TerminalPut, TerminalFault>) -> bool {
+        let LentTerminal {
+            places,
+            held,
+            joined,
+            out,
+        } = self;
+        same(put(places, held, joined, call, out), Some(wanted))
+    }
+}
+
 #[test]
-fn a_lent_terminal(rt: HostRuntime) -> Result<(), Fail> {
-    let (mut held, mut joined, mut out) = ([0xFFu8; 5], [0xFFu8; 2], [0u8; 258]);
-    let mut t = TerminalPlaces::begin(params(32)?, &mut held, &mut joined);
-    assert!(rt; joined == [0, 0]);
-    let long = put(
-        &mut t,
-        &mut held,
-        &mut joined,
-        Call::Transmit(&[0; 6]),
-        &mut out,
-    );
-    assert!(rt; same(long, Some(Err(TerminalFault::TooLong))));
-    let sent = put(
-        &mut t,
-        &mut held,
-        &mut joined,
-        Call::Transmit(&SELECT),
-        &mut out,
-    );
-    assert!(rt; same(sent, Some(Ok(SENT))));
-    assert!(rt; out.starts_with(&SELECT_BLOCK));
-    assert!(rt; awaits_block(&t, &joined));
-    let quiet = put(&mut t, &mut held, &mut joined, Call::Quiet, &mut out);
-    assert!(rt; same(quiet, Some(Ok(ASKED_AGAIN))));
-    let turn = put(
-        &mut t,
-        &mut held,
-        &mut joined,
-        Call::Received(&DONE_BLOCK),
-        &mut out,
-    );
-    assert!(rt; same(turn, Some(Ok(TerminalPut::Answered))));
-    assert!(rt; is_answer(&t, &joined, &DONE));
-    Ok(())
+fn a_lent_terminal(rt: HostRuntime) {
+    let mut t = LentTerminal::new(&rt);
+    assert!(rt; same(t.joined, [0, 0]));
+    assert!(rt; t.gives(Call::Transmit(&[0; 6]), Err(TerminalFault::TooLong)));
+    assert!(rt; t.gives(Call::Transmit(&SELECT), Ok(SENT)));
+    assert!(rt; t.out.starts_with(&SELECT_BLOCK));
+    assert!(rt; awaits_block(&t.places, &t.joined));
+    assert!(rt; t.gives(Call::Quiet, Ok(ASKED_AGAIN)));
+    assert!(rt; t.gives(Call::Received(&DONE_BLOCK), Ok(TerminalPut::Answered)));
+    assert!(rt; is_answer(&t.places, &t.joined, &DONE));
 }
 
 /// What a card says to a call over these buffers; none where its places don't fit them.
@@ -111,73 +120,77 @@ fn is_command(c: &CardPlaces, held: &[u8], octets: &[u8]) -> bool {
     c.fits(held.len(), 2) && c.command(held).is_some_and(|command| command == octets)
 }
 
+/// A card with buffers for 5 octets of a command and 2 of a reply.
+#[derive(Drop)]
+struct LentCard {
+    places: CardPlaces,
+    held: [u8; 5],
+    answer: [u8; 2],
+    out: [u8; 258],
+}
+
+impl LentCard {
+    fn new(rt: &impl Abort) -> Self {
+        let (mut held, mut answer) = ([0xFF; 5], [0xFF; 2]);
+        let places = CardPlaces::begin(params(rt, 32), &mut held, &mut answer);
+        LentCard {
+            places,
+            held,
+            answer,
+            out: [0; 258],
+        }
+    }
+
+    /// Whether a call gives this.
+    fn gives(&mut self, call: CardCall<'_>, wanted: Result<CardPut, CardFault>) -> bool {
+        let LentCard {
+            places,
+            held,
+            answer,
+            out,
+        } = self;
+        same(card_put(places, held, answer, call, out), Some(wanted))
+    }
+}
+
 #[test]
-fn a_lent_card(rt: HostRuntime) -> Result<(), Fail> {
-    let (mut held, mut answer, mut out) = ([0xFFu8; 5], [0xFFu8; 2], [0u8; 258]);
-    let mut c = CardPlaces::begin(params(32)?, &mut held, &mut answer);
-    let select = CardCall::Received(&SELECT_BLOCK);
-    let turn = card_put(&mut c, &mut held, &mut answer, select, &mut out);
-    assert!(rt; same(turn, Some(Ok(CardPut::Asked))));
-    assert!(rt; is_command(&c, &held, &SELECT));
-    let long = card_put(
-        &mut c,
-        &mut held,
-        &mut answer,
-        CardCall::Reply(&[0; 3]),
-        &mut out,
-    );
-    assert!(rt; same(long, Some(Err(CardFault::TooLong))));
-    let sent = card_put(
-        &mut c,
-        &mut held,
-        &mut answer,
-        CardCall::Reply(&DONE),
-        &mut out,
-    );
-    assert!(rt; same(sent, Some(Ok(CardPut::Send(6)))));
-    assert!(rt; out.starts_with(&DONE_BLOCK));
-    Ok(())
+fn a_lent_card(rt: HostRuntime) {
+    let mut c = LentCard::new(&rt);
+    assert!(rt; c.gives(CardCall::Received(&SELECT_BLOCK), Ok(CardPut::Asked)));
+    assert!(rt; is_command(&c.places, &c.held, &SELECT));
+    assert!(rt; c.gives(CardCall::Reply(&[0; 3]), Err(CardFault::TooLong)));
+    assert!(rt; c.gives(CardCall::Reply(&DONE), Ok(CardPut::Send(6))));
+    assert!(rt; c.out.starts_with(&DONE_BLOCK));
 }
 
-/// The places of a terminal and of a card with room for 5 and for 2 octets.
-fn terminal_places() -> Result<TerminalPlaces, Fail> {
-    Ok(TerminalPlaces::begin(params(32)?, &mut [0; 5], &mut [0; 2]))
-}
-
-fn card_places() -> Result<CardPlaces, Fail> {
-    Ok(CardPlaces::begin(params(32)?, &mut [0; 5], &mut [0; 2]))
-}
-
-/// Whether a terminal's places fit buffers of 5 and of 2 octets.
-fn terminal_fits(t: TerminalPlaces) -> bool {
-    t.fits(5, 2)
+/// Whether a terminal's places fit buffers of so many octets.
+fn terminal_fits(t: TerminalPlaces, held: usize, joined: usize) -> bool {
+    t.fits(held, joined)
 }
 
 /// Whether a card's places fit such buffers.
-fn card_fits(c: CardPlaces) -> bool {
-    c.fits(5, 2)
+fn card_fits(c: CardPlaces, held: usize, answer: usize) -> bool {
+    c.fits(held, answer)
 }
 
 #[test]
-fn places_that_fit_no_such_buffers(rt: HostRuntime) -> Result<(), Fail> {
-    let t = terminal_places()?;
-    assert!(rt; terminal_fits(t) && t.fits(6, 3));
-    assert!(rt; !t.fits(4, 2) && !t.fits(5, 1));
-    assert!(rt; !terminal_fits(TerminalPlaces { ifsc: 0, ..t }));
-    assert!(rt;
-        !terminal_fits(TerminalPlaces {
-            wait: TerminalWait::Resynch(4),
-            ..t
-        })
-    );
-    let c = card_places()?;
-    assert!(rt; card_fits(c) && !c.fits(4, 2) && !c.fits(5, 1));
-    assert!(rt;
-        card_fits(CardPlaces {
-            wait: CardWait::Host,
-            ..c
-        })
-    );
-    assert!(rt; !card_fits(CardPlaces { ifsd: 255, ..c }));
-    Ok(())
+fn places_that_fit_no_such_buffers(rt: HostRuntime) {
+    let t = LentTerminal::new(&rt).places;
+    for (held, joined, fits) in [(5, 2, true), (6, 3, true), (4, 2, false), (5, 1, false)] {
+        assert!(rt; same(terminal_fits(t, held, joined), fits));
+    }
+    let wait = TerminalWait::Resynch(4);
+    assert!(rt; !terminal_fits(TerminalPlaces { ifsc: 0, ..t }, 5, 2));
+    assert!(rt; !terminal_fits(TerminalPlaces { wait, ..t }, 5, 2));
+}
+
+#[test]
+fn places_of_a_card_that_fit_no_such_buffers(rt: HostRuntime) {
+    let c = LentCard::new(&rt).places;
+    for (held, answer, fits) in [(5, 2, true), (4, 2, false), (5, 1, false)] {
+        assert!(rt; same(card_fits(c, held, answer), fits));
+    }
+    let wait = CardWait::Host;
+    assert!(rt; card_fits(CardPlaces { wait, ..c }, 5, 2));
+    assert!(rt; !card_fits(CardPlaces { ifsd: 255, ..c }, 5, 2));
 }

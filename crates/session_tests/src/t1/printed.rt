@@ -2,10 +2,12 @@
 
 use block_core::{Block, Number};
 use octet_core::Named;
+use std::alloc::Global;
+use std::fmt::Display;
 use t1_core::{CardFault, CardTurn, TerminalFault, TerminalTurn};
 use testing::{debugs, same, shows};
 
-const OF_THE_TERMINAL: [(TerminalFault, &str); 5] = [
+static OF_THE_TERMINAL: [(TerminalFault, &str); 5] = [
     (TerminalFault::Dead, "Dead"),
     (TerminalFault::Busy, "Busy"),
     (TerminalFault::TooLong, "TooLong"),
@@ -13,21 +15,24 @@ const OF_THE_TERMINAL: [(TerminalFault, &str); 5] = [
     (TerminalFault::Idle, "Idle"),
 ];
 
-const OF_THE_CARD: [(CardFault, &str); 3] = [
+static OF_THE_CARD: [(CardFault, &str); 3] = [
     (CardFault::Order, "Order"),
     (CardFault::TooLong, "TooLong"),
     (CardFault::Reserved, "Reserved"),
 ];
 
+/// Whether this is the name of a fault, and what is written of it.
+fn is_named<F: Named + Display + Copy + Drop>(alloc: Global, fault: F, name: &str) -> bool {
+    same(fault.name(), name) && shows(alloc, &fault, name)
+}
+
 #[test]
 fn faults_are_named(rt: HostRuntime) {
-    for (fault, name) in OF_THE_TERMINAL {
-        assert!(rt; same(fault.name(), name));
-        assert!(rt; shows(rt.alloc(), &fault, name));
+    for (fault, name) in &OF_THE_TERMINAL {
+        assert!(rt; is_named(rt.alloc(), *fault, name));
     }
-    for (fault, name) in OF_THE_CARD {
-        assert!(rt; same(fault.name(), name));
-        assert!(rt; shows(rt.alloc(), &fault, name));
+    for (fault, name) in &OF_THE_CARD {
+        assert!(rt; is_named(rt.alloc(), *fault, name));
     }
 }
 

@@ -5,9 +5,8 @@ use super::calls::{Call, CardCall};
 use super::{card, terminal};
 use block_core::LONGEST_BLOCK;
 use std::alloc::Global;
-use std::test::Fail;
+use std::process::Abort;
 use t1_core::{Card, CardFault, CardPut, Terminal, TerminalFault, TerminalPut};
-use testing::same;
 
 /// The octets of a block, in a buffer that had others.
 type Buffer = [u8; LONGEST_BLOCK];
@@ -37,6 +36,26 @@ fn card_put(c: &mut Card, call: CardCall<'_>, out: &mut Buffer) -> Result<CardPu
     }
 }
 
+/// Whether the terminal says this to a call.
+fn puts(
+    t: &mut Terminal,
+    call: Call<'_>,
+    out: &mut Buffer,
+    wanted: Result<TerminalPut, TerminalFault>,
+) -> bool {
+    put(t, call, out) == wanted
+}
+
+/// Whether the card says this to a call.
+fn card_puts(
+    c: &mut Card,
+    call: CardCall<'_>,
+    out: &mut Buffer,
+    wanted: Result<CardPut, CardFault>,
+) -> bool {
+    card_put(c, call, out) == wanted
+}
+
 /// Whether the first octets of a buffer are these, and the next is as it was.
 fn holds(buffer: &Buffer, octets: &[u8]) -> bool {
     buffer.starts_with(octets) && buffer.get(octets.len()) == Some(&0xEE)
@@ -47,61 +66,51 @@ fn sent(count: usize, waiting: u8) -> Result<TerminalPut, TerminalFault> {
 }
 
 #[test]
-fn blocks_put_by_the_terminal(rt: HostRuntime) -> Result<(), Fail> {
-    let mut t = terminal(rt.alloc())?;
+fn blocks_put_by_the_terminal(rt: HostRuntime) {
+    let mut t = terminal(&rt, rt.alloc());
     let mut out = EMPTY;
-    let transmitted = put(&mut t, Call::Transmit(&SELECT), &mut out);
-    assert!(rt; same(transmitted, sent(9, 1)));
+    let answered = Ok(TerminalPut::Answered);
+    assert!(rt; puts(&mut t, Call::Transmit(&SELECT), &mut out, sent(9, 1)));
     assert!(rt; holds(&out, &SELECT_BLOCK));
-    let granted = put(&mut t, Call::Received(&MORE_TIME), &mut out);
-    assert!(rt; same(granted, sent(5, 3)));
-    assert!(rt; same(put(&mut t, Call::Quiet, &mut out), sent(4, 1)));
-    let answered = put(&mut t, Call::Received(&DONE_BLOCK), &mut out);
-    assert!(rt; same(answered, Ok(TerminalPut::Answered)));
-    assert!(rt; same(put(&mut t, Call::Quiet, &mut out), Err(TerminalFault::Idle)));
-    Ok(())
+    assert!(rt; puts(&mut t, Call::Received(&MORE_TIME), &mut out, sent(5, 3)));
+    assert!(rt; puts(&mut t, Call::Quiet, &mut out, sent(4, 1)));
+    assert!(rt; puts(&mut t, Call::Received(&DONE_BLOCK), &mut out, answered));
+    assert!(rt; puts(&mut t, Call::Quiet, &mut out, Err(TerminalFault::Idle)));
 }
 
 #[test]
-fn a_size_put_by_the_terminal(rt: HostRuntime) -> Result<(), Fail> {
-    let mut t = terminal(rt.alloc())?;
+fn a_size_put_by_the_terminal(rt: HostRuntime) {
+    let mut t = terminal(&rt, rt.alloc());
     let mut out = EMPTY;
-    assert!(rt; same(put(&mut t, Call::AskIfs(254), &mut out), sent(5, 1)));
+    assert!(rt; puts(&mut t, Call::AskIfs(254), &mut out, sent(5, 1)));
     assert!(rt; holds(&out, &ASK_FOR_254));
-    Ok(())
 }
 
 /// A card whose host owes the reply to a command.
-fn asked(alloc: Global, out: &mut Buffer) -> Result<Card, Fail> {
-    let mut c = card(alloc)?;
-    same(
-        card_put(&mut c, CardCall::Received(&SELECT_BLOCK), out),
-        Ok(CardPut::Asked),
-    )
-    .then_some(())
-    .ok_or("the host is not asked")?;
-    Ok(c)
+fn asked(rt: &impl Abort, alloc: Global, out: &mut Buffer) -> Card {
+    let mut c = card(rt, alloc);
+    let select = CardCall::Received(&SELECT_BLOCK);
+    assert!(rt; card_puts(&mut c, select, out, Ok(CardPut::Asked)));
+    c
 }
 
 #[test]
-fn blocks_put_by_the_card(rt: HostRuntime) -> Result<(), Fail> {
+fn blocks_put_by_the_card(rt: HostRuntime) {
     let mut out = EMPTY;
-    let mut c = asked(rt.alloc(), &mut out)?;
-    assert!(rt; same(out[0], 0xEE));
-    let replied = card_put(&mut c, CardCall::Reply(&DONE), &mut out);
-    assert!(rt; same(replied, Ok(CardPut::Send(6))));
+    let mut c = asked(&rt, rt.alloc(), &mut out);
+    assert!(rt; holds(&out, &[]));
+    let reply = CardCall::Reply(&DONE);
+    assert!(rt; card_puts(&mut c, reply, &mut out, Ok(CardPut::Send(6))));
     assert!(rt; holds(&out, &DONE_BLOCK));
-    Ok(())
 }
 
 #[test]
-fn questions_put_by_the_card(rt: HostRuntime) -> Result<(), Fail> {
+fn questions_put_by_the_card(rt: HostRuntime) {
     let mut out = EMPTY;
-    let mut c = asked(rt.alloc(), &mut out)?;
-    let reserved = card_put(&mut c, CardCall::AskIfs(0), &mut out);
-    assert!(rt; same(reserved, Err(CardFault::Reserved)));
-    let asked = card_put(&mut c, CardCall::MoreTime(3), &mut out);
-    assert!(rt; same(asked, Ok(CardPut::Send(5))));
+    let mut c = asked(&rt, rt.alloc(), &mut out);
+    let reserved = Err(CardFault::Reserved);
+    assert!(rt; card_puts(&mut c, CardCall::AskIfs(0), &mut out, reserved));
+    let asked = Ok(CardPut::Send(5));
+    assert!(rt; card_puts(&mut c, CardCall::MoreTime(3), &mut out, asked));
     assert!(rt; holds(&out, &MORE_TIME));
-    Ok(())
 }

@@ -2,11 +2,11 @@
 
 use super::blocks::{DONE, DONE_BLOCK, SELECT, SELECT_BLOCK, SIZE_2, SIZE_254};
 use super::calls::{Call, CardCall, CardWanted, Wanted, called, card_called, card_gives, gives};
-use super::{params, terminal_for};
+use super::{card_for, params, terminal_for};
 use std::alloc::Global;
-use std::test::Fail;
+use std::process::Abort;
 use t1_core::{Card, CardAwaits, Terminal, TerminalAwaits};
-use testing::same;
+use testing::{debugs, same};
 
 /// An I-block with number 0 that another follows, and the octets `90 00`.
 const DONE_FIRST: [u8; 6] = [0x00, 0x20, 0x02, 0x90, 0x00, 0xB2];
@@ -45,12 +45,12 @@ const UNHEARD_7: [Call<'static>; 8] = [
 ];
 
 /// A terminal after these calls, where its card takes 4 octets a block.
-fn terminal_after(alloc: Global, calls: &[Call<'_>]) -> Result<Terminal, Fail> {
-    let mut t = terminal_for(alloc, 4)?;
+fn terminal_after(rt: &impl Abort, alloc: Global, calls: &[Call<'_>]) -> Terminal {
+    let mut t = terminal_for(rt, alloc, 4);
     for call in calls {
         let _ = called(&mut t, *call);
     }
-    Ok(t)
+    t
 }
 
 /// What a terminal tells of itself.
@@ -71,78 +71,74 @@ fn tells(t: &Terminal, told: Told) -> bool {
 }
 
 /// A terminal as it is shown.
-fn shown(alloc: Global, t: &Terminal) -> Result<String, Fail> {
-    Ok(format!(in alloc; "{t:?}")?)
+fn shown(rt: &impl Abort, alloc: Global, t: &Terminal) -> String {
+    format!(in alloc; "{t:?}").expect(rt, "a text")
 }
 
 /// Whether a terminal that is reset is as a new one, for cards that take 2 octets a block.
-fn is_reset(alloc: Global, t: &mut Terminal) -> Result<bool, Fail> {
-    t.reset(params(2)?);
-    let new = terminal_for(alloc, 2)?;
-    Ok(same(shown(alloc, t)?, shown(alloc, &new)?))
+fn is_reset(rt: &impl Abort, alloc: Global, t: &mut Terminal) -> bool {
+    t.reset(params(rt, 2));
+    let new = terminal_for(rt, alloc, 2);
+    same(shown(rt, alloc, t), shown(rt, alloc, &new))
 }
 
 /// Whether a terminal after these calls tells this, and begins again.
-fn awaits_after(alloc: Global, calls: &[Call<'_>], told: Told) -> Result<bool, Fail> {
-    let mut t = terminal_after(alloc, calls)?;
-    Ok(
-        tells(&t, told)
-            && is_reset(alloc, &mut t)?
-            && gives(&mut t, Call::Transmit(&DONE), Wanted::Block(&DONE_BLOCK)),
-    )
+fn awaits_after(rt: &impl Abort, alloc: Global, calls: &[Call<'_>], told: Told) -> bool {
+    let mut t = terminal_after(rt, alloc, calls);
+    tells(&t, told) && is_reset(rt, alloc, &mut t) && begins(&mut t)
 }
 
+/// Whether a terminal sends the block of a command.
+fn begins(t: &mut Terminal) -> bool {
+    gives(t, Call::Transmit(&DONE), Wanted::Block(&DONE_BLOCK))
+}
+
+static TERMINALS: [(TerminalAwaits, bool, u8, &[Call]); 8] = [
+    (TerminalAwaits::Call, false, 0, &[]),
+    (
+        TerminalAwaits::Acknowledgement,
+        true,
+        0,
+        &[Call::Transmit(&SELECT)],
+    ),
+    (TerminalAwaits::Answer, true, 0, &[Call::Transmit(&DONE)]),
+    (
+        TerminalAwaits::MoreAnswer,
+        true,
+        0,
+        &[Call::Transmit(&DONE), Call::Received(&DONE_FIRST)],
+    ),
+    (TerminalAwaits::Size(254), true, 0, &[Call::AskIfs(254)]),
+    (TerminalAwaits::Resynch(1), true, 3, &UNHEARD_4),
+    (TerminalAwaits::Resynch(3), true, 3, &UNHEARD_6),
+    (TerminalAwaits::Nothing, false, 3, &UNHEARD_7),
+];
+
 #[test]
-fn what_the_terminal_awaits(rt: HostRuntime) -> Result<(), Fail> {
-    const ROWS: [(TerminalAwaits, bool, u8, &[Call]); 8] = [
-        (TerminalAwaits::Call, false, 0, &[]),
-        (
-            TerminalAwaits::Acknowledgement,
-            true,
-            0,
-            &[Call::Transmit(&SELECT)],
-        ),
-        (TerminalAwaits::Answer, true, 0, &[Call::Transmit(&DONE)]),
-        (
-            TerminalAwaits::MoreAnswer,
-            true,
-            0,
-            &[Call::Transmit(&DONE), Call::Received(&DONE_FIRST)],
-        ),
-        (TerminalAwaits::Size(254), true, 0, &[Call::AskIfs(254)]),
-        (TerminalAwaits::Resynch(1), true, 3, &UNHEARD_4),
-        (TerminalAwaits::Resynch(3), true, 3, &UNHEARD_6),
-        (TerminalAwaits::Nothing, false, 3, &UNHEARD_7),
-    ];
-    for (awaits, awaits_block, failures, calls) in ROWS {
+fn what_the_terminal_awaits(rt: HostRuntime) {
+    for (awaits, awaits_block, failures, calls) in &TERMINALS {
         let told = Told {
-            awaits,
-            awaits_block,
-            is_dead: awaits == TerminalAwaits::Nothing,
-            failures,
+            awaits: *awaits,
+            awaits_block: *awaits_block,
+            is_dead: *awaits == TerminalAwaits::Nothing,
+            failures: *failures,
         };
-        assert!(rt; awaits_after(rt.alloc(), calls, told)?, "{awaits:?}");
+        assert!(rt; awaits_after(&rt, rt.alloc(), calls, told), "{awaits:?}");
     }
-    Ok(())
 }
 
 /// A card after these calls, where the terminal takes 32 octets a block.
-fn card_after(alloc: Global, calls: &[CardCall<'_>]) -> Result<Card, Fail> {
-    let mut c = card_for(alloc, 32)?;
+fn card_after(rt: &impl Abort, alloc: Global, calls: &[CardCall<'_>]) -> Card {
+    let mut c = card_for(rt, alloc, 32);
     for call in calls {
         let _ = card_called(&mut c, *call);
     }
-    Ok(c)
-}
-
-/// A card that takes information fields of so many octets.
-fn card_for(alloc: Global, ifsc: u8) -> Result<Card, Fail> {
-    Ok(Card::new(alloc, params(ifsc)?)?)
+    c
 }
 
 /// A card as it is shown.
-fn card_shown(alloc: Global, c: &Card) -> Result<String, Fail> {
-    Ok(format!(in alloc; "{c:?}")?)
+fn card_shown(rt: &impl Abort, alloc: Global, c: &Card) -> String {
+    format!(in alloc; "{c:?}").expect(rt, "a text")
 }
 
 /// Whether a card awaits this.
@@ -151,29 +147,27 @@ fn card_awaits(c: &Card, awaits: CardAwaits) -> bool {
 }
 
 /// Whether a card that is reset is as a new one that takes 5 octets a block.
-fn is_card_reset(alloc: Global, c: &mut Card) -> Result<bool, Fail> {
-    c.reset(params(5)?);
-    let new = card_for(alloc, 5)?;
-    Ok(same(card_shown(alloc, c)?, card_shown(alloc, &new)?))
+fn is_card_reset(rt: &impl Abort, alloc: Global, c: &mut Card) -> bool {
+    c.reset(params(rt, 5));
+    let new = card_for(rt, alloc, 5);
+    same(card_shown(rt, alloc, c), card_shown(rt, alloc, &new))
+}
+
+/// Whether a card takes a command and sends the block of its reply.
+fn card_begins(c: &mut Card) -> bool {
+    card_gives(c, CardCall::Received(&SELECT_BLOCK), CardWanted::Asked)
+        && card_gives(c, CardCall::Reply(&DONE), CardWanted::Block(&DONE_BLOCK))
 }
 
 /// Whether a card after these calls awaits this, and begins again.
 fn card_awaits_after(
+    rt: &impl Abort,
     alloc: Global,
     calls: &[CardCall<'_>],
     awaits: CardAwaits,
-) -> Result<bool, Fail> {
-    let mut c = card_after(alloc, calls)?;
-    Ok(
-        card_awaits(&c, awaits)
-            && is_card_reset(alloc, &mut c)?
-            && card_gives(&mut c, CardCall::Received(&SELECT_BLOCK), CardWanted::Asked)
-            && card_gives(
-                &mut c,
-                CardCall::Reply(&DONE),
-                CardWanted::Block(&DONE_BLOCK),
-            ),
-    )
+) -> bool {
+    let mut c = card_after(rt, alloc, calls);
+    card_awaits(&c, awaits) && is_card_reset(rt, alloc, &mut c) && card_begins(&mut c)
 }
 
 /// The block of a command, and then a reply of two blocks.
@@ -182,70 +176,70 @@ const REPLIED: [CardCall<'static>; 2] = [
     CardCall::Reply(&[0x5A; 33]),
 ];
 
+static CARDS: [(CardAwaits, &[CardCall]); 5] = [
+    (CardAwaits::Command, &[CardCall::Received(&SELECT_FIRST)]),
+    (CardAwaits::Host, &[CardCall::Received(&SELECT_BLOCK)]),
+    (CardAwaits::Acknowledgement, &REPLIED),
+    (
+        CardAwaits::Size(254),
+        &[CardCall::Received(&SELECT_BLOCK), CardCall::AskIfs(254)],
+    ),
+    (
+        CardAwaits::Time(3),
+        &[CardCall::Received(&SELECT_BLOCK), CardCall::MoreTime(3)],
+    ),
+];
+
 #[test]
-fn what_the_card_awaits(rt: HostRuntime) -> Result<(), Fail> {
-    const ROWS: [(CardAwaits, &[CardCall]); 5] = [
-        (CardAwaits::Command, &[CardCall::Received(&SELECT_FIRST)]),
-        (CardAwaits::Host, &[CardCall::Received(&SELECT_BLOCK)]),
-        (CardAwaits::Acknowledgement, &REPLIED),
-        (
-            CardAwaits::Size(254),
-            &[CardCall::Received(&SELECT_BLOCK), CardCall::AskIfs(254)],
-        ),
-        (
-            CardAwaits::Time(3),
-            &[CardCall::Received(&SELECT_BLOCK), CardCall::MoreTime(3)],
-        ),
-    ];
-    for (awaits, calls) in ROWS {
-        assert!(rt; card_awaits_after(rt.alloc(), calls, awaits)?, "{awaits:?}");
+fn what_the_card_awaits(rt: HostRuntime) {
+    for (awaits, calls) in &CARDS {
+        assert!(rt;
+            card_awaits_after(&rt, rt.alloc(), calls, *awaits),
+            "{awaits:?}"
+        );
     }
-    Ok(())
 }
 
-/// The sizes in force at a terminal.
-fn sizes(t: &Terminal) -> (u8, u8) {
-    (t.ifsc(), t.ifsd())
+/// Whether these sizes are in force at a terminal: the card's, and its own.
+fn has_sizes(t: &Terminal, ifsc: u8, ifsd: u8) -> bool {
+    t.ifsc() == ifsc && t.ifsd() == ifsd
 }
 
-/// The sizes in force at a card.
-fn card_sizes(c: &Card) -> (u8, u8) {
-    (c.ifsc(), c.ifsd())
+/// Whether these sizes are in force at a card.
+fn card_has_sizes(c: &Card, ifsc: u8, ifsd: u8) -> bool {
+    c.ifsc() == ifsc && c.ifsd() == ifsd
 }
 
 #[test]
-fn sizes_in_force(rt: HostRuntime) -> Result<(), Fail> {
-    const ASKED: [CardCall; 2] = [CardCall::Received(&SELECT_BLOCK), CardCall::AskIfs(254)];
-    let mut t = terminal_after(rt.alloc(), &[Call::AskIfs(2)])?;
-    assert!(rt; same(sizes(&t), (4, 32)));
+fn sizes_in_force(rt: HostRuntime) {
+    let mut t = terminal_after(&rt, rt.alloc(), &[Call::AskIfs(2)]);
+    assert!(rt; has_sizes(&t, 4, 32));
     assert!(rt; gives(&mut t, Call::Received(&SIZE_2), Wanted::IfsSet));
-    assert!(rt; same(sizes(&t), (4, 2)));
-    let mut c = card_after(rt.alloc(), &ASKED)?;
-    assert!(rt; same(card_sizes(&c), (32, 32)));
-    assert!(rt; card_gives(&mut c, CardCall::Received(&SIZE_254), CardWanted::Asked));
-    assert!(rt; same(card_sizes(&c), (254, 32)));
-    Ok(())
+    assert!(rt; has_sizes(&t, 4, 2));
+}
+
+static ASKED_FOR_254: [CardCall; 2] = [CardCall::Received(&SELECT_BLOCK), CardCall::AskIfs(254)];
+
+#[test]
+fn sizes_in_force_at_a_card(rt: HostRuntime) {
+    let mut c = card_after(&rt, rt.alloc(), &ASKED_FOR_254);
+    let taken = CardCall::Received(&SIZE_254);
+    assert!(rt; card_has_sizes(&c, 32, 32));
+    assert!(rt; card_gives(&mut c, taken, CardWanted::Asked));
+    assert!(rt; card_has_sizes(&c, 254, 32));
 }
 
 #[test]
-fn no_octet_is_shown(rt: HostRuntime) -> Result<(), Fail> {
-    let t = terminal_after(rt.alloc(), &[Call::Transmit(&SELECT)])?;
-    assert!(rt;
-        same(
-            shown(rt.alloc(), &t)?.as_str(),
-            "Terminal { awaits: Acknowledgement, failures: 0, number: Zero, expected: Zero, ifsc: 4, \
+fn no_octet_is_shown(rt: HostRuntime) {
+    let seen =
+        "Terminal { awaits: Acknowledgement, failures: 0, number: Zero, expected: Zero, ifsc: 4, \
          ifsd: 32, command_octets: 5, answer_octets: 0, is_answered: false, \
-         most_command: 65544, most_answer: 65538 }"
-        )
-    );
-    let c = card_after(rt.alloc(), &REPLIED)?;
-    assert!(rt;
-        same(
-            card_shown(rt.alloc(), &c)?.as_str(),
-            "Card { awaits: Acknowledgement, number: Zero, expected: One, ifsc: 32, ifsd: 32, \
+         most_command: 65544, most_answer: 65538 }";
+    let t = terminal_after(&rt, rt.alloc(), &[Call::Transmit(&SELECT)]);
+    assert!(rt; debugs(rt.alloc(), &t, seen));
+    let seen = "Card { awaits: Acknowledgement, number: Zero, expected: One, ifsc: 32, ifsd: 32, \
          command_octets: 5, reply_octets: 33, is_saved: false, most_command: 65544, \
-         most_reply: 65538 }"
-        )
-    );
-    Ok(())
+         most_reply: 65538 }";
+    let c = card_after(&rt, rt.alloc(), &REPLIED);
+    assert!(rt; debugs(rt.alloc(), &c, seen));
 }

@@ -1,0 +1,35 @@
+//! What is printed of faults.
+
+use line_core::{ExchangeFault, ServeFault};
+use std::alloc::Global;
+use std::fmt::Display;
+use std::io::ErrorKind;
+use t1_core::{CardFault, TerminalFault};
+use testing::shows;
+
+/// Whether this is what is printed of a fault.
+fn is_printed<F: Display + Drop>(alloc: Global, fault: F, text: &str) -> bool {
+    shows(alloc, &fault, text)
+}
+
+#[test]
+fn faults_are_printed(rt: HostRuntime) {
+    let alloc = rt.alloc();
+    let busy = ExchangeFault::Refused(TerminalFault::Busy);
+    assert!(rt; is_printed(alloc, busy, "Refused: Busy"));
+    assert!(rt; is_printed(alloc, ExchangeFault::GivenUp, "GivenUp"));
+    assert!(rt; is_printed(alloc, ExchangeFault::Dead, "Dead"));
+    assert!(rt; is_printed(alloc, ExchangeFault::UsedUp, "UsedUp"));
+    let failed = ExchangeFault::Line(ErrorKind::BrokenPipe.into());
+    assert!(rt; is_printed(alloc, failed, "Line: broken pipe"));
+}
+
+#[test]
+fn faults_of_serving_are_printed(rt: HostRuntime) {
+    let alloc = rt.alloc();
+    let order = ServeFault::Refused(CardFault::Order);
+    assert!(rt; is_printed(alloc, order, "Refused: Order"));
+    assert!(rt; is_printed(alloc, ServeFault::UsedUp, "UsedUp"));
+    let failed = ServeFault::Line(ErrorKind::TimedOut.into());
+    assert!(rt; is_printed(alloc, failed, "Line: timed out"));
+}

@@ -1,0 +1,54 @@
+//! What a line does, written down.
+
+ghost use Rattle.std.specs.Prelude.{◌≤◌, length, IfOk};
+ghost use Rattle.line_core.specs.Line.{FitsRoom};
+
+use line_core::Heard;
+use std::io::{self, ErrorKind};
+
+/// What a line does after a block.
+#[derive(Clone, Copy)]
+pub(super) enum Step<'a> {
+    Gives(&'a [u8]),
+    IsSilent,
+    Fails,
+}
+
+/// The steps of a line, and then one for ever.
+#[derive(Drop)]
+pub(super) struct Steps<'a> {
+    pub(super) first: &'a [Step<'a>],
+    pub(super) then: Step<'a>,
+}
+
+impl<'a> Steps<'a> {
+    fn next(&mut self) -> Step<'a> {
+        match self.first {
+            [first, rest @ ..] => {
+                self.first = rest;
+                *first
+            }
+            [] => self.then,
+        }
+    }
+
+    /// What comes by the next step.
+    pub(super) fn heard(&mut self, room: &mut [u8]) -> io::Result<Heard>
+        ensures { IfOk result (λ heard. FitsRoom heard room.new) }
+    {
+        match self.next() {
+            Step::Gives(octets) => Ok(filled(octets, room)),
+            Step::IsSilent => Ok(Heard::Nothing),
+            Step::Fails => Err(ErrorKind::Other.into()),
+        }
+    }
+}
+
+/// As many of the octets as there is room for.
+pub(super) fn filled(octets: &[u8], room: &mut [u8]) -> Heard
+    ensures { FitsRoom result room.new }
+{
+    let count = octets.len().min(room.len());
+    room[..count].copy_from_slice(&octets[..count]);
+    Heard::Octets(count)
+}
