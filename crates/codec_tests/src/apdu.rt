@@ -6,19 +6,20 @@ mod printed;
 ghost use Rattle.std.specs.Prelude.{◌≤◌};
 
 use apdu_core::{
-    Body, Command, CommandReason, ReceiveFault, Response, ResponseReason, ResponseRef,
-    decode_command, decode_response, encode_command_into, send_command, send_response,
+    Body, Command, CommandReason, CommandRef, ReceiveFault, Response, ResponseReason, ResponseRef,
+    SendFault, decode_command, decode_response, encode_command_into, send_command, send_response,
 };
 use as_value::{
-    command, command_lent, command_of, command_read, is_command_spelled, is_left,
-    is_response_spelled, reader_of, response, response_lent, response_of, response_read,
+    command_lent, command_of, command_read, copied, is_command_spelled, is_left,
+    is_response_spelled, keeps, octets, reader_of, response, response_of, response_read, writer,
+    zeros,
 };
 use block_core::Number;
 use chain_core::ChainReason;
-use octet_core::{After, Counted, Feeder, Octets, Refused, Stop, Taker};
+use octet_core::{Counted, Feeder, Octets, Refused, Stop, Taker};
 use std::alloc::Global;
-use std::test::Fail;
-use testing::{of_hex, same};
+use std::process::Abort;
+use testing::same;
 
 const SELECT: [u8; 4] = [0x00, 0xA4, 0x04, 0x00];
 
@@ -35,246 +36,342 @@ const SELECT_CHAIN: [u8; 17] = [
 /// 90 00, in one block.
 const DONE_CHAIN: [u8; 6] = [0x00, 0x00, 0x02, 0x90, 0x00, 0x92];
 
-fn octets(rt: &HostRuntime, text: &str) -> Result<Octets, Fail> {
-    Ok(Octets::of(of_hex(rt.alloc(), text)?))
+/// Whether octets are a command with this header, which lends its data field.
+fn has_header(octets: &[u8], header: [u8; 4]) -> bool {
+    match CommandRef::decode(octets) {
+        Ok(lent) => lent.header() == header,
+        Err(_) => false,
+    }
+}
+
+/// Whether octets are this command, and spell it.
+fn are_command(alloc: Global, octets: &[u8], wanted: &Command) -> bool {
+    match decode_command(alloc, octets) {
+        Ok(command) => command == *wanted && is_command_spelled(alloc, &command, octets),
+        Err(_) => false,
+    }
 }
 
 /// Whether the octets are this command, lent and copied, and spell it.
-fn is_command(rt: &HostRuntime, text: &str, header: [u8; 4], body: Body) -> Result<bool, Fail> {
-    let octets = of_hex(rt.alloc(), text)?;
-    let lent = command_lent(octets.as_slice())?;
-    let command = command(rt.alloc(), octets.as_slice())?;
-    let wanted = command_of(header, body)?;
-    Ok(
-        lent.header() == header
-            && command == wanted
-            && is_command_spelled(rt.alloc(), &command, octets.as_slice()),
-    )
+fn is_command(rt: &impl Abort, alloc: Global, text: &str, header: [u8; 4], body: Body) -> bool {
+    let wanted = command_of(rt, header, body);
+    let octets = octets(rt, alloc, text);
+    has_header(octets.as_slice(), header) && are_command(alloc, octets.as_slice(), &wanted)
 }
 
 #[test]
-fn commands_of_their_own(rt: HostRuntime) -> Result<(), Fail> {
-    assert!(rt; is_command(&rt, "00A40400", SELECT, Body::Empty)?);
-    assert!(rt; is_command(&rt, "00B0000000", READ, Body::ShortLe { le: 256 })?);
-    assert!(rt; is_command(&rt, "00B00000000000", READ, Body::LongLe { le: 65_536 })?);
-    let part = octets(&rt, "A0000000041010")?;
+fn commands_of_their_own(rt: HostRuntime) {
+    assert!(rt; is_command(&rt, rt.alloc(), "00A40400", SELECT, Body::Empty));
+    let body = Body::ShortLe { le: 256 };
+    assert!(rt; is_command(&rt, rt.alloc(), "00B0000000", READ, body));
+    let body = Body::LongLe { le: 65_536 };
+    assert!(rt; is_command(&rt, rt.alloc(), "00B00000000000", READ, body));
+}
+
+/// The data field of these octets.
+fn field(rt: &impl Abort, alloc: Global, text: &str) -> Octets {
+    Octets::of(octets(rt, alloc, text))
+}
+
+#[test]
+fn commands_with_a_data_field(rt: HostRuntime) {
+    let alloc = rt.alloc();
+    let part = field(&rt, alloc, "A0000000041010");
     let body = Body::ShortBoth { part, le: 256 };
-    assert!(rt; is_command(&rt, "00A4040007A000000004101000", SELECT, body)?);
-    let part = octets(&rt, "A000000004101000")?;
+    assert!(rt; is_command(&rt, alloc, "00A4040007A000000004101000", SELECT, body));
+    let part = field(&rt, alloc, "A000000004101000");
     let body = Body::ShortPart { part };
-    assert!(rt; is_command(&rt, "00A4040008A000000004101000", SELECT, body)?);
-    let part = octets(&rt, "0102")?;
+    assert!(rt; is_command(&rt, alloc, "00A4040008A000000004101000", SELECT, body));
+    let part = field(&rt, alloc, "0102");
     let body = Body::LongPart { part };
-    assert!(rt; is_command(&rt, "00D600000000020102", UPDATE, body)?);
-    let part = octets(&rt, "0102")?;
+    assert!(rt; is_command(&rt, alloc, "00D600000000020102", UPDATE, body));
+    let part = field(&rt, alloc, "0102");
     let body = Body::LongBoth { part, le: 65_536 };
-    assert!(rt; is_command(&rt, "00D6000000000201020000", UPDATE, body)?);
-    Ok(())
+    assert!(rt; is_command(&rt, alloc, "00D6000000000201020000", UPDATE, body));
 }
 
 #[test]
-fn a_command_put_into_a_buffer(rt: HostRuntime) -> Result<(), Fail> {
-    let command = command_of(SELECT, Body::ShortLe { le: 256 })?;
+fn a_command_put_into_a_buffer(rt: HostRuntime) {
+    let command = command_of(&rt, SELECT, Body::ShortLe { le: 256 });
     let mut buffer = [0xEE; 7];
     assert!(rt; command.encoded_len() == 5);
     assert!(rt; encode_command_into(&command, &mut buffer) == 5);
     assert!(rt; buffer == [0x00, 0xA4, 0x04, 0x00, 0x00, 0xEE, 0xEE]);
-    Ok(())
+}
+
+/// SELECT with a data field of seven octets.
+const SELECT_BY_NAME: [u8; 13] = [
+    0x00, 0xA4, 0x04, 0x00, 0x07, 0xA0, 0x00, 0x00, 0x00, 0x04, 0x10, 0x10, 0x00,
+];
+
+/// Whether a command lends this data field, and wants so many octets.
+fn lends(command: &CommandRef<'_>, part: Option<&[u8]>, le: u32) -> bool {
+    same(Some(command.part()), part) && same(command.le(), Some(le))
 }
 
 #[test]
-fn the_part_stands_behind_its_length(rt: HostRuntime) -> Result<(), Fail> {
-    let octets = of_hex(rt.alloc(), "00A4040007A000000004101000")?;
-    let lent = command_lent(octets.as_slice())?;
-    assert!(rt; octets.get(5..12) == Some(lent.part()));
-    assert!(rt; same(lent.le(), Some(256)));
-    Ok(())
+fn the_part_stands_behind_its_length(rt: HostRuntime) {
+    let lent = command_lent(&rt, &SELECT_BY_NAME);
+    assert!(rt; lends(&lent, SELECT_BY_NAME.get(5..12), 256));
+}
+
+/// Whether octets are no command, and stop so.
+fn are_no_command(alloc: Global, octets: &[u8], stop: Stop<CommandReason>) -> bool {
+    same(
+        decode_command(alloc, octets).err(),
+        Some(Refused::Stop(stop)),
+    )
 }
 
 #[test]
-fn octets_that_are_no_command(rt: HostRuntime) -> Result<(), Fail> {
+fn octets_that_are_no_command(rt: HostRuntime) {
+    let short = Stop::Short { place: 3 };
+    assert!(rt; are_no_command(rt.alloc(), &[0x00, 0xA4, 0x04], short));
     let reason = CommandReason::Trailing;
-    for (text, stop) in [
-        ("00A404", Stop::Short { place: 3 }),
-        ("00D60000000000AA", Stop::At { place: 7, reason }),
-    ] {
-        let octets = of_hex(rt.alloc(), text)?;
-        let refused = decode_command(rt.alloc(), octets.as_slice()).err();
-        assert!(rt; same(refused, Some(Refused::Stop(stop))), "{text}");
-    }
-    Ok(())
+    let longer = [0x00, 0xD6, 0x00, 0x00, 0x00, 0x00, 0x00, 0xAA];
+    assert!(rt; are_no_command(rt.alloc(), &longer, Stop::At { place: 7, reason }));
 }
 
 /// Whether a command has no spelling, and its body comes back.
 fn comes_back(body: Body, again: Body) -> bool {
-    Command::new(READ, body) == Err(again)
+    match Command::new(READ, body) {
+        Ok(_) => false,
+        Err(body) => body == again,
+    }
+}
+
+/// Whether a command that wants so many octets has no spelling in the short form.
+fn is_no_short_le(le: u32) -> bool {
+    comes_back(Body::ShortLe { le }, Body::ShortLe { le })
+}
+
+/// Whether a command that wants so many octets has no spelling in the long form.
+fn is_no_long_le(le: u32) -> bool {
+    comes_back(Body::LongLe { le }, Body::LongLe { le })
+}
+
+#[test]
+fn lengths_that_have_no_spelling(rt: HostRuntime) {
+    assert!(rt; is_no_short_le(0));
+    assert!(rt; is_no_short_le(257));
+    assert!(rt; is_no_long_le(0));
+    assert!(rt; is_no_long_le(65_537));
+}
+
+/// Whether a command with this data field has no spelling in the short form.
+fn is_no_short_part(part: Octets) -> bool {
+    Command::new(UPDATE, Body::ShortPart { part }).is_err()
+}
+
+/// Whether a command with this data field has no spelling in the long form.
+fn is_no_long_part(part: Octets) -> bool {
+    Command::new(UPDATE, Body::LongPart { part }).is_err()
 }
 
 /// Whether a command with a data field of so many octets has no spelling, in either form.
-fn is_no_part(alloc: Global, count: usize) -> Result<(bool, bool), Fail> {
-    let short = Octets::of(vec![in alloc; 0u8; count]?);
-    let long = Octets::of(vec![in alloc; 0u8; count]?);
-    Ok((
-        Command::new(UPDATE, Body::ShortPart { part: short }).is_err(),
-        Command::new(UPDATE, Body::LongPart { part: long }).is_err(),
-    ))
+fn is_no_part(rt: &impl Abort, alloc: Global, count: usize) -> (bool, bool) {
+    let short = is_no_short_part(Octets::of(zeros(rt, alloc, count)));
+    let long = is_no_long_part(Octets::of(zeros(rt, alloc, count)));
+    (short, long)
 }
 
-#[test]
-fn bodies_that_have_no_spelling(rt: HostRuntime) -> Result<(), Fail> {
-    for le in [0, 257] {
-        assert!(rt; comes_back(Body::ShortLe { le }, Body::ShortLe { le }));
-    }
-    for le in [0, 65_537] {
-        assert!(rt; comes_back(Body::LongLe { le }, Body::LongLe { le }));
-    }
-    assert!(rt; same(is_no_part(rt.alloc(), 0)?, (true, true)));
-    assert!(rt; same(is_no_part(rt.alloc(), 255)?, (false, false)));
-    assert!(rt; same(is_no_part(rt.alloc(), 256)?, (true, false)));
-    assert!(rt; same(is_no_part(rt.alloc(), 65_535)?, (true, false)));
-    assert!(rt; same(is_no_part(rt.alloc(), 65_536)?, (true, true)));
-    Ok(())
-}
+/// Lengths of a data field, and whether it has no spelling in the short and in the long form.
+const PARTS: [(usize, (bool, bool)); 5] = [
+    (0, (true, true)),
+    (255, (false, false)),
+    (256, (true, false)),
+    (65_535, (true, false)),
+    (65_536, (true, true)),
+];
 
 #[test]
-fn responses(rt: HostRuntime) -> Result<(), Fail> {
-    assert!(rt; response_lent(&[0x90, 0x00])?.part().is_empty());
-    let octets = of_hex(rt.alloc(), "6F009000")?;
-    assert!(rt; is_lent(octets.as_slice(), &[0x6F, 0x00])?);
-    let response = response(rt.alloc(), octets.as_slice())?;
-    assert!(rt; same((response.sw1(), response.sw2()), (0x90, 0x00)));
-    assert!(rt; is_response_spelled(rt.alloc(), &response, octets.as_slice()));
-    assert!(rt; is_done(rt.alloc(), &response, "6F00")?);
-    Ok(())
+fn bodies_that_have_no_spelling(rt: HostRuntime) {
+    for &(count, wanted) in &PARTS {
+        assert!(rt; same(is_no_part(&rt, rt.alloc(), count), wanted), "{count}");
+    }
 }
 
 /// Whether octets are a response with this data field and the status word 9000.
-fn is_lent(octets: &[u8], part: &[u8]) -> Result<bool, Fail> {
-    let lent = response_lent(octets)?;
-    Ok(lent.part() == part && same((lent.sw1(), lent.sw2()), (0x90, 0x00)))
+fn is_lent(octets: &[u8], part: &[u8]) -> bool {
+    match ResponseRef::decode(octets) {
+        Ok(lent) => lent.part() == part && same((lent.sw1(), lent.sw2()), (0x90, 0x00)),
+        Err(_) => false,
+    }
 }
 
 /// Whether a response has this data field and the status word 9000.
-fn is_done(alloc: Global, response: &Response, part: &str) -> Result<bool, Fail> {
-    let part = Octets::of(of_hex(alloc, part)?);
-    let is_part = response.part() == part.get();
-    let wanted = response_of(part, 0x90, 0x00)?;
-    Ok(is_part && *response == wanted)
+fn is_done(rt: &impl Abort, alloc: Global, response: &Response, part: &[u8]) -> bool {
+    let wanted = response_of(rt, copied(rt, alloc, part), 0x90, 0x00);
+    response.part() == part && *response == wanted
+}
+
+/// The status word of a response.
+fn status(response: &Response) -> (u8, u8) {
+    (response.sw1(), response.sw2())
 }
 
 #[test]
-fn octets_that_are_no_response(rt: HostRuntime) -> Result<(), Fail> {
-    assert!(rt;
-        same(
-            ResponseRef::decode(&[0x90]).err(),
-            Some(Stop::Short { place: 1 })
+fn responses(rt: HostRuntime) {
+    assert!(rt; is_lent(&[0x90, 0x00], &[]));
+    let octets = [0x6F, 0x00, 0x90, 0x00];
+    assert!(rt; is_lent(&octets, &[0x6F, 0x00]));
+    let response = response(&rt, rt.alloc(), &octets);
+    assert!(rt; same(status(&response), (0x90, 0x00)));
+    assert!(rt; is_response_spelled(rt.alloc(), &response, &octets));
+    assert!(rt; is_done(&rt, rt.alloc(), &response, &[0x6F, 0x00]));
+}
+
+/// Whether octets are no response, lent and copied, and stop so.
+fn are_no_response(alloc: Global, octets: &[u8], stop: Stop<ResponseReason>) -> bool {
+    same(ResponseRef::decode(octets).err(), Some(stop))
+        && same(
+            decode_response(alloc, octets).err(),
+            Some(Refused::Stop(stop)),
         )
-    );
-    let octets = vec![in rt.alloc(); 0u8; 65_539]?;
+}
+
+#[test]
+fn octets_that_are_no_response(rt: HostRuntime) {
+    assert!(rt; are_no_response(rt.alloc(), &[0x90], Stop::Short { place: 1 }));
+    let octets = zeros(&rt, rt.alloc(), 65_539);
     let stop = Stop::At {
         place: 65_538,
         reason: ResponseReason::TooLong,
     };
-    assert!(rt; same(ResponseRef::decode(octets.as_slice()).err(), Some(stop)));
-    let refused = decode_response(rt.alloc(), octets.as_slice()).err();
-    assert!(rt; same(refused, Some(Refused::Stop(stop))));
-    let part = Octets::of(vec![in rt.alloc(); 0u8; 65_537]?);
-    assert!(rt; Response::new(part, 0x90, 0x00).is_err());
-    Ok(())
+    assert!(rt; are_no_response(rt.alloc(), octets.as_slice(), stop));
+}
+
+/// Whether a response can't have this data field.
+fn is_refused(part: Octets) -> bool {
+    Response::new(part, 0x90, 0x00).is_err()
 }
 
 #[test]
-fn the_longest_response(rt: HostRuntime) -> Result<(), Fail> {
-    let octets = vec![in rt.alloc(); 0x90u8; 65_538]?;
-    let response = response(rt.alloc(), octets.as_slice())?;
+fn the_longest_response(rt: HostRuntime) {
+    assert!(rt; is_refused(Octets::of(zeros(&rt, rt.alloc(), 65_537))));
+    let octets = zeros(&rt, rt.alloc(), 65_538);
+    let response = response(&rt, rt.alloc(), octets.as_slice());
     assert!(rt; same(response.part().len(), 65_536));
-    Ok(())
+}
+
+/// What sending a command in blocks of two octets gives.
+fn sent(alloc: Global, writer: &mut Counted<Taker>, command: &Command) -> Result<(), SendFault> {
+    send_command(alloc, writer, command, 2, Number::Zero)
 }
 
 #[test]
-fn a_command_is_sent(rt: HostRuntime) -> Result<(), Fail> {
-    let command = command_of(SELECT, Body::ShortLe { le: 256 })?;
-    let mut writer = Counted::new(Taker::new(4096, 7, After::Fails));
-    let sent = send_command(rt.alloc(), &mut writer, &command, 2, Number::Zero);
-    assert!(rt; same(sent, Ok(())));
-    assert!(rt; writer.into_inner().kept() == SELECT_CHAIN.as_slice());
-    Ok(())
+fn a_command_is_sent(rt: HostRuntime) {
+    let command = command_of(&rt, SELECT, Body::ShortLe { le: 256 });
+    let mut writer = writer();
+    assert!(rt; same(sent(rt.alloc(), &mut writer, &command), Ok(())));
+    assert!(rt; keeps(writer, &SELECT_CHAIN));
+}
+
+/// What sending a response gives.
+fn replied(
+    alloc: Global,
+    writer: &mut Counted<Taker>,
+    response: &Response,
+) -> Result<(), SendFault> {
+    send_response(alloc, writer, response, 254, Number::Zero)
 }
 
 #[test]
-fn a_response_is_sent(rt: HostRuntime) -> Result<(), Fail> {
-    let response = response_of(octets(&rt, "")?, 0x90, 0x00)?;
-    let mut writer = Counted::new(Taker::new(4096, 7, After::Fails));
-    let sent = send_response(rt.alloc(), &mut writer, &response, 254, Number::Zero);
-    assert!(rt; same(sent, Ok(())));
-    assert!(rt; writer.into_inner().kept() == DONE_CHAIN.as_slice());
-    Ok(())
+fn a_response_is_sent(rt: HostRuntime) {
+    let response = response_of(&rt, copied(&rt, rt.alloc(), &[]), 0x90, 0x00);
+    let mut writer = writer();
+    assert!(rt; same(replied(rt.alloc(), &mut writer, &response), Ok(())));
+    assert!(rt; keeps(writer, &DONE_CHAIN));
 }
 
-/// Whether a reader gives SELECT in blocks of at most so many octets, and leaves FF.
-fn gives_select(alloc: Global, reader: &mut Counted<Feeder<'_>>, ifs: u8) -> Result<bool, Fail>
+/// Whether a reader gives a command in blocks of at most so many octets.
+fn gives(alloc: Global, reader: &mut Counted<Feeder<'_>>, ifs: u8, wanted: &Command) -> bool
     requires least { 1 ≤ ifs }
     requires most { ifs ≤ 254 }
 {
-    let command = command_read(alloc, reader, ifs)?;
-    let wanted = command_of(SELECT, Body::ShortLe { le: 256 })?;
-    Ok(command == wanted && is_left(reader))
+    match command_read(alloc, reader, ifs) {
+        Ok(command) => command == *wanted,
+        Err(_) => false,
+    }
+}
+
+/// Whether octets, by so many at a time, give SELECT in blocks of at most so many, and leave FF.
+fn gives_select(rt: &impl Abort, alloc: Global, octets: &[u8], step: usize, ifs: u8) -> bool
+    requires step { 1 ≤ step }
+    requires least { 1 ≤ ifs }
+    requires most { ifs ≤ 254 }
+{
+    let command = command_of(rt, SELECT, Body::ShortLe { le: 256 });
+    let mut reader = reader_of(octets, step);
+    gives(alloc, &mut reader, ifs, &command) && is_left(&mut reader)
 }
 
 #[test]
-fn a_command_is_received(rt: HostRuntime) -> Result<(), Fail> {
-    let octets = of_hex(rt.alloc(), "00200200A4860060020400660000010001FF")?;
+fn a_command_is_received(rt: HostRuntime) {
+    let octets = octets(&rt, rt.alloc(), "00200200A4860060020400660000010001FF");
     const ROWS: [usize; 3] = [1, 2, 4096];
     for &step in &ROWS {
-        let mut reader = reader_of(octets.as_slice(), step);
-        assert!(rt; gives_select(rt.alloc(), &mut reader, 2)?);
+        assert!(rt; gives_select(&rt, rt.alloc(), octets.as_slice(), step, 2));
     }
-    Ok(())
 }
 
 /// Whether octets give 9000 in blocks, and FF is left.
-fn gives_done(rt: &HostRuntime, text: &str) -> Result<bool, Fail> {
-    let octets = of_hex(rt.alloc(), text)?;
-    let mut reader = reader_of(octets.as_slice(), 4096);
-    let response = response_read(rt.alloc(), &mut reader, 254)?;
-    Ok(is_done(rt.alloc(), &response, "")? && is_left(&mut reader))
+fn gives_done(rt: &impl Abort, alloc: Global, octets: &[u8]) -> bool {
+    let mut reader = reader_of(octets, 4096);
+    match response_read(alloc, &mut reader, 254) {
+        Ok(response) => is_done(rt, alloc, &response, &[]) && is_left(&mut reader),
+        Err(_) => false,
+    }
 }
 
 #[test]
-fn a_response_is_received(rt: HostRuntime) -> Result<(), Fail> {
-    assert!(rt; gives_done(&rt, "000002900092FF")?);
-    Ok(())
+fn a_response_is_received(rt: HostRuntime) {
+    let octets = [0x00, 0x00, 0x02, 0x90, 0x00, 0x92, 0xFF];
+    assert!(rt; gives_done(&rt, rt.alloc(), &octets));
 }
 
 #[test]
-fn received_in_fields_of_any_size(rt: HostRuntime) -> Result<(), Fail> {
-    let octets = of_hex(rt.alloc(), "00200300A4048300600060000002000002FF")?;
-    let mut reader = reader_of(octets.as_slice(), 4096);
-    assert!(rt; gives_select(rt.alloc(), &mut reader, 254)?);
-    assert!(rt; gives_done(&rt, "00200190B10040010041FF")?);
-    Ok(())
+fn received_in_fields_of_any_size(rt: HostRuntime) {
+    let command = octets(&rt, rt.alloc(), "00200300A4048300600060000002000002FF");
+    assert!(rt; gives_select(&rt, rt.alloc(), command.as_slice(), 4096, 254));
+    let response = octets(&rt, rt.alloc(), "00200190B10040010041FF");
+    assert!(rt; gives_done(&rt, rt.alloc(), response.as_slice()));
+}
+
+/// Why a reader gives no command.
+fn no_command(
+    alloc: Global,
+    reader: &mut Counted<Feeder<'_>>,
+) -> Option<ReceiveFault<CommandReason>> {
+    command_read(alloc, reader, 254).err()
+}
+
+/// Why a reader gives no response.
+fn no_response(
+    alloc: Global,
+    reader: &mut Counted<Feeder<'_>>,
+) -> Option<ReceiveFault<ResponseReason>> {
+    response_read(alloc, reader, 254).err()
 }
 
 #[test]
-fn chains_that_carry_no_apdu(rt: HostRuntime) -> Result<(), Fail> {
-    let octets = of_hex(rt.alloc(), "00000200A4A6FF")?;
-    let mut reader = reader_of(octets.as_slice(), 4096);
-    let fault = command_read(rt.alloc(), &mut reader, 254).err();
-    let short = Stop::Short { place: 2 };
-    assert!(rt; same(fault, Some(ReceiveFault::Apdu(short))));
+fn chains_that_carry_no_apdu(rt: HostRuntime) {
+    let mut reader = reader_of(&[0x00, 0x00, 0x02, 0x00, 0xA4, 0xA6, 0xFF], 4096);
+    let short = ReceiveFault::Apdu(Stop::Short { place: 2 });
+    assert!(rt; same(no_command(rt.alloc(), &mut reader), Some(short)));
     assert!(rt; is_left(&mut reader));
-    let octets = of_hex(rt.alloc(), "0000019091FF")?;
-    let mut reader = reader_of(octets.as_slice(), 4096);
-    let fault = response_read(rt.alloc(), &mut reader, 254).err();
-    let short = Stop::Short { place: 1 };
-    assert!(rt; same(fault, Some(ReceiveFault::Apdu(short))));
+    let mut reader = reader_of(&[0x00, 0x00, 0x01, 0x90, 0x91, 0xFF], 4096);
+    let short = ReceiveFault::Apdu(Stop::Short { place: 1 });
+    assert!(rt; same(no_response(rt.alloc(), &mut reader), Some(short)));
     assert!(rt; is_left(&mut reader));
+}
+
+#[test]
+fn chains_that_are_refused(rt: HostRuntime) {
     let mut reader = reader_of(&[0x00, 0x40], 4096);
-    let fault = command_read(rt.alloc(), &mut reader, 254).err();
-    let refused = Stop::At {
+    let refused = ReceiveFault::Chain(Stop::At {
         place: 1,
         reason: ChainReason::BadSequence,
-    };
-    assert!(rt; same(fault, Some(ReceiveFault::Chain(refused))));
-    Ok(())
+    });
+    assert!(rt; same(no_command(rt.alloc(), &mut reader), Some(refused)));
 }

@@ -9,27 +9,24 @@ use atr_core::{
     Atr, AtrReader, AtrReason, Convention, Indicated, Interface, T1Params, decode, encode,
 };
 use octet_core::Stop;
-use std::test::Fail;
-use testing::same;
+use std::alloc::Global;
+use std::process::Abort;
+use testing::{of_hex, same};
 
 /// T=0 and T=1, fifteen historical bytes and TCK; the octet FF is left.
-const BOTH_PROTOCOLS: &[u8] =
-    b"\x3B\x8F\x80\x01\x80\x4F\x0C\xA0\x00\x00\x03\x06\x03\x00\x01\x00\x00\x00\x00\x6A\xFF";
+const BOTH_PROTOCOLS: &str = "3B8F8001804F0CA000000306030001000000006AFF";
 
 /// T=1 with IFSC 32, BWI 4 and CWI 5.
-const T1_CARD: &[u8] = b"\x3B\x80\x81\x31\x20\x45\x55";
+const T1_CARD: [u8; 7] = [0x3B, 0x80, 0x81, 0x31, 0x20, 0x45, 0x55];
 
 /// 33 octets, with TA, TB and TC after T0 and each of three TDs.
-const LONGEST: &[u8] =
-    b"\x3B\xFF\x00\x00\x00\xF1\x00\x00\x00\xF1\x00\x00\x00\x71\x00\x00\x00\x00\x00\x00\x00\x00\x00\x00\x00\x00\x00\x00\x00\x00\x00\x00\x8E";
+const LONGEST: &str = "3BFF000000F1000000F1000000710000000000000000000000000000000000008E";
 
 /// Thirty-one TDs of T=0.
-const MOST_TDS: &[u8] =
-    b"\x3B\x80\x80\x80\x80\x80\x80\x80\x80\x80\x80\x80\x80\x80\x80\x80\x80\x80\x80\x80\x80\x80\x80\x80\x80\x80\x80\x80\x80\x80\x80\x80\x00";
+const MOST_TDS: &str = "3B8080808080808080808080808080808080808080808080808080808080808000";
 
 /// The last of thirty-one TDs announces another one.
-const TOO_MANY_TDS: &[u8] =
-    b"\x3B\x80\x80\x80\x80\x80\x80\x80\x80\x80\x80\x80\x80\x80\x80\x80\x80\x80\x80\x80\x80\x80\x80\x80\x80\x80\x80\x80\x80\x80\x80\x80\x80\x00";
+const TOO_MANY_TDS: &str = "3B808080808080808080808080808080808080808080808080808080808080808000";
 
 #[test]
 fn ranges_of_parameters(rt: HostRuntime) {
@@ -40,68 +37,94 @@ fn ranges_of_parameters(rt: HostRuntime) {
     assert!(rt; same(T1Params::new(32, 4, 16), None));
 }
 
-#[test]
-fn answers_of_parts(rt: HostRuntime) -> Result<(), Fail> {
+/// An answer that indicates this protocol alone, and has no historical bytes.
+fn indicating(protocol: u8) -> Option<Atr> {
     let mut indicated = ArrayVec::new();
     indicated.push(Indicated {
-        protocol: 1,
+        protocol,
         bytes: Interface::default(),
     });
-    let made = Atr::new(
+    Atr::new(
         Convention::Direct,
         Interface::default(),
         indicated,
         ArrayVec::new(),
-    );
-    let (read, _) = decode(b"\x3B\x80\x01\x81")?;
-    assert!(rt; made.is_some_and(|made| are_equal(&made, &read)));
+    )
+}
 
-    let mut indicated = ArrayVec::new();
-    indicated.push(Indicated {
-        protocol: 16,
-        bytes: Interface::default(),
-    });
-    let made = Atr::new(
-        Convention::Direct,
-        Interface::default(),
-        indicated,
-        ArrayVec::new(),
-    );
-    assert!(rt; made.is_none());
-    Ok(())
+/// Whether octets are this answer.
+fn are_answer(octets: &[u8], answer: &Atr) -> bool {
+    match decode(octets) {
+        Ok((read, _)) => are_equal(answer, &read),
+        Err(_) => false,
+    }
+}
+
+#[test]
+fn answers_of_parts(rt: HostRuntime) {
+    let answer = indicating(1).expect(&rt, "an answer");
+    assert!(rt; are_answer(b"\x3B\x80\x01\x81", &answer));
+    assert!(rt; indicating(16).is_none());
+}
+
+/// What a reader answers to octets.
+type Fed = Result<(usize, bool), Stop<AtrReason>>;
+
+/// Whether a reader answers so to these octets.
+fn feeds(reader: &mut AtrReader, octets: &[u8], wanted: Fed) -> bool {
+    same(reader.feed(octets), wanted)
+}
+
+/// Whether a reader says so where no more octets come.
+fn ends(reader: &AtrReader, wanted: Result<(), Stop<AtrReason>>) -> bool {
+    same(reader.finish(), wanted)
+}
+
+/// Whether a reader has no answer.
+fn is_empty(reader: &AtrReader) -> bool {
+    reader.value().is_none()
+}
+
+/// Whether a reader has the answer of these octets.
+fn has(reader: &AtrReader, octets: &[u8]) -> bool {
+    match reader.value() {
+        Some(answer) => encode(answer).as_slice() == octets,
+        None => false,
+    }
 }
 
 #[test]
 fn fed_in_pieces(rt: HostRuntime) {
     let mut reader = AtrReader::new();
-    assert!(rt; same(reader.finish(), Err(Stop::Short { place: 0 })));
-    assert!(rt; same(reader.feed(b"\x3B"), Ok((1, false))));
-    assert!(rt; same(reader.feed(b""), Ok((0, false))));
-    assert!(rt; same(reader.feed(b"\x80\x81\x31\x20\x45"), Ok((5, false))));
-    assert!(rt; same(reader.finish(), Err(Stop::Short { place: 6 })));
-    assert!(rt; reader.value().is_none());
-    assert!(rt; same(reader.feed(b"\x55\x00"), Ok((1, true))));
-    assert!(rt; same(reader.feed(b"\x00"), Ok((0, true))));
-    assert!(rt; same(reader.finish(), Ok(())));
-    let octets = reader.value().map(encode).expect(&rt, "an answer");
-    assert!(rt; octets.as_slice() == T1_CARD);
+    assert!(rt; ends(&reader, Err(Stop::Short { place: 0 })));
+    assert!(rt; feeds(&mut reader, b"\x3B", Ok((1, false))));
+    assert!(rt; feeds(&mut reader, b"", Ok((0, false))));
+    assert!(rt; feeds(&mut reader, b"\x80\x81\x31\x20\x45", Ok((5, false))));
+    assert!(rt; ends(&reader, Err(Stop::Short { place: 6 })));
+    assert!(rt; is_empty(&reader));
+    assert!(rt; feeds(&mut reader, b"\x55\x00", Ok((1, true))));
+    assert!(rt; feeds(&mut reader, b"\x00", Ok((0, true))));
+    assert!(rt; ends(&reader, Ok(())));
+    assert!(rt; has(&reader, &T1_CARD));
 }
+
+/// Where a wrong TCK of the card with T=1 is refused.
+const BAD_TCK: Stop<AtrReason> = Stop::At {
+    place: 6,
+    reason: AtrReason::BadTck,
+};
 
 #[test]
 fn a_refusal_is_kept_until_reset(rt: HostRuntime) {
-    let refusal = Stop::At {
-        place: 6,
-        reason: AtrReason::BadTck,
-    };
     let mut reader = AtrReader::new();
-    assert!(rt; same(reader.feed(b"\x3B\x80\x81\x31\x20\x45"), Ok((6, false))));
-    assert!(rt; same(reader.feed(b"\x54"), Err(refusal)));
-    assert!(rt; same(reader.feed(b"\x55"), Err(refusal)));
-    assert!(rt; same(reader.finish(), Err(refusal)));
-    assert!(rt; reader.value().is_none());
+    assert!(rt; feeds(&mut reader, &T1_CARD[..6], Ok((6, false))));
+    assert!(rt; feeds(&mut reader, b"\x54", Err(BAD_TCK)));
+    assert!(rt; feeds(&mut reader, b"\x55", Err(BAD_TCK)));
+    assert!(rt; ends(&reader, Err(BAD_TCK)));
+    assert!(rt; is_empty(&reader));
     reader.reset();
-    assert!(rt; same(reader.finish(), Err(Stop::Short { place: 0 })));
-    assert!(rt; same(reader.feed(b"\x3F\x00\x00"), Ok((2, true))));
+    assert!(rt; ends(&reader, Err(Stop::Short { place: 0 })));
+    assert!(rt; feeds(&mut reader, b"\x3F\x00\x00", Ok((2, true))));
 }
 
 /// A reader that was fed these octets.
@@ -111,52 +134,75 @@ fn fed(piece: &[u8]) -> AtrReader {
     reader
 }
 
+/// Whether readers are equal that were fed these octets.
+fn feed_same(one: &[u8], other: &[u8]) -> bool {
+    fed(one) == fed(other)
+}
+
+/// Whether a reader that was fed these octets is equal to a new one.
+fn is_new(piece: &[u8]) -> bool {
+    fed(piece) == AtrReader::new()
+}
+
+/// Whether a reader that was fed two pieces is equal to one that was fed these octets.
+fn is_joined(one: &[u8], other: &[u8], octets: &[u8]) -> bool {
+    let mut in_pieces = fed(one);
+    let _ = in_pieces.feed(other);
+    in_pieces == fed(octets)
+}
+
+/// Whether a reader that was fed these octets is equal to a new one after a reset.
+fn is_new_again(piece: &[u8]) -> bool {
+    let mut reader = fed(piece);
+    reader.reset();
+    reader == AtrReader::new()
+}
+
 #[test]
-fn readers_are_equal_by_octets_or_refusal(rt: HostRuntime) {
-    let mut in_pieces = fed(b"\x3B\x80");
-    let _ = in_pieces.feed(b"\x81\x31");
-    assert!(rt; in_pieces == fed(b"\x3B\x80\x81\x31"));
-    assert!(rt; in_pieces != fed(b"\x3B\x80\x81\x11"));
-    assert!(rt; in_pieces != fed(b"\x3B\x80\x81"));
-    assert!(rt; fed(T1_CARD) == fed(T1_CARD));
-    assert!(rt; fed(b"\x3B\x00") != fed(b"\x3F\x00"));
-    assert!(rt; fed(b"") == AtrReader::new());
-    assert!(rt; fed(b"\x3B") != AtrReader::new());
+fn readers_are_equal_by_octets(rt: HostRuntime) {
+    assert!(rt; is_joined(b"\x3B\x80", b"\x81\x31", b"\x3B\x80\x81\x31"));
+    assert!(rt; !is_joined(b"\x3B\x80", b"\x81\x31", b"\x3B\x80\x81\x11"));
+    assert!(rt; !is_joined(b"\x3B\x80", b"\x81\x31", b"\x3B\x80\x81"));
+    assert!(rt; feed_same(&T1_CARD, &T1_CARD));
+    assert!(rt; !feed_same(b"\x3B\x00", b"\x3F\x00"));
+    assert!(rt; is_new(b""));
+    assert!(rt; !is_new(b"\x3B"));
+}
+
+#[test]
+fn readers_are_equal_by_refusal(rt: HostRuntime) {
     // Both are refused at the first octet, for TS.
-    assert!(rt; fed(b"\x00") == fed(b"\x3D\x00"));
-    assert!(rt; fed(b"\x00") != AtrReader::new());
+    assert!(rt; feed_same(b"\x00", b"\x3D\x00"));
+    assert!(rt; !is_new(b"\x00"));
     // TCK is refused at two places.
-    assert!(rt; fed(b"\x3B\x80\x81\x31\x20\x45\x54") != fed(b"\x3B\x80\x01\x00"));
-    let mut anew = fed(b"\x00");
-    anew.reset();
-    assert!(rt; anew == AtrReader::new());
+    assert!(rt; !feed_same(b"\x3B\x80\x81\x31\x20\x45\x54", b"\x3B\x80\x01\x00"));
+    assert!(rt; is_new_again(b"\x00"));
 }
 
 /// Answers that are accepted, refused at each kind of place, and followed by other octets.
-const WHOLE_OR_NOT: [&[u8]; 16] = [
+const WHOLE_OR_NOT: [&str; 15] = [
     BOTH_PROTOCOLS,
-    T1_CARD,
     LONGEST,
     MOST_TDS,
     TOO_MANY_TDS,
-    b"\x3F\x00",
+    "3F00",
     // All of TA to TC, and fifteen historical bytes.
-    b"\x3B\x7F\x11\x22\x33\x01\x02\x03\x04\x05\x06\x07\x08\x09\x0A\x0B\x0C\x0D\x0E\x0F\x00",
+    "3B7F1122330102030405060708090A0B0C0D0E0F00",
     // TB alone, then TC alone, and TCK.
-    b"\x3B\xA1\x05\xC1\x06\x11\x20\x55\x07\x00",
+    "3BA105C1061120550700",
     // T=0 alone: an octet that could be a TCK stays unread.
-    b"\x3B\x80\x00\x80",
+    "3B800080",
     // T=15, with a global TA.
-    b"\x3B\x80\x1F\x07\x98",
+    "3B801F0798",
     // TS is refused.
-    b"\x3A\x00",
-    b"\x00",
+    "3A00",
+    "00",
     // TCK is refused.
-    b"\x3B\x80\x81\x31\x20\x45\x54",
-    b"\x3B\x80\x01\x00\x81",
+    "3B808131204554",
+    "3B80010081",
     // A TD is refused: the fourth makes too many octets.
-    b"\x3B\xFF\x11\x22\x33\xF1\x44\x55\x66\xF1\x77\x88\x99\xF1",
-    b"",
+    "3BFF112233F1445566F1778899F1",
+    "",
 ];
 
 /// What a reader says of octets that it is fed one by one: how many it takes, or why not.
@@ -180,29 +226,52 @@ fn at_once(octets: &[u8]) -> Result<usize, Stop<AtrReason>> {
     reader.finish().map(|_| count)
 }
 
+/// Whether one pass says of octets what a reader says that is fed one by one, and one that is fed at once.
+fn agree(octets: &[u8]) -> bool {
+    let wanted = octet_by_octet(octets);
+    same(decode(octets).map(|found| found.1), wanted) && same(at_once(octets), wanted)
+}
+
+/// Whether they agree on octets and all their beginnings.
+fn agree_on(octets: &[u8]) -> bool {
+    let mut all_agree = true;
+    for end in 0..=octets.len() {
+        all_agree = all_agree && agree(octets.get(..end).unwrap_or(octets));
+    }
+    all_agree
+}
+
+/// The octets of a hexadecimal text.
+fn octets(rt: &impl Abort, alloc: Global, text: &str) -> Vec<u8> {
+    of_hex(alloc, text).expect(rt, "octets")
+}
+
 #[test]
 fn one_pass_agrees_with_octet_by_octet(rt: HostRuntime) {
-    for &octets in &WHOLE_OR_NOT {
-        for end in 0..=octets.len() {
-            let front = &octets[..end];
-            let wanted = octet_by_octet(front);
-            assert!(rt; same(decode(front).map(|found| found.1), wanted));
-            assert!(rt; same(at_once(front), wanted));
-        }
+    assert!(rt; agree_on(&T1_CARD));
+    for &text in &WHOLE_OR_NOT {
+        let octets = octets(&rt, rt.alloc(), text);
+        assert!(rt; agree_on(octets.as_slice()), "{text}");
     }
+}
+
+/// Parameters with IFSC 32.
+fn params(rt: &impl Abort, bwi: u8, cwi: u8) -> T1Params {
+    T1Params::new(32, bwi, cwi).expect(rt, "parameters")
+}
+
+/// The character waiting time, and the block waiting time at F = 372 and D = 1.
+fn times(params: T1Params) -> (u32, u64) {
+    (params.cwt_etu(), params.bwt(372, 1))
 }
 
 #[test]
 fn waiting_times(rt: HostRuntime) {
-    let first = T1Params::new(32, 4, 13).expect(&rt, "parameters");
-    assert!(rt; same(first.cwt_etu(), 8_203));
+    let first = params(&rt, 4, 13);
+    assert!(rt; same(times(first), (8_203, 15_371 * 372)));
     assert!(rt; same(first.bwt_cycles(), 5_713_920));
-    assert!(rt; same(first.bwt(372, 1), 15_371 * 372));
-    let least = T1Params::new(32, 0, 0).expect(&rt, "parameters");
-    assert!(rt; same(least.cwt_etu(), 12));
-    assert!(rt; same(least.bwt(372, 1), 971 * 372));
+    let least = params(&rt, 0, 0);
+    assert!(rt; same(times(least), (12, 971 * 372)));
     assert!(rt; same(least.bwt(512, 8), 11 * 512 + 357_120 * 8));
-    let greatest = T1Params::new(32, 9, 15).expect(&rt, "parameters");
-    assert!(rt; same(greatest.cwt_etu(), 32_779));
-    assert!(rt; same(greatest.bwt(372, 1), 491_531 * 372));
+    assert!(rt; same(times(params(&rt, 9, 15)), (32_779, 491_531 * 372)));
 }

@@ -6,33 +6,52 @@ use block_core::{
     Block, BlockReader, BlockReason, BlockRef, Fault, LONGEST_BLOCK, Number, Pcb, S, decode, encode,
 };
 use octet_core::Stop;
+use std::process::Abort;
 use testing::same;
 
-#[test]
-fn made_and_read_again(rt: HostRuntime) {
-    let made = [
-        Block::info(0x12, Number::One, true, &[0xA4, 0x04]),
-        Some(Block::ready(0x00, Number::Zero, Fault::Redundancy)),
-        Block::request(0x00, S::Ifs, &[0x20]),
-        Block::response(0x00, S::Wtx, &[0x00]),
-    ];
-    for block in made {
-        let block = block.expect(&rt, "a block");
-        let octets = encode(&block);
-        let read = decode(octets.as_slice(), 254);
-        assert!(rt; read == Ok((block, octets.len())));
+/// Whether a block is there, and is read again from its octets.
+fn is_read_again(block: Option<Block>) -> bool {
+    match block {
+        Some(block) => {
+            let octets = encode(&block);
+            decode(octets.as_slice(), 254) == Ok((block, octets.len()))
+        }
+        None => false,
     }
 }
 
 #[test]
+fn made_and_read_again(rt: HostRuntime) {
+    assert!(rt; is_read_again(Block::info(0x12, Number::One, true, &[0xA4, 0x04])));
+    assert!(rt; is_read_again(Some(Block::ready(0x00, Number::Zero, Fault::Redundancy))));
+    assert!(rt; is_read_again(Block::request(0x00, S::Ifs, &[0x20])));
+    assert!(rt; is_read_again(Block::response(0x00, S::Wtx, &[0x00])));
+}
+
+/// Whether an I-block can have this field.
+fn suits_info(inf: &[u8]) -> bool {
+    Block::info(0x00, Number::Zero, false, inf).is_some()
+}
+
+/// Whether a request can have this field.
+fn suits_request(about: S, inf: &[u8]) -> bool {
+    Block::request(0x00, about, inf).is_some()
+}
+
+/// Whether a response can have this field.
+fn suits_response(about: S, inf: &[u8]) -> bool {
+    Block::response(0x00, about, inf).is_some()
+}
+
+#[test]
 fn fields_that_suit_no_block(rt: HostRuntime) {
-    assert!(rt; Block::info(0x00, Number::Zero, false, &[0x00; 254]).is_some());
-    assert!(rt; Block::info(0x00, Number::Zero, false, &[0x00; 255]).is_none());
-    assert!(rt; Block::request(0x00, S::Ifs, &[0xFF]).is_none());
-    assert!(rt; Block::request(0x00, S::Ifs, &[0x00]).is_none());
-    assert!(rt; Block::request(0x00, S::Resynch, &[0x00]).is_none());
-    assert!(rt; Block::response(0x00, S::Abort, &[]).is_some());
-    assert!(rt; Block::response(0x00, S::Wtx, &[]).is_none());
+    assert!(rt; suits_info(&[0x00; 254]));
+    assert!(rt; !suits_info(&[0x00; 255]));
+    assert!(rt; !suits_request(S::Ifs, &[0xFF]));
+    assert!(rt; !suits_request(S::Ifs, &[0x00]));
+    assert!(rt; !suits_request(S::Resynch, &[0x00]));
+    assert!(rt; suits_response(S::Abort, &[]));
+    assert!(rt; !suits_response(S::Wtx, &[]));
 }
 
 #[test]
@@ -41,101 +60,204 @@ fn numbers_alternate(rt: HostRuntime) {
     assert!(rt; same(Number::One.other(), Number::Zero));
 }
 
+/// An I-block with this field.
+fn info(rt: &impl Abort, inf: &[u8]) -> Block {
+    Block::info(0x21, Number::Zero, false, inf).expect(rt, "a block")
+}
+
+/// The kind of that block.
+const INFO: Pcb = Pcb::Info {
+    number: Number::Zero,
+    more: false,
+};
+
+/// Whether a block is that one.
+fn is_info(block: &Block, inf: &[u8]) -> bool {
+    same((block.nad(), block.pcb()), (0x21, INFO)) && same(block.inf(), inf)
+}
+
 #[test]
 fn parts_of_a_block(rt: HostRuntime) {
-    let block = Block::info(0x21, Number::Zero, false, &[0x00, 0xA4]).expect(&rt, "a block");
-    assert!(rt; same(block.nad(), 0x21));
-    assert!(rt;
-        same(
-            block.pcb(),
-            Pcb::Info {
-                number: Number::Zero,
-                more: false
-            }
-        )
-    );
-    assert!(rt; block.inf() == [0x00, 0xA4].as_slice());
-    assert!(rt; block != Block::ready(0x21, Number::Zero, Fault::Free));
+    let block = info(&rt, &[0x00, 0xA4]);
+    assert!(rt; is_info(&block, &[0x00, 0xA4]));
+    assert!(rt; !same(block, Block::ready(0x21, Number::Zero, Fault::Free)));
 }
+
+/// What a reader answers to octets.
+type Fed = Result<(usize, bool), Stop<BlockReason>>;
+
+/// Whether a reader answers so to these octets.
+fn feeds(reader: &mut BlockReader, octets: &[u8], wanted: Fed) -> bool {
+    same(reader.feed(octets), wanted)
+}
+
+/// Whether a reader says so where no more octets come.
+fn ends(reader: &BlockReader, wanted: Result<(), Stop<BlockReason>>) -> bool {
+    same(reader.finish(), wanted)
+}
+
+/// Whether a reader has no block.
+fn is_empty(reader: &BlockReader) -> bool {
+    reader.value().is_none()
+}
+
+/// Whether a reader has a block with this field.
+fn has(reader: &BlockReader, inf: &[u8]) -> bool {
+    match reader.value() {
+        Some(block) => block.inf() == inf,
+        None => false,
+    }
+}
+
+/// An I-block with the field 00 A4 04 00 00.
+const SELECT: [u8; 9] = [0x00, 0x00, 0x05, 0x00, 0xA4, 0x04, 0x00, 0x00, 0xA5];
 
 #[test]
 fn fed_octet_by_octet(rt: HostRuntime) {
-    let select = [0x00, 0x00, 0x05, 0x00, 0xA4, 0x04, 0x00, 0x00, 0xA5];
     let mut reader = BlockReader::new(254);
-    for (place, octet) in select.iter().enumerate() {
-        assert!(rt; reader.value().is_none());
-        assert!(rt; same(reader.finish(), Err(Stop::Short { place })));
-        assert!(rt; same(reader.feed(&[*octet]), Ok((1, place == 8))));
+    for (place, octet) in SELECT.iter().enumerate() {
+        assert!(rt; is_empty(&reader));
+        assert!(rt; ends(&reader, Err(Stop::Short { place })));
+        assert!(rt; feeds(&mut reader, &[*octet], Ok((1, place == 8))));
     }
-    assert!(rt; same(reader.feed(&[0x00]), Ok((0, true))));
-    assert!(rt; same(reader.finish(), Ok(())));
-    let inf = reader.value().map(|block| block.inf());
-    assert!(rt; inf.is_some_and(|inf| inf == [0x00, 0xA4, 0x04, 0x00, 0x00].as_slice()));
+    assert!(rt; feeds(&mut reader, &[0x00], Ok((0, true))));
+    assert!(rt; ends(&reader, Ok(())));
+    assert!(rt; has(&reader, &[0x00, 0xA4, 0x04, 0x00, 0x00]));
 }
+
+/// Where the octets 00 83 are refused.
+const BAD_PCB: Stop<BlockReason> = Stop::At {
+    place: 1,
+    reason: BlockReason::BadPcb,
+};
 
 #[test]
 fn fed_after_a_refusal(rt: HostRuntime) {
-    let bad_pcb = Stop::At {
-        place: 1,
-        reason: BlockReason::BadPcb,
-    };
     let mut reader = BlockReader::new(254);
-    assert!(rt; same(reader.feed(&[0x00, 0x83]), Err(bad_pcb)));
-    assert!(rt; same(reader.feed(&[0x00]), Err(bad_pcb)));
-    assert!(rt; same(reader.feed(&[]), Err(bad_pcb)));
-    assert!(rt; same(reader.finish(), Err(bad_pcb)));
-    assert!(rt; reader.value().is_none());
+    assert!(rt; feeds(&mut reader, &[0x00, 0x83], Err(BAD_PCB)));
+    assert!(rt; feeds(&mut reader, &[0x00], Err(BAD_PCB)));
+    assert!(rt; feeds(&mut reader, &[], Err(BAD_PCB)));
+    assert!(rt; ends(&reader, Err(BAD_PCB)));
+    assert!(rt; is_empty(&reader));
+}
+
+#[test]
+fn fed_after_a_reset(rt: HostRuntime) {
+    let mut reader = BlockReader::new(254);
+    assert!(rt; feeds(&mut reader, &[0x00, 0x83], Err(BAD_PCB)));
     reader.reset();
-    assert!(rt; same(reader.feed(&[0x00, 0x82, 0x00, 0x82]), Ok((4, true))));
+    assert!(rt; feeds(&mut reader, &[0x00, 0x82, 0x00, 0x82], Ok((4, true))));
     reader.reset();
-    assert!(rt; same(reader.finish(), Err(Stop::Short { place: 0 })));
+    assert!(rt; ends(&reader, Err(Stop::Short { place: 0 })));
+}
+
+/// A request for fields of 254 octets, and an octet after it.
+const SIZE_AND_MORE: [u8; 6] = [0x00, 0xC1, 0x01, 0xFE, 0x3E, 0xFF];
+
+/// Whether a reader takes that request in two pieces, and the octet after it not.
+fn takes_both(front: &[u8], back: &[u8]) -> bool {
+    let mut reader = BlockReader::new(32);
+    feeds(&mut reader, front, Ok((front.len(), front.len() == 5)))
+        && feeds(
+            &mut reader,
+            back,
+            Ok((5_usize.saturating_sub(front.len()), true)),
+        )
 }
 
 #[test]
 fn fed_in_two_pieces(rt: HostRuntime) {
-    let size = [0x00, 0xC1, 0x01, 0xFE, 0x3E, 0xFF];
-    for cut in 0..size.len() {
-        let mut reader = BlockReader::new(32);
-        let (front, back) = size.split_at(cut);
-        assert!(rt; same(reader.feed(front), Ok((front.len(), cut == 5))));
-        assert!(rt; same(reader.feed(back), Ok((5 - front.len(), true))));
+    for cut in 0..SIZE_AND_MORE.len() {
+        let (front, back) = SIZE_AND_MORE.split_at(cut);
+        assert!(rt; takes_both(front, back));
     }
     let mut reader = BlockReader::new(32);
-    assert!(rt; same(reader.feed(&[0x00, 0xC1, 0x01]), Ok((3, false))));
+    assert!(rt; feeds(&mut reader, &[0x00, 0xC1, 0x01], Ok((3, false))));
     assert!(rt; same(reader.taken(), 3));
     let bad_size = Stop::At {
         place: 3,
         reason: BlockReason::BadIfs,
     };
-    assert!(rt; same(reader.feed(&[0xFF, 0x00]), Err(bad_size)));
+    assert!(rt; feeds(&mut reader, &[0xFF, 0x00], Err(bad_size)));
+}
+
+/// The same I-block from another address, and an octet after it.
+const SELECT_AND_MORE: [u8; 10] = [0x21, 0x00, 0x05, 0x00, 0xA4, 0x04, 0x00, 0x00, 0x84, 0xFF];
+
+/// Whether a block is lent with this field, and is the same one when it is copied.
+fn is_lent(block: &BlockRef<'_>, inf: &[u8]) -> bool {
+    same((block.nad(), Some(block.pcb())), (0x21, Pcb::of(0x00)))
+        && same(block.inf(), inf)
+        && Some(block.to_block()) == Block::info(0x21, Number::Zero, false, inf)
+}
+
+/// Whether octets begin with a block with this field, which ends before the last octet.
+fn lends(octets: &[u8], inf: &[u8]) -> bool {
+    match BlockRef::decode(octets, 254) {
+        Ok((block, taken)) => same(taken, 9) && is_lent(&block, inf),
+        Err(_) => false,
+    }
+}
+
+/// Why octets are no block with a field of at most four octets.
+fn refused(octets: &[u8]) -> Option<Stop<BlockReason>> {
+    BlockRef::decode(octets, 4).err()
 }
 
 #[test]
 fn read_where_it_stands(rt: HostRuntime) {
-    let select = [0x21, 0x00, 0x05, 0x00, 0xA4, 0x04, 0x00, 0x00, 0x84, 0xFF];
-    let (block, taken) = BlockRef::decode(&select, 254).expect(&rt, "a block");
-    assert!(rt; same(taken, 9));
-    assert!(rt; same(block.nad(), 0x21));
-    assert!(rt; same(block.pcb(), Pcb::of(0x00).expect(&rt, "a kind")));
-    assert!(rt; block.inf() == &select[3..8]);
-    assert!(rt; Some(block.to_block()) == Block::info(0x21, Number::Zero, false, &select[3..8]));
-    let over = BlockRef::decode(&select, 4).err();
+    assert!(rt; lends(&SELECT_AND_MORE, &SELECT_AND_MORE[3..8]));
     let reason = BlockReason::OverIfs;
-    assert!(rt; same(over, Some(Stop::At { place: 2, reason })));
+    assert!(rt;
+        same(
+            refused(&SELECT_AND_MORE),
+            Some(Stop::At { place: 2, reason })
+        )
+    );
 }
+
+/// A block that lends its field.
+fn lent<'a>(rt: &impl Abort, nad: u8, pcb: Pcb, inf: &'a [u8]) -> BlockRef<'a> {
+    BlockRef::new(nad, pcb, inf).expect(rt, "a block")
+}
+
+/// How many octets a block puts into a buffer.
+fn written(block: &BlockRef<'_>, out: &mut [u8; LONGEST_BLOCK]) -> usize {
+    block.encode_into(out)
+}
+
+/// Whether a block is put so into a buffer.
+fn is_written(block: &BlockRef<'_>, out: &[u8; LONGEST_BLOCK]) -> bool {
+    encode(&block.to_block()).as_slice() == out.as_slice()
+}
+
+/// The kind of an I-block with number one and more to come.
+const MORE: Pcb = Pcb::Info {
+    number: Number::One,
+    more: true,
+};
 
 #[test]
 fn written_into_a_buffer(rt: HostRuntime) {
     let mut out = [0xEE; LONGEST_BLOCK];
-    let size = BlockRef::new(0x00, Pcb::Request(S::Ifs), &[0xFE]).expect(&rt, "a block");
-    assert!(rt; same(size.encode_into(&mut out), 5));
+    let size = lent(&rt, 0x00, Pcb::Request(S::Ifs), &[0xFE]);
+    assert!(rt; same(written(&size, &mut out), 5));
     assert!(rt; out[..6] == [0x00, 0xC1, 0x01, 0xFE, 0x3E, 0xEE]);
     let field = [0xA5; 254];
-    let pcb = Pcb::of(0x60).expect(&rt, "a kind");
-    let longest = BlockRef::new(0x12, pcb, &field).expect(&rt, "a block");
-    assert!(rt; same(longest.encode_into(&mut out), LONGEST_BLOCK));
-    assert!(rt; encode(&longest.to_block()).as_slice() == out.as_slice());
-    assert!(rt; BlockRef::new(0x00, Pcb::Request(S::Ifs), &[0xFF]).is_none());
-    assert!(rt; BlockRef::new(0x00, Pcb::Request(S::Ifs), &[]).is_none());
-    assert!(rt; BlockRef::new(0x12, pcb, &[0x00; 255]).is_none());
+    let longest = lent(&rt, 0x12, MORE, &field);
+    assert!(rt; same(written(&longest, &mut out), LONGEST_BLOCK));
+    assert!(rt; is_written(&longest, &out));
+}
+
+/// Whether no block can lend this field.
+fn is_none(nad: u8, pcb: Pcb, inf: &[u8]) -> bool {
+    BlockRef::new(nad, pcb, inf).is_none()
+}
+
+#[test]
+fn fields_that_no_block_lends(rt: HostRuntime) {
+    assert!(rt; same(Pcb::of(0x60), Some(MORE)));
+    assert!(rt; is_none(0x00, Pcb::Request(S::Ifs), &[0xFF]));
+    assert!(rt; is_none(0x00, Pcb::Request(S::Ifs), &[]));
+    assert!(rt; is_none(0x12, MORE, &[0x00; 255]));
 }

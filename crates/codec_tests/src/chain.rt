@@ -4,11 +4,14 @@
 mod plain;
 mod printed;
 
+ghost use Rattle.std.specs.Prelude.{◌≤◌};
+
 use block_core::{Number, encode};
 use chain_core::{ChainReason, ReadRefusal, Receiver, ReceiverPlaces, block_at, cut};
 use octet_core::{After, Counted, Feeder, Source, Stop, Taker};
-use plain::{feed, feed_lent, finish_lent, has, read, write};
-use std::test::Fail;
+use plain::{Fed, ends, feed_lent, feeds, finish_lent, has, lacks, read, receiver, write};
+use std::alloc::Global;
+use std::process::Abort;
 use testing::same;
 
 /// 00 A4 04 00 00, in blocks of two octets.
@@ -25,48 +28,95 @@ const CHAIN_AND_MORE: [u8; 18] = [
 
 const SELECT: [u8; 5] = [0x00, 0xA4, 0x04, 0x00, 0x00];
 
+/// Whether the block of SELECT from a place on has these octets.
+fn is_block_at(start: usize, number: Number, octets: &[u8]) -> bool
+    requires { start ≤ 5 }
+{
+    encode(&block_at(&SELECT, start, 2, number)).as_slice() == octets
+}
+
 #[test]
 fn block_at_a_place(rt: HostRuntime) {
-    assert!(rt; encode(&block_at(&SELECT, 2, 2, Number::One)).as_slice() == &CHAIN[6..12]);
-    assert!(rt; encode(&block_at(&SELECT, 4, 2, Number::Zero)).as_slice() == &CHAIN[12..]);
-    let empty = [0x00, 0x00, 0x00, 0x00];
-    assert!(rt; encode(&block_at(&SELECT, 5, 2, Number::Zero)).as_slice() == empty.as_slice());
+    assert!(rt; is_block_at(2, Number::One, &CHAIN[6..12]));
+    assert!(rt; is_block_at(4, Number::Zero, &CHAIN[12..]));
+    assert!(rt; is_block_at(5, Number::Zero, &[0x00, 0x00, 0x00, 0x00]));
+}
+
+/// Whether a writer keeps these octets.
+fn keeps(writer: Counted<Taker>, octets: &[u8]) -> bool {
+    writer.into_inner().kept() == octets
 }
 
 #[test]
 fn written_whole(rt: HostRuntime) {
     let mut writer = Counted::new(Taker::new(4096, 7, After::Fails));
     assert!(rt; same(write(&mut writer), Ok(())));
-    assert!(rt; writer.into_inner().kept() == CHAIN.as_slice());
+    assert!(rt; keeps(writer, &CHAIN));
 }
 
-fn at(place: usize, reason: ChainReason) -> Result<(usize, bool), Stop<ChainReason>> {
+fn at(place: usize, reason: ChainReason) -> Fed {
     Err(Stop::At { place, reason })
 }
 
+/// Whether a receiver has no message after so many octets.
+fn is_short(receiver: &Receiver, place: usize) -> bool {
+    receiver.message().is_none() && ends(receiver, Err(Stop::Short { place }))
+}
+
+/// Whether a receiver takes the first piece of the chain, and lacks the rest of it, if there is some.
+fn takes_front(receiver: &mut Receiver, front: &[u8]) -> bool {
+    let place = front.len();
+    let whole = place == CHAIN.len();
+    feeds(receiver, front, Ok((place, whole))) && (whole || is_short(receiver, place))
+}
+
+/// Whether a receiver takes the last piece of the chain and no octet more, and has the message.
+fn takes_back(receiver: &mut Receiver, back: &[u8]) -> bool {
+    feeds(receiver, back, Ok((back.len(), true)))
+        && feeds(receiver, &[0xFF], Ok((0, true)))
+        && ends(receiver, Ok(()))
+        && same(receiver.blocks(), 3)
+        && has(receiver, &SELECT)
+}
+
 #[test]
-fn received_in_two_pieces(rt: HostRuntime) -> Result<(), Fail> {
-    let mut receiver = Receiver::new(rt.alloc(), 2, Number::Zero, 5)?;
+fn received_in_two_pieces(rt: HostRuntime) {
+    let mut receiver = receiver(&rt, rt.alloc(), 5);
     for cut in 0..CHAIN.len() + 1 {
         let (front, back) = CHAIN.split_at(cut);
-        assert!(rt;
-            same(
-                feed(&mut receiver, front),
-                Ok((front.len(), cut == CHAIN.len()))
-            )
-        );
-        if cut < CHAIN.len() {
-            assert!(rt; receiver.message().is_none());
-            assert!(rt; same(receiver.finish(), Err(Stop::Short { place: cut })));
-        }
-        assert!(rt; same(feed(&mut receiver, back), Ok((back.len(), true))));
-        assert!(rt; same(feed(&mut receiver, &[0xFF]), Ok((0, true))));
-        assert!(rt; same(receiver.finish(), Ok(())));
-        assert!(rt; same(receiver.blocks(), 3));
-        assert!(rt; has(&receiver, &SELECT));
+        assert!(rt; takes_front(&mut receiver, front));
+        assert!(rt; takes_back(&mut receiver, back));
         receiver.restart(Number::Zero);
     }
-    Ok(())
+}
+
+/// Whether a receiver over a lent buffer takes the first piece of the chain, and lacks the rest of it, if there is some.
+fn takes_front_lent(places: &mut ReceiverPlaces, message: &mut [u8; 6], front: &[u8]) -> bool {
+    let place = front.len();
+    let whole = place == CHAIN.len();
+    same(feed_lent(places, message, front), Some(Ok((place, whole))))
+        && (whole || lacks_lent(places, place))
+}
+
+/// Whether a receiver over a lent buffer has no message after so many octets.
+fn lacks_lent(places: &ReceiverPlaces, place: usize) -> bool {
+    places.message_len().is_none() && same(finish_lent(places, 5), Some(Err(Stop::Short { place })))
+}
+
+/// Whether a receiver over a lent buffer takes the last piece of the chain and no octet more.
+fn takes_back_lent(places: &mut ReceiverPlaces, message: &mut [u8; 6], back: &[u8]) -> bool {
+    same(
+        feed_lent(places, message, back),
+        Some(Ok((back.len(), true))),
+    ) && same(feed_lent(places, message, &[0xFF]), Some(Ok((0, true))))
+}
+
+/// Whether a receiver over a lent buffer has the message, and is none over a buffer of four octets.
+fn has_lent(places: &ReceiverPlaces, message: &[u8; 6]) -> bool {
+    same(finish_lent(places, 5), Some(Ok(())))
+        && same(places.message_len(), Some(5))
+        && message.starts_with(&SELECT)
+        && same(finish_lent(places, 4), None)
 }
 
 #[test]
@@ -75,37 +125,9 @@ fn joined_in_a_lent_buffer(rt: HostRuntime) {
         let (front, back) = CHAIN.split_at(cut);
         let mut places = ReceiverPlaces::begin(2, Number::Zero, 5);
         let mut message = [0; 6];
-        assert!(rt;
-            same(
-                feed_lent(&mut places, &mut message, front),
-                Some(Ok((front.len(), cut == CHAIN.len())))
-            )
-        );
-        if cut < CHAIN.len() {
-            assert!(rt; places.message_len().is_none());
-            assert!(rt;
-                same(
-                    finish_lent(&places, 5),
-                    Some(Err(Stop::Short { place: cut }))
-                )
-            );
-        }
-        assert!(rt;
-            same(
-                feed_lent(&mut places, &mut message, back),
-                Some(Ok((back.len(), true)))
-            )
-        );
-        assert!(rt;
-            same(
-                feed_lent(&mut places, &mut message, &[0xFF]),
-                Some(Ok((0, true)))
-            )
-        );
-        assert!(rt; same(finish_lent(&places, 5), Some(Ok(()))));
-        assert!(rt; same(places.message_len(), Some(5)));
-        assert!(rt; message[..5] == SELECT[..]);
-        assert!(rt; same(finish_lent(&places, 4), None));
+        assert!(rt; takes_front_lent(&mut places, &mut message, front));
+        assert!(rt; takes_back_lent(&mut places, &mut message, back));
+        assert!(rt; has_lent(&places, &message));
     }
 }
 
@@ -116,7 +138,7 @@ fn is_received(receiver: &mut Receiver, cuts: u32) -> bool {
     for place in 0..16usize {
         if (cuts >> place) & 1 == 1 {
             match CHAIN.get(from..place + 1) {
-                Some(piece) if feed(receiver, piece) == Ok((piece.len(), false)) => {}
+                Some(piece) if feeds(receiver, piece, Ok((piece.len(), false))) => {}
                 _ => return false,
             }
             from = place + 1;
@@ -126,14 +148,14 @@ fn is_received(receiver: &mut Receiver, cuts: u32) -> bool {
         return false;
     };
     let taken = piece.len().saturating_sub(1);
-    feed(receiver, piece) == Ok((taken, true))
-        && feed(receiver, &[0xFF]) == Ok((0, true))
+    feeds(receiver, piece, Ok((taken, true)))
+        && feeds(receiver, &[0xFF], Ok((0, true)))
         && has(receiver, &SELECT)
 }
 
 #[test]
-fn received_in_any_pieces(rt: HostRuntime) -> Result<(), Fail> {
-    let mut receiver = Receiver::new(rt.alloc(), 2, Number::Zero, 5)?;
+fn received_in_any_pieces(rt: HostRuntime) {
+    let mut receiver = receiver(&rt, rt.alloc(), 5);
     for cuts in 0..65_536u32 {
         receiver.restart(Number::Zero);
         assert!(rt;
@@ -141,103 +163,73 @@ fn received_in_any_pieces(rt: HostRuntime) -> Result<(), Fail> {
             "cut behind the bits of {cuts}"
         );
     }
-    Ok(())
 }
 
 #[test]
-fn a_refusal_is_kept_until_a_restart(rt: HostRuntime) -> Result<(), Fail> {
-    let mut receiver = Receiver::new(rt.alloc(), 2, Number::Zero, 4)?;
-    let front = &CHAIN[..6];
+fn a_refusal_is_kept_until_a_restart(rt: HostRuntime) {
+    let mut receiver = receiver(&rt, rt.alloc(), 4);
     let refusal = at(7, ChainReason::BadSequence);
-    assert!(rt; same(feed(&mut receiver, front), Ok((6, false))));
-    assert!(rt; same(feed(&mut receiver, &[0x00, 0x20, 0x02]), refusal));
-    assert!(rt; same(feed(&mut receiver, &CHAIN), refusal));
-    assert!(rt; same(receiver.blocks(), 1));
-    assert!(rt; receiver.message().is_none());
+    assert!(rt; feeds(&mut receiver, &CHAIN[..6], Ok((6, false))));
+    assert!(rt; feeds(&mut receiver, &[0x00, 0x20, 0x02], refusal));
+    assert!(rt; feeds(&mut receiver, &CHAIN, refusal));
+    assert!(rt; lacks(&receiver, 1));
     receiver.restart(Number::Zero);
+    assert!(rt; feeds(&mut receiver, &CHAIN, at(14, ChainReason::TooLong)));
     let too_long = Stop::At {
         place: 14,
         reason: ChainReason::TooLong,
     };
-    assert!(rt; same(feed(&mut receiver, &CHAIN), Err(too_long)));
-    assert!(rt; same(receiver.finish(), Err(too_long)));
+    assert!(rt; ends(&receiver, Err(too_long)));
     assert!(rt; same(receiver.blocks(), 2));
-    Ok(())
+}
+
+/// Whether a receiver takes so many pairs of empty blocks, and then one more block.
+fn takes_pairs(receiver: &mut Receiver, count: u32) -> bool {
+    let pair = [0x00, 0x20, 0x00, 0x20, 0x00, 0x60, 0x00, 0x60];
+    let mut all_taken = true;
+    for _ in 0..count {
+        all_taken = all_taken && feeds(receiver, &pair, Ok((8, false)));
+    }
+    all_taken && feeds(receiver, &pair[..4], Ok((4, false)))
+}
+
+/// A receiver of empty messages.
+fn empty_receiver(rt: &impl Abort, alloc: Global) -> Receiver {
+    Receiver::new(alloc, 254, Number::Zero, 0).expect(rt, "a receiver")
 }
 
 #[test]
-fn most_blocks(rt: HostRuntime) -> Result<(), Fail> {
-    let mut receiver = Receiver::new(rt.alloc(), 254, Number::Zero, 0)?;
-    for _ in 0..65_535 {
-        assert!(rt;
-            same(
-                feed(
-                    &mut receiver,
-                    &[0x00, 0x20, 0x00, 0x20, 0x00, 0x60, 0x00, 0x60]
-                ),
-                Ok((8, false))
-            )
-        );
-    }
-    assert!(rt;
-        same(
-            feed(&mut receiver, &[0x00, 0x20, 0x00, 0x20]),
-            Ok((4, false))
-        )
-    );
-    assert!(rt;
-        same(
-            feed(&mut receiver, &[0x00, 0x40, 0x00, 0x40]),
-            Ok((4, true))
-        )
-    );
+fn most_blocks(rt: HostRuntime) {
+    let mut receiver = empty_receiver(&rt, rt.alloc());
+    assert!(rt; takes_pairs(&mut receiver, 65_535));
+    assert!(rt; feeds(&mut receiver, &[0x00, 0x40, 0x00, 0x40], Ok((4, true))));
     assert!(rt; same(receiver.blocks(), 131_072));
     assert!(rt; has(&receiver, &[]));
     receiver.restart(Number::Zero);
-    for _ in 0..65_535 {
-        assert!(rt;
-            same(
-                feed(
-                    &mut receiver,
-                    &[0x00, 0x20, 0x00, 0x20, 0x00, 0x60, 0x00, 0x60]
-                ),
-                Ok((8, false))
-            )
-        );
+    assert!(rt; takes_pairs(&mut receiver, 65_535));
+    let refusal = at(524_285, ChainReason::TooManyBlocks);
+    assert!(rt; feeds(&mut receiver, &[0x00, 0x60], refusal));
+}
+
+/// How many blocks a message is cut into, counted up to 100,000.
+fn blocks_of(message: &[u8], ifs: u8) -> u32
+    requires least { 1 ≤ ifs }
+    requires most { ifs ≤ 254 }
+{
+    let mut count = 0;
+    for _ in cut(message, ifs, Number::Zero) {
+        if count < 100_000 {
+            count += 1;
+        }
     }
-    assert!(rt;
-        same(
-            feed(&mut receiver, &[0x00, 0x20, 0x00, 0x20]),
-            Ok((4, false))
-        )
-    );
-    assert!(rt;
-        same(
-            feed(&mut receiver, &[0x00, 0x60]),
-            at(524_285, ChainReason::TooManyBlocks)
-        )
-    );
-    Ok(())
+    count
 }
 
 #[test]
-fn cut_long_messages(rt: HostRuntime) -> Result<(), Fail> {
-    let message = vec![in rt.alloc(); 0xA5u8; 65_544]?;
-    let mut short = 0;
-    for _ in cut(message.as_slice(), 1, Number::Zero) {
-        if short < 100_000 {
-            short += 1;
-        }
-    }
-    assert!(rt; same(short, 65_544));
-    let mut long = 0;
-    for _ in cut(message.as_slice(), 254, Number::Zero) {
-        if long < 100_000 {
-            long += 1;
-        }
-    }
-    assert!(rt; same(long, 259));
-    Ok(())
+fn cut_long_messages(rt: HostRuntime) {
+    let message = vec![in rt.alloc(); 0xA5u8; 65_544].expect(&rt, "octets");
+    assert!(rt; same(blocks_of(message.as_slice(), 1), 65_544));
+    assert!(rt; same(blocks_of(message.as_slice(), 254), 259));
 }
 
 /// The chain after its first seven octets, and an octet that follows it.
@@ -253,94 +245,135 @@ fn stop(place: usize, reason: ChainReason) -> Result<(), ReadRefusal> {
     Err(ReadRefusal::Stop(Stop::At { place, reason }))
 }
 
-#[test]
-fn read_on_behind_a_failure(rt: HostRuntime) -> Result<(), Fail> {
-    let mut receiver = Receiver::new(rt.alloc(), 2, Number::Zero, 5)?;
-    let mut reader = Counted::new(Feeder::new(&CHAIN[..7], 4096, After::Fails));
-    assert!(rt;
-        same(
-            read(&mut reader, &mut receiver),
-            Err(ReadRefusal::Read { taken: 7 })
-        )
-    );
-    let mut reader = Counted::new(Feeder::new(&REST, 4096, After::End));
-    assert!(rt; same(read(&mut reader, &mut receiver), Ok(())));
-    assert!(rt; has(&receiver, &SELECT));
+/// A source of these octets, at most so many by a call.
+fn source(octets: &[u8], step: usize) -> Counted<Feeder<'_>>
+    requires { 1 ≤ step }
+{
+    Counted::new(Feeder::new(octets, step, After::End))
+}
+
+/// How many octets a source gave.
+fn given(source: Counted<Feeder<'_>>) -> u64 {
+    source.into_inner().given()
+}
+
+/// Whether one octet is left to read, and it is FF.
+fn is_left(source: &mut Counted<Feeder<'_>>) -> bool {
     let mut next = [0, 0];
-    assert!(rt; same(reader.read(&mut next)?, 1));
-    assert!(rt; same(next[0], 0xFF));
-    assert!(rt; same(reader.into_inner().given(), 11));
-    Ok(())
+    matches!(source.read(&mut next), Ok(1)) && next[0] == 0xFF
+}
+
+/// Whether a receiver takes seven octets of the chain from a source that fails then.
+fn fails_after_seven(receiver: &mut Receiver) -> bool {
+    let mut reader = Counted::new(Feeder::new(&CHAIN[..7], 4096, After::Fails));
+    same(
+        read(&mut reader, receiver),
+        Err(ReadRefusal::Read { taken: 7 }),
+    )
+}
+
+/// Whether a receiver takes the rest of the chain, and leaves the octet after it.
+fn reads_rest(receiver: &mut Receiver) -> bool {
+    let mut reader = source(&REST, 4096);
+    same(read(&mut reader, receiver), Ok(())) && is_left(&mut reader) && same(given(reader), 11)
 }
 
 #[test]
-fn read_from_a_source_that_ends(rt: HostRuntime) -> Result<(), Fail> {
-    let mut receiver = Receiver::new(rt.alloc(), 2, Number::Zero, 5)?;
-    for step in [1, 4096] {
-        for place in 0..CHAIN.len() {
-            receiver.restart(Number::Zero);
-            let mut reader = Counted::new(Feeder::new(&CHAIN[..place], step, After::End));
-            assert!(rt; same(read(&mut reader, &mut receiver), short(place)));
-            assert!(rt; same(read(&mut reader, &mut receiver), short(place)));
-            let mut reader = Counted::new(Feeder::new(&CHAIN[place..], step, After::End));
-            assert!(rt; same(read(&mut reader, &mut receiver), Ok(())));
-        }
-    }
-    Ok(())
-}
-
-#[test]
-fn read_up_to_the_refused_block(rt: HostRuntime) -> Result<(), Fail> {
-    let mut receiver = Receiver::new(rt.alloc(), 2, Number::Zero, 4)?;
-    let mut reader = Counted::new(Feeder::new(&CHAIN, 4096, After::End));
-    let refusal = stop(14, ChainReason::TooLong);
-    assert!(rt; same(read(&mut reader, &mut receiver), refusal));
-    assert!(rt; same(reader.into_inner().given(), 15));
-    let mut reader = Counted::new(Feeder::new(&CHAIN, 4096, After::End));
-    assert!(rt; same(read(&mut reader, &mut receiver), refusal));
-    assert!(rt; same(reader.into_inner().given(), 0));
-    for (octets, refusal, given) in [
-        (
-            [0x01, 0x20, 0x02, 0x00, 0xA4, 0x86],
-            stop(0, ChainReason::BadNad),
-            3,
-        ),
-        (
-            [0x00, 0x60, 0x02, 0x00, 0xA4, 0x86],
-            stop(1, ChainReason::BadSequence),
-            3,
-        ),
-        (
-            [0x00, 0x20, 0x03, 0x00, 0xA4, 0x86],
-            stop(2, ChainReason::OverIfs),
-            3,
-        ),
-        (
-            [0x00, 0x20, 0x02, 0x00, 0xA4, 0x87],
-            stop(5, ChainReason::BadLrc),
-            6,
-        ),
-        (
-            [0x00, 0x20, 0x01, 0x00, 0xA4, 0x86],
-            stop(4, ChainReason::BadLrc),
-            5,
-        ),
-    ] {
-        receiver.restart(Number::Zero);
-        let mut reader = Counted::new(Feeder::new(&octets, 4096, After::End));
-        assert!(rt; same(read(&mut reader, &mut receiver), refusal));
-        assert!(rt; same(reader.into_inner().given(), given));
-    }
-    Ok(())
-}
-
-#[test]
-fn read_nothing_where_it_is_done(rt: HostRuntime) -> Result<(), Fail> {
-    let mut receiver = Receiver::new(rt.alloc(), 2, Number::Zero, 5)?;
-    assert!(rt; same(feed(&mut receiver, &CHAIN), Ok((17, true))));
-    let mut reader = Counted::new(Feeder::new(&CHAIN, 4096, After::Fails));
-    assert!(rt; same(read(&mut reader, &mut receiver), Ok(())));
-    assert!(rt; same(reader.into_inner().given(), 0));
+fn read_on_behind_a_failure(rt: HostRuntime) {
+    let mut receiver = receiver(&rt, rt.alloc(), 5);
+    assert!(rt; fails_after_seven(&mut receiver));
+    assert!(rt; reads_rest(&mut receiver));
     assert!(rt; has(&receiver, &SELECT));
-    Ok(())
+}
+
+/// Whether a receiver takes these octets from a source, twice lacks the rest, and takes that from another.
+fn is_read_on(receiver: &mut Receiver, front: &[u8], back: &[u8], step: usize) -> bool
+    requires { 1 ≤ step }
+{
+    receiver.restart(Number::Zero);
+    let mut reader = source(front, step);
+    same(read(&mut reader, receiver), short(front.len()))
+        && same(read(&mut reader, receiver), short(front.len()))
+        && same(read(&mut source(back, step), receiver), Ok(()))
+}
+
+#[test]
+fn read_from_a_source_that_ends(rt: HostRuntime) {
+    let mut receiver = receiver(&rt, rt.alloc(), 5);
+    for place in 0..CHAIN.len() {
+        let (front, back) = CHAIN.split_at(place);
+        assert!(rt; is_read_on(&mut receiver, front, back, 1));
+        assert!(rt; is_read_on(&mut receiver, front, back, 4096));
+    }
+}
+
+/// Whether reading octets gives this, and takes so many of them.
+fn reads(
+    receiver: &mut Receiver,
+    octets: &[u8],
+    wanted: Result<(), ReadRefusal>,
+    count: u64,
+) -> bool {
+    let mut reader = source(octets, 4096);
+    same(read(&mut reader, receiver), wanted) && same(given(reader), count)
+}
+
+/// Blocks, where and why they are refused, and how many octets are read of them.
+const REFUSED: [([u8; 6], usize, ChainReason, u64); 5] = [
+    (
+        [0x01, 0x20, 0x02, 0x00, 0xA4, 0x86],
+        0,
+        ChainReason::BadNad,
+        3,
+    ),
+    (
+        [0x00, 0x60, 0x02, 0x00, 0xA4, 0x86],
+        1,
+        ChainReason::BadSequence,
+        3,
+    ),
+    (
+        [0x00, 0x20, 0x03, 0x00, 0xA4, 0x86],
+        2,
+        ChainReason::OverIfs,
+        3,
+    ),
+    (
+        [0x00, 0x20, 0x02, 0x00, 0xA4, 0x87],
+        5,
+        ChainReason::BadLrc,
+        6,
+    ),
+    (
+        [0x00, 0x20, 0x01, 0x00, 0xA4, 0x86],
+        4,
+        ChainReason::BadLrc,
+        5,
+    ),
+];
+
+#[test]
+fn read_up_to_the_refused_block(rt: HostRuntime) {
+    let mut receiver = receiver(&rt, rt.alloc(), 4);
+    let refusal = stop(14, ChainReason::TooLong);
+    assert!(rt; reads(&mut receiver, &CHAIN, refusal, 15));
+    assert!(rt; reads(&mut receiver, &CHAIN, refusal, 0));
+    for (octets, place, reason, given) in &REFUSED {
+        receiver.restart(Number::Zero);
+        assert!(rt; reads(&mut receiver, octets, stop(*place, *reason), *given));
+    }
+}
+
+/// Whether a receiver that is done takes nothing from a source of one more chain.
+fn reads_nothing(receiver: &mut Receiver) -> bool {
+    let mut reader = Counted::new(Feeder::new(&CHAIN, 4096, After::Fails));
+    same(read(&mut reader, receiver), Ok(())) && same(given(reader), 0)
+}
+
+#[test]
+fn read_nothing_where_it_is_done(rt: HostRuntime) {
+    let mut receiver = receiver(&rt, rt.alloc(), 5);
+    assert!(rt; feeds(&mut receiver, &CHAIN, Ok((17, true))));
+    assert!(rt; reads_nothing(&mut receiver));
+    assert!(rt; has(&receiver, &SELECT));
 }

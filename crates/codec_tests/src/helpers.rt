@@ -1,6 +1,14 @@
 //! What the other tests compare by, since it has no contract.
 
+use octet_core::Named;
+use std::alloc::Global;
+use std::fmt::Display;
 use testing::{debugs, same, shows};
+
+/// Whether a reason has this name, and is shown by it.
+pub(super) fn is_named<R: Named + Display + Copy>(alloc: Global, reason: R, name: &str) -> bool {
+    same(reason.name(), name) && shows(alloc, &reason, name)
+}
 
 #[test]
 fn texts_are_told_apart(rt: HostRuntime) {

@@ -3,13 +3,47 @@
 mod decimal;
 mod refusals;
 
+ghost use Rattle.std.specs.Prelude.{◌≢◌};
+
 use octet_core::{
     After, Counted, FailsOnce, Feeder, Octets, Sink, Source, Taker, Text, WriteFault, hex_upper,
     lrc, octets_of, write_octets,
 };
+use std::alloc::Global;
 use std::io::{ErrorKind, Read, Write};
-use std::test::Fail;
+use std::process::Abort;
 use testing::same;
+
+/// Whether a call of a reader gives so many octets.
+fn gives<R: Source>(reader: &mut R, room: &mut [u8; 4], count: usize) -> bool {
+    match reader.read(room) {
+        Ok(given) => given == count,
+        Err(_) => false,
+    }
+}
+
+/// Whether a call of a writer takes so many of these octets.
+fn takes<W: Sink>(writer: &mut W, octets: &[u8], count: usize) -> bool {
+    match writer.write(octets) {
+        Ok(taken) => taken == count,
+        Err(_) => false,
+    }
+}
+
+/// Whether a taker keeps these octets, below a count of the failed calls.
+fn keeps(writer: Counted<Taker>, octets: &[u8]) -> bool {
+    writer.into_inner().kept() == octets
+}
+
+/// Whether a taker keeps these octets, below one that fails once and a count of the failed calls.
+fn keeps_below(writer: Counted<FailsOnce<Taker>>, octets: &[u8]) -> bool {
+    writer.into_inner().into_inner().kept() == octets
+}
+
+/// What writing these octets whole gives.
+fn written<W: Sink>(writer: &mut W, octets: &[u8]) -> Result<(), WriteFault> {
+    write_octets(writer, octets)
+}
 
 #[test]
 fn lrc_of_a_block(rt: HostRuntime) {
@@ -20,8 +54,8 @@ fn lrc_of_a_block(rt: HostRuntime) {
 #[test]
 fn writes_all_octets(rt: HostRuntime) {
     let mut writer = Counted::new(Taker::new(4096, 2, After::Fails));
-    assert!(rt; same(write_octets(&mut writer, b"00A404"), Ok(())));
-    assert!(rt; writer.into_inner().kept() == b"00A404".as_slice());
+    assert!(rt; same(written(&mut writer, b"00A404"), Ok(())));
+    assert!(rt; keeps(writer, b"00A404"));
 }
 
 #[test]
@@ -29,13 +63,9 @@ fn stops_at_a_writer_that_fails(rt: HostRuntime) {
     const ROWS: [After; 3] = [After::End, After::Fails, After::Interrupted];
     for &after in &ROWS {
         let mut writer = Counted::new(Taker::new(3, 2, after));
-        assert!(rt;
-            same(
-                write_octets(&mut writer, b"00A404"),
-                Err(WriteFault { written: 3 })
-            )
-        );
-        assert!(rt; writer.into_inner().kept() == b"00A".as_slice());
+        let fault = WriteFault { written: 3 };
+        assert!(rt; same(written(&mut writer, b"00A404"), Err(fault)));
+        assert!(rt; keeps(writer, b"00A"));
     }
 }
 
@@ -43,9 +73,9 @@ fn stops_at_a_writer_that_fails(rt: HostRuntime) {
 fn feeder_gives_step_by_step(rt: HostRuntime) {
     let mut room = [0u8; 4];
     let mut feeder = Counted::new(Feeder::new(b"abc", 2, After::Repeats));
-    assert!(rt; matches!(feeder.read(&mut room), Ok(2)));
-    assert!(rt; matches!(feeder.read(&mut room), Ok(1)));
-    assert!(rt; matches!(feeder.read(&mut room), Ok(2)));
+    assert!(rt; gives(&mut feeder, &mut room, 2));
+    assert!(rt; gives(&mut feeder, &mut room, 1));
+    assert!(rt; gives(&mut feeder, &mut room, 2));
     assert!(rt; room.as_slice() == b"ab\0\0".as_slice());
     assert!(rt; same(feeder.into_inner().given(), 5));
 }
@@ -60,61 +90,122 @@ fn feeder_ends_and_fails(rt: HostRuntime) {
             .read(&mut room)
             .is_err()
     );
+}
+
+/// Whether a call of a taker takes so many of these octets.
+fn keeps_of(taker: &mut Taker, octets: &[u8], count: usize) -> bool {
+    match taker.write(octets) {
+        Ok(taken) => taken == count,
+        Err(_) => false,
+    }
+}
+
+#[test]
+fn a_taker_with_no_room(rt: HostRuntime) {
     let mut taker = Taker::new(0, 1, After::End);
-    assert!(rt; matches!(taker.write(b"a"), Ok(0)));
-    assert!(rt; matches!(taker.write(b""), Ok(0)));
+    assert!(rt; keeps_of(&mut taker, b"a", 0));
+    assert!(rt; keeps_of(&mut taker, b"", 0));
 }
 
 #[test]
 fn taker_keeps_step_by_step(rt: HostRuntime) {
     let mut taker = Taker::new(3, 2, After::End);
-    assert!(rt; matches!(taker.write(b"abc"), Ok(2)));
+    assert!(rt; keeps_of(&mut taker, b"abc", 2));
     assert!(rt; taker.kept() == b"ab".as_slice());
-    assert!(rt; matches!(taker.write(b"cd"), Ok(1)));
-    assert!(rt; matches!(taker.write(b"d"), Ok(0)));
+    assert!(rt; keeps_of(&mut taker, b"cd", 1));
+    assert!(rt; keeps_of(&mut taker, b"d", 0));
     assert!(rt; taker.kept() == b"abc".as_slice());
+}
+
+/// How an empty reader fails.
+fn read_fault(after: After) -> Option<ErrorKind>
+    requires { after ≢ After.Repeats }
+{
+    let mut room = [0u8; 4];
+    let read = Feeder::new(b"", 1, after).read(&mut room);
+    read.err().map(|e| e.kind())
+}
+
+/// How a writer with no room fails.
+fn write_fault(after: After) -> Option<ErrorKind>
+    requires { after ≢ After.Repeats }
+{
+    let written = Taker::new(0, 1, after).write(b"a");
+    written.err().map(|e| e.kind())
 }
 
 #[test]
 fn devices_fail_by_their_kinds(rt: HostRuntime) {
+    assert!(rt; same(read_fault(After::Fails), Some(ErrorKind::Other)));
+    assert!(rt; same(write_fault(After::Fails), Some(ErrorKind::Other)));
+    assert!(rt; same(read_fault(After::Interrupted), Some(ErrorKind::Interrupted)));
+    assert!(rt;
+        same(
+            write_fault(After::Interrupted),
+            Some(ErrorKind::Interrupted)
+        )
+    );
+}
+
+/// Whether a call of a reader fails.
+fn fails_to_give<R: Source>(reader: &mut R, room: &mut [u8; 4]) -> bool {
+    reader.read(room).is_err()
+}
+
+/// Whether a reader that fails once after two octets gives the others at the next call.
+fn gives_on(fault: After) -> bool
+    requires { fault ≢ After.Repeats }
+{
     let mut room = [0u8; 4];
-    for (after, kind) in [
-        (After::Fails, ErrorKind::Other),
-        (After::Interrupted, ErrorKind::Interrupted),
-    ] {
-        let read = Feeder::new(b"", 1, after).read(&mut room);
-        assert!(rt; same(read.err().map(|e| e.kind()), Some(kind)));
-        let written = Taker::new(0, 1, after).write(b"a");
-        assert!(rt; same(written.err().map(|e| e.kind()), Some(kind)));
-    }
+    let feeder = Feeder::new(b"abcd", 4, After::End);
+    let mut reader = Counted::new(FailsOnce::new(feeder, 2, fault));
+    gives(&mut reader, &mut room, 2)
+        && fails_to_give(&mut reader, &mut room)
+        && gives(&mut reader, &mut room, 2)
+        && room.as_slice() == b"cd\0\0".as_slice()
+        && gives(&mut reader, &mut room, 0)
+        && same(reader.into_inner().into_inner().given(), 4)
 }
 
 // A reader in a `Counted` that tried the failed call again, without a word, would answer `Ok(2)` at it.
 #[test]
 fn a_failed_read_is_answered_and_not_tried_again(rt: HostRuntime) {
-    let mut room = [0u8; 4];
-    for fault in [After::Fails, After::Interrupted] {
-        let feeder = Feeder::new(b"abcd", 4, After::End);
-        let mut reader = Counted::new(FailsOnce::new(feeder, 2, fault));
-        assert!(rt; matches!(reader.read(&mut room), Ok(2)));
-        assert!(rt; reader.read(&mut room).is_err());
-        assert!(rt; matches!(reader.read(&mut room), Ok(2)));
-        assert!(rt; room.as_slice() == b"cd\0\0".as_slice());
-        assert!(rt; matches!(reader.read(&mut room), Ok(0)));
-        assert!(rt; same(reader.into_inner().into_inner().given(), 4));
-    }
+    assert!(rt; gives_on(After::Fails));
+    assert!(rt; gives_on(After::Interrupted));
+}
+
+/// Whether a call of a writer fails.
+fn fails_to_take<W: Sink>(writer: &mut W, octets: &[u8]) -> bool {
+    writer.write(octets).is_err()
+}
+
+/// Whether a writer that fails once after two octets takes those of the next call.
+fn takes_on(fault: After) -> bool
+    requires { fault ≢ After.Repeats }
+{
+    let mut writer = Counted::new(FailsOnce::new(Taker::new(8, 8, After::End), 2, fault));
+    takes(&mut writer, b"abcd", 2)
+        && fails_to_take(&mut writer, b"cd")
+        && takes(&mut writer, b"ef", 2)
+        && keeps_below(writer, b"abef")
 }
 
 // A writer in a `Counted` that tried the failed call again would keep "cd" at it.
 #[test]
 fn a_failed_write_is_answered_and_not_tried_again(rt: HostRuntime) {
-    for fault in [After::Fails, After::Interrupted] {
-        let mut writer = Counted::new(FailsOnce::new(Taker::new(8, 8, After::End), 2, fault));
-        assert!(rt; matches!(writer.write(b"abcd"), Ok(2)));
-        assert!(rt; writer.write(b"cd").is_err());
-        assert!(rt; matches!(writer.write(b"ef"), Ok(2)));
-        assert!(rt; writer.into_inner().into_inner().kept() == b"abef".as_slice());
-    }
+    assert!(rt; takes_on(After::Fails));
+    assert!(rt; takes_on(After::Interrupted));
+}
+
+/// Whether a writer that fails once after so many octets stops there, and keeps these in the end.
+fn stops_once(fault: After, failing: usize, kept: &[u8]) -> bool
+    requires { fault ≢ After.Repeats }
+{
+    let mut writer = Counted::new(FailsOnce::new(Taker::new(8, 4, After::End), failing, fault));
+    let stop = WriteFault { written: failing };
+    same(written(&mut writer, b"00A404"), Err(stop))
+        && same(written(&mut writer, b"FF"), Ok(()))
+        && keeps_below(writer, kept)
 }
 
 // A `write_octets`, or a `Counted` below it, that tried the failed call again would write all six octets
@@ -123,41 +214,60 @@ fn a_failed_write_is_answered_and_not_tried_again(rt: HostRuntime) {
 fn writes_no_more_after_a_call_that_failed(rt: HostRuntime) {
     const ROWS: [After; 3] = [After::End, After::Fails, After::Interrupted];
     for &fault in &ROWS {
-        const MORE: [(usize, &str); 4] = [(0, "FF"), (1, "0FF"), (4, "00A4FF"), (5, "00A40FF")];
-        for &(written, kept) in &MORE {
-            let taker = Taker::new(8, 4, After::End);
-            let mut writer = Counted::new(FailsOnce::new(taker, written, fault));
-            assert!(rt;
-                same(
-                    write_octets(&mut writer, b"00A404"),
-                    Err(WriteFault { written })
-                )
-            );
-            assert!(rt; same(write_octets(&mut writer, b"FF"), Ok(())));
-            assert!(rt; writer.into_inner().into_inner().kept() == kept.as_bytes());
-        }
+        assert!(rt; stops_once(fault, 0, b"FF"));
+        assert!(rt; stops_once(fault, 1, b"0FF"));
+        assert!(rt; stops_once(fault, 4, b"00A4FF"));
+        assert!(rt; stops_once(fault, 5, b"00A40FF"));
+    }
+}
+
+/// Whether a text spells these octets.
+fn spells(alloc: Global, text: &str, octets: &[u8]) -> bool {
+    match octets_of(alloc, text) {
+        Ok(found) => found.as_slice() == octets,
+        Err(_) => false,
+    }
+}
+
+/// Whether octets are written as this text.
+fn is_written(alloc: Global, octets: &[u8], text: &str) -> bool {
+    match hex_upper(alloc, octets) {
+        Ok(found) => found.as_str() == text,
+        Err(_) => false,
     }
 }
 
 #[test]
-fn hexadecimal_with_ample_memory(rt: HostRuntime) -> Result<(), Fail> {
-    assert!(rt; octets_of(rt.alloc(), "00a4")?.as_slice() == [0x00, 0xA4].as_slice());
-    assert!(rt; octets_of(rt.alloc(), "")?.is_empty());
-    assert!(rt; same(hex_upper(rt.alloc(), &[0x00, 0xA4])?.as_str(), "00A4"));
-    assert!(rt; same(hex_upper(rt.alloc(), &[])?.as_str(), ""));
-    Ok(())
+fn hexadecimal_with_ample_memory(rt: HostRuntime) {
+    assert!(rt; spells(rt.alloc(), "00a4", &[0x00, 0xA4]));
+    assert!(rt; spells(rt.alloc(), "", &[]));
+    assert!(rt; is_written(rt.alloc(), &[0x00, 0xA4], "00A4"));
+    assert!(rt; is_written(rt.alloc(), &[], ""));
+}
+
+/// The octets of a text.
+fn octets(rt: &impl Abort, alloc: Global, text: &str) -> Octets {
+    Octets::of(octets_of(alloc, text).expect(rt, "octets"))
+}
+
+/// The text of an octet.
+fn as_text(rt: &impl Abort, alloc: Global, octet: u8) -> Text {
+    Text::of(hex_upper(alloc, &[octet]).expect(rt, "a text"))
 }
 
 #[test]
-fn lists_are_lent_and_given_back(rt: HostRuntime) -> Result<(), Fail> {
-    let octets = Octets::of(octets_of(rt.alloc(), "A4")?);
-    assert!(rt; octets.get() == [0xA4].as_slice());
-    assert!(rt; octets == Octets::of(octets_of(rt.alloc(), "a4")?));
-    assert!(rt; octets != Octets::of(octets_of(rt.alloc(), "a5")?));
-    assert!(rt; same(octets.into_inner().len(), 1));
-    let text = Text::of(hex_upper(rt.alloc(), &[0xA4])?);
+fn lists_are_lent_and_given_back(rt: HostRuntime) {
+    let list = octets(&rt, rt.alloc(), "A4");
+    assert!(rt; list.get() == [0xA4].as_slice());
+    assert!(rt; list == octets(&rt, rt.alloc(), "a4"));
+    assert!(rt; list != octets(&rt, rt.alloc(), "a5"));
+    assert!(rt; same(list.into_inner().len(), 1));
+}
+
+#[test]
+fn texts_are_lent_and_given_back(rt: HostRuntime) {
+    let text = as_text(&rt, rt.alloc(), 0xA4);
     assert!(rt; same(text.get(), "A4"));
-    assert!(rt; text == Text::of(hex_upper(rt.alloc(), &[0xA4])?));
+    assert!(rt; text == as_text(&rt, rt.alloc(), 0xA4));
     assert!(rt; same(text.into_inner().as_str(), "A4"));
-    Ok(())
 }

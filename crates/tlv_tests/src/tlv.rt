@@ -1,16 +1,15 @@
 //! What no clause says, and each call once with ample memory. The verdicts on octets are in the folder `vectors`.
 
 use as_value::{
-    forest, improper, in_hex, list, list_spelling, made, nested, one, primitive, spelled, tag,
-    tidied,
+    come_back, deep, forest, list, lists, made, nested, octets, one, primitive, spells, tag,
 };
-use octet_core::{Octets, Refused, Stop};
-use std::alloc::{AllocFailed, Global};
-use std::test::Fail;
-use testing::{of_hex, same};
+use octet_core::{Refused, Stop};
+use std::alloc::Global;
+use std::process::Abort;
+use testing::same;
 use tlv_core::{
     Dol, FlatForest, Forest, ForestCheck, Form, Improper, Node, Nodes, Tag, TlvReason, decode,
-    first,
+    first, tidy,
 };
 
 mod as_value;
@@ -38,97 +37,112 @@ fn octets_that_are_no_tag(rt: HostRuntime) {
     }
 }
 
-/// Tags, whether their objects are constructed, and their octets filled up to three.
-const TAGS: [(&str, bool, [u8; 3]); 5] = [
-    ("5A", false, [0x5A, 0x00, 0x00]),
-    ("6F", true, [0x6F, 0x00, 0x00]),
-    ("9F02", false, [0x9F, 0x02, 0x00]),
-    ("BF0C", true, [0xBF, 0x0C, 0x00]),
-    ("DF8101", false, [0xDF, 0x81, 0x01]),
+/// How many octets tags have, whether their objects are constructed, and their octets filled up to three.
+const TAGS: [(usize, bool, [u8; 3]); 5] = [
+    (1, false, [0x5A, 0x00, 0x00]),
+    (1, true, [0x6F, 0x00, 0x00]),
+    (2, false, [0x9F, 0x02, 0x00]),
+    (2, true, [0xBF, 0x0C, 0x00]),
+    (3, false, [0xDF, 0x81, 0x01]),
 ];
 
-#[test]
-fn tags_are_whole(rt: HostRuntime) -> Result<(), Fail> {
-    for &(text, constructed, padded) in &TAGS {
-        let tag = tag(&rt, text)?;
-        assert!(rt; same(tag.is_constructed(), constructed), "{text}");
-        assert!(rt; same(tag.padded(), padded), "{text}");
-        assert!(rt; same(in_hex(rt.alloc(), tag.octets())?.as_str(), text));
+/// Whether octets are a tag that is constructed or not, and is filled up so.
+fn is_whole(octets: &[u8], constructed: bool, padded: [u8; 3]) -> bool {
+    match Tag::new(octets) {
+        Some(tag) => {
+            same(tag.is_constructed(), constructed)
+                && same(tag.padded(), padded)
+                && same(tag.octets(), octets)
+        }
+        None => false,
     }
-    let short = tag(&rt, "5A")?;
-    let long = tag(&rt, "9F5A")?;
-    assert!(rt; same(short, tag(&rt, "5A")?));
-    assert!(rt; !same(short, long));
-    Ok(())
+}
+
+#[test]
+fn tags_are_whole(rt: HostRuntime) {
+    for (count, constructed, padded) in &TAGS {
+        let octets = padded.get(..*count).unwrap_or(&[]);
+        assert!(rt; is_whole(octets, *constructed, *padded), "{octets:?}");
+    }
+}
+
+#[test]
+fn tags_are_told_apart(rt: HostRuntime) {
+    let short = tag(&rt, &[0x5A]);
+    assert!(rt; same(short, tag(&rt, &[0x5A])));
+    assert!(rt; !same(short, tag(&rt, &[0x9F, 0x5A])));
 }
 
 /// Two fillers and two nodes.
-fn behind_fillers(alloc: Global, one: Node, other: Node) -> Result<Nodes, AllocFailed<[Node; 4]>> {
-    let nodes = Vec::from_array(alloc, [Node::Filler, Node::Filler, one, other])?;
-    Ok(Nodes::of(nodes))
+fn behind_fillers(rt: &impl Abort, alloc: Global, one: Node, other: Node) -> Nodes {
+    let nodes = Vec::from_array(alloc, [Node::Filler, Node::Filler, one, other]);
+    Nodes::of(nodes.ok().expect(rt, "a list"))
 }
 
 /// A forest with fillers and forms that are longer than needed.
-fn untidy(rt: &HostRuntime) -> Result<Forest, Fail> {
-    let value = primitive(rt, "5A", Form::Two, "12")?;
-    let inner = primitive(rt, "5A", Form::Three, "")?;
-    let outer = nested(rt, "70", Form::Two, inner)?;
-    made(behind_fillers(rt.alloc(), value, outer)?)
+fn untidy(rt: &impl Abort, alloc: Global) -> Forest {
+    let inner = tag(rt, &[0x5A]);
+    let value = primitive(rt, alloc, inner, Form::Two, 1);
+    let empty = primitive(rt, alloc, inner, Form::Three, 0);
+    let outer = nested(rt, alloc, tag(rt, &[0x70]), Form::Two, empty);
+    made(rt, behind_fillers(rt, alloc, value, outer))
 }
 
-#[test]
-fn forests_are_written_and_tidied(rt: HostRuntime) -> Result<(), Fail> {
-    let forest = untidy(&rt)?;
-    assert!(rt; same(forest.nodes().get().len(), 4));
-    let octets = spelled(rt.alloc(), &forest)?;
-    assert!(rt; same(octets.as_str(), "00005A8101127081045A820000"));
-    let tidied = tidied(rt.alloc(), &forest)?;
-    let octets = spelled(rt.alloc(), &tidied)?;
-    assert!(rt; same(octets.as_str(), "5A011270025A00"));
-    Ok(())
-}
-
-#[test]
-fn improper_lists_come_back(rt: HostRuntime) -> Result<(), Fail> {
-    let wrong = primitive(&rt, "6F", Form::One, "")?;
-    assert!(rt; same(improper(one(&rt, wrong)?)?, (1, Improper::Tag)));
-    let long = Node::Primitive {
-        tag: tag(&rt, "5A")?,
-        form: Form::One,
-        value: Octets::of(vec![in rt.alloc(); 0u8; 128]?),
-    };
-    assert!(rt; same(improper(one(&rt, long)?)?, (1, Improper::Form)));
-    let deep = deep(&rt)?;
-    assert!(rt; same(improper(one(&rt, deep)?)?, (1, Improper::Depth)));
-    Ok(())
-}
-
-/// An object at depth 18 and those that it is in.
-fn deep(rt: &HostRuntime) -> Result<Node, Fail> {
-    let mut node = primitive(rt, "5A", Form::One, "")?;
-    for _ in 0..17_u32 {
-        node = nested(rt, "70", Form::One, node)?;
+/// Whether the tidied forest is written in the octets of this text.
+fn tidies(alloc: Global, forest: &Forest, text: &str) -> bool {
+    match tidy(alloc, forest) {
+        Ok(tidied) => spells(alloc, &tidied, text),
+        Err(_) => false,
     }
-    Ok(node)
 }
 
 #[test]
-fn lists_are_read_and_written(rt: HostRuntime) -> Result<(), Fail> {
-    let octets = of_hex(rt.alloc(), "9F02065F2A029A03")?;
-    let dol = list(rt.alloc(), octets.as_slice())?;
+fn forests_are_written_and_tidied(rt: HostRuntime) {
+    let forest = untidy(&rt, rt.alloc());
+    assert!(rt; same(forest.nodes().get().len(), 4));
+    assert!(rt; spells(rt.alloc(), &forest, "00005A8101127081045A820000"));
+    assert!(rt; tidies(rt.alloc(), &forest, "5A011270025A00"));
+}
+
+/// Whether a list of one node comes back for this reason.
+fn comes_back(rt: &impl Abort, alloc: Global, node: Node, why: Improper) -> bool {
+    come_back(one(rt, alloc, node), 1, why)
+}
+
+#[test]
+fn improper_lists_come_back(rt: HostRuntime) {
+    let alloc = rt.alloc();
+    let wrong = primitive(&rt, alloc, tag(&rt, &[0x6F]), Form::One, 0);
+    assert!(rt; comes_back(&rt, alloc, wrong, Improper::Tag));
+    let long = primitive(&rt, alloc, tag(&rt, &[0x5A]), Form::One, 128);
+    assert!(rt; comes_back(&rt, alloc, long, Improper::Form));
+}
+
+#[test]
+fn objects_at_depth_18_come_back(rt: HostRuntime) {
+    let innermost = primitive(&rt, rt.alloc(), tag(&rt, &[0x5A]), Form::One, 0);
+    let deep = deep(&rt, rt.alloc(), Form::One, innermost, 17);
+    assert!(rt; comes_back(&rt, rt.alloc(), deep, Improper::Depth));
+}
+
+#[test]
+fn lists_are_read_and_written(rt: HostRuntime) {
+    let octets = [0x9F, 0x02, 0x06, 0x5F, 0x2A, 0x02, 0x9A, 0x03];
+    let dol = list(&rt, rt.alloc(), &octets);
     assert!(rt; same(dol.entries().len(), 3));
-    let spelling = list_spelling(rt.alloc(), &dol)?;
-    assert!(rt; spelling.as_slice() == octets.as_slice());
-    let dol = one_entry(&rt)?;
-    let spelling = list_spelling(rt.alloc(), &dol)?;
-    assert!(rt; spelling.as_slice() == [0x9A, 0x03].as_slice());
-    Ok(())
+    assert!(rt; lists(rt.alloc(), &dol, &octets));
 }
 
 /// A list with one entry.
-fn one_entry(rt: &HostRuntime) -> Result<Dol, Fail> {
-    let tag = tag(rt, "9A")?;
-    Ok(Dol::of(Vec::from_array(rt.alloc(), [(tag, 3_u8)])?))
+fn one_entry(rt: &impl Abort, alloc: Global) -> Dol {
+    let entries = Vec::from_array(alloc, [(tag(rt, &[0x9A]), 3_u8)]);
+    Dol::of(entries.ok().expect(rt, "a list"))
+}
+
+#[test]
+fn lists_of_one_entry_are_written(rt: HostRuntime) {
+    let dol = one_entry(&rt, rt.alloc());
+    assert!(rt; lists(rt.alloc(), &dol, &[0x9A, 0x03]));
 }
 
 /// Whether a node is an object with one object inside, in the short form.
@@ -145,16 +159,30 @@ fn has_one_inside(node: Option<&Node>) -> bool {
     }
 }
 
+/// Whether the object at a path is there, and has one inside.
+fn finds_one(forest: &Forest, path: &[Tag]) -> bool {
+    has_one_inside(first(forest, path))
+}
+
+/// Whether no object is at a path.
+fn finds_none(forest: &Forest, path: &[Tag]) -> bool {
+    first(forest, path).is_none()
+}
+
+/// A forest with an object A5 in an object 6F, and an object BF0C in that.
+fn template(rt: &impl Abort, alloc: Global) -> Forest {
+    let octets = octets(rt, alloc, "6F108407A0000000041010A505BF0C025000");
+    forest(rt, alloc, octets.as_slice())
+}
+
 #[test]
-fn objects_are_found_by_their_path(rt: HostRuntime) -> Result<(), Fail> {
-    let octets = of_hex(rt.alloc(), "6F108407A0000000041010A505BF0C025000")?;
-    let forest = forest(rt.alloc(), octets.as_slice())?;
-    let inner = tag(&rt, "A5")?;
-    let path = [tag(&rt, "6F")?, inner, tag(&rt, "BF0C")?];
-    assert!(rt; has_one_inside(first(&forest, &path)));
-    assert!(rt; first(&forest, &[]).is_none());
-    assert!(rt; first(&forest, &[inner]).is_none());
-    Ok(())
+fn objects_are_found_by_their_path(rt: HostRuntime) {
+    let inner = tag(&rt, &[0xA5]);
+    let path = [tag(&rt, &[0x6F]), inner, tag(&rt, &[0xBF, 0x0C])];
+    let forest = template(&rt, rt.alloc());
+    assert!(rt; finds_one(&forest, &path));
+    assert!(rt; finds_none(&forest, &[]));
+    assert!(rt; finds_none(&forest, &[inner]));
 }
 
 /// Octets of a value with the limit's length and with one more, and where they stop.

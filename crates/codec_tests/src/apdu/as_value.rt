@@ -5,36 +5,37 @@ ghost use Rattle.std.specs.Prelude.{◌≤◌};
 
 use apdu_core::{
     Body, Command, CommandReason, CommandRef, ReceiveFault, Response, ResponseReason, ResponseRef,
-    decode_command, decode_response, encode_command, encode_response, receive_command,
-    receive_response,
+    decode_response, encode_command, encode_response, receive_command, receive_response,
 };
 use block_core::Number;
-use octet_core::{After, Counted, Feeder, Octets, Source};
+use octet_core::{After, Counted, Feeder, Octets, Source, Taker};
 use std::alloc::Global;
-use std::test::Fail;
+use std::process::Abort;
+use testing::of_hex;
 
-/// The command of these octets.
-pub(super) fn command(alloc: Global, octets: &[u8]) -> Result<Command, Fail> {
-    match decode_command(alloc, octets) {
-        Ok(command) => Ok(command),
-        Err(_) => Err("a command")?,
-    }
+/// The octets of a hexadecimal text.
+pub(super) fn octets(rt: &impl Abort, alloc: Global, text: &str) -> Vec<u8> {
+    of_hex(alloc, text).expect(rt, "octets")
+}
+
+/// A copy of octets.
+pub(super) fn copied(rt: &impl Abort, alloc: Global, octets: &[u8]) -> Octets {
+    Octets::of(Vec::from_slice(alloc, octets).expect(rt, "octets"))
+}
+
+/// So many octets, all zero.
+pub(super) fn zeros(rt: &impl Abort, alloc: Global, count: usize) -> Vec<u8> {
+    vec![in alloc; 0u8; count].expect(rt, "octets")
 }
 
 /// The command of these octets, which lends its data field.
-pub(super) fn command_lent(octets: &[u8]) -> Result<CommandRef<'_>, Fail> {
-    match CommandRef::decode(octets) {
-        Ok(command) => Ok(command),
-        Err(_) => Err("a command")?,
-    }
+pub(super) fn command_lent<'a>(rt: &impl Abort, octets: &'a [u8]) -> CommandRef<'a> {
+    CommandRef::decode(octets).ok().expect(rt, "a command")
 }
 
 /// The command of this header and body.
-pub(super) fn command_of(header: [u8; 4], body: Body) -> Result<Command, Fail> {
-    match Command::new(header, body) {
-        Ok(command) => Ok(command),
-        Err(_) => Err("a body")?,
-    }
+pub(super) fn command_of(rt: &impl Abort, header: [u8; 4], body: Body) -> Command {
+    Command::new(header, body).ok().expect(rt, "a body")
 }
 
 /// The command that a reader gives in blocks.
@@ -78,28 +79,31 @@ pub(super) fn reader_of(octets: &[u8], step: usize) -> Counted<Feeder<'_>>
     Counted::new(Feeder::new(octets, step, After::End))
 }
 
+/// A writer that takes seven octets by a call.
+pub(super) fn writer() -> Counted<Taker> {
+    Counted::new(Taker::new(4096, 7, After::Fails))
+}
+
+/// Whether a writer keeps these octets.
+pub(super) fn keeps(writer: Counted<Taker>, octets: &[u8]) -> bool {
+    writer.into_inner().kept() == octets
+}
+
 /// The response of these octets.
-pub(super) fn response(alloc: Global, octets: &[u8]) -> Result<Response, Fail> {
-    match decode_response(alloc, octets) {
-        Ok(response) => Ok(response),
-        Err(_) => Err("a response")?,
-    }
+pub(super) fn response(rt: &impl Abort, alloc: Global, octets: &[u8]) -> Response {
+    decode_response(alloc, octets).ok().expect(rt, "a response")
 }
 
 /// The response of these octets, which lends its data field.
-pub(super) fn response_lent(octets: &[u8]) -> Result<ResponseRef<'_>, Fail> {
-    match ResponseRef::decode(octets) {
-        Ok(response) => Ok(response),
-        Err(_) => Err("a response")?,
-    }
+pub(super) fn response_lent<'a>(rt: &impl Abort, octets: &'a [u8]) -> ResponseRef<'a> {
+    ResponseRef::decode(octets).ok().expect(rt, "a response")
 }
 
 /// The response of this data field and this status word.
-pub(super) fn response_of(part: Octets, sw1: u8, sw2: u8) -> Result<Response, Fail> {
-    match Response::new(part, sw1, sw2) {
-        Ok(response) => Ok(response),
-        Err(_) => Err("a data field")?,
-    }
+pub(super) fn response_of(rt: &impl Abort, part: Octets, sw1: u8, sw2: u8) -> Response {
+    Response::new(part, sw1, sw2)
+        .ok()
+        .expect(rt, "a data field")
 }
 
 /// The response that a reader gives in blocks.

@@ -1,12 +1,12 @@
 //! What is printed of reasons and faults, and of values that may hold a message.
 
-use super::as_value::{command_lent, command_of, response_lent, response_of};
+use super::as_value::{command_lent, command_of, copied, response_lent, response_of};
+use crate::helpers::is_named;
 use apdu_core::{Body, CommandReason, ReceiveFault, ResponseReason, SendFault};
 use chain_core::ChainReason;
-use octet_core::{Named, Octets, Stop};
+use octet_core::Stop;
 use std::alloc::Global;
-use std::test::Fail;
-use testing::{debugs, same, shows};
+use testing::{debugs, shows};
 
 const CHAIN: Stop<ChainReason> = Stop::At {
     place: 3,
@@ -24,11 +24,8 @@ fn received(alloc: Global, fault: ReceiveFault<CommandReason>, wanted: &str) -> 
 
 #[test]
 fn reasons_are_named(rt: HostRuntime) {
-    let alloc = rt.alloc();
-    assert!(rt; same(CommandReason::Trailing.name(), "Trailing"));
-    assert!(rt; shows(alloc, &CommandReason::Trailing, "Trailing"));
-    assert!(rt; same(ResponseReason::TooLong.name(), "TooLong"));
-    assert!(rt; shows(alloc, &ResponseReason::TooLong, "TooLong"));
+    assert!(rt; is_named(rt.alloc(), CommandReason::Trailing, "Trailing"));
+    assert!(rt; is_named(rt.alloc(), ResponseReason::TooLong, "TooLong"));
 }
 
 #[test]
@@ -70,29 +67,21 @@ fn faults_are_printed(rt: HostRuntime) {
 const VERIFY: [u8; 9] = [0x00, 0x20, 0x00, 0x80, 0x04, 0x31, 0x32, 0x33, 0x34];
 
 #[test]
-fn debug_shows_no_octet(rt: HostRuntime) -> Result<(), Fail> {
-    let alloc = rt.alloc();
+fn debug_of_a_command_shows_no_octet(rt: HostRuntime) {
     let seen = "CommandRef { shape: ShortPart, part_octets: 4, le: None }";
-    assert!(rt; debugs(alloc, &command_lent(&VERIFY)?, seen));
-    let part = Octets::of(Vec::from_slice(alloc, &VERIFY[5..])?);
-    let command = command_of([0x00, 0x20, 0x00, 0x80], Body::ShortPart { part })?;
+    assert!(rt; debugs(rt.alloc(), &command_lent(&rt, &VERIFY), seen));
+    let part = copied(&rt, rt.alloc(), &[0x31, 0x32, 0x33, 0x34]);
+    let command = command_of(&rt, [0x00, 0x20, 0x00, 0x80], Body::ShortPart { part });
     let seen = "Command { body: ShortPart { part: Octets { octets: 4 } } }";
-    assert!(rt; debugs(alloc, &command, seen));
-    assert!(rt; responses_show_no_octet(alloc)?);
-    Ok(())
+    assert!(rt; debugs(rt.alloc(), &command, seen));
 }
 
-/// Whether a response shows no octet, lent and with memory of its own.
-fn responses_show_no_octet(alloc: Global) -> Result<bool, Fail> {
-    let lent = response_lent(&[0x12, 0x34, 0x63, 0xC2])?;
-    let part = Octets::of(Vec::from_slice(alloc, &[0x12])?);
-    let response = response_of(part, 0x90, 0x00)?;
+#[test]
+fn debug_of_a_response_shows_no_octet(rt: HostRuntime) {
+    let lent = response_lent(&rt, &[0x12, 0x34, 0x63, 0xC2]);
+    let seen = "ResponseRef { part_octets: 2, status: Warning }";
+    assert!(rt; debugs(rt.alloc(), &lent, seen));
+    let response = response_of(&rt, copied(&rt, rt.alloc(), &[0x12]), 0x90, 0x00);
     let seen = "Response { part_octets: 1, status: Normal }";
-    Ok(
-        debugs(
-            alloc,
-            &lent,
-            "ResponseRef { part_octets: 2, status: Warning }",
-        ) && debugs(alloc, &response, seen),
-    )
+    assert!(rt; debugs(rt.alloc(), &response, seen));
 }

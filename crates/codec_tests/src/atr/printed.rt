@@ -1,8 +1,8 @@
 //! What is printed of reasons and faults, and of values that may hold a message.
 
+use crate::helpers::is_named;
 use atr_core::{AtrReader, AtrReason, ParamFault};
-use octet_core::Named;
-use testing::{debugs, same, shows};
+use testing::{debugs, same};
 
 const REASONS: [(AtrReason, &str); 3] = [
     (AtrReason::BadTs, "BadTs"),
@@ -18,17 +18,15 @@ const FAULTS: [(ParamFault, &str); 3] = [
 
 #[test]
 fn reasons_are_named(rt: HostRuntime) {
-    for (reason, name) in REASONS {
-        assert!(rt; same(reason.name(), name));
-        assert!(rt; shows(rt.alloc(), &reason, name));
+    for &(reason, name) in &REASONS {
+        assert!(rt; is_named(rt.alloc(), reason, name));
     }
 }
 
 #[test]
 fn faults_are_named(rt: HostRuntime) {
-    for (fault, name) in FAULTS {
-        assert!(rt; same(fault.name(), name));
-        assert!(rt; shows(rt.alloc(), &fault, name));
+    for &(fault, name) in &FAULTS {
+        assert!(rt; is_named(rt.alloc(), fault, name));
     }
 }
 

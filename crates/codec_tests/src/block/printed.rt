@@ -1,8 +1,9 @@
 //! What is printed of reasons and faults, and of values that may hold a message.
 
+use crate::helpers::is_named;
 use block_core::{Block, BlockReader, BlockReason, BlockRef, Number, encode};
-use octet_core::Named;
-use testing::{debugs, same, shows};
+use std::alloc::Global;
+use testing::{debugs, same};
 
 const REASONS: [(BlockReason, &str); 5] = [
     (BlockReason::BadPcb, "BadPcb"),
@@ -14,9 +15,8 @@ const REASONS: [(BlockReason, &str); 5] = [
 
 #[test]
 fn reasons_are_named(rt: HostRuntime) {
-    for (reason, name) in REASONS {
-        assert!(rt; same(reason.name(), name));
-        assert!(rt; shows(rt.alloc(), &reason, name));
+    for &(reason, name) in &REASONS {
+        assert!(rt; is_named(rt.alloc(), reason, name));
     }
 }
 
@@ -25,26 +25,30 @@ const FIELD: [u8; 5] = [0x00, 0x20, 0x00, 0x80, 0x12];
 /// The first six octets of an I-block with this field.
 const FRONT: [u8; 6] = [0x00, 0x60, 0x05, 0x00, 0x20, 0x00];
 
+/// Whether this is printed of a block, and of one that lends its field.
+fn blocks_debug(alloc: Global, block: &Block, lent: &BlockRef<'_>) -> bool {
+    let seen = "Block { nad: 0, pcb: Info { number: One, more: true }, inf_octets: 5 }";
+    let of_lent = "BlockRef { nad: 0, pcb: Info { number: One, more: true }, inf_octets: 5 }";
+    debugs(alloc, block, seen) && debugs(alloc, lent, of_lent)
+}
+
+/// Whether blocks with this field show no octet of it.
+fn hide(alloc: Global, inf: &[u8]) -> bool {
+    let Some(block) = Block::info(0, Number::One, true, inf) else {
+        return false;
+    };
+    match BlockRef::decode(encode(&block).as_slice(), 254) {
+        Ok((lent, _)) => blocks_debug(alloc, &block, &lent),
+        Err(_) => false,
+    }
+}
+
 #[test]
 fn debug_shows_no_octet(rt: HostRuntime) {
-    let alloc = rt.alloc();
-    let Some(block) = Block::info(0, Number::One, true, &FIELD) else {
-        assert!(rt; false);
-        return;
-    };
-    let seen = "Block { nad: 0, pcb: Info { number: One, more: true }, inf_octets: 5 }";
-    assert!(rt; debugs(alloc, &block, seen));
-    let octets = encode(&block);
+    assert!(rt; hide(rt.alloc(), &FIELD));
     let mut reader = BlockReader::new(254);
     assert!(rt; same(reader.feed(&FRONT), Ok((6, false))));
     let seen = "BlockReader { ifs: 254, taken: 6, \
         stage: Rest { pcb: Info { number: One, more: true }, end: 8 } }";
-    assert!(rt; debugs(alloc, &reader, seen));
-    match BlockRef::decode(octets.as_slice(), 254) {
-        Ok((lent, _)) => {
-            let seen = "BlockRef { nad: 0, pcb: Info { number: One, more: true }, inf_octets: 5 }";
-            assert!(rt; debugs(alloc, &lent, seen));
-        }
-        Err(_) => assert!(rt; false),
-    }
+    assert!(rt; debugs(rt.alloc(), &reader, seen));
 }

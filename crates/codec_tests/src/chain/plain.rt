@@ -1,16 +1,38 @@
 //! The calls that the tests make, without a contract: the checker of a test then carries nothing of theirs.
 
+ghost use Rattle.std.specs.Prelude.{◌≤◌};
+
 use super::SELECT;
 use block_core::Number;
 use chain_core::{ChainReason, ReadRefusal, Receiver, ReceiverPlaces, read_chain, write_chain};
 use octet_core::{Sink, Source, Stop, WriteFault};
+use std::alloc::Global;
+use std::process::Abort;
+use testing::same;
 
-/// What a receiver answers to these octets.
-pub(super) fn feed(
-    receiver: &mut Receiver,
-    octets: &[u8],
-) -> Result<(usize, bool), Stop<ChainReason>> {
-    receiver.feed(octets)
+/// What a receiver answers to octets.
+pub(super) type Fed = Result<(usize, bool), Stop<ChainReason>>;
+
+/// A receiver of blocks of two octets, and of a message with at most so many.
+pub(super) fn receiver(rt: &impl Abort, alloc: Global, max: usize) -> Receiver
+    requires { max ≤ 5 }
+{
+    Receiver::new(alloc, 2, Number::Zero, max).expect(rt, "a receiver")
+}
+
+/// Whether a receiver answers so to these octets.
+pub(super) fn feeds(receiver: &mut Receiver, octets: &[u8], wanted: Fed) -> bool {
+    same(receiver.feed(octets), wanted)
+}
+
+/// Whether a receiver says so when no more octets come.
+pub(super) fn ends(receiver: &Receiver, wanted: Result<(), Stop<ChainReason>>) -> bool {
+    same(receiver.finish(), wanted)
+}
+
+/// Whether a receiver took so many blocks, and has no message.
+pub(super) fn lacks(receiver: &Receiver, blocks: u32) -> bool {
+    same(receiver.blocks(), blocks) && receiver.message().is_none()
 }
 
 /// Whether a receiver has this message.
@@ -23,7 +45,7 @@ pub(super) fn feed_lent(
     places: &mut ReceiverPlaces,
     message: &mut [u8],
     octets: &[u8],
-) -> Option<Result<(usize, bool), Stop<ChainReason>>> {
+) -> Option<Fed> {
     if !places.fit(message.len()) {
         return None;
     }

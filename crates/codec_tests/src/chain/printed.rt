@@ -1,9 +1,11 @@
 //! What is printed of reasons and faults, and of values that may hold a message.
 
+use crate::helpers::is_named;
 use block_core::Number;
 use chain_core::{ChainReason, ReadRefusal, Receiver, cut};
-use octet_core::{Named, Stop};
-use std::test::Fail;
+use octet_core::Stop;
+use std::alloc::Global;
+use std::process::Abort;
 use testing::{debugs, same, shows};
 
 const REASONS: [(ChainReason, &str); 9] = [
@@ -20,9 +22,8 @@ const REASONS: [(ChainReason, &str); 9] = [
 
 #[test]
 fn reasons_are_named(rt: HostRuntime) {
-    for (reason, name) in REASONS {
-        assert!(rt; same(reason.name(), name));
-        assert!(rt; shows(rt.alloc(), &reason, name));
+    for &(reason, name) in &REASONS {
+        assert!(rt; is_named(rt.alloc(), reason, name));
     }
 }
 
@@ -45,27 +46,22 @@ fn refusals_of_a_source_are_printed(rt: HostRuntime) {
 
 const MESSAGE: [u8; 5] = [0x00, 0x20, 0x00, 0x80, 0x12];
 
+/// A receiver that took five octets.
+fn under_way(rt: &impl Abort, alloc: Global) -> Receiver {
+    let mut receiver = Receiver::new(alloc, 2, Number::Zero, 8).expect(rt, "a receiver");
+    let fed = receiver.feed(&[0x00, 0x20, 0x02, 0x31, 0x32]);
+    assert!(rt; same(fed, Ok((5, false))));
+    receiver
+}
+
 #[test]
-fn debug_shows_no_octet(rt: HostRuntime) -> Result<(), Fail> {
-    let alloc = rt.alloc();
+fn debug_shows_no_octet(rt: HostRuntime) {
     let blocks = cut(&MESSAGE, 2, Number::Zero);
-    assert!(rt;
-        debugs(
-            alloc,
-            &blocks,
-            "Cut { octets_left: 5, ifs: 2, number: Zero }"
-        )
-    );
-    let mut receiver = Receiver::new(alloc, 2, Number::Zero, 8)?;
-    assert!(rt;
-        same(
-            receiver.feed(&[0x00, 0x20, 0x02, 0x31, 0x32]),
-            Ok((5, false))
-        )
-    );
+    let seen = "Cut { octets_left: 5, ifs: 2, number: Zero }";
+    assert!(rt; debugs(rt.alloc(), &blocks, seen));
+    let receiver = under_way(&rt, rt.alloc());
     let seen =
         "Receiver { places: ReceiverPlaces { ifs: 2, first: Zero, max: 8, blocks: 0, joined: 0, \
         part: Rest { more: true, len: 2 }, came: 2, done: false, refusal: None } }";
-    assert!(rt; debugs(alloc, &receiver, seen));
-    Ok(())
+    assert!(rt; debugs(rt.alloc(), &receiver, seen));
 }

@@ -1,118 +1,133 @@
-//! Values of the tests, and calls that tests begin with, without what their contracts say: so the checker carries
-//! nothing of these through a test.
+//! Values of the tests, and calls that tests make, without what their contracts say: so the checker carries nothing of
+//! these through a test.
 
-use octet_core::{Octets, hex_upper};
+use octet_core::Octets;
 use std::alloc::Global;
-use std::test::Fail;
-use testing::of_hex;
+use std::process::Abort;
+use testing::{of_hex, same};
 use tlv_core::{
     Dol, FlatForest, Forest, Form, Improper, LARGEST_FOREST, Node, Nodes, PlacedPart, Tag, decode,
     encode, placed_parts, tidy,
 };
 
-/// The tag of these octets.
-pub(super) fn tag(rt: &HostRuntime, text: &str) -> Result<Tag, Fail> {
-    let octets = of_hex(rt.alloc(), text)?;
-    match Tag::new(octets.as_slice()) {
-        Some(tag) => Ok(tag),
-        None => Err("a tag")?,
+/// The octets of a hexadecimal text.
+pub(super) fn octets(rt: &impl Abort, alloc: Global, text: &str) -> Vec<u8> {
+    of_hex(alloc, text).expect(rt, "octets")
+}
+
+/// Whether octets are those of a hexadecimal text.
+pub(super) fn are_octets(alloc: Global, octets: &[u8], text: &str) -> bool {
+    match of_hex(alloc, text) {
+        Ok(wanted) => wanted.as_slice() == octets,
+        Err(_) => false,
     }
 }
 
-/// A primitive object.
+/// The tag of these octets.
+pub(super) fn tag(rt: &impl Abort, octets: &[u8]) -> Tag {
+    Tag::new(octets).expect(rt, "a tag")
+}
+
+/// A primitive object whose value has so many octets 0x12.
 pub(super) fn primitive(
-    rt: &HostRuntime,
-    text: &str,
+    rt: &impl Abort,
+    alloc: Global,
+    tag: Tag,
     form: Form,
-    value: &str,
-) -> Result<Node, Fail> {
-    let tag = tag(rt, text)?;
-    let value = Octets::of(of_hex(rt.alloc(), value)?);
-    Ok(Node::Primitive { tag, form, value })
+    count: usize,
+) -> Node {
+    let value = vec![in alloc; 0x12u8; count].expect(rt, "octets");
+    Node::Primitive {
+        tag,
+        form,
+        value: Octets::of(value),
+    }
 }
 
 /// An object with one object inside.
-pub(super) fn nested(rt: &HostRuntime, text: &str, form: Form, node: Node) -> Result<Node, Fail> {
-    let nodes = one(rt, node)?;
-    let tag = tag(rt, text)?;
-    Ok(Node::Constructed { tag, form, nodes })
+pub(super) fn nested(rt: &impl Abort, alloc: Global, tag: Tag, form: Form, node: Node) -> Node {
+    let nodes = one(rt, alloc, node);
+    Node::Constructed { tag, form, nodes }
+}
+
+/// An object and so many objects around it.
+pub(super) fn deep(
+    rt: &impl Abort,
+    alloc: Global,
+    form: Form,
+    innermost: Node,
+    around: u32,
+) -> Node {
+    let outer = tag(rt, &[0x70]);
+    let mut node = innermost;
+    for _ in 0..around {
+        node = nested(rt, alloc, outer, form, node);
+    }
+    node
 }
 
 /// A list of one node.
-pub(super) fn one(rt: &HostRuntime, node: Node) -> Result<Nodes, Fail> {
-    Ok(Nodes::of(Vec::from_array(rt.alloc(), [node])?))
+pub(super) fn one(rt: &impl Abort, alloc: Global, node: Node) -> Nodes {
+    Nodes::of(Vec::from_array(alloc, [node]).ok().expect(rt, "a list"))
 }
 
 /// The forest of these nodes.
-pub(super) fn made(nodes: Nodes) -> Result<Forest, Fail> {
-    match Forest::new(nodes) {
-        Ok(forest) => Ok(forest),
-        Err(_) => Err("a forest")?,
-    }
+pub(super) fn made(rt: &impl Abort, nodes: Nodes) -> Forest {
+    Forest::new(nodes).ok().expect(rt, "a forest")
 }
 
-/// How many nodes come back, and why these are no forest.
-pub(super) fn improper(nodes: Nodes) -> Result<(usize, Improper), Fail> {
+/// Whether so many nodes come back, since these are no forest for this reason.
+pub(super) fn come_back(nodes: Nodes, count: usize, why: Improper) -> bool {
     match Forest::new(nodes) {
-        Ok(_) => Err("a refusal")?,
-        Err((nodes, improper)) => Ok((nodes.into_inner().len(), improper)),
+        Ok(_) => false,
+        Err((nodes, improper)) => same((nodes.into_inner().len(), improper), (count, why)),
     }
 }
 
 /// The forest of these octets.
-pub(super) fn forest(alloc: Global, octets: &[u8]) -> Result<Forest, Fail> {
-    match decode(alloc, octets, LARGEST_FOREST) {
-        Ok(forest) => Ok(forest),
-        Err(_) => Err("a forest")?,
-    }
+pub(super) fn forest(rt: &impl Abort, alloc: Global, octets: &[u8]) -> Forest {
+    decode(alloc, octets, LARGEST_FOREST).expect(rt, "a forest")
 }
 
 /// The parts of a forest, with their values.
-pub(super) fn flat(alloc: Global, octets: &[u8]) -> Result<FlatForest<'_>, Fail> {
-    match FlatForest::read(alloc, octets, LARGEST_FOREST) {
-        Ok(flat) => Ok(flat),
-        Err(_) => Err("a forest")?,
-    }
+pub(super) fn flat<'a>(rt: &impl Abort, alloc: Global, octets: &'a [u8]) -> FlatForest<'a> {
+    FlatForest::read(alloc, octets, LARGEST_FOREST)
+        .ok()
+        .expect(rt, "a forest")
 }
 
 /// The parts of a forest, by their places.
-pub(super) fn placed(alloc: Global, octets: &[u8]) -> Result<Vec<PlacedPart>, Fail> {
-    match placed_parts(alloc, octets, LARGEST_FOREST) {
-        Ok(placed) => Ok(placed),
-        Err(_) => Err("a forest")?,
-    }
+pub(super) fn placed(rt: &impl Abort, alloc: Global, octets: &[u8]) -> Vec<PlacedPart> {
+    placed_parts(alloc, octets, LARGEST_FOREST).expect(rt, "a forest")
 }
 
 /// The octets of a forest.
-pub(super) fn spelling(alloc: Global, forest: &Forest) -> Result<Vec<u8>, Fail> {
-    Ok(encode(alloc, forest)?)
+pub(super) fn spelling(rt: &impl Abort, alloc: Global, forest: &Forest) -> Vec<u8> {
+    encode(alloc, forest).expect(rt, "octets")
 }
 
-/// The octets of a forest in hexadecimal.
-pub(super) fn spelled(alloc: Global, forest: &Forest) -> Result<String, Fail> {
-    let octets = spelling(alloc, forest)?;
-    in_hex(alloc, octets.as_slice())
-}
-
-/// The tidied forest.
-pub(super) fn tidied(alloc: Global, forest: &Forest) -> Result<Forest, Fail> {
-    Ok(tidy(alloc, forest)?)
-}
-
-/// The data object list of these octets.
-pub(super) fn list(alloc: Global, octets: &[u8]) -> Result<Dol, Fail> {
-    match Dol::decode(alloc, octets) {
-        Ok(dol) => Ok(dol),
-        Err(_) => Err("a list")?,
+/// Whether a forest is written in the octets of this text.
+pub(super) fn spells(alloc: Global, forest: &Forest, text: &str) -> bool {
+    match encode(alloc, forest) {
+        Ok(octets) => are_octets(alloc, octets.as_slice(), text),
+        Err(_) => false,
     }
 }
 
-/// The octets of a data object list.
-pub(super) fn list_spelling(alloc: Global, dol: &Dol) -> Result<Vec<u8>, Fail> {
-    Ok(dol.encode(alloc)?)
+/// The tidied forest.
+pub(super) fn tidied(rt: &impl Abort, alloc: Global, forest: &Forest) -> Forest {
+    tidy(alloc, forest).expect(rt, "a forest")
 }
 
-/// Octets in hexadecimal.
-pub(super) fn in_hex(alloc: Global, octets: &[u8]) -> Result<String, Fail> {
-    Ok(hex_upper(alloc, octets)?)
+/// The data object list of these octets.
+pub(super) fn list(rt: &impl Abort, alloc: Global, octets: &[u8]) -> Dol {
+    Dol::decode(alloc, octets).expect(rt, "a list")
+}
+
+/// Whether a data object list is written in these octets.
+pub(super) fn lists(alloc: Global, dol: &Dol, octets: &[u8]) -> bool {
+    match dol.encode(alloc) {
+        Ok(spelling) => spelling.as_slice() == octets,
+        Err(_) => false,
+    }
 }

@@ -1,9 +1,9 @@
 //! Forests and lists of parts that are equal, and those that differ in one thing.
 
-use super::as_value::{flat, forest};
+use super::as_value::{flat, forest, octets};
 use std::alloc::Global;
-use std::test::Fail;
-use testing::{of_hex, same};
+use std::process::Abort;
+use testing::same;
 use tlv_core::{Forest, Node};
 
 /// The octets of two forests, whether the forests are equal, and whether their parts are.
@@ -24,17 +24,20 @@ const PAIRS: [(&str, &str, bool, bool); 13] = [
 ];
 
 /// Whether the parts that two lists of octets spell are equal.
-fn have_same_parts(alloc: Global, one: &[u8], other: &[u8]) -> Result<bool, Fail> {
-    let one = flat(alloc, one)?;
-    let other = flat(alloc, other)?;
-    Ok(one == other)
+fn have_same_parts(rt: &impl Abort, alloc: Global, one: &[u8], other: &[u8]) -> bool {
+    flat(rt, alloc, one) == flat(rt, alloc, other)
 }
 
 /// Whether the parts of the forests that two texts spell are equal.
-fn part_same(alloc: Global, one: &str, other: &str) -> Result<bool, Fail> {
-    let one = of_hex(alloc, one)?;
-    let other = of_hex(alloc, other)?;
-    have_same_parts(alloc, one.as_slice(), other.as_slice())
+fn part_same(rt: &impl Abort, alloc: Global, one: &str, other: &str) -> bool {
+    let one = octets(rt, alloc, one);
+    let other = octets(rt, alloc, other);
+    have_same_parts(rt, alloc, one.as_slice(), other.as_slice())
+}
+
+/// The forest that a text spells.
+fn spelled(rt: &impl Abort, alloc: Global, text: &str) -> Forest {
+    forest(rt, alloc, octets(rt, alloc, text).as_slice())
 }
 
 /// Whether two forests are equal, if their lists of nodes say the same.
@@ -48,45 +51,46 @@ fn are_equal(one: &Forest, other: &Forest) -> Option<bool> {
 }
 
 /// Whether the forests that two texts spell are equal.
-fn spell_same(alloc: Global, one: &str, other: &str) -> Result<Option<bool>, Fail> {
-    let left = of_hex(alloc, one)?;
-    let right = of_hex(alloc, other)?;
-    let one = forest(alloc, left.as_slice())?;
-    let other = forest(alloc, right.as_slice())?;
-    Ok(are_equal(&one, &other))
+fn spell_same(rt: &impl Abort, alloc: Global, one: &str, other: &str) -> Option<bool> {
+    let one = spelled(rt, alloc, one);
+    let other = spelled(rt, alloc, other);
+    are_equal(&one, &other)
 }
 
 #[test]
-fn forests_are_equal_node_by_node(rt: HostRuntime) -> Result<(), Fail> {
+fn forests_are_equal_node_by_node(rt: HostRuntime) {
     for &(one, other, equal, _) in &PAIRS {
-        let found = spell_same(rt.alloc(), one, other)?;
+        let found = spell_same(&rt, rt.alloc(), one, other);
         assert!(rt; same(found, Some(equal)), "{one} {other}");
     }
-    Ok(())
 }
 
-/// Whether each node is equal to the first one, in their order.
-fn equal_to_first(alloc: Global, nodes: &[Node]) -> Result<Vec<bool>, Fail> {
-    let mut list = Vec::new(alloc);
-    for node in nodes {
-        list.push(nodes.first() == Some(node))?;
+/// Whether four nodes are equal to the first one, in their order.
+fn equal_to_first(nodes: &[Node]) -> Option<[bool; 4]> {
+    match nodes {
+        [first, second, third, fourth] => {
+            Some([
+                first == first,
+                second == first,
+                third == first,
+                fourth == first,
+            ])
+        }
+        _ => None,
     }
-    Ok(list)
 }
 
 #[test]
-fn nodes_are_equal_by_kind_too(rt: HostRuntime) -> Result<(), Fail> {
-    let read = forest(rt.alloc(), &[0x00, 0x5A, 0x00, 0x70, 0x00, 0x00])?;
-    let found = equal_to_first(rt.alloc(), read.nodes().get())?;
-    assert!(rt; same(found.as_slice(), [true, false, false, true].as_slice()));
-    Ok(())
+fn nodes_are_equal_by_kind_too(rt: HostRuntime) {
+    let read = spelled(&rt, rt.alloc(), "005A00700000");
+    let found = equal_to_first(read.nodes().get());
+    assert!(rt; same(found, Some([true, false, false, true])));
 }
 
 #[test]
-fn parts_are_equal_field_by_field(rt: HostRuntime) -> Result<(), Fail> {
+fn parts_are_equal_field_by_field(rt: HostRuntime) {
     for &(one, other, _, equal) in &PAIRS {
-        let found = part_same(rt.alloc(), one, other)?;
+        let found = part_same(&rt, rt.alloc(), one, other);
         assert!(rt; same(found, equal), "{one} {other}");
     }
-    Ok(())
 }

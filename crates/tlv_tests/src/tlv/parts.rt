@@ -1,44 +1,55 @@
 //! Parts of forests, and the octets that are lent with them.
 
-use super::as_value::{flat, in_hex, placed};
+use super::as_value::{are_octets, flat, octets, placed};
 use octet_core::{Refused, Stop};
 use std::alloc::Global;
 use std::process::Abort;
-use std::test::Fail;
-use testing::{of_hex, same};
+use testing::same;
 use tlv_core::{FlatForest, Form, LARGEST_FOREST, Part, PlacedPart, TlvReason, placed_parts};
 
 /// What is wanted of a part: its depth, its tag, and the place of its value with its octets.
 type Wanted = (usize, &'static str, usize, &'static str);
 
 /// Whether a part of a forest of these octets is this one.
-fn is_part(alloc: Global, octets: &[u8], part: &Part, wanted: &Wanted) -> Result<bool, Fail> {
+fn is_part(alloc: Global, octets: &[u8], part: &Part, wanted: &Wanted) -> bool {
     let (depth, tag, place, value) = wanted;
-    let tag_text = in_hex(alloc, part.tag.octets())?;
-    let value_text = in_hex(alloc, part.value)?;
-    let is_there = octets
-        .get(*place..)
-        .is_some_and(|rest| rest.starts_with(part.value));
-    Ok(
-        is_there
-            && same((part.depth, part.place), (*depth, *place))
-            && same(tag_text.as_str(), *tag)
-            && same(value_text.as_str(), *value),
-    )
+    same((part.depth, part.place), (*depth, *place))
+        && are_octets(alloc, part.tag.octets(), tag)
+        && are_octets(alloc, part.value, value)
+        && is_at(octets, *place, part.value)
 }
 
-/// Whether the parts of a forest are these.
-fn check_parts(alloc: Global, rt: &impl Abort, text: &str, wanted: &[Wanted]) -> Result<(), Fail> {
-    let octets = of_hex(alloc, text)?;
-    let flat = flat(alloc, octets.as_slice())?;
-    let placed = placed(alloc, octets.as_slice())?;
-    assert!(rt; same(flat.parts().len(), wanted.len()), "{text}");
-    for (part, wanted) in flat.parts().iter().zip(wanted) {
-        let is_part = is_part(alloc, octets.as_slice(), part, wanted)?;
-        assert!(rt; is_part, "{text} at {}", wanted.2);
+/// Whether a value is at a place of octets.
+fn is_at(octets: &[u8], place: usize, value: &[u8]) -> bool {
+    match octets.get(place..) {
+        Some(rest) => rest.starts_with(value),
+        None => false,
     }
-    assert!(rt; are_placed(placed.as_slice(), flat.parts()), "{text}");
-    Ok(())
+}
+
+/// Whether a part by its place is this one.
+fn is_placed(part: &PlacedPart, lent: &Part) -> bool {
+    same(usize::from(part.depth), lent.depth)
+        && same((part.tag, part.form), (lent.tag, lent.form))
+        && same(part.place as usize, lent.place)
+        && same(part.len as usize, lent.value.len())
+}
+
+/// Whether a part is there and is this one.
+fn is_there(alloc: Global, octets: &[u8], part: Option<&Part>, wanted: &Wanted) -> bool {
+    match part {
+        Some(part) => is_part(alloc, octets, part, wanted),
+        None => false,
+    }
+}
+
+/// Whether the parts of these octets are these.
+fn are_parts(alloc: Global, octets: &[u8], parts: &[Part], wanted: &[Wanted]) -> bool {
+    let mut are_same = parts.len() == wanted.len();
+    for (place, wanted) in wanted.iter().enumerate() {
+        are_same = are_same && is_there(alloc, octets, parts.get(place), wanted);
+    }
+    are_same
 }
 
 /// Whether the parts by their places alone are those of a forest.
@@ -50,70 +61,70 @@ fn are_placed(placed: &[PlacedPart], parts: &[Part]) -> bool {
     are_same
 }
 
-/// Whether a part by its place is this one.
-fn is_placed(part: &PlacedPart, lent: &Part) -> bool {
-    same(usize::from(part.depth), lent.depth)
-        && same((part.tag, part.form), (lent.tag, lent.form))
-        && same(part.place as usize, lent.place)
-        && same(part.len as usize, lent.value.len())
+/// Whether the parts of a forest are these, with their values and by their places.
+fn has_parts(rt: &impl Abort, alloc: Global, octets: &[u8], wanted: &[Wanted]) -> bool {
+    let flat = flat(rt, alloc, octets);
+    are_parts(alloc, octets, flat.parts(), wanted)
+        && are_placed(placed(rt, alloc, octets).as_slice(), flat.parts())
 }
+
+/// Whether the parts of the forest that a text spells are these.
+fn spells_parts(rt: &impl Abort, alloc: Global, text: &str, wanted: &[Wanted]) -> bool {
+    has_parts(rt, alloc, octets(rt, alloc, text).as_slice(), wanted)
+}
+
+/// Objects in an object, at four depths.
+const TEMPLATE: [Wanted; 5] = [
+    (1, "6F", 2, "8407A0000000041010A505BF0C025000"),
+    (2, "84", 4, "A0000000041010"),
+    (2, "A5", 13, "BF0C025000"),
+    (3, "BF0C", 16, "5000"),
+    (4, "50", 18, ""),
+];
 
 #[test]
-fn parts_are_in_preorder(rt: HostRuntime) -> Result<(), Fail> {
-    check_parts(
-        rt.alloc(),
-        &rt,
-        "6F108407A0000000041010A505BF0C025000",
-        &[
-            (1, "6F", 2, "8407A0000000041010A505BF0C025000"),
-            (2, "84", 4, "A0000000041010"),
-            (2, "A5", 13, "BF0C025000"),
-            (3, "BF0C", 16, "5000"),
-            (4, "50", 18, ""),
-        ],
-    )?;
-    check_parts(rt.alloc(), &rt, "", &[])?;
-    check_parts(rt.alloc(), &rt, "0000", &[])?;
-    check_parts(
-        rt.alloc(),
-        &rt,
-        "700200005A0112",
-        &[(1, "70", 2, "0000"), (1, "5A", 6, "12")],
-    )
+fn parts_are_in_preorder(rt: HostRuntime) {
+    let text = "6F108407A0000000041010A505BF0C025000";
+    assert!(rt; spells_parts(&rt, rt.alloc(), text, &TEMPLATE));
+    assert!(rt; spells_parts(&rt, rt.alloc(), "", &[]));
+    assert!(rt; spells_parts(&rt, rt.alloc(), "0000", &[]));
+    let wanted = [(1, "70", 2, "0000"), (1, "5A", 6, "12")];
+    assert!(rt; spells_parts(&rt, rt.alloc(), "700200005A0112", &wanted));
 }
+
+/// Objects with short and long headers.
+const HEADERS: [Wanted; 4] = [
+    (1, "70", 2, "DF810201125A82000234569F028300000178"),
+    (2, "DF8102", 6, "12"),
+    (2, "5A", 11, "3456"),
+    (2, "9F02", 19, "78"),
+];
 
 #[test]
-fn short_and_long_headers_have_parts(rt: HostRuntime) -> Result<(), Fail> {
-    check_parts(
-        rt.alloc(),
-        &rt,
-        "7012DF810201125A82000234569F028300000178",
-        &[
-            (1, "70", 2, "DF810201125A82000234569F028300000178"),
-            (2, "DF8102", 6, "12"),
-            (2, "5A", 11, "3456"),
-            (2, "9F02", 19, "78"),
-        ],
-    )
+fn short_and_long_headers_have_parts(rt: HostRuntime) {
+    let text = "7012DF810201125A82000234569F028300000178";
+    assert!(rt; spells_parts(&rt, rt.alloc(), text, &HEADERS));
 }
 
-/// The longest header that is taken at once, before more octets and at their end.
+/// Objects with the longest header that is taken at once, before more octets and at their end.
+const LONG_TAGS: [Wanted; 3] = [
+    (1, "FF8129", 6, "DF8201820000"),
+    (2, "DF8201", 12, ""),
+    (1, "DF8129", 16, ""),
+];
+
 #[test]
-fn tags_of_three_octets_have_parts(rt: HostRuntime) -> Result<(), Fail> {
-    check_parts(
-        rt.alloc(),
-        &rt,
-        "FF8129820006DF8201820000DF812900",
-        &[
-            (1, "FF8129", 6, "DF8201820000"),
-            (2, "DF8201", 12, ""),
-            (1, "DF8129", 16, ""),
-        ],
-    )
+fn tags_of_three_octets_have_parts(rt: HostRuntime) {
+    let text = "FF8129820006DF8201820000DF812900";
+    assert!(rt; spells_parts(&rt, rt.alloc(), text, &LONG_TAGS));
 }
 
-/// Where the header and the value of each object begin, after fillers and after long length fields, and how many octets
-/// its length field has.
+/// Objects after fillers and with long length fields.
+const LENT: [u8; 14] = [
+    0x00, 0x70, 0x81, 0x0A, 0x00, 0x82, 0x82, 0x00, 0x01, 0x50, 0x70, 0x02, 0x50, 0x00,
+];
+
+/// Where the header and the value of each of these begin, and how many octets its length field has.
 const PLACES: [(usize, usize, usize); 4] = [(1, 4, 2), (5, 9, 3), (10, 12, 1), (12, 14, 1)];
 
 /// Where the header and the value of a part begin, and how many octets its length field has.
@@ -121,26 +132,42 @@ fn places_of(part: &Part) -> (usize, usize, usize) {
     (part.header_place(), part.place, part.form.octets())
 }
 
-#[test]
-fn parts_tell_their_places(rt: HostRuntime) -> Result<(), Fail> {
-    let octets = of_hex(rt.alloc(), "0070810A00828200015070025000")?;
-    let flat = flat(rt.alloc(), octets.as_slice())?;
-    assert!(rt; same(flat.parts().len(), PLACES.len()));
-    for (part, wanted) in flat.parts().iter().zip(&PLACES) {
-        assert!(rt; same(places_of(part), *wanted));
+/// Whether four parts are at these places.
+fn are_at(parts: &[Part], places: [(usize, usize, usize); 4]) -> bool {
+    match parts {
+        [a, b, c, d] => same(
+            [places_of(a), places_of(b), places_of(c), places_of(d)],
+            places,
+        ),
+        _ => false,
     }
-    Ok(())
 }
 
 #[test]
-fn fillers_are_no_parts(rt: HostRuntime) -> Result<(), Fail> {
-    check_parts(rt.alloc(), &rt, "00005A81011200", &[(1, "5A", 5, "12")])?;
-    let octets = of_hex(rt.alloc(), "00005A81011200")?;
-    let flat = flat(rt.alloc(), octets.as_slice())?;
-    for part in flat.parts() {
-        assert!(rt; same(part.form, Form::Two));
+fn parts_tell_their_places(rt: HostRuntime) {
+    let flat = flat(&rt, rt.alloc(), &LENT);
+    assert!(rt; are_at(flat.parts(), PLACES));
+}
+
+/// The form of the only part.
+fn form_of(parts: &[Part]) -> Option<Form> {
+    match parts {
+        [part] => Some(part.form),
+        _ => None,
     }
-    Ok(())
+}
+
+#[test]
+fn fillers_are_no_parts(rt: HostRuntime) {
+    let text = "00005A81011200";
+    assert!(rt; spells_parts(&rt, rt.alloc(), text, &[(1, "5A", 5, "12")]));
+    let octets = [0x00, 0x00, 0x5A, 0x81, 0x01, 0x12, 0x00];
+    assert!(rt;
+        same(
+            form_of(flat(&rt, rt.alloc(), &octets).parts()),
+            Some(Form::Two)
+        )
+    );
 }
 
 /// Octets that are no forest, and where they stop.

@@ -2,11 +2,11 @@
 
 ghost use Rattle.std.specs.Prelude.{◌≤◌};
 
-use super::as_value::{forest, made, one, spelled, spelling, tag, tidied};
-use octet_core::{Octets, Refused, Stop};
+use super::as_value::{forest, made, octets, one, primitive, spelling, spells, tag, tidied};
+use octet_core::{Refused, Stop};
 use std::alloc::Global;
-use std::test::Fail;
-use testing::{of_hex, same};
+use std::process::Abort;
+use testing::same;
 use tlv_core::{Forest, ForestCheck, ForestReader, Form, LARGEST_FOREST, Node, TlvReason};
 
 /// What a reader says of octets.
@@ -17,12 +17,20 @@ fn fed(reader: &mut ForestReader, octets: &[u8]) -> Fed {
     reader.feed(octets)
 }
 
-/// The forest that a reader has read.
-fn finished(reader: ForestReader) -> Result<Forest, Fail> {
-    match reader.finish() {
-        Ok(forest) => Ok(forest),
-        Err(_) => Err("a forest")?,
-    }
+/// Whether a reader takes these octets.
+fn takes(reader: &mut ForestReader, octets: &[u8]) -> bool {
+    fed(reader, octets).is_ok()
+}
+
+/// Where a reader refuses the octets 70 03 5A 02.
+const STOP: Stop<TlvReason> = Stop::At {
+    place: 3,
+    reason: TlvReason::Overrun,
+};
+
+/// Whether a reader takes so many octets, and refuses the next one so.
+fn refuses(reader: &mut ForestReader, octets: &[u8], taken: usize) -> bool {
+    same(fed(reader, octets), Err((taken, Refused::Stop(STOP))))
 }
 
 /// Where a reader stops.
@@ -31,60 +39,95 @@ fn stopped(reader: ForestReader) -> Option<Stop<TlvReason>> {
 }
 
 /// A reader of the largest forests.
-fn reader(rt: &HostRuntime) -> Result<ForestReader, Fail> {
-    Ok(ForestReader::new(rt.alloc(), LARGEST_FOREST)?)
+fn reader(rt: &impl Abort, alloc: Global) -> ForestReader {
+    ForestReader::new(alloc, LARGEST_FOREST).expect(rt, "a reader")
+}
+
+/// Whether a check takes these octets.
+fn passes(check: &mut ForestCheck, octets: &[u8]) -> bool {
+    check.feed(octets).is_ok()
+}
+
+/// Whether a check ends so.
+fn ends(check: &ForestCheck, end: Result<(), Stop<TlvReason>>) -> bool {
+    same(check.finish(), end)
+}
+
+/// A value that ends after the object around it.
+const OVERRUN: Result<(), Stop<TlvReason>> = Err(Stop::At {
+    place: 5,
+    reason: TlvReason::Overrun,
+});
+
+/// Whether a check refuses octets for that.
+fn overruns(check: &mut ForestCheck, octets: &[u8]) -> bool {
+    same(check.feed(octets), OVERRUN)
 }
 
 #[test]
-fn pieces_are_joined(rt: HostRuntime) -> Result<(), Fail> {
-    let overrun = Err(Stop::At {
-        place: 5,
-        reason: TlvReason::Overrun,
-    });
+fn pieces_are_joined(rt: HostRuntime) {
     let mut check = ForestCheck::new(65_536);
-    for piece in [&[0x6F][..], &[], &[0x04], &[0xA5, 0x02]] {
-        assert!(rt; same(check.feed(piece), Ok(())));
-    }
-    assert!(rt; same(check.finish(), Err(Stop::Short { place: 4 })));
-    assert!(rt; same(check.feed(&[0x5A, 0x01]), overrun));
-    assert!(rt; same(check.feed(&[0x00]), overrun));
-    assert!(rt; same(check.finish(), overrun));
-    Ok(())
+    assert!(rt; passes(&mut check, &[0x6F]));
+    assert!(rt; passes(&mut check, &[]));
+    assert!(rt; passes(&mut check, &[0x04]));
+    assert!(rt; passes(&mut check, &[0xA5, 0x02]));
+    assert!(rt; ends(&check, Err(Stop::Short { place: 4 })));
+    assert!(rt; overruns(&mut check, &[0x5A, 0x01]));
+    assert!(rt; overruns(&mut check, &[0x00]));
+    assert!(rt; ends(&check, OVERRUN));
+}
+
+/// How many octets a check took.
+fn taken(check: &ForestCheck) -> usize {
+    check.taken()
 }
 
 #[test]
 fn octets_that_a_check_took(rt: HostRuntime) {
     let mut check = ForestCheck::new(65_536);
-    assert!(rt; same(check.taken(), 0));
-    assert!(rt; same(check.feed(&[0x6F, 0x04, 0xA5]), Ok(())));
-    assert!(rt; same(check.taken(), 3));
-    assert!(rt; check.feed(&[0x02, 0x5A, 0x01, 0x00]).is_err());
-    assert!(rt; same(check.taken(), 5));
+    assert!(rt; same(taken(&check), 0));
+    assert!(rt; passes(&mut check, &[0x6F, 0x04, 0xA5]));
+    assert!(rt; same(taken(&check), 3));
+    assert!(rt; !passes(&mut check, &[0x02, 0x5A, 0x01, 0x00]));
+    assert!(rt; same(taken(&check), 5));
 }
 
-/// The forest that is read in pieces of so many octets.
-fn read_by(rt: &HostRuntime, octets: &[u8], step: usize) -> Result<Forest, Fail>
+/// Whether a reader takes all octets in pieces of so many.
+fn takes_by(reader: &mut ForestReader, octets: &[u8], step: usize) -> bool
     requires { 1 ≤ step }
 {
-    let mut reader = reader(rt)?;
+    let mut all_taken = true;
     for piece in octets.chunks(step) {
-        if fed(&mut reader, piece).is_err() {
-            Err("octets of a forest")?;
-        }
+        all_taken = all_taken && takes(reader, piece);
     }
-    finished(reader)
+    all_taken
+}
+
+/// Octets of a forest with five nodes.
+const FIVE_NODES: &str = "006F108407A0000000041010A505BF0C025000005A81011200";
+
+/// Whether a reader has read that forest.
+fn has_five_nodes(alloc: Global, reader: ForestReader) -> bool {
+    match reader.finish() {
+        Ok(forest) => forest.nodes().get().len() == 5 && spells(alloc, &forest, FIVE_NODES),
+        Err(_) => false,
+    }
+}
+
+/// Whether that forest is read in pieces of so many octets.
+fn is_read_by(rt: &impl Abort, alloc: Global, octets: &[u8], step: usize) -> bool
+    requires { 1 ≤ step }
+{
+    let mut reader = reader(rt, alloc);
+    takes_by(&mut reader, octets, step) && has_five_nodes(alloc, reader)
 }
 
 #[test]
-fn trees_are_read_in_pieces(rt: HostRuntime) -> Result<(), Fail> {
-    let text = "006F108407A0000000041010A505BF0C025000005A81011200";
-    let octets = of_hex(rt.alloc(), text)?;
+fn trees_are_read_in_pieces(rt: HostRuntime) {
+    let octets = octets(&rt, rt.alloc(), FIVE_NODES);
     for step in 1..octets.len() + 1 {
-        let forest = read_by(&rt, octets.as_slice(), step)?;
-        assert!(rt; same(forest.nodes().get().len(), 5));
-        assert!(rt; same(spelled(rt.alloc(), &forest)?.as_str(), text));
+        assert!(rt; is_read_by(&rt, rt.alloc(), octets.as_slice(), step));
     }
-    Ok(())
 }
 
 /// The octets fed to a reader, and what is left once more after each want of memory, up to four times.
@@ -101,65 +144,43 @@ fn fed_until_taken(reader: &mut ForestReader, octets: &[u8]) -> Fed {
 }
 
 #[test]
-fn a_reader_goes_on_after_want_of_memory(rt: HostRuntime) -> Result<(), Fail> {
-    let text = "006F108407A0000000041010A505BF0C025000005A81011200";
-    let octets = of_hex(rt.alloc(), text)?;
-    let mut reader = reader(&rt)?;
+fn a_reader_goes_on_after_want_of_memory(rt: HostRuntime) {
+    let octets = octets(&rt, rt.alloc(), FIVE_NODES);
+    let mut reader = reader(&rt, rt.alloc());
     assert!(rt; same(fed_until_taken(&mut reader, octets.as_slice()), Ok(())));
-    let forest = finished(reader)?;
-    assert!(rt; same(spelled(rt.alloc(), &forest)?.as_str(), text));
-    Ok(())
+    assert!(rt; has_five_nodes(rt.alloc(), reader));
 }
 
 #[test]
-fn overruns_are_repeated(rt: HostRuntime) -> Result<(), Fail> {
-    let stop = Stop::At {
-        place: 3,
-        reason: TlvReason::Overrun,
-    };
-    let mut reader = reader(&rt)?;
-    assert!(rt; same(fed(&mut reader, &[0x70]), Ok(())));
-    assert!(rt; same(fed(&mut reader, &[0x03, 0x5A]), Ok(())));
-    assert!(rt; same(fed(&mut reader, &[]), Ok(())));
-    assert!(rt;
-        same(
-            fed(&mut reader, &[0x02, 0x01]),
-            Err((0, Refused::Stop(stop)))
-        )
-    );
-    assert!(rt; same(fed(&mut reader, &[0x00]), Err((0, Refused::Stop(stop)))));
-    assert!(rt; same(stopped(reader), Some(stop)));
-    Ok(())
+fn overruns_are_repeated(rt: HostRuntime) {
+    let mut reader = reader(&rt, rt.alloc());
+    assert!(rt; takes(&mut reader, &[0x70]));
+    assert!(rt; takes(&mut reader, &[0x03, 0x5A]));
+    assert!(rt; takes(&mut reader, &[]));
+    assert!(rt; refuses(&mut reader, &[0x02, 0x01], 0));
+    assert!(rt; refuses(&mut reader, &[0x00], 0));
+    assert!(rt; same(stopped(reader), Some(STOP)));
 }
 
 #[test]
-fn octets_before_a_refusal_are_counted(rt: HostRuntime) -> Result<(), Fail> {
-    let stop = Stop::At {
-        place: 3,
-        reason: TlvReason::Overrun,
-    };
-    let mut reader = reader(&rt)?;
-    assert!(rt; same(fed(&mut reader, &[0x70]), Ok(())));
-    let said = fed(&mut reader, &[0x03, 0x5A, 0x02, 0x01]);
-    assert!(rt; same(said, Err((2, Refused::Stop(stop)))));
-    Ok(())
+fn octets_before_a_refusal_are_counted(rt: HostRuntime) {
+    let mut reader = reader(&rt, rt.alloc());
+    assert!(rt; takes(&mut reader, &[0x70]));
+    assert!(rt; refuses(&mut reader, &[0x03, 0x5A, 0x02, 0x01], 2));
 }
 
 #[test]
-fn readers_end_where_nothing_or_too_little_came(rt: HostRuntime) -> Result<(), Fail> {
-    assert!(rt; stopped(reader(&rt)?).is_none());
-    let mut reader = reader(&rt)?;
-    assert!(rt; same(fed(&mut reader, &[0x5A, 0x02, 0x00]), Ok(())));
+fn readers_end_where_nothing_or_too_little_came(rt: HostRuntime) {
+    assert!(rt; stopped(reader(&rt, rt.alloc())).is_none());
+    let mut reader = reader(&rt, rt.alloc());
+    assert!(rt; takes(&mut reader, &[0x5A, 0x02, 0x00]));
     assert!(rt; same(stopped(reader), Some(Stop::Short { place: 3 })));
-    Ok(())
 }
 
 /// A forest of one object with 65,536 octets, in the longest form.
-fn large(rt: &HostRuntime) -> Result<Forest, Fail> {
-    let value = Octets::of(vec![in rt.alloc(); 0x12u8; 65_536]?);
-    let tag = tag(rt, "5A")?;
-    let form = Form::Five;
-    made(one(rt, Node::Primitive { tag, form, value })?)
+fn large(rt: &impl Abort, alloc: Global) -> Forest {
+    let node = primitive(rt, alloc, tag(rt, &[0x5A]), Form::Five, 65_536);
+    made(rt, one(rt, alloc, node))
 }
 
 /// Whether a node is a primitive object with 65,536 octets, in the form for these.
@@ -174,26 +195,25 @@ fn is_large(node: &Node) -> bool {
     }
 }
 
-/// The octets of a tidied forest.
-fn tidy_spelling(alloc: Global, forest: &Forest) -> Result<Vec<u8>, Fail> {
-    let tidied = tidied(alloc, forest)?;
-    spelling(alloc, &tidied)
+/// Whether the only node of a forest is such an object.
+fn has_large(forest: &Forest) -> bool {
+    match forest.nodes().get() {
+        [node] => is_large(node),
+        _ => false,
+    }
+}
+
+/// The octets of the large forest, tidied.
+fn tidy_spelling(rt: &impl Abort, alloc: Global) -> Vec<u8> {
+    let tidied = tidied(rt, alloc, &large(rt, alloc));
+    spelling(rt, alloc, &tidied)
 }
 
 #[test]
-fn a_value_of_65536_octets_comes_back(rt: HostRuntime) -> Result<(), Fail> {
-    let octets = tidy_spelling(rt.alloc(), &large(&rt)?)?;
+fn a_value_of_65536_octets_comes_back(rt: HostRuntime) {
+    let octets = tidy_spelling(&rt, rt.alloc());
     assert!(rt; same(octets.len(), 65_541));
     let head = [0x5A, 0x83, 0x01, 0x00, 0x00, 0x12];
     assert!(rt; octets.as_slice().starts_with(&head));
-    let forest = forest(rt.alloc(), octets.as_slice())?;
-    assert!(rt; same(forest.nodes().get().len(), 1));
-    assert!(rt;
-        forest
-            .nodes()
-            .get()
-            .first()
-            .is_some_and(|node| is_large(node))
-    );
-    Ok(())
+    assert!(rt; has_large(&forest(&rt, rt.alloc(), octets.as_slice())));
 }

@@ -1,7 +1,9 @@
 //! Checks of forests whose caller keeps what they keep.
 
-use std::test::Fail;
-use testing::{of_hex, same};
+ghost use Rattle.std.specs.Prelude.{◌≤◌};
+
+use super::as_value::{octets, tag};
+use testing::same;
 use tlv_core::{CheckPlaces, ForestCheck, Form, Header, LARGEST_FOREST, Tag, TlvReason};
 
 /// A forest, octets that a forest begins with, and octets that are refused.
@@ -14,21 +16,41 @@ const FORESTS: [&str; 6] = [
     "7020701E701C701A70187016701470127010700E700C700A70087006700470027000",
 ];
 
-#[test]
-fn places_say_what_a_check_says(rt: HostRuntime) -> Result<(), Fail> {
-    for &text in &FORESTS {
-        let octets = of_hex(rt.alloc(), text)?;
-        for step in 1..octets.len() + 1 {
-            let mut check = ForestCheck::new(64);
-            let mut places = CheckPlaces::begin(64);
-            for piece in octets.as_slice().chunks(step) {
-                assert!(rt; places.fit());
-                assert!(rt; same(places.feed(piece), check.feed(piece)));
-                assert!(rt; same(places.finish(), check.finish()));
-            }
-        }
+/// Whether the places are fit, and say of a piece and of the end what a check says.
+fn agree(places: &mut CheckPlaces, check: &mut ForestCheck, piece: &[u8]) -> bool {
+    places.fit()
+        && same(places.feed(piece), check.feed(piece))
+        && same(places.finish(), check.finish())
+}
+
+/// Whether they do so of each piece of so many octets.
+fn agree_by(octets: &[u8], step: usize) -> bool
+    requires { 1 ≤ step }
+{
+    let mut check = ForestCheck::new(64);
+    let mut places = CheckPlaces::begin(64);
+    let mut all_agree = true;
+    for piece in octets.chunks(step) {
+        all_agree = all_agree && agree(&mut places, &mut check, piece);
     }
-    Ok(())
+    all_agree
+}
+
+/// Whether they do so of octets in pieces of each length.
+fn agree_on(octets: &[u8]) -> bool {
+    let mut all_agree = true;
+    for step in 1..octets.len() + 1 {
+        all_agree = all_agree && agree_by(octets, step);
+    }
+    all_agree
+}
+
+#[test]
+fn places_say_what_a_check_says(rt: HostRuntime) {
+    for &text in &FORESTS {
+        let octets = octets(&rt, rt.alloc(), text);
+        assert!(rt; agree_on(octets.as_slice()), "{text}");
+    }
 }
 
 /// The places of a check inside an object with 30 octets to come.
@@ -43,156 +65,122 @@ fn after(octets: &[u8]) -> CheckPlaces {
     places
 }
 
+/// Whether places are those of a check.
+fn fits(places: &CheckPlaces) -> bool {
+    places.fit()
+}
+
 #[test]
-fn places_that_are_no_check(rt: HostRuntime) -> Result<(), Fail> {
+fn places_that_are_no_check(rt: HostRuntime) {
     let p = inside();
-    assert!(rt; p.fit() && same(p.level, 2));
-    assert!(rt; CheckPlaces::begin(LARGEST_FOREST).fit());
-    // the headers of two objects take four octets
-    assert!(rt; !CheckPlaces { count: 3, ..p }.fit());
-    assert!(rt;
-        !CheckPlaces {
-            max: 1_048_577,
-            ..p
-        }
-        .fit()
-    );
-    assert!(rt; !CheckPlaces { max: 33, ..p }.fit());
-    assert!(rt; !CheckPlaces { count: 34, ..p }.fit());
-    assert!(rt; !CheckPlaces { level: 3, ..p }.fit());
-    assert!(rt; !CheckPlaces { level: 17, ..p }.fit());
+    assert!(rt; fits(&p));
+    assert!(rt; same(p.level, 2));
+    assert!(rt; fits(&CheckPlaces::begin(LARGEST_FOREST)));
     // the inner object would end after the outer one
     let mut later = p;
     later.ends[1] = 35;
-    assert!(rt; !later.fit());
-    Ok(())
+    assert!(rt; !fits(&later));
 }
 
 #[test]
-fn values_under_way(rt: HostRuntime) -> Result<(), Fail> {
+fn numbers_that_are_no_check(rt: HostRuntime) {
+    let p = inside();
+    // the headers of two objects take four octets
+    assert!(rt; !fits(&CheckPlaces { count: 3, ..p }));
+    assert!(rt; !fits(&CheckPlaces { count: 34, ..p }));
+    assert!(rt; !fits(&CheckPlaces { max: 33, ..p }));
+    let max = 1_048_577;
+    assert!(rt; !fits(&CheckPlaces { max, ..p }));
+    assert!(rt; !fits(&CheckPlaces { level: 3, ..p }));
+    assert!(rt; !fits(&CheckPlaces { level: 17, ..p }));
+}
+
+/// Whether a check that took these octets can have so many octets of a value to come.
+fn has_left(octets: &[u8], value_left: u32) -> bool {
+    fits(&CheckPlaces {
+        value_left,
+        ..after(octets)
+    })
+}
+
+#[test]
+fn values_under_way(rt: HostRuntime) {
     // no header of a value came
-    assert!(rt;
-        !CheckPlaces {
-            value_left: 1,
-            ..inside()
-        }
-        .fit()
-    );
+    assert!(rt; !has_left(&[0x70, 0x20, 0x70, 0x1E], 1));
     let p = after(&[0x70, 0x20, 0x70, 0x1E, 0x5A, 0x1C]);
-    assert!(rt; p.fit() && same(p.value_left, 28));
-    assert!(rt;
-        !CheckPlaces {
-            value_left: 29,
-            ..p
-        }
-        .fit()
-    );
-    Ok(())
+    assert!(rt; fits(&p));
+    assert!(rt; same(p.value_left, 28));
+    assert!(rt; !has_left(&[0x70, 0x20, 0x70, 0x1E, 0x5A, 0x1C], 29));
+}
+
+/// Whether a check that took these octets can have refused the next one for this reason.
+fn can_refuse(octets: &[u8], reason: TlvReason) -> bool {
+    let refused = Some(reason);
+    fits(&CheckPlaces {
+        refused,
+        ..after(octets)
+    })
 }
 
 #[test]
-fn refusals_that_are_kept(rt: HostRuntime) -> Result<(), Fail> {
-    let refused = Some(TlvReason::Overrun);
+fn refusals_that_are_kept(rt: HostRuntime) {
     // a tag passes the end of an object with two octets to come, and none that of one with 30
-    assert!(rt;
-        !CheckPlaces {
-            refused,
-            ..inside()
-        }
-        .fit()
-    );
-    let near = after(&[0x70, 0x02]);
-    assert!(rt; CheckPlaces { refused, ..near }.fit());
-    assert!(rt;
-        !CheckPlaces {
-            refused: Some(TlvReason::TooDeep),
-            ..near
-        }
-        .fit()
-    );
-    Ok(())
+    assert!(rt; !can_refuse(&[0x70, 0x20, 0x70, 0x1E], TlvReason::Overrun));
+    assert!(rt; can_refuse(&[0x70, 0x02], TlvReason::Overrun));
+    assert!(rt; !can_refuse(&[0x70, 0x02], TlvReason::TooDeep));
+}
+
+/// Whether a check that took so many octets can be inside objects, and in this header.
+fn can_be_in(count: u32, header: Header) -> bool {
+    fits(&CheckPlaces {
+        header,
+        count,
+        ..inside()
+    })
+}
+
+/// How many octets a check took where fillers came, and then those of a header.
+const WITH_FILLERS: u32 = 8;
+
+/// Whether a check can be in the header of an object, with so many octets of its length and their number.
+fn can_be_in_length(tag: Tag, form: Form, read: u8, number: u32) -> bool {
+    let header = Header::Sized {
+        tag,
+        form,
+        read,
+        number,
+    };
+    can_be_in(WITH_FILLERS, header)
 }
 
 #[test]
-fn headers_that_are_none(rt: HostRuntime) -> Result<(), Fail> {
-    let tag = Tag::new(&[0x5A]).ok_or("a tag")?;
-    let form = Form::Three;
-    let wells = [
-        Header::First(0x9F),
-        Header::Second(0x9F, 0x81),
-        Header::Tagged(tag),
-        Header::Sized {
-            tag,
-            form,
-            read: 0,
-            number: 0,
-        },
-        Header::Sized {
-            tag,
-            form,
-            read: 1,
-            number: 0,
-        },
-    ];
-    // fillers came, and then its octets
-    let count = 8;
-    for header in wells {
-        assert!(rt;
-            CheckPlaces {
-                header,
-                count,
-                ..inside()
-            }
-            .fit()
-        );
-    }
+fn headers_under_way(rt: HostRuntime) {
+    let tag = tag(&rt, &[0x5A]);
+    assert!(rt; can_be_in(WITH_FILLERS, Header::First(0x9F)));
+    assert!(rt; can_be_in(WITH_FILLERS, Header::Second(0x9F, 0x81)));
+    assert!(rt; can_be_in(WITH_FILLERS, Header::Tagged(tag)));
+    assert!(rt; can_be_in_length(tag, Form::Three, 0, 0));
+    assert!(rt; can_be_in_length(tag, Form::Three, 1, 0));
+}
+
+/// Forms of a length field, how many octets of it came, and their number, where no check can be.
+const LENGTHS: [(Form, u8, u32); 4] = [
+    (Form::Three, 1, 256),
+    // the value would have 65,280 octets at least
+    (Form::Three, 1, 255),
+    (Form::Three, 2, 0),
+    (Form::One, 0, 0),
+];
+
+#[test]
+fn headers_that_are_none(rt: HostRuntime) {
     // no octet came after the headers of the objects that are open
-    assert!(rt;
-        !CheckPlaces {
-            header: Header::First(0x9F),
-            ..inside()
-        }
-        .fit()
-    );
-    let nones = [
-        Header::First(0x5A),
-        Header::Second(0x9F, 0x80),
-        Header::Second(0x5A, 0x81),
-        Header::Sized {
-            tag,
-            form,
-            read: 1,
-            number: 256,
-        },
-        // its value would have 65,280 octets at least
-        Header::Sized {
-            tag,
-            form,
-            read: 1,
-            number: 255,
-        },
-        Header::Sized {
-            tag,
-            form,
-            read: 2,
-            number: 0,
-        },
-        Header::Sized {
-            tag,
-            form: Form::One,
-            read: 0,
-            number: 0,
-        },
-    ];
-    for header in nones {
-        assert!(rt;
-            !CheckPlaces {
-                header,
-                count,
-                ..inside()
-            }
-            .fit()
-        );
+    assert!(rt; !can_be_in(4, Header::First(0x9F)));
+    assert!(rt; !can_be_in(WITH_FILLERS, Header::First(0x5A)));
+    assert!(rt; !can_be_in(WITH_FILLERS, Header::Second(0x9F, 0x80)));
+    assert!(rt; !can_be_in(WITH_FILLERS, Header::Second(0x5A, 0x81)));
+    let tag = tag(&rt, &[0x5A]);
+    for &(form, read, number) in &LENGTHS {
+        assert!(rt; !can_be_in_length(tag, form, read, number));
     }
-    Ok(())
 }

@@ -1,12 +1,14 @@
 //! What is printed of reasons and faults, and of values that may hold a message.
 
-use super::as_value::{flat, forest, list, tag};
+use super::as_value::{flat, forest, list, octets, tag};
 use octet_core::{Format, Named, Octets};
-use std::test::Fail;
-use testing::{debugs, of_hex, same, shows};
+use std::alloc::Global;
+use std::fmt::Display;
+use std::process::Abort;
+use testing::{debugs, same, shows};
 use tlv_core::{
-    CheckPlaces, DolReason, FillFault, ForestCheck, ForestReader, Improper, Known, LARGEST_FOREST,
-    TlvReason,
+    CheckPlaces, DolReason, FillFault, Forest, ForestCheck, ForestReader, Improper, Known,
+    LARGEST_FOREST, Part, TlvReason,
 };
 
 const REASONS: [(TlvReason, &str); 6] = [
@@ -31,23 +33,25 @@ const IMPROPER: [(Improper, &str); 4] = [
     (Improper::Size, "Size"),
 ];
 
+/// Whether a reason has this name, and is shown by it.
+fn is_named<R: Named + Display + Copy>(alloc: Global, reason: R, name: &str) -> bool {
+    same(reason.name(), name) && shows(alloc, &reason, name)
+}
+
 #[test]
 fn reasons_are_named(rt: HostRuntime) {
     for &(reason, name) in &REASONS {
-        assert!(rt; same(reason.name(), name));
-        assert!(rt; shows(rt.alloc(), &reason, name));
+        assert!(rt; is_named(rt.alloc(), reason, name));
     }
     for &(reason, name) in &OF_LISTS {
-        assert!(rt; same(reason.name(), name));
-        assert!(rt; shows(rt.alloc(), &reason, name));
+        assert!(rt; is_named(rt.alloc(), reason, name));
     }
 }
 
 #[test]
 fn faults_are_named(rt: HostRuntime) {
     for &(reason, name) in &IMPROPER {
-        assert!(rt; same(reason.name(), name));
-        assert!(rt; shows(rt.alloc(), &reason, name));
+        assert!(rt; is_named(rt.alloc(), reason, name));
     }
     assert!(rt; shows(rt.alloc(), &FillFault::Duplicate, "Duplicate"));
     assert!(rt; shows(rt.alloc(), &FillFault::Memory, "memory"));
@@ -56,65 +60,99 @@ fn faults_are_named(rt: HostRuntime) {
 /// An object with an object inside.
 const OBJECTS: [u8; 7] = [0x70, 0x05, 0x5A, 0x03, 0x12, 0x34, 0x56];
 
+/// A check that took five octets of the object.
+fn check_under_way(rt: &impl Abort) -> ForestCheck {
+    let mut check = ForestCheck::new(LARGEST_FOREST);
+    check.feed(&OBJECTS[..5]).expect(rt, "octets of a forest");
+    check
+}
+
+/// The places of a check that took five octets of the object.
+fn places_under_way(rt: &impl Abort) -> CheckPlaces {
+    let mut places = CheckPlaces::begin(LARGEST_FOREST);
+    places.feed(&OBJECTS[..5]).expect(rt, "octets of a forest");
+    places
+}
+
 #[test]
 fn debug_of_a_check_shows_no_octet(rt: HostRuntime) {
-    let alloc = rt.alloc();
-    let mut check = ForestCheck::new(LARGEST_FOREST);
-    assert!(rt; same(check.feed(&OBJECTS[..5]), Ok(())));
     let seen = "ForestCheck { taken: 5, open_objects: 1, value_octets_left: 2, refusal: None }";
-    assert!(rt; debugs(alloc, &check, seen));
-    let mut places = CheckPlaces::begin(LARGEST_FOREST);
-    assert!(rt; same(places.feed(&OBJECTS[..5]), Ok(())));
+    assert!(rt; debugs(rt.alloc(), &check_under_way(&rt), seen));
     let seen = "CheckPlaces { taken: 5, open_objects: 1, value_octets_left: 2, refused: None }";
-    assert!(rt; debugs(alloc, &places, seen));
+    assert!(rt; debugs(rt.alloc(), &places_under_way(&rt), seen));
+}
+
+/// Whether this is printed of the last part.
+fn last_part_debugs(alloc: Global, parts: &[Part], seen: &str) -> bool {
+    match parts.last() {
+        Some(part) => debugs(alloc, part, seen),
+        None => false,
+    }
 }
 
 #[test]
-fn debug_of_parts_shows_no_octet(rt: HostRuntime) -> Result<(), Fail> {
-    let alloc = rt.alloc();
-    let flat = flat(alloc, &OBJECTS)?;
+fn debug_of_parts_shows_no_octet(rt: HostRuntime) {
+    let flat = flat(&rt, rt.alloc(), &OBJECTS);
     let seen = "Part { depth: 2, tag: Tag { octets: [90, 0, 0], count: 1 }, form: One, place: 4, \
         value_octets: 3 }";
-    assert!(rt; debugs(alloc, flat.parts().last().ok_or("a part")?, seen));
-    assert!(rt; debugs(alloc, &flat, "FlatForest { parts: 2 }"));
-    Ok(())
+    assert!(rt; last_part_debugs(rt.alloc(), flat.parts(), seen));
+    assert!(rt; debugs(rt.alloc(), &flat, "FlatForest { parts: 2 }"));
+}
+
+/// Whether this is printed of the last node.
+fn last_node_debugs(alloc: Global, forest: &Forest, seen: &str) -> bool {
+    match forest.nodes().get().last() {
+        Some(node) => debugs(alloc, node, seen),
+        None => false,
+    }
 }
 
 #[test]
-fn debug_of_a_forest_shows_no_octet(rt: HostRuntime) -> Result<(), Fail> {
-    let alloc = rt.alloc();
-    let forest = forest(alloc, &OBJECTS)?;
-    assert!(rt; debugs(alloc, &forest, "Forest { nodes: Nodes { nodes: 1 } }"));
+fn debug_of_a_forest_shows_no_octet(rt: HostRuntime) {
+    let forest = forest(&rt, rt.alloc(), &OBJECTS);
+    assert!(rt; debugs(rt.alloc(), &forest, "Forest { nodes: Nodes { nodes: 1 } }"));
     let seen = "Constructed { tag: Tag { octets: [112, 0, 0], count: 1 }, form: One, \
         nodes: Nodes { nodes: 1 } }";
-    assert!(rt; debugs(alloc, forest.nodes().get().last().ok_or("a node")?, seen));
-    Ok(())
+    assert!(rt; last_node_debugs(rt.alloc(), &forest, seen));
+}
+
+/// A reader of the largest forests.
+fn reader(rt: &impl Abort, alloc: Global) -> ForestReader {
+    ForestReader::new(alloc, LARGEST_FOREST).expect(rt, "a reader")
 }
 
 #[test]
-fn debug_of_a_reader_and_a_value_shows_no_octet(rt: HostRuntime) -> Result<(), Fail> {
-    let alloc = rt.alloc();
-    let reader = ForestReader::new(alloc, LARGEST_FOREST)?;
+fn debug_of_a_reader_shows_no_octet(rt: HostRuntime) {
+    let reader = reader(&rt, rt.alloc());
     let seen = "ForestReader { taken: 0, open_objects: 0, value_octets_left: 0, refusal: None }";
-    assert!(rt; debugs(alloc, &reader, seen));
-    let known = Known {
-        tag: tag(&rt, "5A")?,
+    assert!(rt; debugs(rt.alloc(), &reader, seen));
+}
+
+/// A value that is known.
+fn known(rt: &impl Abort, alloc: Global) -> Known {
+    Known {
+        tag: tag(rt, &[0x5A]),
         format: Format::Numeric,
-        value: Octets::of(of_hex(alloc, "123456")?),
-    };
+        value: Octets::of(octets(rt, alloc, "123456")),
+    }
+}
+
+#[test]
+fn debug_of_a_value_shows_no_octet(rt: HostRuntime) {
     let seen = "Known { tag: Tag { octets: [90, 0, 0], count: 1 }, format: Numeric, \
         value: Octets { octets: 3 } }";
-    assert!(rt; debugs(alloc, &known, seen));
-    Ok(())
+    assert!(rt; debugs(rt.alloc(), &known(&rt, rt.alloc()), seen));
+}
+
+/// Whether two lists of these octets are equal.
+fn list_same(rt: &impl Abort, alloc: Global, one: &[u8], other: &[u8]) -> bool {
+    same(list(rt, alloc, one), list(rt, alloc, other))
 }
 
 #[test]
-fn lists_are_equal_entry_by_entry(rt: HostRuntime) -> Result<(), Fail> {
-    let alloc = rt.alloc();
-    let first = list(alloc, &[0x9A, 0x03, 0x5F, 0x2A, 0x02])?;
-    let same_one = list(alloc, &[0x9A, 0x03, 0x5F, 0x2A, 0x02])?;
-    let other = list(alloc, &[0x9A, 0x03, 0x5F, 0x2A, 0x03])?;
-    assert!(rt; !same(&first, &other));
-    assert!(rt; same(first, same_one));
-    Ok(())
+fn lists_are_equal_entry_by_entry(rt: HostRuntime) {
+    let list = [0x9A, 0x03, 0x5F, 0x2A, 0x02];
+    let other = [0x9A, 0x03, 0x5F, 0x2A, 0x03];
+    assert!(rt; !list_same(&rt, rt.alloc(), &list, &other));
+    assert!(rt; list_same(&rt, rt.alloc(), &list, &list));
 }
