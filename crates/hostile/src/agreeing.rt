@@ -2,7 +2,7 @@
 
 use crate::answers::{answer, is_said_again};
 use crate::feeding::{is_fed_so, is_read_so};
-use crate::kind::{Answer, Kind};
+use crate::kind::{Answer, Chain, Kind};
 use std::alloc::Global;
 use testing::{Case, Fault};
 
@@ -11,28 +11,40 @@ use testing::{Case, Fault};
 /// a source.
 pub(crate) fn agreed(alloc: Global, kind: Kind, octets: &[u8]) -> Result<Answer, Fault> {
     let answer = answer(alloc, kind, octets)?;
+    all_agree(alloc, kind, octets, &answer)?;
+    Ok(answer)
+}
+
+/// The other calls on the whole list, and the readers of the kind.
+fn all_agree(alloc: Global, kind: Kind, octets: &[u8], answer: &Answer) -> Result<(), Fault> {
     let case = Case {
         what: "another call on the whole list",
         octets,
         place: 0,
         piece: 0,
     };
-    case.expect(alloc, is_said_again(alloc, kind, octets, &answer)?)?;
+    case.expect(alloc, is_said_again(alloc, kind, octets, answer)?)?;
     if kind.is_fed() {
-        is_fed(alloc, kind, octets, &answer)?;
+        is_fed(alloc, kind, octets, answer)?;
     }
-    if let Kind::Chain(chain) = kind {
-        for step in [1, 2, octets.len().max(1)] {
-            let case = Case {
-                what: "a chain read from a source",
-                octets,
-                place: 0,
-                piece: step,
-            };
-            case.expect(alloc, is_read_so(alloc, chain, octets, step, &answer)?)?;
-        }
+    match kind {
+        Kind::Chain(chain) => is_read(alloc, chain, octets, answer),
+        _ => Ok(()),
     }
-    Ok(answer)
+}
+
+/// A chain read from a source, by octets, by two octets and whole.
+fn is_read(alloc: Global, chain: Chain, octets: &[u8], answer: &Answer) -> Result<(), Fault> {
+    for step in [1, 2, octets.len().max(1)] {
+        let case = Case {
+            what: "a chain read from a source",
+            octets,
+            place: 0,
+            piece: step,
+        };
+        case.expect(alloc, is_read_so(alloc, chain, octets, step, answer)?)?;
+    }
+    Ok(())
 }
 
 /// The readers, fed whole and octet by octet.

@@ -59,15 +59,37 @@ fn change(
     for value in 0..=255u8 {
         if share.has(usize::from(value)) && vector.octets.as_slice().get(place) != Some(&value) {
             let octets = with_octet(alloc, vector.octets.as_slice(), place, value)?;
-            let answer = agreed(alloc, vector.kind, octets.as_slice())?;
-            if vector.kind.is_fed() {
-                agrees_in_two(alloc, vector.kind, octets.as_slice(), &answer)?;
-            }
-            is_kept_out(alloc, vector.kind, octets.as_slice(), place, &answer)?;
-            changed = changed.and(vector.kind, place, &answer);
+            changed = judge(alloc, vector.kind, octets.as_slice(), place, changed)?;
         }
     }
     Ok(changed)
+}
+
+/// Octets of which the one at a place was changed are judged.
+fn judge(
+    alloc: Global,
+    kind: Kind,
+    octets: &[u8],
+    place: usize,
+    changed: Changed,
+) -> Result<Changed, Fault> {
+    let answer = agreed(alloc, kind, octets)?;
+    is_judged(alloc, kind, octets, place, &answer)?;
+    Ok(changed.and(kind, place, &answer))
+}
+
+/// They are answered so in every two pieces too, and a block is kept out.
+fn is_judged(
+    alloc: Global,
+    kind: Kind,
+    octets: &[u8],
+    place: usize,
+    answer: &Answer,
+) -> Result<(), Fault> {
+    if kind.is_fed() {
+        agrees_in_two(alloc, kind, octets, answer)?;
+    }
+    is_kept_out(alloc, kind, octets, place, answer)
 }
 
 /// A block with a change outside its length is refused at a place.

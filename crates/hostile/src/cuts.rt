@@ -33,13 +33,24 @@ pub(crate) fn cut_each(alloc: Global, vectors: &[Vector]) -> Result<String, Faul
 /// One front more.
 fn cut(alloc: Global, kind: Kind, front: &[u8], fronts: Fronts) -> Result<Fronts, Fault> {
     let answer = agreed(alloc, kind, front)?;
+    counted(alloc, kind, front, &answer, fronts)
+}
+
+/// One answer to a front more.
+fn counted(
+    alloc: Global,
+    kind: Kind,
+    front: &[u8],
+    answer: &Answer,
+    fronts: Fronts,
+) -> Result<Fronts, Fault> {
     let case = Case {
         what: "a front of a value",
         octets: front,
         place: front.len(),
         piece: 0,
     };
-    let is_short = is_short(&answer, front.len());
+    let is_short = is_short(answer, front.len());
     case.expect(
         alloc,
         is_short || (answer.is_ok() && !kind.ends_by_itself()),

@@ -1,33 +1,60 @@
 //! Whole values, in every two and three pieces, and with more octets after them.
 
 use crate::agreeing::{agreed, agrees_in_three, agrees_in_two};
-use crate::kind::Answer;
+use crate::kind::{Answer, Kind};
 use crate::vectors::Vector;
-use std::alloc::Global;
+use std::alloc::{AllocError, Global};
 use testing::{Case, Fault};
+
+/// How many cuts into two pieces were tried, and how many into three.
+#[derive(Clone, Copy, Debug, Default)]
+struct Cuts {
+    twos: u64,
+    threes: u64,
+}
 
 /// Each list is accepted whole, in every pieces, and what follows a value that ends by itself is
 /// left.
 pub(crate) fn feed_each(alloc: Global, vectors: &[Vector]) -> Result<String, Fault> {
-    let mut twos = 0u64;
-    let mut threes = 0u64;
+    let mut cuts = Cuts::default();
     for vector in vectors {
-        let octets = vector.octets.as_slice();
-        let answer = agreed(alloc, vector.kind, octets)?;
-        is_whole(alloc, octets, &answer)?;
-        if vector.kind.is_fed() {
-            agrees_in_two(alloc, vector.kind, octets, &answer)?;
-            twos = twos.saturating_add(octets.len() as u64);
-            threes = threes.saturating_add(agrees_in_three(alloc, vector.kind, octets, &answer)?);
-        }
-        if vector.kind.ends_by_itself() {
-            is_left(alloc, vector, &answer)?;
-        }
+        cuts = feed(alloc, vector, cuts)?;
     }
     let count = vectors.len();
+    let Cuts { twos, threes } = cuts;
     Ok(format!(in alloc;
         "whole: {count} lists accepted, in {twos} cuts into two pieces and {threes} into three"
     )?)
+}
+
+/// One list more.
+fn feed(alloc: Global, vector: &Vector, cuts: Cuts) -> Result<Cuts, Fault> {
+    let answer = agreed(alloc, vector.kind, vector.octets.as_slice())?;
+    is_fed(alloc, vector, &answer, cuts)
+}
+
+/// The list whose answer this is, whole, in pieces, and with an octet after it.
+fn is_fed(alloc: Global, vector: &Vector, answer: &Answer, cuts: Cuts) -> Result<Cuts, Fault> {
+    is_whole(alloc, vector.octets.as_slice(), answer)?;
+    if vector.kind.ends_by_itself() {
+        is_left(alloc, vector, answer)?;
+    }
+    if vector.kind.is_fed() {
+        cut(alloc, vector, answer, cuts)
+    } else {
+        Ok(cuts)
+    }
+}
+
+/// In every two pieces and in every three.
+fn cut(alloc: Global, vector: &Vector, answer: &Answer, cuts: Cuts) -> Result<Cuts, Fault> {
+    let octets = vector.octets.as_slice();
+    agrees_in_two(alloc, vector.kind, octets, answer)?;
+    let threes = agrees_in_three(alloc, vector.kind, octets, answer)?;
+    Ok(Cuts {
+        twos: cuts.twos.saturating_add(octets.len() as u64),
+        threes: cuts.threes.saturating_add(threes),
+    })
 }
 
 /// A list is accepted to its end.
@@ -47,15 +74,37 @@ fn is_whole(alloc: Global, octets: &[u8], answer: &Answer) -> Result<(), Fault> 
 
 /// An octet after the value is left, and changes nothing.
 fn is_left(alloc: Global, vector: &Vector, answer: &Answer) -> Result<(), Fault> {
-    let mut longer = Vec::from_slice(alloc, vector.octets.as_slice())?;
+    let longer = longer(alloc, vector.octets.as_slice())?;
+    is_answered_so(alloc, vector.kind, longer.as_slice(), answer)
+}
+
+/// The octets with one more.
+fn longer(alloc: Global, octets: &[u8]) -> Result<Vec<u8>, AllocError> {
+    let mut longer = Vec::from_slice(alloc, octets)?;
     longer.push(0xFF)?;
+    Ok(longer)
+}
+
+/// Octets are answered as those without the last were.
+fn is_answered_so(alloc: Global, kind: Kind, octets: &[u8], answer: &Answer) -> Result<(), Fault> {
+    let again = agreed(alloc, kind, octets)?;
+    is_same(alloc, kind, octets, &again, answer)
+}
+
+/// The answer to octets is this one, in every two pieces too.
+fn is_same(
+    alloc: Global,
+    kind: Kind,
+    octets: &[u8],
+    again: &Answer,
+    answer: &Answer,
+) -> Result<(), Fault> {
+    agrees_in_two(alloc, kind, octets, again)?;
     let case = Case {
         what: "an octet after the value",
-        octets: longer.as_slice(),
-        place: vector.octets.len(),
+        octets,
+        place: octets.len().saturating_sub(1),
         piece: 0,
     };
-    let again = agreed(alloc, vector.kind, longer.as_slice())?;
-    agrees_in_two(alloc, vector.kind, longer.as_slice(), &again)?;
-    case.expect(alloc, again == *answer)
+    case.expect(alloc, *again == *answer)
 }

@@ -51,20 +51,43 @@ const SIZE: u8 = 2;
 pub(crate) fn fail_each(alloc: Global) -> Result<String, Fault> {
     let mut writers = 0u64;
     let mut readers = 0u64;
-    for &(message, text, chain) in &ROWS {
-        let carried = Carried {
-            message,
-            octets: of_hex(alloc, text)?,
-            chain: of_hex(alloc, chain)?,
-        };
-        for place in 0..carried.chain.len() {
-            writers = writers.saturating_add(writers_fail(alloc, &carried, place)?);
-            readers = readers.saturating_add(readers_fail(alloc, &carried, place)?);
-        }
+    for &row in &ROWS {
+        let carried = of_row(alloc, row)?;
+        writers = writers.saturating_add(each_writer_fails(alloc, &carried)?);
+        readers = readers.saturating_add(each_reader_fails(alloc, &carried)?);
     }
     Ok(format!(in alloc;
         "streams: {writers} writers and {readers} readers failed at the octet that they said"
     )?)
+}
+
+/// What a row says.
+fn of_row(alloc: Global, row: (Message, &str, &str)) -> Result<Carried, Fault> {
+    let (message, octets, chain) = row;
+    let octets = of_hex(alloc, octets)?;
+    Ok(Carried {
+        message,
+        octets,
+        chain: of_hex(alloc, chain)?,
+    })
+}
+
+/// Writers that fail at each place of the chain: how many.
+fn each_writer_fails(alloc: Global, carried: &Carried) -> Result<u64, Fault> {
+    let mut writers = 0u64;
+    for place in 0..carried.chain.len() {
+        writers = writers.saturating_add(writers_fail(alloc, carried, place)?);
+    }
+    Ok(writers)
+}
+
+/// Readers that fail at each place of the chain: how many.
+fn each_reader_fails(alloc: Global, carried: &Carried) -> Result<u64, Fault> {
+    let mut readers = 0u64;
+    for place in 0..carried.chain.len() {
+        readers = readers.saturating_add(readers_fail(alloc, carried, place)?);
+    }
+    Ok(readers)
 }
 
 /// Writers that fail, are interrupted, or take nothing more, after so many octets: how many.
