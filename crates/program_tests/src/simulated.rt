@@ -3,70 +3,104 @@
 mod requests;
 
 use card_words::{BlockNumbers, Pair, Pairs, Session};
-use exchange_core::{Side, replay};
+use exchange_core::{Exchange, Side, replay};
 use octet_core::Octets;
 use simulator::{SimulationFault, simulate};
 use std::alloc::Global;
 use std::process::Abort;
-use std::test::Fail;
 use testing::{of_hex, same, shows};
 
-/// A session of one command and its reply, each of so many octets 00, at a card that takes fields of 32 octets.
-fn session(alloc: Global, command: usize, reply: usize) -> Result<Session, Fail> {
+/// So many octets 00.
+fn zeros(rt: &impl Abort, alloc: Global, count: usize) -> Octets {
+    Octets::of(vec![in alloc; 0; count].expect(rt, "octets"))
+}
+
+/// The answer to reset of a card that takes fields of 32 octets.
+fn atr(rt: &impl Abort, alloc: Global) -> Octets {
+    Octets::of(of_hex(alloc, "3B808131204555").expect(rt, "octets"))
+}
+
+/// One command and its reply.
+fn one(rt: &impl Abort, alloc: Global, pair: Pair) -> Pairs {
     let mut list = Vec::new(alloc);
-    list.push(Pair {
-        command: Octets::of(vec![in alloc; 0; command]?),
-        reply: Octets::of(vec![in alloc; 0; reply]?),
-    })?;
-    Ok(Session {
-        atr: Octets::of(of_hex(alloc, "3B808131204555")?),
+    list.push(pair).ok().expect(rt, "a pair");
+    Pairs::of(list)
+}
+
+/// The numbers of no block.
+fn no_block(alloc: Global) -> BlockNumbers {
+    BlockNumbers::of(Vec::new(alloc))
+}
+
+/// A session of one command and its reply, each of so many octets 00.
+fn session(rt: &impl Abort, alloc: Global, command: usize, reply: usize) -> Session {
+    let pair = Pair {
+        command: zeros(rt, alloc, command),
+        reply: zeros(rt, alloc, reply),
+    };
+    Session {
+        atr: atr(rt, alloc),
         ifsd: None,
-        pairs: Pairs::of(list),
-        lost: BlockNumbers::of(Vec::new(alloc)),
-        damaged: BlockNumbers::of(Vec::new(alloc)),
-        spoilt: BlockNumbers::of(Vec::new(alloc)),
-    })
+        pairs: one(rt, alloc, pair),
+        lost: no_block(alloc),
+        damaged: no_block(alloc),
+        spoilt: no_block(alloc),
+    }
 }
 
-/// Asserts how many lines the exchange of a session has, which replays at both ends.
-fn assert_line_count(
-    rt: &impl Abort,
-    alloc: Global,
-    command: usize,
-    reply: usize,
-    count: usize,
-) -> Result<(), Fail> {
-    let session = session(alloc, command, reply)?;
-    let exchange = simulate(alloc, &session, 100_000).map_err(|_| "no exchange")?;
-    for side in [Side::Terminal, Side::Card] {
-        assert!(rt; same(replay(alloc, &exchange, side), Ok(())));
-    }
+/// The exchange of that session.
+fn exchange(rt: &impl Abort, alloc: Global, command: usize, reply: usize) -> Exchange {
+    let session = session(rt, alloc, command, reply);
+    simulate(alloc, &session, 100_000).expect(rt, "an exchange")
+}
+
+/// Whether an exchange replays at an end.
+fn replays(alloc: Global, exchange: &Exchange, side: Side) -> bool {
+    replay(alloc, exchange, side).is_ok()
+}
+
+/// Asserts how many lines an exchange has, which replays at both ends.
+fn assert_line_count(rt: &impl Abort, alloc: Global, exchange: &Exchange, count: usize) {
+    assert!(rt; replays(alloc, exchange, Side::Terminal));
+    assert!(rt; replays(alloc, exchange, Side::Card));
     assert!(rt; same(exchange.lines().get().len(), count));
-    Ok(())
 }
 
 #[test]
-fn ends_before_an_event_that_is_refused(rt: HostRuntime) -> Result<(), Fail> {
+fn ends_before_an_event_that_is_refused(rt: HostRuntime) {
+    let alloc = rt.alloc();
     // a command that is too long: nothing happens; a reply: the host was asked, and that is all
-    assert_line_count(&rt, rt.alloc(), 65_545, 0, 0)?;
-    assert_line_count(&rt, rt.alloc(), 5, 65_539, 3)?;
+    assert_line_count(&rt, alloc, &exchange(&rt, alloc, 65_545, 0), 0);
+    assert_line_count(&rt, alloc, &exchange(&rt, alloc, 5, 65_539), 3);
     // the longest ones: 2,049 blocks of each, and as many R-blocks but for the last two
-    assert_line_count(&rt, rt.alloc(), 65_544, 65_538, 4 + 4 * 2_049 - 2)
+    let count = 4 + 4 * 2_049 - 2;
+    assert_line_count(&rt, alloc, &exchange(&rt, alloc, 65_544, 65_538), count);
+}
+
+/// Whether a session doesn't end within so many events.
+fn is_too_large(alloc: Global, session: &Session, most: usize) -> bool {
+    matches!(
+        simulate(alloc, session, most),
+        Err(SimulationFault::TooLarge)
+    )
+}
+
+/// Asserts that a session ends within so many events, and not within fewer.
+fn assert_event_count(rt: &impl Abort, alloc: Global, session: &Session, count: usize) {
+    for fewer in 0..count {
+        assert!(rt;
+            is_too_large(alloc, session, fewer),
+            "ended within {fewer} events"
+        );
+    }
+    assert!(rt; simulate(alloc, session, count).is_ok());
 }
 
 #[test]
-fn sessions_that_are_too_large(rt: HostRuntime) -> Result<(), Fail> {
+fn sessions_that_are_too_large(rt: HostRuntime) {
     // four events lead to the end of a session of one exchange
-    let session = session(rt.alloc(), 5, 2)?;
-    for most in 0..5usize {
-        let is_too_large = matches!(
-            simulate(rt.alloc(), &session, most),
-            Err(SimulationFault::TooLarge)
-        );
-        assert!(rt; is_too_large, "ended within {most} events");
-    }
-    assert!(rt; simulate(rt.alloc(), &session, 5).is_ok());
-    Ok(())
+    let session = session(&rt, rt.alloc(), 5, 2);
+    assert_event_count(&rt, rt.alloc(), &session, 5);
 }
 
 const FAULTS: [(SimulationFault, &str); 3] = [
@@ -77,7 +111,7 @@ const FAULTS: [(SimulationFault, &str); 3] = [
 
 #[test]
 fn faults_are_printed(rt: HostRuntime) {
-    for &(fault, text) in &FAULTS {
-        assert!(rt; shows(rt.alloc(), &fault, text));
+    for (fault, text) in &FAULTS {
+        assert!(rt; shows(rt.alloc(), fault, text));
     }
 }

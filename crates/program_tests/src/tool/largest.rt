@@ -1,15 +1,12 @@
 //! The largest values, from standard input in both forms, and the largest sessions.
 
-ghost use Rattle.std.specs.Prelude.{◌≤◌};
-
-use super::{told, words_of};
-use card_tool::{Status, run};
-use octet_core::{After, Counted, Feeder, Taker, hex_upper};
-use std::alloc::{AllocError, Global};
+use super::{ran, told};
+use card_tool::Status;
+use octet_core::{After, Feeder, Taker, hex_upper};
+use std::alloc::Global;
 use std::io::{self, Write};
 use std::process::Abort;
-use std::test::Fail;
-use testing::same;
+use testing::{of_hex, same};
 
 /// A writer that looks whether it takes this text.
 #[derive(Drop)]
@@ -33,153 +30,160 @@ impl Write for Comparing<'_> {
 }
 
 /// Asserts that the program accepts what it reads, and what it says of it.
-fn says(
-    rt: &impl Abort,
-    alloc: Global,
-    line: &[&str],
-    file: &[u8],
-    text: &str,
-) -> Result<(), AllocError> {
-    let words = words_of(alloc, line)?;
-    let mut reader = Counted::new(Feeder::new(file, 65_521, After::End));
-    let mut writer = Counted::new(Comparing {
+fn says(rt: &impl Abort, alloc: Global, line: &str, file: &[u8], text: &str) {
+    let reader = Feeder::new(file, 65_521, After::End);
+    let writer = Comparing {
         left: text.as_bytes(),
         differs: false,
-    });
-    let status = run(alloc, words, &mut reader, &mut writer);
-    let writer = writer.into_inner();
-    assert!(rt; status == Status::Accepted);
-    assert!(rt; !writer.differs && writer.left.is_empty());
-    Ok(())
+    };
+    let ended = ran(rt, alloc, line, reader, writer);
+    assert!(rt; same(ended.status, Status::Accepted), "{line}");
+    assert!(rt;
+        !ended.writer.differs && ended.writer.left.is_empty(),
+        "{line}"
+    );
 }
 
-/// The octets in hexadecimal, each after a mark or a space, in lines.
-fn spaced(alloc: Global, octets: &[u8]) -> Result<String, AllocError> {
+/// A text between two others.
+fn within(rt: &impl Abort, alloc: Global, front: &str, text: &str, back: &str) -> String {
+    format!(in alloc; "{front}{text}{back}").expect(rt, "a text")
+}
+
+/// A text so many times.
+fn repeated(rt: &impl Abort, alloc: Global, text: &str, count: usize) -> String {
+    text.repeat(alloc, count).expect(rt, "a text")
+}
+
+/// The octets of a hexadecimal text.
+fn octets(rt: &impl Abort, alloc: Global, hex: &str) -> Vec<u8> {
+    of_hex(alloc, hex).expect(rt, "octets")
+}
+
+/// A line of octets in hexadecimal, after a mark.
+fn marked(rt: &impl Abort, alloc: Global, octets: &[u8]) -> String {
+    let digits = hex_upper(alloc, octets).expect(rt, "digits");
+    within(rt, alloc, "0x", digits.as_str(), "\r\n")
+}
+
+/// The octets in hexadecimal, in lines that a mark begins.
+fn in_lines(rt: &impl Abort, alloc: Global, octets: &[u8]) -> String {
     let mut text = String::new(alloc);
     for piece in octets.chunks(4096) {
-        let digits = hex_upper(alloc, piece)?;
-        text.push_str("0x")?;
-        text.push_str(digits.as_str())?;
-        text.push_str("\r\n")?;
+        let line = marked(rt, alloc, piece);
+        text.push_str(line.as_str()).expect(rt, "a text");
     }
-    Ok(text)
+    text
 }
 
-/// Asserts what the program says of octets of a kind, in both forms: how many they are, and what they show.
-fn both_say(
+/// Asserts what the program says of octets as they are, and in hexadecimal.
+fn both_say(rt: &impl Abort, alloc: Global, lines: [&str; 2], octets: &[u8], text: &str) {
+    let [as_they_are, in_hex] = lines;
+    says(rt, alloc, as_they_are, octets, text);
+    let file = in_lines(rt, alloc, octets);
+    says(rt, alloc, in_hex, file.as_bytes(), text);
+}
+
+/// Asserts how many octets a hexadecimal text has, and what the program says of them: to the lines that check them and
+/// to those that show them.
+fn assert_shown(
     rt: &impl Abort,
     alloc: Global,
-    kind: &str,
-    octets: &[u8],
+    lines: [[&str; 2]; 2],
+    hex: &str,
+    count: usize,
     shown: &str,
-) -> Result<(), AllocError> {
-    let count = octets.len();
-    let checked = format!(in alloc; "ok {count} octets\n")?;
-    let check: &[&str] = &["check", kind, "--stdin", "octets"];
-    says(rt, alloc, check, octets, checked.as_str())?;
-    let show: &[&str] = &["show", kind, "--stdin", "octets"];
-    says(rt, alloc, show, octets, shown)?;
-    let text = spaced(alloc, octets)?;
-    let check: &[&str] = &["check", kind, "--stdin", "hex"];
-    says(rt, alloc, check, text.as_bytes(), checked.as_str())?;
-    let show: &[&str] = &["show", kind, "--stdin", "hex"];
-    says(rt, alloc, show, text.as_bytes(), shown)
+) {
+    let octets = octets(rt, alloc, hex);
+    assert!(rt; same(octets.len(), count));
+    let checked = format!(in alloc; "ok {count} octets\n").expect(rt, "a text");
+    let [check, show] = lines;
+    both_say(rt, alloc, check, octets.as_slice(), checked.as_str());
+    both_say(rt, alloc, show, octets.as_slice(), shown);
 }
 
-/// These octets, as many octets A5, and then those.
-fn padded(alloc: Global, front: &[u8], count: usize, back: &[u8]) -> Result<Vec<u8>, AllocError>
-    requires { count ≤ 1048576 }
-{
-    let mut octets = Vec::new(alloc);
-    octets.extend_from_slice(front)?;
-    for _ in 0..count {
-        octets.push(0xA5)?;
-    }
-    octets.extend_from_slice(back)?;
-    Ok(octets)
-}
+/// The words that check and show each kind, of octets as they are and in hexadecimal.
+const FORESTS: [[&str; 2]; 2] = [
+    ["check tlv --stdin octets", "check tlv --stdin hex"],
+    ["show tlv --stdin octets", "show tlv --stdin hex"],
+];
 
-#[test]
-fn the_largest_forest(rt: HostRuntime) -> Result<(), Fail> {
-    let octets = padded(rt.alloc(), b"\x5A\x83\x0F\xFF\xFB", 1_048_571, b"")?;
-    assert!(rt; same(octets.len(), 1_048_576));
-    let value = "A5".repeat(rt.alloc(), 1_048_571)?;
-    let shown = format!(in rt.alloc(); "objects 1\n5A 830FFFFB {value}\n")?;
-    both_say(&rt, rt.alloc(), "tlv", octets.as_slice(), shown.as_str())?;
-    let tidied = format!(in rt.alloc(); "5A830FFFFB{value}\n")?;
-    let tidy: &[&str] = &["build", "tidy", "--stdin", "octets"];
-    says(&rt, rt.alloc(), tidy, octets.as_slice(), tidied.as_str())?;
-    let text = spaced(rt.alloc(), octets.as_slice())?;
-    let tidy: &[&str] = &["build", "tidy", "--stdin=hex"];
-    says(&rt, rt.alloc(), tidy, text.as_bytes(), tidied.as_str())?;
-    Ok(())
+const COMMANDS: [[&str; 2]; 2] = [
+    ["check command --stdin octets", "check command --stdin hex"],
+    ["show command --stdin octets", "show command --stdin hex"],
+];
+
+const RESPONSES: [[&str; 2]; 2] = [
+    [
+        "check response --stdin octets",
+        "check response --stdin hex",
+    ],
+    ["show response --stdin octets", "show response --stdin hex"],
+];
+
+/// Asserts that the program leaves a forest as it is.
+fn assert_tidy(rt: &impl Abort, alloc: Global, hex: &str) {
+    let octets = octets(rt, alloc, hex);
+    let text = within(rt, alloc, hex, "\n", "");
+    let lines = ["build tidy --stdin octets", "build tidy --stdin=hex"];
+    both_say(rt, alloc, lines, octets.as_slice(), text.as_str());
 }
 
 #[test]
-fn the_longest_command(rt: HostRuntime) -> Result<(), Fail> {
-    let octets = padded(
-        rt.alloc(),
-        b"\x00\xD6\x00\x00\x00\xFF\xFF",
-        65_535,
-        b"\x00\x00",
-    )?;
-    assert!(rt; same(octets.len(), 65_544));
-    let part = "A5".repeat(rt.alloc(), 65_535)?;
-    let shown = format!(in rt.alloc();
-        "case 4 extended\nheader 00D60000\npart {part}\nle 65536\n"
-    )?;
-    both_say(
-        &rt,
-        rt.alloc(),
-        "command",
-        octets.as_slice(),
-        shown.as_str(),
-    )?;
-    Ok(())
+fn the_largest_forest(rt: HostRuntime) {
+    let alloc = rt.alloc();
+    let value = repeated(&rt, alloc, "A5", 1_048_571);
+    let hex = within(&rt, alloc, "5A830FFFFB", value.as_str(), "");
+    let shown = within(&rt, alloc, "objects 1\n5A 830FFFFB ", value.as_str(), "\n");
+    assert_shown(&rt, alloc, FORESTS, hex.as_str(), 1_048_576, shown.as_str());
+    assert_tidy(&rt, alloc, hex.as_str());
 }
 
 #[test]
-fn the_longest_response(rt: HostRuntime) -> Result<(), Fail> {
-    let octets = padded(rt.alloc(), b"", 65_536, b"\x90\x00")?;
-    assert!(rt; same(octets.len(), 65_538));
-    let part = "A5".repeat(rt.alloc(), 65_536)?;
-    let shown = format!(in rt.alloc(); "part {part}\nstatus 9000 normal\n")?;
-    both_say(
-        &rt,
-        rt.alloc(),
-        "response",
-        octets.as_slice(),
-        shown.as_str(),
-    )?;
-    Ok(())
-}
-
-/// A word of the longest command and the longest reply, all octets 00.
-fn longest_pair(alloc: Global) -> Result<String, AllocError> {
-    let command = "00".repeat(alloc, 65_544)?;
-    let reply = "00".repeat(alloc, 65_538)?;
-    format!(in alloc; "{command}:{reply}")
+fn the_longest_command(rt: HostRuntime) {
+    let alloc = rt.alloc();
+    let part = repeated(&rt, alloc, "A5", 65_535);
+    let hex = within(&rt, alloc, "00D6000000FFFF", part.as_str(), "0000");
+    let front = "case 4 extended\nheader 00D60000\npart ";
+    let shown = within(&rt, alloc, front, part.as_str(), "\nle 65536\n");
+    assert_shown(&rt, alloc, COMMANDS, hex.as_str(), 65_544, shown.as_str());
 }
 
 #[test]
-fn sessions_with_a_large_text(rt: HostRuntime) -> Result<(), Fail> {
-    let pair = longest_pair(rt.alloc())?;
-    let pair = pair.as_str();
-    let atr = "3B808131204555";
-    let large = ["simulate", atr, pair, pair, pair, pair, pair];
-    let (writer, status) = told(rt.alloc(), &large, 4096, After::End)?;
-    assert!(rt; writer.kept() == b"fault: TooLarge\n".as_slice());
-    assert!(rt; status == Status::Fault);
-    let words = words_of(rt.alloc(), &large[..6])?;
-    let mut reader = Counted::new(Feeder::new(b"", 1, After::Fails));
-    let mut writer = Counted::new(Taker::new(4096, 4096, After::Fails));
-    let status = run(rt.alloc(), words, &mut reader, &mut writer);
-    assert!(rt; status == Status::Fault);
-    assert!(rt;
-        writer
-            .into_inner()
-            .kept()
-            .starts_with(b"scard-exchange 1\n")
-    );
-    Ok(())
+fn the_longest_response(rt: HostRuntime) {
+    let alloc = rt.alloc();
+    let part = repeated(&rt, alloc, "A5", 65_536);
+    let hex = within(&rt, alloc, "", part.as_str(), "9000");
+    let shown = within(&rt, alloc, "part ", part.as_str(), "\nstatus 9000 normal\n");
+    assert_shown(&rt, alloc, RESPONSES, hex.as_str(), 65_538, shown.as_str());
+}
+
+/// A blank, and a word of the longest command and the longest reply, all octets 00.
+fn longest_pair(rt: &impl Abort, alloc: Global) -> String {
+    let command = repeated(rt, alloc, "00", 65_544);
+    let reply = repeated(rt, alloc, "00", 65_538);
+    format!(in alloc; " {command}:{reply}").expect(rt, "a pair")
+}
+
+/// The words of a session with the longest pair so many times.
+fn longest_session(rt: &impl Abort, alloc: Global, count: usize) -> String {
+    let pairs = repeated(rt, alloc, longest_pair(rt, alloc).as_str(), count);
+    within(rt, alloc, "simulate 3B808131204555", pairs.as_str(), "")
+}
+
+#[test]
+fn sessions_with_a_large_text(rt: HostRuntime) {
+    let line = longest_session(&rt, rt.alloc(), 5);
+    let writer = Taker::new(4096, 7, After::End);
+    let large = told(&rt, rt.alloc(), line.as_str(), writer);
+    assert!(rt; same(large.writer.kept(), b"fault: TooLarge\n".as_slice()));
+    assert!(rt; same(large.status, Status::Fault));
+}
+
+#[test]
+fn the_largest_text_of_a_session(rt: HostRuntime) {
+    let line = longest_session(&rt, rt.alloc(), 4);
+    let writer = Taker::new(4096, 4096, After::Fails);
+    let told = told(&rt, rt.alloc(), line.as_str(), writer);
+    assert!(rt; same(told.status, Status::Fault));
+    assert!(rt; told.writer.kept().starts_with(b"scard-exchange 1\n"));
 }

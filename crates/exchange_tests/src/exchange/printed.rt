@@ -2,6 +2,7 @@
 
 use exchange_core::{Event, EventFault, RecorderFault, ReplayFault};
 use octet_core::Text;
+use std::alloc::Global;
 use t1_core::{CardFault, TerminalFault};
 use testing::{debugs, shows};
 
@@ -14,20 +15,25 @@ const OF_EVENTS: [(EventFault, &str); 4] = [
 
 #[test]
 fn faults_of_events_are_printed(rt: HostRuntime) {
-    let alloc = rt.alloc();
-    for (fault, text) in OF_EVENTS {
-        assert!(rt; shows(alloc, &fault, text));
+    for (fault, text) in &OF_EVENTS {
+        assert!(rt; shows(rt.alloc(), fault, text));
     }
+}
+
+/// A replay that differs at line 7, where the end gives an empty text.
+fn difference(alloc: Global) -> ReplayFault {
+    ReplayFault::Differs {
+        line: 7,
+        gives: Text::of(String::new(alloc)),
+    }
+}
+
+#[test]
+fn faults_of_recorders_and_replays_are_printed(rt: HostRuntime) {
+    let alloc = rt.alloc();
     assert!(rt; shows(alloc, &RecorderFault::Refused("Crc"), "Refused: Crc"));
     assert!(rt; shows(alloc, &RecorderFault::Memory, "memory"));
-    let gives = Text::of(String::new(alloc));
-    assert!(rt;
-        shows(
-            alloc,
-            &ReplayFault::Differs { line: 7, gives },
-            "line 7: Differs"
-        )
-    );
+    assert!(rt; shows(alloc, &difference(alloc), "line 7: Differs"));
     assert!(rt; shows(alloc, &ReplayFault::Memory, "memory"));
 }
 
