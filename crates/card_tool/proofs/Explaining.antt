@@ -1,5 +1,5 @@
 -- How an answer becomes one with an explanation.
-use Rattle.std.proofs.Common.{◌≡◌, ◌∙◌, ◌++◌, inl, inr, ℕ, List, [], Option, Some, None, Result, Ok, Err, IfOk, IfErr, OnOk, IsOkAnd, String, length, string_bytes, true, ap, append-nil, refl, subst, sym}
+use Rattle.std.proofs.Common.{◌≡◌, ◌⊎◌, ◌∙◌, ◌++◌, inl, inr, ℕ, List, [], Option, Some, None, Result, Ok, Err, IfOk, IfErr, OnOk, IsOkAnd, String, length, string_bytes, true, ap, append-nil, refl, subst, sym}
 use Rattle.std.specs.declared.alloc.Global.{Global}
 use Rattle.command_line.specs.Explain.{asks_to_explain}
 use Rattle.card_words.specs.Given.{octets_given, IsFromReader}
@@ -23,6 +23,7 @@ use Rattle.card_kinds.specs.Codec.{Codec, IsVerdict}
 use Rattle.explainer.specs.Notes.{line_note, IsVerdictNote}
 use Rattle.card_tool.specs.Judged.{IsNoteBy}
 use Rattle.card_kinds.specs.ListTexts.{list_codec}
+use Rattle.tlv_core.specs.Fill.{HasDuplicate}
 use Rattle.tlv_core.specs.declared.known.Known.{Known}
 use Rattle.octet_core.proofs.Lists.{nil_of}
 use Rattle.card_kinds.specs.declared.answer.Answer.{Answer}
@@ -68,11 +69,24 @@ by-verdict c b verdict (Err e) is h = tt
 
 -- where there is no note on a list, it is one on a known value
 pub on-known : {E : Type 0} (r : Result (String Global) E) (list : List ℕ) (known : Result (List Known) Fault)
-    (silence : List ℕ) → length silence ≡ 0 → IsNoteBy list_codec list silence → IfOk known (λ values. ⊥)
+    (silence : List ℕ) → length silence ≡ 0 → IsNoteBy list_codec list silence → IfOk known HasDuplicate
     → IfOk r (λ text. IsFillNote list known (string_bytes text))
 on-known (Ok text) list known silence none h faults =
     inr (subst (IsNoteBy list_codec list) (nil_of silence none) h, faults)
 on-known (Err e) list known silence none h faults = tt
+
+-- and where all words say known values, one on two of one tag, or none
+pub on-values : {E : Type 0} (r : Result (String Global) E) (list : List ℕ) (known : Result (List Known) Fault)
+    (values : List Known) (silence : List ℕ) → length silence ≡ 0 → IsNoteBy list_codec list silence
+    → known ≡ Ok values → IfOk r (λ text. (string_bytes text ≡ []) ⊎ HasDuplicate values)
+    → IfOk r (λ text. IsFillNote list known (string_bytes text))
+on-values (Ok text) list known values silence none h is (inl empty) =
+    inl (subst (IsNoteBy list_codec list) (nil_of silence none ∙ sym empty) h)
+on-values (Ok text) list known values silence none h is (inr twice) = inr (
+  subst (IsNoteBy list_codec list) (nil_of silence none) h,
+  subst (λ (k : Result (List Known) Fault). IfOk k HasDuplicate) (sym is) twice,
+)
+on-values (Err e) list known values silence none h is told = tt
 
 fits-fault : {E : Type 0} (fault : Fault) (note : Result (String Global) E) (added : List ℕ)
     → IfOk note (λ text. IsFaultNote fault (string_bytes text)) → IsAdded note added → Fits (fault_text fault) added

@@ -27,6 +27,7 @@ use Rattle.exchange_text.specs.declared.fault.ExchangeFault.{ExchangeFault}
 use Rattle.exchange_text.specs.declared.fault.ExchangeFault.TheVariants.{Header, End as EndAt, Word, Hex, Falls, Memory}
 use Rattle.exchange_core.specs.declared.replaying.Side.{Side}
 use Rattle.exchange_core.specs.declared.replaying.Side.TheVariants as side
+use Rattle.tlv_core.specs.Fill.{HasDuplicate}
 use Rattle.tlv_core.specs.declared.known.Known.{Known}
 use Rattle.explainer.specs.Notes.{IsSessionNote, large_note, line_note}
 use Rattle.card_tool.specs.Answers.{IsAnswerTo, IsRight, IsRightTo}
@@ -79,10 +80,10 @@ IsReplayNote end text note = MatchResult (exchange_said text) (λ e. IsNoteAt en
 -- ---- notes on what a request is about
 
 -- The note on a list that is to be filled: that on its octets, or where nothing is to be said of them, one on a known
--- value that is none, which is open.
+-- value that is none, or on two of one tag, which is open.
 abbrev pub IsFillNote : List ℕ → Result (List Known) Fault → List ℕ → Type 0
 IsFillNote list known note =
-    IsNoteBy list_codec list note ⊎ (IsNoteBy list_codec list [] × IfOk known (λ values. ⊥))
+    IsNoteBy list_codec list note ⊎ (IsNoteBy list_codec list [] × IfOk known HasDuplicate)
 
 -- The note on a session by how it ends: none on one that was simulated, that on its answer to reset where it is
 -- refused, or how large its text may be.

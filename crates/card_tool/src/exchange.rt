@@ -2,6 +2,7 @@
 
 ghost use Rattle.std.specs.Prelude.{◌≡◌, ◌≢◌, ◌++◌, IfOk, IsOkAnd, string_bytes};
 ghost use Rattle.apdu_list.specs.Listing.{apdus_text};
+ghost use Rattle.exchange_text.specs.Exchange.{migrated};
 ghost use Rattle.exchange_text.specs.Text.{exchange_text};
 ghost use Rattle.exchange_text.specs.declared.fault.ExchangeFault.TheVariants.{Memory};
 ghost use Rattle.card_tool.specs.ExchangeTexts.{both_text, file_fault_text, IsOutcome, IsReplayed, IsReplayedAt, Lists, Migrates, Replays};
@@ -160,9 +161,17 @@ pub(crate) fn migrated(alloc: Global, file: Octets) -> Result<Answer, AllocError
     ensures { IfOk result (λ answer. Migrates file answer.text answer.status) }
 {
     match read_exchange(alloc, file.get()) {
-        Ok(exchange) => written(alloc, &migrate(exchange)),
+        Ok(exchange) => newest(alloc, exchange),
         Err(fault) => refused(alloc, fault),
     }
+}
+
+/// The text of an exchange in the newest version.
+fn newest(alloc: Global, exchange: Exchange) -> Result<Answer, AllocError>
+    ensures text { IfOk result (λ answer. answer.text ≡ exchange_text (migrated exchange)) }
+    ensures status { IfOk result (λ answer. answer.status ≡ ended.Accepted) }
+{
+    written(alloc, &migrate(exchange))
 }
 
 /// The file in the newest version, or its fault, with a note on the line that this is in.
@@ -171,7 +180,7 @@ pub(crate) fn migrated_with_note(alloc: Global, file: &[u8]) -> Result<WithNote,
 {
     match read_exchange(alloc, file) {
         Ok(exchange) => {
-            let answer = written(alloc, &migrate(exchange))?;
+            let answer = newest(alloc, exchange)?;
             Ok(WithNote {
                 answer,
                 note: Ok(String::new(alloc)),

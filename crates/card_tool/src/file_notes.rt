@@ -33,20 +33,13 @@ pub(crate) fn fault_note(
     ensures other { IfOk result (λ _. fault ≢ Memory) }
 {
     match fault {
-        ExchangeFault::Header => {
-            let what = "expected: scard-exchange 1 or scard-exchange 2, and a line feed";
-            noted(alloc, text, 1, what)
-        }
+        ExchangeFault::Header => noted(alloc, text, 1, header_at(text)),
         ExchangeFault::End { line } => {
             let what = "expected: a line feed at its end, and a line atr OCTETS after the header";
             noted(alloc, text, line, what)
         }
         ExchangeFault::Word { line } => noted(alloc, text, line, form_at(text, line)),
-        ExchangeFault::Hex { line } => {
-            let what =
-                "expected: OCTETS in upper-case hexadecimal, two digits each, or none; HH is one octet";
-            noted(alloc, text, line, what)
-        }
+        ExchangeFault::Hex { line } => noted(alloc, text, line, octets_at(text, line)),
         ExchangeFault::Falls { line } => {
             let what = "expected: a number that isn't below that of an earlier line at N";
             noted(alloc, text, line, what)
@@ -127,23 +120,89 @@ fn shown(alloc: Global, line: &[u8]) -> Result<String, AllocError> {
     Ok(text)
 }
 
+/// What is said of a line that ends with a carriage return.
+const RETURN: &str = "it ends with a carriage return; expected: a line feed alone";
+
+/// Whether a line ends with a carriage return.
+fn has_return(text: &[u8], number: usize) -> bool {
+    line_at(text, number).ends_with(b"\r")
+}
+
+/// What is wrong with a first line that isn't the header.
+fn header_at(text: &[u8]) -> &'static str {
+    if text.starts_with(b"\xEF\xBB\xBF") {
+        return "it begins with a byte order mark; expected: scard-exchange 1 or scard-exchange 2, and a line feed";
+    }
+    if has_return(text, 1) {
+        return RETURN;
+    }
+    "expected: scard-exchange 1 or scard-exchange 2, and a line feed"
+}
+
+/// What is wrong with a line that has no octets where they should be.
+fn octets_at(text: &[u8], number: usize) -> &'static str {
+    if has_return(text, number) {
+        return RETURN;
+    }
+    "expected: OCTETS in upper-case hexadecimal, two digits each, or none; HH is one octet"
+}
+
+/// The first words of lines, and what comes after each.
+static FORMS: [(&str, &str); 16] = [
+    ("command", "expected: this word and OCTETS"),
+    ("answer", "expected: this word and OCTETS"),
+    ("reply", "expected: this word and OCTETS"),
+    ("asked", "expected: this word and OCTETS"),
+    ("ifsd", "expected: this word and HH"),
+    ("time", "expected: this word and HH"),
+    ("ifsc", "expected: this word and HH"),
+    (
+        "t",
+        "expected: t OCTETS, t OCTETS lost or t OCTETS as OCTETS",
+    ),
+    (
+        "c",
+        "expected: c OCTETS, c OCTETS lost or c OCTETS as OCTETS",
+    ),
+    ("quiet", "expected: this word alone"),
+    ("ifs-set", "expected: this word alone"),
+    ("given-up", "expected: this word alone"),
+    ("dead", "expected: this word alone"),
+    (
+        "at",
+        "expected: at N, N in 1 to 15 decimal digits, in version 2",
+    ),
+    (
+        "note",
+        "expected: note TEXT, TEXT of 1 to 200 printable characters, in version 2",
+    ),
+    (
+        "",
+        "expected: a first word that a line can have, as command, t, c, asked, reply, answer or quiet",
+    ),
+];
+
 /// The form of a line, by its first word.
 fn form_at(text: &[u8], number: usize) -> &'static str {
+    if has_return(text, number) {
+        return RETURN;
+    }
     if number == ATR_LINE {
         return "expected: atr OCTETS";
     }
-    match first_word(line_at(text, number)) {
-        b"command" | b"answer" | b"reply" | b"asked" => "expected: this word and OCTETS",
-        b"ifsd" | b"time" | b"ifsc" => "expected: this word and HH",
-        b"t" => "expected: t OCTETS, t OCTETS lost or t OCTETS as OCTETS",
-        b"c" => "expected: c OCTETS, c OCTETS lost or c OCTETS as OCTETS",
-        b"quiet" | b"ifs-set" | b"given-up" | b"dead" => "expected: this word alone",
-        b"at" => "expected: at N, N in 1 to 15 decimal digits, in version 2",
-        b"note" => "expected: note TEXT, TEXT of 1 to 200 printable characters, in version 2",
-        _ => {
-            "expected: a first word that a line can have, as command, t, c, asked, reply, answer or quiet"
+    form_of(first_word(line_at(text, number)))
+}
+
+/// What comes after a first word; of all other words, what is one.
+fn form_of(word: &[u8]) -> &'static str {
+    let mut form = "";
+    for &(first, after) in &FORMS {
+        form = after;
+        if first.as_bytes() == word {
+            break;
         }
     }
+    form
 }
 
 /// What is before the first space of a line.

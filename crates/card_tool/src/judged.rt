@@ -20,7 +20,7 @@ use card_kinds::{
 };
 use card_words::{Aim, Expected, Fault, Kind, Knowns, Task};
 use chain_core::Receiver;
-use explainer::{Explained, known_note, least_wanting, verdict_note};
+use explainer::{Explained, duplicate_note, known_note, least_wanting, verdict_note};
 use std::alloc::{AllocError, Global};
 use tlv_core::{Dol, DolReason, Forest};
 
@@ -167,7 +167,7 @@ pub(crate) fn filled(
 }
 
 /// What is to be said of a list that is to be filled: of its octets, or where they are a list, of a word that says no
-/// known value.
+/// known value, or of two that say values of one tag.
 fn fill_note(
     alloc: Global,
     words: &[String],
@@ -179,8 +179,11 @@ fn fill_note(
     ensures { IfOk result (λ note. IsFillNote list.now known.now (string_bytes note)) }
 {
     let note = verdict_note(alloc, list, verdict, None)?;
+    if !note.is_empty() {
+        return Ok(note);
+    }
     match known {
-        Err(_) if note.is_empty() => known_note(alloc, words),
-        Ok(_) | Err(_) => Ok(note),
+        Ok(known) => duplicate_note(alloc, words, known.get()),
+        Err(_) => known_note(alloc, words),
     }
 }

@@ -1,5 +1,5 @@
 -- A simulated session as words: an answer to reset, pairs COMMAND:REPLY, and lists of blocks.
-use Rattle.std.specs.Prelude.{◌≤◌, ◌==◌, ◌&&◌, ◌+◌, ◌-◌, ◌++◌, ℕ, Bool, zero, suc, nat_le, nat_lt, length, List, [], ◌∷◌, Option, Some, None, Result, Ok, Err, if◌then◌else◌}
+use Rattle.std.specs.Prelude.{◌≤◌, ◌==◌, ◌&&◌, ◌||◌, ◌+◌, ◌-◌, ◌++◌, ℕ, Bool, zero, suc, nat_le, nat_lt, length, List, [], ◌∷◌, Option, Some, None, Result, Ok, Err, if◌then◌else◌}
 use Rattle.std.specs.List.{slice_split, position_or_len, before_first, after_first}
 use Rattle.octet_core.specs.Decimal.{decimal_number}
 use Rattle.octet_core.specs.Octets.{AreOctets}
@@ -51,14 +51,15 @@ abbrev pub numbers_from : ℕ → ℕ → List ℕ
 numbers_from first zero = []
 numbers_from first (suc count) = first ∷ numbers_from (first + 1) count
 
--- how many blocks a list names at most, each as often as it is named
+-- how many blocks a list names at most up to the end of a range, each as often as it is named
 abbrev pub most_named : ℕ
 most_named = 1000000
 
--- the numbers of a range after those that the parts before it name; the last isn't below the first
+-- the numbers of a range after those that the parts before it name; the last isn't below the first, and one number is
+-- always taken
 abbrev pub with_range : List ℕ → ℕ → ℕ → Result (List ℕ) Fault
 with_range numbers first last =
-    if nat_le first last && nat_le (length numbers + (last + 1 - first)) most_named
+    if nat_le first last && (first == last || nat_le (length numbers + (last + 1 - first)) most_named)
     then Ok (numbers ++ numbers_from first (last + 1 - first))
     else Err Words
 

@@ -1,6 +1,6 @@
 //! Simulated sessions as words.
 
-ghost use Rattle.std.specs.Prelude.{◌≡◌, ◌<◌, ◌≤◌, ◌+◌, ◌-◌, ◌^◌, ◌&&◌, ◌++◌, ◌∷◌, [], length, map, nat_le, option_map, IfOk, OnOk};
+ghost use Rattle.std.specs.Prelude.{◌==◌, ◌||◌, ◌≡◌, ◌<◌, ◌≤◌, ◌+◌, ◌-◌, ◌^◌, ◌&&◌, ◌++◌, ◌∷◌, [], length, map, nat_le, option_map, IfOk, OnOk};
 ghost use Rattle.card_words.specs.Session.{block_number, block_numbers, block_range, blocks_of, most_named, numbers_from, pair_by, pair_of, pairs_of};
 ghost use Rattle.card_words.specs.Session as session;
 ghost use Rattle.card_words.specs.Value.{UnlessMemory};
@@ -124,10 +124,11 @@ impl BlockNumbers {
     /// Whether a range is one, and a list may name its blocks after these.
     fn have_room(&self, first: u64, last: u64) -> bool
         requires { last < 10 ^ 15 }
-        ensures { result ≡ (nat_le first last
-            && nat_le (length self.now + (last + 1 - first)) most_named) }
+        ensures { result ≡ (nat_le first last && (first == last
+            || nat_le (length self.now + (last + 1 - first)) most_named)) }
     {
-        first <= last && self.numbers.len() as u64 + (last + 1 - first) <= MOST_NAMED
+        first <= last
+            && (first == last || self.numbers.len() as u64 + (last + 1 - first) <= MOST_NAMED)
     }
 
     /// These and the numbers from one on, up to another without it.
@@ -215,13 +216,13 @@ fn read_parts(alloc: Global, command_word: &str, reply_word: &str) -> Result<Pai
     Ok(Pair { command, reply })
 }
 
-/// How many blocks a list names at most, each as often as it is named.
+/// How many blocks a list names at most up to the end of a range, each as often as it is named.
 pub const MOST_NAMED: u64 = 1_000_000;
 
 /// The blocks that a word names, in numbers from 1 and ranges as `2-5` that commas part; none where there is no word.
 ///
-/// `Words` where the word is no such list, the last number of a range is below its first, or it names more than
-/// `MOST_NAMED` blocks; `Memory` where a growth of memory was refused.
+/// `Words` where the word is no such list, the last number of a range is below its first, or the word up to the end of a
+/// range of several names more than `MOST_NAMED` blocks; `Memory` where a growth of memory was refused.
 pub fn read_blocks(alloc: Global, word: Option<&str>) -> Result<BlockNumbers, Fault>
     ensures { UnlessMemory result (blocks_of (option_map (λ word. word.now) word.entry)) }
 {

@@ -2,9 +2,9 @@
 //! there.
 //!
 //! `verdict_note` says it of octets by the verdict on them, which the caller has, `words_note` of words that are no
-//! request, `known_note` of words that say no known value, `text_note` of a text that isn't in its form, `session_note`
-//! of an answer to reset from which no session begins, and `large_note` of what is too large. The texts are defined in
-//! `specs/Notes.antt`; which words a sentence has is open.
+//! request, `known_note` of words that say no known value, `duplicate_note` of two that say values of one tag,
+//! `text_note` of a text that isn't in its form, `session_note` of an answer to reset from which no session begins, and
+//! `large_note` of what is too large. The texts are defined in `specs/Notes.antt`; which words a sentence has is open.
 #![tactic(auto)]
 
 mod known;
@@ -17,7 +17,7 @@ pub mod text;
 mod word;
 mod words;
 
-pub use known::known_note;
+pub use known::{duplicate_note, known_note};
 pub use octets::{least_wanting, verdict_note};
 pub use reason::Explained;
 pub use session::{large_note, session_note};

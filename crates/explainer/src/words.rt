@@ -168,7 +168,7 @@ fn session_note(alloc: Global, words: &[String]) -> Result<String, AllocError> {
                 alloc,
                 words,
                 name,
-                "a list is numbers from 1, or ranges as 2-5, parted by commas, and names at most 1000000 blocks",
+                "a list is numbers from 1, or ranges as 2-5, parted by commas, and its ranges name at most 1000000 blocks",
             );
         }
     }
