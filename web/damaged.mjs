@@ -8,6 +8,7 @@
 // The last line is 'N passed, M failed'.
 import { spawnSync } from "node:child_process";
 import { readFileSync, readdirSync } from "node:fs";
+import { Checks } from "./checks.mjs";
 import { cases, loaded } from "./loaded.mjs";
 
 const COUNT = 10000;
@@ -60,14 +61,7 @@ function bases() {
   return found;
 }
 
-const counts = { passed: 0, failed: 0 };
-function check(what, have, want) {
-  if (have === want) {
-    counts.passed++;
-  } else if (++counts.failed <= SHOWN) {
-    console.log(`damaged: ${what}: it says ${JSON.stringify(have)} and not ${JSON.stringify(want)}`);
-  }
-}
+const checks = new Checks("damaged", SHOWN);
 
 // What the program prints.
 function printed(words, input) {
@@ -78,7 +72,7 @@ function compare(kind, lines) {
   const input = lines.map((line) => `${line}\n`).join("");
   const answers = printed(["show", kind, "--stdin", "lines", "--notes"], input).split("\n\n");
   for (const [at, told] of [...scard.answers(kind, input, 254, 0, true)].entries()) {
-    check(`${kind} ${lines[at]}`, (told.lines ?? [told.check]).join("\n"), answers[at]);
+    checks.equal(`${kind} ${lines[at]}`, (told.lines ?? [told.check]).join("\n"), answers[at]);
   }
 }
 
@@ -87,7 +81,7 @@ function compareReplay(text) {
   for (const end of ["terminal", "card"]) {
     const told = replay ? replay.ends.find((it) => it.name === end).verdict : fault;
     const have = [told.check, ...told.notes].map((line) => `${line}\n`).join("");
-    check(`${end} ${JSON.stringify(text)}`, have, printed(["replay", "--end", end, "--explain"], text));
+    checks.equal(`${end} ${JSON.stringify(text)}`, have, printed(["replay", "--end", end, "--explain"], text));
   }
 }
 
@@ -99,5 +93,4 @@ for (const [kind, octets] of bases()) {
 const names = readdirSync(examples).filter((it) => it.endsWith(".exchange")).sort();
 const texts = names.map((name) => readFileSync(new URL(name, examples), "latin1"));
 for (let times = 0; times < EXCHANGES; times++) compareReplay(spoiledText(texts[any(texts.length)]));
-console.log(`${counts.passed} passed, ${counts.failed} failed`);
-process.exitCode = counts.failed || counts.passed < COUNT ? 1 : 0;
+checks.end(COUNT);

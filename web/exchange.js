@@ -156,13 +156,27 @@ function lineNote(text, number, ...what) {
   return [`line ${number} of the file: ${line}`, ...what];
 }
 
-// What there is to say of a text that is no exchange.
-function faultOf(text, { message, line }) {
-  const first = (text.split("\n")[line - 1] ?? "").split(" ")[0];
+// What is expected in a line with a fault of this name.
+function expectedAt(line, number, name) {
+  const first = line.split(" ")[0];
   const form = Object.hasOwn(FORMS, first) ? FORMS[first] : "none";
-  const word = line === 2 ? "atr OCTETS" : EXPECTED[form](first);
-  const check = message === "Header" ? "fault: Header" : `fault: line ${line}: ${message}`;
-  return { is: "fault", check, notes: lineNote(text, line, `expected: ${WRONG[message] ?? word}`) };
+  return WRONG[name] ?? (number === 2 ? "atr OCTETS" : EXPECTED[form](first));
+}
+
+// What is wrong with a line, and what is expected.
+function wrongWith(line, number, name) {
+  const isMarked = name === "Header" && /^(\uFEFF|\xEF\xBB\xBF)/.test(line);
+  if (isMarked) return `it begins with a byte order mark; expected: ${WRONG.Header}`;
+  const isReturned = ["Header", "Word", "Hex"].includes(name) && line.endsWith("\r");
+  if (isReturned) return "it ends with a carriage return; expected: a line feed alone";
+  return `expected: ${expectedAt(line, number, name)}`;
+}
+
+// What there is to say of a text that is no exchange.
+function faultOf(text, { message: name, line: number }) {
+  const line = text.split("\n")[number - 1] ?? "";
+  const check = name === "Header" ? "fault: Header" : `fault: line ${number}: ${name}`;
+  return { is: "fault", check, notes: lineNote(text, number, wrongWith(line, number, name)) };
 }
 
 // An end of T=1 in the module, over memory from a place on: its state, its two buffers and the block that it sends.

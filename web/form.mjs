@@ -6,6 +6,8 @@
 // address is written and read again. What it looks like isn't tried. The last line is 'N passed, M failed'.
 import { readFileSync } from "node:fs";
 import vm from "node:vm";
+import { Checks } from "./checks.mjs";
+import { SAID } from "./shown.mjs";
 
 const page = readFileSync(process.argv[2], "utf8");
 const unescaped = (text) => text.replaceAll("&#10;", "\n");
@@ -35,22 +37,14 @@ const world = vm.createContext({ performance, setTimeout, clearTimeout, WebAssem
   document: { getElementById: (id) => parts[id], createElement: () => new Element() },
   addEventListener: (name, handler) => { handlers[name] = handler; } });
 
-const counts = { passed: 0, failed: 0 };
-function check(what, have, want) {
-  if (have === want) {
-    counts.passed++;
-    return;
-  }
-  counts.failed++;
-  console.log(`form: ${what}: it says ${JSON.stringify(have)} and not ${JSON.stringify(want)}`);
-}
+const checks = new Checks("form");
 
 // Waits until the line of the verdict is one, for two seconds at most.
 async function said(what, want) {
   for (let times = 0; times < 200 && parts.status.textContent !== want; times++) {
     await new Promise((go) => { setTimeout(go, 10); });
   }
-  check(what, parts.status.textContent, want);
+  checks.equal(what, parts.status.textContent, want);
 }
 
 function type(kind, text) {
@@ -61,11 +55,8 @@ function type(kind, text) {
 }
 
 vm.runInContext(page.match(/<script>([\s\S]*)<\/script>/)[1], world);
-const first = "ok 5 octets";
-await said("the first example", first);
-const SAID = [first, "refused at 8: BadLrc", "ok 17 octets", "ok 13 octets", "ok 2 octets", "refused at 3: Overrun",
-  "ok 8 octets", "2 of 3 lines are accepted", "terminal: ok 13 lines; card: ok 13 lines"];
-check("the examples", examples.length, SAID.length);
+await said("the first example", SAID[0]);
+checks.equal("the examples", examples.length, SAID.length);
 for (const [at, dataset] of examples.entries()) {
   parts.examples.handlers.click({ target: { closest: () => ({ dataset }) } });
   await said(`example ${at + 1}`, SAID[at]);
@@ -77,14 +68,13 @@ for (const [at, dataset] of examples.entries()) {
   handlers.hashchange();
   await said(`the address of example ${at + 1}`, SAID[at]);
 }
-check("what a file asks for", [parts["octets-part"].hidden, parts["ifs-part"].hidden].join(), "true,true");
+checks.equal("what a file asks for", [parts["octets-part"].hidden, parts["ifs-part"].hidden].join(), "true,true");
 type("exchange", "scard-exchange 1\natr 3B00\n\n");
 await said("a wrong line", "fault: line 3: Word");
 type("tlv", "5000".repeat(16384));
 await said("16,384 objects", "ok 32768 octets");
-check("what a forest shows", parts.out.text.endsWith("\n(and 11384 more lines)"), true);
+checks.equal("what a forest shows", parts.out.text.endsWith("\n(and 11384 more lines)"), true);
 parts.ifs.value = "0";
 type("block", "00000500A4040000A5");
 await said("a size of 0", "The information size is 1 to 254.");
-console.log(`${counts.passed} passed, ${counts.failed} failed`);
-process.exitCode = counts.failed ? 1 : 0;
+checks.end();

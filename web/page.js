@@ -3,6 +3,7 @@
 
 const SHOWN_VALUES = 200;
 const SHOWN_LINES = 5000;
+const PART_LINES = 100;
 const WAIT = 150;
 // For how many milliseconds it answers at a time, before what is typed has its turn.
 const PIECE = 10;
@@ -22,11 +23,24 @@ function made(name, ...inside) {
 
 // Text that is wider than a narrow screen: it can be scrolled by keys too.
 function block(label, ...inside) {
-  const pre = made("pre", ...inside);
+  const pre = made("pre", ...inside.flatMap(inParts));
   pre.tabIndex = 0;
   pre.setAttribute("role", "region");
   pre.setAttribute("aria-label", label);
   return pre;
+}
+
+// A long text in parts. The style has a browser lay out only those that are on the screen.
+function inParts(inside) {
+  if (typeof inside !== "string") return [inside];
+  const lines = inside.split("\n");
+  if (lines.length <= PART_LINES) return [inside];
+  const count = Math.ceil(lines.length / PART_LINES);
+  return Array.from({ length: count }, (_, at) => {
+    const span = made("span", lines.slice(at * PART_LINES, (at + 1) * PART_LINES).join("\n"));
+    span.className = "part";
+    return span;
+  });
 }
 
 // Lines, no more than a page can take.

@@ -1,0 +1,139 @@
+// The page in headless Chromium.
+//
+// usage: node web/browser.mjs PAGE [PICTURES]
+//
+// PAGE is what web/make made. On each line of vectors/ that the page has an answer to, what it says in the browser is
+// compared, character by character, with what the vectors give for the program. Then it is used: each example is
+// chosen, texts are typed, and nothing may be loaded, sent or complained of. A forest of 1 MiB has to be shown in a
+// second, and no text of 64 KiB may keep what is typed for 50 milliseconds. With PICTURES, pictures of each example go
+// into that folder, light, dark and narrow. The last line is 'N passed, M failed'.
+import { execFileSync } from "node:child_process";
+import { join } from "node:path";
+import { Checks } from "./checks.mjs";
+import { Page, wait } from "./chromium.mjs";
+import { cases } from "./loaded.mjs";
+import { answered, asked as askedBy, wanted } from "./requests.mjs";
+import { SAID, TEXTS } from "./shown.mjs";
+
+const NAMES = ["chromium", "chromium-browser", "google-chrome"];
+const BATCH = 500;
+const TRIES = 3;
+// Milliseconds until a text is shown, and for which a text of at most so many characters may keep what is typed.
+const [SOON, KEPT, SHORT] = [1000, 50, 65536];
+
+const [file, pictures] = process.argv.slice(2);
+const checks = new Checks("browser", 20);
+
+// The command that starts the browser, where there is one.
+function chromium() {
+  return NAMES.find((name) => {
+    try {
+      return execFileSync("sh", ["-c", `command -v ${name}`]);
+    } catch {
+      return false;
+    }
+  });
+}
+
+// What the page says of each line of vectors/ that it has an answer to.
+async function compare(page) {
+  await page.value(`WebAssembly.instantiate(octets, {}).then(({ instance }) => {
+    const own = { scard: new Scard(instance), aroundLines, finished };
+    globalThis.answeredHere = (requests) => requests.map((request) => (${answered})(own, request));
+  })`);
+  const kinds = await page.value("KINDS");
+  const found = [...cases()].map((one) => [one, askedBy(one, kinds)]).filter(([, request]) => request);
+  for (let at = 0; at < found.length; at += BATCH) {
+    const batch = found.slice(at, at + BATCH);
+    const told = await page.value(`answeredHere(${JSON.stringify(batch.map(([, request]) => request))})`);
+    for (const [number, [one, request]] of batch.entries()) {
+      if (told[number] !== null) checks.equal(`${one.at}: ${one.words.join(" ")}`, told[number], wanted(one, request));
+    }
+  }
+}
+
+// Chooses an example, and waits until it is answered.
+async function choose(page, at) {
+  await page.value(`part("examples").querySelectorAll("button")[${at}].click()`);
+  await page.until(`part("status").textContent === ${JSON.stringify(SAID[at])}`).catch(() => {});
+  checks.equal(`example ${at + 1}`, await page.value('part("status").textContent'), SAID[at]);
+}
+
+// Types a text, and waits until it is answered and on the screen: for how many milliseconds, and the longest time that
+// the browser was kept meanwhile. It tells of such a time only where it is 50 or more.
+function typed(page, { kind, text, each = false }) {
+  return page.value(`new Promise((answer) => {
+    const kept = [];
+    const observer = new PerformanceObserver((list) => kept.push(...list.getEntries().map((it) => it.duration)));
+    observer.observe({ type: "longtask" });
+    part("status").textContent = "";
+    part("kind").value = ${JSON.stringify(kind)};
+    part("each").checked = ${each};
+    part("text").value = ${JSON.stringify(text)};
+    part("form").dispatchEvent(new Event("input"));
+    const begun = performance.now() + WAIT;
+    const look = () => {
+      if (!part("status").textContent) return setTimeout(look, 5);
+      requestAnimationFrame(() => setTimeout(() => {
+        const all = performance.now() - begun;
+        setTimeout(() => answer({ all, longest: Math.max(0, ...kept), said: part("status").textContent }), 20);
+      }));
+    };
+    look();
+  })`);
+}
+
+// The least of some tries, since other work on the machine takes its time: a try that is quick enough is the last one.
+async function measured(page, given) {
+  const isShort = given.text.length <= SHORT;
+  let least = { all: Infinity, longest: Infinity };
+  for (let tries = 0; tries < TRIES; tries++) {
+    const { said, ...now } = await typed(page, given);
+    least = { said, all: Math.min(least.all, now.all), longest: Math.min(least.longest, now.longest) };
+    if (least.all < SOON && (!isShort || least.longest < KEPT)) break;
+  }
+  return { ...least, isShort };
+}
+
+async function measure(page) {
+  for (const [what, given] of TEXTS) {
+    const { all, longest, said, isShort } = await measured(page, given);
+    console.log(`browser: ${what}: ${all.toFixed(0)} ms, ${longest ? `kept for ${longest.toFixed(0)}` : "never kept"}`);
+    checks.equal(`${what}: whether it is accepted`, /^(ok|\d|terminal: ok)/.test(said), true);
+    checks.equal(`${what}: whether it is shown in a second`, all < SOON, true);
+    if (isShort) checks.equal(`${what}: whether it keeps what is typed`, longest < KEPT, true);
+  }
+}
+
+// Pictures of each example, with what it says.
+async function draw(page) {
+  for (const at of SAID.keys()) {
+    await choose(page, at);
+    for (const [name, width, scheme] of [["light", 1000, "light"], ["dark", 1000, "dark"], ["narrow", 360, "light"]]) {
+      await page.picture(join(pictures, `${at + 1}-${name}.png`), width, scheme);
+    }
+  }
+}
+
+const name = chromium();
+if (!name) {
+  console.log("browser: there is no chromium here");
+  checks.end(0);
+  process.exit();
+}
+const page = await Page.open(name, file);
+console.log(`browser: ${(await page.call("Browser.getVersion")).product}`);
+await page.until('part("status").textContent === "ok 5 octets"');
+await compare(page);
+for (const at of SAID.keys()) await choose(page, at);
+await measure(page);
+if (pictures) await draw(page);
+await wait(100);
+const asked = page.seen.filter(({ method }) => method === "Network.requestWillBeSent");
+const addresses = asked.map(({ params }) => params.request.url);
+checks.equal("what is loaded", addresses.filter((it) => !/^(file|about):/.test(it)).join(" "), "");
+checks.equal("how many files are loaded", addresses.filter((it) => it.startsWith("file:")).length, 1);
+const faults = page.seen.filter(({ method }) => ["Log.entryAdded", "Runtime.exceptionThrown"].includes(method));
+checks.equal("what the browser complains of", JSON.stringify(faults), "[]");
+await page.close();
+checks.end();

@@ -1,0 +1,105 @@
+// A page in headless Chromium, over the browser's own pipe for tools: nothing of npm, and no port is opened.
+import { spawn } from "node:child_process";
+import { mkdtempSync, rmSync, writeFileSync } from "node:fs";
+import { tmpdir } from "node:os";
+import { join } from "node:path";
+import { pathToFileURL } from "node:url";
+
+const WORDS = ["--headless=new", "--remote-debugging-pipe", "--no-first-run", "--disable-gpu", "--disable-extensions",
+  "--disable-background-networking", "--disable-dev-shm-usage"];
+
+export class Page {
+  // Opens a file in a browser of its own. As root Chromium runs without its sandbox alone.
+  static async open(chromium, file) {
+    const page = new Page(chromium);
+    const { targetId } = await page.call("Target.createTarget", { url: "about:blank" });
+    const { sessionId } = await page.call("Target.attachToTarget", { targetId, flatten: true });
+    page.session = sessionId;
+    for (const domain of ["Page", "Runtime", "Log", "Network"]) await page.call(`${domain}.enable`);
+    await page.load(pathToFileURL(file).href);
+    return page;
+  }
+
+  constructor(chromium) {
+    this.profile = mkdtempSync(join(tmpdir(), "scard-chromium-"));
+    const root = process.getuid() === 0 ? ["--no-sandbox"] : [];
+    const words = [...WORDS, ...root, `--user-data-dir=${this.profile}`];
+    this.browser = spawn(chromium, words, { stdio: ["ignore", "ignore", "ignore", "pipe", "pipe"] });
+    [this.number, this.asked, this.seen, this.left] = [0, new Map(), [], ""];
+    this.browser.on("error", (fault) => this.end(fault));
+    this.browser.on("exit", () => this.end(new Error("the browser ended")));
+    this.browser.stdio[4].setEncoding("utf8").on("data", (text) => this.read(text));
+  }
+
+  // Messages end with a zero character.
+  read(text) {
+    const messages = (this.left + text).split("\0");
+    this.left = messages.pop();
+    for (const message of messages) this.take(JSON.parse(message));
+  }
+
+  take({ id, error, result, method, params }) {
+    if (id === undefined) {
+      this.seen.push({ method, params });
+      return;
+    }
+    const { yes, no } = this.asked.get(id);
+    this.asked.delete(id);
+    if (error) no(new Error(error.message));
+    else yes(result);
+  }
+
+  end(fault) {
+    for (const { no } of this.asked.values()) no(fault);
+    this.asked.clear();
+  }
+
+  call(method, params = {}) {
+    const message = { id: ++this.number, method, params, sessionId: this.session };
+    const answer = new Promise((yes, no) => this.asked.set(message.id, { yes, no }));
+    this.browser.stdio[3].write(`${JSON.stringify(message)}\0`);
+    return answer;
+  }
+
+  // Loads an address, and waits until it is there.
+  async load(url) {
+    const before = this.seen.length;
+    await this.call("Page.navigate", { url });
+    while (!this.seen.slice(before).some(({ method }) => method === "Page.loadEventFired")) await wait(10);
+  }
+
+  // What an expression of the page's own world comes to.
+  async value(expression) {
+    const how = { expression, awaitPromise: true, returnByValue: true };
+    const { result, exceptionDetails } = await this.call("Runtime.evaluate", how);
+    if (exceptionDetails) throw new Error(exceptionDetails.exception?.description ?? exceptionDetails.text);
+    return result.value;
+  }
+
+  // Waits until an expression holds.
+  async until(expression) {
+    for (let times = 0; times < 500; times++) {
+      if (await this.value(expression)) return;
+      await wait(10);
+    }
+    throw new Error(`this never came: ${expression}`);
+  }
+
+  // Puts a picture of the whole page into a file.
+  async picture(file, width, scheme) {
+    const features = [{ name: "prefers-color-scheme", value: scheme }];
+    await this.call("Emulation.setEmulatedMedia", { features });
+    await this.call("Emulation.setDeviceMetricsOverride", { width, height: 900, deviceScaleFactor: 1, mobile: false });
+    const { data } = await this.call("Page.captureScreenshot", { captureBeyondViewport: true });
+    writeFileSync(file, Buffer.from(data, "base64"));
+  }
+
+  async close() {
+    const ended = new Promise((yes) => this.browser.on("exit", yes));
+    this.call("Browser.close").catch(() => {});
+    await ended;
+    rmSync(this.profile, { recursive: true, force: true, maxRetries: 5 });
+  }
+}
+
+export const wait = (milliseconds) => new Promise((yes) => setTimeout(yes, milliseconds));

@@ -1,0 +1,61 @@
+// What the lines of vectors/ ask of the page, and what it answers.
+
+// What words ask for that the page has: `check` or `show`, a kind, and the octets, or `replay`. null for all else.
+export function asked({ words, input, said }, kinds) {
+  const [subcommand, ...rest] = words;
+  if (!["check", "show", "replay"].includes(subcommand) || said.startsWith("fault: words")) return null;
+  const found = { subcommand, ifs: 254, first: 0, explain: false, notes: false, words: [] };
+  while (rest.length) {
+    const [word, value] = rest.shift().split("=");
+    const next = () => value ?? rest.shift();
+    if (word === "--explain") found.explain = true;
+    else if (word === "--notes") found.notes = true;
+    else if (word === "--end") found.end = next();
+    else if (word === "--ifs") found.ifs = Number(next());
+    else if (word === "--number") found.first = Number(next());
+    else if (word === "--stdin") found.form = next();
+    else if (word.startsWith("-")) return null;
+    else found.words.push(word);
+  }
+  return subcommand === "replay" ? { ...found, kind: "exchange", text: input } : ofOctets(found, input, kinds);
+}
+
+function ofOctets(found, input, kinds) {
+  [found.kind, found.text] = found.words;
+  const isForm = found.form === undefined || found.form === "hex" || found.form === "lines";
+  const isRight = isForm && found.words.length === (found.form ? 1 : 2);
+  if (!isRight || !kinds.includes(found.kind)) return null;
+  if (!(found.ifs >= 1 && found.ifs <= 254 && found.first <= 1)) return null;
+  if (found.form) found.text = input;
+  // A word of the command line is one group without 0x, or `none`: where it is another text, the page has none such.
+  else if (found.text === "none") found.text = "";
+  else if (!/^[0-9A-Fa-f]*$/.test(found.text)) return null;
+  return found;
+}
+
+// What the page says, as the program has it. All that it calls is handed over, so that a browser can run it too.
+export function answered({ scard, aroundLines, finished }, request) {
+  const { subcommand, kind, text, ifs, first, form, explain, notes, end } = request;
+  const ofLine = ({ check, lines }) => (subcommand === "check" ? [check] : [...(lines ?? [check]), ""]);
+  const ended = (lines) => lines.map((line) => `${line}\n`).join("");
+  if (subcommand === "replay") {
+    const { replay, check, notes: why } = finished(scard.replay(text));
+    const fault = [{ verdict: { check, notes: why } }];
+    const ends = replay?.ends.filter(({ name }) => end === name || end === "both") ?? fault;
+    const verdicts = ends.map(({ name, verdict }) => (end === "both" && name ? `${name}: ` : "") + verdict.check);
+    return ended([...verdicts, ...(explain ? ends.flatMap(({ verdict }) => verdict.notes) : [])]);
+  }
+  if (form === "lines") return ended([...scard.answers(kind, text, ifs, first, notes)].flatMap(ofLine));
+  const told = finished(scard.answering(kind, text, ifs, first, notes));
+  const lines = subcommand === "show" && told.lines ? told.lines : [told.check];
+  if (explain && told.is === "ok" && told.left) lines.push(`octets left after it: ${told.left}`);
+  if (explain && told.is === "refused") lines.push(told.sentence, ...aroundLines(told));
+  return told.is === "fault" && explain ? null : ended(lines);
+}
+
+// What the page should say: the program's words, without its options.
+export function wanted({ said }, { end }) {
+  if (end) return said;
+  return said.replace(" (--ifs)", "").replace("from that of --number", "from the first that is given")
+    .replace(/octets there: .*\n/, "");
+}
