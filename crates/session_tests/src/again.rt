@@ -1,7 +1,8 @@
 //! Each round trip once with ample memory.
 
+use crate::ends::{params, terminal};
 use apdu_core::{Body, Command, Response};
-use atr_core::{Atr, T1Params};
+use atr_core::Atr;
 use block_core::{Block, Number};
 use line_core::StreamLine;
 use octet_core::{After, Counted, Feeder, Octets, Taker};
@@ -142,10 +143,6 @@ fn line() -> Line<'static> {
     StreamLine::new(Counted::new(source), Counted::new(sink))
 }
 
-fn params(rt: &impl Abort) -> T1Params {
-    T1Params::new(32, 4, 5).expect(rt, "parameters")
-}
-
 fn is_done(t: &Terminal) -> bool {
     t.answer() == Some(&[0x90, 0x00])
 }
@@ -170,7 +167,7 @@ fn is_acted_on(rt: &impl Abort, t: &mut Terminal, line: &mut Line<'_>) -> bool {
 
 #[test]
 fn a_command_over_a_line(rt: HostRuntime) {
-    let mut t = Terminal::new(rt.alloc(), params(&rt)).expect(&rt, "a terminal");
+    let mut t = terminal(&rt, rt.alloc());
     let mut line = line();
     assert!(rt; is_exchanged(&rt, &mut t, &mut line));
     assert!(rt; is_acted_on(&rt, &mut t, &mut line));

@@ -5,6 +5,8 @@
 #[cfg(test)]
 mod again;
 #[cfg(test)]
+mod ends;
+#[cfg(test)]
 mod line;
 #[cfg(test)]
 mod t1;

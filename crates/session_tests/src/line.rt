@@ -9,11 +9,8 @@ mod serving;
 mod steps;
 mod streams;
 
-use atr_core::T1Params;
 use line_core::ExchangeFault;
-use std::alloc::Global;
-use std::process::Abort;
-use t1_core::{Card, Terminal, TerminalFault};
+use t1_core::{Terminal, TerminalFault};
 
 const SELECT: [u8; 5] = [0x00, 0xA4, 0x04, 0x00, 0x00];
 
@@ -25,23 +22,6 @@ const DONE_BLOCK: [u8; 6] = [0x00, 0x00, 0x02, 0x90, 0x00, 0x92];
 
 /// More octets than any block has.
 const LONG: [u8; 300] = [0; 300];
-
-fn params(rt: &impl Abort) -> T1Params {
-    T1Params::new(32, 4, 5).expect(rt, "parameters")
-}
-
-fn terminal(rt: &impl Abort, alloc: Global) -> Terminal {
-    Terminal::new(alloc, params(rt)).expect(rt, "a terminal")
-}
-
-fn card(rt: &impl Abort, alloc: Global) -> Card {
-    Card::new(alloc, params(rt)).expect(rt, "a card")
-}
-
-/// So many octets of one value.
-fn octets_of(rt: &impl Abort, alloc: Global, value: u8, count: usize) -> Vec<u8> {
-    vec![in alloc; value; count].expect(rt, "octets")
-}
 
 /// How a call of a terminal ends.
 #[derive(Clone, Copy, PartialEq, Eq)]

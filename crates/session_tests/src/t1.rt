@@ -9,7 +9,7 @@ mod printed;
 mod put;
 mod states;
 
-use atr_core::T1Params;
+use crate::ends::{card, octets_of, terminal};
 use blocks::{ASK_FOR_32, DONE, DONE_BLOCK, RESYNCH, RESYNCHED, SELECT, SELECT_BLOCK, TIMES};
 use calls::{
     Call, CardCall, CardWanted, Wanted, assert_gives, called, card_gives, gives, is_answer,
@@ -17,34 +17,6 @@ use calls::{
 use std::alloc::Global;
 use std::process::Abort;
 use t1_core::{Card, CardFault, Terminal, TerminalFault};
-
-/// The parameters of a card that takes information fields of so many octets.
-fn params(rt: &impl Abort, ifsc: u8) -> T1Params {
-    T1Params::new(ifsc, 4, 5).expect(rt, "parameters")
-}
-
-fn terminal(rt: &impl Abort, alloc: Global) -> Terminal {
-    terminal_for(rt, alloc, 32)
-}
-
-/// A terminal whose card takes information fields of so many octets.
-fn terminal_for(rt: &impl Abort, alloc: Global, ifsc: u8) -> Terminal {
-    Terminal::new(alloc, params(rt, ifsc)).expect(rt, "a terminal")
-}
-
-fn card(rt: &impl Abort, alloc: Global) -> Card {
-    card_for(rt, alloc, 32)
-}
-
-/// A card that takes information fields of so many octets.
-fn card_for(rt: &impl Abort, alloc: Global, ifsc: u8) -> Card {
-    Card::new(alloc, params(rt, ifsc)).expect(rt, "a card")
-}
-
-/// So many octets of one value.
-fn octets_of(rt: &impl Abort, alloc: Global, value: u8, count: usize) -> Vec<u8> {
-    vec![in alloc; value; count].expect(rt, "octets")
-}
 
 /// A terminal that sent a command of one block.
 fn in_answer(rt: &impl Abort, alloc: Global) -> Terminal {

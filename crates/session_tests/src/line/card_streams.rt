@@ -4,7 +4,8 @@ ghost use Rattle.std.specs.Prelude.{◌≤◌, ◌≢◌};
 
 use super::serving::{Served, end_of, replying};
 use super::streams::{Streams, has_carried, line_over};
-use super::{DONE, DONE_BLOCK, SELECT, SELECT_BLOCK, card, terminal};
+use super::{DONE, DONE_BLOCK, SELECT, SELECT_BLOCK};
+use crate::ends::{card, terminal};
 use line_core::{
     CardLine, ExchangeFault, Heard, LONGEST_ARRIVAL, Line, ServeFault, StreamLine, exchange, serve,
 };

@@ -1,7 +1,8 @@
 //! Exchanges with a card at the other end of a line in memory.
 
 use super::steps::filled;
-use super::{DONE, DONE_BLOCK, SELECT, card, has_answer, is_answer, octets_of, params, terminal};
+use super::{DONE, DONE_BLOCK, SELECT, has_answer, is_answer};
+use crate::ends::{card, octets_of, params, terminal};
 use apdu_core::{Body, Command};
 use line_core::{Heard, Line, ask_ifs, begin_by_resynch, exchange, exchange_command, response_of};
 use std::alloc::Global;

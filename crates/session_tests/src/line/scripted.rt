@@ -3,8 +3,8 @@
 use super::steps::{Step, Steps};
 use super::{
     DONE, DONE_BLOCK, Ended, LONG, SELECT, end_of, end_of_exchange, has_answer, is_answer,
-    octets_of, params, terminal,
 };
+use crate::ends::{octets_of, params, terminal};
 use atr_core::T1Params;
 use line_core::{Heard, Line, ask_ifs, begin_by_resynch, exchange, response_of, resume};
 use octet_core::Stop;

@@ -1,7 +1,8 @@
 //! A card that serves lines which give what is written down.
 
 use super::steps::{Step, Steps};
-use super::{DONE, DONE_BLOCK, LONG, SELECT, SELECT_BLOCK, card, octets_of};
+use super::{DONE, DONE_BLOCK, LONG, SELECT, SELECT_BLOCK};
+use crate::ends::{card, octets_of};
 use line_core::{CardLine, Heard, Host, ServeFault, serve};
 use std::io::{self, ErrorKind};
 use t1_core::{Card, CardFault};

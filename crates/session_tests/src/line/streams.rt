@@ -1,6 +1,7 @@
 //! A terminal's line over a reader and a writer of octets.
 
-use super::{DONE, DONE_BLOCK, SELECT, SELECT_BLOCK, is_answer, terminal};
+use super::{DONE, DONE_BLOCK, SELECT, SELECT_BLOCK, is_answer};
+use crate::ends::terminal;
 use line_core::{Heard, LONGEST_ARRIVAL, Line, StreamLine, exchange};
 use octet_core::{After, Counted, Feeder, Taker};
 use t1_core::Terminal;

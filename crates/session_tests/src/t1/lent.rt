@@ -2,7 +2,7 @@
 
 use super::blocks::{DONE, DONE_BLOCK, SELECT, SELECT_BLOCK};
 use super::calls::{Call, CardCall};
-use super::params;
+use crate::ends::params;
 use std::process::Abort;
 use t1_core::{
     CardFault, CardPlaces, CardPut, CardWait, TerminalFault, TerminalPlaces, TerminalPut,
@@ -62,7 +62,7 @@ struct LentTerminal {
 impl LentTerminal {
     fn new(rt: &impl Abort) -> Self {
         let (mut held, mut joined) = ([0xFF; 5], [0xFF; 2]);
-        let places = TerminalPlaces::begin(params(rt, 32), &mut held, &mut joined);
+        let places = TerminalPlaces::begin(params(rt), &mut held, &mut joined);
         LentTerminal {
             places,
             held,
@@ -132,7 +132,7 @@ struct LentCard {
 impl LentCard {
     fn new(rt: &impl Abort) -> Self {
         let (mut held, mut answer) = ([0xFF; 5], [0xFF; 2]);
-        let places = CardPlaces::begin(params(rt, 32), &mut held, &mut answer);
+        let places = CardPlaces::begin(params(rt), &mut held, &mut answer);
         LentCard {
             places,
             held,

@@ -8,7 +8,7 @@ use super::calls::{
     Call, CardCall, CardWanted, Wanted, assert_card_gives, assert_gives, called, card_gives, gives,
     has_answer, is_answer, is_command,
 };
-use super::{octets_of, params, terminal};
+use crate::ends::{octets_of, params, terminal};
 use std::alloc::Global;
 use std::process::Abort;
 use t1_core::{Card, CardFault, LONGEST_COMMAND, Terminal, TerminalFault, TerminalTurn};
@@ -21,12 +21,12 @@ const REFUSED_SECOND: [u8; 4] = [0x00, 0x92, 0x00, 0x92];
 
 /// A terminal with these limits.
 fn limited(rt: &impl Abort, alloc: Global, command: usize, answer: usize) -> Terminal {
-    Terminal::with_limits(alloc, params(rt, 32), command, answer).expect(rt, "a terminal")
+    Terminal::with_limits(alloc, params(rt), command, answer).expect(rt, "a terminal")
 }
 
 /// A card with these limits.
 fn limited_card(rt: &impl Abort, alloc: Global, command: usize, answer: usize) -> Card {
-    Card::with_limits(alloc, params(rt, 32), command, answer).expect(rt, "a card")
+    Card::with_limits(alloc, params(rt), command, answer).expect(rt, "a card")
 }
 
 static AT_TERMINAL: [(Call, Wanted); 3] = [
@@ -52,7 +52,7 @@ fn limits_of_five_and_two_octets(rt: HostRuntime) {
     for _ in 0..2u8 {
         assert_gives(&rt, &mut t, &AT_TERMINAL);
         assert!(rt; is_answer(&t, &DONE));
-        t.reset(params(&rt, 32));
+        t.reset(params(&rt));
     }
 }
 
@@ -64,7 +64,7 @@ fn limits_of_five_and_two_octets_at_a_card(rt: HostRuntime) {
         assert!(rt; card_gives(&mut c, select, CardWanted::Asked));
         assert!(rt; is_command(&c, &SELECT));
         assert_card_gives(&rt, &mut c, &REPLIES);
-        c.reset(params(&rt, 32));
+        c.reset(params(&rt));
     }
 }
 

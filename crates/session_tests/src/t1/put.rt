@@ -2,7 +2,7 @@
 
 use super::blocks::{ASK_FOR_254, DONE, DONE_BLOCK, SELECT, SELECT_BLOCK};
 use super::calls::{Call, CardCall};
-use super::{card, terminal};
+use crate::ends::{card, terminal};
 use block_core::LONGEST_BLOCK;
 use std::alloc::Global;
 use std::process::Abort;

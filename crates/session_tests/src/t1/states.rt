@@ -2,7 +2,7 @@
 
 use super::blocks::{DONE, DONE_BLOCK, SELECT, SELECT_BLOCK, SIZE_2, SIZE_254};
 use super::calls::{Call, CardCall, CardWanted, Wanted, called, card_called, card_gives, gives};
-use super::{card_for, params, terminal_for};
+use crate::ends::{card_for, params_for, terminal_for};
 use std::alloc::Global;
 use std::process::Abort;
 use t1_core::{Card, CardAwaits, Terminal, TerminalAwaits};
@@ -77,7 +77,7 @@ fn shown(rt: &impl Abort, alloc: Global, t: &Terminal) -> String {
 
 /// Whether a terminal that is reset is as a new one, for cards that take 2 octets a block.
 fn is_reset(rt: &impl Abort, alloc: Global, t: &mut Terminal) -> bool {
-    t.reset(params(rt, 2));
+    t.reset(params_for(rt, 2));
     let new = terminal_for(rt, alloc, 2);
     same(shown(rt, alloc, t), shown(rt, alloc, &new))
 }
@@ -148,7 +148,7 @@ fn card_awaits(c: &Card, awaits: CardAwaits) -> bool {
 
 /// Whether a card that is reset is as a new one that takes 5 octets a block.
 fn is_card_reset(rt: &impl Abort, alloc: Global, c: &mut Card) -> bool {
-    c.reset(params(rt, 5));
+    c.reset(params_for(rt, 5));
     let new = card_for(rt, alloc, 5);
     same(card_shown(rt, alloc, c), card_shown(rt, alloc, &new))
 }
