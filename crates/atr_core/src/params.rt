@@ -6,7 +6,7 @@ ghost use Rattle.atr_core.specs.T1.{T1Values, IsUsable, t1_params_of, first_afte
 ghost use Rattle.atr_core.specs.Waiting.{block_cycles, block_waiting, character_waiting};
 
 use crate::{Atr, Indicated, Interface};
-use octet_core::Named;
+use octet_core::{Named, is_reserved};
 use std::error::Error;
 use std::fmt::{self, Display, Formatter, Write};
 use std::marker::Model;
@@ -47,7 +47,7 @@ impl T1Params {
         ensures { let values : T1Values = record { ifsc = ifsc; bwi = bwi; cwi = cwi } in
             SomeIff result (IsUsable values) values }
     {
-        if ifsc == 0 || ifsc == 0xFF || bwi > 15 || cwi > 15 {
+        if is_reserved(ifsc) || bwi > 15 || cwi > 15 {
             return None;
         }
         Some(T1Params { ifsc, bwi, cwi })

@@ -3,6 +3,7 @@
 use Rattle.std.specs.Prelude.{◌≡◌, ℕ, ◌+◌, ◌<◌, ◌≤◌, List, [], ◌∷◌, ◌++◌, length, drop, Bool, true, false, slice_index, ◌≢◌, ◌⊎◌}
 use Rattle.octet_core.specs.Octets.{AreOctets, xor_of}
 use Rattle.octet_core.specs.Grammar.{IsFirst}
+use Rattle.octet_core.specs.Sizes.{IsFieldSize, IsReserved}
 use Rattle.block_core.specs.declared.pcb.Number.{Number}
 use Rattle.block_core.specs.declared.pcb.Number.TheVariants.{Zero, One}
 use Rattle.block_core.specs.declared.pcb.Fault.{Fault}
@@ -66,7 +67,7 @@ pcb_octet (Response s) = 224 + supervisory_code s
 -- the octet that a block about IFS carries: a size of 1 to 254, since 00 and FF are reserved: 11.4.2
 abbrev pub IsSize : S → List ℕ → Type 0
 IsSize Resynch inf = Unit {0}
-IsSize Ifs inf = (1 ≤ slice_index inf 0) × (slice_index inf 0 ≤ 254)
+IsSize Ifs inf = IsFieldSize (slice_index inf 0)
 IsSize Abort inf = Unit {0}
 IsSize Wtx inf = Unit {0}
 
@@ -143,7 +144,7 @@ Meets ifs b BadPcb = (length b ≡ 2) × ((p : Pcb) → pcb_octet p ≡ slice_in
 Meets ifs b BadLen = (length b ≡ 3) × (p : Pcb) × (pcb_octet p ≡ slice_index b 1) × IsBadLen p (slice_index b 2)
 Meets ifs b OverIfs = (length b ≡ 3) × (p : Pcb) × (pcb_octet p ≡ slice_index b 1) × IsInfo p × (ifs < slice_index b 2)
 Meets ifs b BadIfs = (length b ≡ 4) × ((pcb_octet (Request Ifs) ≡ slice_index b 1)
-    ⊎ (pcb_octet (Response Ifs) ≡ slice_index b 1)) × ((slice_index b 3 ≡ 0) ⊎ (slice_index b 3 ≡ 255))
+    ⊎ (pcb_octet (Response Ifs) ≡ slice_index b 1)) × IsReserved (slice_index b 3)
 Meets ifs b BadLrc = (length b ≡ slice_index b 2 + 4) × (xor_of b ≢ 0)
 
 -- the reason is the first line of the table that the octets up to and with the refused one meet

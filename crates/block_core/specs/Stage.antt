@@ -1,6 +1,7 @@
 -- How far the block has come whose first octets a reader holds.
 use Rattle.std.specs.Prelude.{Bool, true, false, Result, Ok, Err, ◌≡◌, ℕ, ◌+◌, ◌-◌, ◌<◌, ◌≤◌, List, length, slice_index, Option, None, Some}
 use Rattle.octet_core.specs.Grammar.{self_ended, RefusesAt}
+use Rattle.octet_core.specs.Sizes.{IsFieldSize}
 use Rattle.octet_core.specs.declared.stop.Refusal.{Refusal}
 use Rattle.octet_core.specs.declared.stop.Stop.{Stop}
 use Rattle.octet_core.specs.declared.stop.Stop.TheVariants.{At}
@@ -38,7 +39,7 @@ answer_of (Refused refusal) = Err (At refusal.place refusal.reason)
 
 -- an octet that says a size says neither 0 nor 255
 abbrev pub IsSized : Pcb → ℕ → Type 0
-IsSized pcb size = IsAboutIfs pcb → (1 ≤ size) × (size ≤ 254)
+IsSized pcb size = IsAboutIfs pcb → IsFieldSize size
 
 -- the octets held have a kind and a length that fit each other
 pub record IsHeaded (ifs : ℕ) (pcb : Pcb) (held : List ℕ) : Type 0 where

@@ -1,6 +1,6 @@
 //! Blocks and their octets.
 
-ghost use Rattle.std.specs.Prelude.{◌≡◌, ◌≤◌, length, [], SomeIff};
+ghost use Rattle.std.specs.Prelude.{◌≡◌, ◌+◌, ◌≤◌, length, [], SomeIff};
 ghost use Rattle.block_core.specs.Block.{Suits, IsBlock};
 ghost use Rattle.block_core.specs.declared.pcb.Pcb.TheVariants.{Info, Ready, Request, Response};
 
@@ -15,6 +15,13 @@ pub const LONGEST_INF: usize = 254;
 
 /// The octets of the longest block: NAD, PCB, LEN, the field and the LRC.
 pub const LONGEST_BLOCK: usize = 258;
+
+/// How many octets a block has whose LEN is this: NAD, PCB, LEN, the field and the LRC (ISO/IEC 7816-3, clause 11.3).
+pub fn block_len(len: u8) -> usize
+    ensures { result ≡ len + 4 }
+{
+    len as usize + 4
+}
 
 /// A block (ISO/IEC 7816-3, clause 11.3): its node address (NAD), what it is (PCB) and its
 /// information field, which suits the kind: at most 254 octets in an I-block, none in an R-block, in an

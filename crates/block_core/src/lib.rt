@@ -16,7 +16,7 @@ pub mod reader;
 pub mod reason;
 mod stage;
 
-pub use block::{Block, LONGEST_BLOCK, LONGEST_INF, encode};
+pub use block::{Block, LONGEST_BLOCK, LONGEST_INF, block_len, encode};
 pub use block_ref::BlockRef;
 pub use decoding::decode;
 pub use pcb::{Fault, Number, Pcb, S};

@@ -5,6 +5,8 @@ ghost use Rattle.block_core.specs.declared.pcb.Pcb.{Pcb as AnyPcb};
 ghost use Rattle.block_core.specs.declared.pcb.Pcb.TheVariants.{Info, Ready};
 ghost use Rattle.block_core.specs.Block.{other, pcb_octet, number_bit, fault_code, supervisory_code, supervisory_len, IsSize, Suits};
 
+use octet_core::is_reserved;
+
 /// The send-sequence number of an I-block, or of the I-block that the sender of an R-block expects.
 #[derive(Clone, Copy, Debug, PartialEq, Eq)]
 pub enum Number {
@@ -178,7 +180,7 @@ impl S {
         match self {
             S::Resynch | S::Abort => inf.is_empty(),
             S::Wtx => inf.len() == 1,
-            S::Ifs => inf.len() == 1 && inf[0] != 0 && inf[0] != 255,
+            S::Ifs => inf.len() == 1 && !is_reserved(inf[0]),
         }
     }
 }

@@ -1,10 +1,11 @@
 //! Why octets are no block.
 
-ghost use Rattle.std.specs.Prelude.{◌≡◌, ◌⊎◌, ◌↔◌, IfSome, IfNone, IsTrue};
+ghost use Rattle.std.specs.Prelude.{◌≡◌, ◌↔◌, IfSome, IfNone, IsTrue};
 ghost use Rattle.block_core.specs.Block.{FitsLen, IsLenFault, IsAboutIfs};
+ghost use Rattle.octet_core.specs.Sizes.{IsReserved};
 
 use crate::pcb::{Pcb, S};
-use octet_core::Named;
+use octet_core::{Named, is_reserved};
 use std::error::Error;
 use std::fmt::{self, Display, Formatter, Write};
 
@@ -76,10 +77,10 @@ impl Pcb {
 
     /// Whether no information field of this kind begins with this octet.
     pub(crate) fn refuses_first(self, first: u8) -> bool
-        ensures { IsTrue result ↔ (IsAboutIfs self × ((first ≡ 0) ⊎ (first ≡ 255))) }
+        ensures { IsTrue result ↔ (IsAboutIfs self × IsReserved first) }
     {
         match self {
-            Pcb::Request(S::Ifs) | Pcb::Response(S::Ifs) => first == 0 || first == 255,
+            Pcb::Request(S::Ifs) | Pcb::Response(S::Ifs) => is_reserved(first),
             _ => false,
         }
     }

@@ -2,16 +2,18 @@
 
 ghost use Rattle.std.specs.Prelude.{◌≡◌, ◌≢◌, ◌⊎◌, ◌≤◌, ◌<◌, length, [], IfSome, IfNone};
 ghost use Rattle.octet_core.specs.Grammar.{self_ended, Refuses};
+ghost use Rattle.octet_core.specs.Sizes.{IsReserved};
 ghost use Rattle.block_core.specs.Block.{Parts, IsBlock, IsReason, Suits};
 ghost use Rattle.block_core.specs.declared.pcb.Pcb.TheVariants.{Info, Ready, Request, Response};
 ghost use Rattle.c_lent.specs.Verdict.{Tells, Puts, ok_at, wrong_argument};
-ghost use Rattle.c_lent.specs.Number.{IsReserved, number_of, fault_of, subject_of};
+ghost use Rattle.c_lent.specs.Number.{number_of, fault_of, subject_of};
 ghost use Rattle.c_lent.specs.Block.{block_reason, block_seen, IsDecoded, IsUnfit, IsOf};
 
-use crate::number::{fault_of, is_reserved, number_of, subject_of};
+use crate::number::{fault_of, number_of, subject_of};
 use crate::output::put;
 use crate::verdict::{Numbered, Verdict};
 use block_core::{BlockReason, BlockRef, LONGEST_BLOCK, Pcb};
+use octet_core::is_reserved;
 
 /// A block as it was decoded. Its information field is `inf_len` octets from place `inf_place` on of the
 /// octets.

@@ -5,14 +5,16 @@ ghost use Rattle.block_core.specs.Block.{IsBlock};
 ghost use Rattle.chain_core.specs.Chain.{longest_message, spelling};
 ghost use Rattle.chain_core.specs.Cut.{cut_of, leading_block};
 ghost use Rattle.c_lent.specs.Verdict.{Puts, put_verdict, put_into, wrong_argument};
-ghost use Rattle.c_lent.specs.Number.{IsReserved, number_of};
+ghost use Rattle.c_lent.specs.Number.{number_of};
+ghost use Rattle.octet_core.specs.Sizes.{IsReserved};
 ghost use Rattle.c_lent.specs.Chain.{chain_reason};
 
 use crate::block::put_block;
-use crate::number::{is_reserved, number_of};
+use crate::number::number_of;
 use crate::verdict::{Numbered, Verdict};
 use block_core::{BlockRef, Number, encode};
 use chain_core::{ChainReason, LONGEST_MESSAGE, block_at, cut};
+use octet_core::is_reserved;
 
 /// Writes the first block of the chain into which the message from place `start` on is cut.
 pub fn chain_block(message: &[u8], start: usize, ifs: u8, ns: u8, out: &mut [u8]) -> Verdict

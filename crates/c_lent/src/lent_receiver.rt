@@ -5,16 +5,18 @@ ghost use Rattle.std.specs.Prelude.{◌≡◌, ◌≢◌, ◌≤◌, ◌<◌, �
 ghost use Rattle.chain_core.specs.Chain.{longest_message};
 ghost use Rattle.chain_core.specs.Taking.{Taking, nothing_taken};
 ghost use Rattle.c_lent.specs.Verdict.{ok_at, wrong_argument};
-ghost use Rattle.c_lent.specs.Number.{IsReserved, number_of};
+ghost use Rattle.c_lent.specs.Number.{number_of};
+ghost use Rattle.octet_core.specs.Sizes.{IsReserved};
 ghost use Rattle.c_lent.specs.Lent.{IsAtFront};
 ghost use Rattle.c_lent.specs.KeptReceiver.{IsReceiver};
 ghost use Rattle.c_lent.specs.Turns.{joined_of};
 ghost use Rattle.c_lent.specs.LentReceiver.{ReceiverFed, ReceiverEnded};
 
 use crate::kept_receiver::CReceiver;
-use crate::number::{is_reserved, number_of};
+use crate::number::number_of;
 use crate::verdict::Verdict;
 use chain_core::{LONGEST_MESSAGE, ReceiverPlaces};
+use octet_core::is_reserved;
 
 /// Begins a receiver of one chain under an information size of 1 to 254, whose first block has the
 /// number `ns` and whose message has at most `max` octets, itself at most 131,072, whatever the state

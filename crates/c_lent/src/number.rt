@@ -1,7 +1,7 @@
 //! The values of enums by the numbers that C has for them.
 
-ghost use Rattle.std.specs.Prelude.{◌≡◌, ◌↔◌, IsTrue};
-ghost use Rattle.c_lent.specs.Number.{number_of, fault_of, subject_of, IsReserved};
+ghost use Rattle.std.specs.Prelude.{◌≡◌};
+ghost use Rattle.c_lent.specs.Number.{number_of, fault_of, subject_of};
 
 use block_core::{Fault, Number, S};
 
@@ -39,11 +39,4 @@ pub fn subject_of(about: u8) -> Option<S>
         3 => Some(S::Wtx),
         _ => None,
     }
-}
-
-/// Whether a size is reserved: 0 and 255 are.
-pub fn is_reserved(size: u8) -> bool
-    ensures { IsTrue result ↔ IsReserved size }
-{
-    size == 0 || size == 255
 }

@@ -9,7 +9,8 @@ ghost use Rattle.tlv_core.specs.Forest.{largest};
 ghost use Rattle.c_owned.specs.declared.engine.Engine.TheVariants.{InPieces};
 ghost use Rattle.c_owned.specs.declared.reader.Reader.TheVariants.{Atr as AtrIn, Block as BlockIn, Chain as ChainIn};
 ghost use Rattle.c_lent.specs.Verdict.{ok_at, no_memory, wrong_argument};
-ghost use Rattle.c_lent.specs.Number.{IsReserved, number_of};
+ghost use Rattle.c_lent.specs.Number.{number_of};
+ghost use Rattle.octet_core.specs.Sizes.{IsReserved};
 ghost use Rattle.c_owned.specs.Readers.{Feeds, Ends, AtrOf, GivesAtr, BlockOf, IsNewCheck};
 
 use crate::ends::opened;
@@ -20,10 +21,11 @@ use atr_core::AtrReader;
 use block_core::{BlockReader, encode};
 use c_lent::atr::{self, CAtr};
 use c_lent::block::{self, CBlock};
-use c_lent::number::{is_reserved, number_of};
+use c_lent::number::number_of;
 use c_lent::output::put;
 use c_lent::verdict::{OK, Verdict};
 use chain_core::{LONGEST_MESSAGE, Receiver};
+use octet_core::is_reserved;
 use std::alloc::Global;
 use tlv_core::{ForestCheck, LARGEST_FOREST};
 

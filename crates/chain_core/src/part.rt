@@ -6,7 +6,7 @@ ghost use Rattle.block_core.specs.declared.pcb.Pcb.TheVariants.{Info};
 ghost use Rattle.chain_core.specs.Part.{IsPcbFault, IsLenFault, IsHead, IsHeadFault, IsAfter, place_of, end_of};
 
 use crate::reason::ChainReason;
-use block_core::{BlockReason, Number, Pcb};
+use block_core::{BlockReason, Number, Pcb, block_len};
 
 /// What comes next of the block under way.
 #[derive(Clone, Copy, Debug, PartialEq, Eq)]
@@ -39,7 +39,7 @@ impl Part {
     {
         match self {
             Part::Nad | Part::Pcb | Part::Len { .. } => 3,
-            Part::Rest { len, .. } => len as usize + 4,
+            Part::Rest { len, .. } => block_len(len),
         }
     }
 }

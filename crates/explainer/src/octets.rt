@@ -5,6 +5,7 @@ ghost use Rattle.explainer.specs.Notes.{IsVerdictNote};
 
 use crate::mark::{left, stop_note};
 use crate::reason::Explained;
+use block_core::block_len;
 use card_words::Kind;
 use octet_core::Stop;
 use std::alloc::{AllocError, Global};
@@ -39,7 +40,7 @@ pub fn least_wanting(kind: Kind, octets: &[u8]) -> Option<usize> {
 /// How many octets a block that is short wants at least.
 fn wanting_of_block(octets: &[u8]) -> usize {
     match octets {
-        [_, _, len, ..] => (usize::from(*len) + 4).saturating_sub(octets.len()),
+        [_, _, len, ..] => block_len(*len).saturating_sub(octets.len()),
         _ => 4_usize.saturating_sub(octets.len()),
     }
 }

@@ -15,6 +15,7 @@ pub mod hexadecimal;
 pub mod named;
 pub mod octets;
 pub mod redundancy;
+pub mod size;
 pub mod stop;
 pub mod stream;
 
@@ -26,5 +27,6 @@ pub use hexadecimal::{HexFault, hex_upper, octets_of};
 pub use named::Named;
 pub use octets::{Octets, Text};
 pub use redundancy::lrc;
+pub use size::is_reserved;
 pub use stop::{Refusal, Refused, Stop};
 pub use stream::{Sink, Source, WriteFault, write_octets};

@@ -9,7 +9,8 @@ ghost use Rattle.tlv_core.specs.Forest.{largest};
 ghost use Rattle.c_owned.specs.declared.engine.Engine.TheVariants.{InPieces};
 ghost use Rattle.c_owned.specs.declared.reader.Reader.TheVariants.{Atr as AtrIn, Block as BlockIn, Chain as ChainIn};
 ghost use Rattle.c_lent.specs.Verdict.{ok_at, no_memory, wrong_argument};
-ghost use Rattle.c_lent.specs.Number.{IsReserved, number_of};
+ghost use Rattle.c_lent.specs.Number.{number_of};
+ghost use Rattle.octet_core.specs.Sizes.{IsReserved};
 ghost use Rattle.c_owned.specs.Readers.{Feeds, Ends, AtrOf, BlockOf, IsNewCheck};
 
 use c_lent::atr::CAtr;

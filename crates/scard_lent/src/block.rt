@@ -5,7 +5,8 @@ ghost use Rattle.octet_core.specs.Grammar.{self_ended, Refuses};
 ghost use Rattle.block_core.specs.Block.{Parts, IsBlock, IsReason, Suits};
 ghost use Rattle.block_core.specs.declared.pcb.Pcb.TheVariants.{Info, Ready, Request, Response};
 ghost use Rattle.c_lent.specs.Verdict.{Tells, Puts, ok_at, wrong_argument};
-ghost use Rattle.c_lent.specs.Number.{IsReserved, number_of, fault_of, subject_of};
+ghost use Rattle.c_lent.specs.Number.{number_of, fault_of, subject_of};
+ghost use Rattle.octet_core.specs.Sizes.{IsReserved};
 ghost use Rattle.c_lent.specs.Block.{block_reason, IsDecoded, IsUnfit, IsOf};
 
 use c_lent::block::CBlock;

@@ -5,7 +5,8 @@ ghost use Rattle.block_core.specs.Block.{IsBlock};
 ghost use Rattle.chain_core.specs.Chain.{longest_message, spelling};
 ghost use Rattle.chain_core.specs.Cut.{cut_of, leading_block};
 ghost use Rattle.c_lent.specs.Verdict.{Puts, put_verdict, put_into, wrong_argument};
-ghost use Rattle.c_lent.specs.Number.{IsReserved, number_of};
+ghost use Rattle.c_lent.specs.Number.{number_of};
+ghost use Rattle.octet_core.specs.Sizes.{IsReserved};
 
 use c_lent::verdict::Verdict;
 

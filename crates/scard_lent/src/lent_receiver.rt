@@ -5,7 +5,8 @@ ghost use Rattle.std.specs.Prelude.{◌≡◌, ◌≢◌, ◌≤◌, ◌<◌, �
 ghost use Rattle.chain_core.specs.Chain.{longest_message};
 ghost use Rattle.chain_core.specs.Taking.{Taking, nothing_taken};
 ghost use Rattle.c_lent.specs.Verdict.{ok_at, wrong_argument};
-ghost use Rattle.c_lent.specs.Number.{IsReserved, number_of};
+ghost use Rattle.c_lent.specs.Number.{number_of};
+ghost use Rattle.octet_core.specs.Sizes.{IsReserved};
 ghost use Rattle.c_lent.specs.Lent.{IsAtFront};
 ghost use Rattle.c_lent.specs.KeptReceiver.{IsReceiver};
 ghost use Rattle.c_lent.specs.Turns.{joined_of};

@@ -1,6 +1,7 @@
 -- The terminal of the T=1 protocol (ISO/IEC 7816-3, clause 11.6). The counts of repeats, and what RESYNCH leaves, are
 -- this project's profile.
 use Rattle.std.specs.Prelude.{ℕ, ◌+◌, List, [], ◌∷◌, ◌++◌, length, take, drop, Bool, true, false, ◌&&◌, ◌||◌, ◌==◌, nat_lt, nat_le, min, if◌then◌else◌, Option, Some, None, Result, Ok, Err}
+pub use Rattle.octet_core.specs.Sizes.{is_reserved}
 use Rattle.chain_core.specs.Longest.{longest_command, longest_response}
 use Rattle.block_core.specs.Block.{Parts}
 use Rattle.block_core.specs.declared.pcb.Number.{Number}
@@ -231,10 +232,6 @@ abbrev pub if_idle : Waits → TerminalStep → TerminalStep
 if_idle idle step = step
 if_idle dead step = Err IsDead
 if_idle waits step = Err Busy
-
--- sizes that no end may ask for
-abbrev pub is_reserved : ℕ → Bool
-is_reserved size = (size == 0) || (size == 255)
 
 abbrev pub terminal_turn : TerminalState → TerminalInput → TerminalStep
 terminal_turn t (transmit command) =

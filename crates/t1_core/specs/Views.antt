@@ -6,6 +6,7 @@ use Rattle.t1_core.specs.declared.turns.TerminalWait.TheVariants.{Idle, Ack, Ans
 use Rattle.t1_core.specs.declared.class.Arrived.{Arrived}
 use Rattle.t1_core.specs.declared.class.Arrived.TheVariants.{Whole, Damaged, Invalid}
 use denote.Ref.{Bor}
+pub use Rattle.octet_core.specs.Sizes.{IsFieldSize as IsSize}
 use Rattle.block_core.specs.declared.pcb.S.TheVariants.{Ifs as Size}
 use Rattle.block_core.specs.declared.pcb.Pcb.TheVariants.{Response}
 use Rattle.t1_core.specs.Came.{Came, got, damaged, invalid, carried}
@@ -37,10 +38,6 @@ waits_of Dead command joined = dead
 abbrev pub answered_of : Bool → List ℕ → Option (List ℕ)
 answered_of true joined = Some joined
 answered_of false joined = None
-
--- a size that a block may have
-abbrev pub IsSize : ℕ → Type 0
-IsSize size = (1 ≤ size) × (size ≤ 254)
 
 -- the octets of the answer that came so far
 abbrev pub joined_of : Waits → List ℕ

@@ -5,10 +5,10 @@ ghost use Rattle.std.specs.Prelude.{◌≡◌, true};
 ghost use Rattle.t1_core.specs.Views.{AreTerminalPlaces, IsSize, IsInner, IsLast, IsWait};
 ghost use Rattle.t1_core.specs.CardViews.{AreCardPlaces, IsSaved, IsCardWait};
 
-use crate::guards::is_reserved;
 use crate::places::{CardPlaces, TerminalPlaces};
 use crate::terminal::MOST_RESYNCHS;
 use crate::turns::{CardAsked, CardWait, Cut, TerminalWait};
+use octet_core::is_reserved;
 
 /// Whether a block's field may have this size.
 fn is_size(size: u8) -> bool

@@ -3,7 +3,7 @@
 //! A guard changes nothing, so a call that it refuses changes nothing.
 
 ghost use Rattle.std.specs.Prelude.{◌≡◌, List, ℕ, IfErr, Err, OnOk};
-ghost use Rattle.t1_core.specs.Terminal.{TerminalStep, if_idle, is_reserved};
+ghost use Rattle.t1_core.specs.Terminal.{TerminalStep, if_idle};
 ghost use Rattle.t1_core.specs.Card.{CardStep, if_host};
 ghost use Rattle.t1_core.specs.Views.{waits_of};
 ghost use Rattle.t1_core.specs.CardViews.{card_waits_of};
@@ -39,11 +39,4 @@ pub(crate) fn if_host(wait: CardWait) -> Result<(), CardFault>
             Err(CardFault::Order)
         }
     }
-}
-
-/// Whether no end may ask for this size of information fields.
-pub(crate) fn is_reserved(size: u8) -> bool
-    ensures { result ≡ is_reserved size }
-{
-    size == 0 || size == 255
 }

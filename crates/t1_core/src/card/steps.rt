@@ -9,12 +9,13 @@ ghost use Rattle.t1_core.specs.Card.{takes, replies, more_time, ask_ifs, card_tu
 use crate::buffers::append;
 use crate::class::classify;
 use crate::cutting::field_in;
-use crate::guards::{if_host, is_reserved};
+use crate::guards::if_host;
 use crate::places::CardPlaces;
 use crate::replying::next_block;
 use crate::sending::{CardAct, Sent};
 use crate::turns::{CardAsked, CardFault, CardWait};
 use block_core::{BlockRef, Pcb};
+use octet_core::is_reserved;
 
 impl CardPlaces {
     /// These octets came as one block.

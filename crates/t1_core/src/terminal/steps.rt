@@ -9,11 +9,12 @@ ghost use Rattle.t1_core.specs.Terminal.{takes, transmit, ask_ifs, terminal_turn
 use crate::buffers::append;
 use crate::class::classify;
 use crate::cutting::field_in;
-use crate::guards::{if_idle, is_reserved};
+use crate::guards::if_idle;
 use crate::places::TerminalPlaces;
 use crate::sending::{Sent, Short, TerminalAct};
 use crate::turns::{Cut, TerminalFault, TerminalWait};
 use block_core::{BlockRef, Fault, Pcb, S};
+use octet_core::is_reserved;
 
 impl TerminalPlaces {
     /// A command is handed over.
