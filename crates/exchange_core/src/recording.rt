@@ -23,7 +23,7 @@ use exchange_text::{Exchange, Line, Lines, Version};
 use octet_core::Octets;
 use std::alloc::{AllocError, Global};
 use std::marker::Model;
-use t1_core::laws::{matched, taken};
+use t1_core::laws::matched;
 use t1_core::{Card, CardTurn, Terminal, TerminalTurn};
 
 /// A new terminal and a new card on one line, with at most one block under way, and the record of what
@@ -220,7 +220,6 @@ impl Recorder {
             (recorded self.old (change_event change) ≡ Err fault)) }
         ensures kept { OnErr result (self.new ≡ self.old) }
     {
-        taken();
         match &self.last {
             LastTurn::Terminal(TerminalTurn::Send(block)) => {
                 let sent = spelled(self.alloc, block)?;

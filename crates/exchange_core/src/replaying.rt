@@ -6,8 +6,6 @@ ghost use Rattle.exchange_core.specs.Replay.{Replays, IfDiffers, IsFound, replay
 ghost use Rattle.exchange_core.specs.Run.{IsRun};
 
 use crate::end::{Effect, Replayed};
-use crate::laws::agreeing_is_a_run;
-use atr_core::laws::one_accepted;
 use atr_core::{T1Params, decode, t1_params};
 use exchange_text::{Exchange, Line};
 use octet_core::{Named, Text};
@@ -80,7 +78,6 @@ pub fn replay(alloc: Global, exchange: &Exchange, side: Side) -> Result<(), Repl
     ensures differs { IfErr result (λ fault. IfDiffers fault
         (λ line gives. Replays exchange.now.atr exchange.now.lines side (Some (line, gives)))) }
 {
-    agreeing_is_a_run();
     let params = match params_of(exchange.atr()) {
         Ok(params) => params,
         Err(name) => return differs(ATR_LINE, refused(alloc, name)?),
@@ -93,7 +90,6 @@ pub(crate) fn params_of(octets: &[u8]) -> Result<T1Params, &'static str>
     ensures found { IfOk result (λ params. IsFound octets.now (Ok params.ifsc)) }
     ensures refused { IfErr result (λ name. IsFound octets.now (Err name.now)) }
 {
-    one_accepted();
     match decode(octets) {
         Ok((atr, taken)) if taken == octets.len() => t1_params(&atr).map_err(|fault| fault.name()),
         _ => Err("BadAtr"),

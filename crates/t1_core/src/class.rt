@@ -43,7 +43,6 @@ pub(crate) fn classify(octets: &[u8], ifs: u8) -> Arrived<'_>
     requires most { ifs ≤ 254 }
     ensures { came_of result ≡ class_of ifs octets.now }
 {
-    crate::laws::class_is_computed();
     by_verdict(octets, ifs)
 }
 

@@ -1,11 +1,9 @@
 //! The field of the I-block under way, in the words of the two ends.
 
 ghost use Rattle.std.specs.Prelude.{◌≡◌, ◌≤◌, length};
-ghost use Rattle.t1_core.specs.Came.{same};
 ghost use Rattle.t1_core.specs.Views.{field_at};
 
 use crate::turns::Cut;
-use block_core::Number;
 
 /// The octets of a message from the place of the cut on, as many as a field of its size has room for.
 pub(crate) fn field_in(message: &[u8], cut: Cut) -> &[u8]
@@ -15,14 +13,4 @@ pub(crate) fn field_in(message: &[u8], cut: Cut) -> &[u8]
 {
     let rest = &message[cut.place..];
     &rest[..rest.len().min(cut.size as usize)]
-}
-
-/// Whether two sequence numbers are one.
-pub(crate) fn is_same(a: Number, b: Number) -> bool
-    ensures { result ≡ same a b }
-{
-    match (a, b) {
-        (Number::Zero, Number::Zero) | (Number::One, Number::One) => true,
-        (Number::Zero, Number::One) | (Number::One, Number::Zero) => false,
-    }
 }

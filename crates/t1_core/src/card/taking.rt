@@ -11,7 +11,6 @@ ghost use Rattle.t1_core.specs.Card.{command, reply, asking, card_came, in_eithe
 
 use crate::buffers::append;
 use crate::class::Arrived;
-use crate::cutting::is_same;
 use crate::places::CardPlaces;
 use crate::replying::{acknowledged, next_block};
 use crate::sending::{CardAct, Sent, Short};
@@ -47,17 +46,16 @@ impl CardPlaces {
                 Pcb::Info { number, more } => {
                     let fits = self.taken_len(held, answer) + block.inf().len()
                         <= self.most_command;
-                    if is_same(number, self.expected) && fits {
+                    if number == self.expected && fits {
                         self.joins(held, answer, block.inf(), more)
                     } else {
                         self.either_took(held, answer, arrived)
                     }
                 }
-                Pcb::Ready { number, .. } => self.sends_saved(
-                    held,
-                    answer,
-                    is_same(number, self.number),
-                ),
+                Pcb::Ready { number, .. } => {
+                    let is_own = number == self.number;
+                    self.sends_saved(held, answer, is_own)
+                }
                 Pcb::Request(S::Resynch) => self.resynched(held, answer),
                 Pcb::Request(S::Ifs | S::Abort | S::Wtx) | Pcb::Response(_) => {
                     self.either_took(held, answer, arrived)
@@ -115,7 +113,7 @@ impl CardPlaces {
         let CardWait::Reply(cut) = self.wait else {
             unreachable!()
         };
-        if is_same(number, self.number) {
+        if number == self.number {
             return CardAct::Send(Sent::Inner);
         }
         self.number = self.number.other();

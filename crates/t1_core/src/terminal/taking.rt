@@ -8,7 +8,6 @@ ghost use Rattle.t1_core.specs.Terminal.{ack, answer, more, most_resynchs, in_ex
 
 use crate::buffers::append;
 use crate::class::Arrived;
-use crate::cutting::is_same;
 use crate::places::TerminalPlaces;
 use crate::sending::{Sent, Short, TerminalAct};
 use crate::terminal::{FIRST_IFSD, MOST_REPEATS, MOST_RESYNCHS};
@@ -47,7 +46,7 @@ impl TerminalPlaces {
             Arrived::Damaged | Arrived::Invalid => self.exchange_took(held, joined, arrived),
             Arrived::Whole(block) => match block.pcb() {
                 Pcb::Ready { number, .. } => {
-                    if is_same(number, self.number) {
+                    if number == self.number {
                         return self.fails(held, joined, Sent::Inner);
                     }
                     self.failures = 0;
@@ -88,7 +87,7 @@ impl TerminalPlaces {
             Arrived::Damaged | Arrived::Invalid => self.exchange_took(held, joined, arrived),
             Arrived::Whole(block) => match block.pcb() {
                 Pcb::Ready { number, .. } => {
-                    if is_same(number, self.number) {
+                    if number == self.number {
                         self.fails(held, joined, Sent::Last)
                     } else {
                         self.fails_with(held, joined, Fault::Free)
@@ -96,7 +95,7 @@ impl TerminalPlaces {
                 }
                 Pcb::Info { number, more } => {
                     let fits = block.inf().len() <= self.most_answer;
-                    if !(is_same(number, self.expected) && fits) {
+                    if !(number == self.expected && fits) {
                         return self.exchange_took(held, joined, arrived);
                     }
                     self.number = self.number.other();
@@ -132,7 +131,7 @@ impl TerminalPlaces {
                 Pcb::Ready { .. } => self.fails_with(held, joined, Fault::Free),
                 Pcb::Info { number, more } => {
                     let fits = self.joined_len + block.inf().len() <= self.most_answer;
-                    if is_same(number, self.expected) && fits {
+                    if number == self.expected && fits {
                         self.joins(held, joined, block.inf(), more)
                     } else {
                         self.exchange_took(held, joined, arrived)

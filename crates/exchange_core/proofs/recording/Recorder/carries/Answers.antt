@@ -4,6 +4,7 @@ use Rattle.t1_core.specs.declared.turns.TerminalTurn.TheVariants.{Send}
 use Rattle.t1_core.specs.declared.turns.CardTurn.{CardTurn}
 use Rattle.t1_core.specs.declared.turns.CardTurn.TheVariants.{Send as Sends}
 use Rattle.t1_core.specs.Link.{tables, happens}
+use Rattle.t1_core.proofs.Proper.{always_taken}
 use Rattle.exchange_core.specs.Recording.{Recording, recorded, link_of, IfNotMemory, change_event}
 use Rattle.exchange_core.specs.declared.event.LastTurn.TheVariants.{Terminal, Card}
 use Rattle.exchange_core.proofs.Acting.{to-card-leaves, to-card-refuses, to-terminal-leaves, to-terminal-refuses}
@@ -17,7 +18,7 @@ returns-in_err-turn-in-Terminal-Send-clause-refused c =
     let fault = c.in_err-turn-in-Terminal-Send.field-0.0 in
     let h = subst (λ (r : Recording). IfNotMemory fault (recorded r (change_event c.args.change) ≡ Err fault))
     c.self.view_is
-    (to-card-refuses _ _ _ c.in-Terminal-Send.block c.args.change _ _ fault c.taken.ensures c.self.invariant last-is
+    (to-card-refuses _ _ _ c.in-Terminal-Send.block c.args.change _ _ fault always_taken c.self.invariant last-is
     c.in_ok-sent-in-Terminal-Send.ensures c.in_ok-arrival-in-Terminal-Send.ensures
     c.in_err-turn-in-Terminal-Send.ensures.refused) in
     search (rules, h)
@@ -27,7 +28,7 @@ invariant_of-self-in-Send-1 c =
     let turn-is = rw c.in-Terminal-Send.is at c.in-Terminal-Send.field-0-is in
     let last-is : c.self.inside.last ≡ Terminal (Send c.in-Terminal-Send.block) =
     c.in-Terminal-Send.is ∙ ap (λ (turn : TerminalTurn). Terminal turn) turn-is in
-    (to-card-leaves _ _ _ c.in-Terminal-Send.block c.args.change _ _ _ _ _ c.taken.ensures c.self.invariant last-is
+    (to-card-leaves _ _ _ c.in-Terminal-Send.block c.args.change _ _ _ _ _ always_taken c.self.invariant last-is
     c.in_ok-sent-in-Terminal-Send.ensures c.in_ok-arrival-in-Terminal-Send.ensures
     c.in_ok-turn-in-Terminal-Send.ensures.turn c.in_ok-turn-in-Terminal-Send.ensures.lines).0
 
@@ -43,7 +44,7 @@ returns-in_ok-turn-in-Terminal-Send-clause-recorded c =
       last = Card c.in_ok-turn-in-Terminal-Send.turn;
     } in
     subst (λ (r : Recording). recorded r (change_event c.args.change) ≡ Ok new) c.self.view_is
-    (to-card-leaves _ _ _ c.in-Terminal-Send.block c.args.change _ _ _ _ _ c.taken.ensures c.self.invariant last-is
+    (to-card-leaves _ _ _ c.in-Terminal-Send.block c.args.change _ _ _ _ _ always_taken c.self.invariant last-is
     c.in_ok-sent-in-Terminal-Send.ensures c.in_ok-arrival-in-Terminal-Send.ensures
     c.in_ok-turn-in-Terminal-Send.ensures.turn c.in_ok-turn-in-Terminal-Send.ensures.lines).1.0
 
@@ -59,7 +60,7 @@ returns-in_ok-turn-in-Terminal-Send-clause-link c =
       last = Card c.in_ok-turn-in-Terminal-Send.turn;
     } in
     subst (λ (r : Recording). link_of new ≡ happens tables (link_of r) (change_event c.args.change)) c.self.view_is
-    (to-card-leaves _ _ _ c.in-Terminal-Send.block c.args.change _ _ _ _ _ c.taken.ensures c.self.invariant last-is
+    (to-card-leaves _ _ _ c.in-Terminal-Send.block c.args.change _ _ _ _ _ always_taken c.self.invariant last-is
     c.in_ok-sent-in-Terminal-Send.ensures c.in_ok-arrival-in-Terminal-Send.ensures
     c.in_ok-turn-in-Terminal-Send.ensures.turn c.in_ok-turn-in-Terminal-Send.ensures.lines).1.1
 
@@ -71,7 +72,7 @@ returns-in_err-turn-in-Card-Send-clause-refused c =
     let fault = c.in_err-turn-in-Card-Send.field-0.0 in
     let h = subst (λ (r : Recording). IfNotMemory fault (recorded r (change_event c.args.change) ≡ Err fault))
     c.self.view_is
-    (to-terminal-refuses _ _ _ c.in-Card-Send.block c.args.change _ _ fault c.taken.ensures c.self.invariant last-is
+    (to-terminal-refuses _ _ _ c.in-Card-Send.block c.args.change _ _ fault always_taken c.self.invariant last-is
     c.in_ok-sent-in-Card-Send.ensures c.in_ok-arrival-in-Card-Send.ensures
     c.in_err-turn-in-Card-Send.ensures.refused) in
     search (rules, h)
@@ -81,7 +82,7 @@ invariant_of-self-in-Send-self-3 c =
     let turn-is = rw c.in-Card-Send.is at c.in-Card-Send.field-0-is in
     let last-is : c.self.inside.last ≡ Card (Sends c.in-Card-Send.block) =
     c.in-Card-Send.is ∙ ap (λ (turn : CardTurn). Card turn) turn-is in
-    (to-terminal-leaves _ _ _ c.in-Card-Send.block c.args.change _ _ _ _ _ c.taken.ensures c.self.invariant last-is
+    (to-terminal-leaves _ _ _ c.in-Card-Send.block c.args.change _ _ _ _ _ always_taken c.self.invariant last-is
     c.in_ok-sent-in-Card-Send.ensures c.in_ok-arrival-in-Card-Send.ensures c.in_ok-turn-in-Card-Send.ensures.turn
     c.in_ok-turn-in-Card-Send.ensures.lines).0
 
@@ -97,7 +98,7 @@ returns-in_ok-turn-in-Card-Send-clause-recorded c =
       last = Terminal c.in_ok-turn-in-Card-Send.turn;
     } in
     subst (λ (r : Recording). recorded r (change_event c.args.change) ≡ Ok new) c.self.view_is
-    (to-terminal-leaves _ _ _ c.in-Card-Send.block c.args.change _ _ _ _ _ c.taken.ensures c.self.invariant last-is
+    (to-terminal-leaves _ _ _ c.in-Card-Send.block c.args.change _ _ _ _ _ always_taken c.self.invariant last-is
     c.in_ok-sent-in-Card-Send.ensures c.in_ok-arrival-in-Card-Send.ensures c.in_ok-turn-in-Card-Send.ensures.turn
     c.in_ok-turn-in-Card-Send.ensures.lines).1.0
 
@@ -113,6 +114,6 @@ returns-in_ok-turn-in-Card-Send-clause-link c =
       last = Terminal c.in_ok-turn-in-Card-Send.turn;
     } in
     subst (λ (r : Recording). link_of new ≡ happens tables (link_of r) (change_event c.args.change)) c.self.view_is
-    (to-terminal-leaves _ _ _ c.in-Card-Send.block c.args.change _ _ _ _ _ c.taken.ensures c.self.invariant last-is
+    (to-terminal-leaves _ _ _ c.in-Card-Send.block c.args.change _ _ _ _ _ always_taken c.self.invariant last-is
     c.in_ok-sent-in-Card-Send.ensures c.in_ok-arrival-in-Card-Send.ensures c.in_ok-turn-in-Card-Send.ensures.turn
     c.in_ok-turn-in-Card-Send.ensures.lines).1.1
