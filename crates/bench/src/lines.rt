@@ -7,7 +7,7 @@ use crate::buffers::served;
 use crate::session::{COMMAND, RESPONSE, ends};
 use crate::work::Work;
 use block_core::LONGEST_BLOCK;
-use line_core::{CardLine, Heard, Host, Line, exchange, serve};
+use line_core::{CardLine, Host, Received, TerminalLine, exchange, serve};
 use std::io::{self, ErrorKind};
 use std::time::Instant;
 use t1_core::{Card, Terminal, TerminalPut};
@@ -91,13 +91,13 @@ struct CardAtLine<'a> {
     blocks: u32,
 }
 
-impl Line for CardAtLine<'_> {
+impl TerminalLine for CardAtLine<'_> {
     ghost said = { λ _ _ _. Unit {0} };
 
-    fn talk(&mut self, block: &[u8], _waiting: u8, room: &mut [u8]) -> io::Result<Heard> {
+    fn transceive(&mut self, block: &[u8], _waiting: u8, room: &mut [u8]) -> io::Result<Received> {
         self.blocks = self.blocks.saturating_add(1);
         match served(&mut self.card, block, self.reply, room) {
-            Some(count) => Ok(Heard::Octets(count)),
+            Some(count) => Ok(Received::Octets(count)),
             None => Err(ErrorKind::InvalidData.into()),
         }
     }
@@ -116,7 +116,7 @@ struct TerminalAtLine<'a> {
 impl CardLine for TerminalAtLine<'_> {
     ghost said = { λ _ _ _. Unit {0} };
 
-    fn hear(&mut self, room: &mut [u8]) -> io::Result<Heard> {
+    fn receive(&mut self, room: &mut [u8]) -> io::Result<Received> {
         let put = match self.count {
             None => self.terminal.transmit_into(self.command, room),
             Some(count) => match self.block.get(..count) {
@@ -125,12 +125,12 @@ impl CardLine for TerminalAtLine<'_> {
             },
         };
         match put {
-            Ok(TerminalPut::Send { count, .. }) => Ok(Heard::Octets(count)),
-            _ => Ok(Heard::Nothing),
+            Ok(TerminalPut::Send { count, .. }) => Ok(Received::Octets(count)),
+            _ => Ok(Received::Nothing),
         }
     }
 
-    fn say(&mut self, block: &[u8]) -> io::Result<()> {
+    fn send(&mut self, block: &[u8]) -> io::Result<()> {
         self.blocks = self.blocks.saturating_add(1);
         match self.block.get_mut(..block.len()) {
             Some(front) => front.copy_from_slice(block),

@@ -3,7 +3,7 @@ use Rattle.std.proofs.Common.{◌≡◌, ℕ, List, [], ◌∷◌, ◌-◌, Resu
 use Rattle.t1_core.specs.declared.turns.TerminalTurn.TheVariants as turn
 use Rattle.t1_core.specs.Came.{quiet, class_of}
 use Rattle.t1_core.specs.Terminal.{TerminalState, TerminalStep, transmit, turn_of, state_after}
-use Rattle.line_core.specs.declared.fault.ExchangeFault.{ExchangeFault}
+use Rattle.line_core.specs.declared.fault.TransceiveFault.{TransceiveFault}
 use Rattle.line_core.specs.Line.{Arrival, block, nothing, failure, Talk}
 use Rattle.line_core.specs.Exchange.{Ending, done, given_up, dead as is_dead, line_failed, used_up, refused, Next, sends, ends, next_of, next_after, left_after, Runs, HasRun, ending_of}
 use Rattle.line_core.proofs.Steps.{IsAbout, Keeps, came-kept, transmit-kept}
@@ -41,14 +41,14 @@ ends-fine [] most (sends sent) t left ending h (none, is, stays) = rw is tt
 ends-fine [] most (ends how) t left ending h (is, stays) = rw (is, stays) h
 ends-fine (talk ∷ talks) most (ends how) t left ending h never = absurd never
 
-done-fine : (r : Result (Unit {0}) ExchangeFault) (t : TerminalState) → IsFine (ends (ending_of r)) t
+done-fine : (r : Result (Unit {0}) TransceiveFault) (t : TerminalState) → IsFine (ends (ending_of r)) t
     → OnOk r (IsSome t.answered)
 done-fine (Ok x) t h = h
 done-fine (Err inner) t h = tt
 
 -- A command that is done has an answer.
 pub answered : {A : Type 0} (before after : A → List Talk → Type 0) (most : ℕ) (t left : TerminalState)
-    (command : List ℕ) (r : Result (Unit {0}) ExchangeFault)
+    (command : List ℕ) (r : Result (Unit {0}) TransceiveFault)
     → HasRun before after most t (transmit command) (ending_of r) left → OnOk r (IsSome left.answered)
 answered before after most t left command r (talks, adds, run) =
     done-fine r left (ends-fine talks _ _ _ left _ (after-step t _ (transmit-kept t command)) run)

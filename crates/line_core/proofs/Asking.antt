@@ -3,8 +3,8 @@ use Rattle.std.proofs.Common.{◌≡◌, ◌≤◌, ℕ, ◌+◌, List, [], ◌�
 use Rattle.std.proofs.lemmas.List.{map-append, length-append}
 use Rattle.std.proofs.lemmas.List.Elements.{All-append, All-nil, All-cons}
 use Rattle.std.specs.declared.io.Error.{Error}
-use Rattle.line_core.specs.declared.line.Heard.{Heard}
-use Rattle.line_core.specs.declared.line.Heard.TheVariants.{Octets, Nothing}
+use Rattle.line_core.specs.declared.line.Received.{Received}
+use Rattle.line_core.specs.declared.line.Received.TheVariants.{Octets, Nothing}
 use Rattle.line_core.specs.Line.{Arrival, failure, Talk, Adds, arrived}
 use Rattle.line_core.specs.Exchange.{Ending, done, dead, line_failed}
 use Rattle.line_core.specs.Resynch.{asked, answered, IsUnanswered, Asks}
@@ -66,7 +66,7 @@ ends-unanswered first now times most all u = (
 )
 
 -- what isn't the answer, whatever came
-pub no-answer : (heard : Heard) (room : List ℕ) → (arrived heard room ≡ answered → ⊥)
+pub no-answer : (heard : Received) (room : List ℕ) → (arrived heard room ≡ answered → ⊥)
     → IsUnanswered (arrived heard room)
 no-answer (Octets count) room other = other
 no-answer Nothing room other = tt

@@ -7,12 +7,12 @@ use Rattle.t1_core.specs.declared.turns.TerminalTurn.{TerminalTurn}
 use Rattle.t1_core.specs.declared.turns.TerminalTurn.TheVariants.{Send, Answered, IfsSet, GivenUp, Dead}
 use Rattle.t1_core.specs.declared.turns.TerminalPut.{TerminalPut}
 use Rattle.t1_core.specs.declared.turns.TerminalFault.{TerminalFault}
-use Rattle.line_core.specs.declared.fault.ExchangeFault.{ExchangeFault}
-use Rattle.line_core.specs.declared.fault.ExchangeFault.TheVariants as fault
+use Rattle.line_core.specs.declared.fault.TransceiveFault.{TransceiveFault}
+use Rattle.line_core.specs.declared.fault.TransceiveFault.TheVariants as fault
 use Rattle.line_core.specs.Exchange.{next_of, IsReady}
 
 -- what the caller is told of a refusal
-abbrev pub lifted : Result TerminalPut TerminalFault → Result TerminalPut ExchangeFault
+abbrev pub lifted : Result TerminalPut TerminalFault → Result TerminalPut TransceiveFault
 lifted (Ok turn) = Ok turn
 lifted (Err inner) = Err (fault.Refused inner)
 

@@ -10,8 +10,8 @@ use Rattle.t1_core.specs.declared.turns.TerminalTurn.TheVariants.{Send, Answered
 use Rattle.t1_core.specs.declared.turns.TerminalPut.{TerminalPut}
 use Rattle.t1_core.specs.declared.turns.TerminalPut.TheVariants as put
 use Rattle.t1_core.specs.declared.turns.TerminalFault.{TerminalFault}
-use Rattle.line_core.specs.declared.fault.ExchangeFault.{ExchangeFault}
-use Rattle.line_core.specs.declared.fault.ExchangeFault.TheVariants as fault
+use Rattle.line_core.specs.declared.fault.TransceiveFault.{TransceiveFault}
+use Rattle.line_core.specs.declared.fault.TransceiveFault.TheVariants as fault
 use Rattle.line_core.specs.Line.{Arrival, block, nothing, failure, Talk, Adds}
 use denote.Ref.{Bor}
 
@@ -25,7 +25,7 @@ pub data Ending : Type 0 where
   used_up : Ending
   refused : (fault : TerminalFault) → Ending
 
-abbrev pub ending_of : {A : Type 0} → Result A ExchangeFault → Ending
+abbrev pub ending_of : {A : Type 0} → Result A TransceiveFault → Ending
 ending_of (Ok answer) = done
 ending_of (Err fault.GivenUp) = given_up
 ending_of (Err fault.Dead) = dead
@@ -73,7 +73,7 @@ Runs most (ends how) t [] ending left = (ending ≡ how) × (left ≡ t)
 Runs most (ends how) t (talk ∷ talks) ending left = ⊥
 
 -- The next turn is in the caller's hands: the block that is sent at the front of the buffer, or how it ends.
-abbrev pub IsReady : Next → List ℕ → Result TerminalPut ExchangeFault → Type 0
+abbrev pub IsReady : Next → List ℕ → Result TerminalPut TransceiveFault → Type 0
 IsReady next out (Ok (put.Send count waiting)) =
     (sent : Parts) × (next ≡ sends sent) × (take count out ≡ spelling sent) × (waiting ≡ waiting_times (Send sent))
 IsReady next out (Ok put.Answered) = next ≡ ends done
@@ -90,5 +90,5 @@ HasRun before after most t input ending left = (talks : List Talk) × Adds befor
     × Runs most (next_of (turn_of (terminal_turn t input))) (state_after t (terminal_turn t input)) talks ending left
 
 -- the answer is the one that the terminal holds
-abbrev pub IsAnswer : TerminalState → Result (Bor (List ℕ)) ExchangeFault → Type 0
+abbrev pub IsAnswer : TerminalState → Result (Bor (List ℕ)) TransceiveFault → Type 0
 IsAnswer left result = IfOk result (λ answer. left.answered ≡ Some answer.now)

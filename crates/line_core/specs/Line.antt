@@ -1,8 +1,8 @@
 -- What was on a line between two ends.
 use Rattle.std.specs.Prelude.{◌≤◌, ℕ, List, ◌++◌, length, take, Result, Ok, Err}
 use Rattle.std.specs.declared.io.Error.{Error}
-use Rattle.line_core.specs.declared.line.Heard.{Heard}
-use Rattle.line_core.specs.declared.line.Heard.TheVariants.{Octets, Nothing}
+use Rattle.line_core.specs.declared.line.Received.{Received}
+use Rattle.line_core.specs.declared.line.Received.TheVariants.{Octets, Nothing}
 
 -- What came after a block: these octets as one block, nothing within the waiting time, or the line failed with this
 -- error.
@@ -18,17 +18,17 @@ pub record Talk : Type 0 where
   pub arrival : Arrival
 
 -- what came, where this is the buffer that the line filled
-abbrev pub arrived : Heard → List ℕ → Arrival
+abbrev pub arrived : Received → List ℕ → Arrival
 arrived (Octets count) room = block (take count room)
 arrived Nothing room = nothing
 
 -- what a call of the line says
-abbrev pub arrival_of : Result Heard Error → List ℕ → Arrival
+abbrev pub arrival_of : Result Received Error → List ℕ → Arrival
 arrival_of (Ok heard) room = arrived heard room
 arrival_of (Err fault) room = failure fault
 
 -- what came is in the buffer
-abbrev pub FitsRoom : Heard → List ℕ → Type 0
+abbrev pub FitsRoom : Received → List ℕ → Type 0
 FitsRoom (Octets count) room = count ≤ length room
 FitsRoom Nothing room = Unit {0}
 

@@ -1,18 +1,18 @@
 -- What is printed of the faults.
 use Rattle.std.specs.Prelude.{ℕ, List, ◌++◌, Option, Some, None, codes}
 use Rattle.t1_core.specs.Names.{terminal_fault_name, card_fault_name}
-use Rattle.line_core.specs.declared.fault.ExchangeFault.{ExchangeFault}
-use Rattle.line_core.specs.declared.fault.ExchangeFault.TheVariants as exchange
+use Rattle.line_core.specs.declared.fault.TransceiveFault.{TransceiveFault}
+use Rattle.line_core.specs.declared.fault.TransceiveFault.TheVariants as exchange
 use Rattle.line_core.specs.declared.serving.ServeFault.{ServeFault}
 use Rattle.line_core.specs.declared.serving.ServeFault.TheVariants as serve
 
 -- as text; that of an error of the line isn't known
-abbrev pub exchange_fault_text : ExchangeFault → Option (List ℕ)
-exchange_fault_text exchange.GivenUp = Some (codes "GivenUp")
-exchange_fault_text exchange.Dead = Some (codes "Dead")
-exchange_fault_text (exchange.Line inner) = None
-exchange_fault_text exchange.UsedUp = Some (codes "UsedUp")
-exchange_fault_text (exchange.Refused inner) = Some (codes "Refused: " ++ terminal_fault_name inner)
+abbrev pub transceive_fault_text : TransceiveFault → Option (List ℕ)
+transceive_fault_text exchange.GivenUp = Some (codes "GivenUp")
+transceive_fault_text exchange.Dead = Some (codes "Dead")
+transceive_fault_text (exchange.Line inner) = None
+transceive_fault_text exchange.UsedUp = Some (codes "UsedUp")
+transceive_fault_text (exchange.Refused inner) = Some (codes "Refused: " ++ terminal_fault_name inner)
 
 abbrev pub serve_fault_text : ServeFault → Option (List ℕ)
 serve_fault_text (serve.Line inner) = None

@@ -3,7 +3,7 @@ use Rattle.std.specs.Prelude.{◌≡◌, ◌≤◌, ℕ, ◌+◌, List, [], ◌�
 use Rattle.block_core.specs.Block.{spelling}
 use Rattle.block_core.specs.declared.pcb.S.TheVariants.{Resynch}
 use Rattle.t1_core.specs.Came.{request, response}
-use Rattle.line_core.specs.declared.fault.ExchangeFault.{ExchangeFault}
+use Rattle.line_core.specs.declared.fault.TransceiveFault.{TransceiveFault}
 use Rattle.line_core.specs.Line.{Arrival, block, nothing, failure, Talk}
 use Rattle.line_core.specs.Exchange.{Ending, done, given_up, dead, line_failed, used_up, refused, ending_of}
 
@@ -39,7 +39,7 @@ pub record Asks (most : ℕ) (talks : List Talk) (ending : Ending) : Type 0 wher
   pub last : IsLast most before talks ending
 
 -- whether the card answered, as an ending
-abbrev pub told_of : Result Bool ExchangeFault → Ending
+abbrev pub told_of : Result Bool TransceiveFault → Ending
 told_of (Ok true) = done
 told_of (Ok false) = dead
 told_of (Err fault) = ending_of {A = Bool} (Err fault)

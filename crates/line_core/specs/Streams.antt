@@ -6,8 +6,8 @@ use Rattle.std.specs.declared.io.Error.{Error}
 use Rattle.std.specs.declared.io.ErrorKind.{ErrorKind}
 use Rattle.std.specs.declared.io.ErrorKind.TheVariants.{TimedOut, WouldBlock, UnexpectedEof, WriteZero}
 use Rattle.octet_core.specs.Failures.{next_count, most_failures}
-use Rattle.line_core.specs.declared.line.Heard.{Heard}
-use Rattle.line_core.specs.declared.line.Heard.TheVariants.{Octets, Nothing}
+use Rattle.line_core.specs.declared.line.Received.{Received}
+use Rattle.line_core.specs.declared.line.Received.TheVariants.{Octets, Nothing}
 use Rattle.line_core.specs.Line.{Arrival, block, nothing, failure, Talk}
 use Rattle.line_core.specs.Service.{Event}
 use Rattle.line_core.specs.Service as at_card
@@ -49,7 +49,7 @@ abbrev pub IsSilence : ErrorKind → Type 0
 IsSilence kind = (kind ≡ TimedOut) ⊎ (kind ≡ WouldBlock)
 
 -- What is heard of a block of which so many octets came, where the next call failed so.
-abbrev pub IsBrokenOff : ℕ → Error → Result Heard Error → Type 0
+abbrev pub IsBrokenOff : ℕ → Error → Result Received Error → Type 0
 IsBrokenOff count fault (Ok (Octets heard)) = (heard ≡ count) × (0 < count)
 IsBrokenOff count fault (Ok Nothing) = (count ≡ 0) × IsSilence (error_kind fault)
 IsBrokenOff count fault (Err own) = (own ≡ fault) × (count ≡ 0) × (IsSilence (error_kind fault) → ⊥)

@@ -7,8 +7,8 @@ ghost use Rattle.line_core.specs.Exchange.{HasRun, ending_of};
 ghost use Rattle.line_core.specs.Commanding.{IsResponseOf};
 
 use crate::exchanging::send_command;
-use crate::fault::ExchangeFault;
-use crate::line::Line;
+use crate::fault::TransceiveFault;
+use crate::line::TerminalLine;
 use apdu_core::{Command, ResponseReason, ResponseRef, encode_command_into};
 use octet_core::Stop;
 use t1_core::Terminal;
@@ -19,13 +19,13 @@ use t1_core::Terminal;
 /// The command's octets are put to the front of the buffer, which has room for them: for as many as
 /// [`Command::encoded_len`] says, at most 65,544. Blocks, the budget and faults are those of
 /// [`exchange`](crate::exchange).
-pub fn exchange_command<L: Line>(
+pub fn exchange_command<L: TerminalLine>(
     terminal: &mut Terminal,
     line: &mut L,
     command: &Command,
     buffer: &mut [u8],
     most_blocks: usize,
-) -> Result<(), ExchangeFault>
+) -> Result<(), TransceiveFault>
     requires room { length (spelling command.now) ≤ length buffer.old }
     ensures run { HasRun (L.said line.old) (L.said line.new) most_blocks terminal.old
         (transmit (spelling command.now)) (ending_of result) terminal.new }

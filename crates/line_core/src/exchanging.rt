@@ -10,8 +10,8 @@ ghost use Rattle.t1_core.specs.Put.{FitsTerminalPut};
 ghost use Rattle.line_core.specs.Line.{Arrival, Talk, Adds};
 ghost use Rattle.line_core.specs.Exchange.{Next, Runs, HasRun, IsAnswer, IsReady, ending_of, next_after, left_after};
 
-use crate::fault::ExchangeFault;
-use crate::line::{Heard, Line};
+use crate::fault::TransceiveFault;
+use crate::line::{Received, TerminalLine};
 use block_core::LONGEST_BLOCK;
 use t1_core::{Terminal, TerminalPut};
 
@@ -29,12 +29,12 @@ pub const LONGEST_ARRIVAL: usize = 259;
 ///
 /// `Refused` comes before anything is sent: `Dead`, `Busy`, then `TooLong` for more than 65,544 octets.
 /// After `Line` and `UsedUp` the exchange is still under way: [`resume`] goes on with it.
-pub fn exchange<'a, L: Line>(
+pub fn exchange<'a, L: TerminalLine>(
     terminal: &'a mut Terminal,
     line: &mut L,
     command: &[u8],
     most_blocks: usize,
-) -> Result<&'a [u8], ExchangeFault>
+) -> Result<&'a [u8], TransceiveFault>
     ensures* run { sem 𝓛 (Rests the_row terminal.entry
         (λ left. HasRun (L.said line.old) (L.said line.new) most_blocks terminal.old
         (transmit command.now) (ending_of result) left × IsAnswer left result)) }
@@ -55,12 +55,12 @@ fn answer_of(terminal: &Terminal) -> &[u8]
 ///
 /// Blocks, the budget and faults are those of [`exchange`]; refused `Dead`, `Busy`, then `Reserved` for the
 /// sizes 0 and 255.
-pub fn ask_ifs<L: Line>(
+pub fn ask_ifs<L: TerminalLine>(
     terminal: &mut Terminal,
     line: &mut L,
     size: u8,
     most_blocks: usize,
-) -> Result<(), ExchangeFault>
+) -> Result<(), TransceiveFault>
     ensures { HasRun (L.said line.old) (L.said line.new) most_blocks terminal.old (ask_ifs size)
         (ending_of result) terminal.new }
 {
@@ -76,11 +76,11 @@ pub fn ask_ifs<L: Line>(
 /// So it counts as one more failure of the line; where that is the fourth in a row, both ends are
 /// resynchronized, and `GivenUp` comes. Faults are those of [`exchange`]; refused `Dead`, and `Idle` where
 /// nothing is under way.
-pub fn resume<L: Line>(
+pub fn resume<L: TerminalLine>(
     terminal: &mut Terminal,
     line: &mut L,
     most_blocks: usize,
-) -> Result<(), ExchangeFault>
+) -> Result<(), TransceiveFault>
     ensures { HasRun (L.said line.old) (L.said line.new) most_blocks terminal.old (takes quiet)
         (ending_of result) terminal.new }
 {
@@ -90,12 +90,12 @@ pub fn resume<L: Line>(
 }
 
 /// Sends a command; at `Ok` the terminal has the answer.
-pub(crate) fn send_command<L: Line>(
+pub(crate) fn send_command<L: TerminalLine>(
     terminal: &mut Terminal,
     line: &mut L,
     command: &[u8],
     most_blocks: usize,
-) -> Result<(), ExchangeFault>
+) -> Result<(), TransceiveFault>
     ensures run { HasRun (L.said line.old) (L.said line.new) most_blocks terminal.old
         (transmit command.now) (ending_of result) terminal.new }
     ensures answered { OnOk result (IsSome terminal.new.answered) }
@@ -106,13 +106,13 @@ pub(crate) fn send_command<L: Line>(
 }
 
 /// Goes on from the first turn of an exchange until it ends.
-fn run<L: Line>(
+fn run<L: TerminalLine>(
     terminal: &mut Terminal,
     line: &mut L,
     first: TerminalPut,
     out: &mut [u8],
     most_blocks: usize,
-) -> Result<(), ExchangeFault>
+) -> Result<(), TransceiveFault>
     requires room { 258 ≤ length out.old }
     requires fits { FitsTerminalPut first }
     ensures { (next : Next) → IsReady next out.old (Ok first)
@@ -128,24 +128,24 @@ fn run<L: Line>(
                 left -= 1;
                 talked(terminal, line, count, waiting, out, &mut room)?
             }
-            TerminalPut::Send { .. } => return Err(ExchangeFault::UsedUp),
+            TerminalPut::Send { .. } => return Err(TransceiveFault::UsedUp),
             TerminalPut::Answered | TerminalPut::IfsSet => return Ok(()),
-            TerminalPut::GivenUp => return Err(ExchangeFault::GivenUp),
-            TerminalPut::Dead => return Err(ExchangeFault::Dead),
+            TerminalPut::GivenUp => return Err(TransceiveFault::GivenUp),
+            TerminalPut::Dead => return Err(TransceiveFault::Dead),
         };
     }
 }
 
 /// Sends the block at the front of the buffer, and tells the terminal what came: its next turn, with its
 /// block at the front of the buffer.
-fn talked<L: Line>(
+fn talked<L: TerminalLine>(
     terminal: &mut Terminal,
     line: &mut L,
     count: usize,
     waiting: u8,
     out: &mut [u8],
     room: &mut [u8],
-) -> Result<TerminalPut, ExchangeFault>
+) -> Result<TerminalPut, TransceiveFault>
     requires room { 258 ≤ length out.old }
     requires count { count ≤ length out.old }
     requires heard { 259 ≤ length room.old }
@@ -155,9 +155,9 @@ fn talked<L: Line>(
         × IsReady (next_after terminal.old arrival) out.new result
         × (terminal.new ≡ left_after terminal.old arrival) }
 {
-    match line.talk(&out[..count], waiting, room) {
-        Ok(Heard::Octets(count)) => Ok(terminal.received_into(&room[..count], out)?),
-        Ok(Heard::Nothing) => Ok(terminal.quiet_into(out)?),
-        Err(fault) => Err(ExchangeFault::Line(fault)),
+    match line.transceive(&out[..count], waiting, room) {
+        Ok(Received::Octets(count)) => Ok(terminal.received_into(&room[..count], out)?),
+        Ok(Received::Nothing) => Ok(terminal.quiet_into(out)?),
+        Err(fault) => Err(TransceiveFault::Line(fault)),
     }
 }

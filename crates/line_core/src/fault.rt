@@ -1,7 +1,7 @@
 //! Why an exchange has no answer.
 
 ghost use Rattle.std.specs.Prelude.{◌≡◌};
-ghost use Rattle.line_core.specs.declared.fault.ExchangeFault.TheVariants.{Refused};
+ghost use Rattle.line_core.specs.declared.fault.TransceiveFault.TheVariants.{Refused};
 
 use std::error::Error;
 use std::fmt::{self, Display, Formatter, Write};
@@ -10,7 +10,7 @@ use t1_core::TerminalFault;
 
 /// Why an exchange has no answer.
 #[derive(Debug, Drop)]
-pub enum ExchangeFault {
+pub enum TransceiveFault {
     /// Both ends were resynchronized, and the exchange or the question about a size is given up. The
     /// terminal takes the next call.
     GivenUp,
@@ -26,28 +26,28 @@ pub enum ExchangeFault {
 }
 
 /// The name of the fault, and what it holds after it, as in `Refused: Busy`.
-impl Display for ExchangeFault {
-    ghost use Rattle.line_core.specs.Names.{exchange_fault_text};
+impl Display for TransceiveFault {
+    ghost use Rattle.line_core.specs.Names.{transceive_fault_text};
 
-    ghost output = { exchange_fault_text };
+    ghost output = { transceive_fault_text };
 
     fn fmt<W: Write>(&self, f: &mut Formatter<W>) -> fmt::Result {
         match self {
-            ExchangeFault::GivenUp => f.write_str("GivenUp"),
-            ExchangeFault::Dead => f.write_str("Dead"),
-            ExchangeFault::Line(error) => write!(f, "Line: {error}"),
-            ExchangeFault::UsedUp => f.write_str("UsedUp"),
-            ExchangeFault::Refused(fault) => write!(f, "Refused: {fault}"),
+            TransceiveFault::GivenUp => f.write_str("GivenUp"),
+            TransceiveFault::Dead => f.write_str("Dead"),
+            TransceiveFault::Line(error) => write!(f, "Line: {error}"),
+            TransceiveFault::UsedUp => f.write_str("UsedUp"),
+            TransceiveFault::Refused(fault) => write!(f, "Refused: {fault}"),
         }
     }
 }
 
-impl Error for ExchangeFault {}
+impl Error for TransceiveFault {}
 
-impl From<TerminalFault> for ExchangeFault {
+impl From<TerminalFault> for TransceiveFault {
     ghost from_gives = { λ fault made. made ≡ Refused fault };
 
-    fn from(fault: TerminalFault) -> ExchangeFault {
-        ExchangeFault::Refused(fault)
+    fn from(fault: TerminalFault) -> TransceiveFault {
+        TransceiveFault::Refused(fault)
     }
 }

@@ -1,6 +1,6 @@
 //! One exchange of T=1 in one call (ISO/IEC 7816-3, clause 11.6), for drivers of readers and simulators of cards.
 //!
-//! A [`Line`] carries the blocks of a terminal: one call sends a block and takes what comes.
+//! A [`TerminalLine`] carries the blocks of a terminal: one call sends a block and takes what comes.
 //! [`exchange`] hands over a command and gives the answer, [`ask_ifs`] asks about a size, and
 //! [`resume`] goes on with either where the line failed or too many blocks were sent.
 //! `specs/Exchange.antt` says what these do: what was on the line is a run of the terminal's table
@@ -22,8 +22,8 @@ pub mod streaming;
 
 pub use commanding::{exchange_command, response_of};
 pub use exchanging::{LONGEST_ARRIVAL, ask_ifs, exchange, resume};
-pub use fault::ExchangeFault;
-pub use line::{Heard, Line};
+pub use fault::TransceiveFault;
+pub use line::{Received, TerminalLine};
 pub use resynching::begin_by_resynch;
 pub use serving::{CardLine, Host, ServeFault, serve};
 pub use streaming::StreamLine;

@@ -7,7 +7,7 @@ use std::io;
 
 /// What came after a block was sent.
 #[derive(Clone, Copy, Debug, PartialEq, Eq)]
-pub enum Heard {
+pub enum Received {
     /// So many octets came as one block, and they are at the front of the buffer. A block of which only the
     /// first octets came within CWT is one too. The terminal takes any octets, and none at all, for an
     /// invalid or a damaged block where they aren't one.
@@ -22,7 +22,7 @@ pub enum Heard {
 /// with a [`StreamLine`](crate::StreamLine), a caller takes the line before a call for the other one, and has all that
 /// was on it since. A line of which nothing is known, such as a device, has for `said` what always holds,
 /// `λ _ _ _. Unit {0}`.
-pub trait Line {
+pub trait TerminalLine {
     /// These may be the talks that were on the line since it was another line (the second).
     ghost said: { Self → Self → List Talk → Type 0 };
 
@@ -32,7 +32,7 @@ pub trait Line {
     /// `T1Params::bwt` (ISO/IEC 7816-3, clause 11.4). The buffer has room for one octet more than the longest
     /// block; the line drops what comes after that in the same block, since such octets are no block in any
     /// case. `Err` where the line itself failed, whether or not the block was sent.
-    fn talk(&mut self, block: &[u8], waiting: u8, room: &mut [u8]) -> io::Result<Heard>
+    fn transceive(&mut self, block: &[u8], waiting: u8, room: &mut [u8]) -> io::Result<Received>
         requires { 259 ≤ length room.old }
         ensures fits { IfOk result (λ heard. FitsRoom heard room.new) }
         ensures said { Adds (said self.old) (said self.new)

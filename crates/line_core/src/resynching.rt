@@ -7,8 +7,8 @@ ghost use Rattle.line_core.specs.Exchange.{ending_of};
 ghost use Rattle.line_core.specs.Resynch.{Asks, answered, told_of};
 
 use crate::exchanging::LONGEST_ARRIVAL;
-use crate::fault::ExchangeFault;
-use crate::line::{Heard, Line};
+use crate::fault::TransceiveFault;
+use crate::line::{Received, TerminalLine};
 use atr_core::T1Params;
 use t1_core::{MOST_RESYNCHS, Terminal};
 
@@ -26,46 +26,46 @@ const RESPONSE: [u8; 4] = [0x00, 0xE0, 0x00, 0xE0];
 /// with the limits that it had. What was under way is given up; whether the card's host acted on it isn't
 /// known. `Dead` where the card didn't answer, `Line` where the line failed: then the terminal stays as it
 /// was.
-pub fn begin_by_resynch<L: Line>(
+pub fn begin_by_resynch<L: TerminalLine>(
     terminal: &mut Terminal,
     line: &mut L,
     params: T1Params,
-) -> Result<(), ExchangeFault>
+) -> Result<(), TransceiveFault>
     ensures asks { (talks : List Talk) × Adds (L.said line.old) (L.said line.new) talks
         × Asks most_resynchs talks (ending_of result) }
     ensures begins { OnOk result (terminal.new ≡ terminal_with terminal.old.limits params.ifsc) }
     ensures stays { OnErr result (terminal.new ≡ terminal.old) }
 {
     if !is_answered(line)? {
-        return Err(ExchangeFault::Dead);
+        return Err(TransceiveFault::Dead);
     }
     terminal.reset(params);
     Ok(())
 }
 
 /// Asks for RESYNCH until the card answers, or as often as may be: whether it did.
-fn is_answered<L: Line>(line: &mut L) -> Result<bool, ExchangeFault>
+fn is_answered<L: TerminalLine>(line: &mut L) -> Result<bool, TransceiveFault>
     ensures { (talks : List Talk) × Adds (L.said line.old) (L.said line.new) talks
         × Asks most_resynchs talks (told_of result) }
 {
     let mut room = [0; LONGEST_ARRIVAL];
     for _ in 0..MOST_RESYNCHS {
-        match line.talk(&REQUEST, 1, &mut room) {
+        match line.transceive(&REQUEST, 1, &mut room) {
             Ok(heard) if is_answer(heard, &room) => return Ok(true),
             Ok(_) => {}
-            Err(fault) => return Err(ExchangeFault::Line(fault)),
+            Err(fault) => return Err(TransceiveFault::Line(fault)),
         }
     }
     Ok(false)
 }
 
 /// Whether what came is the answer to RESYNCH.
-fn is_answer(heard: Heard, room: &[u8]) -> bool
+fn is_answer(heard: Received, room: &[u8]) -> bool
     requires { FitsRoom heard room.now }
     ensures { Decides result (arrived heard room.now ≡ answered) }
 {
     match heard {
-        Heard::Octets(count) => room[..count] == RESPONSE[..],
-        Heard::Nothing => false,
+        Received::Octets(count) => room[..count] == RESPONSE[..],
+        Received::Nothing => false,
     }
 }

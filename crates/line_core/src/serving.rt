@@ -8,17 +8,16 @@ ghost use Rattle.line_core.specs.Line.{FitsRoom, arrival_of};
 ghost use Rattle.line_core.specs.Service.{Event, came, asked, sending, on_line, at_host, Happens, hears, Serves, IsRound, IsAnswer, IsReply, ending_of, doing_of};
 
 use crate::exchanging::LONGEST_ARRIVAL;
-use crate::line::Heard;
+use crate::line::Received;
 use block_core::LONGEST_BLOCK;
 use std::error::Error;
 use std::fmt::{self, Display, Formatter, Write};
 use std::io;
-use t1_core::laws::told;
 use t1_core::{Card, CardFault, CardPut};
 
 /// The line of a card: what a card, or a simulator of one, has.
 ///
-/// Contracts see what was on it since it was another line, as of a [`Line`](crate::Line). A line of which nothing is
+/// Contracts see what was on it since it was another line, as of a [`TerminalLine`](crate::TerminalLine). A line of which nothing is
 /// known, such as a device, has for `said` what always holds, `λ _ _ _. Unit {0}`.
 pub trait CardLine {
     /// These may be the events that were on the line since it was another line (the second).
@@ -26,14 +25,14 @@ pub trait CardLine {
 
     /// Waits for the next block as long as it takes, and takes it into the buffer. `Nothing` says that no
     /// more comes, as where the card's power is off.
-    fn hear(&mut self, room: &mut [u8]) -> io::Result<Heard>
+    fn receive(&mut self, room: &mut [u8]) -> io::Result<Received>
         requires { 259 ≤ length room.old }
         ensures fits { IfOk result (λ heard. FitsRoom heard room.new) }
         ensures said { Happens (said self.old) (said self.new)
             (came (arrival_of result room.new) ∷ []) };
 
     /// Sends the octets of a block, 4 to 258.
-    fn say(&mut self, block: &[u8]) -> io::Result<()>
+    fn send(&mut self, block: &[u8]) -> io::Result<()>
         ensures { Happens (said self.old) (said self.new) (sending block.now result ∷ []) };
 }
 
@@ -141,15 +140,15 @@ fn serve_block<L: CardLine, H: Host>(
         × Happens (H.served host.old) (H.served host.new) (at_host events)
         × IsRound card.old events result card.new }
 {
-    match line.hear(room) {
-        Ok(Heard::Octets(count)) => {
+    match line.receive(room) {
+        Ok(Received::Octets(count)) => {
             let count = answer_block(card, host, &room[..count], out)?;
-            match line.say(&out[..count]) {
+            match line.send(&out[..count]) {
                 Ok(()) => Ok(true),
                 Err(fault) => Err(ServeFault::Line(fault)),
             }
         }
-        Ok(Heard::Nothing) => Ok(false),
+        Ok(Received::Nothing) => Ok(false),
         Err(fault) => Err(ServeFault::Line(fault)),
     }
 }
@@ -170,7 +169,6 @@ fn answer_block<H: Host>(
         (state_after card.old (card_turn card.old (takes (class_of card.old.ifsc octets.now))))
         events out.new result card.new }
 {
-    told();
     match card.received_into(octets, out)? {
         CardPut::Send(count) => Ok(count),
         CardPut::Asked => Ok(reply_to(card, host, out)?),

@@ -8,12 +8,13 @@ ghost use Rattle.line_core.specs.Line.{Adds, FitsRoom, arrival_of};
 ghost use Rattle.line_core.specs.Service.{Happens, came, sending};
 ghost use Rattle.line_core.specs.Streams.{Moves, Carries, HasCarried, HasServed, IsBrokenOff, IsFramed, IsHeard, IsTold, IsWholeBlock, MovesOn, came_of, wire_of, source_of, sink_of};
 
-use crate::line::{Heard, Line};
+use crate::line::{Received, TerminalLine};
 use crate::serving::CardLine;
+use block_core::block_len;
 use octet_core::{Sink, Source, write_octets};
 use std::io::{self, ErrorKind};
 
-/// A line over a reader and a writer, as those of a serial port: a `Line` for a terminal, and a `CardLine` for
+/// A line over a reader and a writer, as those of a serial port: a `TerminalLine` for a terminal, and a `CardLine` for
 /// a card.
 ///
 /// A block is written whole. What comes is read up to its end, which its third octet tells: the reader is
@@ -53,12 +54,12 @@ impl<R, W> StreamLine<R, W> {
     }
 }
 
-impl<R: Source, W: Sink> Line for StreamLine<R, W> {
+impl<R: Source, W: Sink> TerminalLine for StreamLine<R, W> {
     ghost said = { λ line first talks.
         HasCarried (wire_of R.remaining R.failures W.contents W.failures first) talks
         (wire_of R.remaining R.failures W.contents W.failures line) };
 
-    fn talk(&mut self, block: &[u8], _waiting: u8, room: &mut [u8]) -> io::Result<Heard>
+    fn transceive(&mut self, block: &[u8], _waiting: u8, room: &mut [u8]) -> io::Result<Received>
         requires { 259 ≤ length room.old }
         ensures fits { IfOk result (λ heard. FitsRoom heard room.new) }
         ensures said { Adds (λ first talks.
@@ -85,7 +86,7 @@ impl<R: Source, W: Sink> CardLine for StreamLine<R, W> {
         HasServed (wire_of R.remaining R.failures W.contents W.failures first) events
         (wire_of R.remaining R.failures W.contents W.failures line) };
 
-    fn hear(&mut self, room: &mut [u8]) -> io::Result<Heard>
+    fn receive(&mut self, room: &mut [u8]) -> io::Result<Received>
         requires { 259 ≤ length room.old }
         ensures fits { IfOk result (λ heard. FitsRoom heard room.new) }
         ensures said { Happens (λ first events.
@@ -103,7 +104,7 @@ impl<R: Source, W: Sink> CardLine for StreamLine<R, W> {
         over_at_end(read_block(&mut self.source, room))
     }
 
-    fn say(&mut self, block: &[u8]) -> io::Result<()>
+    fn send(&mut self, block: &[u8]) -> io::Result<()>
         ensures said { Happens (λ first events.
             HasServed (wire_of R.remaining R.failures W.contents W.failures first) events
             (wire_of R.remaining R.failures W.contents W.failures self.old))
@@ -138,7 +139,7 @@ fn write_block<W: Sink>(sink: &mut W, block: &[u8]) -> io::Result<()>
 }
 
 /// What a card hears where this was read: of a reader that ended before the first octet, that no more comes.
-fn over_at_end(read: io::Result<Heard>) -> io::Result<Heard>
+fn over_at_end(read: io::Result<Received>) -> io::Result<Received>
     ensures fits { (room : List ℕ) → IfOk read (λ heard. FitsRoom heard room)
         → IfOk result (λ heard. FitsRoom heard room) }
     ensures came { (room : List ℕ)
@@ -147,7 +148,7 @@ fn over_at_end(read: io::Result<Heard>) -> io::Result<Heard>
     ensures other { IfErr read (λ fault. error_kind fault ≢ ErrorKind.UnexpectedEof
         → result ≡ Err fault) }
     ensures over { IfErr read (λ fault. error_kind fault ≡ ErrorKind.UnexpectedEof
-        → result ≡ Ok Heard.Nothing) }
+        → result ≡ Ok Received.Nothing) }
     ensures failed { IfErr result (λ fault. (read ≡ Err fault)
         × (error_kind fault ≢ ErrorKind.UnexpectedEof)) }
     ensures told { (room : List ℕ) (before after : ℕ) (left : Option (List ℕ))
@@ -157,14 +158,14 @@ fn over_at_end(read: io::Result<Heard>) -> io::Result<Heard>
     match read {
         Ok(heard) => Ok(heard),
         Err(fault) => match fault.kind() {
-            ErrorKind::UnexpectedEof => Ok(Heard::Nothing),
+            ErrorKind::UnexpectedEof => Ok(Received::Nothing),
             _ => Err(fault),
         },
     }
 }
 
 /// Reads a block to the front of the buffer.
-fn read_block<R: Source>(source: &mut R, room: &mut [u8]) -> io::Result<Heard>
+fn read_block<R: Source>(source: &mut R, room: &mut [u8]) -> io::Result<Received>
     requires { 259 ≤ length room.old }
     ensures fits { IfOk result (λ heard. FitsRoom heard room.new) }
     ensures came { Consumes (R.remaining source.old) (R.remaining source.new)
@@ -173,7 +174,7 @@ fn read_block<R: Source>(source: &mut R, room: &mut [u8]) -> io::Result<Heard>
     ensures whole { IfOk result (λ heard. R.failures source.new ≡ R.failures source.old
         → R.failures source.old < most_failures → IsAtEnd (R.remaining source.new)
         ⊎ IsWholeBlock (came_of (arrival_of result room.new))) }
-    ensures silent { result ≡ Ok Heard.Nothing
+    ensures silent { result ≡ Ok Received.Nothing
         → HasFailed (R.failures source.old) (R.failures source.new) }
     ensures once { IsWholeBlock (came_of (arrival_of result room.new))
         → R.failures source.new ≡ R.failures source.old }
@@ -188,7 +189,7 @@ fn read_block<R: Source>(source: &mut R, room: &mut [u8]) -> io::Result<Heard>
             Err(fault) => return broken_off(count, fault),
         }
     }
-    Ok(Heard::Octets(count))
+    Ok(Received::Octets(count))
 }
 
 /// Reads octets of the block by one call, after those at the front of the buffer.
@@ -210,24 +211,24 @@ fn read_more<R: Source>(source: &mut R, room: &mut [u8], count: usize) -> io::Re
 }
 
 /// What is heard of a block of which no more octets come.
-fn broken_off(count: usize, fault: io::Error) -> io::Result<Heard>
+fn broken_off(count: usize, fault: io::Error) -> io::Result<Received>
     ensures fits { (room : List ℕ) → count ≤ length room
         → IfOk result (λ heard. FitsRoom heard room) }
     ensures came { (room : List ℕ) → came_of (arrival_of result room) ≡ take count room }
-    ensures begun { 0 < count → result ≡ Ok (Heard.Octets count) }
+    ensures begun { 0 < count → result ≡ Ok (Received.Octets count) }
     ensures timed_out { count ≡ 0 → error_kind fault ≡ ErrorKind.TimedOut
-        → result ≡ Ok Heard.Nothing }
+        → result ≡ Ok Received.Nothing }
     ensures would_block { count ≡ 0 → error_kind fault ≡ ErrorKind.WouldBlock
-        → result ≡ Ok Heard.Nothing }
+        → result ≡ Ok Received.Nothing }
     ensures failed { count ≡ 0 → error_kind fault ≢ ErrorKind.TimedOut
         → error_kind fault ≢ ErrorKind.WouldBlock → result ≡ Err fault }
     ensures broken { IsBrokenOff count fault result }
 {
     if count > 0 {
-        return Ok(Heard::Octets(count));
+        return Ok(Received::Octets(count));
     }
     match fault.kind() {
-        ErrorKind::TimedOut | ErrorKind::WouldBlock => Ok(Heard::Nothing),
+        ErrorKind::TimedOut | ErrorKind::WouldBlock => Ok(Received::Nothing),
         _ => Err(fault),
     }
 }
@@ -239,7 +240,7 @@ fn end_of(octets: &[u8]) -> usize
     ensures most { result ≤ 259 }
 {
     match octets {
-        [_, _, len, ..] => *len as usize + 4,
+        [_, _, len, ..] => block_len(*len),
         _ => 3,
     }
 }

@@ -12,7 +12,7 @@ ghost use Rattle.line_core.specs.Joined.{Trip, talks_of, events_of, services_of,
 
 use apdu_core::{Command, encode_command_into};
 use atr_core::T1Params;
-use line_core::{ExchangeFault, Line, StreamLine, exchange_command};
+use line_core::{StreamLine, TerminalLine, TransceiveFault, exchange_command};
 use octet_core::{Sink, Source};
 use t1_core::Terminal;
 
@@ -21,14 +21,14 @@ use t1_core::Terminal;
 /// Where a card that begins too serves at the other end of the line, and each end is given what the other one
 /// sent, but for what is lost or damaged, the card's host was given the command at most once, and no other. At
 /// `Ok` it was given it, and the terminal's answer is its reply.
-pub fn acted_on_once<L: Line>(
+pub fn acted_on_once<L: TerminalLine>(
     terminal: &mut Terminal,
     params: T1Params,
     line: &mut L,
     command: &Command,
     buffer: &mut [u8],
     most_blocks: usize,
-) -> Result<(), ExchangeFault>
+) -> Result<(), TransceiveFault>
     requires room { length (spelling command.now) ≤ length buffer.old }
     ensures { (talks : List Talk) × Adds (L.said line.old) (L.said line.new) talks
         × ((of_card : Limits) (most : ℕ) (trips : List Trip) (end : Ending) (card : CardState)
@@ -51,7 +51,7 @@ pub fn exchanged_over_streams<R: Source, W: Sink>(
     command: &Command,
     buffer: &mut [u8],
     most_blocks: usize,
-) -> Result<(), ExchangeFault>
+) -> Result<(), TransceiveFault>
     requires room { length (spelling command.now) ≤ length buffer.old }
     ensures { (talks : List Talk)
         × HasCarried (wire_of R.remaining R.failures W.contents W.failures line.old) talks

@@ -4,7 +4,7 @@
 ghost use Rattle.std.specs.Prelude.{[], ◌∷◌};
 
 use atr_core::{decode, t1_params};
-use line_core::{Heard, Host, Line, StreamLine, exchange, serve};
+use line_core::{Host, Received, StreamLine, TerminalLine, exchange, serve};
 use octet_core::{Counted, hex_upper};
 use std::io;
 use t1_core::{Card, Terminal};
@@ -51,20 +51,20 @@ struct Wire<'a> {
     card: Card,
 }
 
-impl Line for Wire<'_> {
+impl TerminalLine for Wire<'_> {
     ghost said = { λ _ _ _. Unit {0} };
 
-    fn talk(&mut self, block: &[u8], _waiting: u8, room: &mut [u8]) -> io::Result<Heard> {
+    fn transceive(&mut self, block: &[u8], _waiting: u8, room: &mut [u8]) -> io::Result<Received> {
         println!(self.rt; "terminal {}", hex_upper(self.rt.alloc(), block)?)?;
         let mut out = Vec::new(self.rt.alloc());
         let mut line = StreamLine::new(Counted::new(block), Counted::new(&mut out));
         // The card's reader ends after the block, and with it the serving.
         if serve(&mut self.card, &mut line, &mut Done, 2).is_err() {
-            return Ok(Heard::Nothing);
+            return Ok(Received::Nothing);
         }
         println!(self.rt; "card {}", hex_upper(self.rt.alloc(), &out)?)?;
         let count = out.len().min(room.len());
         room[..count].copy_from_slice(&out[..count]);
-        Ok(Heard::Octets(count))
+        Ok(Received::Octets(count))
     }
 }

@@ -9,7 +9,7 @@ mod serving;
 mod steps;
 mod streams;
 
-use line_core::ExchangeFault;
+use line_core::TransceiveFault;
 use t1_core::{Terminal, TerminalFault};
 
 const SELECT: [u8; 5] = [0x00, 0xA4, 0x04, 0x00, 0x00];
@@ -35,19 +35,19 @@ enum Ended {
 }
 
 /// How a call ended that gives nothing more.
-fn end_of(given: Result<(), ExchangeFault>) -> Ended {
+fn end_of(given: Result<(), TransceiveFault>) -> Ended {
     match given {
         Ok(()) => Ended::Done,
-        Err(ExchangeFault::GivenUp) => Ended::GivenUp,
-        Err(ExchangeFault::Dead) => Ended::Dead,
-        Err(ExchangeFault::Line(_)) => Ended::Line,
-        Err(ExchangeFault::UsedUp) => Ended::UsedUp,
-        Err(ExchangeFault::Refused(fault)) => Ended::Refused(fault),
+        Err(TransceiveFault::GivenUp) => Ended::GivenUp,
+        Err(TransceiveFault::Dead) => Ended::Dead,
+        Err(TransceiveFault::Line(_)) => Ended::Line,
+        Err(TransceiveFault::UsedUp) => Ended::UsedUp,
+        Err(TransceiveFault::Refused(fault)) => Ended::Refused(fault),
     }
 }
 
 /// How an exchange ended, apart from its answer.
-fn end_of_exchange(given: Result<&[u8], ExchangeFault>) -> Ended {
+fn end_of_exchange(given: Result<&[u8], TransceiveFault>) -> Ended {
     match given {
         Ok(_) => Ended::Done,
         Err(fault) => end_of(Err(fault)),
@@ -55,7 +55,7 @@ fn end_of_exchange(given: Result<&[u8], ExchangeFault>) -> Ended {
 }
 
 /// Whether an exchange gave this answer.
-fn is_answer(given: Result<&[u8], ExchangeFault>, octets: &[u8]) -> bool {
+fn is_answer(given: Result<&[u8], TransceiveFault>, octets: &[u8]) -> bool {
     match given {
         Ok(answer) => answer == octets,
         Err(_) => false,

@@ -7,7 +7,8 @@ use super::streams::{Streams, has_carried, line_over};
 use super::{DONE, DONE_BLOCK, SELECT, SELECT_BLOCK};
 use crate::ends::{card, terminal};
 use line_core::{
-    CardLine, ExchangeFault, Heard, LONGEST_ARRIVAL, Line, ServeFault, StreamLine, exchange, serve,
+    CardLine, LONGEST_ARRIVAL, Received, ServeFault, StreamLine, TerminalLine, TransceiveFault,
+    exchange, serve,
 };
 use octet_core::{After, Counted, FailsOnce, Feeder, Taker};
 use std::io::{self, ErrorKind, Read};
@@ -58,19 +59,19 @@ fn a_writer_of_a_card_that_is_full(rt: HostRuntime) {
 /// Whether a card hears these octets.
 fn hears(line: &mut Wire<'_>, octets: &[u8]) -> bool {
     let mut room = [0; LONGEST_ARRIVAL];
-    line.hear(&mut room).ok() == Some(Heard::Octets(octets.len())) && room.starts_with(octets)
+    line.receive(&mut room).ok() == Some(Received::Octets(octets.len())) && room.starts_with(octets)
 }
 
 /// Whether a card hears that no more comes.
 fn hears_the_end(line: &mut Wire<'_>) -> bool {
     let mut room = [0; LONGEST_ARRIVAL];
-    line.hear(&mut room).ok() == Some(Heard::Nothing)
+    line.receive(&mut room).ok() == Some(Received::Nothing)
 }
 
 /// Whether a terminal hears that no more comes, as a failure.
 fn fails_at_the_end(line: &mut Wire<'_>) -> bool {
     let mut room = [0; LONGEST_ARRIVAL];
-    match line.talk(&SELECT_BLOCK, 1, &mut room) {
+    match line.transceive(&SELECT_BLOCK, 1, &mut room) {
         Ok(_) => false,
         Err(fault) => fault.kind() == ErrorKind::UnexpectedEof,
     }
@@ -109,9 +110,9 @@ struct Failure {
 
 impl Failure {
     /// Whether this was heard.
-    fn is_told(self, heard: io::Result<Heard>) -> bool {
+    fn is_told(self, heard: io::Result<Received>) -> bool {
         match heard {
-            Ok(heard) => self.is_silence && heard == Heard::Nothing,
+            Ok(heard) => self.is_silence && heard == Received::Nothing,
             Err(fault) => self.is_other(fault.kind()),
         }
     }
@@ -122,12 +123,12 @@ impl Failure {
 
     fn is_heard(self) -> bool {
         let mut room = [0; LONGEST_ARRIVAL];
-        self.is_told(line_that_fails(self.kind).hear(&mut room))
+        self.is_told(line_that_fails(self.kind).receive(&mut room))
     }
 
     fn is_heard_after_a_block(self) -> bool {
         let mut room = [0; LONGEST_ARRIVAL];
-        self.is_told(line_that_fails(self.kind).talk(&SELECT_BLOCK, 1, &mut room))
+        self.is_told(line_that_fails(self.kind).transceive(&SELECT_BLOCK, 1, &mut room))
     }
 
     /// Whether serving ends by it.
@@ -144,8 +145,8 @@ impl Failure {
     fn ends_an_exchange(self, t: &mut Terminal) -> bool {
         let mut line = line_that_fails(self.kind);
         match exchange(t, &mut line, &SELECT, 9) {
-            Err(ExchangeFault::Dead) => self.is_silence,
-            Err(ExchangeFault::Line(fault)) => self.is_other(fault.kind()),
+            Err(TransceiveFault::Dead) => self.is_silence,
+            Err(TransceiveFault::Line(fault)) => self.is_other(fault.kind()),
             _ => false,
         }
     }
@@ -194,13 +195,13 @@ type Breaking<'a> = StreamLine<Counted<FailsOnce<Feeder<'a>>>, Counted<FailsOnce
 /// Whether so many octets of SELECT are heard before the failure.
 fn breaks_as_it_hears(line: &mut Breaking<'_>, left: usize) -> bool {
     let mut room = [0; LONGEST_ARRIVAL];
-    let heard = line.hear(&mut room).ok();
-    heard == Some(Heard::Octets(left)) && SELECT_BLOCK.get(..left) == room.get(..left)
+    let heard = line.receive(&mut room).ok();
+    heard == Some(Received::Octets(left)) && SELECT_BLOCK.get(..left) == room.get(..left)
 }
 
 /// Whether so many octets of SELECT are written before the failure.
 fn breaks_as_it_says(mut line: Breaking<'_>, left: usize) -> bool {
-    let is_told = match line.say(&SELECT_BLOCK) {
+    let is_told = match line.send(&SELECT_BLOCK) {
         Ok(()) => false,
         Err(fault) => fault.kind() == ErrorKind::WriteZero,
     };

@@ -4,7 +4,9 @@ use super::steps::filled;
 use super::{DONE, DONE_BLOCK, SELECT, has_answer, is_answer};
 use crate::ends::{card, octets_of, params, terminal};
 use apdu_core::{Body, Command};
-use line_core::{Heard, Line, ask_ifs, begin_by_resynch, exchange, exchange_command, response_of};
+use line_core::{
+    Received, TerminalLine, ask_ifs, begin_by_resynch, exchange, exchange_command, response_of,
+};
 use std::alloc::Global;
 use std::io::{self, ErrorKind};
 use std::process::Abort;
@@ -40,10 +42,10 @@ impl Wire<'_> {
     }
 }
 
-impl Line for Wire<'_> {
+impl TerminalLine for Wire<'_> {
     ghost said = { λ _ _ _. Unit {0} };
 
-    fn talk(&mut self, block: &[u8], _waiting: u8, room: &mut [u8]) -> io::Result<Heard> {
+    fn transceive(&mut self, block: &[u8], _waiting: u8, room: &mut [u8]) -> io::Result<Received> {
         let mut out = [0; 258];
         match self.put(block, &mut out) {
             Ok(CardPut::Send(count)) => Ok(filled(&out[..count.min(258)], room)),

@@ -1,6 +1,6 @@
 //! What is printed of faults.
 
-use line_core::{ExchangeFault, ServeFault};
+use line_core::{ServeFault, TransceiveFault};
 use std::alloc::Global;
 use std::fmt::Display;
 use std::io::ErrorKind;
@@ -15,12 +15,12 @@ fn is_printed<F: Display + Drop>(alloc: Global, fault: F, text: &str) -> bool {
 #[test]
 fn faults_are_printed(rt: HostRuntime) {
     let alloc = rt.alloc();
-    let busy = ExchangeFault::Refused(TerminalFault::Busy);
+    let busy = TransceiveFault::Refused(TerminalFault::Busy);
     assert!(rt; is_printed(alloc, busy, "Refused: Busy"));
-    assert!(rt; is_printed(alloc, ExchangeFault::GivenUp, "GivenUp"));
-    assert!(rt; is_printed(alloc, ExchangeFault::Dead, "Dead"));
-    assert!(rt; is_printed(alloc, ExchangeFault::UsedUp, "UsedUp"));
-    let failed = ExchangeFault::Line(ErrorKind::BrokenPipe.into());
+    assert!(rt; is_printed(alloc, TransceiveFault::GivenUp, "GivenUp"));
+    assert!(rt; is_printed(alloc, TransceiveFault::Dead, "Dead"));
+    assert!(rt; is_printed(alloc, TransceiveFault::UsedUp, "UsedUp"));
+    let failed = TransceiveFault::Line(ErrorKind::BrokenPipe.into());
     assert!(rt; is_printed(alloc, failed, "Line: broken pipe"));
 }
 

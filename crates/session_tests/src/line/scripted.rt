@@ -6,7 +6,7 @@ use super::{
 };
 use crate::ends::{octets_of, params, terminal};
 use atr_core::T1Params;
-use line_core::{Heard, Line, ask_ifs, begin_by_resynch, exchange, response_of, resume};
+use line_core::{Received, TerminalLine, ask_ifs, begin_by_resynch, exchange, response_of, resume};
 use octet_core::Stop;
 use std::io;
 use std::process::Abort;
@@ -39,10 +39,10 @@ fn scripted<'a>(first: &'a [Step<'a>], then: Step<'a>) -> Script<'a> {
     }
 }
 
-impl Line for Script<'_> {
+impl TerminalLine for Script<'_> {
     ghost said = { λ _ _ _. Unit {0} };
 
-    fn talk(&mut self, _block: &[u8], waiting: u8, room: &mut [u8]) -> io::Result<Heard> {
+    fn transceive(&mut self, _block: &[u8], waiting: u8, room: &mut [u8]) -> io::Result<Received> {
         self.talks = self.talks.saturating_add(1);
         self.waited = waiting;
         self.steps.heard(room)

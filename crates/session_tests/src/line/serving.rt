@@ -3,7 +3,7 @@
 use super::steps::{Step, Steps};
 use super::{DONE, DONE_BLOCK, LONG, SELECT, SELECT_BLOCK};
 use crate::ends::{card, octets_of};
-use line_core::{CardLine, Heard, Host, ServeFault, serve};
+use line_core::{CardLine, Host, Received, ServeFault, serve};
 use std::io::{self, ErrorKind};
 use t1_core::{Card, CardFault};
 use testing::same;
@@ -31,11 +31,11 @@ fn card_over<'a>(first: &'a [Step<'a>], then: Step<'a>) -> CardScript<'a> {
 impl CardLine for CardScript<'_> {
     ghost said = { λ _ _ _. Unit {0} };
 
-    fn hear(&mut self, room: &mut [u8]) -> io::Result<Heard> {
+    fn receive(&mut self, room: &mut [u8]) -> io::Result<Received> {
         self.steps.heard(room)
     }
 
-    fn say(&mut self, block: &[u8]) -> io::Result<()> {
+    fn send(&mut self, block: &[u8]) -> io::Result<()> {
         if !self.sends {
             return Err(ErrorKind::Other.into());
         }

@@ -3,7 +3,7 @@
 ghost use Rattle.std.specs.Prelude.{◌≤◌, length, IfOk};
 ghost use Rattle.line_core.specs.Line.{FitsRoom};
 
-use line_core::Heard;
+use line_core::Received;
 use std::io::{self, ErrorKind};
 
 /// What a line does after a block.
@@ -33,22 +33,22 @@ impl<'a> Steps<'a> {
     }
 
     /// What comes by the next step.
-    pub(super) fn heard(&mut self, room: &mut [u8]) -> io::Result<Heard>
+    pub(super) fn heard(&mut self, room: &mut [u8]) -> io::Result<Received>
         ensures { IfOk result (λ heard. FitsRoom heard room.new) }
     {
         match self.next() {
             Step::Gives(octets) => Ok(filled(octets, room)),
-            Step::IsSilent => Ok(Heard::Nothing),
+            Step::IsSilent => Ok(Received::Nothing),
             Step::Fails => Err(ErrorKind::Other.into()),
         }
     }
 }
 
 /// As many of the octets as there is room for.
-pub(super) fn filled(octets: &[u8], room: &mut [u8]) -> Heard
+pub(super) fn filled(octets: &[u8], room: &mut [u8]) -> Received
     ensures { FitsRoom result room.new }
 {
     let count = octets.len().min(room.len());
     room[..count].copy_from_slice(&octets[..count]);
-    Heard::Octets(count)
+    Received::Octets(count)
 }

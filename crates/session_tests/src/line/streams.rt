@@ -2,7 +2,7 @@
 
 use super::{DONE, DONE_BLOCK, SELECT, SELECT_BLOCK, is_answer};
 use crate::ends::terminal;
-use line_core::{Heard, LONGEST_ARRIVAL, Line, StreamLine, exchange};
+use line_core::{LONGEST_ARRIVAL, Received, StreamLine, TerminalLine, exchange};
 use octet_core::{After, Counted, Feeder, Taker};
 use t1_core::Terminal;
 
@@ -25,14 +25,14 @@ pub(super) fn has_carried(line: Streams<Feeder<'_>>, given: u64, kept: &[u8]) ->
 /// Whether a terminal hears these octets after SELECT.
 fn hears(line: &mut Streams<Feeder<'_>>, octets: &[u8]) -> bool {
     let mut room = [0; LONGEST_ARRIVAL];
-    let heard = line.talk(&SELECT_BLOCK, 1, &mut room).ok();
-    heard == Some(Heard::Octets(octets.len())) && room.starts_with(octets)
+    let heard = line.transceive(&SELECT_BLOCK, 1, &mut room).ok();
+    heard == Some(Received::Octets(octets.len())) && room.starts_with(octets)
 }
 
 /// Whether the line fails after SELECT.
 fn fails(line: &mut Streams<Feeder<'_>>) -> bool {
     let mut room = [0; LONGEST_ARRIVAL];
-    line.talk(&SELECT_BLOCK, 1, &mut room).is_err()
+    line.transceive(&SELECT_BLOCK, 1, &mut room).is_err()
 }
 
 /// Whether an exchange of SELECT gives this answer.

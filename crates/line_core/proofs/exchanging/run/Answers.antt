@@ -11,7 +11,7 @@ loop-put-init g c = record {
   fits = c.requires.fits;
   goes = λ next ready. (
     next,
-    begins (g.L.Line.said c.args.line.now) c.args.most_blocks next c.args.terminal.now,
+    begins (g.L.TerminalLine.said c.args.line.now) c.args.most_blocks next c.args.terminal.now,
     ready,
   );
 }
@@ -41,13 +41,13 @@ loop-put-preserved g c = record {
   room = omega arith;
   fits = c.in_ok-put-in-Send.ensures.fits;
   goes = λ next ready. let held = rw c.in-Send.is at (c.loop-put.invariant.goes next ready) in
-      holds-on _ _ (g.L.Line.said c.talked.new.line) _ _ _ _ _ _ c.loop-put.out c.talked.new.out _ _
+      holds-on _ _ (g.L.TerminalLine.said c.talked.new.line) _ _ _ _ _ _ c.loop-put.out c.talked.new.out _ _
       (Ok c.in_ok-put-in-Send.put) c.if-left-gt0.true c.in_ok-put-in-Send.ensures.talk held;
 }
 
 pub returns-in_err-put-in-Send : goal.returns-in_err-put-in-Send
 returns-in_err-put-in-Send g c = λ next ready. let held = rw c.in-Send.is at (c.loop-put.invariant.goes next ready) in
-    let after = holds-on _ _ (g.L.Line.said c.talked.new.line) _ _ _ _ _ _ c.loop-put.out c.talked.new.out _ _
+    let after = holds-on _ _ (g.L.TerminalLine.said c.talked.new.line) _ _ _ _ _ _ c.loop-put.out c.talked.new.out _ _
     (Err c.in_err-put-in-Send.field-0.0) c.if-left-gt0.true c.in_err-put-in-Send.ensures.talk held in
     let p = err_from_is_err_and c.from_residual.result c.from_residual.ensures.1 in
     rw (p.1, p.2) (closes _ _ _ _ _ _ _ c.talked.new.out (Err c.in_err-put-in-Send.field-0.0) _ (λ here is. is) after)

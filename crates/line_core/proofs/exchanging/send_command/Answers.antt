@@ -9,6 +9,6 @@ returns g c =
     (c.run.ensures _ (ready _ _ _ (Ok c.in_ok-first.first) c.in_ok-first.ensures.turn)) in
     record {
       run = run;
-      answered = answered (g.L.Line.said c.args.line.now) (g.L.Line.said c.run.new.line)
+      answered = answered (g.L.TerminalLine.said c.args.line.now) (g.L.TerminalLine.said c.run.new.line)
           c.args.most_blocks c.args.terminal.now c.run.new.terminal c.args.command.now c.run.result run;
     }

@@ -8,7 +8,7 @@ pub returns-in_err-received_into-in-Ok-Octets-clause-talk : goal.returns-in_err-
 returns-in_err-received_into-in-Ok-Octets-clause-talk g c =
     let p = err_from_is_err_and c.from_residual.result c.from_residual.ensures.1 in
     rw (p.1, p.2) (
-      block (take c.in-Ok-Octets.count c.talk.new.room),
+      block (take c.in-Ok-Octets.count c.transceive.new.room),
       rw c.in-Ok-Octets.field-0-is at c.in-Ok-Octets.ensures.said,
       ready _ _ _ (Err c.in_err-received_into-in-Ok-Octets.field-0.0) c.in_err-received_into-in-Ok-Octets.ensures.turn,
       c.received_into.ensures.state,
@@ -16,7 +16,7 @@ returns-in_err-received_into-in-Ok-Octets-clause-talk g c =
 
 pub returns-in_ok-received_into-in-Ok-Octets-clause-talk : goal.returns-in_ok-received_into-in-Ok-Octets-clause-talk
 returns-in_ok-received_into-in-Ok-Octets-clause-talk g c = (
-  block (take c.in-Ok-Octets.count c.talk.new.room),
+  block (take c.in-Ok-Octets.count c.transceive.new.room),
   rw c.in-Ok-Octets.field-0-is at c.in-Ok-Octets.ensures.said,
   ready _ _ _ (Ok c.in_ok-received_into-in-Ok-Octets.field-0) c.in_ok-received_into-in-Ok-Octets.ensures.turn,
   c.received_into.ensures.state,

@@ -5,22 +5,22 @@ use Rattle.line_core.proofs.resynching.is_answered.Goals as goal
 
 pub returns-in-Ok : goal.returns-in-Ok
 returns-in-Ok g c =
-    ends-answered _ _ (g.L.Line.said c.talk.new.self) c.loop.counter most_resynchs (omega arith)
+    ends-answered _ _ (g.L.TerminalLine.said c.transceive.new.self) c.loop.counter most_resynchs (omega arith)
     (rw (c.is_answer.ensures.0 c.if-is_answer.true) at c.in-Ok.ensures.said) c.loop.invariant.asked
 
 pub returns-in-Err : goal.returns-in-Err
 returns-in-Err g c =
-    ends-failed _ _ (g.L.Line.said c.talk.new.self) c.loop.counter most_resynchs c.in-Err.fault (omega arith)
+    ends-failed _ _ (g.L.TerminalLine.said c.transceive.new.self) c.loop.counter most_resynchs c.in-Err.fault (omega arith)
     c.in-Err.ensures.said c.loop.invariant.asked
 
 pub loop-preserved : goal.loop-preserved
 loop-preserved g c = record {
   room = omega arith;
-  asked = asks-on _ _ (g.L.Line.said c.talk.new.self) c.loop.counter _
-      (no-answer c.in-Ok.heard c.talk.new.room (λ is. search rules))
+  asked = asks-on _ _ (g.L.TerminalLine.said c.transceive.new.self) c.loop.counter _
+      (no-answer c.in-Ok.heard c.transceive.new.room (λ is. search rules))
       c.in-Ok.ensures.said c.loop.invariant.asked;
 }
 
 pub returns : goal.returns
-returns g c = ends-unanswered _ (g.L.Line.said c.loop.line) c.loop.counter most_resynchs (omega arith)
+returns g c = ends-unanswered _ (g.L.TerminalLine.said c.loop.line) c.loop.counter most_resynchs (omega arith)
     c.loop.invariant.asked

@@ -5,5 +5,5 @@ use Rattle.line_core.proofs.resynching.is_answered.Given as goal
 abbrev pub invariant-loop : goal.invariant-loop
 invariant-loop g l = record {
   room : length l.room ≡ 259;
-  asked : Unanswered (g.L.Line.said l.fn.line) (g.L.Line.said l.line) l.counter;
+  asked : Unanswered (g.L.TerminalLine.said l.fn.line) (g.L.TerminalLine.said l.line) l.counter;
 }

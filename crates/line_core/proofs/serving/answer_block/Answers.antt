@@ -3,6 +3,7 @@ use Rattle.std.proofs.lemmas.Result.{err_from_is_err_and}
 use Rattle.t1_core.specs.Came.{class_of}
 use Rattle.t1_core.specs.Card.{takes, card_turn}
 use Rattle.t1_core.specs.declared.turns.CardPut.TheVariants as put
+use Rattle.t1_core.proofs.Told.{tells}
 use Rattle.line_core.proofs.Replying.{given, waits-for-host}
 use Rattle.line_core.proofs.Rounds.{answers-refused, answers-sent, answers-replied, answers-refused-reply}
 use Rattle.line_core.proofs.serving.answer_block.Goals as goal
@@ -25,7 +26,7 @@ reply_to-requires-clause-waits g c =
     let input = takes (class_of c.args.card.now.ifsc c.args.octets.now) in
     let asks = given _ _ _ (Ok put.Asked) (rw c.in-Asked.is at c.in_ok-count.ensures.turn) in
     rw c.received_into.ensures.state (waits-for-host c.args.card.now (card_turn c.args.card.now input)
-    (λ next is. c.told.ensures.host c.args.card.now next input is) asks)
+    (λ next is. tells.host c.args.card.now next input is) asks)
 
 pub returns-in_ok-reply_to-in-Asked-clause-answer : goal.returns-in_ok-reply_to-in-Asked-clause-answer
 returns-in_ok-reply_to-in-Asked-clause-answer g c =
