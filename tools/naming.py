@@ -90,10 +90,16 @@ def names(item, kind, name, text, words):
     return f"{item.owner}::{item.name}" in text or f".{item.name}(" in text
 
 
+def shared_with(home):
+    """The files of a crate of tests that serve all its modules: without tests or modules of their own."""
+    beside = (it for it in sorted(home.parent.glob("*.rt")) if it not in (home, home.with_name("lib.rt")))
+    return [it for it in beside if not it.with_suffix("").is_dir() and "#[test]" not in it.read_text()]
+
+
 def tests_in(home):
     """The tests of a module: the name, the first line of what is said of it, its whole text and the words in it."""
     texts, tests = {}, []
-    for path in [home, *sorted(home.with_suffix("").rglob("*.rt"))]:
+    for path in [home, *sorted(home.with_suffix("").rglob("*.rt")), *shared_with(home)]:
         for item in items_of(path, path.name):
             text = "\n".join([*item.code, item.body])
             if "#[test]" in item.code:
