@@ -2,6 +2,7 @@
 
 use crate::work::Work;
 use apdu_core::CommandRef;
+use std::alloc::{AllocError, Global};
 use std::io::{self, ErrorKind};
 use std::time::Instant;
 
@@ -11,24 +12,34 @@ const TIMES: usize = 100_000;
 /// Decodes commands with data fields of 1 to 65,535 octets, each as often: the time is the same.
 pub(crate) fn decode_each(rt: &HostRuntime, timed: bool) -> io::Result<()> {
     for lc in [1u16, 255, 4_096, 65_535] {
-        let mut command = Vec::new(rt.alloc());
-        command.extend_from_slice(&[0x00, 0xD6, 0x00, 0x00, 0x00])?;
-        command.extend_from_slice(&lc.to_be_bytes())?;
-        let part = vec![in rt.alloc(); 0xA5u8; lc as usize]?;
-        command.extend_from_slice(part.as_slice())?;
-        let started = Instant::now(rt)?;
-        if !is_decoded(command.as_slice(), lc as usize) {
-            return Err(ErrorKind::InvalidData.into());
-        }
-        let work = Work {
-            name: "command decoded in place",
-            octets: command.len(),
-            parts: TIMES,
-            unit: "times",
-        };
-        work.tell(rt, started, timed)?;
+        let command = command(rt.alloc(), lc)?;
+        decode(rt, command.as_slice(), lc as usize, timed)?;
     }
     Ok(())
+}
+
+/// A command with a data field of so many octets.
+fn command(alloc: Global, lc: u16) -> Result<Vec<u8>, AllocError> {
+    let part = vec![in alloc; 0xA5u8; lc as usize]?;
+    let [high, low] = lc.to_be_bytes();
+    let mut command = Vec::from_slice(alloc, &[0x00, 0xD6, 0x00, 0x00, 0x00, high, low])?;
+    command.extend_from_slice(part.as_slice())?;
+    Ok(command)
+}
+
+/// Decodes a command with a data field of so many octets.
+fn decode(rt: &HostRuntime, command: &[u8], len: usize, timed: bool) -> io::Result<()> {
+    let started = Instant::now(rt)?;
+    if !is_decoded(command, len) {
+        return Err(ErrorKind::InvalidData.into());
+    }
+    let work = Work {
+        name: "command decoded in place",
+        octets: command.len(),
+        parts: TIMES,
+        unit: "times",
+    };
+    work.tell(rt, started, timed)
 }
 
 /// Whether a command is decoded each time, with a data field of so many octets, and is short each time

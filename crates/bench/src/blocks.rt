@@ -15,19 +15,23 @@ pub(crate) fn decode_each(rt: &HostRuntime, timed: bool) -> io::Result<()> {
         let Some(block) = Block::info(0, Number::Zero, false, &field[..len]) else {
             return Err(ErrorKind::InvalidData.into());
         };
-        let mut octets = encode(&block);
-        let started = Instant::now(rt)?;
-        if !is_decoded(octets.as_mut_slice(), len) {
-            return Err(ErrorKind::InvalidData.into());
-        }
-        told("block decoded", octets.len()).tell(rt, started, timed)?;
-        let started = Instant::now(rt)?;
-        if !is_lent(octets.as_mut_slice(), len) {
-            return Err(ErrorKind::InvalidData.into());
-        }
-        told("block decoded in place", octets.len()).tell(rt, started, timed)?;
+        decode_both(rt, encode(&block).as_mut_slice(), len, timed)?;
     }
     Ok(())
+}
+
+/// Decodes a block with a field of so many octets both ways.
+fn decode_both(rt: &HostRuntime, octets: &mut [u8], len: usize, timed: bool) -> io::Result<()> {
+    let started = Instant::now(rt)?;
+    if !is_decoded(octets, len) {
+        return Err(ErrorKind::InvalidData.into());
+    }
+    told("block decoded", octets.len()).tell(rt, started, timed)?;
+    let started = Instant::now(rt)?;
+    if !is_lent(octets, len) {
+        return Err(ErrorKind::InvalidData.into());
+    }
+    told("block decoded in place", octets.len()).tell(rt, started, timed)
 }
 
 /// Work over a block.

@@ -2,38 +2,27 @@
 
 ghost use Rattle.std.specs.Prelude.{◌≤◌, length, IfSome};
 
-use crate::session::{COMMAND, RESPONSE, ends};
-use crate::work::Work;
+use crate::session::{ends, told};
 use block_core::LONGEST_BLOCK;
-use std::io::{self, ErrorKind};
+use std::io;
 use std::time::Instant;
 use t1_core::{Card, CardPut, Terminal, TerminalPut};
 
 /// Exchanges the longest command and response under the information sizes 254 and 32.
-pub(crate) fn exchange_each(rt: &HostRuntime, timed: bool) -> io::Result<()> {
-    let command = vec![in rt.alloc(); 0xA5u8; COMMAND]?;
-    let reply = vec![in rt.alloc(); 0x5Au8; RESPONSE]?;
+pub(crate) fn exchange_each(
+    rt: &HostRuntime,
+    command: &[u8],
+    reply: &[u8],
+    timed: bool,
+) -> io::Result<()> {
     for (size, name) in [
         (254, "longest exchange in two buffers, sizes 254"),
         (32, "longest exchange in two buffers, sizes 32"),
     ] {
         let (mut terminal, mut card) = ends(rt.alloc(), size)?;
         let started = Instant::now(rt)?;
-        let Some(parts) = exchange(
-            &mut terminal,
-            &mut card,
-            command.as_slice(),
-            reply.as_slice(),
-        ) else {
-            return Err(ErrorKind::InvalidData.into());
-        };
-        let work = Work {
-            name,
-            octets: COMMAND + RESPONSE,
-            parts,
-            unit: "blocks",
-        };
-        work.tell(rt, started, timed)?;
+        let blocks = exchange(&mut terminal, &mut card, command, reply);
+        told(name, blocks)?.tell(rt, started, timed)?;
     }
     Ok(())
 }

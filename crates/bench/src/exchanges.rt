@@ -16,11 +16,25 @@ const QUESTION: &[u8] = b"ifsd FE\nt 00C101FE3E\nc 00E101FE1E\nifs-set\n";
 pub(crate) fn replay_each(rt: &HostRuntime, timed: bool) -> io::Result<()> {
     for size in [1_048_576, 2_097_152, 4_194_304] {
         let text = file(rt.alloc(), size)?;
-        let exchange = read_in_time(rt, text.as_slice(), timed)?;
-        replay_both(rt, &exchange, Told::of(text.as_slice(), &exchange), timed)?;
-        write_in_time(rt, text.as_slice(), &exchange, timed)?;
+        replay_file(rt, text.as_slice(), timed)?;
     }
     Ok(())
+}
+
+/// Reads, replays and writes a file.
+fn replay_file(rt: &HostRuntime, text: &[u8], timed: bool) -> io::Result<()> {
+    let exchange = read_in_time(rt, text, timed)?;
+    replay_and_write(rt, text, &exchange, timed)
+}
+
+fn replay_and_write(
+    rt: &HostRuntime,
+    text: &[u8],
+    exchange: &Exchange,
+    timed: bool,
+) -> io::Result<()> {
+    replay_both(rt, exchange, Told::of(text, exchange), timed)?;
+    write_in_time(rt, text, exchange, timed)
 }
 
 fn read_in_time(rt: &HostRuntime, text: &[u8], timed: bool) -> io::Result<Exchange> {

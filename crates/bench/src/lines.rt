@@ -4,8 +4,7 @@
 ghost use Rattle.std.specs.Prelude.{◌≤◌, length};
 
 use crate::buffers::served;
-use crate::session::{COMMAND, RESPONSE, ends};
-use crate::work::Work;
+use crate::session::{ends, told};
 use block_core::LONGEST_BLOCK;
 use line_core::{CardLine, Host, Received, TerminalLine, exchange, serve};
 use std::io::{self, ErrorKind};
@@ -16,9 +15,12 @@ use t1_core::{Card, Terminal, TerminalPut};
 const MOST_BLOCKS: usize = 10_000;
 
 /// Exchanges the longest command and response under the information sizes 254 and 32, by `exchange`.
-pub(crate) fn exchange_each(rt: &HostRuntime, timed: bool) -> io::Result<()> {
-    let command = vec![in rt.alloc(); 0xA5u8; COMMAND]?;
-    let reply = vec![in rt.alloc(); 0x5Au8; RESPONSE]?;
+pub(crate) fn exchange_each(
+    rt: &HostRuntime,
+    command: &[u8],
+    reply: &[u8],
+    timed: bool,
+) -> io::Result<()> {
     for (size, name) in [
         (254, "longest exchange over a line, sizes 254"),
         (32, "longest exchange over a line, sizes 32"),
@@ -26,23 +28,42 @@ pub(crate) fn exchange_each(rt: &HostRuntime, timed: bool) -> io::Result<()> {
         let (mut terminal, card) = ends(rt.alloc(), size)?;
         let mut line = CardAtLine {
             card,
-            reply: reply.as_slice(),
+            reply,
             blocks: 0,
         };
-        let started = Instant::now(rt)?;
-        match exchange(&mut terminal, &mut line, command.as_slice(), MOST_BLOCKS) {
-            Ok(answer) if answer == reply.as_slice() => {}
-            _ => return Err(ErrorKind::InvalidData.into()),
-        }
-        tell(rt, name, line.blocks, started, timed)?;
+        exchange_over(rt, &mut terminal, &mut line, command, name, timed)?;
     }
     Ok(())
 }
 
+fn exchange_over(
+    rt: &HostRuntime,
+    terminal: &mut Terminal,
+    line: &mut CardAtLine<'_>,
+    command: &[u8],
+    name: &'static str,
+    timed: bool,
+) -> io::Result<()> {
+    let started = Instant::now(rt)?;
+    let blocks = exchanged(terminal, line, command);
+    told(name, blocks)?.tell(rt, started, timed)
+}
+
+/// How many blocks an exchange takes, none where it isn't answered.
+fn exchanged(terminal: &mut Terminal, line: &mut CardAtLine<'_>, command: &[u8]) -> Option<usize> {
+    match exchange(terminal, line, command, MOST_BLOCKS) {
+        Ok(answer) if answer == line.reply => Some(2 * line.blocks as usize),
+        _ => None,
+    }
+}
+
 /// The same by `serve`.
-pub(crate) fn serve_each(rt: &HostRuntime, timed: bool) -> io::Result<()> {
-    let command = vec![in rt.alloc(); 0xA5u8; COMMAND]?;
-    let reply = vec![in rt.alloc(); 0x5Au8; RESPONSE]?;
+pub(crate) fn serve_each(
+    rt: &HostRuntime,
+    command: &[u8],
+    reply: &[u8],
+    timed: bool,
+) -> io::Result<()> {
     for (size, name) in [
         (254, "longest exchange served, sizes 254"),
         (32, "longest exchange served, sizes 32"),
@@ -50,37 +71,37 @@ pub(crate) fn serve_each(rt: &HostRuntime, timed: bool) -> io::Result<()> {
         let (terminal, mut card) = ends(rt.alloc(), size)?;
         let mut line = TerminalAtLine {
             terminal,
-            command: command.as_slice(),
+            command,
             block: [0; LONGEST_BLOCK],
             count: None,
             blocks: 0,
         };
-        let mut host = Replies(reply.as_slice());
-        let started = Instant::now(rt)?;
-        let served = serve(&mut card, &mut line, &mut host, MOST_BLOCKS);
-        if served.is_err() || line.terminal.answer() != Some(reply.as_slice()) {
-            return Err(ErrorKind::InvalidData.into());
-        }
-        tell(rt, name, line.blocks, started, timed)?;
+        serve_over(rt, &mut card, &mut line, reply, name, timed)?;
     }
     Ok(())
 }
 
-/// Prints the exchange, of which one end sent so many blocks, and the other as many.
-fn tell(
+fn serve_over(
     rt: &HostRuntime,
+    card: &mut Card,
+    line: &mut TerminalAtLine<'_>,
+    reply: &[u8],
     name: &'static str,
-    blocks: u32,
-    started: Instant,
     timed: bool,
 ) -> io::Result<()> {
-    let work = Work {
-        name,
-        octets: COMMAND + RESPONSE,
-        parts: 2 * blocks as usize,
-        unit: "blocks",
-    };
-    work.tell(rt, started, timed)
+    let started = Instant::now(rt)?;
+    let blocks = serves(card, line, reply);
+    told(name, blocks)?.tell(rt, started, timed)
+}
+
+/// How many blocks an exchange takes that a card serves, none where it isn't answered.
+fn serves(card: &mut Card, line: &mut TerminalAtLine<'_>, reply: &[u8]) -> Option<usize> {
+    let mut host = Replies(reply);
+    let served = serve(card, line, &mut host, MOST_BLOCKS);
+    if served.is_err() || line.terminal.answer() != Some(reply) {
+        return None;
+    }
+    Some(2 * line.blocks as usize)
 }
 
 /// The line of a terminal with a card at its other end.

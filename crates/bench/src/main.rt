@@ -17,6 +17,7 @@ mod pieces;
 mod session;
 mod work;
 
+use session::{COMMAND, RESPONSE};
 use std::{env, io};
 
 fn main(rt: HostRuntime) -> io::Result<()> {
@@ -36,11 +37,23 @@ fn do_each(rt: &HostRuntime, timed: bool) -> io::Result<()> {
     chains::carry_each(rt, timed)?;
     apdus::decode_each(rt, timed)?;
     forests::judge_each(rt, timed)?;
-    session::exchange_each(rt, timed)?;
-    buffers::exchange_each(rt, timed)?;
-    lines::exchange_each(rt, timed)?;
-    lines::serve_each(rt, timed)?;
-    session::record_each(rt, timed)
+    exchange_longest(rt, timed)
+}
+
+/// Exchanges the longest command and response in each way.
+fn exchange_longest(rt: &HostRuntime, timed: bool) -> io::Result<()> {
+    let command = vec![in rt.alloc(); 0xA5u8; COMMAND]?;
+    let reply = vec![in rt.alloc(); 0x5Au8; RESPONSE]?;
+    exchange_each(rt, command.as_slice(), reply.as_slice(), timed)
+}
+
+/// Exchanges these in each way.
+fn exchange_each(rt: &HostRuntime, command: &[u8], reply: &[u8], timed: bool) -> io::Result<()> {
+    session::exchange_each(rt, command, reply, timed)?;
+    buffers::exchange_each(rt, command, reply, timed)?;
+    lines::exchange_each(rt, command, reply, timed)?;
+    lines::serve_each(rt, command, reply, timed)?;
+    session::record_each(rt, command, reply, timed)
 }
 
 /// Whether one of the program's words is this one.

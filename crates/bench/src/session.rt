@@ -15,31 +15,34 @@ pub(crate) const COMMAND: usize = 65_544;
 /// The octets of the longest response.
 pub(crate) const RESPONSE: usize = 65_538;
 
+/// The work of an exchange in so many blocks, none where it isn't answered.
+pub(crate) fn told(name: &'static str, blocks: Option<usize>) -> io::Result<Work> {
+    match blocks {
+        Some(parts) => Ok(Work {
+            name,
+            octets: COMMAND + RESPONSE,
+            parts,
+            unit: "blocks",
+        }),
+        None => Err(ErrorKind::InvalidData.into()),
+    }
+}
+
 /// Exchanges the longest command and response under the information sizes 254 and 32.
-pub(crate) fn exchange_each(rt: &HostRuntime, timed: bool) -> io::Result<()> {
-    let command = vec![in rt.alloc(); 0xA5u8; COMMAND]?;
-    let reply = vec![in rt.alloc(); 0x5Au8; RESPONSE]?;
+pub(crate) fn exchange_each(
+    rt: &HostRuntime,
+    command: &[u8],
+    reply: &[u8],
+    timed: bool,
+) -> io::Result<()> {
     for (size, name) in [
         (254, "longest exchange, sizes 254"),
         (32, "longest exchange, sizes 32"),
     ] {
         let (mut terminal, mut card) = ends(rt.alloc(), size)?;
         let started = Instant::now(rt)?;
-        let Some(parts) = exchange(
-            &mut terminal,
-            &mut card,
-            command.as_slice(),
-            reply.as_slice(),
-        ) else {
-            return Err(ErrorKind::InvalidData.into());
-        };
-        let work = Work {
-            name,
-            octets: COMMAND + RESPONSE,
-            parts,
-            unit: "blocks",
-        };
-        work.tell(rt, started, timed)?;
+        let blocks = exchange(&mut terminal, &mut card, command, reply);
+        told(name, blocks)?.tell(rt, started, timed)?;
     }
     Ok(())
 }
@@ -50,38 +53,50 @@ const ATR_254: [u8; 7] = [0x3B, 0x80, 0x81, 0x31, 0xFE, 0x45, 0x8B];
 const ATR_32: [u8; 7] = [0x3B, 0x80, 0x81, 0x31, 0x20, 0x45, 0x55];
 
 /// The same exchanges, each recorded.
-pub(crate) fn record_each(rt: &HostRuntime, timed: bool) -> io::Result<()> {
-    let command = vec![in rt.alloc(); 0xA5u8; COMMAND]?;
-    let reply = vec![in rt.alloc(); 0x5Au8; RESPONSE]?;
+pub(crate) fn record_each(
+    rt: &HostRuntime,
+    command: &[u8],
+    reply: &[u8],
+    timed: bool,
+) -> io::Result<()> {
     for (atr, size, name) in [
         (&ATR_254, 254, "longest exchange recorded, sizes 254"),
         (&ATR_32, 32, "longest exchange recorded, sizes 32"),
     ] {
-        let Some(mut recorder) = recorder(rt.alloc(), atr, size) else {
-            return Err(ErrorKind::InvalidData.into());
-        };
-        let started = Instant::now(rt)?;
-        let Some(parts) = carried(&mut recorder, command.as_slice(), reply.as_slice()) else {
-            return Err(ErrorKind::InvalidData.into());
-        };
-        let work = Work {
-            name,
-            octets: COMMAND + RESPONSE,
-            parts,
-            unit: "blocks",
-        };
-        work.tell(rt, started, timed)?;
+        match recorder(rt.alloc(), atr, size) {
+            Some(mut recorder) => record(rt, &mut recorder, name, command, reply, timed)?,
+            None => return Err(ErrorKind::InvalidData.into()),
+        }
     }
     Ok(())
+}
+
+/// One of them.
+fn record(
+    rt: &HostRuntime,
+    recorder: &mut Recorder,
+    name: &'static str,
+    command: &[u8],
+    reply: &[u8],
+    timed: bool,
+) -> io::Result<()> {
+    let started = Instant::now(rt)?;
+    let blocks = carried(recorder, command, reply);
+    told(name, blocks)?.tell(rt, started, timed)
 }
 
 /// A recorder of both ends, of which each takes information fields of this size.
 fn recorder(alloc: Global, atr: &[u8], size: u8) -> Option<Recorder> {
     let mut recorder = Recorder::new(alloc, atr).ok()?;
-    recorder.happens(Event::AskIfsd(size)).ok()?;
-    recorder.happens(Event::Deliver).ok()?;
-    recorder.happens(Event::Deliver).ok()?;
-    (*recorder.last() == LastTurn::Terminal(TerminalTurn::IfsSet)).then_some(recorder)
+    is_size_set(&mut recorder, size).then_some(recorder)
+}
+
+/// Whether the terminal asks for this size, and the card grants it.
+fn is_size_set(recorder: &mut Recorder, size: u8) -> bool {
+    recorder.happens(Event::AskIfsd(size)).is_ok()
+        && recorder.happens(Event::Deliver).is_ok()
+        && recorder.happens(Event::Deliver).is_ok()
+        && *recorder.last() == LastTurn::Terminal(TerminalTurn::IfsSet)
 }
 
 /// How many blocks an exchange under a recorder takes, none where it isn't answered.
@@ -106,14 +121,24 @@ pub(crate) fn ends(alloc: Global, size: u8) -> io::Result<(Terminal, Card)> {
     };
     let mut terminal = Terminal::new(alloc, params)?;
     let mut card = Card::new(alloc, params)?;
-    if let Ok(TerminalTurn::Send(asked)) = terminal.ask_ifs(size) {
-        if let Ok(CardTurn::Send(block)) = card.received(encode(&asked).as_slice()) {
-            if terminal.received(encode(&block).as_slice()) == Ok(TerminalTurn::IfsSet) {
-                return Ok((terminal, card));
-            }
-        }
+    if is_granted(&mut terminal, &mut card, size) {
+        Ok((terminal, card))
+    } else {
+        Err(ErrorKind::InvalidData.into())
     }
-    Err(ErrorKind::InvalidData.into())
+}
+
+/// Whether the terminal asks for this size, and the card grants it.
+fn is_granted(terminal: &mut Terminal, card: &mut Card, size: u8) -> bool {
+    match terminal.ask_ifs(size) {
+        Ok(TerminalTurn::Send(asked)) => match card.received(encode(&asked).as_slice()) {
+            Ok(CardTurn::Send(back)) => {
+                terminal.received(encode(&back).as_slice()) == Ok(TerminalTurn::IfsSet)
+            }
+            _ => false,
+        },
+        _ => false,
+    }
 }
 
 /// How many blocks an exchange over a line without faults takes, none where it isn't answered.

@@ -4,7 +4,7 @@ use std::io;
 use std::time::Instant;
 
 /// Work that was done over so many octets, in so many parts.
-#[derive(Clone, Copy, Debug)]
+#[derive(Drop)]
 pub(crate) struct Work {
     pub(crate) name: &'static str,
     pub(crate) octets: usize,

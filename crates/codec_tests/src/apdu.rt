@@ -5,14 +5,14 @@ mod printed;
 
 ghost use Rattle.std.specs.Prelude.{◌≤◌};
 
+use crate::helpers::octets;
 use apdu_core::{
     Body, Command, CommandReason, CommandRef, ReceiveFault, Response, ResponseReason, ResponseRef,
     SendFault, decode_command, decode_response, encode_command_into, send_command, send_response,
 };
 use as_value::{
     command_lent, command_of, command_read, copied, is_command_spelled, is_left,
-    is_response_spelled, keeps, octets, reader_of, response, response_of, response_read, writer,
-    zeros,
+    is_response_spelled, keeps, reader_of, response, response_of, response_read, writer, zeros,
 };
 use block_core::Number;
 use chain_core::ChainReason;
@@ -259,12 +259,16 @@ fn sent(alloc: Global, writer: &mut Counted<Taker>, command: &Command) -> Result
     send_command(alloc, writer, command, 2, Number::Zero)
 }
 
+/// Whether a command is sent as this chain.
+fn is_sent(alloc: Global, command: &Command, chain: &[u8]) -> bool {
+    let mut writer = writer();
+    same(sent(alloc, &mut writer, command), Ok(())) && keeps(writer, chain)
+}
+
 #[test]
 fn a_command_is_sent(rt: HostRuntime) {
     let command = command_of(&rt, SELECT, Body::ShortLe { le: 256 });
-    let mut writer = writer();
-    assert!(rt; same(sent(rt.alloc(), &mut writer, &command), Ok(())));
-    assert!(rt; keeps(writer, &SELECT_CHAIN));
+    assert!(rt; is_sent(rt.alloc(), &command, &SELECT_CHAIN));
 }
 
 /// What sending a response gives.
@@ -276,12 +280,16 @@ fn replied(
     send_response(alloc, writer, response, 254, Number::Zero)
 }
 
+/// Whether a response is sent as this chain.
+fn is_replied(alloc: Global, response: &Response, chain: &[u8]) -> bool {
+    let mut writer = writer();
+    same(replied(alloc, &mut writer, response), Ok(())) && keeps(writer, chain)
+}
+
 #[test]
 fn a_response_is_sent(rt: HostRuntime) {
     let response = response_of(&rt, copied(&rt, rt.alloc(), &[]), 0x90, 0x00);
-    let mut writer = writer();
-    assert!(rt; same(replied(rt.alloc(), &mut writer, &response), Ok(())));
-    assert!(rt; keeps(writer, &DONE_CHAIN));
+    assert!(rt; is_replied(rt.alloc(), &response, &DONE_CHAIN));
 }
 
 /// Whether a reader gives a command in blocks of at most so many octets.

@@ -3,6 +3,7 @@
 
 mod printed;
 
+use crate::helpers::octets;
 use arrayvec::ArrayVec;
 use atr_core::laws::are_equal;
 use atr_core::{
@@ -11,7 +12,7 @@ use atr_core::{
 use octet_core::Stop;
 use std::alloc::Global;
 use std::process::Abort;
-use testing::{of_hex, same};
+use testing::same;
 
 /// T=0 and T=1, fifteen historical bytes and TCK; the octet FF is left.
 const BOTH_PROTOCOLS: &str = "3B8F8001804F0CA000000306030001000000006AFF";
@@ -239,11 +240,6 @@ fn agree_on(octets: &[u8]) -> bool {
         all_agree = all_agree && agree(octets.get(..end).unwrap_or(octets));
     }
     all_agree
-}
-
-/// The octets of a hexadecimal text.
-fn octets(rt: &impl Abort, alloc: Global, text: &str) -> Vec<u8> {
-    of_hex(alloc, text).expect(rt, "octets")
 }
 
 #[test]

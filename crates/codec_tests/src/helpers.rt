@@ -3,7 +3,13 @@
 use octet_core::Named;
 use std::alloc::Global;
 use std::fmt::Display;
-use testing::{debugs, same, shows};
+use std::process::Abort;
+use testing::{debugs, of_hex, same, shows};
+
+/// The octets of a hexadecimal text.
+pub(super) fn octets(rt: &impl Abort, alloc: Global, text: &str) -> Vec<u8> {
+    of_hex(alloc, text).expect(rt, "octets")
+}
 
 /// Whether a reason has this name, and is shown by it.
 pub(super) fn is_named<R: Named + Display + Copy>(alloc: Global, reason: R, name: &str) -> bool {

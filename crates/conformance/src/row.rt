@@ -5,7 +5,7 @@ use std::alloc::{AllocError, Global};
 use std::str;
 
 /// What a line says: the words after the program's name, standard input, and the status and the text that come.
-#[derive(Debug, Drop)]
+#[derive(Drop)]
 pub(crate) struct Row {
     pub(crate) words: Vec<String>,
     pub(crate) input: Vec<u8>,

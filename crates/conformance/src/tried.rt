@@ -9,7 +9,7 @@ use std::alloc::{AllocError, AllocFailed, Global};
 use std::str;
 
 /// Why the lines of a file weren't gone through to their end.
-#[derive(Debug, Drop)]
+#[derive(Drop)]
 pub(crate) enum Fault {
     /// The line isn't of the format.
     Form { line: u64 },

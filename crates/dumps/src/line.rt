@@ -18,7 +18,7 @@ const WHOLE: usize = 16;
 const FEWEST_DIGITS: usize = 6;
 
 /// What the line before was, empty ones left out.
-#[derive(Clone, Copy, Debug, PartialEq, Eq)]
+#[derive(Clone, Copy)]
 pub(crate) enum Before {
     /// There was none.
     Nothing,

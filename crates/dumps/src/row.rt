@@ -9,7 +9,7 @@ use crate::text::{after_blanks, after_shown, push_groups};
 use std::alloc::AllocError;
 
 /// Which program's row it is.
-#[derive(Clone, Copy, Debug, PartialEq, Eq)]
+#[derive(Clone, Copy)]
 pub(crate) enum Style {
     /// `00000000: 3b80 8001 01                             ;....`, as xxd writes it.
     Xxd,

@@ -9,7 +9,7 @@ use crate::text::{NO_DIGIT, digit};
 use crate::word::{Word, Writing};
 
 /// Where a text is.
-#[derive(Clone, Copy, Debug, PartialEq, Eq)]
+#[derive(Clone, Copy)]
 pub(crate) enum Place {
     /// Outside of quotes and comments.
     Code,
@@ -28,7 +28,7 @@ pub(crate) enum Place {
 }
 
 /// Where a text is, and what it had so far.
-#[derive(Clone, Copy, Debug, PartialEq, Eq)]
+#[derive(Clone, Copy)]
 pub(crate) struct Now {
     /// The word under way.
     word: Word,

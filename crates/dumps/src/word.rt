@@ -6,7 +6,7 @@ ghost use Rattle.dumps.specs.Words.{has_letter, is_prefix, longer, marked, octet
 use crate::text::{NO_DIGIT, digit, pair};
 
 /// How an octet is written.
-#[derive(Clone, Copy, Debug, PartialEq, Eq)]
+#[derive(Clone, Copy, PartialEq)]
 pub(crate) enum Writing {
     /// `3B`.
     Plain,
@@ -19,7 +19,7 @@ pub(crate) enum Writing {
 }
 
 /// The characters of a word so far.
-#[derive(Clone, Copy, Debug, PartialEq, Eq)]
+#[derive(Clone, Copy)]
 pub(crate) enum Word {
     /// None.
     Empty,

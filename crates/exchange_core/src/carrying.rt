@@ -20,7 +20,7 @@ use t1_core::{Card, CardFault, CardTurn, Terminal, TerminalFault, TerminalTurn};
 const ANOTHER_NODE: u8 = 1;
 
 /// What changes in a block that arrives.
-#[derive(Clone, Copy, Debug, PartialEq, Eq)]
+#[derive(Clone, Copy)]
 pub(crate) enum Change {
     /// Nothing.
     Kept,

@@ -55,7 +55,7 @@ impl From<AllocError> for ExchangeFault {
 }
 
 /// What is wrong with one line.
-#[derive(Clone, Copy, Debug, PartialEq, Eq)]
+#[derive(Clone, Copy)]
 pub(crate) enum LineFault {
     /// Its words.
     Word,

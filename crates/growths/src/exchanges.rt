@@ -80,12 +80,20 @@ fn record(alloc: Global) -> Result<Exchange, Outcome> {
         Err(RecorderFault::Memory) => return Err(Outcome::Memory),
         Err(RecorderFault::Refused(_)) => return Err(Outcome::Wrong),
     };
-    for event in &EVENTS {
-        if told(&mut recorder, *event).is_err() {
-            return Err(Outcome::Wrong);
-        }
+    if !are_told(&mut recorder) {
+        return Err(Outcome::Wrong);
     }
     recorder.exchange().map_err(|_| Outcome::Memory)
+}
+
+/// Whether all events happen.
+fn are_told(recorder: &mut Recorder) -> bool {
+    for event in &EVENTS {
+        if told(recorder, *event).is_err() {
+            return false;
+        }
+    }
+    true
 }
 
 /// An event for whose lines memory was refused happens when it is tried again.
@@ -105,27 +113,39 @@ fn written(alloc: Global, exchange: &Exchange) -> Outcome {
 
 /// The text is read, replays at both ends, and is migrated.
 pub(crate) fn replayed(alloc: Global) -> Outcome {
-    let exchange = match read_exchange(alloc, TEXT.as_bytes()) {
-        Ok(exchange) => exchange,
-        Err(ExchangeFault::Memory) => return Outcome::Memory,
-        Err(_) => return Outcome::Wrong,
-    };
+    match read_exchange(alloc, TEXT.as_bytes()) {
+        Ok(exchange) => match replays(alloc, &exchange) {
+            Outcome::Right => Outcome::of(is_migrated(alloc, exchange)),
+            outcome => outcome,
+        },
+        Err(ExchangeFault::Memory) => Outcome::Memory,
+        Err(_) => Outcome::Wrong,
+    }
+}
+
+/// An exchange replays at both ends.
+fn replays(alloc: Global, exchange: &Exchange) -> Outcome {
     for side in [Side::Terminal, Side::Card] {
-        match replay(alloc, &exchange, side) {
+        match replay(alloc, exchange, side) {
             Ok(()) => {}
             Err(ReplayFault::Memory) => return Outcome::Memory,
             Err(ReplayFault::Differs { .. }) => return Outcome::Wrong,
         }
     }
-    Outcome::of(is_migrated(alloc, exchange))
+    Outcome::Right
 }
 
 /// Whether the exchange is written in version 2 with the same lines after the first.
 fn is_migrated(alloc: Global, exchange: Exchange) -> Result<bool, AllocError> {
     let text = write_exchange(alloc, &migrate(exchange))?;
+    is_newer(alloc, text.as_slice())
+}
+
+/// Whether a text is the one of version 2.
+fn is_newer(alloc: Global, text: &[u8]) -> Result<bool, AllocError> {
     let wanted = format!(in alloc;
         "scard-exchange 2{}",
         TEXT.strip_prefix(FIRST).unwrap_or(TEXT)
     )?;
-    Ok(text.as_slice() == wanted.as_bytes())
+    Ok(text == wanted.as_bytes())
 }

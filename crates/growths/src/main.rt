@@ -14,30 +14,58 @@ mod program;
 mod session;
 
 use outcome::Outcome;
+use std::alloc::Global;
 use std::io;
 use std::process::ExitCode;
 
 fn main(rt: HostRuntime) -> io::Result<ExitCode> {
-    let outcomes = [
-        ("hexadecimal text", chains::hexadecimal(rt.alloc())),
-        ("receiver", chains::receiver(rt.alloc())),
-        ("commands", apdus::commands(rt.alloc())),
-        ("responses", apdus::responses(rt.alloc())),
-        ("commands sent", apdus::sent(rt.alloc())),
-        ("commands received", apdus::received(rt.alloc())),
-        ("responses received and sent", apdus::answered(rt.alloc())),
-        ("forests", objects::forests(rt.alloc())),
-        ("forests in pieces", objects::pieces(rt.alloc())),
-        ("parts", objects::parts(rt.alloc())),
-        ("placed parts", objects::places(rt.alloc())),
-        ("lists", objects::lists(rt.alloc())),
-        ("session", session::longest(rt.alloc())),
-        ("recorder", exchanges::recorded(rt.alloc())),
-        ("exchanges", exchanges::replayed(rt.alloc())),
-        ("program", program::lines(rt.alloc())),
-    ];
-    let mut is_refused = false;
-    for (name, outcome) in outcomes {
+    let is_refused = tell_each(&rt, &of_messages(rt.alloc()), false)?;
+    let is_refused = tell_each(&rt, &of_objects(rt.alloc()), is_refused)?;
+    let is_refused = tell_each(&rt, &of_sessions(rt.alloc()), is_refused)?;
+    println!(rt; "all calls made")?;
+    Ok(ExitCode::from(if is_refused { 2 } else { 0 }))
+}
+
+fn of_messages(alloc: Global) -> [(&'static str, Outcome); 7] {
+    [
+        ("hexadecimal text", chains::hexadecimal(alloc)),
+        ("receiver", chains::receiver(alloc)),
+        ("commands", apdus::commands(alloc)),
+        ("responses", apdus::responses(alloc)),
+        ("commands sent", apdus::sent(alloc)),
+        ("commands received", apdus::received(alloc)),
+        ("responses received and sent", apdus::answered(alloc)),
+    ]
+}
+
+fn of_objects(alloc: Global) -> [(&'static str, Outcome); 5] {
+    [
+        ("forests", objects::forests(alloc)),
+        ("forests in pieces", objects::pieces(alloc)),
+        ("parts", objects::parts(alloc)),
+        ("placed parts", objects::places(alloc)),
+        ("lists", objects::lists(alloc)),
+    ]
+}
+
+fn of_sessions(alloc: Global) -> [(&'static str, Outcome); 4] {
+    [
+        ("session", session::longest(alloc)),
+        ("recorder", exchanges::recorded(alloc)),
+        ("exchanges", exchanges::replayed(alloc)),
+        ("program", program::lines(alloc)),
+    ]
+}
+
+/// Prints each outcome that is wrong, and each but the first call that was out of memory. Whether there was one, these
+/// or one before.
+fn tell_each(
+    rt: &HostRuntime,
+    outcomes: &[(&'static str, Outcome)],
+    was_refused: bool,
+) -> io::Result<bool> {
+    let mut is_refused = was_refused;
+    for &(name, outcome) in outcomes {
         match outcome {
             Outcome::Right => {}
             Outcome::Memory if !is_refused => is_refused = true,
@@ -45,6 +73,5 @@ fn main(rt: HostRuntime) -> io::Result<ExitCode> {
             Outcome::Wrong => println!(rt; "{name}: wrong")?,
         }
     }
-    println!(rt; "all calls made")?;
-    Ok(ExitCode::from(if is_refused { 2 } else { 0 }))
+    Ok(is_refused)
 }

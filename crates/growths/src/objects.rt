@@ -33,14 +33,20 @@ pub(crate) fn forests(alloc: Global) -> Outcome {
 
 fn is_forest_kept(alloc: Global) -> Result<bool, AllocError> {
     match decode(alloc, &FOREST, FOREST.len()) {
-        Ok(forest) => {
-            let is_kept = encode(alloc, &forest)?.as_slice() == FOREST.as_slice();
-            let tidied = tidy(alloc, &forest)?;
-            Ok(is_kept && encode(alloc, &tidied)?.as_slice() == TIDY.as_slice())
-        }
+        Ok(forest) => is_kept_and_tidied(alloc, &forest),
         Err(Refused::Memory) => Err(AllocError),
         Err(Refused::Stop(_)) => Ok(false),
     }
+}
+
+fn is_kept_and_tidied(alloc: Global, forest: &Forest) -> Result<bool, AllocError> {
+    let is_kept = is_spelled(alloc, forest)?;
+    Ok(is_tidied(alloc, forest)? && is_kept)
+}
+
+fn is_tidied(alloc: Global, forest: &Forest) -> Result<bool, AllocError> {
+    let tidied = tidy(alloc, forest)?;
+    Ok(encode(alloc, &tidied)?.as_slice() == TIDY.as_slice())
 }
 
 /// A forest is read in pieces, and the rest of a piece is fed again where it was out of memory.

@@ -3,7 +3,7 @@
 use std::alloc::AllocError;
 
 /// What came of a call.
-#[derive(Clone, Copy, Debug, PartialEq, Eq)]
+#[derive(Clone, Copy)]
 pub(crate) enum Outcome {
     /// It gave the answer that it should.
     Right,

@@ -83,18 +83,29 @@ pub(crate) fn lines(alloc: Global) -> Outcome {
 }
 
 fn said(alloc: Global, line: &str, read: &str, text: &str) -> Result<Outcome, AllocError> {
+    let words = words(alloc, line)?;
+    Ok(answered(alloc, words, read, text))
+}
+
+/// The words of a command line, after the program's name.
+fn words(alloc: Global, line: &str) -> Result<Vec<String>, AllocError> {
     let mut words = Vec::new(alloc);
     words.push(String::from_str(alloc, "scard")?)?;
     for word in line.split(' ') {
         words.push(String::from_str(alloc, word)?)?;
     }
+    Ok(words)
+}
+
+/// What the program says to words.
+fn answered(alloc: Global, words: Vec<String>, read: &str, text: &str) -> Outcome {
     let mut reader = Counted::new(Feeder::new(read.as_bytes(), 64, After::End));
     let mut writer = Counted::new(Taker::new(4096, 4096, After::End));
     let status = run(alloc, words, &mut reader, &mut writer);
     let taker = writer.into_inner();
-    Ok(match status {
+    match status {
         Status::Accepted if taker.kept() == text.as_bytes() => Outcome::Right,
         Status::Fault if taker.kept() == b"fault: memory\n".as_slice() => Outcome::Memory,
         _ => Outcome::Wrong,
-    })
+    }
 }

@@ -8,7 +8,7 @@ use std::alloc::Global;
 use testing::{Case, Fault, Share, with_octet};
 
 /// What was said of changed octets.
-#[derive(Clone, Copy, Debug, Default)]
+#[derive(Clone, Copy, Default)]
 struct Changed {
     accepted: u64,
     short: u64,

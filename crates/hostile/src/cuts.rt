@@ -8,7 +8,7 @@ use std::alloc::Global;
 use testing::{Case, Fault};
 
 /// What was said of fronts.
-#[derive(Clone, Copy, Debug, Default)]
+#[derive(Clone, Copy, Default)]
 struct Fronts {
     short: u64,
     accepted: u64,

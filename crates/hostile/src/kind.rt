@@ -10,7 +10,7 @@ use tlv_core::{DolReason, TlvReason};
 
 /// How a chain is read: its information size, its first number, and the octets of its message at
 /// most.
-#[derive(Clone, Copy, Debug, PartialEq, Eq)]
+#[derive(Clone, Copy)]
 pub(crate) struct Chain {
     pub(crate) size: Size,
     pub(crate) number: Number,
@@ -18,7 +18,7 @@ pub(crate) struct Chain {
 }
 
 /// A kind of octets, with what its decoder is told.
-#[derive(Clone, Copy, Debug, PartialEq, Eq)]
+#[derive(Clone, Copy)]
 pub(crate) enum Kind {
     Atr,
     Block(Size),
@@ -42,7 +42,7 @@ impl Kind {
 }
 
 /// A value of any kind; a forest and a list by the octets that their encoders give.
-#[derive(Debug, PartialEq, Eq, Drop)]
+#[derive(PartialEq, Drop)]
 pub(crate) enum Value {
     Atr(Atr),
     Block(Block),
@@ -54,7 +54,7 @@ pub(crate) enum Value {
 }
 
 /// A reason of any kind.
-#[derive(Clone, Copy, Debug, PartialEq, Eq)]
+#[derive(Clone, Copy, PartialEq)]
 pub(crate) enum Reason {
     Atr(AtrReason),
     Block(BlockReason),

@@ -7,7 +7,7 @@ use std::alloc::{AllocError, Global};
 use testing::{Case, Fault};
 
 /// How many cuts into two pieces were tried, and how many into three.
-#[derive(Clone, Copy, Debug, Default)]
+#[derive(Clone, Copy, Default)]
 struct Cuts {
     twos: u64,
     threes: u64,

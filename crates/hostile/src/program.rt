@@ -91,7 +91,7 @@ fn fail_at(alloc: Global, line: &str, text: &[u8], place: usize) -> Result<u64, 
 }
 
 /// How a writer fails.
-#[derive(Clone, Copy, Debug, PartialEq, Eq)]
+#[derive(Clone, Copy)]
 enum Failing {
     Fails,
     Interrupted,

@@ -13,7 +13,7 @@ use std::alloc::Global;
 use testing::{Case, Fault, of_hex};
 
 /// What is carried.
-#[derive(Clone, Copy, Debug, PartialEq, Eq)]
+#[derive(Clone, Copy)]
 enum Message {
     /// The octets of a chain, by the calls of chains alone.
     Plain,
@@ -22,7 +22,7 @@ enum Message {
 }
 
 /// The octets of a message, and those of its chain in fields of 2 octets from number 0.
-#[derive(Debug, Drop)]
+#[derive(Drop)]
 struct Carried {
     message: Message,
     octets: Vec<u8>,
@@ -111,7 +111,7 @@ fn writers_fail(alloc: Global, carried: &Carried, place: usize) -> Result<u64, F
 }
 
 /// How a device fails.
-#[derive(Clone, Copy, Debug, PartialEq, Eq)]
+#[derive(Clone, Copy)]
 enum Failing {
     Fails,
     Interrupted,
@@ -232,7 +232,7 @@ fn readers_fail(alloc: Global, carried: &Carried, place: usize) -> Result<u64, F
 }
 
 /// What reading came to: all was read, it failed after so many octets, or the input ended there.
-#[derive(Clone, Copy, Debug, PartialEq, Eq)]
+#[derive(PartialEq, Drop)]
 enum Came {
     All,
     Failed(usize),

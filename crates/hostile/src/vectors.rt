@@ -6,7 +6,7 @@ use std::alloc::Global;
 use testing::{Fault, Size, of_hex};
 
 /// Octets of a kind, the whole of one value.
-#[derive(Debug, Drop)]
+#[derive(Drop)]
 pub(crate) struct Vector {
     pub(crate) kind: Kind,
     pub(crate) octets: Vec<u8>,

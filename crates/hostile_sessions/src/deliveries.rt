@@ -3,17 +3,17 @@
 use crate::as_exchange;
 use crate::ends::{Ends, params};
 use crate::states::{STATES, State, Turns};
-use crate::turns::{Fits, Wanted};
+use crate::turns::{Fits, ROWS, Wanted};
 use atr_core::T1Params;
-use block_core::{BlockReason, decode, encode};
+use block_core::{Block, BlockReason, decode, encode};
 use exchange_core::Exchange;
-use octet_core::Stop;
-use std::alloc::Global;
+use octet_core::{Stop, hex_upper};
+use std::alloc::{AllocError, Global};
 use t1_core::{Card, CardFault, CardTurn, Terminal, TerminalFault, TerminalTurn};
 use testing::{Case, Fault, Share, Size, of_hex, with_octet};
 
 /// What octets are to an end.
-#[derive(Clone, Copy, Debug, PartialEq, Eq)]
+#[derive(Clone, Copy)]
 enum Class {
     Block,
     Damaged,
@@ -58,7 +58,7 @@ const BLOCKS: [&str; 20] = [
 ];
 
 /// How many deliveries there were.
-#[derive(Clone, Copy, Debug, Default)]
+#[derive(Clone, Copy, Default)]
 struct Delivered {
     blocks: u64,
     damaged: u64,
@@ -92,9 +92,9 @@ impl Delivered {
 }
 
 /// A state, and how it is reached.
-#[derive(Debug, Drop)]
+#[derive(Drop)]
 struct Reached {
-    state: State,
+    state: &'static State,
     exchange: Exchange,
     params: T1Params,
 }
@@ -104,7 +104,7 @@ struct Reached {
 /// whole exchange passes.
 pub(crate) fn deliver_each(alloc: Global, share: Share) -> Result<String, Fault> {
     let mut delivered = Delivered::default();
-    let states: &[State] = &STATES;
+    let states: &'static [State] = &STATES;
     let count = share.most(states.len());
     for state in states.iter().take(count) {
         delivered = deliver_in(alloc, state, share, delivered)?;
@@ -115,28 +115,44 @@ pub(crate) fn deliver_each(alloc: Global, share: Share) -> Result<String, Fault>
 /// Each block is delivered in a state.
 fn deliver_in(
     alloc: Global,
-    state: &State,
+    state: &'static State,
     share: Share,
     delivered: Delivered,
 ) -> Result<Delivered, Fault> {
     let reached = way_to(alloc, state)?;
+    deliver_blocks(alloc, &reached, share, delivered)
+}
+
+/// Each block is delivered in a state that is reached so.
+fn deliver_blocks(
+    alloc: Global,
+    reached: &Reached,
+    share: Share,
+    delivered: Delivered,
+) -> Result<Delivered, Fault> {
     let mut delivered = delivered;
     let blocks: &[&str] = &BLOCKS;
     for &block in blocks.iter().take(share.most(blocks.len())) {
-        delivered = deliver_text(alloc, &reached, block, share, delivered)?;
+        delivered = deliver_text(alloc, reached, block, share, delivered)?;
     }
     Ok(delivered)
 }
 
 /// How a state is reached.
-fn way_to(alloc: Global, state: &State) -> Result<Reached, Fault> {
-    let text = joined(alloc, HEAD, state.text)?;
-    let exchange = as_exchange(alloc, text.as_bytes())?;
+fn way_to(alloc: Global, state: &'static State) -> Result<Reached, Fault> {
+    let exchange = exchange_of(alloc, state.text)?;
+    let params = params(&exchange)?;
     Ok(Reached {
-        state: *state,
-        params: params(&exchange)?,
+        state,
         exchange,
+        params,
     })
+}
+
+/// The exchange with these lines after the answer to reset.
+fn exchange_of(alloc: Global, lines: &str) -> Result<Exchange, Fault> {
+    let text = joined(alloc, HEAD, lines)?;
+    as_exchange(alloc, text.as_bytes())
 }
 
 /// Two texts as one.
@@ -166,12 +182,27 @@ fn deliver(
 ) -> Result<Delivered, Fault> {
     let mut delivered = to_both(alloc, reached, block, 0, delivered)?;
     for place in 0..block.len() {
-        for value in 0..=255u8 {
-            let is_tried = share.has(place) && share.has(usize::from(value));
-            if is_tried && block.get(place) != Some(&value) {
-                let octets = with_octet(alloc, block, place, value)?;
-                delivered = to_both(alloc, reached, octets.as_slice(), place, delivered)?;
-            }
+        if share.has(place) {
+            delivered = deliver_changed(alloc, reached, block, place, share, delivered)?;
+        }
+    }
+    Ok(delivered)
+}
+
+/// A block is delivered in a state, with the octet at a place set to each other value.
+fn deliver_changed(
+    alloc: Global,
+    reached: &Reached,
+    block: &[u8],
+    place: usize,
+    share: Share,
+    delivered: Delivered,
+) -> Result<Delivered, Fault> {
+    let mut delivered = delivered;
+    for value in 0..=255u8 {
+        if share.has(usize::from(value)) && block.get(place) != Some(&value) {
+            let octets = with_octet(alloc, block, place, value)?;
+            delivered = to_both(alloc, reached, octets.as_slice(), place, delivered)?;
         }
     }
     Ok(delivered)
@@ -223,94 +254,126 @@ fn to_terminal(
     octets: &[u8],
     place: usize,
 ) -> Result<Class, Fault> {
-    let mut ends = reached.ends(alloc)?;
-    let class = class_of(octets, reached.state.ifsd);
-    let turn = ends.terminal.received(octets);
-    let is_right = is_terminal(&turn, wanted(&reached.state.terminal, class, octets));
+    let state = reached.state;
+    let class = class_of(octets, state.ifsd);
+    let wanted = wanted(alloc, &state.terminal, class, octets)?;
     let case = Case {
-        what: reached.state.name,
+        what: state.name,
         octets,
         place,
         piece: 0,
     };
-    let mut card = Card::new(alloc, reached.params)?;
-    case.expect(
-        alloc,
-        is_right && is_terminal_usable(&mut ends.terminal, &mut card),
-    )?;
+    case.expect(alloc, does_terminal(alloc, reached, octets, wanted)?)?;
     Ok(class)
+}
+
+/// Whether the terminal does what is wanted with octets, and is usable after that.
+fn does_terminal(
+    alloc: Global,
+    reached: &Reached,
+    octets: &[u8],
+    wanted: Wanted,
+) -> Result<bool, Fault> {
+    let mut ends = reached.ends(alloc)?;
+    let mut card = Card::new(alloc, reached.params)?;
+    let is_right = is_terminal(alloc, &ends.terminal.received(octets), wanted)?;
+    Ok(is_right && is_terminal_usable(&mut ends.terminal, &mut card))
 }
 
 /// The octets come to the card.
 fn to_card(alloc: Global, reached: &Reached, octets: &[u8], place: usize) -> Result<Class, Fault> {
-    let mut ends = reached.ends(alloc)?;
+    let state = reached.state;
     let class = class_of(octets, Size::Two);
-    let turn = ends.card.received(octets);
-    let is_right = is_card(&turn, wanted(&reached.state.card, class, octets));
+    let wanted = wanted(alloc, &state.card, class, octets)?;
     let case = Case {
-        what: reached.state.name,
+        what: state.name,
         octets,
         place,
         piece: 1,
     };
-    let mut terminal = Terminal::new(alloc, reached.params)?;
-    case.expect(
-        alloc,
-        is_right && is_card_usable(&mut terminal, &mut ends.card),
-    )?;
+    case.expect(alloc, does_card(alloc, reached, octets, wanted)?)?;
     Ok(class)
 }
 
+/// Whether the card does what is wanted with octets, and is usable after that.
+fn does_card(
+    alloc: Global,
+    reached: &Reached,
+    octets: &[u8],
+    wanted: Wanted,
+) -> Result<bool, Fault> {
+    let mut ends = reached.ends(alloc)?;
+    let mut terminal = Terminal::new(alloc, reached.params)?;
+    let is_right = is_card(alloc, &ends.card.received(octets), wanted)?;
+    Ok(is_right && is_card_usable(&mut terminal, &mut ends.card))
+}
+
+/// Octets in hexadecimal. It has no contract, so that its callers carry none.
+fn text_of(alloc: Global, octets: &[u8]) -> Result<String, AllocError> {
+    hex_upper(alloc, octets)
+}
+
 /// What an end is to make of octets.
-fn wanted(turns: &Turns, class: Class, octets: &[u8]) -> Wanted {
+fn wanted(alloc: Global, turns: &Turns, class: Class, octets: &[u8]) -> Result<Wanted, AllocError> {
     match class {
-        Class::Block => fitting(turns, octets),
-        Class::Damaged => turns.damaged,
-        Class::Invalid => turns.other,
+        Class::Block => Ok(fitting(turns, text_of(alloc, octets)?.as_str())),
+        Class::Damaged => Ok(turns.damaged),
+        Class::Invalid => Ok(turns.other),
     }
 }
 
-/// What an end is to make of a whole block.
-fn fitting(turns: &Turns, octets: &[u8]) -> Wanted {
+/// What an end is to make of a whole block, in hexadecimal.
+fn fitting(turns: &Turns, block: &str) -> Wanted {
     let [first, second] = turns.fits;
-    match (found(first, octets), found(second, octets)) {
+    match (found(first, block), found(second, block)) {
         (Some(wanted), _) | (None, Some(wanted)) => wanted,
         (None, None) => turns.other,
     }
 }
 
 /// What comes of a block among those that fit.
-fn found(fits: Fits, octets: &[u8]) -> Option<Wanted> {
-    for (block, wanted) in fits {
-        if *block == octets {
-            return Some(*wanted);
+fn found(fits: Fits, block: &str) -> Option<Wanted> {
+    for &(of, fitting, wanted) in &ROWS {
+        if of == fits && fitting == block {
+            return Some(wanted);
         }
     }
     None
 }
 
+/// Whether a block has these octets, in hexadecimal.
+fn is_block(alloc: Global, block: &Block, text: &str) -> Result<bool, AllocError> {
+    Ok(text_of(alloc, encode(block).as_slice())?.as_str() == text)
+}
+
 /// Whether a turn of the terminal is the one that is wanted.
-fn is_terminal(turn: &Result<TerminalTurn, TerminalFault>, wanted: Wanted) -> bool {
+fn is_terminal(
+    alloc: Global,
+    turn: &Result<TerminalTurn, TerminalFault>,
+    wanted: Wanted,
+) -> Result<bool, AllocError> {
     match (turn, wanted) {
-        (Ok(TerminalTurn::Send(block)), Wanted::Sends(octets)) => {
-            encode(block).as_slice() == octets
-        }
+        (Ok(TerminalTurn::Send(block)), Wanted::Sends(text)) => is_block(alloc, block, text),
         (Ok(TerminalTurn::Answered), Wanted::Answered)
         | (Ok(TerminalTurn::IfsSet), Wanted::IfsSet)
         | (Ok(TerminalTurn::GivenUp), Wanted::GivenUp)
-        | (Ok(TerminalTurn::Dead), Wanted::Dies) => true,
-        (Err(fault), Wanted::Terminal(wanted)) => *fault == wanted,
-        _ => false,
+        | (Ok(TerminalTurn::Dead), Wanted::Dies) => Ok(true),
+        (Err(fault), Wanted::Terminal(wanted)) => Ok(*fault == wanted),
+        _ => Ok(false),
     }
 }
 
 /// Whether a turn of the card is the one that is wanted.
-fn is_card(turn: &Result<CardTurn, CardFault>, wanted: Wanted) -> bool {
+fn is_card(
+    alloc: Global,
+    turn: &Result<CardTurn, CardFault>,
+    wanted: Wanted,
+) -> Result<bool, AllocError> {
     match (turn, wanted) {
-        (Ok(CardTurn::Send(block)), Wanted::Sends(octets)) => encode(block).as_slice() == octets,
-        (Ok(CardTurn::Asked), Wanted::Asked) => true,
-        (Err(fault), Wanted::Card(wanted)) => *fault == wanted,
-        _ => false,
+        (Ok(CardTurn::Send(block)), Wanted::Sends(text)) => is_block(alloc, block, text),
+        (Ok(CardTurn::Asked), Wanted::Asked) => Ok(true),
+        (Err(fault), Wanted::Card(wanted)) => Ok(*fault == wanted),
+        _ => Ok(false),
     }
 }
 
@@ -350,16 +413,23 @@ fn is_card_usable(terminal: &mut Terminal, card: &mut Card) -> bool {
 
 /// Whether a command passes from an idle terminal to the card, and its reply back.
 fn is_exchanged(terminal: &mut Terminal, card: &mut Card) -> bool {
-    let Ok(TerminalTurn::Send(sent)) = terminal.transmit(&COMMAND) else {
-        return false;
-    };
-    let asked = card.received(encode(&sent).as_slice());
-    if asked != Ok(CardTurn::Asked) || card.command() != Some(COMMAND.as_slice()) {
-        return false;
+    match terminal.transmit(&COMMAND) {
+        Ok(TerminalTurn::Send(sent)) if is_asked(card, &sent) => match card.reply(&REPLY) {
+            Ok(CardTurn::Send(back)) => is_answered(terminal, &back),
+            _ => false,
+        },
+        _ => false,
     }
-    let Ok(CardTurn::Send(back)) = card.reply(&REPLY) else {
-        return false;
-    };
-    let answered = terminal.received(encode(&back).as_slice());
-    answered == Ok(TerminalTurn::Answered) && terminal.answer() == Some(REPLY.as_slice())
+}
+
+/// Whether a block brings the card's host the command.
+fn is_asked(card: &mut Card, sent: &Block) -> bool {
+    card.received(encode(sent).as_slice()) == Ok(CardTurn::Asked)
+        && card.command() == Some(COMMAND.as_slice())
+}
+
+/// Whether a block brings the terminal the reply.
+fn is_answered(terminal: &mut Terminal, back: &Block) -> bool {
+    terminal.received(encode(back).as_slice()) == Ok(TerminalTurn::Answered)
+        && terminal.answer() == Some(REPLY.as_slice())
 }

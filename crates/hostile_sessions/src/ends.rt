@@ -8,7 +8,7 @@ use t1_core::{Card, CardFault, CardTurn, Terminal, TerminalFault, TerminalTurn};
 use testing::Fault;
 
 /// Both ends, and the last turn of each.
-#[derive(Debug, Drop)]
+#[derive(Drop)]
 pub(crate) struct Ends {
     pub(crate) terminal: Terminal,
     pub(crate) card: Card,
@@ -17,7 +17,7 @@ pub(crate) struct Ends {
 }
 
 /// What a terminal waits for.
-#[derive(Clone, Copy, Debug, PartialEq, Eq)]
+#[derive(Drop)]
 pub(crate) enum Waits {
     /// For a call of its application.
     Idle,
@@ -103,14 +103,15 @@ impl Ends {
 
     /// Whether the last turn is the word to a host that a line says.
     fn has_given(&self, line: &Line) -> bool {
-        match (line, &self.terminal_turn) {
-            (Line::Answer(answer), Some(TerminalTurn::Answered)) => {
-                self.terminal.answer() == Some(answer.get())
+        match line {
+            Line::Answer(answer) => {
+                matches!(&self.terminal_turn, Some(TerminalTurn::Answered))
+                    && self.terminal.answer() == Some(answer.get())
             }
-            (Line::IfsSet, Some(TerminalTurn::IfsSet))
-            | (Line::GivenUp, Some(TerminalTurn::GivenUp))
-            | (Line::Dead, Some(TerminalTurn::Dead)) => true,
-            (Line::Asked(command), _) => {
+            Line::IfsSet => matches!(&self.terminal_turn, Some(TerminalTurn::IfsSet)),
+            Line::GivenUp => matches!(&self.terminal_turn, Some(TerminalTurn::GivenUp)),
+            Line::Dead => matches!(&self.terminal_turn, Some(TerminalTurn::Dead)),
+            Line::Asked(command) => {
                 self.is_hosts_turn() && self.card.command() == Some(command.get())
             }
             _ => false,

@@ -6,7 +6,7 @@ use std::alloc::Global;
 use testing::{Case, Fault, Share, with_octet};
 
 /// What was said of files.
-#[derive(Clone, Copy, Debug, Default)]
+#[derive(Clone, Copy, Default)]
 struct Said {
     read: u64,
     faults: u64,
@@ -19,15 +19,7 @@ struct Said {
 pub(crate) fn spoil_each(alloc: Global, files: &[Vec<u8>], share: Share) -> Result<String, Fault> {
     let mut said = Said::default();
     for file in files.iter().take(share.most(files.len())) {
-        said = judged(alloc, file.as_slice(), file.len(), said)?;
-        for place in 0..file.len() {
-            if share.has(place) {
-                let (front, rest) = file.as_slice().split_at(place);
-                said = judged(alloc, front, place, said)?;
-                said = without_first(alloc, front, rest, said)?;
-                said = changed(alloc, file.as_slice(), place, share, said)?;
-            }
-        }
+        said = spoil(alloc, file.as_slice(), share, said)?;
     }
     let Said {
         read,
@@ -38,6 +30,31 @@ pub(crate) fn spoil_each(alloc: Global, files: &[Vec<u8>], share: Share) -> Resu
         "files: {faults} faults, {read} read and written again, \
         of which {replayed} replay at both ends"
     )?)
+}
+
+/// A file as it is, and spoilt at each place.
+fn spoil(alloc: Global, file: &[u8], share: Share, said: Said) -> Result<Said, Fault> {
+    let mut said = judged(alloc, file, file.len(), said)?;
+    for place in 0..file.len() {
+        if share.has(place) {
+            said = spoil_at(alloc, file, place, share, said)?;
+        }
+    }
+    Ok(said)
+}
+
+/// A file with all from a place on gone, without the octet there, and with that octet changed.
+fn spoil_at(
+    alloc: Global,
+    file: &[u8],
+    place: usize,
+    share: Share,
+    said: Said,
+) -> Result<Said, Fault> {
+    let (front, rest) = file.split_at_checked(place).unwrap_or((file, &[]));
+    let said = judged(alloc, front, place, said)?;
+    let said = without_first(alloc, front, rest, said)?;
+    changed(alloc, file, place, share, said)
 }
 
 /// A file without the first octet of its rest.

@@ -61,13 +61,19 @@ fn tell_each(rt: &HostRuntime) -> Result<(), Fault> {
     let alloc = rt.alloc();
     let files = sessions::files(rt)?;
     let sessions = sessions::sessions(alloc, files.as_slice())?;
+    tell_of(rt, files.as_slice(), sessions.as_slice())
+}
+
+/// Prints the line of each list, where the files are these.
+fn tell_of(rt: &HostRuntime, files: &[Vec<u8>], sessions: &[Exchange]) -> Result<(), Fault> {
+    let alloc = rt.alloc();
     let share = asked(rt)?;
-    tell(rt, refusals::refuse_each(alloc, sessions.as_slice(), share))?;
+    tell(rt, refusals::refuse_each(alloc, sessions, share))?;
     tell(rt, records::refuse_each(alloc, share))?;
     tell(rt, deliveries::deliver_each(alloc, share))?;
     tell(rt, pairs::disturb_each(alloc, share))?;
     tell(rt, drawn::draw_each(alloc, share))?;
-    tell(rt, files::spoil_each(alloc, files.as_slice(), share))
+    tell(rt, files::spoil_each(alloc, files, share))
 }
 
 /// Prints the line of a list.

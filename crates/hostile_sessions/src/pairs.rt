@@ -33,14 +33,14 @@ const MOST_EVENTS: u32 = 1_000;
 const WAYS: [Event<'static>; 3] = [Event::Lose, Event::Damage, Event::Spoil];
 
 /// The block of a session with this number, from 1, and what happens to it.
-#[derive(Clone, Copy, Debug)]
+#[derive(Clone, Copy)]
 struct Disturbance {
     number: u32,
     event: Event<'static>,
 }
 
 /// How many sessions there were, and how many of them came to the answer.
-#[derive(Clone, Copy, Debug, Default)]
+#[derive(Clone, Copy, Default)]
 struct Disturbed {
     sessions: u64,
     answered: u64,

@@ -132,20 +132,18 @@ fn refused_after(
     event: Event<'_>,
 ) -> Result<Option<Vec<u8>>, Fault> {
     let mut recorder = recorder(alloc, &ATR)?;
-    if is_taken_after(&mut recorder, before, event)? {
-        return Ok(None);
-    }
-    Ok(Some(text(alloc, recorder)?))
+    let is_refused = is_refused_after(&mut recorder, before, event);
+    text_where(alloc, recorder, is_refused)
 }
 
-/// Whether events are taken, and the one after them.
-fn is_taken_after(
+/// Whether an event after others is refused, or one of these.
+fn is_refused_after(
     recorder: &mut Recorder,
     before: &[Event<'_>],
     event: Event<'_>,
 ) -> Result<bool, Fault> {
     let is_begun = are_taken(recorder, before)?;
-    Ok(is_taken(recorder, event)? && is_begun)
+    Ok(!is_taken(recorder, event)? || !is_begun)
 }
 
 /// Whether a session is recorded as without an event that is refused before the event at `place`.
@@ -209,6 +207,19 @@ fn are_taken(recorder: &mut Recorder, events: &[Event<'_>]) -> Result<bool, Faul
     Ok(true)
 }
 
+/// The text of a record where something is so, and else nothing.
+fn text_where(
+    alloc: Global,
+    recorder: Recorder,
+    is_so: Result<bool, Fault>,
+) -> Result<Option<Vec<u8>>, Fault> {
+    if is_so? {
+        Ok(Some(text(alloc, recorder)?))
+    } else {
+        Ok(None)
+    }
+}
+
 /// The text of a record.
 fn text(alloc: Global, recorder: Recorder) -> Result<Vec<u8>, Fault> {
     Ok(write_exchange(alloc, &recorder.exchange()?)?)
@@ -217,10 +228,8 @@ fn text(alloc: Global, recorder: Recorder) -> Result<Vec<u8>, Fault> {
 /// The text of a session; nothing where not all its events are taken.
 fn told(alloc: Global, events: &[Event<'_>]) -> Result<Option<Vec<u8>>, Fault> {
     let mut recorder = recorder(alloc, &ATR)?;
-    if !are_taken(&mut recorder, events)? {
-        return Ok(None);
-    }
-    Ok(Some(text(alloc, recorder)?))
+    let are_taken = are_taken(&mut recorder, events);
+    text_where(alloc, recorder, are_taken)
 }
 
 /// The text of a session in two parts, with an event between them that isn't taken; nothing where it is, or not all
@@ -232,10 +241,8 @@ fn told_past(
     after: &[Event<'_>],
 ) -> Result<Option<Vec<u8>>, Fault> {
     let mut recorder = recorder(alloc, &ATR)?;
-    if !are_taken_around(&mut recorder, before, event, after)? {
-        return Ok(None);
-    }
-    Ok(Some(text(alloc, recorder)?))
+    let are_taken = are_taken_around(&mut recorder, before, event, after);
+    text_where(alloc, recorder, are_taken)
 }
 
 /// Whether events are taken, and one between them isn't.

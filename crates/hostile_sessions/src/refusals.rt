@@ -1,13 +1,13 @@
 //! Calls that an end refuses, within sessions.
 
 use crate::ends::{Ends, Waits, params};
-use exchange_core::Exchange;
+use exchange_core::{Exchange, Line};
 use std::alloc::Global;
 use t1_core::{CardFault, TerminalFault};
 use testing::{Case, Fault, Share};
 
 /// A call of an end that is refused in some state.
-#[derive(Clone, Copy, Debug, PartialEq, Eq)]
+#[derive(Clone, Copy)]
 enum Call {
     ToTerminal,
     Quiet,
@@ -22,7 +22,7 @@ enum Call {
 }
 
 /// Why a call is refused.
-#[derive(Clone, Copy, Debug, PartialEq, Eq)]
+#[derive(PartialEq, Drop)]
 enum Refused {
     Terminal(TerminalFault),
     Card(CardFault),
@@ -47,7 +47,7 @@ const CALLS: [Call; 14] = [
 
 /// What is handed to the calls: a block, a short command or reply, and octets of which there are
 /// too many for either.
-#[derive(Clone, Copy, Debug)]
+#[derive(Clone, Copy)]
 struct Handed<'a> {
     block: &'a [u8],
     short: &'a [u8],
@@ -68,20 +68,42 @@ pub(crate) fn refuse_each(
         long: long.as_slice(),
     };
     let count = share.most(sessions.len());
-    let mut refused = 0u64;
-    for session in sessions.iter().take(count) {
-        let lines = session.lines().get();
-        for place in 0..=lines.len() {
-            for &call in &CALLS {
-                if is_put(alloc, session, place, call, handed)? {
-                    refused = refused.saturating_add(1);
-                }
-            }
-        }
-    }
+    let refused = refused_in_each(alloc, sessions, count, handed)?;
     Ok(format!(in alloc;
         "refused: {refused} calls within {count} sessions, which went on unchanged"
     )?)
+}
+
+/// How many calls are refused within the first so many sessions.
+fn refused_in_each(
+    alloc: Global,
+    sessions: &[Exchange],
+    count: usize,
+    handed: Handed<'_>,
+) -> Result<u64, Fault> {
+    let mut refused = 0u64;
+    for session in sessions.iter().take(count) {
+        for place in 0..=session.lines().get().len() {
+            refused = refused.saturating_add(refused_at(alloc, session, place, handed)?);
+        }
+    }
+    Ok(refused)
+}
+
+/// How many calls are refused before the line at `place` of a session.
+fn refused_at(
+    alloc: Global,
+    session: &Exchange,
+    place: usize,
+    handed: Handed<'_>,
+) -> Result<u64, Fault> {
+    let mut refused = 0u64;
+    for &call in &CALLS {
+        if is_put(alloc, session, place, call, handed)? {
+            refused = refused.saturating_add(1);
+        }
+    }
+    Ok(refused)
 }
 
 /// Whether a call is refused before the line at `place`; where it is, all else is as it was.
@@ -96,19 +118,32 @@ fn is_put(
         return Ok(false);
     };
     let mut ends = Ends::new(alloc, params(session)?)?;
-    let is_followed = ends.follow(before);
-    let Some(wanted) = wanted(&ends, call) else {
+    let Some(is_right) = goes_on(&mut ends, before, call, handed, after) else {
         return Ok(false);
     };
-    let is_refused = refusal_of(&mut ends, call, handed) == Some(wanted);
     let case = Case {
         what: "a refused call within a session",
         octets: session.atr(),
         place,
         piece: after.len(),
     };
-    case.expect(alloc, is_followed && is_refused && ends.follow(after))?;
+    case.expect(alloc, is_right)?;
     Ok(true)
+}
+
+/// Whether a call between lines is refused as it should, and the ends do what the lines say; nothing where the call
+/// isn't one that is refused there.
+fn goes_on(
+    ends: &mut Ends,
+    before: &[Line],
+    call: Call,
+    handed: Handed<'_>,
+    after: &[Line],
+) -> Option<bool> {
+    let is_followed = ends.follow(before);
+    let wanted = wanted(ends, call)?;
+    let is_refused = refusal_of(ends, call, handed) == Some(wanted);
+    Some(is_followed && is_refused && ends.follow(after))
 }
 
 /// Why a call is refused in this state, none where it isn't.

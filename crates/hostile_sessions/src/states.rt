@@ -1,14 +1,10 @@
 //! The states of both ends: how they are reached, and what each end then makes of what comes.
 
-use crate::turns::{
-    ACK, ACK_AT_LAST, ANSWER, ANSWER_AT_LAST, BEGUN_ANEW, Fits, GIVEN_UP, GRANTED, JOINING, MORE,
-    REPLY, SAVED, SERVED, SIZE_SET, START_CARD, TIME_GRANTED, Wanted,
-};
+use crate::turns::{Fits, Wanted};
 use t1_core::{CardFault, TerminalFault};
 use testing::Size;
 
 /// What an end makes of what comes.
-#[derive(Clone, Copy, Debug)]
 pub(crate) struct Turns {
     /// Blocks that fit.
     pub(crate) fits: [Fits; 2],
@@ -19,7 +15,6 @@ pub(crate) struct Turns {
 }
 
 /// A state of both ends, after the lines of an exchange.
-#[derive(Clone, Copy, Debug)]
 pub(crate) struct State {
     /// The states of the terminal and the card that are new in it.
     pub(crate) name: &'static str,
@@ -32,30 +27,28 @@ pub(crate) struct State {
 }
 
 /// R-blocks with a redundancy error and another error, for the numbers 0 and 1.
-const DAMAGED_0: Wanted = Wanted::Sends(&[0x00, 0x81, 0x00, 0x81]);
+const DAMAGED_0: Wanted = Wanted::Sends("00810081");
 
-const INVALID_0: Wanted = Wanted::Sends(&[0x00, 0x82, 0x00, 0x82]);
+const INVALID_0: Wanted = Wanted::Sends("00820082");
 
-const DAMAGED_1: Wanted = Wanted::Sends(&[0x00, 0x91, 0x00, 0x91]);
+const DAMAGED_1: Wanted = Wanted::Sends("00910091");
 
-const INVALID_1: Wanted = Wanted::Sends(&[0x00, 0x92, 0x00, 0x92]);
+const INVALID_1: Wanted = Wanted::Sends("00920092");
 
 /// Requests: RESYNCH, IFS with 2 and with 254, WTX.
-const RESYNCH: Wanted = Wanted::Sends(&[0x00, 0xC0, 0x00, 0xC0]);
+const RESYNCH: Wanted = Wanted::Sends("00C000C0");
 
-const ASKED_SIZE: Wanted = Wanted::Sends(&[0x00, 0xC1, 0x01, 0x02, 0xC2]);
+const ASKED_SIZE: Wanted = Wanted::Sends("00C10102C2");
 
-const ASKED_LARGEST: Wanted = Wanted::Sends(&[0x00, 0xC1, 0x01, 0xFE, 0x3E]);
+const ASKED_LARGEST: Wanted = Wanted::Sends("00C101FE3E");
 
-const ASKED_TIME: Wanted = Wanted::Sends(&[0x00, 0xC3, 0x01, 0x01, 0xC3]);
+const ASKED_TIME: Wanted = Wanted::Sends("00C30101C3");
 
 const IDLE: Wanted = Wanted::Terminal(TerminalFault::Idle);
 
 const DEAD: Wanted = Wanted::Terminal(TerminalFault::Dead);
 
 const ORDER: Wanted = Wanted::Card(CardFault::Order);
-
-const NONE: Fits = &[];
 
 /// Each state of the terminal, with its failures in a row, and each of the card.
 pub(crate) static STATES: [State; 17] = [
@@ -64,12 +57,12 @@ pub(crate) static STATES: [State; 17] = [
         text: "",
         ifsd: Size::ThirtyTwo,
         terminal: Turns {
-            fits: [NONE, NONE],
+            fits: [Fits::Nothing, Fits::Nothing],
             damaged: IDLE,
             other: IDLE,
         },
         card: Turns {
-            fits: [START_CARD, SERVED],
+            fits: [Fits::StartCard, Fits::Served],
             damaged: DAMAGED_0,
             other: INVALID_0,
         },
@@ -79,12 +72,12 @@ pub(crate) static STATES: [State; 17] = [
         text: "command 00A4040000\n",
         ifsd: Size::ThirtyTwo,
         terminal: Turns {
-            fits: [GRANTED, ACK],
+            fits: [Fits::Granted, Fits::Ack],
             damaged: DAMAGED_0,
             other: INVALID_0,
         },
         card: Turns {
-            fits: [START_CARD, SERVED],
+            fits: [Fits::StartCard, Fits::Served],
             damaged: DAMAGED_0,
             other: INVALID_0,
         },
@@ -100,12 +93,12 @@ t 00800080 lost\n\
 quiet\n",
         ifsd: Size::ThirtyTwo,
         terminal: Turns {
-            fits: [GRANTED, ACK_AT_LAST],
+            fits: [Fits::Granted, Fits::AckAtLast],
             damaged: RESYNCH,
             other: RESYNCH,
         },
         card: Turns {
-            fits: [START_CARD, SERVED],
+            fits: [Fits::StartCard, Fits::Served],
             damaged: DAMAGED_0,
             other: INVALID_0,
         },
@@ -115,12 +108,12 @@ quiet\n",
         text: "command 00A4\n",
         ifsd: Size::ThirtyTwo,
         terminal: Turns {
-            fits: [GRANTED, ANSWER],
+            fits: [Fits::Granted, Fits::Answer],
             damaged: DAMAGED_0,
             other: INVALID_0,
         },
         card: Turns {
-            fits: [START_CARD, SERVED],
+            fits: [Fits::StartCard, Fits::Served],
             damaged: DAMAGED_0,
             other: INVALID_0,
         },
@@ -136,12 +129,12 @@ t 00800080 lost\n\
 quiet\n",
         ifsd: Size::ThirtyTwo,
         terminal: Turns {
-            fits: [GRANTED, ANSWER_AT_LAST],
+            fits: [Fits::Granted, Fits::AnswerAtLast],
             damaged: RESYNCH,
             other: RESYNCH,
         },
         card: Turns {
-            fits: [START_CARD, SERVED],
+            fits: [Fits::StartCard, Fits::Served],
             damaged: DAMAGED_0,
             other: INVALID_0,
         },
@@ -159,12 +152,12 @@ reply AABB9000\n\
 c 002002AABB33\n",
         ifsd: Size::Two,
         terminal: Turns {
-            fits: [GRANTED, MORE],
+            fits: [Fits::Granted, Fits::More],
             damaged: DAMAGED_1,
             other: INVALID_1,
         },
         card: Turns {
-            fits: [REPLY, SERVED],
+            fits: [Fits::Reply, Fits::Served],
             damaged: DAMAGED_1,
             other: INVALID_1,
         },
@@ -174,12 +167,12 @@ c 002002AABB33\n",
         text: "ifsd 02\n",
         ifsd: Size::ThirtyTwo,
         terminal: Turns {
-            fits: [SIZE_SET, NONE],
+            fits: [Fits::SizeSet, Fits::Nothing],
             damaged: ASKED_SIZE,
             other: ASKED_SIZE,
         },
         card: Turns {
-            fits: [START_CARD, SERVED],
+            fits: [Fits::StartCard, Fits::Served],
             damaged: DAMAGED_0,
             other: INVALID_0,
         },
@@ -197,12 +190,12 @@ t 00800080 lost\n\
 quiet\n",
         ifsd: Size::ThirtyTwo,
         terminal: Turns {
-            fits: [GIVEN_UP, NONE],
+            fits: [Fits::GivenUp, Fits::Nothing],
             damaged: RESYNCH,
             other: RESYNCH,
         },
         card: Turns {
-            fits: [START_CARD, SERVED],
+            fits: [Fits::StartCard, Fits::Served],
             damaged: DAMAGED_0,
             other: INVALID_0,
         },
@@ -222,12 +215,12 @@ t 00C000C0 lost\n\
 quiet\n",
         ifsd: Size::ThirtyTwo,
         terminal: Turns {
-            fits: [GIVEN_UP, NONE],
+            fits: [Fits::GivenUp, Fits::Nothing],
             damaged: RESYNCH,
             other: RESYNCH,
         },
         card: Turns {
-            fits: [START_CARD, SERVED],
+            fits: [Fits::StartCard, Fits::Served],
             damaged: DAMAGED_0,
             other: INVALID_0,
         },
@@ -249,12 +242,12 @@ t 00C000C0 lost\n\
 quiet\n",
         ifsd: Size::ThirtyTwo,
         terminal: Turns {
-            fits: [GIVEN_UP, NONE],
+            fits: [Fits::GivenUp, Fits::Nothing],
             damaged: Wanted::Dies,
             other: Wanted::Dies,
         },
         card: Turns {
-            fits: [START_CARD, SERVED],
+            fits: [Fits::StartCard, Fits::Served],
             damaged: DAMAGED_0,
             other: INVALID_0,
         },
@@ -279,12 +272,12 @@ quiet\n\
 dead\n",
         ifsd: Size::ThirtyTwo,
         terminal: Turns {
-            fits: [NONE, NONE],
+            fits: [Fits::Nothing, Fits::Nothing],
             damaged: DEAD,
             other: DEAD,
         },
         card: Turns {
-            fits: [START_CARD, SERVED],
+            fits: [Fits::StartCard, Fits::Served],
             damaged: DAMAGED_0,
             other: INVALID_0,
         },
@@ -295,12 +288,12 @@ dead\n",
 t 00200200A486\n",
         ifsd: Size::ThirtyTwo,
         terminal: Turns {
-            fits: [GRANTED, ACK],
+            fits: [Fits::Granted, Fits::Ack],
             damaged: DAMAGED_0,
             other: INVALID_0,
         },
         card: Turns {
-            fits: [JOINING, SERVED],
+            fits: [Fits::Joining, Fits::Served],
             damaged: DAMAGED_1,
             other: INVALID_1,
         },
@@ -312,12 +305,12 @@ t 00000200A4A6\n\
 asked 00A4\n",
         ifsd: Size::ThirtyTwo,
         terminal: Turns {
-            fits: [GRANTED, ANSWER],
+            fits: [Fits::Granted, Fits::Answer],
             damaged: DAMAGED_0,
             other: INVALID_0,
         },
         card: Turns {
-            fits: [NONE, NONE],
+            fits: [Fits::Nothing, Fits::Nothing],
             damaged: ORDER,
             other: ORDER,
         },
@@ -330,12 +323,12 @@ asked 00A4\n\
 reply 9000\n",
         ifsd: Size::ThirtyTwo,
         terminal: Turns {
-            fits: [GRANTED, ANSWER],
+            fits: [Fits::Granted, Fits::Answer],
             damaged: DAMAGED_0,
             other: INVALID_0,
         },
         card: Turns {
-            fits: [SAVED, SERVED],
+            fits: [Fits::Saved, Fits::Served],
             damaged: DAMAGED_1,
             other: INVALID_1,
         },
@@ -348,12 +341,12 @@ asked 00A4\n\
 time 01\n",
         ifsd: Size::ThirtyTwo,
         terminal: Turns {
-            fits: [GRANTED, ANSWER],
+            fits: [Fits::Granted, Fits::Answer],
             damaged: DAMAGED_0,
             other: INVALID_0,
         },
         card: Turns {
-            fits: [TIME_GRANTED, BEGUN_ANEW],
+            fits: [Fits::TimeGranted, Fits::BegunAnew],
             damaged: ASKED_TIME,
             other: ASKED_TIME,
         },
@@ -366,12 +359,12 @@ asked 00A4\n\
 ifsc FE\n",
         ifsd: Size::ThirtyTwo,
         terminal: Turns {
-            fits: [GRANTED, ANSWER],
+            fits: [Fits::Granted, Fits::Answer],
             damaged: DAMAGED_0,
             other: INVALID_0,
         },
         card: Turns {
-            fits: [BEGUN_ANEW, NONE],
+            fits: [Fits::BegunAnew, Fits::Nothing],
             damaged: ASKED_LARGEST,
             other: ASKED_LARGEST,
         },
@@ -386,12 +379,12 @@ c 000002900092\n\
 answer 9000\n",
         ifsd: Size::ThirtyTwo,
         terminal: Turns {
-            fits: [NONE, NONE],
+            fits: [Fits::Nothing, Fits::Nothing],
             damaged: IDLE,
             other: IDLE,
         },
         card: Turns {
-            fits: [SAVED, SERVED],
+            fits: [Fits::Saved, Fits::Served],
             damaged: DAMAGED_1,
             other: INVALID_1,
         },

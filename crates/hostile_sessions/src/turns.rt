@@ -3,10 +3,10 @@
 use t1_core::{CardFault, TerminalFault};
 
 /// What an end makes of octets.
-#[derive(Clone, Copy, Debug)]
+#[derive(Clone, Copy)]
 pub(crate) enum Wanted {
-    /// It sends a block of these octets.
-    Sends(&'static [u8]),
+    /// It sends a block of these octets, in hexadecimal.
+    Sends(&'static str),
     Answered,
     IfsSet,
     GivenUp,
@@ -20,264 +20,113 @@ pub(crate) enum Wanted {
     Card(CardFault),
 }
 
-/// Blocks that fit a state, and what comes of each.
-pub(crate) type Fits = &'static [(&'static [u8], Wanted)];
+/// Which blocks fit a state.
+#[derive(Clone, Copy, PartialEq)]
+pub(crate) enum Fits {
+    /// None.
+    Nothing,
+    /// What a terminal that waits for the card grants it: sizes, and time.
+    Granted,
+    /// R-blocks in Ack: the first block of three again, or the next one.
+    Ack,
+    /// After three failures only the next one.
+    AckAtLast,
+    /// In Answer the block again, a question, and what the card's next block comes to.
+    Answer,
+    /// After three failures only that block.
+    AnswerAtLast,
+    /// In More a question, and what the card's next block comes to.
+    More,
+    /// The responses that are waited for.
+    SizeSet,
+    GivenUp,
+    TimeGranted,
+    /// What a card does outside its host's turn: sizes, and RESYNCH.
+    Served,
+    /// What it does while it asks.
+    BegunAnew,
+    /// A new card: a question, and the first block of a command.
+    StartCard,
+    /// After a block that has more after it.
+    Joining,
+    /// With a reply saved, which is sent again.
+    Saved,
+    /// Within a reply: its block again, or the next one.
+    Reply,
+}
 
-/// What a terminal that waits for the card grants it: sizes, and time.
-pub(crate) const GRANTED: Fits = &[
+/// The blocks that fit, in hexadecimal, and what comes of each.
+pub(crate) static ROWS: [(Fits, &str, Wanted); 64] = [
+    (Fits::Granted, "00C101FE3E", Wanted::Sends("00E101FE1E")),
+    (Fits::Granted, "00C10102C2", Wanted::Sends("00E10102E2")),
+    (Fits::Granted, "00C30101C3", Wanted::Sends("00E30101E3")),
+    (Fits::Ack, "00800080", Wanted::Sends("00200200A486")),
+    (Fits::Ack, "00810081", Wanted::Sends("00200200A486")),
+    (Fits::Ack, "00820082", Wanted::Sends("00200200A486")),
+    (Fits::Ack, "00900090", Wanted::Sends("006002040066")),
+    (Fits::AckAtLast, "00900090", Wanted::Sends("006002040066")),
+    (Fits::Answer, "00800080", Wanted::Sends("00000200A4A6")),
+    (Fits::Answer, "00810081", Wanted::Sends("00000200A4A6")),
+    (Fits::Answer, "00820082", Wanted::Sends("00000200A4A6")),
+    (Fits::Answer, "00900090", Wanted::Sends("00800080")),
+    (Fits::Answer, "00200200A486", Wanted::Sends("00900090")),
+    (Fits::Answer, "002002AABB33", Wanted::Sends("00900090")),
+    (Fits::Answer, "00000500A4040000A5", Wanted::Answered),
+    (Fits::Answer, "0000010001", Wanted::Answered),
+    (Fits::Answer, "000002900092", Wanted::Answered),
+    (Fits::Answer, "00000500B0000002B7", Wanted::Answered),
     (
-        &[0x00, 0xC1, 0x01, 0xFE, 0x3E],
-        Wanted::Sends(&[0x00, 0xE1, 0x01, 0xFE, 0x1E]),
+        Fits::AnswerAtLast,
+        "00200200A486",
+        Wanted::Sends("00900090"),
     ),
     (
-        &[0x00, 0xC1, 0x01, 0x02, 0xC2],
-        Wanted::Sends(&[0x00, 0xE1, 0x01, 0x02, 0xE2]),
+        Fits::AnswerAtLast,
+        "002002AABB33",
+        Wanted::Sends("00900090"),
     ),
-    (
-        &[0x00, 0xC3, 0x01, 0x01, 0xC3],
-        Wanted::Sends(&[0x00, 0xE3, 0x01, 0x01, 0xE3]),
-    ),
-];
-
-/// R-blocks in Ack: the first block of three again, or the next one.
-pub(crate) const ACK: Fits = &[
-    (
-        &[0x00, 0x80, 0x00, 0x80],
-        Wanted::Sends(&[0x00, 0x20, 0x02, 0x00, 0xA4, 0x86]),
-    ),
-    (
-        &[0x00, 0x81, 0x00, 0x81],
-        Wanted::Sends(&[0x00, 0x20, 0x02, 0x00, 0xA4, 0x86]),
-    ),
-    (
-        &[0x00, 0x82, 0x00, 0x82],
-        Wanted::Sends(&[0x00, 0x20, 0x02, 0x00, 0xA4, 0x86]),
-    ),
-    (
-        &[0x00, 0x90, 0x00, 0x90],
-        Wanted::Sends(&[0x00, 0x60, 0x02, 0x04, 0x00, 0x66]),
-    ),
-];
-
-/// After three failures only the next one.
-pub(crate) const ACK_AT_LAST: Fits = &[(
-    &[0x00, 0x90, 0x00, 0x90],
-    Wanted::Sends(&[0x00, 0x60, 0x02, 0x04, 0x00, 0x66]),
-)];
-
-/// In Answer the block again, a question, and what the card's next block comes to.
-pub(crate) const ANSWER: Fits = &[
-    (
-        &[0x00, 0x80, 0x00, 0x80],
-        Wanted::Sends(&[0x00, 0x00, 0x02, 0x00, 0xA4, 0xA6]),
-    ),
-    (
-        &[0x00, 0x81, 0x00, 0x81],
-        Wanted::Sends(&[0x00, 0x00, 0x02, 0x00, 0xA4, 0xA6]),
-    ),
-    (
-        &[0x00, 0x82, 0x00, 0x82],
-        Wanted::Sends(&[0x00, 0x00, 0x02, 0x00, 0xA4, 0xA6]),
-    ),
-    (
-        &[0x00, 0x90, 0x00, 0x90],
-        Wanted::Sends(&[0x00, 0x80, 0x00, 0x80]),
-    ),
-    (
-        &[0x00, 0x20, 0x02, 0x00, 0xA4, 0x86],
-        Wanted::Sends(&[0x00, 0x90, 0x00, 0x90]),
-    ),
-    (
-        &[0x00, 0x20, 0x02, 0xAA, 0xBB, 0x33],
-        Wanted::Sends(&[0x00, 0x90, 0x00, 0x90]),
-    ),
-    (
-        &[0x00, 0x00, 0x05, 0x00, 0xA4, 0x04, 0x00, 0x00, 0xA5],
-        Wanted::Answered,
-    ),
-    (&[0x00, 0x00, 0x01, 0x00, 0x01], Wanted::Answered),
-    (&[0x00, 0x00, 0x02, 0x90, 0x00, 0x92], Wanted::Answered),
-    (
-        &[0x00, 0x00, 0x05, 0x00, 0xB0, 0x00, 0x00, 0x02, 0xB7],
-        Wanted::Answered,
-    ),
-];
-
-/// After three failures only that block.
-pub(crate) const ANSWER_AT_LAST: Fits = &[
-    (
-        &[0x00, 0x20, 0x02, 0x00, 0xA4, 0x86],
-        Wanted::Sends(&[0x00, 0x90, 0x00, 0x90]),
-    ),
-    (
-        &[0x00, 0x20, 0x02, 0xAA, 0xBB, 0x33],
-        Wanted::Sends(&[0x00, 0x90, 0x00, 0x90]),
-    ),
-    (
-        &[0x00, 0x00, 0x05, 0x00, 0xA4, 0x04, 0x00, 0x00, 0xA5],
-        Wanted::Answered,
-    ),
-    (&[0x00, 0x00, 0x01, 0x00, 0x01], Wanted::Answered),
-    (&[0x00, 0x00, 0x02, 0x90, 0x00, 0x92], Wanted::Answered),
-    (
-        &[0x00, 0x00, 0x05, 0x00, 0xB0, 0x00, 0x00, 0x02, 0xB7],
-        Wanted::Answered,
-    ),
-];
-
-/// In More a question, and what the card's next block comes to.
-pub(crate) const MORE: Fits = &[
-    (
-        &[0x00, 0x80, 0x00, 0x80],
-        Wanted::Sends(&[0x00, 0x90, 0x00, 0x90]),
-    ),
-    (
-        &[0x00, 0x81, 0x00, 0x81],
-        Wanted::Sends(&[0x00, 0x90, 0x00, 0x90]),
-    ),
-    (
-        &[0x00, 0x82, 0x00, 0x82],
-        Wanted::Sends(&[0x00, 0x90, 0x00, 0x90]),
-    ),
-    (
-        &[0x00, 0x90, 0x00, 0x90],
-        Wanted::Sends(&[0x00, 0x90, 0x00, 0x90]),
-    ),
-    (
-        &[0x00, 0x60, 0x02, 0x04, 0x00, 0x66],
-        Wanted::Sends(&[0x00, 0x80, 0x00, 0x80]),
-    ),
-    (&[0x00, 0x40, 0x00, 0x40], Wanted::Answered),
-    (&[0x00, 0x40, 0x02, 0x90, 0x00, 0xD2], Wanted::Answered),
-];
-
-/// The responses that are waited for.
-pub(crate) const SIZE_SET: Fits = &[(&[0x00, 0xE1, 0x01, 0x02, 0xE2], Wanted::IfsSet)];
-
-pub(crate) const GIVEN_UP: Fits = &[(&[0x00, 0xE0, 0x00, 0xE0], Wanted::GivenUp)];
-
-pub(crate) const TIME_GRANTED: Fits = &[(&[0x00, 0xE3, 0x01, 0x01, 0xE3], Wanted::Asked)];
-
-/// What a card does outside its host's turn: sizes, and RESYNCH.
-pub(crate) const SERVED: Fits = &[
-    (
-        &[0x00, 0xC1, 0x01, 0xFE, 0x3E],
-        Wanted::Sends(&[0x00, 0xE1, 0x01, 0xFE, 0x1E]),
-    ),
-    (
-        &[0x00, 0xC1, 0x01, 0x02, 0xC2],
-        Wanted::Sends(&[0x00, 0xE1, 0x01, 0x02, 0xE2]),
-    ),
-    (
-        &[0x00, 0xC0, 0x00, 0xC0],
-        Wanted::Sends(&[0x00, 0xE0, 0x00, 0xE0]),
-    ),
-];
-
-/// What it does while it asks.
-pub(crate) const BEGUN_ANEW: Fits = &[(
-    &[0x00, 0xC0, 0x00, 0xC0],
-    Wanted::Sends(&[0x00, 0xE0, 0x00, 0xE0]),
-)];
-
-/// A new card: a question, and the first block of a command.
-pub(crate) const START_CARD: Fits = &[
-    (
-        &[0x00, 0x80, 0x00, 0x80],
-        Wanted::Sends(&[0x00, 0x80, 0x00, 0x80]),
-    ),
-    (
-        &[0x00, 0x81, 0x00, 0x81],
-        Wanted::Sends(&[0x00, 0x80, 0x00, 0x80]),
-    ),
-    (
-        &[0x00, 0x82, 0x00, 0x82],
-        Wanted::Sends(&[0x00, 0x80, 0x00, 0x80]),
-    ),
-    (
-        &[0x00, 0x90, 0x00, 0x90],
-        Wanted::Sends(&[0x00, 0x80, 0x00, 0x80]),
-    ),
-    (
-        &[0x00, 0x20, 0x02, 0x00, 0xA4, 0x86],
-        Wanted::Sends(&[0x00, 0x90, 0x00, 0x90]),
-    ),
-    (
-        &[0x00, 0x20, 0x02, 0xAA, 0xBB, 0x33],
-        Wanted::Sends(&[0x00, 0x90, 0x00, 0x90]),
-    ),
-    (&[0x00, 0x00, 0x01, 0x00, 0x01], Wanted::Asked),
-    (&[0x00, 0x00, 0x02, 0x90, 0x00, 0x92], Wanted::Asked),
-];
-
-/// After a block that has more after it.
-pub(crate) const JOINING: Fits = &[
-    (
-        &[0x00, 0x80, 0x00, 0x80],
-        Wanted::Sends(&[0x00, 0x90, 0x00, 0x90]),
-    ),
-    (
-        &[0x00, 0x81, 0x00, 0x81],
-        Wanted::Sends(&[0x00, 0x90, 0x00, 0x90]),
-    ),
-    (
-        &[0x00, 0x82, 0x00, 0x82],
-        Wanted::Sends(&[0x00, 0x90, 0x00, 0x90]),
-    ),
-    (
-        &[0x00, 0x90, 0x00, 0x90],
-        Wanted::Sends(&[0x00, 0x90, 0x00, 0x90]),
-    ),
-    (
-        &[0x00, 0x60, 0x02, 0x04, 0x00, 0x66],
-        Wanted::Sends(&[0x00, 0x80, 0x00, 0x80]),
-    ),
-    (&[0x00, 0x40, 0x00, 0x40], Wanted::Asked),
-    (&[0x00, 0x40, 0x02, 0x90, 0x00, 0xD2], Wanted::Asked),
-];
-
-/// With a reply saved, which is sent again.
-pub(crate) const SAVED: Fits = &[
-    (
-        &[0x00, 0x80, 0x00, 0x80],
-        Wanted::Sends(&[0x00, 0x00, 0x02, 0x90, 0x00, 0x92]),
-    ),
-    (
-        &[0x00, 0x81, 0x00, 0x81],
-        Wanted::Sends(&[0x00, 0x00, 0x02, 0x90, 0x00, 0x92]),
-    ),
-    (
-        &[0x00, 0x82, 0x00, 0x82],
-        Wanted::Sends(&[0x00, 0x00, 0x02, 0x90, 0x00, 0x92]),
-    ),
-    (
-        &[0x00, 0x90, 0x00, 0x90],
-        Wanted::Sends(&[0x00, 0x90, 0x00, 0x90]),
-    ),
-    (
-        &[0x00, 0x60, 0x02, 0x04, 0x00, 0x66],
-        Wanted::Sends(&[0x00, 0x80, 0x00, 0x80]),
-    ),
-    (&[0x00, 0x40, 0x00, 0x40], Wanted::Asked),
-    (&[0x00, 0x40, 0x02, 0x90, 0x00, 0xD2], Wanted::Asked),
-];
-
-/// Within a reply: its block again, or the next one.
-pub(crate) const REPLY: Fits = &[
-    (
-        &[0x00, 0x80, 0x00, 0x80],
-        Wanted::Sends(&[0x00, 0x20, 0x02, 0xAA, 0xBB, 0x33]),
-    ),
-    (
-        &[0x00, 0x81, 0x00, 0x81],
-        Wanted::Sends(&[0x00, 0x20, 0x02, 0xAA, 0xBB, 0x33]),
-    ),
-    (
-        &[0x00, 0x82, 0x00, 0x82],
-        Wanted::Sends(&[0x00, 0x20, 0x02, 0xAA, 0xBB, 0x33]),
-    ),
-    (
-        &[0x00, 0x90, 0x00, 0x90],
-        Wanted::Sends(&[0x00, 0x40, 0x02, 0x90, 0x00, 0xD2]),
-    ),
+    (Fits::AnswerAtLast, "00000500A4040000A5", Wanted::Answered),
+    (Fits::AnswerAtLast, "0000010001", Wanted::Answered),
+    (Fits::AnswerAtLast, "000002900092", Wanted::Answered),
+    (Fits::AnswerAtLast, "00000500B0000002B7", Wanted::Answered),
+    (Fits::More, "00800080", Wanted::Sends("00900090")),
+    (Fits::More, "00810081", Wanted::Sends("00900090")),
+    (Fits::More, "00820082", Wanted::Sends("00900090")),
+    (Fits::More, "00900090", Wanted::Sends("00900090")),
+    (Fits::More, "006002040066", Wanted::Sends("00800080")),
+    (Fits::More, "00400040", Wanted::Answered),
+    (Fits::More, "0040029000D2", Wanted::Answered),
+    (Fits::SizeSet, "00E10102E2", Wanted::IfsSet),
+    (Fits::GivenUp, "00E000E0", Wanted::GivenUp),
+    (Fits::TimeGranted, "00E30101E3", Wanted::Asked),
+    (Fits::Served, "00C101FE3E", Wanted::Sends("00E101FE1E")),
+    (Fits::Served, "00C10102C2", Wanted::Sends("00E10102E2")),
+    (Fits::Served, "00C000C0", Wanted::Sends("00E000E0")),
+    (Fits::BegunAnew, "00C000C0", Wanted::Sends("00E000E0")),
+    (Fits::StartCard, "00800080", Wanted::Sends("00800080")),
+    (Fits::StartCard, "00810081", Wanted::Sends("00800080")),
+    (Fits::StartCard, "00820082", Wanted::Sends("00800080")),
+    (Fits::StartCard, "00900090", Wanted::Sends("00800080")),
+    (Fits::StartCard, "00200200A486", Wanted::Sends("00900090")),
+    (Fits::StartCard, "002002AABB33", Wanted::Sends("00900090")),
+    (Fits::StartCard, "0000010001", Wanted::Asked),
+    (Fits::StartCard, "000002900092", Wanted::Asked),
+    (Fits::Joining, "00800080", Wanted::Sends("00900090")),
+    (Fits::Joining, "00810081", Wanted::Sends("00900090")),
+    (Fits::Joining, "00820082", Wanted::Sends("00900090")),
+    (Fits::Joining, "00900090", Wanted::Sends("00900090")),
+    (Fits::Joining, "006002040066", Wanted::Sends("00800080")),
+    (Fits::Joining, "00400040", Wanted::Asked),
+    (Fits::Joining, "0040029000D2", Wanted::Asked),
+    (Fits::Saved, "00800080", Wanted::Sends("000002900092")),
+    (Fits::Saved, "00810081", Wanted::Sends("000002900092")),
+    (Fits::Saved, "00820082", Wanted::Sends("000002900092")),
+    (Fits::Saved, "00900090", Wanted::Sends("00900090")),
+    (Fits::Saved, "006002040066", Wanted::Sends("00800080")),
+    (Fits::Saved, "00400040", Wanted::Asked),
+    (Fits::Saved, "0040029000D2", Wanted::Asked),
+    (Fits::Reply, "00800080", Wanted::Sends("002002AABB33")),
+    (Fits::Reply, "00810081", Wanted::Sends("002002AABB33")),
+    (Fits::Reply, "00820082", Wanted::Sends("002002AABB33")),
+    (Fits::Reply, "00900090", Wanted::Sends("0040029000D2")),
 ];

@@ -1,5 +1,5 @@
 -- What a reader of forests that come in pieces keeps.
-use Rattle.std.specs.Prelude.{◌≡◌, ◌≤◌, ◌⊎◌, ℕ, ◌+◌, List, [], ◌∷◌, ◌++◌, length, take, map, Option, Some, None}
+use Rattle.std.specs.Prelude.{◌≡◌, ◌<◌, ◌≤◌, ◌⊎◌, ℕ, ◌+◌, List, [], ◌∷◌, ◌++◌, length, take, map, Option, Some, None, Result, Ok, Err}
 use Rattle.octet_core.specs.Octets.{AreOctets}
 use Rattle.octet_core.specs.Grammar.{RefusesAt, whole}
 use Rattle.octet_core.specs.declared.stop.Stop.{Stop}
@@ -116,6 +116,13 @@ IsEndedFeed max b piece new n (refused.Stop stop) =
     (n ≤ length piece) × HasBegun (b ++ take n piece) new
     × RefusesAt whole (IsForest max) (IsReason max) (b ++ piece) stop
     × ((r : Refusal TlvReason) × (new.refusal ≡ Some r) × (stop ≡ At r.place r.reason) × (r.place ≡ length b + n))
+
+-- One step over a piece, which isn't empty: some of its octets were taken, at least one, or the feed ended before the
+-- first of them.
+abbrev pub HasAdvanced : Reading → List ℕ → Reading → Result ℕ (Refused TlvReason) → Type 0
+HasAdvanced old piece new (Ok n) = (0 < n) × (n ≤ length piece)
+    × ((b : List ℕ) → HasRead b old → HasRead (b ++ take n piece) new)
+HasAdvanced old piece new (Err r) = (b : List ℕ) → HasRead b old → IsEndedFeed old.kept.max b piece new 0 r
 
 -- what it answers once a refusal stands
 abbrev pub stop_of : Refusal TlvReason → Stop TlvReason

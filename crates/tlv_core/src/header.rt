@@ -34,7 +34,7 @@ pub enum Header {
 }
 
 /// What one more octet makes of a header.
-#[derive(Clone, Copy, Debug)]
+#[derive(Drop)]
 pub(crate) enum Next {
     /// The octet was a filler.
     Filler,
@@ -46,7 +46,7 @@ pub(crate) enum Next {
 
 /// The header of an object: its tag, and the form of its length field, which says that its value has
 /// `len` octets.
-#[derive(Clone, Copy, Debug)]
+#[derive(Clone, Copy)]
 pub(crate) struct ObjectHeader {
     pub(crate) tag: Tag,
     pub(crate) form: Form,

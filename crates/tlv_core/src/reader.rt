@@ -1,6 +1,6 @@
 //! Forests that come in pieces, with their tree.
 
-ghost use Rattle.std.specs.Prelude.{◌≡◌, ℕ, ◌+◌, ◌<◌, ◌≤◌, ◌↔◌, List, [], ◌++◌, length, take, Some, None, Err, IfOk, IfErr, OnOk, MatchResult};
+ghost use Rattle.std.specs.Prelude.{◌≡◌, ℕ, ◌+◌, ◌<◌, ◌≤◌, ◌↔◌, List, [], ◌++◌, length, Some, None, Ok, Err, IfOk, IfErr, IfSome, IfNone, OnOk, OnErr, MatchResult};
 ghost use Rattle.octet_core.specs.Grammar.{Refuses, whole};
 ghost use Rattle.octet_core.specs.declared.stop.Refused.TheVariants as refused;
 ghost use Rattle.octet_core.specs.declared.stop.Refusal.{Refusal};
@@ -45,7 +45,7 @@ impl Model for ForestReader {
 }
 
 impl ForestReader {
-    ghost use Rattle.tlv_core.specs.Read.{HasBegun, HasRead, IsEndedFeed, stop_of};
+    ghost use Rattle.tlv_core.specs.Read.{HasBegun, HasRead, HasAdvanced, IsEndedFeed, stop_of};
 
     /// A reader of a forest of at most `max` octets, itself at most 1,048,576, before its first octet; or
     /// lack of memory for its stack, which it takes once.
@@ -121,33 +121,64 @@ impl ForestReader {
     fn advance(&mut self, octets: &[u8]) -> Result<usize, Refused<TlvReason>>
         requires { 0 < length octets.now }
         ensures limit { self.new.kept.max ≡ self.old.kept.max }
-        ensures some { IfOk result (λ n. (0 < n) × (n ≤ length octets.now)) }
-        ensures ok { (b : List ℕ) → HasRead b self.old
-            → IfOk result (λ n. HasRead (b ++ take n octets.now) self.new) }
-        ensures err { (b : List ℕ) → HasRead b self.old
-            → IfErr result (IsEndedFeed self.old.kept.max b octets.now self.new 0) }
+        ensures advanced { HasAdvanced self.old octets.now self.new result }
+    {
+        if self.progress.value_left() > 0 {
+            return self.take_run(octets);
+        }
+        if let Some(taken) = self.take_short(octets)? {
+            return Ok(taken);
+        }
+        self.take_first(octets)
+    }
+
+    /// Takes a run of the value under way: as many octets as are here of it.
+    fn take_run(&mut self, octets: &[u8]) -> Result<usize, Refused<TlvReason>>
+        requires some { 0 < length octets.now }
+        requires under_way { 0 < self.old.kept.value_left }
+        ensures limit { self.new.kept.max ≡ self.old.kept.max }
+        ensures advanced { HasAdvanced self.old octets.now self.new result }
     {
         let left = self.progress.value_left();
-        if left > 0 {
-            let run = left.min(octets.len());
-            if self.tree.extend(&octets[..run]).is_err() {
-                return Err(Refused::Memory);
-            }
-            self.progress.skip(run);
-            if run == left {
-                self.tree.end_value(self.progress.level());
-            }
-            return Ok(run);
-        }
-        if self.tree.reserve().is_err() {
+        let run = left.min(octets.len());
+        if self.tree.extend(&octets[..run]).is_err() {
             return Err(Refused::Memory);
         }
-        if let Some(short) = self.progress.next_short(octets) {
-            let value = self.tree.copied(short.value(octets))?;
-            self.progress.pass(short);
-            self.tree.take_short(short, value, self.progress.level());
-            return Ok(short.taken());
+        self.progress.skip(run);
+        if run == left {
+            self.tree.end_value(self.progress.level());
         }
+        Ok(run)
+    }
+
+    /// Takes an object with a short header, if one is here: how many octets. `Memory` is lack of it for the object.
+    fn take_short(&mut self, octets: &[u8]) -> Result<Option<usize>, AllocError>
+        requires { self.old.kept.value_left ≡ 0 }
+        ensures limit { self.new.kept.max ≡ self.old.kept.max }
+        ensures some { IfOk result (λ taken.
+            IfSome taken (λ n. HasAdvanced self.old octets.now self.new (Ok n))) }
+        ensures none { IfOk result (λ taken. IfNone taken (self.new ≡ self.old)) }
+        ensures memory { OnErr result
+            (HasAdvanced self.old octets.now self.new (Err refused.Memory)) }
+    {
+        let Some(short) = self.progress.next_short(octets) else {
+            return Ok(None);
+        };
+        self.tree.reserve()?;
+        let value = self.tree.copied(short.value(octets))?;
+        self.progress.pass(short);
+        self.tree.take_short(short, value, self.progress.level());
+        Ok(Some(short.taken()))
+    }
+
+    /// Takes one octet of a header, or a filler.
+    fn take_first(&mut self, octets: &[u8]) -> Result<usize, Refused<TlvReason>>
+        requires some { 0 < length octets.now }
+        requires idle { self.old.kept.value_left ≡ 0 }
+        ensures limit { self.new.kept.max ≡ self.old.kept.max }
+        ensures advanced { HasAdvanced self.old octets.now self.new result }
+    {
+        self.tree.reserve()?;
         match self.progress.take(octets[0]) {
             Ok(next) => {
                 self.tree.take(&next, self.progress.level());

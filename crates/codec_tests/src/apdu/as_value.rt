@@ -11,12 +11,6 @@ use block_core::Number;
 use octet_core::{After, Counted, Feeder, Octets, Source, Taker};
 use std::alloc::Global;
 use std::process::Abort;
-use testing::of_hex;
-
-/// The octets of a hexadecimal text.
-pub(super) fn octets(rt: &impl Abort, alloc: Global, text: &str) -> Vec<u8> {
-    of_hex(alloc, text).expect(rt, "octets")
-}
 
 /// A copy of octets.
 pub(super) fn copied(rt: &impl Abort, alloc: Global, octets: &[u8]) -> Octets {

@@ -9,7 +9,8 @@ invariant-loop-put g l = record {
   room : 258 ≤ length l.out;
   fits : FitsTerminalPut l.put;
   goes : (next : Next) → IsReady next l.fn.out (Ok l.fn.first)
-      → Holds (g.L.TerminalLine.said l.fn.line) (g.L.TerminalLine.said l.line) l.most_blocks l.left next l.fn.terminal l.terminal l.out
+      → Holds (g.L.TerminalLine.said l.fn.line) (g.L.TerminalLine.said l.line) l.most_blocks l.left next l.fn.terminal
+      l.terminal l.out
       (Ok l.put);
 }
 

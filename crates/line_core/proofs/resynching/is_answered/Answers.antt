@@ -10,7 +10,8 @@ returns-in-Ok g c =
 
 pub returns-in-Err : goal.returns-in-Err
 returns-in-Err g c =
-    ends-failed _ _ (g.L.TerminalLine.said c.transceive.new.self) c.loop.counter most_resynchs c.in-Err.fault (omega arith)
+    ends-failed _ _ (g.L.TerminalLine.said c.transceive.new.self) c.loop.counter most_resynchs c.in-Err.fault
+    (omega arith)
     c.in-Err.ensures.said c.loop.invariant.asked
 
 pub loop-preserved : goal.loop-preserved

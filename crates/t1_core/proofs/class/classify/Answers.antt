@@ -7,5 +7,7 @@ use Rattle.t1_core.proofs.Computed.{computed}
 use Rattle.t1_core.proofs.class.classify.Goals as goal
 
 pub returns : goal.returns
-returns c = only-one one-accepted c.args.ifs c.args.octets.now (came_of c.by_verdict.result) (class_of c.args.ifs c.args.octets.now)
-    c.by_verdict.ensures (computed c.args.ifs c.args.octets.now c.requires.most (λ i. omega (arith, c.type_inv.octets i)))
+returns c = only-one one-accepted c.args.ifs c.args.octets.now (came_of c.by_verdict.result)
+    (class_of c.args.ifs c.args.octets.now)
+    c.by_verdict.ensures (computed c.args.ifs c.args.octets.now c.requires.most
+    (λ i. omega (arith, c.type_inv.octets i)))
