@@ -8,7 +8,7 @@ _scard_before() {
     for ((at = 1; at < COMP_CWORD; at++)); do
         before=${COMP_WORDS[at]}
         case $before in
-        = | -- | --explain | --notes | --help | --version | --*=*) ;;
+        = | -- | --explain | --notes | --svg | --help | --version | --*=*) ;;
         --*) value=comes ;;
         *)
             if [ "$value" ]; then
@@ -31,14 +31,15 @@ _scard_words() {
     replay) words='--end --explain --help' ;;
     migrate) words='--explain --help' ;;
     apdus) words='--explain --help' ;;
+    draw) words='--svg --explain --help' ;;
     simulate) words='--ifsd --lose --damage --spoil --explain --help' ;;
     esac
     [ "${COMP_WORDS[1]} $what" != 'build tidy' ] || words="$words --stdin"
     case $place:${COMP_WORDS[1]} in
-    1:*) words='check show build replay migrate apdus simulate help --version --help' ;;
+    1:*) words='check show build replay migrate apdus draw simulate help --version --help' ;;
     2:check | 2:show) words="$words atr block chain command response tlv dol" ;;
     2:build) words="$words chain tidy fill" ;;
-    2:help) words='check show build replay migrate apdus simulate' ;;
+    2:help) words='check show build replay migrate apdus draw simulate' ;;
     esac
 }
 

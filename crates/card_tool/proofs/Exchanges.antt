@@ -8,6 +8,7 @@ use Rattle.atr_core.proofs.Goes as atr_goes
 use Rattle.atr_core.proofs.Unique.{one-accepted}
 use Rattle.card_words.specs.declared.request.End.{End}
 use Rattle.card_words.specs.declared.request.End.TheVariants as end
+use Rattle.card_words.specs.declared.request.Drawing.{Drawing}
 use Rattle.apdu_list.specs.Listing.{apdus_text}
 use Rattle.exchange_text.specs.Exchange.{ExchangeParts, migrated}
 use Rattle.exchange_text.specs.Reading.{at, atr_by, atr_said, exchange_by, exchange_said, is_line_feed, lines_said, octets_said, parts_said, version_said, words_of}
@@ -19,7 +20,7 @@ use Rattle.exchange_core.specs.declared.replaying.Side.{Side}
 use Rattle.exchange_core.specs.declared.replaying.Side.TheVariants as side
 use Rattle.exchange_core.proofs.Found.{one-replay, some-replay}
 use Rattle.exchange_text.proofs.Sound.{bind, octets-sound, same-ok}
-use Rattle.card_tool.specs.ExchangeTexts.{agrees_text, both_text, differs_text, file_fault_text, AreReplayed, IsReplayed, IsReplayedAt, Lists, Migrates, Replays, agrees, differs}
+use Rattle.card_tool.specs.ExchangeTexts.{agrees_text, both_text, differs_text, drawn, file_fault_text, AreReplayed, Draws, IsReplayed, IsReplayedAt, Lists, Migrates, Replays, agrees, differs}
 use Rattle.card_tool.specs.Lines.{worse}
 use Rattle.card_kinds.specs.declared.status.Status.{Status}
 use Rattle.card_kinds.specs.declared.status.Status.TheVariants as status
@@ -180,3 +181,8 @@ migrated-once file = told-said (λ e text ended. (text ≡ exchange_text (migrat
 pub listed-once : (file : List ℕ) → OneText (Lists file)
 listed-once file = told-said (λ e text ended. (text ≡ apdus_text e.lines) × (ended ≡ status.Accepted))
     (exchange_said file) (λ e is. plain (apdus_text e.lines))
+
+-- and one that is drawn
+pub drawn-once : (drawing : Drawing) (file : List ℕ) → OneText (Draws drawing file)
+drawn-once drawing file = told-said (λ e text ended. (text ≡ drawn drawing e) × (ended ≡ status.Accepted))
+    (exchange_said file) (λ e is. plain (drawn drawing e))

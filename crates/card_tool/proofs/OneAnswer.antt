@@ -1,9 +1,9 @@
 -- That what is asked for has one answer.
 use Rattle.std.proofs.Common.{◌≡◌, ◌≤◌, ◌∙◌, ◌++◌, ℕ, List, [], ◌∷◌, Bool, true, false, if◌then◌else◌, nat_le, Result, Ok, Err, IfOk, ap, append_assoc, length, subst, sym, refl}
 use Rattle.octet_core.specs.Octets.{AreOctets}
-use Rattle.card_tool.specs.ExchangeTexts.{Lists, Migrates, Replays}
+use Rattle.card_tool.specs.ExchangeTexts.{Draws, Lists, Migrates, Replays}
 use Rattle.card_kinds.proofs.OneOf.{OneText, ended-by, plain}
-use Rattle.card_tool.proofs.Exchanges.{listed-once, migrated-once, replayed-once}
+use Rattle.card_tool.proofs.Exchanges.{drawn-once, listed-once, migrated-once, replayed-once}
 use Rattle.card_tool.proofs.Simulations.{simulated-once}
 use Rattle.card_tool.specs.Answers.{line_end, plain_aim, plain_asked, plain_request, plain_task, plain_text, plain_told, AreLinesTold, IsAnswerAsked, IsAnswerTo, IsLineTold, IsTold, IsToldOf, Tells}
 use Rattle.card_kinds.specs.Verdicts.{Shows, Tidies}
@@ -32,7 +32,7 @@ use Rattle.card_words.specs.declared.request.Asked.{Asked}
 use Rattle.card_words.specs.declared.request.Asked.TheVariants.{Once, Lines}
 use Rattle.card_words.specs.declared.request.Expected.{Expected}
 use Rattle.card_words.specs.declared.request.Request.{Request}
-use Rattle.card_words.specs.declared.request.Request.TheVariants.{BuildChain, BuildTidy, BuildFill, Tell, Replay, Migrate, Apdus, Simulate, Help, Version}
+use Rattle.card_words.specs.declared.request.Request.TheVariants.{BuildChain, BuildTidy, BuildFill, Tell, Replay, Migrate, Apdus, Draw, Simulate, Help, Version}
 use Rattle.card_words.specs.declared.request.Task.{Task}
 use Rattle.card_kinds.specs.declared.status.Status.{Status}
 use Rattle.card_kinds.specs.declared.status.Status.TheVariants as status
@@ -134,6 +134,7 @@ one-answer (BuildFill list known) file sized octets as_read = filled-once list k
 one-answer (Replay side) file sized octets as_read = told-of (Replays side) (replayed-once side) file
 one-answer Migrate file sized octets as_read = told-of Migrates migrated-once file
 one-answer Apdus file sized octets as_read = told-of Lists listed-once file
+one-answer (Draw drawing) file sized octets as_read = told-of (Draws drawing) (drawn-once drawing) file
 one-answer (Simulate session) file sized octets as_read = simulated-once session octets.0
 one-answer (Help help) file sized octets as_read = plain help
 one-answer Version file sized octets as_read = plain version_line
@@ -196,6 +197,7 @@ asked-too (Once (BuildFill list known)) file text ended h = h
 asked-too (Once (Replay side)) file text ended h = h
 asked-too (Once Migrate) file text ended h = h
 asked-too (Once Apdus) file text ended h = h
+asked-too (Once (Draw drawing)) file text ended h = h
 asked-too (Once (Simulate session)) file text ended h = h
 asked-too (Once (Help help)) file text ended h = h
 asked-too (Once Version) file text ended h = h
@@ -273,6 +275,7 @@ notes-cut (Once (BuildFill list known)) file text ended h = h
 notes-cut (Once (Replay side)) file text ended h = h
 notes-cut (Once Migrate) file text ended h = h
 notes-cut (Once Apdus) file text ended h = h
+notes-cut (Once (Draw drawing)) file text ended h = h
 notes-cut (Once (Simulate session)) file text ended h = h
 notes-cut (Once (Help help)) file text ended h = h
 notes-cut (Once Version) file text ended h = h

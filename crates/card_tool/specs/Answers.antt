@@ -7,7 +7,7 @@ use Rattle.chain_core.specs.Chain.{chain_blocks}
 use Rattle.card_kinds.specs.ChainTexts.{blocks_text}
 use Rattle.card_words.specs.Texts.{fault_text}
 use Rattle.chain_core.specs.Cut.{cut_of}
-use Rattle.card_tool.specs.ExchangeTexts.{Lists, Migrates, Replays}
+use Rattle.card_tool.specs.ExchangeTexts.{Draws, Lists, Migrates, Replays}
 use Rattle.card_tool.specs.SimulationTexts.{Simulates}
 use Rattle.card_tool.specs.Files.{ReadsWhole}
 use Rattle.card_tool.specs.Lines.{all_lines, line_octets, AreTold}
@@ -29,7 +29,7 @@ use Rattle.card_words.specs.declared.request.Expected.{Expected}
 use Rattle.card_words.specs.declared.request.Kind.{Kind}
 use Rattle.notes.specs.Noted.{IsNoted, without_notes}
 use Rattle.card_words.specs.declared.request.Request.{Request}
-use Rattle.card_words.specs.declared.request.Request.TheVariants.{BuildChain, BuildTidy, BuildFill, Tell, Replay, Migrate, Apdus, Simulate, Help, Version}
+use Rattle.card_words.specs.declared.request.Request.TheVariants.{BuildChain, BuildTidy, BuildFill, Tell, Replay, Migrate, Apdus, Draw, Simulate, Help, Version}
 use Rattle.card_words.specs.declared.request.Task.{Task}
 
 -- what octets come to, or the fault for which there are none
@@ -80,6 +80,7 @@ IsAnswerTo (BuildFill list known) file text ended = IsFilled list known text end
 IsAnswerTo (Replay side) file text ended = IsToldOf (Replays side) file text ended
 IsAnswerTo Migrate file text ended = IsToldOf Migrates file text ended
 IsAnswerTo Apdus file text ended = IsToldOf Lists file text ended
+IsAnswerTo (Draw drawing) file text ended = IsToldOf (Draws drawing) file text ended
 IsAnswerTo (Simulate session) file text ended = Simulates session text ended
 IsAnswerTo (Help help) file text ended = (text ≡ help) × (ended ≡ status.Accepted)
 IsAnswerTo Version file text ended = (text ≡ version_line) × (ended ≡ status.Accepted)

@@ -2,7 +2,11 @@
 use Rattle.std.specs.Prelude.{◌≡◌, ℕ, ◌+◌, List, ◌++◌, codes, decimal, length, Some, None, Result, Ok, Err, MatchResult}
 use Rattle.card_words.specs.declared.request.End.{End}
 use Rattle.card_words.specs.declared.request.End.TheVariants as end
+use Rattle.card_words.specs.declared.request.Drawing.{Drawing}
+use Rattle.card_words.specs.declared.request.Drawing.TheVariants.{Ladder, Picture}
 use Rattle.apdu_list.specs.Listing.{apdus_text}
+use Rattle.drawings.specs.Ladder.{ladder_text}
+use Rattle.drawings.specs.Picture.{picture_text}
 use Rattle.exchange_text.specs.Exchange.{ExchangeParts, migrated}
 use Rattle.exchange_text.specs.Faults.{exchange_fault_text}
 use Rattle.exchange_text.specs.Reading.{exchange_said}
@@ -74,3 +78,11 @@ Migrates = Tells (λ e text ended. (text ≡ exchange_text (migrated e)) × (end
 
 abbrev pub Lists : List ℕ → List ℕ → Status → Type 0
 Lists = Tells (λ e text ended. (text ≡ apdus_text e.lines) × (ended ≡ status.Accepted))
+
+-- an exchange, drawn so
+abbrev pub drawn : Drawing → ExchangeParts → List ℕ
+drawn Ladder e = ladder_text e
+drawn Picture e = picture_text e
+
+abbrev pub Draws : Drawing → List ℕ → List ℕ → Status → Type 0
+Draws drawing = Tells (λ e text ended. (text ≡ drawn drawing e) × (ended ≡ status.Accepted))

@@ -14,7 +14,7 @@ use Rattle.card_words.specs.declared.request.Asked.TheVariants.{Once}
 use Rattle.card_words.specs.declared.request.End.{End}
 use Rattle.card_words.specs.declared.request.End.TheVariants as end
 use Rattle.card_words.specs.declared.request.Request.{Request}
-use Rattle.card_words.specs.declared.request.Request.TheVariants.{BuildTidy, BuildFill, Tell, Replay, Migrate, Apdus, Simulate}
+use Rattle.card_words.specs.declared.request.Request.TheVariants.{BuildTidy, BuildFill, Tell, Replay, Migrate, Apdus, Draw, Simulate}
 use Rattle.card_kinds.specs.ForestTexts.{forest_codec}
 use Rattle.card_kinds.specs.ListTexts.{list_codec}
 use Rattle.card_kinds.specs.declared.answer.Answer.{Answer}
@@ -101,6 +101,7 @@ IsNoteTo (BuildFill list known) file ended note = IsFillNote list known note
 IsNoteTo (Replay end) file ended note = IsOkAnd file (λ text. IsReplayNote end text note)
 IsNoteTo Migrate file ended note = IsOkAnd file (λ text. IsFileNote text note)
 IsNoteTo Apdus file ended note = IsOkAnd file (λ text. IsFileNote text note)
+IsNoteTo (Draw drawing) file ended note = IsOkAnd file (λ text. IsFileNote text note)
 IsNoteTo (Simulate session) file ended note = IsSimulationNote session.atr ended note
 IsNoteTo _ file ended note = ⊥
 

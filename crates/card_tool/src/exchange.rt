@@ -1,11 +1,11 @@
-//! Recorded exchanges, replayed, migrated and listed.
+//! Recorded exchanges, replayed, migrated, listed and drawn.
 
 ghost use Rattle.std.specs.Prelude.{◌≡◌, ◌≢◌, ◌++◌, IfOk, IsOkAnd, string_bytes};
 ghost use Rattle.apdu_list.specs.Listing.{apdus_text};
 ghost use Rattle.exchange_text.specs.Exchange.{migrated};
 ghost use Rattle.exchange_text.specs.Text.{exchange_text};
 ghost use Rattle.exchange_text.specs.declared.fault.ExchangeFault.TheVariants.{Memory};
-ghost use Rattle.card_tool.specs.ExchangeTexts.{both_text, file_fault_text, IsOutcome, IsReplayed, IsReplayedAt, Lists, Migrates, Replays};
+ghost use Rattle.card_tool.specs.ExchangeTexts.{both_text, drawn, file_fault_text, Draws, IsOutcome, IsReplayed, IsReplayedAt, Lists, Migrates, Replays};
 ghost use Rattle.card_tool.specs.Explained.{line_of, IsDifferenceNote, IsFileNote, IsLineNote, IsNoteAt, IsReplayNote};
 ghost use Rattle.card_tool.specs.Judged.{AreOf};
 ghost use Rattle.card_tool.specs.Lines.{worse};
@@ -16,7 +16,8 @@ use crate::judged::WithNote;
 use crate::lines::worse;
 use apdu_list::list_apdus;
 use card_kinds::{Answer, Status};
-use card_words::End;
+use card_words::{Drawing, End};
+use drawings::{draw_ladder, draw_picture};
 use exchange_core::{
     Exchange, ExchangeFault, ReplayFault, Side, migrate, read_exchange, replay, write_exchange,
 };
@@ -222,6 +223,51 @@ fn list(alloc: Global, exchange: &Exchange) -> Result<Answer, AllocError>
     ensures status { IfOk result (λ answer. answer.status ≡ ended.Accepted) }
 {
     let text = list_apdus(alloc, exchange)?;
+    Ok(Answer {
+        text: Octets::of(text),
+        status: Status::Accepted,
+    })
+}
+
+/// The file drawn, or its fault.
+pub(crate) fn drawn(alloc: Global, file: Octets, drawing: Drawing) -> Result<Answer, AllocError>
+    ensures { IfOk result (λ answer. Draws drawing file answer.text answer.status) }
+{
+    match read_exchange(alloc, file.get()) {
+        Ok(exchange) => draw(alloc, &exchange, drawing),
+        Err(fault) => refused(alloc, fault),
+    }
+}
+
+/// The file drawn, or its fault, with a note on the line that this is in.
+pub(crate) fn drawn_with_note(
+    alloc: Global,
+    file: &[u8],
+    drawing: Drawing,
+) -> Result<WithNote, AllocError>
+    ensures { IfOk result (AreOf (Draws drawing file.now) (IsFileNote file.now)) }
+{
+    match read_exchange(alloc, file) {
+        Ok(exchange) => {
+            let answer = draw(alloc, &exchange, drawing)?;
+            Ok(WithNote {
+                answer,
+                note: Ok(String::new(alloc)),
+            })
+        }
+        Err(fault) => refused_with_note(alloc, file, fault),
+    }
+}
+
+/// An exchange, drawn.
+fn draw(alloc: Global, exchange: &Exchange, drawing: Drawing) -> Result<Answer, AllocError>
+    ensures text { IfOk result (λ answer. answer.text ≡ drawn drawing exchange.now) }
+    ensures status { IfOk result (λ answer. answer.status ≡ ended.Accepted) }
+{
+    let text = match drawing {
+        Drawing::Ladder => draw_ladder(alloc, exchange)?,
+        Drawing::Picture => draw_picture(alloc, exchange)?,
+    };
     Ok(Answer {
         text: Octets::of(text),
         status: Status::Accepted,

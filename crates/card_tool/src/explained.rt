@@ -12,7 +12,7 @@ ghost use Rattle.card_words.specs.Value.{UnlessMemory};
 ghost use Rattle.card_words.specs.Words.{AskForFile, IsSized, NeedsFile};
 ghost use Rattle.command_line.specs.Form.{texts};
 
-use crate::exchange::{listed_with_note, migrated_with_note, replayed_with_note};
+use crate::exchange::{drawn_with_note, listed_with_note, migrated_with_note, replayed_with_note};
 use crate::file::{LARGEST_FILE, read_whole};
 use crate::judged::{answer_with_note, filled, tidied};
 use crate::program::answer_to;
@@ -173,6 +173,11 @@ fn exchange_explained<R: Source>(
         Request::Apdus => {
             let file = read_whole(alloc, reader)?;
             let judged = listed_with_note(alloc, file.get())?;
+            Ok(noted(judged.answer, judged.note))
+        }
+        Request::Draw(drawing) => {
+            let file = read_whole(alloc, reader)?;
+            let judged = drawn_with_note(alloc, file.get(), drawing)?;
             Ok(noted(judged.answer, judged.note))
         }
         Request::Simulate(session) => {

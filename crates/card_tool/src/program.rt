@@ -166,6 +166,10 @@ pub(crate) fn answer_to<R: Source>(
             let file = read_whole(alloc, reader)?;
             Ok(exchange::listed(alloc, file)?)
         }
+        Request::Draw(drawing) => {
+            let file = read_whole(alloc, reader)?;
+            Ok(exchange::drawn(alloc, file, drawing)?)
+        }
         Request::Simulate(session) => Ok(simulation::simulated(alloc, &session)?),
         Request::Help(text) => Ok(Answer::told(text.into_inner())),
         Request::Version => Ok(Answer::told(String::from_str(alloc, VERSION_LINE)?)),

@@ -11,7 +11,7 @@ use Rattle.octet_core.specs.Octets.{AreOctets}
 use Rattle.card_words.specs.Given.{asks_for_lines, form_of, given_of, GivesOctets}
 use Rattle.card_words.specs.Session.{blocks_of, pair_of, pairs_of, AreOctetPairs, IsSize}
 use Rattle.card_words.specs.Value.{◌>>=◌, hex_octets, octets_of_word, parted, UnlessMemory}
-use Rattle.card_words.specs.Words.{byte_or, size_of, number_of, number_of_word, needed, kind_of, expected_of, short_message, told_by, told_of, chain_by, chain_of, tidy_of, fill_of, build_words, build_of, end_of_word, replay_of, all_or_none, asked_size, session_of, request_by, show_aim, asked_by, asked_of, HasOctets, HaveOctets, IsRead, AreSized, IsSized, IsTaskSized, called_for_version, taken, called_for_help, not_taken}
+use Rattle.card_words.specs.Words.{byte_or, size_of, number_of, number_of_word, needed, kind_of, expected_of, short_message, told_by, told_of, chain_by, chain_of, tidy_of, fill_of, build_words, build_of, end_of_word, replay_of, all_or_none, asked_size, session_of, drawing_of, request_by, show_aim, asked_by, asked_of, HasOctets, HaveOctets, IsRead, AreSized, IsSized, IsTaskSized, called_for_version, taken, called_for_help, not_taken}
 use Rattle.command_line.specs.Form.{scard}
 use Rattle.card_words.specs.declared.fault.Fault.{Fault}
 use Rattle.card_words.specs.declared.fault.Fault.TheVariants.{Words}
@@ -25,7 +25,7 @@ use Rattle.card_words.specs.declared.request.Task.{Task}
 use Rattle.card_words.specs.declared.request.Asked.{Asked}
 use Rattle.card_words.specs.declared.request.Asked.TheVariants.{Once, Lines}
 use Rattle.card_words.specs.declared.request.Request.{Request}
-use Rattle.card_words.specs.declared.request.Request.TheVariants.{BuildTidy, Migrate, Apdus, Help, Version}
+use Rattle.card_words.specs.declared.request.Request.TheVariants.{BuildTidy, Migrate, Apdus, Draw, Help, Version}
 
 -- where two steps come to a value, the first comes to one, and from that the second to this
 pub both-steps : {A B : Type 0} (r : Result A Fault) (f : A → Result B Fault) (b : B) → r >>= f ≡ Ok b → (a : A)
@@ -241,13 +241,17 @@ request-proper name rows request h =
                   | inr listed ↦
                       elim (one-of (bytes_eq name (codes "apdus")) (Ok Apdus) _ request listed) [
                         | inl apdus ↦ subst IsProper (same Apdus request apdus) (tt, tt)
-                        | inr both ↦
-                            elim (one-of (bytes_eq name (codes "simulate")) _ (Err Words) request both) [
-                              | inl simulate ↦
-                                  let session = both-steps (session_of rows) _ request simulate in
-                                  let proper = session-proper rows session.0 session.1 in
-                                  subst IsProper (same _ request session.2) (proper.0, (proper.1, proper.2))
-                              | inr none ↦ cc none
+                        | inr drawn ↦
+                            elim (one-of (bytes_eq name (codes "draw")) (Ok (Draw (drawing_of rows))) _ request drawn) [
+                              | inl draw ↦ subst IsProper (same (Draw (drawing_of rows)) request draw) (tt, tt)
+                              | inr both ↦
+                                  elim (one-of (bytes_eq name (codes "simulate")) _ (Err Words) request both) [
+                                    | inl simulate ↦
+                                        let session = both-steps (session_of rows) _ request simulate in
+                                        let proper = session-proper rows session.0 session.1 in
+                                        subst IsProper (same _ request session.2) (proper.0, (proper.1, proper.2))
+                                    | inr none ↦ cc none
+                                  ]
                             ]
                       ]
                 ]

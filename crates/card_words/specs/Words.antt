@@ -21,6 +21,8 @@ use Rattle.card_words.specs.declared.request.Kind.{Kind}
 use Rattle.card_words.specs.declared.request.Kind.TheVariants.{Atr, Block, Chain, Command, Response, Tlv, Dol}
 use Rattle.card_words.specs.declared.request.End.{End}
 use Rattle.card_words.specs.declared.request.End.TheVariants as end
+use Rattle.card_words.specs.declared.request.Drawing.{Drawing}
+use Rattle.card_words.specs.declared.request.Drawing.TheVariants.{Ladder, Picture}
 use Rattle.card_words.specs.declared.request.Expected.{Expected}
 use Rattle.card_words.specs.declared.request.Aim.{Aim}
 use Rattle.card_words.specs.declared.request.Aim.TheVariants.{Check, Show, Note}
@@ -29,7 +31,7 @@ use Rattle.card_words.specs.declared.request.Asked.{Asked}
 use Rattle.card_words.specs.declared.request.Asked.TheVariants.{Once, Lines}
 use Rattle.card_words.specs.declared.request.Request.{Request}
 use Rattle.card_words.specs.declared.session.Session.{Session}
-use Rattle.card_words.specs.declared.request.Request.TheVariants.{BuildChain, BuildTidy, BuildFill, Tell, Replay, Migrate, Apdus, Simulate, Help, Version}
+use Rattle.card_words.specs.declared.request.Request.TheVariants.{BuildChain, BuildTidy, BuildFill, Tell, Replay, Migrate, Apdus, Draw, Simulate, Help, Version}
 use Rattle.block_core.specs.declared.pcb.Number.{Number}
 use Rattle.block_core.specs.declared.pcb.Number.TheVariants.{Zero, One}
 
@@ -163,6 +165,14 @@ replay_of rows = do
   side ← end_of_word word
   Ok (Replay side)
 
+-- how recorded exchanges are drawn: as text, or as a picture where a flag that is true asks for one
+abbrev pub drawing_by : Option (List ℕ) → Drawing
+drawing_by None = Ladder
+drawing_by (Some word) = if bytes_eq word (codes "true") then Picture else Ladder
+
+abbrev pub drawing_of : List Row → Drawing
+drawing_of rows = drawing_by (first_of (codes "svg") rows)
+
 -- an information size that is asked for, where there is a word
 abbrev pub asked_size : Option (List ℕ) → Result (Option ℕ) Fault
 asked_size None = Ok None
@@ -187,8 +197,9 @@ request_by name rows =
     else (if bytes_eq name (codes "replay") then replay_of rows
     else (if bytes_eq name (codes "migrate") then Ok Migrate
     else (if bytes_eq name (codes "apdus") then Ok Apdus
+    else (if bytes_eq name (codes "draw") then Ok (Draw (drawing_of rows))
     else (if bytes_eq name (codes "simulate") then session_of rows >>= (λ session. Ok (Simulate session))
-    else Err Words))))
+    else Err Words)))))
 
 -- a request that was read, as what is asked for
 abbrev pub once_of : Result Request Fault → Result Asked Fault
@@ -216,6 +227,7 @@ IsSized (BuildFill list known) = Unit {0}
 IsSized (Replay side) = Unit {0}
 IsSized Migrate = Unit {0}
 IsSized Apdus = Unit {0}
+IsSized (Draw drawing) = Unit {0}
 IsSized (Simulate session) = IsSize session.ifsd
 IsSized (Help help) = Unit {0}
 IsSized Version = Unit {0}
@@ -233,6 +245,7 @@ HasOctets (BuildFill list known) = AreOctets list
 HasOctets (Replay side) = Unit {0}
 HasOctets Migrate = Unit {0}
 HasOctets Apdus = Unit {0}
+HasOctets (Draw drawing) = Unit {0}
 HasOctets (Simulate session) = AreOctets session.atr × AreOctetPairs session.pairs
 HasOctets (Help help) = Unit {0}
 HasOctets Version = Unit {0}
@@ -248,6 +261,7 @@ NeedsFile (BuildTidy given) = IsFromReader given
 NeedsFile (Replay side) = Unit {0}
 NeedsFile Migrate = Unit {0}
 NeedsFile Apdus = Unit {0}
+NeedsFile (Draw drawing) = Unit {0}
 NeedsFile _ = ⊥
 
 -- a request that takes what it reads for octets, as they are

@@ -18,6 +18,6 @@ pub mod words;
 pub use fault::Fault;
 pub use given::{Form, Given};
 pub use loose::loose_octets;
-pub use request::{Aim, Asked, End, Expected, Kind, Knowns, Request, Task};
+pub use request::{Aim, Asked, Drawing, End, Expected, Kind, Knowns, Request, Task};
 pub use session::{BlockNumbers, MOST_NAMED, Pair, Pairs, Session, read_blocks};
 pub use words::read;

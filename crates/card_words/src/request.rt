@@ -50,6 +50,15 @@ pub struct Expected {
     pub number: Number,
 }
 
+/// How a recorded exchange is drawn.
+#[derive(Clone, Copy, Debug, PartialEq, Eq)]
+pub enum Drawing {
+    /// As lines of text.
+    Ladder,
+    /// As a picture in SVG.
+    Picture,
+}
+
 /// What is told of octets.
 #[derive(Clone, Copy, Debug, PartialEq, Eq)]
 pub enum Aim {
@@ -160,6 +169,8 @@ pub enum Request {
     Migrate,
     /// The commands and answers of the file of recorded exchanges.
     Apdus,
+    /// The file of recorded exchanges, drawn so.
+    Draw(Drawing),
     /// The exchange that a recorder of both ends writes of this session.
     Simulate(Session),
     /// This text, by which `clap` answers a call for help.

@@ -4,7 +4,7 @@ ghost use Rattle.std.specs.Prelude.{◌≡◌, ◌⊎◌, ◌≤◌, [], Err, If
 ghost use Rattle.clap.specs.Words.{all_of, fault_of, first_of, found_of, rows_of, subcommand_of, subcommand_rows_of};
 ghost use Rattle.clap.specs.Kinds.{HasKind};
 ghost use Rattle.clap.specs.Values.{kind_of as error_kind};
-ghost use Rattle.card_words.specs.Words.{asked_of, build_of, build_words, chain_of, end_of_word, asked_size, expected_of, session_of, kind_of, number_of, number_of_word, replay_of, show_aim, request_by, size_of, tidy_of, told_of, fill_of, HaveOctets, IsHelpOrFault, IsRead, AreSized, IsSized};
+ghost use Rattle.card_words.specs.Words.{asked_of, build_of, build_words, chain_of, end_of_word, asked_size, drawing_of, expected_of, session_of, kind_of, number_of, number_of_word, replay_of, show_aim, request_by, size_of, tidy_of, told_of, fill_of, HaveOctets, IsHelpOrFault, IsRead, AreSized, IsSized};
 ghost use Rattle.command_line.specs.Form.{scard, texts};
 ghost use Rattle.card_words.specs.Session.{IsSize};
 ghost use Rattle.card_words.specs.Value.{UnlessMemory};
@@ -12,7 +12,7 @@ ghost use Rattle.card_words.specs.Value.{UnlessMemory};
 use crate::fault::Fault;
 use crate::given::{asks_for_lines, read_given};
 use crate::known::knowns;
-use crate::request::{Aim, Asked, End, Expected, Kind, Request, Task};
+use crate::request::{Aim, Asked, Drawing, End, Expected, Kind, Request, Task};
 use crate::session::{Session, read_blocks, read_pairs};
 use crate::value::octets;
 use block_core::Number;
@@ -63,6 +63,7 @@ fn request(alloc: Global, name: &str, matches: &ArgMatches) -> Result<Request, F
         "replay" => replay(matches),
         "migrate" => Ok(Request::Migrate),
         "apdus" => Ok(Request::Apdus),
+        "draw" => Ok(Request::Draw(drawing(matches))),
         "simulate" => Ok(Request::Simulate(session(alloc, matches)?)),
         _ => Err(Fault::Words),
     }
@@ -150,6 +151,16 @@ fn replay(matches: &ArgMatches) -> Result<Request, Fault>
 {
     let side = end(word(matches, "end").ok_or(Fault::Words)?)?;
     Ok(Request::Replay(side))
+}
+
+/// How recorded exchanges are drawn: as text, or as a picture where one is asked for.
+fn drawing(matches: &ArgMatches) -> Drawing
+    ensures { result ≡ drawing_of (rows_of (found_of matches.now)) }
+{
+    match word(matches, "svg") {
+        Some("true") => Drawing::Picture,
+        _ => Drawing::Ladder,
+    }
 }
 
 /// A session of both ends.

@@ -82,6 +82,13 @@ migrate_app = begun_app (codes "migrate")
 abbrev pub apdus_app : App
 apdus_app = begun_app (codes "apdus")
 
+-- the subcommand that draws recorded exchanges, as a picture where an option asks for one
+abbrev pub svg_rule : Rule
+svg_rule = flag_rule (codes "svg")
+
+abbrev pub draw_app : App
+draw_app = with_rule (begun_app (codes "draw")) svg_rule
+
 abbrev pub atr_rule : Rule
 atr_rule = required_rule (codes "atr")
 
@@ -108,8 +115,8 @@ octets_app = with_subcommand (with_subcommand
 
 unfoldable pub scard : App
 scard = with_subcommand (with_subcommand
-    (with_subcommand (with_subcommand octets_app replay_app.top) migrate_app.top) apdus_app.top)
-    simulate_app.top
+    (with_subcommand (with_subcommand (with_subcommand octets_app replay_app.top) migrate_app.top) apdus_app.top)
+    draw_app.top) simulate_app.top
 
 abbrev pub texts : List (String Global) → List (List ℕ)
 texts words = map string_bytes words

@@ -4,9 +4,11 @@ ghost use Rattle.std.specs.Prelude.{◌≡◌, false};
 ghost use Rattle.std.specs.Prelude.{codes};
 ghost use Rattle.clap.specs.Words.{new_app, rule_of};
 ghost use Rattle.command_line.specs.Building.{AddsSubcommandTo, AddsTo, HasForm, IsLocal, StaysLocal};
-ghost use Rattle.command_line.specs.Form.{apdus_app, atr_rule, begun_app, build_app, end_rule, expected_app, explain_rule, flag_rule, hex_rule, ifs_rule, ifsd_rule, input_app, kind_rule, migrate_app, notes_rule, number_rule, octets_app, option_rule, pairs_rule, replay_app, required_rule, scard, session_app, show_app, simulate_app, stdin_rule, what_rule, words_rule};
+ghost use Rattle.command_line.specs.Form.{apdus_app, atr_rule, begun_app, build_app, draw_app, end_rule, expected_app, explain_rule, flag_rule, hex_rule, ifs_rule, ifsd_rule, input_app, kind_rule, migrate_app, notes_rule, number_rule, octets_app, option_rule, pairs_rule, replay_app, required_rule, scard, session_app, show_app, simulate_app, stdin_rule, svg_rule, what_rule, words_rule};
 
-use crate::help::{APDUS, BUILD, CHECK, MIGRATE, PROGRAM, Page, REPLAY, SHOW, SIMULATE, with_page};
+use crate::help::{
+    APDUS, BUILD, CHECK, DRAW, MIGRATE, PROGRAM, Page, REPLAY, SHOW, SIMULATE, with_page,
+};
 use clap::{Arg, ArgAction, Command, value_parser};
 use std::alloc::{AllocError, Global};
 
@@ -21,7 +23,8 @@ pub(crate) fn program<'a>(alloc: Global) -> Built<'a>
     let replay = offering(octets_command(alloc), replay_command(alloc));
     let migrate = offering(replay, migrate_command(alloc));
     let apdus = offering(migrate, apdus_command(alloc));
-    offering(apdus, simulate_command(alloc))
+    let draw = offering(apdus, draw_command(alloc));
+    offering(draw, simulate_command(alloc))
 }
 
 /// The program's command with the subcommands on octets.
@@ -156,6 +159,25 @@ fn apdus_command<'a>(alloc: Global) -> Built<'a>
     ensures local { IsLocal result }
 {
     begun_command(alloc, "apdus", &APDUS)
+}
+
+/// The subcommand that draws recorded exchanges.
+fn draw_command<'a>(alloc: Global) -> Built<'a>
+    ensures form { HasForm draw_app result }
+    ensures local { IsLocal result }
+{
+    asking(begun_command(alloc, "draw", &DRAW), svg_arg(alloc))
+}
+
+fn svg_arg<'a>(alloc: Global) -> Arg<'a>
+    ensures rule { rule_of result ≡ svg_rule }
+    ensures local { result.global ≡ false }
+{
+    flag_arg(
+        alloc,
+        "svg",
+        "Draw a picture that any browser shows, in place of lines of text",
+    )
 }
 
 /// The subcommand that records a session of both ends.

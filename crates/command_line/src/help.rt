@@ -197,6 +197,27 @@ Examples:
   scard simulate 3B808131204555 00A4040000:9000 00B0000000:6A82 --lose 2,5 | scard apdus",
 };
 
+/// The page of `draw`.
+pub(crate) const DRAW: Page<'static> = Page {
+    about: "Draw the recorded exchange on standard input, as a ladder between terminal and card",
+    usage: "scard draw [--svg]",
+    after: "A line comes for each line of the file. What the terminal's application says is on the left, what the card's
+host says on the right, and moments and notes are between them. A block has its number, as simulate --lose takes it, an
+arrow, what it says, and its octets:
+  ->| or |<-  it arrives; damaged, where the line after it has what arrived in its place
+  -x or x-    it is lost
+Of many octets the first ones come, and how many there are.
+With --svg the same rows come as one picture in SVG, light or dark as the browser is.
+
+Exit status:
+  0  the drawing
+  2  a fault of the file, as fault: Header or fault: line 3: Word
+
+Examples:
+  scard draw <examples/damaged_and_lost.exchange
+  scard simulate 3B808131204555 00A4040000:9000 --lose 2 | scard draw --svg",
+};
+
 /// The page of `simulate`.
 pub(crate) const SIMULATE: Page<'static> = Page {
     about: "Record a session of a terminal and a card, each of whose blocks may be disturbed",

@@ -13,7 +13,7 @@ use std::{fs, io};
 use tried::{Fault, tried};
 
 /// The files, which lie where the program runs.
-const NAMES: [&str; 23] = [
+const NAMES: [&str; 24] = [
     "atr",
     "atr.changes",
     "block",
@@ -31,6 +31,7 @@ const NAMES: [&str; 23] = [
     "build",
     "simulate",
     "exchange",
+    "draw",
     "hex",
     "dumps",
     "lines",

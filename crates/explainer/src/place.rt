@@ -1,7 +1,7 @@
 //! Where the words of a command line are: its words after the subcommand that are no options, and its options.
 //!
 //! The words are those that the parser takes, so an option is a word that begins with two dashes, and its value is in
-//! it, after an equals sign, or is the next word. `--explain` and `--notes` alone have none.
+//! it, after an equals sign, or is the next word. `--explain`, `--notes` and `--svg` alone have none.
 
 /// The word with this number, or the empty one where there is none.
 pub(crate) fn word_at(words: &[String], number: usize) -> &str {
@@ -35,7 +35,7 @@ pub(crate) fn place_of(words: &[String], nth: usize) -> usize {
 
 /// Whether the value of an option is the next word.
 fn has_next(word: &str) -> bool {
-    !matches!(word, "--explain" | "--notes") && !word.contains('=')
+    !matches!(word, "--explain" | "--notes" | "--svg") && !word.contains('=')
 }
 
 /// The number of the word that has the value of an option; past the end where the option isn't given.

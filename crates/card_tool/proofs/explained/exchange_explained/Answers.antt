@@ -1,7 +1,7 @@
 use Rattle.std.proofs.Common.{[], Ok}
 use Rattle.std.proofs.lemmas.Result.{err_from_is_err_and}
-use Rattle.card_words.specs.declared.request.Request.TheVariants.{Apdus, Migrate, Replay, Simulate}
-use Rattle.card_tool.specs.ExchangeTexts.{Lists, Migrates, Replays}
+use Rattle.card_words.specs.declared.request.Request.TheVariants.{Apdus, Draw, Migrate, Replay, Simulate}
+use Rattle.card_tool.specs.ExchangeTexts.{Draws, Lists, Migrates, Replays}
 use Rattle.card_tool.proofs.Answering.{file-fault, file-wanting}
 use Rattle.card_tool.proofs.Explaining.{wanting, with-note}
 use Rattle.card_tool.proofs.Inputs.{none-begun}
@@ -46,6 +46,16 @@ returns-in_err-file-in-Apdus-clause-told g c =
     (g.R.Source.failures c.read_whole-in-Apdus.new.reader) (λ file text ended h. h)
     c.in_err-file-in-Apdus.field-0.0 c.in_err-file-in-Apdus.ensures)
 
+pub returns-in_err-file-in-Draw-clause-told : goal.returns-in_err-file-in-Draw-clause-told
+returns-in_err-file-in-Draw-clause-told g c =
+    let fault = err_from_is_err_and c.from_residual-in_err-file-in-Draw.result
+    c.from_residual-in_err-file-in-Draw.ensures.1 in
+    rw (c.in-Draw.is, fault.1, fault.2)
+    (file-fault (Draw c.in-Draw.drawing) (Draws c.in-Draw.drawing) (g.R.Source.remaining c.args.reader.now)
+    (g.R.Source.remaining c.read_whole-in-Draw.new.reader) (g.R.Source.failures c.args.reader.now)
+    (g.R.Source.failures c.read_whole-in-Draw.new.reader) (λ file text ended h. h)
+    c.in_err-file-in-Draw.field-0.0 c.in_err-file-in-Draw.ensures)
+
 pub returns-in_err-judged-in-Migrate-clause-told : goal.returns-in_err-judged-in-Migrate-clause-told
 returns-in_err-judged-in-Migrate-clause-told g c =
     let fault = err_from_is_err_and c.from_residual-in_err-judged-in-Migrate.result
@@ -65,6 +75,16 @@ returns-in_err-judged-in-Apdus-clause-told g c =
     (g.R.Source.remaining c.read_whole-in-Apdus.new.reader) (g.R.Source.failures c.args.reader.now)
     (g.R.Source.failures c.read_whole-in-Apdus.new.reader) (λ file text ended h. h) c.in_ok-file-in-Apdus.file
     c.in_ok-file-in-Apdus.ensures)
+
+pub returns-in_err-judged-in-Draw-clause-told : goal.returns-in_err-judged-in-Draw-clause-told
+returns-in_err-judged-in-Draw-clause-told g c =
+    let fault = err_from_is_err_and c.from_residual-in_err-judged-in-Draw.result
+    c.from_residual-in_err-judged-in-Draw.ensures.1 in
+    rw (c.in-Draw.is, fault.1, fault.2)
+    (file-wanting (Draw c.in-Draw.drawing) (Draws c.in-Draw.drawing) (g.R.Source.remaining c.args.reader.now)
+    (g.R.Source.remaining c.read_whole-in-Draw.new.reader) (g.R.Source.failures c.args.reader.now)
+    (g.R.Source.failures c.read_whole-in-Draw.new.reader) (λ file text ended h. h) c.in_ok-file-in-Draw.file
+    c.in_ok-file-in-Draw.ensures)
 
 pub returns-in_err-answer-in-Simulate-clause-told : goal.returns-in_err-answer-in-Simulate-clause-told
 returns-in_err-answer-in-Simulate-clause-told g c =
@@ -106,6 +126,18 @@ returns-in_ok-judged-in-Apdus-clause-told g c =
     (λ asked. c.in_ok-file-in-Apdus.ensures) made.0 made.1 c.noted-in-Apdus.ensures.text.1
     c.noted-in-Apdus.ensures.text.2
     c.noted-in-Apdus.ensures.status)
+
+pub returns-in_ok-judged-in-Draw-clause-told : goal.returns-in_ok-judged-in-Draw-clause-told
+returns-in_ok-judged-in-Draw-clause-told g c =
+    let made = rw c.get-in-Draw.ensures at c.in_ok-judged-in-Draw.ensures in
+    rw c.in-Draw.is (with-note (Draw c.in-Draw.drawing) (g.R.Source.remaining c.args.reader.now)
+    (g.R.Source.remaining c.read_whole-in-Draw.new.reader) (g.R.Source.failures c.args.reader.now)
+    (g.R.Source.failures c.read_whole-in-Draw.new.reader) c.in_ok-judged-in-Draw.judged.answer
+    c.noted-in-Draw.result
+    c.in_ok-judged-in-Draw.judged.note c.noted-in-Draw.ensures.text.0 (Ok c.in_ok-file-in-Draw.file)
+    (λ asked. c.in_ok-file-in-Draw.ensures) made.0 made.1 c.noted-in-Draw.ensures.text.1
+    c.noted-in-Draw.ensures.text.2
+    c.noted-in-Draw.ensures.status)
 
 pub returns-in_ok-answer-in-Simulate-clause-told : goal.returns-in_ok-answer-in-Simulate-clause-told
 returns-in_ok-answer-in-Simulate-clause-told g c =

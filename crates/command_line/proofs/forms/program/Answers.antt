@@ -8,4 +8,5 @@ returns c =
     let migrate-is = c.offering-migrate.ensures _ _ replay-is c.migrate_command.ensures.form
     c.migrate_command.ensures.local in
     let apdus-is = c.offering-apdus.ensures _ _ migrate-is c.apdus_command.ensures.form c.apdus_command.ensures.local in
-    c.offering.ensures _ _ apdus-is c.simulate_command.ensures.form c.simulate_command.ensures.local
+    let draw-is = c.offering-draw.ensures _ _ apdus-is c.draw_command.ensures.form c.draw_command.ensures.local in
+    c.offering.ensures _ _ draw-is c.simulate_command.ensures.form c.simulate_command.ensures.local

@@ -1,0 +1,7 @@
+use Rattle.std.proofs.Common.{◌≡◌, ◌++◌, drop}
+use Rattle.drawings.specs.Ladder.{rows_text}
+use Rattle.drawings.proofs.ladder.push_rows.Given as goal
+
+abbrev pub invariant-loop-row : goal.invariant-loop-row
+invariant-loop-row l =
+    l.text.items ++ rows_text (drop l.row-index l.rows) ≡ l.fn.text.items ++ rows_text l.rows

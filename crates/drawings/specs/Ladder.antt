@@ -1,0 +1,72 @@
+-- The drawing as lines of text, a line a row, of at most 100 columns.
+use Rattle.std.specs.Prelude.{ℕ, ◌-◌, List, [], ◌∷◌, ◌++◌, Bool, true, false, codes, decimal, length}
+use Rattle.std.specs.List.{repeat}
+use Rattle.exchange_text.specs.Exchange.{ExchangeParts}
+use Rattle.exchange_text.specs.declared.exchange.Version.{Version}
+use Rattle.exchange_text.specs.declared.exchange.Version.TheVariants.{One, Two}
+use Rattle.drawings.specs.Rows.{rows_of}
+use Rattle.drawings.specs.declared.ladder.TheConstants.{MARGIN, WIDTH, MIDDLE, AROUND, HALF}
+use Rattle.drawings.specs.declared.row.Row.{Row}
+use Rattle.drawings.specs.declared.row.Row.TheVariants.{Said, Between, Block}
+use Rattle.drawings.specs.declared.row.Side.{Side}
+use Rattle.drawings.specs.declared.row.Side.TheVariants.{Terminal, Card}
+
+abbrev pub blanks : ℕ → List ℕ
+blanks count = repeat count (codes " ")
+
+-- a label after so many blanks
+abbrev pub after : ℕ → List ℕ → List ℕ
+after count label = blanks count ++ label
+
+-- what is said at a side, at its edge
+abbrev pub said_text : Side → List ℕ → List ℕ
+said_text Terminal label = blanks MARGIN ++ label
+said_text Card label = blanks MARGIN ++ after (WIDTH - length label) label
+
+-- the number of a block, at the end of its columns, and a blank
+abbrev pub number_text : ℕ → List ℕ
+number_text number = blanks (MARGIN - 1 - length (decimal number)) ++ (decimal number ++ codes " ")
+
+-- a text so many times, and others before and after
+abbrev pub trail : List ℕ → List ℕ → ℕ → List ℕ → List ℕ
+trail before fill count after = before ++ (repeat count fill ++ after)
+
+-- what is between a label of so many characters and the card: an arrow to it, or one that ends before
+abbrev pub to_card : Bool → ℕ → List ℕ
+to_card false len = trail (codes " ") (codes "-") (WIDTH - AROUND - len) (codes "->|")
+to_card true len = trail (codes " -x") (codes " ") (WIDTH - AROUND - len) (codes "|")
+
+-- what is between the terminal and a label
+abbrev pub to_terminal : Bool → ℕ → List ℕ
+to_terminal false len = trail (codes "|<-") (codes "-") (WIDTH - AROUND - len) (codes " ")
+to_terminal true len = trail (codes "|") (codes " ") (WIDTH - AROUND - len) (codes "x- ")
+
+-- an arrow with a label, from a side; whether the block is lost
+abbrev pub arrow_text : Side → Bool → List ℕ → List ℕ
+arrow_text Terminal lost label = codes "|-- " ++ (label ++ to_card lost (length label))
+arrow_text Card lost label = to_terminal lost (length label) ++ (label ++ codes " --|")
+
+abbrev pub row_text : Row → List ℕ
+row_text (Said side label) = said_text side label
+row_text (Between label) = after MIDDLE label
+row_text (Block number from lost label) = number_text number ++ arrow_text from lost label
+
+abbrev pub rows_text : List Row → List ℕ
+rows_text [] = []
+rows_text (row ∷ rows) = row_text row ++ (codes "\n" ++ rows_text rows)
+
+-- the version of a file, in words
+abbrev pub version_words : Version → List ℕ
+version_words One = codes "version 1"
+version_words Two = codes "version 2"
+
+-- both sides and what is between them, with so many blanks around it
+abbrev pub sides_text : List ℕ → ℕ → List ℕ
+sides_text between count = codes "terminal" ++ (blanks count ++ (between ++ (blanks count ++ codes "card\n")))
+
+-- the first line: both sides, and the version of the file between them
+abbrev pub head_text : Version → List ℕ
+head_text version = blanks MARGIN ++ sides_text (version_words version) HALF
+
+abbrev pub ladder_text : ExchangeParts → List ℕ
+ladder_text e = head_text e.version ++ rows_text (rows_of e)

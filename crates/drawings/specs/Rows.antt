@@ -1,0 +1,147 @@
+-- The rows of a drawing: what each line of a recorded exchange brings, one after another.
+use Rattle.std.specs.Prelude.{ℕ, ◌+◌, ◌-◌, ◌==◌, nat_le, nat_lt, List, [], ◌∷◌, ◌++◌, Bool, true, false, codes, decimal, length, slice_index, take, Option, Some, None, if◌then◌else◌}
+use Rattle.exchange_text.specs.Exchange.{ExchangeParts}
+use Rattle.exchange_text.specs.Names.{name_text}
+use Rattle.exchange_text.specs.Text.{octets_text}
+use Rattle.exchange_text.specs.declared.line.Arrival.{Arrival}
+use Rattle.exchange_text.specs.declared.line.Arrival.TheVariants.{Whole, Lost, Changed}
+use Rattle.exchange_text.specs.declared.line.Line.{Line}
+use Rattle.exchange_text.specs.declared.line.Line.TheVariants as line
+use Rattle.exchange_text.specs.declared.name.Name.{Name}
+use Rattle.exchange_text.specs.declared.name.Name.TheVariants as name
+use Rattle.notes.specs.Says.{NoteText, pcb_says}
+use Rattle.drawings.specs.declared.labels.TheConstants.{WIDE, NARROW, FEWER, LONGEST_NOTE, FEWER_OF_NOTE}
+use Rattle.drawings.specs.declared.row.Row.{Row}
+use Rattle.drawings.specs.declared.row.Row.TheVariants.{Said, Between, Block}
+use Rattle.drawings.specs.declared.row.Side.{Side}
+use Rattle.drawings.specs.declared.row.Side.TheVariants.{Terminal, Card}
+
+abbrev pub other : Side → Side
+other Terminal = Card
+other Card = Terminal
+
+-- ---- labels
+
+-- that not all is shown, and how many there are of what
+abbrev pub rest_text : ℕ → List ℕ → List ℕ
+rest_text count what = codes ".. " ++ (decimal count ++ what)
+
+-- octets, or where they are more than so many the first of them and how many there are
+abbrev pub shown_octets : ℕ → List ℕ → List ℕ
+shown_octets most octets =
+    if nat_le (length octets) most then octets_text octets
+    else octets_text (take (most - FEWER) octets) ++ rest_text (length octets) (codes " octets")
+
+-- a word, and octets after it
+abbrev pub message_label : List ℕ → List ℕ → List ℕ
+message_label word octets = word ++ (codes " " ++ shown_octets WIDE octets)
+
+abbrev pub moment_label : ℕ → List ℕ
+moment_label moment = codes "at " ++ decimal moment
+
+-- characters, or where they are more than so many the first of them and how many there are
+abbrev pub cut_text : ℕ → List ℕ → List ℕ
+cut_text most text =
+    if nat_le (length text) most then text
+    else take (most - FEWER_OF_NOTE) text ++ rest_text (length text) (codes " characters")
+
+abbrev pub note_label : List ℕ → List ℕ
+note_label text = codes "note " ++ cut_text LONGEST_NOTE text
+
+abbrev pub number_text : Option ℕ → List ℕ
+number_text None = []
+number_text (Some number) = decimal number
+
+-- a note in words: octets of which there is none are no block
+abbrev pub note_words : NoteText → List ℕ
+note_words note =
+    if length note.before == 0 then codes "no block"
+    else note.before ++ (number_text note.number ++ note.after)
+
+-- the first octet of a field of so many octets, 0 where it has none
+abbrev pub field_first : ℕ → ℕ → ℕ
+field_first len first = if len == 0 then 0 else first
+
+-- what a block says, by its PCB and the first octet of its field
+abbrev pub block_words : List ℕ → List ℕ
+block_words sent =
+    if nat_lt (length sent) 4 then codes "no block"
+    else note_words (pcb_says (slice_index sent 1) (field_first (slice_index sent 2) (slice_index sent 3)))
+
+-- what became of a block, where it didn't arrive as it was sent
+abbrev pub fate : Arrival → List ℕ
+fate Whole = []
+fate Lost = codes "  lost"
+fate (Changed octets) = codes "  damaged"
+
+abbrev pub block_label : List ℕ → Arrival → List ℕ
+block_label sent arrival = block_words sent ++ (codes "  " ++ (shown_octets NARROW sent ++ fate arrival))
+
+-- ---- rows
+
+abbrev pub word_rows : Side → Name → List Row
+word_rows side name = Said side (name_text name) ∷ []
+
+abbrev pub message_rows : Side → List ℕ → List ℕ → List Row
+message_rows side word octets = Said side (message_label word octets) ∷ []
+
+abbrev pub is_lost : Arrival → Bool
+is_lost Whole = false
+is_lost Lost = true
+is_lost (Changed octets) = false
+
+-- what arrived in place of a block that was damaged
+abbrev pub arrived_rows : Side → Arrival → List Row
+arrived_rows side Whole = []
+arrived_rows side Lost = []
+arrived_rows side (Changed octets) = message_rows side (codes "arrives") octets
+
+abbrev pub block_rows : ℕ → Side → List ℕ → Arrival → List Row
+block_rows number from sent arrival =
+    Block number from (is_lost arrival) (block_label sent arrival) ∷ arrived_rows (other from) arrival
+
+-- what the terminal's application says or hears
+abbrev pub terminal_rows : Line → List Row
+terminal_rows (line.Command octets) = message_rows Terminal (codes "command") octets
+terminal_rows (line.Ifsd size) = message_rows Terminal (codes "ifsd") (size ∷ [])
+terminal_rows line.Quiet = word_rows Terminal name.Quiet
+terminal_rows (line.Answer octets) = message_rows Terminal (codes "answer") octets
+terminal_rows line.IfsSet = word_rows Terminal name.IfsSet
+terminal_rows line.GivenUp = word_rows Terminal name.GivenUp
+terminal_rows line.Dead = word_rows Terminal name.Dead
+terminal_rows _ = []
+
+-- what the card's host says or hears
+abbrev pub card_rows : Line → List Row
+card_rows (line.Reply octets) = message_rows Card (codes "reply") octets
+card_rows (line.Time multiple) = message_rows Card (codes "time") (multiple ∷ [])
+card_rows (line.Ifsc size) = message_rows Card (codes "ifsc") (size ∷ [])
+card_rows (line.Asked octets) = message_rows Card (codes "asked") octets
+card_rows _ = []
+
+-- the rows of a line, with the number that it has if it is a block
+abbrev pub line_rows : ℕ → Line → List Row
+line_rows number (line.FromTerminal sent arrival) = block_rows number Terminal sent arrival
+line_rows number (line.FromCard sent arrival) = block_rows number Card sent arrival
+line_rows number (line.Moment moment) = Between (moment_label moment) ∷ []
+line_rows number (line.Note text) = Between (note_label text) ∷ []
+line_rows number (line.Reply octets) = card_rows (line.Reply octets)
+line_rows number (line.Time multiple) = card_rows (line.Time multiple)
+line_rows number (line.Ifsc size) = card_rows (line.Ifsc size)
+line_rows number (line.Asked octets) = card_rows (line.Asked octets)
+line_rows number said = terminal_rows said
+
+-- how many blocks were sent after a line
+abbrev pub sent_after : ℕ → Line → ℕ
+sent_after sent (line.FromTerminal octets arrival) = sent + 1
+sent_after sent (line.FromCard octets arrival) = sent + 1
+sent_after sent _ = sent
+
+-- the rows of lines after so many blocks
+abbrev pub rows_from : ℕ → List Line → List Row
+rows_from sent [] = []
+rows_from sent (line ∷ lines) = line_rows (sent + 1) line ++ rows_from (sent_after sent line) lines
+
+-- those of an exchange, first the answer to reset, which the card sends
+abbrev pub rows_of : ExchangeParts → List Row
+rows_of e = message_rows Card (codes "atr") e.atr ++ rows_from 0 e.lines

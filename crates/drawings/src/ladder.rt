@@ -1,0 +1,224 @@
+//! The drawing as lines of text.
+
+ghost use Rattle.std.specs.Prelude.{◌≡◌, ◌++◌, IfOk, OnOk};
+ghost use Rattle.std.specs.List.{repeat};
+ghost use Rattle.drawings.specs.Ladder as ladder;
+ghost use Rattle.drawings.specs.Ladder.{ladder_text};
+
+use crate::labels::{extend, push};
+use crate::row::{Row, Side};
+use crate::rows::rows;
+use exchange_text::{Exchange, Version};
+use std::alloc::{AllocError, Global};
+
+/// How many columns a line has for the numbers of blocks, with the blank after them.
+const MARGIN: usize = 7;
+
+/// How many it has after them.
+const WIDTH: usize = 93;
+
+/// How many are before a moment or a remark.
+const MIDDLE: usize = 27;
+
+/// How many an arrow has around its label, at the least.
+const AROUND: usize = 8;
+
+/// How many are between a side and the version of the file in the first line.
+const HALF: usize = 36;
+
+/// A recorded exchange as lines of text: the terminal is on the left, the card on the right, and each row is a line.
+///
+/// The first line has both sides, and the version of the file between them. What is said at a side is at its edge. A
+/// block's line begins with its number, and has an arrow with its label, which ends beside the label where the block is
+/// lost. Moments and remarks are in the middle.
+pub fn draw_ladder(alloc: Global, exchange: &Exchange) -> Result<Vec<u8>, AllocError>
+    ensures { IfOk result (λ text. text.items ≡ ladder_text exchange.now) }
+{
+    let rows = rows(alloc, exchange)?;
+    let mut text = Vec::new(alloc);
+    push_head(alloc, &mut text, exchange.version())?;
+    push_rows(alloc, &mut text, rows.as_slice())?;
+    Ok(text)
+}
+
+/// Adds the first line.
+fn push_head(alloc: Global, text: &mut Vec<u8>, version: Version) -> Result<(), AllocError>
+    ensures { OnOk result (text.new.items ≡ text.old.items ++ ladder.head_text version) }
+{
+    push_many(alloc, text, " ", MARGIN)?;
+    push_sides(alloc, text, version_words(version), HALF)
+}
+
+/// Adds both sides and what is between them, with so many blanks around it.
+fn push_sides(
+    alloc: Global,
+    text: &mut Vec<u8>,
+    between: &str,
+    count: usize,
+) -> Result<(), AllocError>
+    ensures { OnOk result (text.new.items
+        ≡ text.old.items ++ ladder.sides_text between.now count) }
+{
+    push(text, "terminal")?;
+    push_many(alloc, text, " ", count)?;
+    push(text, between)?;
+    push_many(alloc, text, " ", count)?;
+    push(text, "card\n")
+}
+
+/// The version of a file, in words.
+pub(crate) fn version_words(version: Version) -> &'static str
+    ensures { result.now ≡ ladder.version_words version }
+{
+    match version {
+        Version::One => "version 1",
+        Version::Two => "version 2",
+    }
+}
+
+/// Adds a line for each row.
+fn push_rows(alloc: Global, text: &mut Vec<u8>, rows: &[Row]) -> Result<(), AllocError>
+    ensures { OnOk result (text.new.items ≡ text.old.items ++ ladder.rows_text rows.now) }
+{
+    for row in rows {
+        push_row(alloc, text, row)?;
+        push(text, "\n")?;
+    }
+    Ok(())
+}
+
+/// Adds the line of a row, without its end.
+fn push_row(alloc: Global, text: &mut Vec<u8>, row: &Row) -> Result<(), AllocError>
+    ensures { OnOk result (text.new.items ≡ text.old.items ++ ladder.row_text row.now) }
+{
+    match row {
+        Row::Said { side, label } => push_said(alloc, text, *side, label.get()),
+        Row::Between { label } => push_after(alloc, text, MIDDLE, label.get()),
+        Row::Block {
+            number,
+            from,
+            is_lost,
+            label,
+        } => {
+            push_number(alloc, text, *number)?;
+            push_arrow(alloc, text, *from, *is_lost, label.get())
+        }
+    }
+}
+
+/// Adds what is said at a side.
+fn push_said(alloc: Global, text: &mut Vec<u8>, side: Side, label: &[u8]) -> Result<(), AllocError>
+    ensures { OnOk result (text.new.items ≡ text.old.items ++ ladder.said_text side label.now) }
+{
+    push_many(alloc, text, " ", MARGIN)?;
+    match side {
+        Side::Terminal => extend(text, label),
+        Side::Card => push_after(alloc, text, WIDTH.saturating_sub(label.len()), label),
+    }
+}
+
+/// Adds a label after so many blanks.
+fn push_after(
+    alloc: Global,
+    text: &mut Vec<u8>,
+    count: usize,
+    label: &[u8],
+) -> Result<(), AllocError>
+    ensures { OnOk result (text.new.items ≡ text.old.items ++ ladder.after count label.now) }
+{
+    push_many(alloc, text, " ", count)?;
+    extend(text, label)
+}
+
+/// Adds the number of a block at the end of its columns.
+fn push_number(alloc: Global, text: &mut Vec<u8>, number: usize) -> Result<(), AllocError>
+    ensures { OnOk result (text.new.items ≡ text.old.items ++ ladder.number_text number) }
+{
+    let digits = format!(in alloc; "{number}")?;
+    push_many(alloc, text, " ", (MARGIN - 1).saturating_sub(digits.len()))?;
+    push(text, digits.as_str())?;
+    push(text, " ")
+}
+
+/// Adds an arrow with a label.
+fn push_arrow(
+    alloc: Global,
+    text: &mut Vec<u8>,
+    from: Side,
+    is_lost: bool,
+    label: &[u8],
+) -> Result<(), AllocError>
+    ensures { OnOk result (text.new.items
+        ≡ text.old.items ++ ladder.arrow_text from is_lost label.now) }
+{
+    match from {
+        Side::Terminal => {
+            push(text, "|-- ")?;
+            extend(text, label)?;
+            push_to_card(alloc, text, is_lost, label.len())
+        }
+        Side::Card => {
+            push_to_terminal(alloc, text, is_lost, label.len())?;
+            extend(text, label)?;
+            push(text, " --|")
+        }
+    }
+}
+
+/// Adds what is between a label of so many characters and the card.
+fn push_to_card(
+    alloc: Global,
+    text: &mut Vec<u8>,
+    is_lost: bool,
+    len: usize,
+) -> Result<(), AllocError>
+    ensures { OnOk result (text.new.items ≡ text.old.items ++ ladder.to_card is_lost len) }
+{
+    let left = (WIDTH - AROUND).saturating_sub(len);
+    if is_lost {
+        push_trail(alloc, text, " -x", " ", left, "|")
+    } else {
+        push_trail(alloc, text, " ", "-", left, "->|")
+    }
+}
+
+/// Adds what is between the terminal and a label of so many characters.
+fn push_to_terminal(
+    alloc: Global,
+    text: &mut Vec<u8>,
+    is_lost: bool,
+    len: usize,
+) -> Result<(), AllocError>
+    ensures { OnOk result (text.new.items ≡ text.old.items ++ ladder.to_terminal is_lost len) }
+{
+    let left = (WIDTH - AROUND).saturating_sub(len);
+    if is_lost {
+        push_trail(alloc, text, "|", " ", left, "x- ")
+    } else {
+        push_trail(alloc, text, "|<-", "-", left, " ")
+    }
+}
+
+/// Adds a text so many times, and others before and after.
+fn push_trail(
+    alloc: Global,
+    text: &mut Vec<u8>,
+    before: &str,
+    fill: &str,
+    count: usize,
+    after: &str,
+) -> Result<(), AllocError>
+    ensures { OnOk result (text.new.items
+        ≡ text.old.items ++ ladder.trail before.now fill.now count after.now) }
+{
+    push(text, before)?;
+    push_many(alloc, text, fill, count)?;
+    push(text, after)
+}
+
+/// Adds a text so many times.
+fn push_many(alloc: Global, text: &mut Vec<u8>, part: &str, count: usize) -> Result<(), AllocError>
+    ensures { OnOk result (text.new.items ≡ text.old.items ++ repeat count part.now) }
+{
+    push(text, part.repeat(alloc, count)?.as_str())
+}

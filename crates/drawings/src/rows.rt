@@ -1,0 +1,206 @@
+//! The rows of a drawing, line by line.
+
+ghost use Rattle.std.specs.Prelude.{◌≡◌, ◌+◌, ◌<◌, ◌^◌, ◌++◌, ◌∷◌, [], IfOk, OnOk};
+ghost use Rattle.exchange_text.specs.Names.{name_text};
+ghost use Rattle.drawings.specs.Rows as drawing;
+ghost use Rattle.drawings.specs.declared.row.Side.{Side as AnySide};
+
+use crate::labels::{block_label, message_label, moment_label, note_label, word_label};
+use crate::row::{Row, Side};
+use exchange_text::{Arrival, Exchange, Line, Name};
+use std::alloc::{AllocError, Global};
+
+/// The rows of a recorded exchange.
+pub(crate) fn rows(alloc: Global, exchange: &Exchange) -> Result<Vec<Row>, AllocError>
+    ensures { IfOk result (λ rows. rows.items ≡ drawing.rows_of exchange.now) }
+{
+    let mut rows = Vec::new(alloc);
+    push_message(alloc, &mut rows, Side::Card, "atr", exchange.atr())?;
+    push_lines(alloc, &mut rows, exchange.lines().get())?;
+    Ok(rows)
+}
+
+/// Adds the rows of lines.
+fn push_lines(alloc: Global, rows: &mut Vec<Row>, lines: &[Line]) -> Result<(), AllocError>
+    ensures { OnOk result (rows.new.items ≡ rows.old.items ++ drawing.rows_from 0 lines.now) }
+{
+    let mut sent = 0;
+    for line in lines {
+        push_line(alloc, rows, sent + 1, line)?;
+        sent = sent_after(sent, line);
+    }
+    Ok(())
+}
+
+/// How many blocks were sent after a line.
+fn sent_after(sent: usize, line: &Line) -> usize
+    requires { sent + 1 < 2 ^ 64 }
+    ensures { result ≡ drawing.sent_after sent line.now }
+{
+    match line {
+        Line::FromTerminal { .. } | Line::FromCard { .. } => sent + 1,
+        _ => sent,
+    }
+}
+
+/// Adds the rows of a line, with the number that it has if it is a block.
+fn push_line(
+    alloc: Global,
+    rows: &mut Vec<Row>,
+    number: usize,
+    line: &Line,
+) -> Result<(), AllocError>
+    ensures { OnOk result (rows.new.items ≡ rows.old.items ++ drawing.line_rows number line.now) }
+{
+    match line {
+        Line::FromTerminal { sent, arrival } => {
+            push_block(alloc, rows, number, Side::Terminal, sent.get(), arrival)
+        }
+        Line::FromCard { sent, arrival } => {
+            push_block(alloc, rows, number, Side::Card, sent.get(), arrival)
+        }
+        Line::Moment(moment) => push_row(
+            rows,
+            Row::Between {
+                label: moment_label(alloc, *moment)?,
+            },
+        ),
+        Line::Note(note) => push_row(
+            rows,
+            Row::Between {
+                label: note_label(alloc, note.get())?,
+            },
+        ),
+        Line::Reply(_) | Line::Time(_) | Line::Ifsc(_) | Line::Asked(_) => push_card(
+            alloc, rows, line,
+        ),
+        _ => push_terminal(alloc, rows, line),
+    }
+}
+
+/// Adds the row of what the terminal's application says or hears, nothing for another line.
+fn push_terminal(alloc: Global, rows: &mut Vec<Row>, line: &Line) -> Result<(), AllocError>
+    ensures { OnOk result (rows.new.items ≡ rows.old.items ++ drawing.terminal_rows line.now) }
+{
+    let side = Side::Terminal;
+    match line {
+        Line::Command(octets) => push_named(alloc, rows, side, Name::Command, octets.get()),
+        Line::Ifsd(size) => push_named(alloc, rows, side, Name::Ifsd, &[*size]),
+        Line::Answer(octets) => push_named(alloc, rows, side, Name::Answer, octets.get()),
+        Line::Quiet => push_word(alloc, rows, side, Name::Quiet),
+        Line::IfsSet => push_word(alloc, rows, side, Name::IfsSet),
+        Line::GivenUp => push_word(alloc, rows, side, Name::GivenUp),
+        Line::Dead => push_word(alloc, rows, side, Name::Dead),
+        _ => Ok(()),
+    }
+}
+
+/// Adds the row of what the card's host says or hears, nothing for another line.
+fn push_card(alloc: Global, rows: &mut Vec<Row>, line: &Line) -> Result<(), AllocError>
+    ensures { OnOk result (rows.new.items ≡ rows.old.items ++ drawing.card_rows line.now) }
+{
+    let side = Side::Card;
+    match line {
+        Line::Reply(octets) => push_named(alloc, rows, side, Name::Reply, octets.get()),
+        Line::Time(multiple) => push_named(alloc, rows, side, Name::Time, &[*multiple]),
+        Line::Ifsc(size) => push_named(alloc, rows, side, Name::Ifsc, &[*size]),
+        Line::Asked(octets) => push_named(alloc, rows, side, Name::Asked, octets.get()),
+        _ => Ok(()),
+    }
+}
+
+/// Adds the row of a name alone.
+fn push_word(alloc: Global, rows: &mut Vec<Row>, side: Side, name: Name) -> Result<(), AllocError>
+    ensures { OnOk result (rows.new.items ≡ rows.old.items ++ drawing.word_rows side name) }
+{
+    let label = word_label(alloc, name.word())?;
+    push_row(rows, Row::Said { side, label })
+}
+
+/// Adds the row of a name with octets.
+fn push_named(
+    alloc: Global,
+    rows: &mut Vec<Row>,
+    side: Side,
+    name: Name,
+    octets: &[u8],
+) -> Result<(), AllocError>
+    ensures { OnOk result (rows.new.items
+        ≡ rows.old.items ++ drawing.message_rows side (name_text name) octets.now) }
+{
+    push_message(alloc, rows, side, name.word(), octets)
+}
+
+/// Adds the row of a word with octets.
+fn push_message(
+    alloc: Global,
+    rows: &mut Vec<Row>,
+    side: Side,
+    word: &str,
+    octets: &[u8],
+) -> Result<(), AllocError>
+    ensures { OnOk result (rows.new.items
+        ≡ rows.old.items ++ drawing.message_rows side word.now octets.now) }
+{
+    let label = message_label(alloc, word, octets)?;
+    push_row(rows, Row::Said { side, label })
+}
+
+/// Adds the row of a block, and one of what arrived in its place.
+fn push_block(
+    alloc: Global,
+    rows: &mut Vec<Row>,
+    number: usize,
+    from: Side,
+    sent: &[u8],
+    arrival: &Arrival,
+) -> Result<(), AllocError>
+    ensures { OnOk result (rows.new.items
+        ≡ rows.old.items ++ drawing.block_rows number from sent.now arrival.now) }
+{
+    let label = block_label(alloc, sent, arrival)?;
+    let is_lost = is_lost(arrival);
+    push_row(
+        rows,
+        Row::Block {
+            number,
+            from,
+            is_lost,
+            label,
+        },
+    )?;
+    push_arrived(alloc, rows, from.other(), arrival)
+}
+
+fn is_lost(arrival: &Arrival) -> bool
+    ensures { result ≡ drawing.is_lost arrival.now }
+{
+    match arrival {
+        Arrival::Lost => true,
+        Arrival::Whole | Arrival::Changed(_) => false,
+    }
+}
+
+/// Adds a row of what arrived, where it isn't what was sent.
+fn push_arrived(
+    alloc: Global,
+    rows: &mut Vec<Row>,
+    side: Side,
+    arrival: &Arrival,
+) -> Result<(), AllocError>
+    ensures { OnOk result (rows.new.items ≡ rows.old.items
+        ++ drawing.arrived_rows side arrival.now) }
+{
+    match arrival {
+        Arrival::Changed(octets) => push_message(alloc, rows, side, "arrives", octets.get()),
+        Arrival::Whole | Arrival::Lost => Ok(()),
+    }
+}
+
+/// Adds a row.
+fn push_row(rows: &mut Vec<Row>, row: Row) -> Result<(), AllocError>
+    ensures { OnOk result (rows.new.items ≡ rows.old.items ++ row ∷ []) }
+{
+    rows.push(row)?;
+    Ok(())
+}
