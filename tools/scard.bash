@@ -1,10 +1,10 @@
 # Completion of the words of scard for bash.
 
 # Sets what the words before the one under way say: place, which that one has among the words that are no option and no
-# option's value, and what, the second of these.
+# option's value, command, the first of these, and what, the second.
 _scard_before() {
     local at before value=
-    place=1 what=
+    place=1 command= what=
     for ((at = 1; at < COMP_CWORD; at++)); do
         before=${COMP_WORDS[at]}
         case $before in
@@ -15,6 +15,7 @@ _scard_before() {
                 value=
                 continue
             fi
+            [ $place != 1 ] || command=$before
             [ $place != 2 ] || what=$before
             place=$((place + 1))
             ;;
@@ -24,7 +25,7 @@ _scard_before() {
 
 # Sets words to those that can come at the place, where no option's value does.
 _scard_words() {
-    case ${COMP_WORDS[1]} in
+    case $command in
     check) words='--stdin --ifs --number --explain --help' ;;
     show) words='--stdin --ifs --number --notes --explain --help' ;;
     build) words='--explain --help' ;;
@@ -32,11 +33,11 @@ _scard_words() {
     migrate) words='--explain --help' ;;
     apdus) words='--explain --help' ;;
     draw) words='--svg --explain --help' ;;
-    simulate) words='--ifsd --lose --damage --spoil --explain --help' ;;
+    simulate) words='--stdin --ifsd --lose --damage --spoil --explain --help' ;;
     esac
-    [ "${COMP_WORDS[1]} $what" != 'build tidy' ] || words="$words --stdin"
-    case $place:${COMP_WORDS[1]} in
-    1:*) words='check show build replay migrate apdus draw simulate help --version --help' ;;
+    [ "$command $what" != 'build tidy' ] || words="$words --stdin"
+    case $place:$command in
+    1:*) words='check show build replay migrate apdus draw simulate help --explain --version --help' ;;
     2:check | 2:show) words="$words atr block chain command response tlv dol" ;;
     2:build) words="$words chain tidy fill" ;;
     2:help) words='check show build replay migrate apdus draw simulate' ;;
@@ -45,7 +46,7 @@ _scard_words() {
 
 # An option with its value, as --end=card, is three words in COMP_WORDS, or one where no word breaks at equals signs.
 _scard() {
-    local word=${COMP_WORDS[COMP_CWORD]} option=${COMP_WORDS[COMP_CWORD - 1]} front= place what words=
+    local word=${COMP_WORDS[COMP_CWORD]} option=${COMP_WORDS[COMP_CWORD - 1]} front= place command what words=
     case $word in
     =) word= ;;
     --*=*) option=${word%%=*} front=${word%%=*}= word=${word#*=} ;;
@@ -59,8 +60,9 @@ _scard() {
     --ifs | --ifsd | --lose | --damage | --spoil) ;;
     *) _scard_words ;;
     esac
-    case $option:${COMP_WORDS[1]}:$what in
+    case $option:$command:$what in
     --stdin:check:* | --stdin:show:*) ;;
+    --stdin:simulate:*) words=lines ;;
     --stdin:build: | --stdin:build:tidy) words=${words% lines} ;;
     --stdin:*) words= ;;
     esac

@@ -2,7 +2,10 @@
 use Rattle.std.proofs.Common.{◌≡◌, ◌⊎◌, ◌∙◌, ◌++◌, inl, inr, ℕ, List, [], Option, Some, None, Result, Ok, Err, IfOk, IfErr, OnOk, IsOkAnd, String, length, string_bytes, true, ap, append-nil, refl, subst, sym}
 use Rattle.std.specs.declared.alloc.Global.{Global}
 use Rattle.command_line.specs.Explain.{asks_to_explain}
-use Rattle.card_words.specs.Given.{octets_given, IsFromReader}
+use Rattle.card_words.specs.Given.{octets_given, octets_in, IsFromReader}
+use Rattle.card_words.specs.Value.{UnlessMemory}
+use Rattle.card_words.specs.declared.given.Form.{Form}
+use Rattle.card_words.specs.declared.given.Given.TheVariants.{Read, Word}
 use Rattle.card_words.specs.Texts.{fault_text}
 use Rattle.card_words.specs.Words.{IsRead, NeedsFile}
 use Rattle.card_words.specs.declared.fault.Fault.{Fault}
@@ -11,8 +14,9 @@ use Rattle.card_words.specs.declared.given.Given.{Given}
 use Rattle.card_words.specs.declared.request.Asked.TheVariants.{Once}
 use Rattle.card_words.specs.declared.request.Request.{Request}
 use Rattle.card_tool.specs.Answers.{AnswersTo, Gives, IsAnswerTo, IsRight, IsRightTo, IsToldOf}
-use Rattle.card_tool.specs.Explained.{differs, Fits, GivesExplained, IsAdded, IsExplained, IsDifferenceNote, IsFaulted, IsFaultNote, IsFillNote, IsLineNote, IsNoted, IsNotedTo, IsNoteTo, IsRightWith, on_fault, silent}
-use Rattle.card_tool.specs.Files.{IsTaken, ReadsWhole}
+use Rattle.card_tool.specs.Explained.{differs, form_note, octets_of, text_note, Fits, GivesExplained, IsAdded, IsExplained, IsDifferenceNote, IsFaulted, IsFaultNote, IsFillNote, IsLineNote, IsNoted, IsNotedTo, IsNoteOn, IsNoteTo, IsRightWith, IsTakenWith, on_fault, silent}
+use Rattle.card_tool.specs.Files.{ReadsWhole}
+use Rattle.card_tool.specs.declared.explained.Taken.{Taken}
 use Rattle.card_tool.specs.ExchangeTexts.{IsOutcome}
 use Rattle.exchange_text.specs.Exchange.{ExchangeParts}
 use Rattle.exchange_core.specs.Replay.{IfDiffers, Replays}
@@ -30,6 +34,10 @@ use Rattle.card_kinds.specs.declared.answer.Answer.{Answer}
 use Rattle.card_kinds.specs.declared.status.Status.{Status}
 use Rattle.card_kinds.specs.declared.status.Status.TheVariants as status
 use Rattle.card_tool.proofs.Answering.{right}
+use Rattle.card_tool.proofs.Inputs.{counted}
+
+abbrev taken-as : List ℕ → Result (List ℕ) Fault
+taken-as octets = Ok octets
 
 -- memory was wanting before anything was read
 pub wanting : (request : Request) (held : Option (List ℕ)) (count : ℕ)
@@ -119,7 +127,7 @@ module _ (request : Request) (held left : Option (List ℕ)) (before after : ℕ
   pub with-note : {E : Type 0} (answer told : Answer) (note : Result (String Global) E) (added : List ℕ)
       (file : Result (List ℕ) Fault) → (NeedsFile request → ReadsWhole held left before after file)
       → IsAnswerTo request file answer.text answer.status
-      → IfOk note (λ text. IsNoteTo request file answer.status (string_bytes text)) → told.text ≡ answer.text ++ added
+      → IfOk note (λ text. IsNoteTo request file (string_bytes text)) → told.text ≡ answer.text ++ added
       → IsAdded note added → told.status ≡ answer.status
       → IsExplained (IsNotedTo request held left before after) told.text told.status
   with-note answer told note added file is_file h fits text (inl none) ended = record {
@@ -142,42 +150,84 @@ module _ (request : Request) (held left : Option (List ℕ)) (before after : ℕ
       file = file;
       is_file = is_file;
       is_answer = subst (IsAnswerTo request file answer.text) (sym ended) h;
-      is_note = subst (λ (e : Status). IsNoteTo request file e added) (sym ended)
-          (subst (IsNoteTo request file answer.status) (sym is) fits);
+      is_note = subst (IsNoteTo request file) (sym is) fits;
     });
     is_whole = text;
   }
   with-note answer told (Err e) added file is_file h fits text (inr is) ended = absurd is
 
--- a request that tells of the octets that are given, and has a note on them
+-- ---- octets that are given
+
+-- a word gave them, and there is no text
+pub word-taken-with : (octets : List ℕ) (made : Taken) (held : Option (List ℕ)) (count : ℕ) → made.octets ≡ octets
+    → IfOk made.note (λ note. string_bytes note ≡ []) → IsTakenWith (Word octets) held held count count (Ok made)
+word-taken-with octets made held count is none = record {
+  taken = record {
+    file = Ok [];
+    is_file = λ asked. absurd asked;
+    is_taken = inl (ap taken-as is);
+    count = refl;
+  };
+  is_note = none;
+}
+
+-- or a text was read, and they were taken from it
+pub read-with : (form : Form) (held left : Option (List ℕ)) (before after : ℕ) (text : List ℕ)
+    (result : Result Taken Fault) → ReadsWhole held left before after (Ok text)
+    → UnlessMemory (octets_of result) (octets_in form text)
+    → IfOk result (λ made. IfOk made.note (λ note. string_bytes note ≡ text_note form text))
+    → IsTakenWith (Read form) held left before after result
+read-with form held left before after text result had octets note = record {
+  taken = record {
+    file = Ok text;
+    is_file = λ asked. had;
+    is_taken = elim octets [
+      | inl memory ↦ inr (memory, had.count)
+      | inr same ↦ inl same
+    ];
+    count = counted before after (octets_of result) had.count;
+  };
+  is_note = note;
+}
+
+-- a request that tells of the octets that are given, and has a note on them and on their text
 module _ (request : Request) (given : Given) (Told : List ℕ → List ℕ → Status → Type 0)
     (Note : List ℕ → List ℕ → Type 0)
     (held left : Option (List ℕ)) (before after : ℕ) (need : NeedsFile request → IsFromReader given)
     (answers : (file : Result (List ℕ) Fault) (text : List ℕ) (ended : Status)
     → IsToldOf Told (octets_given given file) text ended → IsAnswerTo request file text ended)
-    (notes : (file : Result (List ℕ) Fault) (ended : Status) (note : List ℕ)
-    → IsOkAnd (octets_given given file) (λ b. Note b note) → IsNoteTo request file ended note) where
-  on-given : {E : Type 0} (note : Result (String Global) E) (file : Result (List ℕ) Fault) (ended : Status)
-      (octets : List ℕ)
-      → Ok octets ≡ octets_given given file → IfOk note (λ text. Note octets (string_bytes text))
-      → IfOk note (λ text. IsNoteTo request file ended (string_bytes text))
-  on-given (Ok text) file ended octets same h = notes file ended (string_bytes text)
-      (subst (λ (r : Result (List ℕ) Fault). IsOkAnd r (λ b. Note b (string_bytes text))) same h)
-  on-given (Err e) file ended octets same h = tt
+    (notes : (file : Result (List ℕ) Fault) (note : List ℕ) → IsNoteOn given file Note note
+    → IsNoteTo request file note) where
+  on-given : {E F : Type 0} (one : Result (String Global) E) (other : Result (String Global) F)
+      (note : Result (String Global) E) (file : Result (List ℕ) Fault) (octets : List ℕ)
+      → Ok octets ≡ octets_given given file → IfOk one (λ text. Note octets (string_bytes text))
+      → IfOk other (λ text. string_bytes text ≡ form_note given file)
+      → IfOk note (λ text. IsOkAnd one (λ first. IsOkAnd other (λ second.
+      string_bytes text ≡ string_bytes first ++ string_bytes second)))
+      → IfOk note (λ text. IsNoteTo request file (string_bytes text))
+  on-given (Ok first) (Ok second) (Ok text) file octets same h g both =
+      notes file (string_bytes text) (subst (λ (r : Result (List ℕ) Fault). IsOkAnd r (λ b. (front : List ℕ)
+      × Note b front × (string_bytes text ≡ front ++ form_note given file))) same
+      (string_bytes first, h, both ∙ ap (λ (l : List ℕ). string_bytes first ++ l) g))
+  on-given (Ok first) (Err e) (Ok text) file octets same h g both = absurd both
+  on-given (Err e) other (Ok text) file octets same h g both = absurd both
+  on-given one other (Err e) file octets same h g both = tt
 
-  pub noted-given : {E : Type 0} (octets : List ℕ) → IsTaken given held left before after (Ok octets)
-      → (answer told : Answer) (note : Result (String Global) E) (added : List ℕ)
-      → Told octets answer.text answer.status → IfOk note (λ text. Note octets (string_bytes text))
+  pub noted-given : {E : Type 0} (made : Taken) → IsTakenWith given held left before after (Ok made)
+      → (answer told : Answer) (one note : Result (String Global) E) (added : List ℕ)
+      → Told made.octets answer.text answer.status → IfOk one (λ text. Note made.octets (string_bytes text))
+      → IfOk note (λ text. IsOkAnd one (λ first. IsOkAnd made.note (λ second.
+      string_bytes text ≡ string_bytes first ++ string_bytes second)))
       → told.text ≡ answer.text ++ added → IsAdded note added → told.status ≡ answer.status
       → IsExplained (IsNotedTo request held left before after) told.text told.status
-  noted-given octets had answer told note added h fits text is ended =
-      elim had.is_taken [
+  noted-given made had answer told one note added h fits both text is ended =
+      elim had.taken.is_taken [
         | inl same ↦
-            with-note request held left before after answer told note added had.file
-            (λ asked. had.is_file (need asked))
-            (answers had.file answer.text answer.status
+            with-note request held left before after answer told note added had.taken.file
+            (λ asked. had.taken.is_file (need asked))
+            (answers had.taken.file answer.text answer.status
             (subst (λ (r : Result (List ℕ) Fault). IsToldOf Told r answer.text answer.status) same h))
-            (on-given note had.file answer.status octets same fits) text is ended
+            (on-given one made.note note had.taken.file made.octets same fits had.is_note both) text is ended
         | inr memory ↦ absurd (cc memory.0)
       ]
 

@@ -108,6 +108,7 @@ word-taken octets held count = record {
       refl;
 }
 
-counted : (before after : ℕ) (taken : Result (List ℕ) Fault) → after ≡ before → IfOk taken (λ _. after ≡ before)
+-- where they were, no call failed
+pub counted : (before after : ℕ) (taken : Result (List ℕ) Fault) → after ≡ before → IfOk taken (λ _. after ≡ before)
 counted before after (Ok octets) h = h
 counted before after (Err fault) h = tt

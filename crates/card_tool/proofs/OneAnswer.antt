@@ -4,7 +4,8 @@ use Rattle.octet_core.specs.Octets.{AreOctets}
 use Rattle.card_tool.specs.ExchangeTexts.{Draws, Lists, Migrates, Replays}
 use Rattle.card_kinds.proofs.OneOf.{OneText, ended-by, plain}
 use Rattle.card_tool.proofs.Exchanges.{drawn-once, listed-once, migrated-once, replayed-once}
-use Rattle.card_tool.proofs.Simulations.{simulated-once}
+use Rattle.card_tool.proofs.Simulations.{simulated-once, lines-once}
+use Rattle.card_tool.specs.SimulationTexts.{SimulatesLines}
 use Rattle.card_tool.specs.Answers.{line_end, plain_aim, plain_asked, plain_request, plain_task, plain_text, plain_told, AreLinesTold, IsAnswerAsked, IsAnswerTo, IsLineTold, IsTold, IsToldOf, Tells}
 use Rattle.card_kinds.specs.Verdicts.{Shows, Tidies}
 use Rattle.card_tool.proofs.Annotating.{none-noted}
@@ -32,7 +33,7 @@ use Rattle.card_words.specs.declared.request.Asked.{Asked}
 use Rattle.card_words.specs.declared.request.Asked.TheVariants.{Once, Lines}
 use Rattle.card_words.specs.declared.request.Expected.{Expected}
 use Rattle.card_words.specs.declared.request.Request.{Request}
-use Rattle.card_words.specs.declared.request.Request.TheVariants.{BuildChain, BuildTidy, BuildFill, Tell, Replay, Migrate, Apdus, Draw, Simulate, Help, Version}
+use Rattle.card_words.specs.declared.request.Request.TheVariants.{BuildChain, BuildTidy, BuildFill, Tell, Replay, Migrate, Apdus, Draw, Simulate, SimulateLines, Help, Version}
 use Rattle.card_words.specs.declared.request.Task.{Task}
 use Rattle.card_kinds.specs.declared.status.Status.{Status}
 use Rattle.card_kinds.specs.declared.status.Status.TheVariants as status
@@ -136,6 +137,8 @@ one-answer Migrate file sized octets as_read = told-of Migrates migrated-once fi
 one-answer Apdus file sized octets as_read = told-of Lists listed-once file
 one-answer (Draw drawing) file sized octets as_read = told-of (Draws drawing) (drawn-once drawing) file
 one-answer (Simulate session) file sized octets as_read = simulated-once session octets.0
+one-answer (SimulateLines session) file sized octets as_read =
+    told-of (SimulatesLines session) (lines-once session octets.0) file
 one-answer (Help help) file sized octets as_read = plain help
 one-answer Version file sized octets as_read = plain version_line
 
@@ -199,6 +202,7 @@ asked-too (Once Migrate) file text ended h = h
 asked-too (Once Apdus) file text ended h = h
 asked-too (Once (Draw drawing)) file text ended h = h
 asked-too (Once (Simulate session)) file text ended h = h
+asked-too (Once (SimulateLines session)) file text ended h = h
 asked-too (Once (Help help)) file text ended h = h
 asked-too (Once Version) file text ended h = h
 asked-too (Lines task) (Ok b) text ended h = lines-too task (all_lines b) text ended h
@@ -277,6 +281,7 @@ notes-cut (Once Migrate) file text ended h = h
 notes-cut (Once Apdus) file text ended h = h
 notes-cut (Once (Draw drawing)) file text ended h = h
 notes-cut (Once (Simulate session)) file text ended h = h
+notes-cut (Once (SimulateLines session)) file text ended h = h
 notes-cut (Once (Help help)) file text ended h = h
 notes-cut (Once Version) file text ended h = h
 notes-cut (Lines task) (Ok b) text ended h = cut-lines task (all_lines b) text ended h

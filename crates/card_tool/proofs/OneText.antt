@@ -20,7 +20,7 @@ use Rattle.card_words.specs.declared.request.Asked.{Asked}
 use Rattle.card_words.specs.declared.request.Asked.TheVariants.{Once, Lines}
 use Rattle.card_words.specs.declared.request.Aim.{Aim}
 use Rattle.card_words.specs.declared.request.Aim.TheVariants.{Check, Show, Note}
-use Rattle.card_words.specs.declared.request.Request.TheVariants.{BuildChain, BuildTidy, BuildFill, Tell, Replay, Migrate, Apdus, Draw, Simulate, Help, Version}
+use Rattle.card_words.specs.declared.request.Request.TheVariants.{BuildChain, BuildTidy, BuildFill, Tell, Replay, Migrate, Apdus, Draw, Simulate, SimulateLines, Help, Version}
 use Rattle.card_tool.specs.Answers.{plain_text, plain_told, AsksForNotes, AskForNotes, IsAnswer, IsAnswerAsked, IsSameText}
 use Rattle.notes.specs.Noted.{without_notes}
 use Rattle.card_tool.specs.Files.{file_of, largest_file, ReadsWhole}
@@ -54,6 +54,7 @@ same-or-noted (Once Migrate) text other h = inl h
 same-or-noted (Once Apdus) text other h = inl h
 same-or-noted (Once (Draw drawing)) text other h = inl h
 same-or-noted (Once (Simulate session)) text other h = inl h
+same-or-noted (Once (SimulateLines session)) text other h = inl h
 same-or-noted (Once (Help help)) text other h = inl h
 same-or-noted (Once Version) text other h = inl h
 same-or-noted (Lines task) text other h = by-aim task.aim text other h

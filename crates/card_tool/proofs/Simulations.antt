@@ -1,6 +1,6 @@
 -- That a session comes to one text.
-use Rattle.std.proofs.Common.{IfOk, ◌≡◌, ◌<◌, ◌≤◌, ◌∙◌, ◌⊎◌, inl, inr, ℕ, List, [], length, Option, Some, None, Result, Ok, Err, ap, arith, refl, subst, sym}
-use Rattle.std.specs.Result.{result_unwrap_or}
+use Rattle.std.proofs.Common.{IfOk, ◌≡◌, ◌<◌, ◌≤◌, ◌∙◌, ◌⊎◌, inl, inr, ℕ, List, [], length, string_bytes, Option, Some, None, Result, Ok, Err, ap, arith, refl, subst, sym}
+use Rattle.std.specs.Result.{result_unwrap_or, MatchResult}
 use Rattle.std.proofs.lemmas.Bool.{cases_order}
 use Rattle.octet_core.specs.Octets.{AreOctets}
 use Rattle.atr_core.proofs.Goes as atr_goes
@@ -16,11 +16,17 @@ use Rattle.exchange_core.proofs.Found.{one-found, verdict-found}
 use Rattle.simulator.specs.Simulation.{EndsAs, IsSimulated, exchange_of, new_recording, simulated, start}
 use Rattle.simulator.proofs.Long.{one-end, too-long}
 use Rattle.card_tool.specs.Files.{largest_file}
-use Rattle.card_tool.specs.SimulationTexts.{IsFile, Simulates, fits, over, too_large, unusable, whole}
+use Rattle.card_tool.specs.Judged.{AreOf}
+use Rattle.card_tool.specs.SimulationTexts.{IsExchangeNote, IsFile, IsLinesNote, IsSimulationNote, Simulates, SimulatesLines, fits, over, recorded, too_large, unusable, whole}
+use Rattle.card_tool.specs.declared.judged.WithNote.{WithNote}
+use Rattle.card_words.specs.PairLines.{pairs_in}
+use Rattle.card_words.specs.Value.{UnlessMemory}
+use Rattle.card_words.specs.declared.session.Pair.{Pair}
+use Rattle.card_words.specs.declared.fault.Fault.{Fault}
 use Rattle.card_kinds.specs.Texts.{refused_as_text}
 use Rattle.card_kinds.specs.declared.status.Status.{Status}
 use Rattle.card_kinds.specs.declared.status.Status.TheVariants as status
-use Rattle.card_kinds.proofs.OneOf.{OneText}
+use Rattle.card_kinds.proofs.OneOf.{OneText, ended-by}
 
 abbrev text-of : Recording → List ℕ
 text-of r = exchange_text (exchange_of r)
@@ -137,3 +143,51 @@ module _ (s : Session) where
       → Simulates s t p
   told-file e t p (ifsc, r, f, end, is) file =
       at-end ifsc r f end t p (subst (λ (x : ExchangeParts). IsFile x t p) is file)
+
+  -- and a note on that exchange
+  told-note : (e : ExchangeParts) (note : List ℕ) → IsSimulated largest_file s (Ok e) → IsExchangeNote s e note
+      → IsSimulationNote s note
+  told-note e note (ifsc, r, f, end, is) h =
+      recorded ifsc r f end (subst (λ (x : ExchangeParts). IsExchangeNote s x note) is h)
+
+  pub told-both : (e : ExchangeParts) (made : WithNote) → IsSimulated largest_file s (Ok e)
+      → AreOf (IsFile e) (IsExchangeNote s e) made → AreOf (Simulates s) (IsSimulationNote s) made
+  told-both e made is h = (
+    told-file e made.answer.text made.answer.status is h.0,
+    if-ok made.note (λ note k. told-note e (string_bytes note) is k) h.1,
+  )
+
+-- ---- how the program ends with a text
+
+pub past : (e : ExchangeParts) (t : List ℕ) (p : Status) → IsFile e t p → p ≡ status.Fault
+    → largest_file < length (exchange_text e)
+past e t p (fits small text ended) is = absurd (cc (ended, is))
+past e t p (over long text ended) is = long
+
+pub inside : (e : ExchangeParts) (t : List ℕ) (p : Status) → IsFile e t p → (p ≡ status.Fault → ⊥)
+    → length (exchange_text e) ≤ largest_file
+inside e t p (fits small text ended) other = small
+inside e t p (over long text ended) other = absurd (other ended)
+
+-- ---- pairs that are lines
+
+-- what pairs come to, or their fault, is one text
+pub lines-once : (s : Session) → AreOctets s.atr → (b : List ℕ) → OneText (SimulatesLines s b)
+lines-once s octets b = go (pairs_in b)
+  where
+    go : (r : Result (List Pair) Fault)
+        → OneText (λ text ended. MatchResult r (λ pairs. Simulates (record s { pairs = pairs }) text ended)
+        (λ fault. (text ≡ fault_text fault) × (ended ≡ status.Fault)))
+    go (Ok pairs) = simulated-once (record s { pairs = pairs }) octets
+    go (Err fault) = ended-by (fault_text fault) status.Fault
+
+-- a session with the pairs that lines say
+pub of-lines : {E : Type 0} (s : Session) (b : List ℕ) (pairs : List Pair) (r : Result WithNote E)
+    → UnlessMemory (Ok pairs) (pairs_in b)
+    → IfOk r (AreOf (Simulates (record s { pairs = pairs })) (IsSimulationNote (record s { pairs = pairs })))
+    → IfOk r (AreOf (SimulatesLines s b) (IsLinesNote s b))
+of-lines s b pairs r (inl memory) h = absurd (cc memory)
+of-lines s b pairs r (inr is) h = subst (λ (p : Result (List Pair) Fault). IfOk r (AreOf
+    (λ text ended. MatchResult p (λ q. Simulates (record s { pairs = q }) text ended)
+    (λ fault. (text ≡ fault_text fault) × (ended ≡ status.Fault)))
+    (λ note. MatchResult p (λ q. IsSimulationNote (record s { pairs = q }) note) (λ _. Unit {0})))) is h

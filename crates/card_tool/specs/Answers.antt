@@ -8,7 +8,7 @@ use Rattle.card_kinds.specs.ChainTexts.{blocks_text}
 use Rattle.card_words.specs.Texts.{fault_text}
 use Rattle.chain_core.specs.Cut.{cut_of}
 use Rattle.card_tool.specs.ExchangeTexts.{Draws, Lists, Migrates, Replays}
-use Rattle.card_tool.specs.SimulationTexts.{Simulates}
+use Rattle.card_tool.specs.SimulationTexts.{Simulates, SimulatesLines}
 use Rattle.card_tool.specs.Files.{ReadsWhole}
 use Rattle.card_tool.specs.Lines.{all_lines, line_octets, AreTold}
 use Rattle.card_words.specs.Given.{octets_given}
@@ -29,7 +29,7 @@ use Rattle.card_words.specs.declared.request.Expected.{Expected}
 use Rattle.card_words.specs.declared.request.Kind.{Kind}
 use Rattle.notes.specs.Noted.{IsNoted, without_notes}
 use Rattle.card_words.specs.declared.request.Request.{Request}
-use Rattle.card_words.specs.declared.request.Request.TheVariants.{BuildChain, BuildTidy, BuildFill, Tell, Replay, Migrate, Apdus, Draw, Simulate, Help, Version}
+use Rattle.card_words.specs.declared.request.Request.TheVariants.{BuildChain, BuildTidy, BuildFill, Tell, Replay, Migrate, Apdus, Draw, Simulate, SimulateLines, Help, Version}
 use Rattle.card_words.specs.declared.request.Task.{Task}
 
 -- what octets come to, or the fault for which there are none
@@ -82,6 +82,7 @@ IsAnswerTo Migrate file text ended = IsToldOf Migrates file text ended
 IsAnswerTo Apdus file text ended = IsToldOf Lists file text ended
 IsAnswerTo (Draw drawing) file text ended = IsToldOf (Draws drawing) file text ended
 IsAnswerTo (Simulate session) file text ended = Simulates session text ended
+IsAnswerTo (SimulateLines session) file text ended = IsToldOf (SimulatesLines session) file text ended
 IsAnswerTo (Help help) file text ended = (text ≡ help) × (ended ≡ status.Accepted)
 IsAnswerTo Version file text ended = (text ≡ version_line) × (ended ≡ status.Accepted)
 

@@ -10,11 +10,15 @@ use Rattle.card_words.specs.Texts.{fault_text}
 use Rattle.card_words.specs.Words.{IsRead, NeedsFile}
 use Rattle.card_words.specs.declared.fault.Fault.{Fault}
 use Rattle.card_words.specs.declared.fault.Fault.TheVariants as fault
+use Rattle.card_words.specs.declared.given.Form.{Form}
+use Rattle.card_words.specs.declared.given.Form.TheVariants as form
+use Rattle.card_words.specs.declared.given.Given.{Given}
+use Rattle.card_words.specs.declared.given.Given.TheVariants.{Read}
 use Rattle.card_words.specs.declared.request.Asked.TheVariants.{Once}
 use Rattle.card_words.specs.declared.request.End.{End}
 use Rattle.card_words.specs.declared.request.End.TheVariants as end
 use Rattle.card_words.specs.declared.request.Request.{Request}
-use Rattle.card_words.specs.declared.request.Request.TheVariants.{BuildTidy, BuildFill, Tell, Replay, Migrate, Apdus, Draw, Simulate}
+use Rattle.card_words.specs.declared.request.Request.TheVariants.{BuildTidy, BuildFill, Tell, Replay, Migrate, Apdus, Draw, Simulate, SimulateLines}
 use Rattle.card_kinds.specs.ForestTexts.{forest_codec}
 use Rattle.card_kinds.specs.ListTexts.{list_codec}
 use Rattle.card_kinds.specs.declared.answer.Answer.{Answer}
@@ -29,10 +33,12 @@ use Rattle.exchange_core.specs.declared.replaying.Side.{Side}
 use Rattle.exchange_core.specs.declared.replaying.Side.TheVariants as side
 use Rattle.tlv_core.specs.Fill.{HasDuplicate}
 use Rattle.tlv_core.specs.declared.known.Known.{Known}
-use Rattle.explainer.specs.Notes.{IsSessionNote, large_note, line_note}
+use Rattle.explainer.specs.Notes.{large_note, line_note, offsets_note}
 use Rattle.card_tool.specs.Answers.{IsAnswerTo, IsRight, IsRightTo}
-use Rattle.card_tool.specs.Files.{largest_file, ReadsWhole}
+use Rattle.card_tool.specs.Files.{largest_file, IsTaken, ReadsWhole}
 use Rattle.card_tool.specs.Judged.{IsKindNote, IsNoteBy}
+use Rattle.card_tool.specs.declared.explained.Taken.{Taken}
+use Rattle.card_tool.specs.SimulationTexts.{IsLinesNote, IsSimulationNote}
 
 -- ---- notes on files
 
@@ -85,25 +91,33 @@ abbrev pub IsFillNote : List ℕ → Result (List Known) Fault → List ℕ → 
 IsFillNote list known note =
     IsNoteBy list_codec list note ⊎ (IsNoteBy list_codec list [] × IfOk known HasDuplicate)
 
--- The note on a session by how it ends: none on one that was simulated, that on its answer to reset where it is
--- refused, or how large its text may be.
-abbrev pub IsSimulationNote : List ℕ → Status → List ℕ → Type 0
-IsSimulationNote atr status.Accepted note = note ≡ []
-IsSimulationNote atr status.Refused note = IsSessionNote atr note
-IsSimulationNote atr status.Fault note = note ≡ large_note largest_file
+-- what is said of a text in this form: of one in hexadecimal, that it is a dump too
+abbrev pub text_note : Form → List ℕ → List ℕ
+text_note form.Hex text = offsets_note text
+text_note _ text = []
 
--- The note on what a request was given, with what reading standard input gave, where the program ends so.
-abbrev pub IsNoteTo : Request → Result (List ℕ) Fault → Status → List ℕ → Type 0
-IsNoteTo (Tell task given) file ended note =
-    IsOkAnd (octets_given given file) (λ b. IsKindNote task.expected.kind task.expected b note)
-IsNoteTo (BuildTidy given) file ended note = IsOkAnd (octets_given given file) (λ b. IsNoteBy forest_codec b note)
-IsNoteTo (BuildFill list known) file ended note = IsFillNote list known note
-IsNoteTo (Replay end) file ended note = IsOkAnd file (λ text. IsReplayNote end text note)
-IsNoteTo Migrate file ended note = IsOkAnd file (λ text. IsFileNote text note)
-IsNoteTo Apdus file ended note = IsOkAnd file (λ text. IsFileNote text note)
-IsNoteTo (Draw drawing) file ended note = IsOkAnd file (λ text. IsFileNote text note)
-IsNoteTo (Simulate session) file ended note = IsSimulationNote session.atr ended note
-IsNoteTo _ file ended note = ⊥
+-- what is said of the text that octets are taken from, if there is one
+abbrev pub form_note : Given → Result (List ℕ) Fault → List ℕ
+form_note (Read form) (Ok text) = text_note form text
+form_note _ _ = []
+
+-- a note on octets, and after it that on the text that they were taken from
+abbrev pub IsNoteOn : Given → Result (List ℕ) Fault → (List ℕ → List ℕ → Type 0) → List ℕ → Type 0
+IsNoteOn given file Note note = IsOkAnd (octets_given given file)
+    (λ b. (first : List ℕ) × Note b first × (note ≡ first ++ form_note given file))
+
+-- The note on what a request was given, with what reading standard input gave.
+abbrev pub IsNoteTo : Request → Result (List ℕ) Fault → List ℕ → Type 0
+IsNoteTo (Tell task given) file note = IsNoteOn given file (IsKindNote task.expected.kind task.expected) note
+IsNoteTo (BuildTidy given) file note = IsNoteOn given file (IsNoteBy forest_codec) note
+IsNoteTo (BuildFill list known) file note = IsFillNote list known note
+IsNoteTo (Replay end) file note = IsOkAnd file (λ text. IsReplayNote end text note)
+IsNoteTo Migrate file note = IsOkAnd file (λ text. IsFileNote text note)
+IsNoteTo Apdus file note = IsOkAnd file (λ text. IsFileNote text note)
+IsNoteTo (Draw drawing) file note = IsOkAnd file (λ text. IsFileNote text note)
+IsNoteTo (Simulate session) file note = IsSimulationNote session note
+IsNoteTo (SimulateLines session) file note = IsOkAnd file (λ text. IsLinesNote session text note)
+IsNoteTo _ file note = ⊥
 
 -- The note on a fault: on octets that are too many, or on words, of which it is open.
 abbrev pub IsFaultNote : Fault → List ℕ → Type 0
@@ -123,7 +137,7 @@ pub record IsNotedFrom (request : Request) (held left : Option (List ℕ)) (befo
   pub file : Result (List ℕ) Fault
   pub is_file : NeedsFile request → ReadsWhole held left before after file
   pub is_answer : IsAnswerTo request file text ended
-  pub is_note : IsNoteTo request file ended note
+  pub is_note : IsNoteTo request file note
 
 -- what is right of a request: the note is that on what it was given, or it fits the text alone
 abbrev pub IsNotedTo : Request → Option (List ℕ) → Option (List ℕ) → ℕ → ℕ → List ℕ → List ℕ → Status → Type 0
@@ -137,6 +151,19 @@ IsNoted words held left before after text note ended =
     (IsRight words held left before after text ended × Fits text note)
     ⊎ ((request : Request) × IsRead words (Ok (Once request))
     × IsNotedFrom request held left before after text note ended)
+
+-- ---- octets with a note on their text
+
+abbrev pub octets_of : Result Taken Fault → Result (List ℕ) Fault
+octets_of (Ok taken) = Ok taken.octets
+octets_of (Err fault) = Err fault
+
+-- what taking octets gives, and what is said of their text, where memory was there for it
+pub record IsTakenWith (given : Given) (held left : Option (List ℕ)) (before after : ℕ) (result : Result Taken Fault) :
+    Type 0 where
+  pub taken : IsTaken given held left before after (octets_of result)
+  pub is_note : IfOk result
+      (λ made. IfOk made.note (λ note. string_bytes note ≡ form_note given taken.file))
 
 -- ---- texts with notes
 

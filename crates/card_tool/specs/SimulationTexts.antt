@@ -1,12 +1,17 @@
 -- What the program says of a session that it simulates.
-use Rattle.std.specs.Prelude.{◌≡◌, ◌<◌, ◌≤◌, ℕ, List, length, Ok, Err}
+use Rattle.std.specs.Prelude.{◌≡◌, ◌<◌, ◌≤◌, ℕ, Bool, true, false, List, length, Ok, Err, MatchResult}
+use Rattle.std.specs.List.{count_by}
 use Rattle.card_words.specs.Texts.{fault_text}
 use Rattle.card_words.specs.declared.fault.Fault.TheVariants.{TooLarge}
+use Rattle.card_words.specs.PairLines.{pairs_in}
 use Rattle.card_words.specs.declared.session.Session.{Session}
 use Rattle.exchange_text.specs.Exchange.{ExchangeParts}
 use Rattle.exchange_core.specs.Recording.{Recording}
 use Rattle.exchange_core.specs.Replay.{IsFound}
 use Rattle.exchange_text.specs.Text.{exchange_text}
+use Rattle.exchange_text.specs.declared.line.Line.{Line}
+use Rattle.exchange_text.specs.declared.line.Line.TheVariants.{FromTerminal, FromCard}
+use Rattle.explainer.specs.Notes.{large_note, AreUnsentNotes, IsSessionNote}
 use Rattle.simulator.specs.Simulation.{EndsAs, exchange_of}
 use Rattle.card_tool.specs.Files.{largest_file}
 use Rattle.card_kinds.specs.Texts.{refused_as_text}
@@ -30,3 +35,42 @@ pub data Simulates (s : Session) (text : List ℕ) (ended : Status) : Type 0 whe
   too_large : (ifsc : ℕ) → IsFound s.atr (Ok ifsc)
       → ((r : Recording) → EndsAs s ifsc r → largest_file < length (exchange_text (exchange_of r)))
       → text ≡ fault_text TooLarge → ended ≡ status.Fault → Simulates s text ended
+
+-- what it comes to with the pairs that the lines of a text say, or their fault
+abbrev pub SimulatesLines : Session → List ℕ → List ℕ → Status → Type 0
+SimulatesLines s b text ended = MatchResult (pairs_in b)
+    (λ pairs. Simulates (record s { pairs = pairs }) text ended)
+    (λ fault. (text ≡ fault_text fault) × (ended ≡ status.Fault))
+
+-- ---- notes
+
+abbrev pub is_block : Line → Bool
+is_block (FromTerminal sent arrival) = true
+is_block (FromCard sent arrival) = true
+is_block _ = false
+
+-- how many blocks both ends sent
+abbrev pub blocks_in : List Line → ℕ
+blocks_in lines = count_by is_block lines
+
+-- The note on the exchange of a session: that on blocks which its lists name and which were never sent, or, where its
+-- text is larger than a file, how large that may be.
+pub data IsExchangeNote (s : Session) (e : ExchangeParts) (note : List ℕ) : Type 0 where
+  in_file : length (exchange_text e) ≤ largest_file → AreUnsentNotes s (blocks_in e.lines) note
+      → IsExchangeNote s e note
+  past_file : largest_file < length (exchange_text e) → note ≡ large_note largest_file → IsExchangeNote s e note
+
+-- The note on a session: that on its exchange; that on its answer to reset, where it is refused; or how large a text may
+-- be, where no end of it has one that fits.
+pub data IsSimulationNote (s : Session) (note : List ℕ) : Type 0 where
+  refused : (name : List ℕ) → IsFound s.atr (Err name) → IsSessionNote s.atr note → IsSimulationNote s note
+  recorded : (ifsc : ℕ) (r : Recording) → IsFound s.atr (Ok ifsc) → EndsAs s ifsc r
+      → IsExchangeNote s (exchange_of r) note → IsSimulationNote s note
+  too_long : (ifsc : ℕ) → IsFound s.atr (Ok ifsc)
+      → ((r : Recording) → EndsAs s ifsc r → largest_file < length (exchange_text (exchange_of r)))
+      → note ≡ large_note largest_file → IsSimulationNote s note
+
+-- the same with the pairs that the lines of a text say, of which the note is open where they say none
+abbrev pub IsLinesNote : Session → List ℕ → List ℕ → Type 0
+IsLinesNote s b note = MatchResult (pairs_in b) (λ pairs. IsSimulationNote (record s { pairs = pairs }) note)
+    (λ _. Unit {0})

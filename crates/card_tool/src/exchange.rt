@@ -12,7 +12,7 @@ ghost use Rattle.card_tool.specs.Lines.{worse};
 ghost use Rattle.card_kinds.specs.declared.status.Status.TheVariants as ended;
 
 use crate::file_notes::{difference_note, fault_note};
-use crate::judged::WithNote;
+use crate::judged::{WithNote, joined};
 use crate::lines::worse;
 use apdu_list::list_apdus;
 use card_kinds::{Answer, Status};
@@ -109,20 +109,6 @@ fn noted_at(
             Ok(WithNote { answer, note })
         }
     }
-}
-
-/// One note and then another, where both could be made.
-fn joined(
-    first: Result<String, AllocError>,
-    second: Result<String, AllocError>,
-) -> Result<String, AllocError>
-    ensures { IfOk result (λ note. IsOkAnd first (λ one. IsOkAnd second (λ other.
-        string_bytes note ≡ string_bytes one ++ string_bytes other))) }
-{
-    let mut note = first?;
-    let other = second?;
-    note.push_str(other.as_str())?;
-    Ok(note)
 }
 
 /// Whether this end does what the exchange says, with a note.

@@ -5,21 +5,22 @@
 
 ghost use Rattle.std.specs.Prelude.{◌≡◌, ◌++◌, List, ℕ, IfOk, string_bytes};
 ghost use Rattle.card_tool.specs.Answers.{IsReadFrom, IsRight, IsRightTo};
-ghost use Rattle.card_tool.specs.Explained.{GivesExplained, IsAdded, IsFaulted, IsFaultNote, IsNoted, IsNotedTo, IsSimulationNote};
-ghost use Rattle.card_tool.specs.Files.{IsBegun, IsTaken};
+ghost use Rattle.card_tool.specs.Explained.{octets_of, text_note, GivesExplained, IsAdded, IsFaulted, IsFaultNote, IsNoted, IsNotedTo, IsTakenWith};
+ghost use Rattle.card_tool.specs.Files.{IsBegun};
 ghost use Rattle.card_words.specs.Given.{octets_in, IsFromReader};
 ghost use Rattle.card_words.specs.Value.{UnlessMemory};
 ghost use Rattle.card_words.specs.Words.{AskForFile, IsSized, NeedsFile};
+ghost use Rattle.card_words.specs.declared.request.Request.{Request as AnyRequest};
 ghost use Rattle.command_line.specs.Form.{texts};
 
 use crate::exchange::{drawn_with_note, listed_with_note, migrated_with_note, replayed_with_note};
 use crate::file::{LARGEST_FILE, read_whole};
-use crate::judged::{answer_with_note, filled, tidied};
+use crate::judged::{answer_with_note, filled, joined, tidied};
 use crate::program::answer_to;
 use crate::simulation;
-use card_kinds::{Answer, Status};
+use card_kinds::Answer;
 use card_words::{Fault, Form, Given, Request, Session};
-use explainer::{large_note, session_note, text_note, words_note};
+use explainer::{large_note, offsets_note, text_note, words_note};
 use octet_core::{Octets, Source};
 use std::alloc::{AllocError, Global};
 
@@ -88,14 +89,14 @@ fn answered_to<R: Source>(
 {
     match request {
         Request::Tell(task, given) => {
-            let octets = octets_explained(alloc, given, reader, on_text)?;
-            let judged = answer_with_note(alloc, task, octets.get())?;
-            Ok(noted(judged.answer, judged.note))
+            let taken = octets_explained(alloc, given, reader, on_text)?;
+            let judged = answer_with_note(alloc, task, taken.octets.get())?;
+            Ok(noted(judged.answer, joined(judged.note, taken.note)))
         }
         Request::BuildTidy(given) => {
-            let octets = octets_explained(alloc, given, reader, on_text)?;
-            let judged = tidied(alloc, octets.get())?;
-            Ok(noted(judged.answer, judged.note))
+            let taken = octets_explained(alloc, given, reader, on_text)?;
+            let judged = tidied(alloc, taken.octets.get())?;
+            Ok(noted(judged.answer, joined(judged.note, taken.note)))
         }
         Request::BuildFill { list, known } => {
             let judged = filled(alloc, words, list.get(), &known)?;
@@ -105,21 +106,31 @@ fn answered_to<R: Source>(
     }
 }
 
-/// The octets that are given. Of a text that isn't in its form `on_text` is what is to be said, where memory for that
-/// isn't refused.
+/// Octets, and what is to be said of the text that they were taken from, where memory for that isn't refused.
+#[derive(Drop)]
+struct Taken {
+    octets: Octets,
+    note: Result<String, AllocError>,
+}
+
+/// The octets that are given, with what is to be said of their text. Of a text that isn't in its form that is put into
+/// `on_text`, where memory for it isn't refused.
 fn octets_explained<R: Source>(
     alloc: Global,
     given: Given,
     reader: &mut R,
     on_text: &mut Option<String>,
-) -> Result<Octets, Fault>
-    ensures taken { IsTaken given (R.remaining reader.old) (R.remaining reader.new)
+) -> Result<Taken, Fault>
+    ensures taken { IsTakenWith given (R.remaining reader.old) (R.remaining reader.new)
         (R.failures reader.old) (R.failures reader.new) result }
     ensures unread { (IsFromReader given → ⊥) → reader.new ≡ reader.old }
     ensures few { IsBegun (R.remaining reader.old) (R.remaining reader.new) 4194305 }
 {
     match given {
-        Given::Word(octets) => Ok(octets),
+        Given::Word(octets) => Ok(Taken {
+            octets,
+            note: Ok(String::new(alloc)),
+        }),
         Given::Read(form) => {
             let text = read_whole(alloc, reader)?;
             read_as(alloc, form, text, on_text)
@@ -127,21 +138,39 @@ fn octets_explained<R: Source>(
     }
 }
 
-/// The octets that a text in a form gives, or what is to be said of it in `on_text`.
+/// The octets that a text in a form gives, with what is to be said of it; in `on_text` where it isn't in the form.
 fn read_as(
     alloc: Global,
     form: Form,
     text: Octets,
     on_text: &mut Option<String>,
-) -> Result<Octets, Fault>
-    ensures { UnlessMemory result (octets_in form text) }
+) -> Result<Taken, Fault>
+    ensures octets { UnlessMemory (octets_of result) (octets_in form text) }
+    ensures note { IfOk result (λ taken.
+        IfOk taken.note (λ note. string_bytes note ≡ text_note form text)) }
 {
     let kept = text.get().to_vec(alloc)?;
-    let read = form.octets(alloc, text);
-    if let Err(Fault::Hex) = &read {
-        *on_text = text_note(alloc, form, kept.as_slice()).ok();
+    match form.octets(alloc, text) {
+        Ok(octets) => Ok(Taken {
+            octets,
+            note: on_form(alloc, form, Octets::of(kept)),
+        }),
+        Err(Fault::Hex) => {
+            *on_text = text_note(alloc, form, kept.as_slice()).ok();
+            Err(Fault::Hex)
+        }
+        Err(fault) => Err(fault),
     }
-    read
+}
+
+/// What is to be said of a text that is in its form.
+fn on_form(alloc: Global, form: Form, text: Octets) -> Result<String, AllocError>
+    ensures { IfOk result (λ note. string_bytes note ≡ text_note form text) }
+{
+    match form {
+        Form::Hex => offsets_note(alloc, text),
+        Form::Octets | Form::Dump | Form::Source => Ok(String::new(alloc)),
+    }
 }
 
 /// The text and the status of a request that isn't one about octets, with what is to be said of its file or session.
@@ -181,23 +210,30 @@ fn exchange_explained<R: Source>(
             Ok(noted(judged.answer, judged.note))
         }
         Request::Simulate(session) => {
-            let answer = simulation::simulated(alloc, &session)?;
-            let note = simulation_note(alloc, &session, answer.status);
-            Ok(noted(answer, note))
+            let judged = simulation::simulated_with_note(alloc, &session)?;
+            Ok(noted(judged.answer, judged.note))
         }
+        Request::SimulateLines(session) => lines_explained(alloc, session, reader),
         other => answer_to(alloc, other, reader),
     }
 }
 
-/// What is to be said of a session, by how the program ends.
-fn simulation_note(alloc: Global, session: &Session, status: Status) -> Result<String, AllocError>
-    ensures { IfOk result (λ note. IsSimulationNote session.now.atr status (string_bytes note)) }
+/// The text and the status of a session whose pairs are lines of standard input, with what is to be said of it.
+fn lines_explained<R: Source>(
+    alloc: Global,
+    session: Session,
+    reader: &mut R,
+) -> Result<Answer, Fault>
+    ensures told { GivesExplained
+        (IsRightTo (AnyRequest.SimulateLines session) (R.remaining reader.old)
+        (R.remaining reader.new) (R.failures reader.old) (R.failures reader.new))
+        (IsNotedTo (AnyRequest.SimulateLines session) (R.remaining reader.old)
+        (R.remaining reader.new) (R.failures reader.old) (R.failures reader.new)) result }
+    ensures few { IsBegun (R.remaining reader.old) (R.remaining reader.new) 4194305 }
 {
-    match status {
-        Status::Accepted => Ok(String::new(alloc)),
-        Status::Refused => session_note(alloc, session.atr.get()),
-        Status::Fault => large_note(alloc, LARGEST_FILE),
-    }
+    let text = read_whole(alloc, reader)?;
+    let judged = simulation::lines_simulated_with_note(alloc, session, text.get())?;
+    Ok(noted(judged.answer, judged.note))
 }
 
 /// An answer with a note after its text, or without one where it couldn't be made.

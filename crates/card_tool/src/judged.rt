@@ -1,6 +1,6 @@
 //! Answers about octets, each with a note that is made from the verdict of the answer.
 
-ghost use Rattle.std.specs.Prelude.{◌≤◌, IfOk, string_bytes};
+ghost use Rattle.std.specs.Prelude.{◌≡◌, ◌≤◌, ◌++◌, IfOk, IsOkAnd, string_bytes};
 ghost use Rattle.card_kinds.specs.Codec.{IsVerdict};
 ghost use Rattle.card_kinds.specs.ForestTexts.{forest_codec};
 ghost use Rattle.card_kinds.specs.ListTexts.{list_codec};
@@ -29,6 +29,20 @@ use tlv_core::{Dol, DolReason, Forest};
 pub(crate) struct WithNote {
     pub(crate) answer: Answer,
     pub(crate) note: Result<String, AllocError>,
+}
+
+/// One note and then another, where both could be made.
+pub(crate) fn joined(
+    first: Result<String, AllocError>,
+    second: Result<String, AllocError>,
+) -> Result<String, AllocError>
+    ensures { IfOk result (λ note. IsOkAnd first (λ one. IsOkAnd second (λ other.
+        string_bytes note ≡ string_bytes one ++ string_bytes other))) }
+{
+    let mut note = first?;
+    let other = second?;
+    note.push_str(other.as_str())?;
+    Ok(note)
 }
 
 /// What is told of octets.

@@ -8,6 +8,7 @@ ghost use Rattle.card_tool.specs.LineAnswers.{AskForNoLines, WritesLines};
 ghost use Rattle.card_words.specs.Texts.{fault_text};
 ghost use Rattle.card_words.specs.Words.{AskForFile, AskForLines, IsSized, NeedsFile};
 ghost use Rattle.command_line.specs.Form.{texts};
+ghost use Rattle.card_words.specs.declared.request.Request.{Request as AnyRequest};
 ghost use Rattle.card_words.specs.declared.request.Task.{Task as AnyTask};
 ghost use Rattle.card_kinds.specs.declared.status.Status.TheVariants as ended;
 
@@ -17,7 +18,7 @@ use crate::judged::answer_about;
 use crate::lines::tell_lines;
 use crate::{exchange, simulation};
 use card_kinds::{Answer, Status, blocks, fill, tidy};
-use card_words::{Asked, Fault, Request};
+use card_words::{Asked, Fault, Request, Session};
 use command_line::{VERSION_LINE, asks_to_explain};
 use octet_core::{Sink, Source, write_octets};
 use std::alloc::{AllocError, Global};
@@ -27,7 +28,7 @@ use std::alloc::{AllocError, Global};
 ///
 /// Where a growth of memory is refused the text is `fault: memory`; where the writer fails a part of
 /// the text is written; in both cases the status is `Fault`. The reader is read only where the words ask
-/// for octets of standard input or for a file of recorded exchanges, to its end, but no further than one
+/// for octets or pairs of standard input or for a file of recorded exchanges, to its end, but no further than one
 /// octet past the largest file.
 ///
 /// Where the words ask for the lines of standard input, each is answered before the reader is called again,
@@ -171,7 +172,18 @@ pub(crate) fn answer_to<R: Source>(
             Ok(exchange::drawn(alloc, file, drawing)?)
         }
         Request::Simulate(session) => Ok(simulation::simulated(alloc, &session)?),
+        Request::SimulateLines(session) => lines_answer(alloc, session, reader),
         Request::Help(text) => Ok(Answer::told(text.into_inner())),
         Request::Version => Ok(Answer::told(String::from_str(alloc, VERSION_LINE)?)),
     }
+}
+
+/// The text and the status of a session whose pairs are lines of standard input.
+fn lines_answer<R: Source>(alloc: Global, session: Session, reader: &mut R) -> Result<Answer, Fault>
+    ensures told { AnswersTo (AnyRequest.SimulateLines session) (R.remaining reader.old)
+        (R.remaining reader.new) (R.failures reader.old) (R.failures reader.new) result }
+    ensures few { IsBegun (R.remaining reader.old) (R.remaining reader.new) 4194305 }
+{
+    let text = read_whole(alloc, reader)?;
+    Ok(simulation::lines_simulated(alloc, session, text.get())?)
 }

@@ -1,25 +1,95 @@
 //! Simulated sessions.
 
-ghost use Rattle.std.specs.Prelude.{IfOk};
-ghost use Rattle.card_tool.specs.SimulationTexts.{IsFile, Simulates};
+ghost use Rattle.std.specs.Prelude.{◌≡◌, ◌<◌, ◌≤◌, length, IfOk, string_bytes};
+ghost use Rattle.exchange_text.specs.Text.{exchange_text};
+ghost use Rattle.card_kinds.specs.declared.status.Status.TheVariants as ended;
+ghost use Rattle.simulator.specs.Simulation.{IsSimulated};
+ghost use Rattle.card_tool.specs.Files.{largest_file};
+ghost use Rattle.card_tool.specs.Judged.{AreOf};
+ghost use Rattle.card_tool.specs.SimulationTexts.{blocks_in, is_block, IsExchangeNote, IsFile, IsLinesNote, IsSimulationNote, Simulates, SimulatesLines};
 
 use crate::exchange::written;
 use crate::file::LARGEST_FILE;
-use card_kinds::Answer;
-use card_words::{Fault, Session};
-use exchange_core::Exchange;
+use crate::judged::WithNote;
+use card_kinds::{Answer, Status};
+use card_words::{Fault, Session, read_pair_lines};
+use exchange_core::{Exchange, Line};
+use explainer::{large_note, pairs_note, session_note, unsent_note};
 use simulator::{SimulationFault, simulate};
 use std::alloc::{AllocError, Global};
+
+/// The exchange that a session makes, or why there is none. Each event adds an octet to its text at least.
+fn exchange_of(alloc: Global, session: &Session) -> Result<Exchange, SimulationFault>
+    ensures simulated { IsSimulated largest_file session.now result }
+{
+    simulate(alloc, session, LARGEST_FILE)
+}
 
 /// The file of the exchange that a session makes, or why there is none.
 pub(crate) fn simulated(alloc: Global, session: &Session) -> Result<Answer, AllocError>
     ensures { IfOk result (λ answer. Simulates session.now answer.text answer.status) }
 {
-    match simulate(alloc, session, LARGEST_FILE) {
+    match exchange_of(alloc, session) {
         Ok(exchange) => file(alloc, &exchange),
         Err(SimulationFault::Refused(name)) => Answer::refused_as(alloc, name),
         Err(SimulationFault::TooLarge) => Answer::faulted(alloc, Fault::TooLarge),
         Err(SimulationFault::Memory) => Err(AllocError),
+    }
+}
+
+/// The same, with a note.
+pub(crate) fn simulated_with_note(alloc: Global, session: &Session) -> Result<WithNote, AllocError>
+    ensures { IfOk result (AreOf (Simulates session.now) (IsSimulationNote session.now)) }
+{
+    match exchange_of(alloc, session) {
+        Ok(exchange) => file_with_note(alloc, session, &exchange),
+        Err(SimulationFault::Refused(name)) => {
+            let answer = Answer::refused_as(alloc, name)?;
+            let note = session_note(alloc, session.atr.get());
+            Ok(WithNote { answer, note })
+        }
+        Err(SimulationFault::TooLarge) => {
+            let answer = Answer::faulted(alloc, Fault::TooLarge)?;
+            let note = large_note(alloc, LARGEST_FILE);
+            Ok(WithNote { answer, note })
+        }
+        Err(SimulationFault::Memory) => Err(AllocError),
+    }
+}
+
+/// The file of the exchange that a session makes with the pairs that the lines of a text say, or why there is none.
+pub(crate) fn lines_simulated(
+    alloc: Global,
+    session: Session,
+    text: &[u8],
+) -> Result<Answer, AllocError>
+    ensures { IfOk result (λ answer.
+        SimulatesLines session text.now answer.text answer.status) }
+{
+    match read_pair_lines(alloc, text) {
+        Ok(pairs) => simulated(alloc, &session.with_pairs(pairs)),
+        Err(Fault::Memory) => Err(AllocError),
+        Err(fault) => Answer::faulted(alloc, fault),
+    }
+}
+
+/// The same, with a note.
+pub(crate) fn lines_simulated_with_note(
+    alloc: Global,
+    session: Session,
+    text: &[u8],
+) -> Result<WithNote, AllocError>
+    ensures { IfOk result (AreOf (SimulatesLines session text.now)
+        (IsLinesNote session text.now)) }
+{
+    match read_pair_lines(alloc, text) {
+        Ok(pairs) => simulated_with_note(alloc, &session.with_pairs(pairs)),
+        Err(Fault::Memory) => Err(AllocError),
+        Err(fault) => {
+            let answer = Answer::faulted(alloc, fault)?;
+            let note = pairs_note(alloc, text);
+            Ok(WithNote { answer, note })
+        }
     }
 }
 
@@ -32,4 +102,51 @@ fn file(alloc: Global, exchange: &Exchange) -> Result<Answer, AllocError>
         return Answer::faulted(alloc, Fault::TooLarge);
     }
     Ok(answer)
+}
+
+/// The same, with a note.
+fn file_with_note(
+    alloc: Global,
+    session: &Session,
+    exchange: &Exchange,
+) -> Result<WithNote, AllocError>
+    ensures { IfOk result (AreOf (IsFile exchange.now)
+        (IsExchangeNote session.now exchange.now)) }
+{
+    let answer = file(alloc, exchange)?;
+    let note = exchange_note(alloc, session, exchange, answer.status);
+    Ok(WithNote { answer, note })
+}
+
+/// What is to be said of the exchange of a session, by how the program ends with its text.
+fn exchange_note(
+    alloc: Global,
+    session: &Session,
+    exchange: &Exchange,
+    status: Status,
+) -> Result<String, AllocError>
+    requires past { status ≡ ended.Fault → largest_file < length (exchange_text exchange.now) }
+    requires inside { (status ≡ ended.Fault → ⊥)
+        → length (exchange_text exchange.now) ≤ largest_file }
+    ensures { IfOk result (λ note. IsExchangeNote session.now exchange.now (string_bytes note)) }
+{
+    match status {
+        Status::Fault => large_note(alloc, LARGEST_FILE),
+        Status::Accepted | Status::Refused => unsent_note(alloc, session, sent_in(exchange)),
+    }
+}
+
+/// How many blocks both ends sent in an exchange.
+fn sent_in(exchange: &Exchange) -> usize
+    ensures { result ≡ blocks_in exchange.now.lines }
+{
+    let lines = exchange.lines().get();
+    lines.iter().filter(|line| is_block(line)).count()
+}
+
+/// Whether a line is a block that an end sends.
+fn is_block(line: &Line) -> bool
+    ensures { result ≡ is_block line.now }
+{
+    matches!(line, Line::FromTerminal { .. } | Line::FromCard { .. })
 }

@@ -1,6 +1,6 @@
 -- That octets which are given are octets; and texts, computed by the definitions.
 use Rattle.std.proofs.Common.{◌≡◌, ℕ, List, [], ◌∷◌, codes, Bool, true, false, if◌then◌else◌, Result, Ok, Err, IfOk, inl, inr, ap, refl, subst, arith}
-use Rattle.std.specs.List.{concat, slice_split}
+use Rattle.std.specs.List.{slice_split}
 use Rattle.hex.specs.Hex.{decode_of}
 use Rattle.hex.proofs.HexLemmas.{decode_of-ok}
 use Rattle.hex.proofs.OnLiterals.{hex_on_literals}
@@ -15,7 +15,7 @@ use Rattle.dumps.proofs.Octets.{dump-octets}
 use Rattle.dumps.proofs.SourceOctets.{source-octets}
 use Rattle.card_words.specs.Given.{octets_given, of_dump, GivesOctets, IsAsRead}
 use Rattle.card_words.specs.Loose.{digits_of, group_octets, grouped_octets, is_blank, is_none_alone, loose_octets}
-use Rattle.card_words.specs.Value.{each, UnlessMemory}
+use Rattle.card_words.specs.Value.{all_said, UnlessMemory}
 use Rattle.card_words.specs.declared.fault.Fault.{Fault}
 use Rattle.card_words.specs.declared.fault.Fault.TheVariants.{Hex}
 use Rattle.card_words.specs.declared.given.Form.TheVariants as form
@@ -25,19 +25,18 @@ use Rattle.card_words.proofs.Requests.{both-steps, read-hex, same}
 
 -- ---- octets
 
-groups-octets : (groups read : List (List ℕ)) → each group_octets groups ≡ Ok read → AreOctets (concat read)
-groups-octets [] read h = subst (λ (r : List (List ℕ)). AreOctets (concat r)) (same [] read h) (λ i. omega arith)
-groups-octets (group ∷ groups) read h =
-    let one = both-steps (group_octets group) _ read h in
-    let more = both-steps (each group_octets groups) _ read one.2 in
+groups-octets : (groups : List (List ℕ)) (octets : List ℕ) → all_said group_octets groups ≡ Ok octets
+    → AreOctets octets
+groups-octets [] octets h = subst AreOctets (same [] octets h) (λ i. omega arith)
+groups-octets (group ∷ groups) octets h =
+    let one = both-steps (group_octets group) _ octets h in
+    let more = both-steps (all_said group_octets groups) _ octets one.2 in
     let first = (decode_of-ok (digits_of group) one.0 (read-hex (decode_of (digits_of group)) one.0 one.1)).3 in
-    subst (λ (r : List (List ℕ)). AreOctets (concat r)) (same _ read more.2)
-    (octets-append one.0 (concat more.0) first (groups-octets groups more.0 more.1))
+    subst AreOctets (same _ octets more.2)
+    (octets-append one.0 more.0 first (groups-octets groups more.0 more.1))
 
 grouped-octets : (text octets : List ℕ) → grouped_octets text ≡ Ok octets → AreOctets octets
-grouped-octets text octets h =
-    let groups = both-steps (each group_octets (slice_split is_blank text)) _ octets h in
-    subst AreOctets (same _ octets groups.2) (groups-octets (slice_split is_blank text) groups.0 groups.1)
+grouped-octets text octets h = groups-octets (slice_split is_blank text) octets h
 
 none-or-grouped : (b : Bool) (text octets : List ℕ) → (if b then Ok [] else grouped_octets text) ≡ Ok octets
     → AreOctets octets

@@ -1,63 +1,74 @@
--- How a text in groups is read, one group after another.
+-- How a text in parts is read, one part after another.
 use Rattle.std.proofs.Common.{◌≡◌, ◌<◌, ◌∙◌, ◌++◌, inl, inr, ℕ, List, [], ◌∷◌, Result, Ok, Err, refl, ap, sym, append_assoc, append-nil, ◌+◌, ◌*◌, ◌/◌, arith, length, get_or, drop, take}
 use Rattle.std.specs.Result.{MatchResult}
-use Rattle.std.specs.List.{concat}
 use Rattle.std.proofs.lemmas.List.{drop_more, drop_all, length-append, take_all}
 use Rattle.std.proofs.Math.Seq.{take-append_seam}
 use Rattle.hex.specs.Hex.{decode_of, decode_sized}
 use Rattle.hex.specs.declared.error.FromHexError.{FromHexError}
 use Rattle.hex.proofs.HexLemmas.{decode_of-ok, decode_sized-ok, decode_sized-twice}
-use Rattle.card_words.specs.Loose.{digits_of, group_octets, AddsGroup}
-use Rattle.card_words.specs.Value.{◌>>=◌, each, hex_octets, UnlessMemory}
+use Rattle.card_words.specs.Loose.{digits_of, group_octets}
+use Rattle.card_words.specs.Value.{◌>>=◌, all_said, hex_octets, AddsSaid, UnlessMemory}
 use Rattle.card_words.specs.declared.fault.Fault.{Fault}
 
--- octets that were read, and then those of the groups that are left
-abbrev pub after : List ℕ → List (List ℕ) → Result (List ℕ) Fault
-after octets groups = each group_octets groups >>= (λ more. Ok (octets ++ concat more))
+-- values that were read, and then those of the parts that are left
+abbrev pub after : {A : Type 0} → (List ℕ → Result (List A) Fault) → List A → List (List ℕ) → Result (List A) Fault
+after said values parts = all_said said parts >>= (λ more. Ok (values ++ more))
 
-abbrev done : List ℕ → Result (List ℕ) Fault
-done octets = Ok octets
+abbrev done : {A : Type 0} → List A → Result (List A) Fault
+done values = Ok values
 
-one-more : (octets one group : List ℕ) (groups : List (List ℕ)) → group_octets group ≡ Ok one
-    → after octets (group ∷ groups) ≡ after (octets ++ one) groups
-one-more octets one group groups h = rw h (go (each group_octets groups))
-  where
-    go : (rest : Result (List (List ℕ)) Fault)
-        → rest >>= (λ more. Ok (one ∷ more)) >>= (λ more. Ok (octets ++ concat more)) ≡ rest >>=
-        (λ more. Ok ((octets ++ one) ++ concat more))
-    go (Ok more) = ap done (sym (append_assoc octets one (concat more)))
-    go (Err fault) = refl
+module _ {A : Type 0} (said : List ℕ → Result (List A) Fault) where
+  -- at the start none was read
+  pub none-yet : (values : List A) (parts : List (List ℕ)) → values ≡ []
+      → after said values parts ≡ all_said said parts
+  none-yet values parts none = rw none (go (all_said said parts))
+    where
+      go : (r : Result (List A) Fault) → (r >>= (λ more. Ok more)) ≡ r
+      go (Ok more) = refl
+      go (Err fault) = refl
 
-one-fault : (octets group : List ℕ) (groups : List (List ℕ)) (fault : Fault) → group_octets group ≡ Err fault
-    → after octets (group ∷ groups) ≡ Err fault
-one-fault octets group groups fault h = rw h refl
+  one-more : (values one : List A) (part : List ℕ) (parts : List (List ℕ)) → said part ≡ Ok one
+      → after said values (part ∷ parts) ≡ after said (values ++ one) parts
+  one-more values one part parts h = rw h (go (all_said said parts))
+    where
+      go : (rest : Result (List A) Fault)
+          → rest >>= (λ more. Ok (one ++ more)) >>= (λ more. Ok (values ++ more)) ≡ rest >>=
+          (λ more. Ok ((values ++ one) ++ more))
+      go (Ok more) = ap done (sym (append_assoc values one more))
+      go (Err fault) = refl
 
--- the group at a place is read
-pub next-group : (octets longer group : List ℕ) (groups : List (List ℕ)) (i : ℕ) (all : Result (List ℕ) Fault)
-    → (i < length groups) × (group ≡ get_or groups i group)
-    → AddsGroup group octets longer (Ok tt) → after octets (drop i groups) ≡ all
-    → after longer (drop (i + 1) groups) ≡ all
-next-group octets longer group groups i all at (one, said, is) kept =
-    let next : drop i groups ≡ group ∷ drop (i + 1) groups =
-    drop_more groups i group at.0 ∙ ap (λ (g : List ℕ). g ∷ drop (i + 1) groups) (sym at.1) in
-    rw is (sym (one-more octets one group (drop (i + 1) groups) said) ∙ ap (after octets) (sym next) ∙ kept)
+  one-fault : (values : List A) (part : List ℕ) (parts : List (List ℕ)) (fault : Fault) → said part ≡ Err fault
+      → after said values (part ∷ parts) ≡ Err fault
+  one-fault values part parts fault h = rw h refl
 
--- or it is at fault, and that is the fault of the text, or memory ran out
-pub next-fault : (octets longer group : List ℕ) (groups : List (List ℕ)) (i : ℕ) (all : Result (List ℕ) Fault)
-    (fault : Fault) → (i < length groups) × (group ≡ get_or groups i group)
-    → AddsGroup group octets longer (Err fault) → after octets (drop i groups) ≡ all → UnlessMemory (Err fault) all
-next-fault octets longer group groups i all fault at (inl memory) kept = inl memory
-next-fault octets longer group groups i all fault at (inr said) kept =
-    let next : drop i groups ≡ group ∷ drop (i + 1) groups =
-    drop_more groups i group at.0 ∙ ap (λ (g : List ℕ). g ∷ drop (i + 1) groups) (sym at.1) in
-    inr (sym (one-fault octets group (drop (i + 1) groups) fault (sym said)) ∙ ap (after octets) (sym next) ∙ kept)
+  -- the part at a place is read
+  pub next-group : (values longer : List A) (part : List ℕ) (parts : List (List ℕ)) (i : ℕ)
+      (all : Result (List A) Fault) → (i < length parts) × (part ≡ get_or parts i part)
+      → AddsSaid (said part) values longer (Ok tt) → after said values (drop i parts) ≡ all
+      → after said longer (drop (i + 1) parts) ≡ all
+  next-group values longer part parts i all at (one, is_said, is) kept =
+      let next : drop i parts ≡ part ∷ drop (i + 1) parts =
+      drop_more parts i part at.0 ∙ ap (λ (p : List ℕ). p ∷ drop (i + 1) parts) (sym at.1) in
+      rw is (sym (one-more values one part (drop (i + 1) parts) is_said) ∙ ap (after said values) (sym next) ∙ kept)
 
--- no group is left
-pub no-more : (octets : List ℕ) (groups : List (List ℕ)) (i : ℕ) (all : Result (List ℕ) Fault) → i ≡ length groups
-    → after octets (drop i groups) ≡ all → Ok octets ≡ all
-no-more octets groups i all e kept =
-    let none : drop i groups ≡ [] = rw e (drop_all (length groups) groups (omega arith)) in
-    sym (ap done (append-nil octets)) ∙ ap (after octets) (sym none) ∙ kept
+  -- or it is at fault, and that is the fault of the text, or memory ran out
+  pub next-fault : (values longer : List A) (part : List ℕ) (parts : List (List ℕ)) (i : ℕ)
+      (all : Result (List A) Fault) (fault : Fault) → (i < length parts) × (part ≡ get_or parts i part)
+      → AddsSaid (said part) values longer (Err fault) → after said values (drop i parts) ≡ all
+      → UnlessMemory {X = List A} (Err fault) all
+  next-fault values longer part parts i all fault at (inl memory) kept = inl memory
+  next-fault values longer part parts i all fault at (inr is_said) kept =
+      let next : drop i parts ≡ part ∷ drop (i + 1) parts =
+      drop_more parts i part at.0 ∙ ap (λ (p : List ℕ). p ∷ drop (i + 1) parts) (sym at.1) in
+      inr (sym (one-fault values part (drop (i + 1) parts) fault (sym is_said)) ∙ ap (after said values) (sym next)
+      ∙ kept)
+
+  -- no part is left
+  pub no-more : (values : List A) (parts : List (List ℕ)) (i : ℕ) (all : Result (List A) Fault) → i ≡ length parts
+      → after said values (drop i parts) ≡ all → Ok values ≡ all
+  no-more values parts i all e kept =
+      let none : drop i parts ≡ [] = rw e (drop_all (length parts) parts (omega arith)) in
+      sym (ap done (append-nil values)) ∙ ap (after said values) (sym none) ∙ kept
 
 -- ---- one group
 
@@ -76,7 +87,7 @@ pub added-group : (count first room : ℕ) (old resized out post tail group digi
     → MatchResult (decode_sized digits room) (λ bytes. (result ≡ Ok tt) × (out ≡ bytes)) (λ e. result ≡ Err e)
     → result ≡ Ok tt
     → take first resized ≡ old → length old ≡ first → count ≡ first + length digits / 2
-    → AddsGroup group old (take count ((take first resized ++ (out ++ post)) ++ tail)) (Ok tt)
+    → AddsSaid (group_octets group) old (take count ((take first resized ++ (out ++ post)) ++ tail)) (Ok tt)
 added-group count first room old resized out post tail group digits result is read ok front before size =
     let octets : decode_of digits ≡ Ok out = decoded digits out room result (decode_sized digits room) refl read ok in
     let many : length digits ≡ 2 * length out = (decode_of-ok digits out octets).2 in

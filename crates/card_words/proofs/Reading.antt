@@ -1,34 +1,25 @@
 -- How words are read.
-use Rattle.std.proofs.Common.{◌≡◌, ◌<◌, ◌≤◌, ◌⊎◌, inl, inr, ℕ, List, [], codes, false, Some, Result, Ok, Err, IfOk, IfErr, arith, refl, Bool, true, ◌∷◌, length, map, get_or, Bor, sym, ◌∙◌, le-leb}
+use Rattle.std.proofs.Common.{◌≡◌, ◌<◌, ◌≤◌, ◌⊎◌, inl, inr, ℕ, List, [], false, Some, Result, Ok, Err, arith, refl, Bool, true, ◌∷◌, length, map, get_or, Bor, sym, ◌∙◌, le-leb}
 use Rattle.std.specs.Result.{result_unwrap_or}
 use Rattle.std.proofs.lemmas.Bool.Decides.{nat_tests}
-use Rattle.std.specs.Str.{bytes_eq}
-use Rattle.hex.specs.Hex.{decode_of}
-use Rattle.hex.specs.declared.error.FromHexError.{FromHexError}
-use Rattle.octet_core.specs.Hexadecimal.{IsHexFault}
-use Rattle.octet_core.specs.declared.hexadecimal.HexFault.{HexFault}
-use Rattle.octet_core.specs.declared.hexadecimal.HexFault.TheVariants as hex
-use Rattle.octet_core.proofs.HexadecimalLemmas.{fault-refused}
 use Rattle.std.specs.Str.Parse.{ParsesUnsigned}
 use Rattle.clap.specs.ValueTests.{is_unsigned_in}
 use Rattle.clap.specs.declared.builder.value_parser.ValueParser.TheVariants as parser
 use Rattle.clap.proofs.ValueTestLemmas.{accepts-Accepts, Accepts-accepts}
-use Rattle.clap.specs.Kinds.{FailsBy, HasKind, IsAmong, Kinds}
+use Rattle.clap.specs.Kinds.{IsAmong}
 use Rattle.clap.specs.Words.{fault_of}
-use Rattle.clap.specs.declared.error.Error.{Error}
 use Rattle.clap.specs.declared.error.kind.ErrorKind.{ErrorKind}
 use Rattle.clap.specs.declared.error.kind.ErrorKind.TheVariants.{DisplayHelp, OutOfMemory}
 use Rattle.block_core.specs.declared.pcb.Number.{Number}
 use Rattle.block_core.specs.declared.pcb.Number.TheVariants.{Zero, One}
 use Rattle.card_words.specs.declared.request.Asked.{Asked}
 use Rattle.card_words.specs.declared.request.Request.TheVariants.{BuildChain}
-use Rattle.card_words.specs.Faults.{fault_of_hex}
-use Rattle.card_words.specs.Value.{hex_octets, octets_of_word, UnlessMemory}
+use Rattle.card_words.specs.Value.{octets_of_word, UnlessMemory}
 use Rattle.command_line.specs.Version.{asks_for_version}
 use Rattle.card_words.specs.Words.{byte_or, chain_by, chain_of, number_of_word, size_of, IsHelpOrFault, IsRead, called_for_help, not_taken}
 use Rattle.command_line.specs.Form.{scard}
 use Rattle.card_words.specs.declared.fault.Fault.{Fault}
-use Rattle.card_words.specs.declared.fault.Fault.TheVariants.{Words, Hex, Memory}
+use Rattle.card_words.specs.declared.fault.Fault.TheVariants.{Words, Memory}
 
 -- what `u8` reads of a word, where it reads it
 pub byte-read : {E : Type 0} (otherwise : ℕ) (word : List ℕ) (r : Result ℕ E) → ParsesUnsigned 8 10 word r
@@ -48,21 +39,6 @@ size-in word z e low high = rw e (grind (arith, nat_tests))
 -- and with any other the words are at fault
 pub size-out : (word : List ℕ) (z : ℕ) → z ≡ byte_or 0 word → (z < 1) ⊎ (254 < z) → Err Words ≡ size_of (Some word)
 size-out word z e out = rw (← e) (grind (arith, nat_tests))
-
-refused : (read : Result (List ℕ) FromHexError) → ((octets : List ℕ) → read ≡ Ok octets → ⊥) → Err Hex ≡ hex_octets read
-refused (Ok octets) no_octets = absurd (no_octets octets refl)
-refused (Err f) no_octets = refl
-
--- a fault of the hexadecimal text
-pub refused-word : (word : List ℕ) (fault : HexFault) → IsHexFault word fault → bytes_eq word (codes "none") ≡ false
-    → UnlessMemory {X = List ℕ} (Err (fault_of_hex fault)) (octets_of_word word)
-refused-word word hex.Odd h other = inr (rw other
-    (refused (decode_of word) (λ octets ok. let bad : hex.Odd ≡ hex.Memory =
-    fault-refused word octets hex.Odd h ok in cc)))
-refused-word word (hex.Digit place) h other =
-    inr (rw other (refused (decode_of word)
-    (λ octets ok. let bad : hex.Digit place ≡ hex.Memory = fault-refused word octets (hex.Digit place) h ok in cc)))
-refused-word word hex.Memory h other = inl refl
 
 -- ---- a parse
 

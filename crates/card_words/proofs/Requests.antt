@@ -9,9 +9,10 @@ use Rattle.hex.proofs.HexLemmas.{decode_of-ok}
 use Rattle.clap.specs.Words.{Row, all_of, first_of, subcommand_of}
 use Rattle.octet_core.specs.Octets.{AreOctets}
 use Rattle.card_words.specs.Given.{asks_for_lines, form_of, given_of, GivesOctets}
+use Rattle.card_words.specs.PairLines.{are_lines}
 use Rattle.card_words.specs.Session.{blocks_of, pair_of, pairs_of, AreOctetPairs, IsSize}
 use Rattle.card_words.specs.Value.{◌>>=◌, hex_octets, octets_of_word, parted, UnlessMemory}
-use Rattle.card_words.specs.Words.{byte_or, size_of, number_of, number_of_word, needed, kind_of, expected_of, short_message, told_by, told_of, chain_by, chain_of, tidy_of, fill_of, build_words, build_of, end_of_word, replay_of, all_or_none, asked_size, session_of, drawing_of, request_by, show_aim, asked_by, asked_of, HasOctets, HaveOctets, IsRead, AreSized, IsSized, IsTaskSized, called_for_version, taken, called_for_help, not_taken}
+use Rattle.card_words.specs.Words.{byte_or, size_of, number_of, number_of_word, needed, kind_of, expected_of, short_message, told_by, told_of, chain_by, chain_of, tidy_of, fill_of, build_words, build_of, end_of_word, replay_of, all_or_none, asked_size, session_of, drawing_of, request_by, show_aim, asked_by, asked_of, HasOctets, HaveOctets, IsRead, AreSized, IsSized, IsTaskSized, called_for_version, taken, called_for_help, not_taken, session_by, simulate_by}
 use Rattle.command_line.specs.Form.{scard}
 use Rattle.card_words.specs.declared.fault.Fault.{Fault}
 use Rattle.card_words.specs.declared.fault.Fault.TheVariants.{Words}
@@ -211,21 +212,34 @@ pairs-octets (word ∷ words) pairs h =
     let one = pair-octets word pair.0 pair.1 in
     subst AreOctetPairs (same _ pairs more.2) (one.0, one.1, pairs-octets words more.0 more.1)
 
-session-proper : (rows : List Row) (session : Session) → session_of rows ≡ Ok session → IsSize session.ifsd
-    × AreOctets session.atr × AreOctetPairs session.pairs
-session-proper rows session h =
+session-proper : (words : List (List ℕ)) (rows : List Row) (session : Session) → session_of words rows ≡ Ok session
+    → IsSize session.ifsd × AreOctets session.atr × AreOctetPairs session.pairs
+session-proper words rows session h =
     let ifsd = both-steps (asked_size (first_of (codes "ifsd") rows)) _ session h in
     let lost = both-steps (blocks_of (first_of (codes "lose") rows)) _ session ifsd.2 in
     let damaged = both-steps (blocks_of (first_of (codes "damage") rows)) _ session lost.2 in
     let spoilt = both-steps (blocks_of (first_of (codes "spoil") rows)) _ session damaged.2 in
     let atr_word = both-steps (needed (first_of (codes "atr") rows)) _ session spoilt.2 in
     let atr = both-steps (octets_of_word atr_word.0) _ session atr_word.2 in
-    let pairs = both-steps (pairs_of (all_or_none (all_of (codes "pairs") rows))) _ session atr.2 in
+    let pairs = both-steps (pairs_of words) _ session atr.2 in
     subst (λ (s : Session). IsSize s.ifsd × AreOctets s.atr × AreOctetPairs s.pairs) (same _ session pairs.2) (
       size-asked (first_of (codes "ifsd") rows) ifsd.0 ifsd.1,
       word-octets atr_word.0 atr.0 atr.1,
-      pairs-octets (all_or_none (all_of (codes "pairs") rows)) pairs.0 pairs.1,
+      pairs-octets words pairs.0 pairs.1,
     )
+
+either-proper : (lines : Bool) (session : Session)
+    → IsSize session.ifsd × AreOctets session.atr × AreOctetPairs session.pairs → IsProper (session_by lines session)
+either-proper true session h = (h.0, (h.1, h.2))
+either-proper false session h = (h.0, (h.1, h.2))
+
+simulate-proper : (form : Option (List ℕ)) (words : List (List ℕ)) (rows : List Row) (request : Request)
+    → simulate_by form words rows ≡ Ok request → IsProper request
+simulate-proper form words rows request h =
+    let lines = both-steps (are_lines form words) _ request h in
+    let session = both-steps (session_of words rows) _ request lines.2 in
+    subst IsProper (same _ request session.2)
+    (either-proper lines.0 session.0 (session-proper words rows session.0 session.1))
 
 request-proper : (name : List ℕ) (rows : List Row) (request : Request) → request_by name rows ≡ Ok request
     → IsProper request
@@ -247,9 +261,8 @@ request-proper name rows request h =
                               | inr both ↦
                                   elim (one-of (bytes_eq name (codes "simulate")) _ (Err Words) request both) [
                                     | inl simulate ↦
-                                        let session = both-steps (session_of rows) _ request simulate in
-                                        let proper = session-proper rows session.0 session.1 in
-                                        subst IsProper (same _ request session.2) (proper.0, (proper.1, proper.2))
+                                        simulate-proper (first_of (codes "stdin") rows)
+                                        (all_or_none (all_of (codes "pairs") rows)) rows request simulate
                                     | inr none ↦ cc none
                                   ]
                             ]

@@ -5,4 +5,5 @@ pub mod Loose
 pub mod Given
 pub mod Known
 pub mod Session
+pub mod PairLines
 pub mod Words

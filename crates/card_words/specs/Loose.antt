@@ -1,8 +1,8 @@
 -- Octets as a text: hexadecimal in groups, which blanks part.
-use Rattle.std.specs.Prelude.{◌≡◌, ◌++◌, ◌&&◌, ◌||◌, ◌==◌, ℕ, drop, List, [], ◌∷◌, Bool, false, Result, Ok, Err, if◌then◌else◌}
-use Rattle.std.specs.List.{concat, list_all, slice_split}
+use Rattle.std.specs.Prelude.{◌&&◌, ◌||◌, ◌==◌, ℕ, drop, List, [], ◌∷◌, Bool, false, Result, Ok, if◌then◌else◌}
+use Rattle.std.specs.List.{list_all, slice_split}
 use Rattle.hex.specs.Hex.{decode_of}
-use Rattle.card_words.specs.Value.{◌>>=◌, each, hex_octets, UnlessMemory}
+use Rattle.card_words.specs.Value.{all_said, hex_octets}
 use Rattle.card_words.specs.declared.fault.Fault.{Fault}
 
 -- a space, a tab, or what ends a line: LF, CR
@@ -28,20 +28,19 @@ is_none_before_blanks (a ∷ b ∷ c ∷ d ∷ more) =
     a == 110 && (b == 111 && (c == 110 && (d == 101 && list_all is_blank more)))
 is_none_before_blanks _ = false
 
+-- a text from its first octet on that is no blank
+abbrev pub after_blanks : List ℕ → List ℕ
+after_blanks [] = []
+after_blanks (x ∷ text) = if is_blank x then after_blanks text else x ∷ text
+
 -- none alone, with blanks before and after
 abbrev pub is_none_alone : List ℕ → Bool
-is_none_alone [] = false
-is_none_alone (x ∷ text) = if is_blank x then is_none_alone text else is_none_before_blanks (x ∷ text)
+is_none_alone text = is_none_before_blanks (after_blanks text)
 
 -- the octets of all groups; between two blanks there is one of no octets
 abbrev pub grouped_octets : List ℕ → Result (List ℕ) Fault
-grouped_octets text = each group_octets (slice_split is_blank text) >>= (λ groups. Ok (concat groups))
+grouped_octets text = all_said group_octets (slice_split is_blank text)
 
 -- the octets of a text: none where it says so alone
 abbrev pub loose_octets : List ℕ → Result (List ℕ) Fault
 loose_octets text = if is_none_alone text then Ok [] else grouped_octets text
-
--- the octets of one more group come after the others
-abbrev pub AddsGroup : List ℕ → List ℕ → List ℕ → Result (Unit {0}) Fault → Type 0
-AddsGroup group old new (Ok _) = (octets : List ℕ) × (group_octets group ≡ Ok octets) × (new ≡ old ++ octets)
-AddsGroup group old new (Err fault) = UnlessMemory (Err fault) (group_octets group)

@@ -1,5 +1,5 @@
 -- Octets as a word, and what reading one word after another comes to.
-use Rattle.std.specs.Prelude.{◌≡◌, ◌⊎◌, ◌==◌, List, ℕ, [], ◌∷◌, length, codes, Bool, Result, Ok, Err, if◌then◌else◌}
+use Rattle.std.specs.Prelude.{◌≡◌, ◌⊎◌, ◌==◌, ◌++◌, List, ℕ, [], ◌∷◌, length, codes, Bool, Result, Ok, Err, if◌then◌else◌}
 use Rattle.std.specs.Str.{bytes_eq}
 use Rattle.std.specs.List.{position_or_len, before_first, after_first}
 use Rattle.hex.specs.Hex.{decode_of}
@@ -40,3 +40,18 @@ each said (word ∷ words) = do
   value ← said word
   more ← each said words
   Ok (value ∷ more)
+
+-- ---- parts of a text, each of which may say several values
+
+-- the values of all parts, from left to right
+abbrev pub all_said : {A : Type 0} → (List ℕ → Result (List A) Fault) → List (List ℕ) → Result (List A) Fault
+all_said said [] = Ok []
+all_said said (part ∷ parts) = do
+  here ← said part
+  more ← all_said said parts
+  Ok (here ++ more)
+
+-- the values of one more part come after the others
+abbrev pub AddsSaid : {A : Type 0} → Result (List A) Fault → List A → List A → Result (Unit {0}) Fault → Type 0
+AddsSaid {A} said old new (Ok _) = (values : List A) × (said ≡ Ok values) × (new ≡ old ++ values)
+AddsSaid said old new (Err fault) = UnlessMemory (Err fault) said

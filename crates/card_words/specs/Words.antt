@@ -1,5 +1,5 @@
 -- The words that the program takes, and what they ask for.
-use Rattle.std.specs.Prelude.{◌≡◌, ◌≢◌, ◌⊎◌, ◌&&◌, ◌==◌, ◌≤◌, ℕ, length, nat_le, List, [], ◌∷◌, codes, Option, Some, None, is_some, true, false, Result, Ok, Err, MatchResult, if◌then◌else◌}
+use Rattle.std.specs.Prelude.{◌≡◌, ◌≢◌, ◌⊎◌, ◌&&◌, ◌==◌, ◌≤◌, ℕ, Bool, length, nat_le, List, [], ◌∷◌, codes, Option, Some, None, is_some, true, false, Result, Ok, Err, MatchResult, if◌then◌else◌}
 use Rattle.std.specs.Str.{bytes_eq}
 use Rattle.std.specs.Str.Parse.{digits_value, without_leading_plus}
 use Rattle.clap.specs.ValueTests.{is_unsigned_in}
@@ -12,6 +12,7 @@ use Rattle.chain_core.specs.Chain.{longest_message}
 use Rattle.command_line.specs.Form.{scard}
 use Rattle.card_words.specs.Given.{asks_for_lines, given_of, GivesOctets, IsAsRead, IsFromReader}
 use Rattle.card_words.specs.Known.{knowns_of}
+use Rattle.card_words.specs.PairLines.{are_lines}
 use Rattle.card_words.specs.Session.{blocks_of, pairs_of, AreOctetPairs, IsSize}
 use Rattle.card_words.specs.Value.{◌>>=◌, octets_of_word}
 use Rattle.command_line.specs.Version.{asks_for_version}
@@ -31,7 +32,7 @@ use Rattle.card_words.specs.declared.request.Asked.{Asked}
 use Rattle.card_words.specs.declared.request.Asked.TheVariants.{Once, Lines}
 use Rattle.card_words.specs.declared.request.Request.{Request}
 use Rattle.card_words.specs.declared.session.Session.{Session}
-use Rattle.card_words.specs.declared.request.Request.TheVariants.{BuildChain, BuildTidy, BuildFill, Tell, Replay, Migrate, Apdus, Draw, Simulate, Help, Version}
+use Rattle.card_words.specs.declared.request.Request.TheVariants.{BuildChain, BuildTidy, BuildFill, Tell, Replay, Migrate, Apdus, Draw, Simulate, SimulateLines, Help, Version}
 use Rattle.block_core.specs.declared.pcb.Number.{Number}
 use Rattle.block_core.specs.declared.pcb.Number.TheVariants.{Zero, One}
 
@@ -178,17 +179,30 @@ abbrev pub asked_size : Option (List ℕ) → Result (Option ℕ) Fault
 asked_size None = Ok None
 asked_size (Some word) = size_of (Some word) >>= (λ size. Ok (Some size))
 
--- the options first, then the words in their order
-abbrev pub session_of : List Row → Result Session Fault
-session_of rows = do
+-- the options first, then the answer to reset and the words for pairs, in their order
+abbrev pub session_of : List (List ℕ) → List Row → Result Session Fault
+session_of words rows = do
   ifsd ← asked_size (first_of (codes "ifsd") rows)
   lost ← blocks_of (first_of (codes "lose") rows)
   damaged ← blocks_of (first_of (codes "damage") rows)
   spoilt ← blocks_of (first_of (codes "spoil") rows)
   atr_word ← needed (first_of (codes "atr") rows)
   atr ← octets_of_word atr_word
-  pairs ← pairs_of (all_or_none (all_of (codes "pairs") rows))
+  pairs ← pairs_of words
   Ok (record { atr = atr; ifsd = ifsd; pairs = pairs; lost = lost; damaged = damaged; spoilt = spoilt })
+
+abbrev pub session_by : Bool → Session → Request
+session_by are_lines session = if are_lines then SimulateLines session else Simulate session
+
+-- where the pairs are comes first, and then the session, which has none where they are lines
+abbrev pub simulate_by : Option (List ℕ) → List (List ℕ) → List Row → Result Request Fault
+simulate_by form words rows = do
+  lines ← are_lines form words
+  session ← session_of words rows
+  Ok (session_by lines session)
+
+abbrev pub simulate_of : List Row → Result Request Fault
+simulate_of rows = simulate_by (first_of (codes "stdin") rows) (all_or_none (all_of (codes "pairs") rows)) rows
 
 -- what tells nothing of octets
 abbrev pub request_by : List ℕ → List Row → Result Request Fault
@@ -198,7 +212,7 @@ request_by name rows =
     else (if bytes_eq name (codes "migrate") then Ok Migrate
     else (if bytes_eq name (codes "apdus") then Ok Apdus
     else (if bytes_eq name (codes "draw") then Ok (Draw (drawing_of rows))
-    else (if bytes_eq name (codes "simulate") then session_of rows >>= (λ session. Ok (Simulate session))
+    else (if bytes_eq name (codes "simulate") then simulate_of rows
     else Err Words)))))
 
 -- a request that was read, as what is asked for
@@ -229,6 +243,7 @@ IsSized Migrate = Unit {0}
 IsSized Apdus = Unit {0}
 IsSized (Draw drawing) = Unit {0}
 IsSized (Simulate session) = IsSize session.ifsd
+IsSized (SimulateLines session) = IsSize session.ifsd
 IsSized (Help help) = Unit {0}
 IsSized Version = Unit {0}
 
@@ -247,6 +262,7 @@ HasOctets Migrate = Unit {0}
 HasOctets Apdus = Unit {0}
 HasOctets (Draw drawing) = Unit {0}
 HasOctets (Simulate session) = AreOctets session.atr × AreOctetPairs session.pairs
+HasOctets (SimulateLines session) = AreOctets session.atr × AreOctetPairs session.pairs
 HasOctets (Help help) = Unit {0}
 HasOctets Version = Unit {0}
 
@@ -254,7 +270,7 @@ abbrev pub HaveOctets : Asked → Type 0
 HaveOctets (Once request) = HasOctets request
 HaveOctets (Lines task) = Unit {0}
 
--- a request that standard input answers: octets, or a file of recorded exchanges
+-- a request that standard input answers: octets, a file of recorded exchanges, or pairs
 abbrev pub NeedsFile : Request → Type 0
 NeedsFile (Tell task given) = IsFromReader given
 NeedsFile (BuildTidy given) = IsFromReader given
@@ -262,6 +278,7 @@ NeedsFile (Replay side) = Unit {0}
 NeedsFile Migrate = Unit {0}
 NeedsFile Apdus = Unit {0}
 NeedsFile (Draw drawing) = Unit {0}
+NeedsFile (SimulateLines session) = Unit {0}
 NeedsFile _ = ⊥
 
 -- a request that takes what it reads for octets, as they are

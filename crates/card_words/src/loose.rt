@@ -2,8 +2,8 @@
 
 ghost use Rattle.std.specs.Prelude.{◌≡◌};
 ghost use Rattle.std.specs.List.{list_all};
-ghost use Rattle.card_words.specs.Loose.{digits_of, grouped_octets, is_blank, is_none_alone, is_none_before_blanks, loose_octets, AddsGroup};
-ghost use Rattle.card_words.specs.Value.{UnlessMemory};
+ghost use Rattle.card_words.specs.Loose.{after_blanks, digits_of, group_octets, grouped_octets, is_blank, is_none_alone, is_none_before_blanks, loose_octets};
+ghost use Rattle.card_words.specs.Value.{AddsSaid, UnlessMemory};
 
 use crate::fault::Fault;
 use octet_core::Octets;
@@ -24,6 +24,13 @@ pub fn loose_octets(alloc: Global, text: &[u8]) -> Result<Octets, Fault>
 fn is_none_alone(text: &[u8]) -> bool
     ensures { result ≡ is_none_alone text.now }
 {
+    is_none_before_blanks(after_blanks(text))
+}
+
+/// What is left of a text without the blanks that it begins with.
+pub(crate) fn after_blanks(text: &[u8]) -> &[u8]
+    ensures { result.now ≡ after_blanks text.now }
+{
     let mut rest = text;
     while let [x, after @ ..] = rest {
         if !is_blank(*x) {
@@ -31,7 +38,7 @@ fn is_none_alone(text: &[u8]) -> bool
         }
         rest = after;
     }
-    is_none_before_blanks(rest)
+    rest
 }
 
 /// Whether a text is `none`, with blanks after it.
@@ -62,7 +69,7 @@ fn grouped_octets(alloc: Global, text: &[u8]) -> Result<Octets, Fault>
 }
 
 /// Whether an octet of a text is a space, a tab, or ends a line.
-fn is_blank(octet: u8) -> bool
+pub(crate) fn is_blank(octet: u8) -> bool
     ensures { result ≡ is_blank octet }
 {
     matches!(octet, b' ' | b'\t' | b'\n' | b'\r')
@@ -70,7 +77,7 @@ fn is_blank(octet: u8) -> bool
 
 /// Adds the octets of a group, which has no blanks.
 fn push_group(octets: &mut Vec<u8>, group: &[u8]) -> Result<(), Fault>
-    ensures { AddsGroup group.now octets.old.items octets.new.items result }
+    ensures { AddsSaid (group_octets group.now) octets.old.items octets.new.items result }
 {
     let digits = digits(group);
     let first = octets.len();

@@ -173,6 +173,8 @@ pub enum Request {
     Draw(Drawing),
     /// The exchange that a recorder of both ends writes of this session.
     Simulate(Session),
+    /// The same of this session with the pairs that the lines of standard input say.
+    SimulateLines(Session),
     /// This text, by which `clap` answers a call for help.
     Help(Text),
     /// The version.

@@ -6,7 +6,7 @@ ghost use Rattle.card_words.specs.Session as session;
 ghost use Rattle.card_words.specs.Value.{UnlessMemory};
 
 use crate::fault::Fault;
-use crate::value::{octets, parts};
+use crate::value::{parts, word_octets};
 use octet_core::{Octets, decimal_of};
 use std::alloc::{AllocError, Global};
 use std::marker::Model;
@@ -181,6 +181,15 @@ pub struct Session {
     pub spoilt: BlockNumbers,
 }
 
+impl Session {
+    /// The same session with these pairs.
+    pub fn with_pairs(self, pairs: Pairs) -> Session
+        ensures { result ≡ record self { pairs = pairs } }
+    {
+        Session { pairs, ..self }
+    }
+}
+
 /// The pairs that the words say, or the fault of the first that says none.
 pub(crate) fn read_pairs(alloc: Global, words: &[&str]) -> Result<Pairs, Fault>
     ensures { UnlessMemory result (pairs_of (map (λ word. word.now) words.now)) }
@@ -193,7 +202,8 @@ pub(crate) fn read_pairs(alloc: Global, words: &[&str]) -> Result<Pairs, Fault>
     Ok(Pairs::of(list))
 }
 
-fn push_pair(list: &mut Vec<Pair>, pair: Pair) -> Result<(), AllocError>
+/// Adds a pair to a list.
+pub(crate) fn push_pair(list: &mut Vec<Pair>, pair: Pair) -> Result<(), AllocError>
     ensures { OnOk result (list.new.items ≡ list.old.items ++ pair ∷ []) }
 {
     list.push(pair)?;
@@ -205,14 +215,19 @@ fn read_pair(alloc: Global, word: &str) -> Result<Pair, Fault>
     ensures { UnlessMemory result (pair_of word.now) }
 {
     let (command, reply) = parts(word)?;
-    read_parts(alloc, command, reply)
+    read_parts(alloc, command.as_bytes(), reply.as_bytes())
 }
 
-fn read_parts(alloc: Global, command_word: &str, reply_word: &str) -> Result<Pair, Fault>
+/// The pair of a command and a reply, each in hexadecimal or `none`.
+pub(crate) fn read_parts(
+    alloc: Global,
+    command_word: &[u8],
+    reply_word: &[u8],
+) -> Result<Pair, Fault>
     ensures { UnlessMemory result (pair_by command_word.now reply_word.now) }
 {
-    let command = octets(alloc, command_word)?;
-    let reply = octets(alloc, reply_word)?;
+    let command = word_octets(alloc, command_word)?;
+    let reply = word_octets(alloc, reply_word)?;
     Ok(Pair { command, reply })
 }
 

@@ -2,20 +2,40 @@
 
 ghost use Rattle.std.specs.Prelude.{◌≡◌};
 ghost use Rattle.std.specs.Result.{result_map_both};
-ghost use Rattle.card_words.specs.Value.{octets_of_word, parted, UnlessMemory};
+ghost use Rattle.hex.specs.Hex.{decode_of};
+ghost use Rattle.card_words.specs.Value.{hex_octets, octets_of_word, parted, UnlessMemory};
 
 use crate::fault::Fault;
-use octet_core::{Octets, octets_of};
+use hex::FromHexError;
+use octet_core::Octets;
 use std::alloc::Global;
 
 /// The octets that a word gives in hexadecimal, none where it is `none`.
 pub(crate) fn octets(alloc: Global, word: &str) -> Result<Octets, Fault>
     ensures { UnlessMemory result (octets_of_word word.now) }
 {
-    if word == "none" {
+    word_octets(alloc, word.as_bytes())
+}
+
+/// The same of a word of a text.
+pub(crate) fn word_octets(alloc: Global, word: &[u8]) -> Result<Octets, Fault>
+    ensures { UnlessMemory result (octets_of_word word.now) }
+{
+    if word == "none".as_bytes() {
         return Ok(Octets::of(Vec::new(alloc)));
     }
-    Ok(Octets::of(octets_of(alloc, word)?))
+    digit_octets(alloc, word)
+}
+
+/// The octets of digits, two each, in either case.
+fn digit_octets(alloc: Global, digits: &[u8]) -> Result<Octets, Fault>
+    ensures { UnlessMemory result (hex_octets (decode_of digits.now)) }
+{
+    match hex::decode(alloc, digits) {
+        Ok(octets) => Ok(Octets::of(octets)),
+        Err(FromHexError::OutOfMemory) => Err(Fault::Memory),
+        Err(_) => Err(Fault::Hex),
+    }
 }
 
 /// What is before the first colon, and what is after it.

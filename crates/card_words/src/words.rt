@@ -4,7 +4,7 @@ ghost use Rattle.std.specs.Prelude.{◌≡◌, ◌⊎◌, ◌≤◌, [], Err, If
 ghost use Rattle.clap.specs.Words.{all_of, fault_of, first_of, found_of, rows_of, subcommand_of, subcommand_rows_of};
 ghost use Rattle.clap.specs.Kinds.{HasKind};
 ghost use Rattle.clap.specs.Values.{kind_of as error_kind};
-ghost use Rattle.card_words.specs.Words.{asked_of, build_of, build_words, chain_of, end_of_word, asked_size, drawing_of, expected_of, session_of, kind_of, number_of, number_of_word, replay_of, show_aim, request_by, size_of, tidy_of, told_of, fill_of, HaveOctets, IsHelpOrFault, IsRead, AreSized, IsSized};
+ghost use Rattle.card_words.specs.Words.{asked_of, build_of, build_words, chain_of, end_of_word, asked_size, drawing_of, expected_of, session_of, kind_of, number_of, number_of_word, replay_of, show_aim, request_by, size_of, tidy_of, told_of, fill_of, HaveOctets, IsHelpOrFault, IsRead, AreSized, IsSized, simulate_of};
 ghost use Rattle.command_line.specs.Form.{scard, texts};
 ghost use Rattle.card_words.specs.Session.{IsSize};
 ghost use Rattle.card_words.specs.Value.{UnlessMemory};
@@ -12,6 +12,7 @@ ghost use Rattle.card_words.specs.Value.{UnlessMemory};
 use crate::fault::Fault;
 use crate::given::{asks_for_lines, read_given};
 use crate::known::knowns;
+use crate::pair_lines::are_lines;
 use crate::request::{Aim, Asked, Drawing, End, Expected, Kind, Request, Task};
 use crate::session::{Session, read_blocks, read_pairs};
 use crate::value::octets;
@@ -64,7 +65,7 @@ fn request(alloc: Global, name: &str, matches: &ArgMatches) -> Result<Request, F
         "migrate" => Ok(Request::Migrate),
         "apdus" => Ok(Request::Apdus),
         "draw" => Ok(Request::Draw(drawing(matches))),
-        "simulate" => Ok(Request::Simulate(session(alloc, matches)?)),
+        "simulate" => simulate(alloc, matches),
         _ => Err(Fault::Words),
     }
 }
@@ -163,9 +164,24 @@ fn drawing(matches: &ArgMatches) -> Drawing
     }
 }
 
-/// A session of both ends.
-fn session(alloc: Global, matches: &ArgMatches) -> Result<Session, Fault>
-    ensures read { UnlessMemory result (session_of (rows_of (found_of matches.now))) }
+/// A session of both ends, whose pairs are words, or the lines of standard input.
+fn simulate(alloc: Global, matches: &ArgMatches) -> Result<Request, Fault>
+    ensures read { UnlessMemory result (simulate_of (rows_of (found_of matches.now))) }
+    ensures sized { IfOk result IsSized }
+{
+    let pairs = all_words(matches, "pairs").unwrap_or(&[]);
+    let are_lines = are_lines(word(matches, "stdin"), pairs)?;
+    let session = session(alloc, matches, pairs)?;
+    if are_lines {
+        return Ok(Request::SimulateLines(session));
+    }
+    Ok(Request::Simulate(session))
+}
+
+/// A session of both ends with the pairs that these words say.
+fn session(alloc: Global, matches: &ArgMatches, words: &[&str]) -> Result<Session, Fault>
+    ensures read { UnlessMemory result
+        (session_of (map (λ word. word.now) words.now) (rows_of (found_of matches.now))) }
     ensures sized { IfOk result (λ session. IsSize session.ifsd) }
 {
     let ifsd = asked_size(word(matches, "ifsd"))?;
@@ -173,7 +189,7 @@ fn session(alloc: Global, matches: &ArgMatches) -> Result<Session, Fault>
     let damaged = read_blocks(alloc, word(matches, "damage"))?;
     let spoilt = read_blocks(alloc, word(matches, "spoil"))?;
     let atr = octets(alloc, word(matches, "atr").ok_or(Fault::Words)?)?;
-    let pairs = read_pairs(alloc, all_words(matches, "pairs").unwrap_or(&[]))?;
+    let pairs = read_pairs(alloc, words)?;
     Ok(Session {
         atr,
         ifsd,

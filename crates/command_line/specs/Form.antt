@@ -9,7 +9,7 @@ use Rattle.clap.specs.declared.builder.action.ArgAction.TheVariants.{Append, Set
 abbrev pub flag_rule : List ℕ → Rule
 flag_rule name = record (new_rule name) { long = Some name; action = Some SetTrue }
 
--- the option that asks for an explanation, which every subcommand has
+-- the option that asks for an explanation, which the program and every subcommand have
 abbrev pub explain_rule : Rule
 explain_rule = flag_rule (codes "explain")
 
@@ -99,18 +99,20 @@ abbrev pub ifsd_rule : Rule
 ifsd_rule = record (new_rule (codes "ifsd"))
     { long = Some (codes "ifsd"); value_names = 1; parser = Some (parser.Signed (pos 1) (pos 254)) }
 
--- the subcommand that records a session of both ends, first with its words and the size that is asked for
+-- the subcommand that records a session of both ends, first with its words, the size that is asked for, and where the
+-- pairs are read
 abbrev pub session_app : App
-session_app = with_rule (with_rule (with_rule (begun_app (codes "simulate")) atr_rule) pairs_rule) ifsd_rule
+session_app = with_rule (with_rule (with_rule (with_rule (begun_app (codes "simulate")) atr_rule) pairs_rule) ifsd_rule)
+    stdin_rule
 
 abbrev pub simulate_app : App
 simulate_app = with_rule (with_rule (with_rule session_app (option_rule (codes "lose"))) (option_rule (codes "damage")))
     (option_rule (codes "spoil"))
 
--- the program as a command, first with what it says of octets
+-- the program as a command, which takes the option before its subcommand too, first with what it says of octets
 abbrev pub octets_app : App
 octets_app = with_subcommand (with_subcommand
-    (with_subcommand (new_app (codes "scard")) (input_app (codes "check")).top) show_app.top)
+    (with_subcommand (begun_app (codes "scard")) (input_app (codes "check")).top) show_app.top)
     build_app.top
 
 unfoldable pub scard : App

@@ -1,8 +1,7 @@
 //! The form of the words, as a command of `clap`.
 
 ghost use Rattle.std.specs.Prelude.{◌≡◌, false};
-ghost use Rattle.std.specs.Prelude.{codes};
-ghost use Rattle.clap.specs.Words.{new_app, rule_of};
+ghost use Rattle.clap.specs.Words.{rule_of};
 ghost use Rattle.command_line.specs.Building.{AddsSubcommandTo, AddsTo, HasForm, IsLocal, StaysLocal};
 ghost use Rattle.command_line.specs.Form.{apdus_app, atr_rule, begun_app, build_app, draw_app, end_rule, expected_app, explain_rule, flag_rule, hex_rule, ifs_rule, ifsd_rule, input_app, kind_rule, migrate_app, notes_rule, number_rule, octets_app, option_rule, pairs_rule, replay_app, required_rule, scard, session_app, show_app, simulate_app, stdin_rule, svg_rule, what_rule, words_rule};
 
@@ -31,16 +30,10 @@ pub(crate) fn program<'a>(alloc: Global) -> Built<'a>
 fn octets_command<'a>(alloc: Global) -> Built<'a>
     ensures { HasForm octets_app result }
 {
-    let check = offering(begun_program(alloc), input_command(alloc, "check", &CHECK));
+    let begun = begun_command(alloc, "scard", &PROGRAM);
+    let check = offering(begun, input_command(alloc, "check", &CHECK));
     let show = offering(check, show_command(alloc));
     offering(show, build_command(alloc))
-}
-
-/// The program's command without subcommands.
-fn begun_program<'a>(alloc: Global) -> Built<'a>
-    ensures { HasForm (new_app (codes "scard")) result }
-{
-    Ok(with_page(Command::new(alloc, "scard"), &PROGRAM))
 }
 
 /// A command with one more argument.
@@ -97,7 +90,7 @@ fn expected_command<'a>(alloc: Global, name: &'a str, page: &Page<'a>) -> Built<
     asking(ifs, number_arg(alloc))
 }
 
-/// A subcommand with what all of them have: the option that asks for an explanation.
+/// The program or a subcommand with what all of them have: the option that asks for an explanation.
 fn begun_command<'a>(alloc: Global, name: &'a str, page: &Page<'a>) -> Built<'a>
     ensures form { HasForm (begun_app name.now) result }
     ensures local { IsLocal result }
@@ -214,7 +207,8 @@ fn session_command<'a>(alloc: Global) -> Built<'a>
 {
     let atr = asking(begun_command(alloc, "simulate", &SIMULATE), atr_arg(alloc));
     let pairs = asking(atr, pairs_arg(alloc));
-    asking(pairs, ifsd_arg(alloc))
+    let ifsd = asking(pairs, ifsd_arg(alloc));
+    asking(ifsd, lines_arg(alloc))
 }
 
 fn atr_arg<'a>(alloc: Global) -> Arg<'a>
@@ -349,6 +343,19 @@ fn stdin_arg<'a>(alloc: Global) -> Arg<'a>
         "stdin",
         "FORM",
         "In place of HEX: read octets from standard input, as FORM says: hex, octets, dump, source, or for check and show lines",
+    )
+}
+
+/// The option by which the pairs of a session come from standard input.
+fn lines_arg<'a>(alloc: Global) -> Arg<'a>
+    ensures rule { rule_of result ≡ stdin_rule }
+    ensures local { result.global ≡ false }
+{
+    option_arg(
+        alloc,
+        "stdin",
+        "FORM",
+        "In place of COMMAND:REPLY: read the pairs from standard input; FORM is lines, and a line is COMMAND REPLY",
     )
 }
 

@@ -56,7 +56,7 @@ fn with_after<'a>(command: Command<'a>, after: &'a str) -> Command<'a>
 /// The page of the program.
 pub(crate) const PROGRAM: Page<'static> = Page {
     about: "Check, show, build and replay what smart cards and terminals exchange",
-    usage: "scard <COMMAND>
+    usage: "scard [--explain] <COMMAND>
        scard --version",
     after: "Kinds of octets:
   atr       an answer to reset
@@ -75,7 +75,8 @@ Exit status:
   1  refused, or short, or an end that does otherwise than a file says
   2  a fault of the words, of a file, of memory or of a stream
 
-Every line goes to standard output. With --explain lines about what is wrong come after it.
+Every line goes to standard output. With --explain, before the command or after it, lines about what is wrong come after
+it.
 
 Examples:
   scard help check
@@ -221,9 +222,12 @@ Examples:
 /// The page of `simulate`.
 pub(crate) const SIMULATE: Page<'static> = Page {
     about: "Record a session of a terminal and a card, each of whose blocks may be disturbed",
-    usage: "scard simulate <ATR> [COMMAND:REPLY]... [--ifsd <N>] [--lose <LIST>] [--damage <LIST>] [--spoil <LIST>]",
+    usage: "scard simulate <ATR> [COMMAND:REPLY]... [--ifsd <N>] [--lose <LIST>] [--damage <LIST>] [--spoil <LIST>]
+       scard simulate <ATR> --stdin lines [--ifsd <N>] [--lose <LIST>] [--damage <LIST>] [--spoil <LIST>]",
     after: "LIST is numbers of blocks and ranges as 2-5, parted by commas; they count from 1 in the order in which both
 ends send them.
+With --stdin lines each line of standard input has a pair: the command and the reply, parted by blanks. An empty line
+says nothing.
 
 Exit status:
   0  the file of the exchange, which replays at both ends
@@ -232,5 +236,6 @@ Exit status:
 
 Examples:
   scard simulate 3B808131204555 00A4040000:9000
-  scard simulate 3B808131204555 00A4040000:9000 00B0000000:6A82 --lose 2,5 --damage 3",
+  scard simulate 3B808131204555 00A4040000:9000 00B0000000:6A82 --lose 2,5 --damage 3
+  printf '00A4040000 9000\\n00B0000000 6A82\\n' | scard simulate 3B808131204555 --stdin lines",
 };

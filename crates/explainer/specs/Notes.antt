@@ -1,6 +1,6 @@
 -- What is said of octets after the line of their verdict.
-use Rattle.std.specs.Prelude.{◌≡◌, ℕ, ◌-◌, List, ◌++◌, [], codes, decimal, drop, encode_utf8, length, take, ◌==◌, Option, Some, None, if◌then◌else◌, Result, Ok, Err}
-use Rattle.std.specs.List.{repeat}
+use Rattle.std.specs.Prelude.{◌≡◌, ℕ, nat_lt, true, false, ◌-◌, List, ◌++◌, [], codes, decimal, drop, encode_utf8, length, take, ◌==◌, Option, Some, None, if◌then◌else◌, Result, Ok, Err}
+use Rattle.std.specs.List.{list_any, repeat}
 use Rattle.hex.specs.Hex.{encode_upper}
 use Rattle.octet_core.specs.declared.stop.Stop.{Stop}
 use Rattle.octet_core.specs.declared.stop.Stop.TheVariants.{Short, At}
@@ -9,6 +9,10 @@ use Rattle.atr_core.specs.Atr.{AtrParts, IsAtr, IsReason}
 use Rattle.atr_core.specs.T1.{t1_params_of, T1Values}
 use Rattle.atr_core.specs.declared.params.ParamFault.{ParamFault}
 use Rattle.atr_core.specs.declared.reason.AtrReason.{AtrReason}
+use Rattle.card_words.specs.Given.{octets_in}
+use Rattle.card_words.specs.declared.fault.Fault.{Fault}
+use Rattle.card_words.specs.declared.given.Form.TheVariants as form
+use Rattle.card_words.specs.declared.session.Session.{Session}
 
 -- the place of the first octet that is shown: at most 16 octets stand before the one that is marked
 abbrev pub first_shown : ℕ → ℕ
@@ -80,6 +84,29 @@ pub data IsSessionNote (b note : List ℕ) : Type 0 where
   no_atr : (stop : Stop AtrReason) → Refuses self_ended IsAtr IsReason b stop → IsStopNote b stop note
       → IsSessionNote b note
 
+-- a list that names blocks which were never sent, some of these, and how many were sent
+abbrev pub unsent_line : List ℕ → List ℕ → ℕ → List ℕ
+unsent_line option shown sent =
+    option ++ (codes " names blocks that were never sent: " ++ (shown ++ (codes "; "
+    ++ (decimal sent ++ codes " were sent\n"))))
+
+-- The note on a list by how many blocks were sent: none where it names none above that number. How those that it names
+-- are shown is open.
+pub data IsUnsentNote (option blocks : List ℕ) (sent : ℕ) (note : List ℕ) : Type 0 where
+  all_sent : list_any (λ number. nat_lt sent number) blocks ≡ false → note ≡ [] → IsUnsentNote option blocks sent note
+  some_unsent : list_any (λ number. nat_lt sent number) blocks ≡ true → (shown : List ℕ)
+      → note ≡ unsent_line option shown sent → IsUnsentNote option blocks sent note
+
+-- the same of all lists of a session
+pub record AreUnsentNotes (s : Session) (sent : ℕ) (note : List ℕ) : Type 0 where
+  pub lost : List ℕ
+  pub damaged : List ℕ
+  pub spoilt : List ℕ
+  pub is_lost : IsUnsentNote (codes "--lose") s.lost sent lost
+  pub is_damaged : IsUnsentNote (codes "--damage") s.damaged sent damaged
+  pub is_spoilt : IsUnsentNote (codes "--spoil") s.spoilt sent spoilt
+  pub is_note : note ≡ lost ++ (damaged ++ spoilt)
+
 -- ---- words
 
 -- a word by its number, and what is wrong with it
@@ -104,6 +131,15 @@ place_note number column what line before =
     codes "line " ++ (decimal number ++ (codes ", column " ++ (decimal column
     ++ (codes ": " ++ (what ++ (codes "\n" ++ (line ++ (codes "\n"
     ++ (repeat before (codes " ") ++ codes "^\n")))))))))
+
+-- that a text which is taken for hexadecimal is a dump of some octets too
+abbrev pub offsets_said : Result (List ℕ) Fault → List ℕ
+offsets_said (Ok octets) = if length octets == 0 then [] else codes
+    "standard input: this text is a dump too, and its offsets are taken for octets here; --stdin dump leaves them out\n"
+offsets_said (Err fault) = []
+
+abbrev pub offsets_note : List ℕ → List ℕ
+offsets_note text = offsets_said (octets_in form.Dump text)
 
 -- ---- files
 

@@ -1,7 +1,10 @@
 //! Where the words of a command line are: its words after the subcommand that are no options, and its options.
 //!
 //! The words are those that the parser takes, so an option is a word that begins with two dashes, and its value is in
-//! it, after an equals sign, or is the next word. `--explain`, `--notes` and `--svg` alone have none.
+//! it, after an equals sign, or is the next word. `--explain`, `--notes` and `--svg` alone have none. Before the
+//! subcommand may be one `--explain`.
+
+ghost use Rattle.std.specs.Prelude.{◌≤◌};
 
 /// The word with this number, or the empty one where there is none.
 pub(crate) fn word_at(words: &[String], number: usize) -> &str {
@@ -11,11 +14,22 @@ pub(crate) fn word_at(words: &[String], number: usize) -> &str {
     }
 }
 
+/// The number of the subcommand: 1, or 2 where `--explain` comes before it.
+pub(crate) fn subcommand_place(words: &[String]) -> usize
+    ensures { result ≤ 2 }
+{
+    if word_at(words, 1) == "--explain" {
+        2
+    } else {
+        1
+    }
+}
+
 /// The number of the word that is no option, so many after the first of them; past the end where there is none.
 pub(crate) fn place_of(words: &[String], nth: usize) -> usize {
     let mut left = nth;
     let mut is_value = false;
-    for number in 2..words.len() {
+    for number in subcommand_place(words) + 1..words.len() {
         let word = word_at(words, number);
         if word == "--" {
             return (number + 1).saturating_add(left);
@@ -40,7 +54,7 @@ fn has_next(word: &str) -> bool {
 
 /// The number of the word that has the value of an option; past the end where the option isn't given.
 pub(crate) fn option_place(words: &[String], name: &str) -> usize {
-    for number in 2..words.len() {
+    for number in subcommand_place(words) + 1..words.len() {
         let word = word_at(words, number);
         if word == "--" {
             break;

@@ -1,7 +1,7 @@
-//! The note on a text of standard input that isn't in its form.
+//! The notes on a text of standard input: that it isn't in its form, or that it is a dump too.
 
 ghost use Rattle.std.specs.Prelude.{◌≡◌, IfOk, IfSome, Some, slice_get, string_bytes};
-ghost use Rattle.explainer.specs.Notes.{place_note};
+ghost use Rattle.explainer.specs.Notes.{offsets_note, place_note};
 
 use crate::words::what_form;
 use card_words::{Fault, Form};
@@ -14,6 +14,10 @@ const BEFORE: usize = 40;
 /// How many characters are shown, at most.
 const SHOWN: usize = 60;
 
+/// What is said of a dump that is taken for hexadecimal.
+const OFFSETS: &str =
+    "standard input: this text is a dump too, and its offsets are taken for octets here; --stdin dump leaves them out\n";
+
 /// What is wrong at a place of a text in hexadecimal.
 #[derive(Clone, Copy)]
 enum Wrong {
@@ -23,6 +27,10 @@ enum Wrong {
     Odd,
     /// A `0x` begins here that has nothing after it.
     Mark,
+    /// The line of a pair has no second word.
+    NoReply,
+    /// A third word begins here.
+    Third,
 }
 
 /// What a person wants to know of a text that isn't in its form: of one in hexadecimal the first place that is wrong,
@@ -69,6 +77,85 @@ fn hexadecimal_note(alloc: Global, text: &[u8]) -> Result<String, AllocError> {
     match wrong_group(text) {
         Some((place, wrong)) => marked(alloc, text, place, wrong),
         None => Ok(String::new(alloc)),
+    }
+}
+
+/// What a person wants to know of a text in hexadecimal that is a dump of some octets too: that its offsets are taken
+/// for octets. Nothing of any other.
+pub fn offsets_note(alloc: Global, text: Octets) -> Result<String, AllocError>
+    ensures { IfOk result (λ note. string_bytes note ≡ offsets_note text) }
+{
+    match Form::Dump.octets(alloc, text) {
+        Ok(octets) if !octets.get().is_empty() => String::from_str(alloc, OFFSETS),
+        Err(Fault::Memory) => Err(AllocError),
+        _ => Ok(String::new(alloc)),
+    }
+}
+
+/// What a person wants to know of a text whose lines are to be pairs of a session, and one isn't: the first place that
+/// is wrong, by its line and column, counted from 1, with its line and a mark under it, and what a line is.
+pub fn pairs_note(alloc: Global, text: &[u8]) -> Result<String, AllocError> {
+    let mut note = match wrong_line(text) {
+        Some((place, wrong)) => marked(alloc, text, place, wrong)?,
+        None => String::new(alloc),
+    };
+    note.push_str(
+        "standard input: a line is COMMAND REPLY, in hexadecimal or none, parted by blanks\n",
+    )?;
+    Ok(note)
+}
+
+/// The first place of a text that is wrong where its lines are pairs.
+fn wrong_line(text: &[u8]) -> Option<(usize, Wrong)> {
+    let mut start = 0_usize;
+    for line in text.split(|octet| *octet == b'\n') {
+        if let Some((place, wrong)) = wrong_word(line) {
+            return Some((start.saturating_add(place), wrong));
+        }
+        start = start.saturating_add(line.len()).saturating_add(1);
+    }
+    None
+}
+
+/// The first place of a line that is wrong where it is a pair.
+fn wrong_word(line: &[u8]) -> Option<(usize, Wrong)> {
+    let mut words = 0_usize;
+    let mut start = 0_usize;
+    let mut end = 0_usize;
+    for word in line.split(|octet| is_blank(*octet)) {
+        if !word.is_empty() {
+            if words == 2 {
+                return Some((start, Wrong::Third));
+            }
+            if let Some((place, wrong)) = wrong_digit(word) {
+                return Some((start.saturating_add(place), wrong));
+            }
+            words = words.saturating_add(1);
+            end = start.saturating_add(word.len());
+        }
+        start = start.saturating_add(word.len()).saturating_add(1);
+    }
+    if words == 1 {
+        Some((end, Wrong::NoReply))
+    } else {
+        None
+    }
+}
+
+/// The first place of a word that is wrong where it gives octets, in hexadecimal or `none`.
+fn wrong_digit(word: &[u8]) -> Option<(usize, Wrong)> {
+    if word == "none".as_bytes() {
+        return None;
+    }
+    for (place, octet) in word.iter().enumerate() {
+        if !octet.is_ascii_hexdigit() {
+            return Some((place, Wrong::Digit(*octet)));
+        }
+    }
+    if word.len() % 2 == 1 {
+        Some((0, Wrong::Odd))
+    } else {
+        None
     }
 }
 
@@ -155,6 +242,8 @@ fn sentence(alloc: Global, wrong: Wrong) -> Result<String, AllocError> {
         Wrong::Digit(octet) => format!(in alloc; "no digit, but the octet {octet:02X}"),
         Wrong::Odd => String::from_str(alloc, "a group with an odd number of digits"),
         Wrong::Mark => String::from_str(alloc, "a 0x with no digits after it"),
+        Wrong::NoReply => String::from_str(alloc, "no reply after the command"),
+        Wrong::Third => String::from_str(alloc, "a word after the command and the reply"),
     }
 }
 

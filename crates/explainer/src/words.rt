@@ -1,6 +1,6 @@
 //! Notes on words that are no request.
 
-use crate::place::{option_place, option_value, place_of, word_at};
+use crate::place::{option_place, option_value, place_of, subcommand_place, word_at};
 use crate::word::{hex_note, said};
 use card_words::{Fault, Form, read_blocks};
 use command_line::parser_message;
@@ -8,7 +8,7 @@ use std::alloc::{AllocError, Global};
 
 /// What a person wants to know of words, of which the first is the program's name: what the parser of command lines
 /// says where it refuses them, with the form that it takes, and else the first word that is wrong, by its number, and
-/// what it should be. The subcommand is word 1.
+/// what it should be. The subcommand is word 1, or word 2 after `--explain`.
 pub fn words_note(alloc: Global, words: &[String]) -> Result<String, AllocError> {
     match parser_message(alloc, words)? {
         Some(message) => Ok(message),
@@ -18,7 +18,7 @@ pub fn words_note(alloc: Global, words: &[String]) -> Result<String, AllocError>
 
 /// The first word that is wrong, of words that the parser takes.
 fn word_note(alloc: Global, words: &[String]) -> Result<String, AllocError> {
-    let subcommand = word_at(words, 1);
+    let subcommand = word_at(words, subcommand_place(words));
     if subcommand == "check" || subcommand == "show" {
         return input_note(alloc, words);
     }
@@ -31,7 +31,10 @@ fn word_note(alloc: Global, words: &[String]) -> Result<String, AllocError> {
     if subcommand == "simulate" {
         return session_note(alloc, words);
     }
-    String::from_str(alloc, "")
+    String::from_str(
+        alloc,
+        "there is no subcommand: check, show, build, replay, migrate, apdus or simulate\n",
+    )
 }
 
 /// A kind, and octets.
@@ -72,7 +75,7 @@ fn form_note(alloc: Global, words: &[String], form: usize) -> Result<String, All
     if let Some(text) = text_of_form(word) {
         return String::from_str(alloc, text);
     }
-    let what = if matches!(word_at(words, 1), "check" | "show") {
+    let what = if matches!(word_at(words, subcommand_place(words)), "check" | "show") {
         "a form is hex, octets, dump, source or lines"
     } else {
         "a form is hex, octets, dump or source"
@@ -160,8 +163,21 @@ fn list_word_note(alloc: Global, words: &[String]) -> Result<String, AllocError>
     )
 }
 
-/// A session: its options, its answer to reset and its pairs.
+/// A session: where its pairs are, its other options, its answer to reset and its pairs.
 fn session_note(alloc: Global, words: &[String]) -> Result<String, AllocError> {
+    let form = option_place(words, "--stdin");
+    let pair = place_of(words, 1);
+    if form < words.len() && pair < words.len() {
+        return said(alloc, pair, "COMMAND:REPLY can't be given beside --stdin");
+    }
+    if form < words.len() && option_value(words, "--stdin") != "lines" {
+        return said(alloc, form, "simulate takes --stdin lines alone");
+    }
+    session_words_note(alloc, words)
+}
+
+/// The options that name blocks, the answer to reset and the pairs.
+fn session_words_note(alloc: Global, words: &[String]) -> Result<String, AllocError> {
     for name in ["--lose", "--damage", "--spoil"] {
         if option_place(words, name) < words.len() && !is_list(alloc, option_value(words, name)) {
             return option_note(

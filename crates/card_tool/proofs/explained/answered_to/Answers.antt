@@ -9,14 +9,14 @@ use Rattle.card_tool.proofs.Answering.{told-fault, told-wanting}
 use Rattle.card_tool.proofs.Explaining.{noted-given, wanting, with-note}
 use Rattle.card_tool.proofs.explained.answered_to.Goals as goal
 
-pub returns-in_err-octets-in-Tell-clause-told : goal.returns-in_err-octets-in-Tell-clause-told
-returns-in_err-octets-in-Tell-clause-told g c =
+pub returns-in_err-taken-in-Tell-clause-told : goal.returns-in_err-taken-in-Tell-clause-told
+returns-in_err-taken-in-Tell-clause-told g c =
     let fault = err_from_is_err_and c.from_residual.result c.from_residual.ensures.1 in
     rw (c.in-Tell.is, fault.1, fault.2) (told-fault (Tell c.in-Tell.task c.in-Tell.given) c.in-Tell.given
     (IsTold c.in-Tell.task) (g.R.Source.remaining c.args.reader.now)
     (g.R.Source.remaining c.octets_explained.new.reader) (g.R.Source.failures c.args.reader.now)
     (g.R.Source.failures c.octets_explained.new.reader) (λ need. need) (λ file text ended h. h)
-    c.in_err-octets-in-Tell.field-0.0 c.in_err-octets-in-Tell.ensures.taken)
+    c.in_err-taken-in-Tell.field-0.0 c.in_err-taken-in-Tell.ensures.taken.taken)
 
 pub returns-in_err-judged-in-Tell-clause-told : goal.returns-in_err-judged-in-Tell-clause-told
 returns-in_err-judged-in-Tell-clause-told g c =
@@ -26,18 +26,18 @@ returns-in_err-judged-in-Tell-clause-told g c =
     (IsTold c.in-Tell.task) (g.R.Source.remaining c.args.reader.now)
     (g.R.Source.remaining c.octets_explained.new.reader) (g.R.Source.failures c.args.reader.now)
     (g.R.Source.failures c.octets_explained.new.reader) (λ need. need) (λ file text ended h. h)
-    c.in_ok-octets-in-Tell.octets c.in_ok-octets-in-Tell.ensures.taken)
+    c.in_ok-taken-in-Tell.taken.octets c.in_ok-taken-in-Tell.ensures.taken.taken)
 
-pub returns-in_err-octets-in-BuildTidy-clause-told : goal.returns-in_err-octets-in-BuildTidy-clause-told
-returns-in_err-octets-in-BuildTidy-clause-told g c =
-    let fault = err_from_is_err_and c.from_residual-in_err-octets-in-BuildTidy.result
-    c.from_residual-in_err-octets-in-BuildTidy.ensures.1 in
+pub returns-in_err-taken-in-BuildTidy-clause-told : goal.returns-in_err-taken-in-BuildTidy-clause-told
+returns-in_err-taken-in-BuildTidy-clause-told g c =
+    let fault = err_from_is_err_and c.from_residual-in_err-taken-in-BuildTidy.result
+    c.from_residual-in_err-taken-in-BuildTidy.ensures.1 in
     rw (c.in-BuildTidy.is, fault.1, fault.2)
     (told-fault (BuildTidy c.in-BuildTidy.given) c.in-BuildTidy.given Tidies
     (g.R.Source.remaining c.args.reader.now) (g.R.Source.remaining c.octets_explained-in-BuildTidy.new.reader)
     (g.R.Source.failures c.args.reader.now) (g.R.Source.failures c.octets_explained-in-BuildTidy.new.reader)
-    (λ need. need) (λ file text ended h. h) c.in_err-octets-in-BuildTidy.field-0.0
-    c.in_err-octets-in-BuildTidy.ensures.taken)
+    (λ need. need) (λ file text ended h. h) c.in_err-taken-in-BuildTidy.field-0.0
+    c.in_err-taken-in-BuildTidy.ensures.taken.taken)
 
 pub returns-in_err-judged-in-BuildTidy-clause-told : goal.returns-in_err-judged-in-BuildTidy-clause-told
 returns-in_err-judged-in-BuildTidy-clause-told g c =
@@ -47,8 +47,8 @@ returns-in_err-judged-in-BuildTidy-clause-told g c =
     (told-wanting (BuildTidy c.in-BuildTidy.given) c.in-BuildTidy.given Tidies
     (g.R.Source.remaining c.args.reader.now) (g.R.Source.remaining c.octets_explained-in-BuildTidy.new.reader)
     (g.R.Source.failures c.args.reader.now) (g.R.Source.failures c.octets_explained-in-BuildTidy.new.reader)
-    (λ need. need) (λ file text ended h. h) c.in_ok-octets-in-BuildTidy.octets
-    c.in_ok-octets-in-BuildTidy.ensures.taken)
+    (λ need. need) (λ file text ended h. h) c.in_ok-taken-in-BuildTidy.taken.octets
+    c.in_ok-taken-in-BuildTidy.ensures.taken.taken)
 
 pub returns-in_err-judged-in-BuildFill-clause-told : goal.returns-in_err-judged-in-BuildFill-clause-told
 returns-in_err-judged-in-BuildFill-clause-told g c =
@@ -65,10 +65,10 @@ returns-in_ok-judged-in-Tell-clause-told g c =
     (IsKindNote c.in-Tell.task.expected.kind c.in-Tell.task.expected) (g.R.Source.remaining c.args.reader.now)
     (g.R.Source.remaining c.octets_explained.new.reader) (g.R.Source.failures c.args.reader.now)
     (g.R.Source.failures c.octets_explained.new.reader) (λ need. need) (λ file text ended h. h)
-    (λ file ended note h. h) c.in_ok-octets-in-Tell.octets c.in_ok-octets-in-Tell.ensures.taken
-    c.in_ok-judged-in-Tell.judged.answer c.noted.result c.in_ok-judged-in-Tell.judged.note c.noted.ensures.text.0
-    made.0
-    made.1 c.noted.ensures.text.1 c.noted.ensures.text.2 c.noted.ensures.status)
+    (λ file note h. h) c.in_ok-taken-in-Tell.taken c.in_ok-taken-in-Tell.ensures.taken
+    c.in_ok-judged-in-Tell.judged.answer c.noted.result c.in_ok-judged-in-Tell.judged.note c.joined.result
+    c.noted.ensures.text.0 made.0 made.1 c.joined.ensures c.noted.ensures.text.1 c.noted.ensures.text.2
+    c.noted.ensures.status)
 
 pub returns-in_ok-judged-in-BuildTidy-clause-told : goal.returns-in_ok-judged-in-BuildTidy-clause-told
 returns-in_ok-judged-in-BuildTidy-clause-told g c =
@@ -77,10 +77,10 @@ returns-in_ok-judged-in-BuildTidy-clause-told g c =
     (IsNoteBy forest_codec) (g.R.Source.remaining c.args.reader.now)
     (g.R.Source.remaining c.octets_explained-in-BuildTidy.new.reader) (g.R.Source.failures c.args.reader.now)
     (g.R.Source.failures c.octets_explained-in-BuildTidy.new.reader) (λ need. need) (λ file text ended h. h)
-    (λ file ended note h. h) c.in_ok-octets-in-BuildTidy.octets c.in_ok-octets-in-BuildTidy.ensures.taken
+    (λ file note h. h) c.in_ok-taken-in-BuildTidy.taken c.in_ok-taken-in-BuildTidy.ensures.taken
     c.in_ok-judged-in-BuildTidy.judged.answer c.noted-in-BuildTidy.result c.in_ok-judged-in-BuildTidy.judged.note
-    c.noted-in-BuildTidy.ensures.text.0 made.0
-    made.1 c.noted-in-BuildTidy.ensures.text.1 c.noted-in-BuildTidy.ensures.text.2 c.noted-in-BuildTidy.ensures.status)
+    c.joined-in-BuildTidy.result c.noted-in-BuildTidy.ensures.text.0 made.0 made.1 c.joined-in-BuildTidy.ensures
+    c.noted-in-BuildTidy.ensures.text.1 c.noted-in-BuildTidy.ensures.text.2 c.noted-in-BuildTidy.ensures.status)
 
 pub returns-in_ok-judged-in-BuildFill-clause-told : goal.returns-in_ok-judged-in-BuildFill-clause-told
 returns-in_ok-judged-in-BuildFill-clause-told g c =

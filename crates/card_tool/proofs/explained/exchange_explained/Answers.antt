@@ -86,10 +86,10 @@ returns-in_err-judged-in-Draw-clause-told g c =
     (g.R.Source.failures c.read_whole-in-Draw.new.reader) (λ file text ended h. h) c.in_ok-file-in-Draw.file
     c.in_ok-file-in-Draw.ensures)
 
-pub returns-in_err-answer-in-Simulate-clause-told : goal.returns-in_err-answer-in-Simulate-clause-told
-returns-in_err-answer-in-Simulate-clause-told g c =
-    let fault = err_from_is_err_and c.from_residual-in_err-answer-in-Simulate.result
-    c.from_residual-in_err-answer-in-Simulate.ensures.1 in
+pub returns-in_err-judged-in-Simulate-clause-told : goal.returns-in_err-judged-in-Simulate-clause-told
+returns-in_err-judged-in-Simulate-clause-told g c =
+    let fault = err_from_is_err_and c.from_residual-in_err-judged-in-Simulate.result
+    c.from_residual-in_err-judged-in-Simulate.ensures.1 in
     rw (fault.1, fault.2) (wanting c.args.request (g.R.Source.remaining c.args.reader.now)
     (g.R.Source.failures c.args.reader.now))
 
@@ -139,14 +139,14 @@ returns-in_ok-judged-in-Draw-clause-told g c =
     c.noted-in-Draw.ensures.text.2
     c.noted-in-Draw.ensures.status)
 
-pub returns-in_ok-answer-in-Simulate-clause-told : goal.returns-in_ok-answer-in-Simulate-clause-told
-returns-in_ok-answer-in-Simulate-clause-told g c =
+pub returns-in_ok-judged-in-Simulate-clause-told : goal.returns-in_ok-judged-in-Simulate-clause-told
+returns-in_ok-judged-in-Simulate-clause-told g c =
     rw c.in-Simulate.is (with-note (Simulate c.in-Simulate.session) (g.R.Source.remaining c.args.reader.now)
     (g.R.Source.remaining c.args.reader.now) (g.R.Source.failures c.args.reader.now)
-    (g.R.Source.failures c.args.reader.now) c.in_ok-answer-in-Simulate.answer c.noted-in-Simulate.result
-    c.simulation_note-note.result c.noted-in-Simulate.ensures.text.0 (Ok []) (λ needs. absurd needs)
-    c.in_ok-answer-in-Simulate.ensures c.simulation_note-note.ensures c.noted-in-Simulate.ensures.text.1
+    (g.R.Source.failures c.args.reader.now) c.in_ok-judged-in-Simulate.judged.answer c.noted-in-Simulate.result
+    c.in_ok-judged-in-Simulate.judged.note c.noted-in-Simulate.ensures.text.0 (Ok []) (λ needs. absurd needs)
+    c.in_ok-judged-in-Simulate.ensures.0 c.in_ok-judged-in-Simulate.ensures.1 c.noted-in-Simulate.ensures.text.1
     c.noted-in-Simulate.ensures.text.2 c.noted-in-Simulate.ensures.status)
 
-pub returns-in_ok-answer-in-Simulate-clause-few : goal.returns-in_ok-answer-in-Simulate-clause-few
-returns-in_ok-answer-in-Simulate-clause-few g c = none-begun (g.R.Source.remaining c.args.reader.now) _
+pub returns-in_ok-judged-in-Simulate-clause-few : goal.returns-in_ok-judged-in-Simulate-clause-few
+returns-in_ok-judged-in-Simulate-clause-few g c = none-begun (g.R.Source.remaining c.args.reader.now) _

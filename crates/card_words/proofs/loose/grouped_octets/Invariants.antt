@@ -1,10 +1,10 @@
 use Rattle.std.proofs.Common.{◌≡◌, drop, length}
 use Rattle.std.specs.List.{slice_split}
-use Rattle.card_words.specs.Loose.{is_blank, grouped_octets}
+use Rattle.card_words.specs.Loose.{group_octets, grouped_octets, is_blank}
 use Rattle.card_words.proofs.Groups.{after}
 use Rattle.card_words.proofs.loose.grouped_octets.Given as goal
 
 -- the octets read so far and those of the groups that are left are those of the text
 abbrev pub invariant-loop-group : goal.invariant-loop-group
-invariant-loop-group l = after l.octets.items (drop (length l.yielded) (slice_split is_blank l.text)) ≡ grouped_octets
-    l.text
+invariant-loop-group l =
+    after group_octets l.octets.items (drop (length l.yielded) (slice_split is_blank l.text)) ≡ grouped_octets l.text

@@ -1,0 +1,45 @@
+-- The pairs of a session as lines: in each a command and the reply to it, which blanks part.
+use Rattle.std.specs.Prelude.{◌==◌, ◌||◌, ℕ, codes, drop, length, not, List, [], ◌∷◌, Bool, true, false, Option, Some, None, Result, Ok, Err, if◌then◌else◌}
+use Rattle.std.specs.Str.{bytes_eq}
+use Rattle.std.specs.List.{before_first, position_or_len, slice_split}
+use Rattle.card_words.specs.Loose.{after_blanks, is_blank}
+use Rattle.card_words.specs.Session.{pair_by}
+use Rattle.card_words.specs.Value.{◌>>=◌, all_said}
+use Rattle.card_words.specs.declared.fault.Fault.{Fault}
+use Rattle.card_words.specs.declared.fault.Fault.TheVariants.{Hex, Words}
+use Rattle.card_words.specs.declared.session.Pair.{Pair}
+
+-- what comes before the next blank, and the rest from there on
+abbrev pub at_blank : List ℕ → List ℕ × List ℕ
+at_blank text = (before_first is_blank text, drop (position_or_len is_blank text) text)
+
+-- the first word of a line, which is empty where the line has none, and the rest after it
+abbrev pub first_word : List ℕ → List ℕ × List ℕ
+first_word line = at_blank (after_blanks line)
+
+-- what the words of a line say, with the one after the first two: no pair where there is no word, else that of two
+abbrev pub pairs_of_words : List ℕ → List ℕ → List ℕ → Result (List Pair) Fault
+pairs_of_words command reply more =
+    if length command == 0 then Ok []
+    else (if length reply == 0 || not (length more == 0) then Err Hex
+    else pair_by command reply >>= (λ pair. Ok (pair ∷ [])))
+
+abbrev pub pairs_of_line : List ℕ → Result (List Pair) Fault
+pairs_of_line line =
+    let command = first_word line in
+    let reply = first_word command.1 in
+    pairs_of_words command.0 reply.0 (first_word reply.1).0
+
+abbrev pub is_line_end : ℕ → Bool
+is_line_end x = x == 10
+
+-- the pairs of all lines of a text; the last needs no end
+abbrev pub pairs_in : List ℕ → Result (List Pair) Fault
+pairs_in text = all_said pairs_of_line (slice_split is_line_end text)
+
+-- whether a form of standard input says that the pairs are lines there: no word is a pair then, and no other form is
+-- taken
+abbrev pub are_lines : Option (List ℕ) → List (List ℕ) → Result Bool Fault
+are_lines None words = Ok false
+are_lines (Some form) [] = if bytes_eq form (codes "lines") then Ok true else Err Words
+are_lines (Some form) (word ∷ words) = Err Words

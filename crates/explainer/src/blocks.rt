@@ -1,0 +1,87 @@
+//! The note on blocks that the lists of a session name, and that were never sent.
+
+ghost use Rattle.std.specs.Prelude.{◌≡◌, nat_lt, IfOk, string_bytes};
+ghost use Rattle.std.specs.List.{list_any};
+ghost use Rattle.explainer.specs.Notes.{AreUnsentNotes, IsUnsentNote};
+
+use card_words::{BlockNumbers, Session};
+use std::alloc::{AllocError, Global};
+
+/// How many characters the numbers of blocks take, at most, before the rest is left out.
+const SHOWN: usize = 60;
+
+/// What a person wants to know of a session in which so many blocks were sent: for each list that names blocks above
+/// that number, which these are; nothing where none does.
+pub fn unsent_note(alloc: Global, session: &Session, sent: usize) -> Result<String, AllocError>
+    ensures { IfOk result (λ note. AreUnsentNotes session.now sent (string_bytes note)) }
+{
+    let lost = list_note(alloc, "--lose", &session.lost, sent)?;
+    let damaged = list_note(alloc, "--damage", &session.damaged, sent)?;
+    let spoilt = list_note(alloc, "--spoil", &session.spoilt, sent)?;
+    format!(in alloc; "{lost}{damaged}{spoilt}")
+}
+
+/// The blocks of a list that were never sent, where it names some.
+fn list_note(
+    alloc: Global,
+    option: &str,
+    blocks: &BlockNumbers,
+    sent: usize,
+) -> Result<String, AllocError>
+    ensures { IfOk result (λ note. IsUnsentNote option.now blocks.now sent (string_bytes note)) }
+{
+    if !names_unsent(blocks.get(), sent) {
+        return Ok(String::new(alloc));
+    }
+    let numbers = unsent_numbers(alloc, blocks.get(), sent)?;
+    format!(in alloc; "{option} names blocks that were never sent: {numbers}; {sent} were sent\n")
+}
+
+/// Whether a list names a block above so many.
+fn names_unsent(blocks: &[u64], sent: usize) -> bool
+    ensures { result ≡ list_any (λ number. nat_lt sent number) blocks.now }
+{
+    blocks.iter().any(|number| (sent as u64) < *number)
+}
+
+/// The numbers above so many, in their order, those that follow one another as a range.
+fn unsent_numbers(alloc: Global, blocks: &[u64], sent: usize) -> Result<String, AllocError> {
+    let mut text = String::new(alloc);
+    let mut run = None;
+    for number in blocks {
+        if *number <= sent as u64 {
+            continue;
+        }
+        match run {
+            Some((first, last)) if number.checked_sub(1) == Some(last) => run = Some((
+                first, *number,
+            )),
+            Some((first, last)) => {
+                push_run(alloc, &mut text, first, last)?;
+                run = Some((*number, *number));
+            }
+            None => run = Some((*number, *number)),
+        }
+        if text.len() > SHOWN {
+            text.push_str(",..")?;
+            return Ok(text);
+        }
+    }
+    if let Some((first, last)) = run {
+        push_run(alloc, &mut text, first, last)?;
+    }
+    Ok(text)
+}
+
+/// Adds one number, or a range.
+fn push_run(alloc: Global, text: &mut String, first: u64, last: u64) -> Result<(), AllocError> {
+    if !text.is_empty() {
+        text.push(',')?;
+    }
+    let run = if first == last {
+        format!(in alloc; "{first}")?
+    } else {
+        format!(in alloc; "{first}-{last}")?
+    };
+    text.push_str(run.as_str())
+}
