@@ -2,6 +2,7 @@
 
 use crate::ends::{Ends, Waits, params};
 use exchange_core::{Exchange, Line};
+use octet_core::is_reserved;
 use std::alloc::Global;
 use t1_core::{CardFault, TerminalFault};
 use testing::{Case, Fault, Share};
@@ -176,11 +177,6 @@ fn called(waits: Waits, idle: Option<TerminalFault>) -> Option<Refused> {
         Waits::Card => Some(Refused::Terminal(TerminalFault::Busy)),
         Waits::Dead => Some(Refused::Terminal(TerminalFault::Dead)),
     }
-}
-
-/// Whether no end may ask for this size.
-fn is_reserved(size: u8) -> bool {
-    size == 0 || size == 255
 }
 
 /// Why the call is refused, none where it isn't.
