@@ -57,5 +57,5 @@ export function answered({ scard, aroundLines, finished }, request) {
 export function wanted({ said }, { end }) {
   if (end) return said;
   return said.replace(" (--ifs)", "").replace("from that of --number", "from the first that is given")
-    .replace(/octets there: .*\n/, "");
+    .replace(/octets there: .*\n/, "").replace(/standard input: this text is a dump too.*\n/, "");
 }
