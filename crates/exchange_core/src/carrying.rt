@@ -44,14 +44,14 @@ impl Change {
 }
 
 /// The octets of a block.
-pub(crate) fn spelled(alloc: Global, block: &Block) -> Result<Octets, AllocError>
+pub fn spelled(alloc: Global, block: &Block) -> Result<Octets, AllocError>
     ensures { IfOk result (λ octets. octets ≡ spelling block.now) }
 {
     copied(alloc, encode(block).as_slice())
 }
 
 /// A copy of octets.
-pub(crate) fn copied(alloc: Global, octets: &[u8]) -> Result<Octets, AllocError>
+pub fn copied(alloc: Global, octets: &[u8]) -> Result<Octets, AllocError>
     ensures copy { IfOk result (λ copy. copy ≡ octets.now) }
     ensures octets { IfOk result (λ copy. AreOctets copy) }
 {
@@ -177,8 +177,9 @@ fn card_turned(card: &mut Card, line: &Line) -> Result<CardTurn, EventFault>
     }
 }
 
-/// The call of the terminal that a line is; any other line counts as quiet.
-fn terminal_called(terminal: &mut Terminal, line: &Line) -> Result<TerminalTurn, TerminalFault>
+/// Calls the terminal with a line: the call of it that the line is, where any other line counts as quiet. Nothing is
+/// written.
+pub fn terminal_called(terminal: &mut Terminal, line: &Line) -> Result<TerminalTurn, TerminalFault>
     ensures turn { result ≡ turn_of
         (terminal_turn terminal.old (terminal_input terminal.old line.now)) }
     ensures state { terminal.new
@@ -192,8 +193,9 @@ fn terminal_called(terminal: &mut Terminal, line: &Line) -> Result<TerminalTurn,
     }
 }
 
-/// The call of the card that a line is; any other line counts as a block of which nothing came.
-fn card_called(card: &mut Card, line: &Line) -> Result<CardTurn, CardFault>
+/// Calls the card with a line: the call of it that the line is, where any other line counts as a block of which nothing
+/// came. Nothing is written.
+pub fn card_called(card: &mut Card, line: &Line) -> Result<CardTurn, CardFault>
     ensures turn { result ≡ card_turn_of (card_turn card.old (card_input card.old line.now)) }
     ensures state { card.new
         ≡ card_state_after card.old (card_turn card.old (card_input card.old line.now)) }

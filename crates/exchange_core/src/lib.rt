@@ -13,9 +13,10 @@ pub mod laws;
 pub mod recording;
 pub mod replaying;
 
+pub use carrying::{card_called, copied, spelled, terminal_called};
 pub use event::{Event, EventFault, LastTurn, RecorderFault};
 pub use exchange_text::{
     Arrival, Exchange, ExchangeFault, Line, Lines, Version, migrate, read_exchange, write_exchange,
 };
-pub use recording::{Recorder, answers_are_replies, refused_event_changes_nothing};
-pub use replaying::{ReplayFault, Side, replay};
+pub use recording::{Recorder, answers_are_replies, refused_event_changes_nothing, told};
+pub use replaying::{ReplayFault, Side, params_of, replay};

@@ -243,7 +243,7 @@ impl Recorder {
 }
 
 /// The line that tells the last turn, where there was one; a block that it sends is lost.
-fn told(
+pub fn told(
     alloc: Global,
     terminal: &Terminal,
     card: &Card,

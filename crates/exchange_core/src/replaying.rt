@@ -85,8 +85,9 @@ pub fn replay(alloc: Global, exchange: &Exchange, side: Side) -> Result<(), Repl
     replay_from(alloc, params, exchange.lines().get(), side)
 }
 
-/// The parameters of T=1 of octets that are one whole answer to reset, or the name of what is wrong.
-pub(crate) fn params_of(octets: &[u8]) -> Result<T1Params, &'static str>
+/// The parameters of T=1 of octets that are one whole answer to reset, or the name of what is wrong, as replay and a
+/// recorder give it: `BadAtr`, `NoT1`, `ReservedIfsc` or `Crc`.
+pub fn params_of(octets: &[u8]) -> Result<T1Params, &'static str>
     ensures found { IfOk result (λ params. IsFound octets.now (Ok params.ifsc)) }
     ensures refused { IfErr result (λ name. IsFound octets.now (Err name.now)) }
 {

@@ -1,0 +1,9 @@
+use Rattle.std.proofs.Common.{length}
+use Rattle.std.specs.List.{slice_split}
+use Rattle.traces.specs.Reading.{is_line_end, nothing_taken, with_lines}
+use Rattle.traces.proofs.Texts.{IsTaken}
+use Rattle.traces.proofs.reading.read_trace.Given as goal
+
+abbrev pub invariant-loop-line : goal.invariant-loop-line
+invariant-loop-line l = IsTaken l.taken (slice_split is_line_end l.text) (length l.yielded)
+    (with_lines nothing_taken (slice_split is_line_end l.text))

@@ -1,0 +1,9 @@
+-- to be believed: what a text says, and what is recorded of it
+pub mod Rising
+pub mod Reading
+pub mod Seen
+pub mod Said
+pub mod Following
+pub mod Recorded
+pub mod Arrived
+pub mod Followed

@@ -1,0 +1,206 @@
+//! Both ends, and the lines of what they did.
+
+ghost use Rattle.std.specs.Prelude.{◌≡◌, ◌++◌, [], ◌∷◌, None, OnOk, IfOk};
+ghost use Rattle.exchange_core.specs.Recording.{as_list};
+ghost use Rattle.traces.specs.Following as following;
+ghost use Rattle.traces.specs.Following.{begun, card_did, card_hears, ended, released, settled_card, settled_terminal, terminal_did, terminal_hears, writes};
+
+use crate::said::Numbers;
+use crate::standing::Standing;
+use atr_core::T1Params;
+use exchange_core::{Arrival, LastTurn, Line, Lines, card_called, spelled, terminal_called, told};
+use std::alloc::{AllocError, Global};
+use std::marker::Model;
+use t1_core::{Card, CardFault, CardTurn, Terminal, TerminalFault, TerminalTurn};
+
+/// A new terminal and a new card, followed over what was seen, and the lines so far.
+#[derive(Drop)]
+pub(crate) struct Follower {
+    pub(crate) alloc: Global,
+    pub(crate) terminal: Terminal,
+    pub(crate) card: Card,
+    pub(crate) terminal_is: Standing,
+    pub(crate) card_is: Standing,
+    /// The numbers of the last I-blocks that were seen.
+    pub(crate) numbers: Numbers,
+    /// The last moment, where no line tells it yet.
+    pub(crate) held: Option<u64>,
+    lines: Vec<Line>,
+}
+
+impl Model for Follower {
+    ghost use Rattle.traces.specs.Following.{Following};
+
+    ghost Value = { Following };
+
+    ghost view = { λ f. record {
+      terminal = f.terminal;
+      card = f.card;
+      terminal_is = f.terminal_is;
+      card_is = f.card_is;
+      numbers = f.numbers;
+      held = f.held;
+      lines = f.lines.items;
+    } };
+}
+
+impl Follower {
+    /// Both ends new, with these parameters, and no line.
+    pub(crate) fn new(alloc: Global, params: T1Params) -> Result<Follower, AllocError>
+        ensures { IfOk result (λ f. f ≡ begun params.ifsc) }
+    {
+        Ok(Follower {
+            alloc,
+            terminal: Terminal::new(alloc, params)?,
+            card: Card::new(alloc, params)?,
+            terminal_is: Standing::Waits,
+            card_is: Standing::Waits,
+            numbers: Numbers::new(),
+            held: None,
+            lines: Vec::new(alloc),
+        })
+    }
+
+    /// Writes a line.
+    pub(crate) fn write(&mut self, line: Line) -> Result<(), AllocError>
+        ensures { OnOk result (self.new ≡ writes self.old line) }
+    {
+        self.lines.push(line)?;
+        Ok(())
+    }
+
+    /// Writes the line of a turn, where there is one.
+    fn tell(&mut self, told: Option<Line>) -> Result<(), AllocError>
+        ensures { OnOk result (self.new ≡ following.adds self.old (as_list told)) }
+    {
+        if let Some(line) = told {
+            self.lines.push(line)?;
+        }
+        Ok(())
+    }
+
+    /// Writes the moment that no line tells yet.
+    #[tactic(auto, unfolding(crate::specs::Following::released))]
+    pub(crate) fn release(&mut self) -> Result<(), AllocError>
+        ensures { OnOk result (self.new ≡ released self.old) }
+    {
+        if let Some(moment) = self.held {
+            self.lines.push(Line::Moment(moment))?;
+            self.held = None;
+        }
+        Ok(())
+    }
+
+    /// Writes a line, and calls the terminal with it.
+    #[tactic(auto, unfolding(crate::specs::Following::terminal_hears))]
+    pub(crate) fn terminal_hears(&mut self, line: Line) -> Result<(), AllocError>
+        ensures { OnOk result (self.new ≡ terminal_hears self.old line) }
+    {
+        let called = terminal_called(&mut self.terminal, &line);
+        self.write(line)?;
+        self.terminal_did(called)
+    }
+
+    /// The terminal was called: a block that it sends is kept, and another turn has its line. A terminal that refuses
+    /// is followed no more.
+    fn terminal_did(
+        &mut self,
+        called: Result<TerminalTurn, TerminalFault>,
+    ) -> Result<(), AllocError>
+        ensures { OnOk result (self.new ≡ terminal_did self.old called) }
+    {
+        match called {
+            Ok(TerminalTurn::Send(block)) => {
+                self.terminal_is = Standing::Sends(block);
+                Ok(())
+            }
+            Ok(turn) => {
+                self.terminal_is = Standing::Waits;
+                let last = LastTurn::Terminal(turn);
+                let told = told(self.alloc, &self.terminal, &self.card, &last)?;
+                self.tell(told)
+            }
+            Err(_) => {
+                self.terminal_is = Standing::Left;
+                Ok(())
+            }
+        }
+    }
+
+    /// Writes a line, and calls the card with it.
+    #[tactic(auto, unfolding(crate::specs::Following::card_hears))]
+    pub(crate) fn card_hears(&mut self, line: Line) -> Result<(), AllocError>
+        ensures { OnOk result (self.new ≡ card_hears self.old line) }
+    {
+        let called = card_called(&mut self.card, &line);
+        self.write(line)?;
+        self.card_did(called)
+    }
+
+    /// The card was called: a block that it sends is kept, and another turn has its line. A card that refuses is
+    /// followed no more.
+    fn card_did(&mut self, called: Result<CardTurn, CardFault>) -> Result<(), AllocError>
+        ensures { OnOk result (self.new ≡ card_did self.old called) }
+    {
+        match called {
+            Ok(CardTurn::Send(block)) => {
+                self.card_is = Standing::Sends(block);
+                Ok(())
+            }
+            Ok(turn) => {
+                self.card_is = Standing::Waits;
+                let last = LastTurn::Card(turn);
+                let told = told(self.alloc, &self.terminal, &self.card, &last)?;
+                self.tell(told)
+            }
+            Err(_) => {
+                self.card_is = Standing::Left;
+                Ok(())
+            }
+        }
+    }
+
+    /// A block of the terminal that wasn't seen is lost.
+    #[tactic(auto, unfolding(crate::specs::Following::settled_terminal))]
+    pub(crate) fn settle_terminal(&mut self) -> Result<(), AllocError>
+        ensures { OnOk result (self.new ≡ settled_terminal self.old) }
+    {
+        if let Standing::Sends(block) = &self.terminal_is {
+            let sent = spelled(self.alloc, block)?;
+            let arrival = Arrival::Lost;
+            self.terminal_is = Standing::Waits;
+            self.write(Line::FromTerminal { sent, arrival })?;
+        }
+        Ok(())
+    }
+
+    /// A block of the card that wasn't seen is lost.
+    #[tactic(auto, unfolding(crate::specs::Following::settled_card))]
+    pub(crate) fn settle_card(&mut self) -> Result<(), AllocError>
+        ensures { OnOk result (self.new ≡ settled_card self.old) }
+    {
+        if let Standing::Sends(block) = &self.card_is {
+            let sent = spelled(self.alloc, block)?;
+            let arrival = Arrival::Lost;
+            self.card_is = Standing::Waits;
+            self.write(Line::FromCard { sent, arrival })?;
+        }
+        Ok(())
+    }
+
+    /// What was seen ends: blocks that weren't seen are lost.
+    pub(crate) fn end(&mut self) -> Result<(), AllocError>
+        ensures { OnOk result (self.new ≡ ended self.old) }
+    {
+        self.settle_terminal()?;
+        self.settle_card()?;
+        self.release()
+    }
+
+    /// The lines.
+    pub(crate) fn lines(self) -> Lines
+        ensures { result ≡ self.lines }
+    {
+        Lines::of(self.lines)
+    }
+}

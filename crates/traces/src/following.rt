@@ -1,0 +1,159 @@
+//! What each item adds.
+
+ghost use Rattle.std.specs.Prelude.{◌≡◌, ◌∷◌, OnOk};
+ghost use Rattle.traces.specs.Following.{after_begins, after_host, after_item, after_items, after_moves, after_quiet, ended, from_card, from_terminal, reaches_card, reaches_terminal};
+
+use crate::follower::Follower;
+use crate::said::{application_line, host_line};
+use crate::trace::Item;
+use exchange_core::{Line, Side};
+use std::alloc::AllocError;
+
+impl Follower {
+    /// Follows both ends over these items, to the end.
+    pub(crate) fn run(&mut self, items: &[Item]) -> Result<(), AllocError>
+        ensures { OnOk result (self.new ≡ ended (after_items self.old items.now)) }
+    {
+        self.follow(items)?;
+        self.end()
+    }
+
+    /// Follows both ends over these items.
+    fn follow(&mut self, items: &[Item]) -> Result<(), AllocError>
+        ensures { OnOk result (self.new ≡ after_items self.old items.now) }
+    {
+        let mut rest = items;
+        while let [item, after @ ..] = rest {
+            self.see(item, rest)?;
+            rest = after;
+        }
+        Ok(())
+    }
+
+    /// Follows both ends over an item, with which these items begin.
+    fn see(&mut self, item: &Item, items: &[Item]) -> Result<(), AllocError>
+        ensures { OnOk result (self.new ≡ after_item self.old items.now item.now) }
+    {
+        match item {
+            Item::Block { from, octets, lost } => {
+                match from {
+                    Side::Terminal => self.see_terminal(octets.get(), *lost, items)?,
+                    Side::Card => self.see_card(octets.get(), *lost, items)?,
+                }
+                self.numbers = self.numbers.after(item);
+                Ok(())
+            }
+            Item::Quiet => self.hear_nothing(items),
+            Item::Moment(moment) => {
+                self.release()?;
+                self.held = Some(*moment);
+                Ok(())
+            }
+        }
+    }
+
+    /// A block of the terminal was seen.
+    #[tactic(auto, unfolding(crate::specs::Following::from_terminal))]
+    fn see_terminal(&mut self, octets: &[u8], lost: bool, items: &[Item]) -> Result<(), AllocError>
+        ensures { OnOk result (self.new ≡ from_terminal self.old octets.now lost items.now) }
+    {
+        self.ask_host(items)?;
+        self.settle_card()?;
+        self.move_terminal(octets, items)?;
+        self.release()?;
+        let (sent, arrival) = self.terminal_is.sent_as(self.alloc, octets, lost)?;
+        self.terminal_is.pass(octets);
+        self.reach_card(Line::FromTerminal { sent, arrival }, lost)
+    }
+
+    /// A block of the card was seen.
+    #[tactic(auto, unfolding(crate::specs::Following::from_card))]
+    fn see_card(&mut self, octets: &[u8], lost: bool, items: &[Item]) -> Result<(), AllocError>
+        ensures { OnOk result (self.new ≡ from_card self.old octets.now lost items.now) }
+    {
+        self.settle_terminal()?;
+        self.ask_host(items)?;
+        self.release()?;
+        let (sent, arrival) = self.card_is.sent_as(self.alloc, octets, lost)?;
+        self.card_is.pass(octets);
+        self.reach_terminal(Line::FromCard { sent, arrival }, lost)
+    }
+
+    /// The terminal's waiting time ended.
+    #[tactic(auto, unfolding(crate::specs::Following::after_quiet))]
+    fn hear_nothing(&mut self, items: &[Item]) -> Result<(), AllocError>
+        ensures { OnOk result (self.new ≡ after_quiet self.old items.now) }
+    {
+        self.ask_host(items)?;
+        self.settle_card()?;
+        self.settle_terminal()?;
+        self.release()?;
+        self.reach_terminal(Line::Quiet, false)
+    }
+
+    /// Where the card's host owes the card a call, it calls it.
+    #[tactic(auto, unfolding(crate::specs::Following::after_host))]
+    fn ask_host(&mut self, items: &[Item]) -> Result<(), AllocError>
+        ensures { OnOk result (self.new ≡ after_host self.old items.now) }
+    {
+        if self.card_is.is_waiting() && !self.card.awaits_block() {
+            let line = host_line(self.alloc, self.numbers, items)?;
+            self.card_hears(line)?;
+        }
+        Ok(())
+    }
+
+    /// The terminal comes to send a block, by its application or after its waiting time.
+    #[tactic(auto, unfolding(crate::specs::Following::after_moves))]
+    fn move_terminal(&mut self, octets: &[u8], items: &[Item]) -> Result<(), AllocError>
+        ensures { OnOk result (self.new ≡ after_moves self.old octets.now items.now) }
+    {
+        let has_waited = self.terminal_is.is_waiting() && self.terminal.awaits_block();
+        self.begin_terminal(items)?;
+        if !has_waited && self.terminal_is.misses(octets) {
+            self.settle_terminal()?;
+            self.terminal_hears(Line::Quiet)?;
+        }
+        Ok(())
+    }
+
+    /// Where the terminal has no block to send, its waiting time ends, or its application asks for something.
+    #[tactic(auto, unfolding(crate::specs::Following::after_begins))]
+    fn begin_terminal(&mut self, items: &[Item]) -> Result<(), AllocError>
+        ensures { OnOk result (self.new ≡ after_begins self.old items.now) }
+    {
+        if !self.terminal_is.is_waiting() {
+            return Ok(());
+        }
+        if self.terminal.awaits_block() {
+            return self.terminal_hears(Line::Quiet);
+        }
+        let line = application_line(self.alloc, self.numbers, items)?;
+        self.terminal_hears(line)
+    }
+
+    /// The line of a block of the terminal, which the card takes where it got there and the card is followed.
+    #[tactic(auto, unfolding(crate::specs::Following::reaches_card))]
+    fn reach_card(&mut self, line: Line, lost: bool) -> Result<(), AllocError>
+        ensures { OnOk result (self.new ≡ reaches_card self.old line lost) }
+    {
+        if !lost && self.card_is.is_waiting() {
+            self.card_hears(line)
+        } else {
+            self.write(line)
+        }
+    }
+
+    /// The line of a block of the card, or of the end of the waiting time, which the terminal takes where it got there
+    /// and the terminal is followed.
+    #[tactic(auto, unfolding(crate::specs::Following::reaches_terminal))]
+    fn reach_terminal(&mut self, line: Line, lost: bool) -> Result<(), AllocError>
+        ensures { OnOk result (self.new ≡ reaches_terminal self.old line lost) }
+    {
+        if !lost && self.terminal_is.is_waiting() {
+            self.terminal_hears(line)
+        } else {
+            self.write(line)
+        }
+    }
+}

@@ -1,0 +1,20 @@
+//! What holds of each recording, as contracts of functions that a caller may call to know it.
+
+ghost use Rattle.std.specs.Prelude.{◌≡◌, ℕ, List};
+ghost use Rattle.traces.specs.Arrived.{arrived_in, arrived_of};
+ghost use Rattle.traces.specs.Followed.{FollowedReplays};
+ghost use Rattle.traces.specs.Recorded.{lines_of};
+ghost use Rattle.traces.specs.declared.trace.Item.{Item as AnyItem};
+
+/// The blocks that arrive in the exchange of a trace are, in their order, those of the trace that weren't lost,
+/// octet by octet, whatever both ends did.
+pub fn seen_blocks_arrive()
+    ensures { (ifsc : ℕ) (items : List AnyItem)
+        → arrived_of (lines_of ifsc items) ≡ arrived_in items }
+{}
+
+/// An end that did as it should, to the last block of a trace, replays the exchange of the trace: it is followed to the
+/// end (`is_followed` in `specs/Followed.antt`), and what was added for it is what makes it send what was seen.
+pub fn followed_end_replays()
+    ensures { FollowedReplays }
+{}

@@ -1,0 +1,22 @@
+//! Traces of a line: the blocks that an analyser or a driver saw, and the exchange that both ends' applications must
+//! have made with them.
+//!
+//! [`read_trace`] gives the [`Trace`] of a text or the first fault of it, and [`record_trace`] the exchange: both
+//! ends are followed from block to block, and where an end needs a call of its application to send what was seen, the
+//! line of that call is added. `specs/Following.antt` says what each item adds.
+#![tactic(auto)]
+
+mod follower;
+mod following;
+pub mod laws;
+mod line_words;
+pub mod reading;
+pub mod recording;
+mod said;
+mod seen;
+mod standing;
+pub mod trace;
+
+pub use reading::read_trace;
+pub use recording::{RecordFault, record_trace};
+pub use trace::{Item, Trace};

@@ -1,0 +1,220 @@
+//! What a text says: a trace, or its first fault.
+
+ghost use Rattle.std.specs.Prelude.{◌≡◌, ◌<◌, ◌+◌, ◌^◌, ◌++◌, ◌∷◌, [], IfOk, IfSome, OnErr, OnOk};
+ghost use Rattle.traces.specs.Reading as reading;
+ghost use Rattle.traces.specs.Reading.{block_said, hex_said, item_said, is_lost, least_after, moment_said, named_said, nothing_taken, taken_with, trace_of, with_line, Becomes, IsEarly, UnlessMemory};
+
+use crate::line_words::LineWords;
+use crate::trace::{Item, Trace};
+use exchange_core::{ExchangeFault, Side};
+use exchange_text::Name;
+use hex::FromHexError;
+use octet_core::{Octets, decimal_of};
+use std::alloc::{AllocError, Global};
+use std::marker::Model;
+
+/// The word for a block that didn't get to its receiver, after its octets.
+const LOST: &str = "lost";
+
+/// The trace that a text says, or its first fault.
+///
+/// LF ends a line, and the last one needs no end; spaces, tabs and CR part words. A line is `t HEX` or `c HEX`, a block
+/// of the terminal or of the card in hexadecimal of either case, perhaps with the word `lost` after it, or `quiet`, or
+/// `at N`, microseconds with 1 to 15 digits that never fall. A line without a word says nothing.
+///
+/// Of the first line that is wrong, counted from 1, `Word` where its words are none of these, then `Hex`, then `Falls`
+/// for a moment below an earlier one. `Memory` may be answered in place of any other answer.
+pub fn read_trace(alloc: Global, text: &[u8]) -> Result<Trace, ExchangeFault>
+    ensures { UnlessMemory result (trace_of text.now) }
+{
+    let mut taken = Taken::new(alloc);
+    for line in text.split(|octet| *octet == b'\n') {
+        taken.take(alloc, line)?;
+    }
+    Ok(taken.end())
+}
+
+/// What the lines so far said.
+#[derive(Drop)]
+struct Taken {
+    items: Vec<Item>,
+    /// The number of the next line.
+    number: usize,
+    /// The last moment.
+    least: u64,
+}
+
+impl Model for Taken {
+    ghost use Rattle.traces.specs.Reading.{Taken, Rises};
+
+    ghost Value = { Taken };
+
+    ghost view = { λ t. record { items = t.items.items; number = t.number; least = t.least } };
+
+    ghost invariant = { λ t. Rises t.items.items t.least };
+}
+
+impl Taken {
+    /// What no line says.
+    fn new(alloc: Global) -> Taken
+        ensures { result ≡ nothing_taken }
+    {
+        Taken {
+            items: Vec::new(alloc),
+            number: 1,
+            least: 0,
+        }
+    }
+
+    /// Takes one more line, without its end.
+    fn take(&mut self, alloc: Global, line: &[u8]) -> Result<(), ExchangeFault>
+        requires { self.old.number + 1 < 2 ^ 64 }
+        ensures said { Becomes (with_line self.old line.now) self.new result }
+        ensures number { OnOk result (self.new.number ≡ self.old.number + 1) }
+    {
+        let words = LineWords::of(line);
+        let item = item_said(alloc, self.number, &words)?;
+        self.with(item)?;
+        self.number += 1;
+        Ok(())
+    }
+
+    /// The trace of the lines.
+    fn end(self) -> Trace
+        ensures { result ≡ self.items }
+    {
+        Trace::rising(self.items)
+    }
+
+    /// Takes the item of a line, where it has one.
+    fn with(&mut self, item: Option<Item>) -> Result<(), ExchangeFault>
+        requires { IfSome item IsEarly }
+        ensures said { Becomes (taken_with self.old item) self.new result }
+        ensures number { OnOk result (self.new.number ≡ self.old.number) }
+    {
+        match item {
+            Some(item) => self.with_item(item),
+            None => Ok(()),
+        }
+    }
+
+    /// Takes an item.
+    fn with_item(&mut self, item: Item) -> Result<(), ExchangeFault>
+        requires { IsEarly item }
+        ensures said { Becomes (taken_with self.old (Some item)) self.new result }
+        ensures number { OnOk result (self.new.number ≡ self.old.number) }
+    {
+        let least = least_after(self.least, &item);
+        if least < self.least {
+            return Err(ExchangeFault::Falls { line: self.number });
+        }
+        push(&mut self.items, item)?;
+        self.least = least;
+        Ok(())
+    }
+}
+
+/// The last moment after an item.
+fn least_after(least: u64, item: &Item) -> u64
+    ensures { result ≡ least_after least item.now }
+{
+    match item {
+        Item::Moment(moment) => *moment,
+        Item::Block { .. } | Item::Quiet => least,
+    }
+}
+
+fn push(items: &mut Vec<Item>, item: Item) -> Result<(), AllocError>
+    ensures added { OnOk result (items.new.items ≡ items.old.items ++ item ∷ []) }
+    ensures kept { OnErr result (items.new.items ≡ items.old.items) }
+{
+    items.push(item)?;
+    Ok(())
+}
+
+/// What the words of the line with this number say; without a word it says nothing.
+fn item_said(
+    alloc: Global,
+    number: usize,
+    words: &LineWords<'_>,
+) -> Result<Option<Item>, ExchangeFault>
+    ensures said { UnlessMemory result (item_said number words.now) }
+    ensures early { IfOk result (λ item. IfSome item IsEarly) }
+{
+    if words.first.is_empty() {
+        Ok(None)
+    } else {
+        Ok(Some(named_said(alloc, number, words)?))
+    }
+}
+
+/// The item that the words say, of which the first names it.
+fn named_said(alloc: Global, number: usize, words: &LineWords<'_>) -> Result<Item, ExchangeFault>
+    ensures said { UnlessMemory result (named_said number words.now) }
+    ensures early { IfOk result IsEarly }
+{
+    let word = words.first;
+    if word == Name::FromTerminal.word().as_bytes() {
+        block_said(alloc, number, Side::Terminal, words)
+    } else if word == Name::FromCard.word().as_bytes() {
+        block_said(alloc, number, Side::Card, words)
+    } else if word == Name::Quiet.word().as_bytes() && words.second.is_empty() {
+        Ok(Item::Quiet)
+    } else if word == Name::Moment.word().as_bytes() {
+        moment_said(number, words)
+    } else {
+        Err(ExchangeFault::Word { line: number })
+    }
+}
+
+/// The block of this end that the words say.
+fn block_said(
+    alloc: Global,
+    number: usize,
+    from: Side,
+    words: &LineWords<'_>,
+) -> Result<Item, ExchangeFault>
+    ensures said { UnlessMemory result (block_said number from words.now) }
+    ensures early { IfOk result IsEarly }
+{
+    let lost = is_lost(number, words)?;
+    let octets = hex_said(alloc, number, words.second)?;
+    Ok(Item::Block { from, octets, lost })
+}
+
+/// Whether the words are those of a block that was lost.
+fn is_lost(number: usize, words: &LineWords<'_>) -> Result<bool, ExchangeFault>
+    ensures { result ≡ is_lost number words.now }
+{
+    if words.second.is_empty() || !words.more.is_empty() {
+        Err(ExchangeFault::Word { line: number })
+    } else if words.third.is_empty() {
+        Ok(false)
+    } else if words.third == LOST.as_bytes() {
+        Ok(true)
+    } else {
+        Err(ExchangeFault::Word { line: number })
+    }
+}
+
+/// The moment that the words say.
+fn moment_said(number: usize, words: &LineWords<'_>) -> Result<Item, ExchangeFault>
+    ensures said { result ≡ moment_said number words.now }
+    ensures early { IfOk result IsEarly }
+{
+    match decimal_of(words.second) {
+        Some(moment) if words.third.is_empty() => Ok(Item::Moment(moment)),
+        _ => Err(ExchangeFault::Word { line: number }),
+    }
+}
+
+/// The octets that a word gives in hexadecimal of either case.
+fn hex_said(alloc: Global, number: usize, word: &[u8]) -> Result<Octets, ExchangeFault>
+    ensures { UnlessMemory result (hex_said number word.now) }
+{
+    match hex::decode(alloc, word) {
+        Ok(octets) => Ok(Octets::of(octets)),
+        Err(FromHexError::OutOfMemory) => Err(ExchangeFault::Memory),
+        Err(_) => Err(ExchangeFault::Hex { line: number }),
+    }
+}

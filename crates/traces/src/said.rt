@@ -1,0 +1,273 @@
+//! What the applications said, by the blocks that are still to come.
+
+ghost use Rattle.std.specs.Prelude.{◌≡◌, IfOk};
+ghost use Rattle.traces.specs.Said as spec;
+ghost use Rattle.traces.specs.Said.{application_line, begun, closed, first_block, host_line, is_next, is_resynch, joins, message, number_of, numbers_after, opposite, same_side, takes, turns_over, with_number};
+
+use crate::seen::block_in;
+use crate::trace::Item;
+use block_core::{BlockRef, Number, Pcb, S};
+use exchange_core::{Line, Side};
+use octet_core::Octets;
+use std::alloc::{AllocError, Global};
+use std::marker::Model;
+
+/// The octet that stands for those that nobody saw.
+const UNSEEN: u8 = 0;
+
+/// The numbers of the last I-blocks that were seen, of each end.
+#[derive(Clone, Copy)]
+pub(crate) struct Numbers {
+    pub(crate) terminal: Number,
+    pub(crate) card: Number,
+}
+
+impl Numbers {
+    /// Before any I-block, and after RESYNCH: as if the last one of each end had the number 1.
+    pub(crate) fn new() -> Numbers
+        ensures { result ≡ spec.at_first }
+    {
+        Numbers {
+            terminal: Number::One,
+            card: Number::One,
+        }
+    }
+
+    /// The number of an end.
+    fn of(self, side: Side) -> Number
+        ensures { result ≡ number_of side self }
+    {
+        match side {
+            Side::Terminal => self.terminal,
+            Side::Card => self.card,
+        }
+    }
+
+    /// The numbers after an item.
+    pub(crate) fn after(self, item: &Item) -> Numbers
+        ensures { result ≡ numbers_after self item.now }
+    {
+        let Some((side, block)) = block_in(item) else {
+            return self;
+        };
+        match block.pcb() {
+            Pcb::Info { number, .. } => self.with(side, number),
+            Pcb::Request(S::Resynch) | Pcb::Response(S::Resynch) => Numbers::new(),
+            _ => self,
+        }
+    }
+
+    /// The numbers with this one of an end.
+    fn with(self, side: Side, number: Number) -> Numbers
+        ensures { result ≡ with_number self side number }
+    {
+        match side {
+            Side::Terminal => Numbers {
+                terminal: number,
+                card: self.card,
+            },
+            Side::Card => Numbers {
+                terminal: self.terminal,
+                card: number,
+            },
+        }
+    }
+}
+
+/// How much of a message was seen.
+#[derive(Drop)]
+struct Said {
+    /// The end whose message it is.
+    from: Side,
+    /// The number of the last I-block of the other end before it.
+    last: Number,
+    /// The number of the message's next block; the first one may have either.
+    next: Option<Number>,
+    octets: Vec<u8>,
+    /// The last block said that more comes.
+    more_comes: bool,
+}
+
+impl Model for Said {
+    ghost use Rattle.traces.specs.Said.{Said};
+
+    ghost Value = { Said };
+
+    ghost view = { λ s. record {
+      from = s.from;
+      last = s.last;
+      next = s.next;
+      octets = s.octets.items;
+      more_comes = s.more_comes;
+    } };
+}
+
+impl Said {
+    /// Nothing was seen yet.
+    fn new(alloc: Global, from: Side, numbers: Numbers) -> Said
+        ensures { result ≡ begun from numbers }
+    {
+        Said {
+            from,
+            last: numbers.of(opposite(from)),
+            next: None,
+            octets: Vec::new(alloc),
+            more_comes: false,
+        }
+    }
+
+    /// Takes an item, and says whether the message ends with it.
+    fn takes(&mut self, item: &Item) -> Result<bool, AllocError>
+        ensures { IfOk result (λ ends. takes self.old item.now ≡ (self.new, ends)) }
+    {
+        match block_in(item) {
+            None => Ok(false),
+            Some((side, block)) if is_same(side, self.from) => self.joins(&block),
+            Some((_, block)) => Ok(turns_over(self.last, block.pcb())),
+        }
+    }
+
+    /// Takes a block of the message's end: its next I-block is joined.
+    fn joins(&mut self, block: &BlockRef<'_>) -> Result<bool, AllocError>
+        ensures { IfOk result (λ ends.
+            joins self.old block.now.inf block.now.pcb ≡ (self.new, ends)) }
+    {
+        match block.pcb() {
+            Pcb::Info { number, more } if is_next(self.next, number) => {
+                self.octets.extend_from_slice(block.inf())?;
+                self.next = Some(number.other());
+                self.more_comes = more;
+                Ok(!more)
+            }
+            pcb => Ok(is_resynch(pcb)),
+        }
+    }
+
+    /// The message: where more was to come, an octet stands for what nobody saw.
+    fn closed(mut self) -> Result<Octets, AllocError>
+        ensures { IfOk result (λ octets. octets ≡ closed self) }
+    {
+        if self.more_comes {
+            self.octets.push(UNSEEN)?;
+        }
+        Ok(Octets::of(self.octets))
+    }
+}
+
+/// What the I-blocks of an end say from these items on.
+fn message(
+    alloc: Global,
+    from: Side,
+    numbers: Numbers,
+    items: &[Item],
+) -> Result<Octets, AllocError>
+    ensures { IfOk result (λ octets. octets ≡ message from numbers items.now) }
+{
+    let mut said = Said::new(alloc, from, numbers);
+    let mut rest = items;
+    while let [item, after @ ..] = rest {
+        if said.takes(item)? {
+            return said.closed();
+        }
+        rest = after;
+    }
+    said.closed()
+}
+
+/// The first block of an end from these items on, before the other end goes on to something else.
+fn first_block(from: Side, last: Number, items: &[Item]) -> Option<BlockRef<'_>>
+    ensures { result ≡ first_block from last items.now }
+{
+    let mut rest = items;
+    while let [item, after @ ..] = rest {
+        if let Some((side, block)) = block_in(item) {
+            if is_same(side, from) {
+                return Some(block);
+            }
+            if turns_over(last, block.pcb()) {
+                return None;
+            }
+        }
+        rest = after;
+    }
+    None
+}
+
+/// What the card's host says next, by the card's blocks from these items on.
+pub(crate) fn host_line(alloc: Global, numbers: Numbers, items: &[Item]) -> Result<Line, AllocError>
+    ensures { IfOk result (λ line. line ≡ host_line numbers items.now) }
+{
+    if let Some(block) = first_block(Side::Card, numbers.terminal, items) {
+        match block.pcb() {
+            Pcb::Request(S::Ifs) => return Ok(Line::Ifsc(block.inf()[0])),
+            Pcb::Request(S::Wtx) => return Ok(Line::Time(block.inf()[0])),
+            _ => {}
+        }
+    }
+    Ok(Line::Reply(message(alloc, Side::Card, numbers, items)?))
+}
+
+/// What the application asks for next, by the terminal's blocks from these items on.
+pub(crate) fn application_line(
+    alloc: Global,
+    numbers: Numbers,
+    items: &[Item],
+) -> Result<Line, AllocError>
+    ensures { IfOk result (λ line. line ≡ application_line numbers items.now) }
+{
+    if let Some(block) = first_block(Side::Terminal, numbers.card, items) {
+        if matches!(block.pcb(), Pcb::Request(S::Ifs)) {
+            return Ok(Line::Ifsd(block.inf()[0]));
+        }
+    }
+    Ok(Line::Command(message(alloc, Side::Terminal, numbers, items)?))
+}
+
+/// Whether a block ends what the other end said: an I-block with another number than the last one, a response, or
+/// RESYNCH.
+fn turns_over(last: Number, pcb: Pcb) -> bool
+    ensures { result ≡ turns_over last pcb }
+{
+    match pcb {
+        Pcb::Info { number, .. } => number != last,
+        Pcb::Response(_) | Pcb::Request(S::Resynch) => true,
+        Pcb::Request(_) | Pcb::Ready { .. } => false,
+    }
+}
+
+/// Whether a number is the next one, where that is known.
+fn is_next(next: Option<Number>, number: Number) -> bool
+    ensures { result ≡ is_next next number }
+{
+    match next {
+        Some(next) => number == next,
+        None => true,
+    }
+}
+
+/// Whether a block asks for RESYNCH, or answers it.
+pub(crate) fn is_resynch(pcb: Pcb) -> bool
+    ensures { result ≡ is_resynch pcb }
+{
+    matches!(pcb, Pcb::Request(S::Resynch) | Pcb::Response(S::Resynch))
+}
+
+/// The other end.
+fn opposite(side: Side) -> Side
+    ensures { result ≡ opposite side }
+{
+    match side {
+        Side::Terminal => Side::Card,
+        Side::Card => Side::Terminal,
+    }
+}
+
+/// Whether two ends are one.
+fn is_same(a: Side, b: Side) -> bool
+    ensures { result ≡ same_side a b }
+{
+    match (a, b) {
+        (Side::Terminal, Side::Terminal) | (Side::Card, Side::Card) => true,
+        (Side::Terminal, Side::Card) | (Side::Card, Side::Terminal) => false,
+    }
+}

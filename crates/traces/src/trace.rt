@@ -1,0 +1,96 @@
+//! What was seen on a line.
+
+ghost use Rattle.std.specs.Prelude.{◌≡◌};
+ghost use Rattle.traces.specs.Rising.{rises};
+
+use exchange_core::Side;
+use octet_core::Octets;
+use std::marker::Model;
+
+/// The latest moment that a file of an exchange may name, in microseconds.
+const LATEST_MOMENT: u64 = 999_999_999_999_999;
+
+/// One thing that was seen.
+#[derive(Debug, PartialEq, Eq, Drop)]
+pub enum Item {
+    /// These octets were on the line as one block, from this end; a lost one didn't get to the other.
+    Block {
+        from: Side,
+        octets: Octets,
+        lost: bool,
+    },
+    /// The terminal's waiting time ended.
+    Quiet,
+    /// So many microseconds after some start.
+    Moment(u64),
+}
+
+/// What was seen on a line, in its order, which contracts see as a list. Moments are at most 999,999,999,999,999 and
+/// never below an earlier one.
+#[derive(Debug, Drop)]
+pub struct Trace {
+    items: Vec<Item>,
+}
+
+impl Model for Trace {
+    ghost use Rattle.std.specs.Prelude.{List, ◌≡◌, true};
+    ghost use Rattle.traces.specs.Rising.{rises};
+    ghost use Rattle.traces.specs.declared.trace.Item.{Item};
+
+    ghost Value = { List Item };
+
+    ghost view = { λ trace. trace.items.items };
+
+    ghost invariant = { λ trace. rises 0 trace.items.items ≡ true };
+}
+
+impl Trace {
+    ghost use Rattle.std.specs.Prelude.{◌≡◌, ◌≢◌, MatchResult, true};
+    ghost use Rattle.traces.specs.Rising.{rises};
+
+    /// The trace of these items, which come back where a moment falls or is too late.
+    pub fn of(items: Vec<Item>) -> Result<Trace, Vec<Item>>
+        ensures { MatchResult result (λ trace. trace ≡ items.items)
+            (λ back. (back ≡ items) × (rises 0 items.items ≢ true)) }
+    {
+        if rises(items.as_slice()) {
+            Ok(Trace { items })
+        } else {
+            Err(items)
+        }
+    }
+
+    /// The trace of items whose moments rise.
+    pub(crate) fn rising(items: Vec<Item>) -> Trace
+        requires { rises 0 items.items ≡ true }
+        ensures { result ≡ items.items }
+    {
+        Trace { items }
+    }
+
+    /// The items, lent.
+    pub fn items(&self) -> &[Item]
+        ensures items { result.now ≡ self.now }
+        ensures rising { rises 0 self.now ≡ true }
+    {
+        self.items.as_slice()
+    }
+}
+
+/// Whether moments are at most the latest one, and never below an earlier one.
+fn rises(items: &[Item]) -> bool
+    ensures { result ≡ rises 0 items.now }
+{
+    let mut least = 0;
+    let mut rest = items;
+    while let [item, after @ ..] = rest {
+        if let Item::Moment(moment) = item {
+            if *moment < least || LATEST_MOMENT < *moment {
+                return false;
+            }
+            least = *moment;
+        }
+        rest = after;
+    }
+    true
+}
