@@ -1,0 +1,4 @@
+pub mod Cutting
+pub mod Objects
+pub mod Plain
+pub mod Texts

@@ -1,0 +1,316 @@
+-- No object of an answer has a float in it.
+use Rattle.std.proofs.Common.{◌≡◌, ◌==◌, ◌++◌, ◌||◌, ◌%◌, ℕ, List, [], ◌∷◌, Bool, true, false, Option, Some, None, IfSome, Ordering, Less, Equal, Greater, option_map, option_and_then, codes, refl, if◌then◌else◌}
+use Rattle.std.specs.Ordering.{match_ordering, nat_cmp}
+use Rattle.std.specs.Cmp.Lexicographic.{slice_cmp}
+use Rattle.std.specs.List.{slice_split}
+use Rattle.serde_json.specs.Data.{Data, Members, no_members, member, put, array, null, string}
+use Rattle.serde_json.specs.View.{items_of}
+use Rattle.serde_json.specs.Written.{has_float, items_have_float, members_have_float}
+use Rattle.octet_core.specs.Decimal.{decimal_number}
+use Rattle.json_lines.specs.Named.{Named, put_all, object_of, shares}
+use Rattle.json_lines.specs.Words.{after, blanks_from, characters, parted, word_and_rest}
+use Rattle.json_lines.specs.Forms.{Read, Said, array_name, at_parts, at_piece, at_place, at_word, by_form, by_pieces, by_row, by_rows, data_said, depth_said, inner_name, is_none, may_stand, named_by, number_of, number_said, numbers_from, numbers_said, or_else, or_nothing, past, text_said, unless_none, whole, with_rest, word_said}
+use Rattle.json_lines.specs.Answers.{Kept, array_of, begun_array, begun_by, ended, json_data, line_array, nothing_kept, owned, with_item, with_line, with_line_itself, with_lines, with_named, with_one, with_owned, with_said}
+use Rattle.json_lines.specs.declared.forms.TheConstants.{ROWS}
+use Rattle.json_lines.specs.declared.forms.Array.{Array}
+use Rattle.json_lines.specs.declared.forms.Place.{Place}
+use Rattle.json_lines.specs.declared.forms.Place.TheVariants.{Members as ToMembers, Under, Begins, Item, FirstItem}
+
+-- ---- tests and options
+
+neither : (a b : Bool) → a ≡ false → b ≡ false → a || b ≡ false
+neither true b e h = e
+neither false b e h = h
+
+first-not : (a b : Bool) → a || b ≡ false → a ≡ false
+first-not true b e = e
+first-not false b e = refl
+
+second-not : (a b : Bool) → a || b ≡ false → b ≡ false
+second-not true true e = e
+second-not true false e = refl
+second-not false b e = e
+
+if-some : {A : Type 0} (P : A → Type 0) (b : Bool) (x y : Option A) → IfSome x P → IfSome y P
+    → IfSome (if b then x else y) P
+if-some P true x y h k = h
+if-some P false x y h k = k
+
+mapped : {A B : Type 0} (Q : A → Type 0) (P : B → Type 0) (f : A → B) (o : Option A)
+    → ((a : A) → Q a → P (f a)) → IfSome o Q → IfSome (option_map f o) P
+mapped Q P f None each h = tt
+mapped Q P f (Some a) each h = each a h
+
+all-mapped : {A B : Type 0} (P : B → Type 0) (f : A → B) (o : Option A) → ((a : A) → P (f a))
+    → IfSome (option_map f o) P
+all-mapped P f None each = tt
+all-mapped P f (Some a) each = each a
+
+chained : {A B : Type 0} (Q : A → Type 0) (P : B → Type 0) (f : A → Option B) (o : Option A)
+    → ((a : A) → Q a → IfSome (f a) P) → IfSome o Q → IfSome (option_and_then f o) P
+chained Q P f None each h = tt
+chained Q P f (Some a) each h = each a h
+
+all-chained : {A B : Type 0} (P : B → Type 0) (f : A → Option B) (o : Option A)
+    → ((a : A) → IfSome (f a) P) → IfSome (option_and_then f o) P
+all-chained P f None each = tt
+all-chained P f (Some a) each = each a
+
+either-some : {A : Type 0} (P : A → Type 0) (x y : Option A) → IfSome x P → IfSome y P → IfSome (or_else x y) P
+either-some P None y h k = k
+either-some P (Some a) y h k = h
+
+-- ---- members and items
+
+by-order : (o : Ordering) (a b c : Members) → members_have_float a ≡ false → members_have_float b ≡ false
+    → members_have_float c ≡ false → members_have_float (match_ordering o a b c) ≡ false
+by-order Less a b c ha hb hc = ha
+by-order Equal a b c ha hb hc = hb
+by-order Greater a b c ha hb hc = hc
+
+put-plain : (k : List ℕ) (d : Data) (members : Members) → has_float d ≡ false → members_have_float members ≡ false
+    → members_have_float (put k d members) ≡ false
+put-plain k d no_members hd hm = neither (has_float d) false hd refl
+put-plain k d (member l e members) hd hm =
+    let he = first-not (has_float e) (members_have_float members) hm in
+    let more = second-not (has_float e) (members_have_float members) hm in
+    by-order (slice_cmp nat_cmp k l) _ _ _ (neither (has_float d) _ hd hm)
+    (neither (has_float d) _ hd more)
+    (neither (has_float e) _ he (put-plain k d members hd more))
+
+abbrev named_have_float : Named → Bool
+named_have_float [] = false
+named_have_float (one ∷ more) = has_float one.1 || named_have_float more
+
+abbrev IsPlainNamed : Named → Type 0
+IsPlainNamed named = named_have_float named ≡ false
+
+abbrev some_float : List Data → Bool
+some_float [] = false
+some_float (d ∷ ds) = has_float d || some_float ds
+
+put_all-plain : (named : Named) → named_have_float named ≡ false
+    → members_have_float (put_all named no_members) ≡ false
+put_all-plain [] h = refl
+put_all-plain (one ∷ more) h = put-plain one.0 one.1 (put_all more no_members)
+    (first-not (has_float one.1) (named_have_float more) h)
+    (put_all-plain more (second-not (has_float one.1) (named_have_float more) h))
+
+items-plain : (ds : List Data) → some_float ds ≡ false → items_have_float (items_of ds) ≡ false
+items-plain [] h = refl
+items-plain (d ∷ ds) h = neither (has_float d) (items_have_float (items_of ds))
+    (first-not (has_float d) (some_float ds) h)
+    (items-plain ds (second-not (has_float d) (some_float ds) h))
+
+named-append : (a b : Named) → named_have_float a ≡ false → named_have_float b ≡ false
+    → named_have_float (a ++ b) ≡ false
+named-append [] b ha hb = hb
+named-append (one ∷ a) b ha hb = neither (has_float one.1) (named_have_float (a ++ b))
+    (first-not (has_float one.1) (named_have_float a) ha)
+    (named-append a b (second-not (has_float one.1) (named_have_float a) ha) hb)
+
+list-append : (a b : List Data) → some_float a ≡ false → some_float b ≡ false → some_float (a ++ b) ≡ false
+list-append [] b ha hb = hb
+list-append (d ∷ a) b ha hb = neither (has_float d) (some_float (a ++ b))
+    (first-not (has_float d) (some_float a) ha)
+    (list-append a b (second-not (has_float d) (some_float a) ha) hb)
+
+one-plain : (d : Data) → has_float d ≡ false → some_float (d ∷ []) ≡ false
+one-plain d h = neither (has_float d) false h refl
+
+one-named : (name : List ℕ) (d : Data) → has_float d ≡ false → named_have_float ((name, d) ∷ []) ≡ false
+one-named name d h = neither (has_float d) false h refl
+
+-- ---- words
+
+abbrev IsPlain : Data → Type 0
+IsPlain d = has_float d ≡ false
+
+text-plain : (word : List ℕ) → IfSome (text_said word) IsPlain
+text-plain [] = tt
+text-plain (x ∷ word) = refl
+
+number-plain : (word : List ℕ) → IfSome (number_said word) IsPlain
+number-plain word = all-mapped IsPlain number_of (decimal_number word) (λ n. refl)
+
+numbers-plain : (words : List (List ℕ)) (ds : List Data) → some_float ds ≡ false
+    → IfSome (numbers_from ds words) (λ all. some_float all ≡ false)
+numbers-plain [] ds h = h
+numbers-plain (word ∷ words) ds h =
+    all-chained (λ all. some_float all ≡ false) (λ n. numbers_from (ds ++ number_of n ∷ []) words)
+    (decimal_number word) (λ n. numbers-plain words (ds ++ number_of n ∷ []) (list-append ds _ h refl))
+
+list-plain : (word : List ℕ) → IfSome (numbers_said word) IsPlain
+list-plain word = mapped (λ ds. some_float ds ≡ false) IsPlain (λ ds. array (items_of ds))
+    (numbers_from [] (slice_split (λ x. x == 44) word)) items-plain
+    (numbers-plain (slice_split (λ x. x == 44) word) [] refl)
+
+none-plain : (none : Data) (other : Option Data) (word : List ℕ) → IsPlain none → IfSome other IsPlain
+    → IfSome (unless_none none other word) IsPlain
+none-plain none other word h k = if-some IsPlain (is_none word) (Some none) other h k
+
+word-plain : (mark : ℕ) (word : List ℕ) → IfSome (word_said mark word) IsPlain
+word-plain mark word =
+    if-some IsPlain (mark == 35) _ _ (number-plain word)
+    (if-some IsPlain (mark == 63) _ _ (none-plain null _ word refl (number-plain word))
+    (if-some IsPlain (mark == 42) _ _ (none-plain (array (items_of [])) _ word refl (list-plain word))
+    (if-some IsPlain (mark == 37) _ _ (none-plain (string []) _ word refl (text-plain word))
+    (if-some IsPlain (mark == 36) _ _ (text-plain word) tt))))
+
+-- ---- places
+
+abbrev IsPlainRead : Read → Type 0
+IsPlainRead read = has_float read.0 ≡ false
+
+depth-plain : (b : ℕ × List ℕ) → IfSome (depth_said b) IsPlainRead
+depth-plain (blanks, rest) = if-some IsPlainRead (blanks % 2 == 0) _ None refl tt
+
+at-word-plain : (mark : ℕ) (line : List ℕ) → IfSome (at_word mark line) IsPlainRead
+at-word-plain mark line =
+    let w = word_and_rest line in
+    mapped IsPlain IsPlainRead (with_rest w.1) (word_said mark w.0) (λ d h. h) (word-plain mark w.0)
+
+data-plain : (mark : ℕ) (text line : List ℕ) → IfSome (data_said mark text line) IsPlainRead
+data-plain mark text line =
+    if-some IsPlainRead (mark == 61) _ _ (all-mapped IsPlainRead _ (after text line) (λ rest. refl))
+    (if-some IsPlainRead (mark == 126) _ _ (all-mapped IsPlainRead _ (after text line) (λ rest. refl))
+    (if-some IsPlainRead (mark == 33) _ _ (all-mapped IsPlainRead _ (after text line) (λ rest. refl))
+    (if-some IsPlainRead (mark == 43) _ _ refl
+    (if-some IsPlainRead (mark == 38) _ _ refl
+    (if-some IsPlainRead (mark == 62) _ _ (depth-plain (blanks_from 0 line)) (at-word-plain mark line))))))
+
+-- ---- forms
+
+abbrev IsPlainSaid : Said → Type 0
+IsPlainSaid said = named_have_float said.0 ≡ false
+
+place-plain : (place : List ℕ) (said : Said) → IsPlainSaid said → IfSome (at_place place said) IsPlainSaid
+place-plain [] said h = tt
+place-plain (mark ∷ place) said h =
+    let p = parted 58 place in
+    mapped IsPlainRead IsPlainSaid (named_by p.0 said.0) (data_said mark (or_nothing p.1) said.1)
+    (λ read k. named-append said.0 _ h (one-named (characters p.0) read.0 k))
+    (data-plain mark (or_nothing p.1) said.1)
+
+past-plain : (words : List ℕ) (said : Said) → IsPlainSaid said → IfSome (past words said) IsPlainSaid
+past-plain words said h = all-mapped IsPlainSaid _ (after words said.1) (λ rest. h)
+
+parts-plain : (p : List ℕ × Option (List ℕ)) (said : Said) → IsPlainSaid said → IfSome (at_parts p said) IsPlainSaid
+parts-plain (words, None) said h = past-plain words said h
+parts-plain (place, Some words) said h =
+    chained IsPlainSaid IsPlainSaid (past words) (at_place place said) (past-plain words) (place-plain place said h)
+
+whole-plain : (said : Said) → IsPlainSaid said → IfSome (whole said) IsPlainNamed
+whole-plain (named, []) h = h
+whole-plain (named, x ∷ line) h = tt
+
+pieces-plain : (pieces : List (List ℕ)) (said : Said) → IsPlainSaid said
+    → IfSome (by_pieces pieces said) IsPlainNamed
+pieces-plain [] said h = whole-plain said h
+pieces-plain (piece ∷ pieces) said h =
+    chained IsPlainSaid IsPlainNamed (by_pieces pieces) (at_piece piece said) (pieces-plain pieces)
+    (parts-plain (parted 125 piece) said h)
+
+form-plain : (form line : List ℕ) → IfSome (by_form form line) IsPlainNamed
+form-plain form line = pieces-plain (slice_split (λ x. x == 123) form) ([], line) refl
+
+abbrev IsPlainPlaced : Place × Named → Type 0
+IsPlainPlaced placed = named_have_float placed.1 ≡ false
+
+row-plain : (begun : Option Array) (place : Place) (form line : List ℕ)
+    → IfSome (by_row begun place form line) IsPlainPlaced
+row-plain begun place form line = if-some IsPlainPlaced (may_stand place begun) _ None
+    (mapped IsPlainNamed IsPlainPlaced (λ named. (place, named)) (by_form form line) (λ named h. h)
+    (form-plain form line)) tt
+
+rows-plain : {Row : Type 0} (place : Row → Place) (form : Row → List ℕ) (begun : Option Array) (rows : List Row)
+    (line : List ℕ) → IfSome (by_rows place form begun rows line) IsPlainPlaced
+rows-plain place form begun [] line = tt
+rows-plain place form begun (row ∷ rows) line =
+    either-some IsPlainPlaced (by_row begun (place row) (form row) line) (by_rows place form begun rows line)
+    (row-plain begun (place row) (form row) line) (rows-plain place form begun rows line)
+
+-- ---- answers
+
+record IsPlainKept (k : Kept) : Type 0 where
+  named : named_have_float k.named ≡ false
+  items : some_float k.items ≡ false
+  lines : some_float k.lines ≡ false
+
+nothing-plain : (begun : Option Array) → IsPlainKept (nothing_kept begun)
+nothing-plain begun = record { named = refl; items = refl; lines = refl }
+
+line-plain : (k : Kept) (line : List ℕ) → IsPlainKept k → IsPlainKept (with_line_itself k line)
+line-plain k line h = record { named = h.named; items = h.items; lines = list-append k.lines _ h.lines refl }
+
+either-plain : (b : Bool) (k l : Kept) → IsPlainKept k → IsPlainKept l → IsPlainKept (if b then k else l)
+either-plain true k l h i = h
+either-plain false k l h i = i
+
+more-named : (k : Kept) (line : List ℕ) (begun : Option Array) (named : Named) → IsPlainKept k
+    → named_have_float named ≡ false → IsPlainKept (with_named k line begun named)
+more-named k line begun named h new = either-plain (shares k.named named) _ _ (line-plain k line h)
+    (record { named = named-append k.named named h.named new; items = h.items; lines = h.lines })
+
+more-items : (k : Kept) (begun : Option Array) (named : Named) → IsPlainKept k → named_have_float named ≡ false
+    → IsPlainKept (with_item k begun named)
+more-items k begun named h new = record {
+  named = h.named;
+  items = list-append k.items _ h.items (one-plain (object_of named) (put_all-plain named new));
+  lines = h.lines;
+}
+
+said-plain : (k : Kept) (line : List ℕ) (said : Option (Place × Named)) → IsPlainKept k
+    → IfSome said IsPlainPlaced → IsPlainKept (with_said k line said)
+said-plain k line None h s = line-plain k line h
+said-plain k line (Some (ToMembers, named)) h s = more-named k line k.begun named h s
+said-plain k line (Some (Under inner, named)) h s =
+    more-named k line k.begun ((inner_name inner, object_of named) ∷ []) h
+    (one-named (inner_name inner) (object_of named) (put_all-plain named s))
+said-plain k line (Some (Begins a, named)) h s = more-named k line (Some a) named h s
+said-plain k line (Some (Item a, named)) h s = more-items k k.begun named h s
+said-plain k line (Some (FirstItem a, named)) h s = more-items k (Some a) named h s
+
+one-line-plain : (k : Kept) (line : List ℕ) → IsPlainKept k → IsPlainKept (with_one k line)
+one-line-plain k [] h = h
+one-line-plain k (x ∷ line) h = said-plain k (x ∷ line) _ h
+    (rows-plain (λ row. row.0) (λ row. row.1.now) k.begun ROWS (x ∷ line))
+
+array-plain : (name : List ℕ) (items : List Data) → some_float items ≡ false
+    → named_have_float (array_of name items) ≡ false
+array-plain name items h = one-named name (array (items_of items)) (items-plain items h)
+
+begun-plain : (begun : Option Array) (items : List Data) → some_float items ≡ false
+    → named_have_float (begun_array begun items) ≡ false
+begun-plain None items h = refl
+begun-plain (Some a) items h = array-plain (array_name a) items h
+
+lines-plain : (lines : List Data) → some_float lines ≡ false → named_have_float (line_array lines) ≡ false
+lines-plain [] h = refl
+lines-plain (line ∷ lines) h = array-plain (codes "other") (line ∷ lines) h
+
+ended-plain : (k : Kept) → IsPlainKept k → has_float (ended k) ≡ false
+ended-plain k h = put_all-plain (k.named ++ begun_array k.begun k.items ++ line_array k.lines)
+    (named-append (k.named ++ begun_array k.begun k.items) (line_array k.lines)
+    (named-append k.named (begun_array k.begun k.items) h.named (begun-plain k.begun k.items h.items))
+    (lines-plain k.lines h.lines))
+
+owned-plain : (k : Kept) (line : List ℕ) (o : Option (List ℕ × List ℕ)) → IsPlainKept k
+    → IsPlainKept (with_owned k line o)
+owned-plain k line None h = one-line-plain k line h
+owned-plain k line (Some (end, said)) h =
+    more-named k line k.begun ((end, ended (with_one (nothing_kept None) said)) ∷ []) h
+    (one-named end (ended (with_one (nothing_kept None) said))
+    (ended-plain (with_one (nothing_kept None) said)
+    (one-line-plain (nothing_kept None) said (nothing-plain None))))
+
+all-plain : (k : Kept) (lines : List (List ℕ)) → IsPlainKept k → IsPlainKept (with_lines k lines)
+all-plain k [] h = h
+all-plain k (line ∷ lines) h = all-plain (with_line k line) lines (owned-plain k line (owned line) h)
+
+-- the object of an answer has no float
+pub answer-plain : (text : List ℕ) → has_float (json_data text) ≡ false
+unfolding json_data
+answer-plain text =
+    ended-plain (with_lines (nothing_kept (begun_by text)) (slice_split (λ x. x == 10) text))
+    (all-plain (nothing_kept (begun_by text)) (slice_split (λ x. x == 10) text) (nothing-plain (begun_by text)))

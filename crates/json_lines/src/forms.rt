@@ -1,0 +1,167 @@
+//! The forms of the lines.
+
+ghost use Rattle.std.specs.Prelude.{◌≡◌};
+ghost use Rattle.json_lines.specs.Forms.{array_name, has_begun, inner_name, may_stand};
+
+use Array::{Entries, Exchanges, Interface, Objects};
+use Inner::{Pcb, T1};
+use Place::{Begins, FirstItem, Item, Members, Under};
+
+/// An array in the object of an answer.
+#[derive(Clone, Copy, PartialEq)]
+pub(crate) enum Array {
+    /// The interface bytes of an answer to reset.
+    Interface,
+    /// The data objects of a forest.
+    Objects,
+    /// The entries of a data object list.
+    Entries,
+    /// The exchanges of a recorded exchange.
+    Exchanges,
+}
+
+impl Array {
+    /// The name of the member that has it.
+    pub(crate) fn name(self) -> &'static str
+        ensures { result.now ≡ array_name self }
+    {
+        match self {
+            Array::Interface => "interface",
+            Array::Objects => "objects",
+            Array::Entries => "entries",
+            Array::Exchanges => "exchanges",
+        }
+    }
+
+    /// Whether it is the array that has begun.
+    fn has_begun(self, begun: Option<Array>) -> bool
+        ensures { result ≡ has_begun self begun }
+    {
+        match begun {
+            Some(begun) => self == begun,
+            None => false,
+        }
+    }
+}
+
+/// An object in the object of an answer.
+#[derive(Clone, Copy)]
+pub(crate) enum Inner {
+    /// The parameters of T=1.
+    T1,
+    /// What a PCB says.
+    Pcb,
+}
+
+impl Inner {
+    /// The name of the member that has it.
+    pub(crate) fn name(self) -> &'static str
+        ensures { result.now ≡ inner_name self }
+    {
+        match self {
+            Inner::T1 => "t1",
+            Inner::Pcb => "pcb",
+        }
+    }
+}
+
+/// Where what a line says goes.
+#[derive(Clone, Copy)]
+pub(crate) enum Place {
+    /// Into the object of the answer.
+    Members,
+    /// Into this object there.
+    Under(Inner),
+    /// Into the object of the answer, where no array has begun. This array begins.
+    Begins(Array),
+    /// Into an object of its own at the end of the array, where that has begun.
+    Item(Array),
+    /// The same, also where no array has begun. Then this one begins.
+    FirstItem(Array),
+}
+
+impl Place {
+    /// Whether a line can go there, with the array that has begun.
+    pub(crate) fn may_stand(self, begun: Option<Array>) -> bool
+        ensures { result ≡ may_stand self begun }
+    {
+        match self {
+            Place::Members | Place::Under(_) => true,
+            Place::Begins(_) => begun.is_none(),
+            Place::Item(array) => array.has_begun(begun),
+            Place::FirstItem(array) => begun.is_none() || array.has_begun(begun),
+        }
+    }
+}
+
+/// A form of lines, and where what they say goes.
+///
+/// A form is a line with places in braces. A mark says what a line has there, and the member that it gives has the name
+/// after the mark:
+///
+/// - `{#octets}` a number;
+/// - `{?le}` a number, or `none` for null;
+/// - `{*lost}` numbers with commas between them, or `none` for no numbers;
+/// - `{%inf}` a word, or `none` for the empty text;
+/// - `{$reason}` a word;
+/// - `{&gives}` the rest of the line;
+/// - `{>depth}` two blanks for each depth above 1, for the depth;
+/// - `{=verdict:ok}` the word `ok`, as text;
+/// - `{~tck:absent}` the word `absent`, for null;
+/// - `{!constructed:constructed}` the word `constructed`, for true;
+/// - `{+verdict:ok}` nothing, for the text `ok`.
+pub(crate) type Row = (Place, &'static str);
+
+/// The forms of all lines. The first that a line has counts; those of which an answer may have many come first.
+pub(crate) const ROWS: [Row; 40] = [
+    (
+        Item(Objects),
+        "{>depth}{$tag} {$length} {!constructed:constructed}",
+    ),
+    (Item(Objects), "{>depth}{$tag} {$length} {%value}"),
+    (Item(Entries), "{$tag} {#length}"),
+    (
+        FirstItem(Exchanges),
+        "exchange {#exchange} command {%command} answer {%answer} blocks {#blocks} \
+            lost {*lost} damaged {*damaged} time {?time}",
+    ),
+    (Members, "{=verdict:ok} {#octets} octets"),
+    (Members, "{=verdict:ok} {#lines} lines"),
+    (Members, "{=verdict:short} at {#at}"),
+    (Members, "{=verdict:refused} at {#at}: {$reason}"),
+    (Members, "{=verdict:refused}: {$reason}"),
+    (Members, "{=verdict:fault}: line {#line}: {$fault}"),
+    (Members, "{=verdict:fault}: {$fault}"),
+    (
+        Members,
+        "line {#line}: engine gives {&gives}{+verdict:differs}",
+    ),
+    (Begins(Interface), "convention {$convention}{+verdict:ok}"),
+    (Members, "historical {%historical}"),
+    (Members, "tck {~tck:absent}"),
+    (Members, "tck {$tck}"),
+    (Members, "F {~F:reserved}"),
+    (Members, "F {#F}"),
+    (Members, "D {~D:reserved}"),
+    (Members, "D {#D}"),
+    (Under(T1), "t1 ifsc {#ifsc} bwi {#bwi} cwi {#cwi}"),
+    (Members, "t1 {$t1}"),
+    (Item(Interface), "{$name} {$value}"),
+    (Members, "nad {$nad}{+verdict:ok}"),
+    (Under(Pcb), "pcb {=kind:I} number {#number} more {#more}"),
+    (Under(Pcb), "pcb {=kind:R} number {#number} error {#error}"),
+    (Under(Pcb), "pcb {=kind:S} request {$request}"),
+    (Under(Pcb), "pcb {=kind:S} response {$response}"),
+    (Members, "inf {%inf}"),
+    (Members, "lrc {$lrc}"),
+    (Members, "blocks {#blocks}{+verdict:ok}"),
+    (Members, "message {%message}"),
+    (Members, "case {#case}{+verdict:ok}"),
+    (Members, "case {#case} {$length}{+verdict:ok}"),
+    (Members, "header {$header}"),
+    (Members, "part {%part}"),
+    (Members, "le {?le}"),
+    (Members, "status {$status} {$class}{+verdict:ok}"),
+    (Begins(Objects), "objects {#count}{+verdict:ok}"),
+    (Begins(Entries), "entries {#count}{+verdict:ok}"),
+];
