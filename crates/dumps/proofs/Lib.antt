@@ -3,3 +3,4 @@ pub mod Lines
 pub mod Octets
 pub mod Sources
 pub mod SourceOctets
+pub mod NoSource

@@ -3,3 +3,4 @@ pub mod Dump
 pub mod Taking
 pub mod Words
 pub mod Source
+pub mod SourceStop

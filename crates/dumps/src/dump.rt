@@ -21,7 +21,7 @@ pub fn dump_octets(alloc: Global, text: &[u8]) -> Result<Octets, DumpFault>
 }
 
 /// Whether a character ends a line: LF or CR.
-fn is_line_end(x: u8) -> bool
+pub(crate) fn is_line_end(x: u8) -> bool
     ensures { result ≡ is_line_end x }
 {
     matches!(x, b'\n' | b'\r')

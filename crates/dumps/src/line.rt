@@ -1,6 +1,6 @@
 //! The lines of a dump, taken one after another.
 
-ghost use Rattle.std.specs.Prelude.{◌≡◌, ◌++◌, Some, IfOk};
+ghost use Rattle.std.specs.Prelude.{◌≡◌, ◌++◌, Some, IfOk, length};
 ghost use Rattle.dumps.specs.Dump.{copies, ended, line_of, nothing_taken, starred, up_to, with_line, with_row, Becomes, ComesTo};
 ghost use Rattle.dumps.specs.Taking.{taken};
 ghost use Rattle.dumps.specs.declared.line.Before.TheVariants as before;
@@ -15,7 +15,7 @@ use std::alloc::{AllocError, Global};
 const WHOLE: usize = 16;
 
 /// The fewest digits of an offset.
-const FEWEST_DIGITS: usize = 6;
+pub(crate) const FEWEST_DIGITS: usize = 6;
 
 /// What the line before was, empty ones left out.
 #[derive(Clone, Copy)]
@@ -49,6 +49,13 @@ impl Dump {
             row: Vec::new(alloc),
             before: Before::Nothing,
         }
+    }
+
+    /// How many octets the lines so far gave.
+    pub(crate) fn count(&self) -> usize
+        ensures { result ≡ length self.now.octets.items }
+    {
+        self.octets.len()
     }
 
     /// Takes one more line, without its end. One that doesn't go on the dump is `Form`.

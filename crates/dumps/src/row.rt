@@ -46,7 +46,11 @@ pub(crate) fn read_row(row: &mut Vec<u8>, style: Style, text: &[u8]) -> Result<(
 }
 
 /// Adds the octets of a row to none, and gives what is after them and one blank.
-fn push_row<'a>(row: &mut Vec<u8>, style: Style, text: &'a [u8]) -> Result<&'a [u8], AllocError>
+pub(crate) fn push_row<'a>(
+    row: &mut Vec<u8>,
+    style: Style,
+    text: &'a [u8],
+) -> Result<&'a [u8], AllocError>
     requires { row.old.items ≡ [] }
     ensures { IfOk result (λ rest. (row.new.items, rest.now) ≡ row_groups style text.now) }
 {

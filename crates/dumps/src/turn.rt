@@ -89,11 +89,25 @@ impl Now {
         }
     }
 
+    /// The word under way.
+    pub(crate) fn word(self) -> Word
+        ensures { result ≡ self.word }
+    {
+        self.word
+    }
+
+    /// Whether it is in no string, and in no comment that has to be closed.
+    pub(crate) fn is_outside(self) -> bool
+        ensures { result ≡ may_end_at self.place }
+    {
+        matches!(self.place, Place::Code | Place::Line)
+    }
+
     /// Whether a text may end so.
     pub(crate) fn may_end(self) -> bool
         ensures { result ≡ (may_end_at self.place && is_one_way self.writing self) }
     {
-        matches!(self.place, Place::Code | Place::Line) && self.is_one_way()
+        self.is_outside() && self.is_one_way()
     }
 
     /// Whether the octets can be read in one way. A list of pairs without a letter could be decimal numbers,
@@ -288,7 +302,7 @@ fn is_digit(x: u8) -> bool
 }
 
 /// Whether it is a letter or a decimal digit.
-fn is_part(x: u8) -> bool
+pub(crate) fn is_part(x: u8) -> bool
     ensures { result ≡ is_part x }
 {
     matches!(x, b'0'..=b'9' | b'A'..=b'Z' | b'a'..=b'z')

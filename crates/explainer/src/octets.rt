@@ -9,6 +9,7 @@ use block_core::block_len;
 use card_words::Kind;
 use octet_core::Stop;
 use std::alloc::{AllocError, Global};
+use tlv_core::{EntryWalk, Tag};
 
 /// What a person wants to know of octets, by the verdict on them: where they are refused and why, how many are
 /// wanting, or how many are left after the value, which takes so many; else nothing. `least` is how many octets must
@@ -33,7 +34,8 @@ pub fn least_wanting(kind: Kind, octets: &[u8]) -> Option<usize> {
         Kind::Block => Some(wanting_of_block(octets)),
         Kind::Command => Some(wanting_of_command(octets)),
         Kind::Response => Some(2_usize.saturating_sub(octets.len())),
-        Kind::Atr | Kind::Chain | Kind::Tlv | Kind::Dol => None,
+        Kind::Dol => Some(wanting_of_list(octets)),
+        Kind::Atr | Kind::Chain | Kind::Tlv => None,
     }
 }
 
@@ -54,4 +56,19 @@ fn wanting_of_command(octets: &[u8]) -> usize {
         _ => 4,
     };
     least.saturating_sub(octets.len())
+}
+
+/// How many octets a data object list that is short wants at least: after a whole tag its length, else one more octet
+/// of the tag as well.
+fn wanting_of_list(octets: &[u8]) -> usize {
+    let mut walk = EntryWalk::new();
+    let mut place = 0_usize;
+    for _ in 0..octets.len() {
+        match walk.next_entry(octets) {
+            Ok(Some((tag, _))) => place = place.saturating_add(tag.octets().len() + 1),
+            _ => break,
+        }
+    }
+    let rest = &octets[place.min(octets.len())..];
+    if Tag::new(rest).is_some() { 1 } else { 2 }
 }

@@ -3,6 +3,7 @@
 ghost use Rattle.std.specs.Prelude.{◌≡◌, IfOk, IfSome, Some, slice_get, string_bytes};
 ghost use Rattle.explainer.specs.Notes.{offsets_note, place_note};
 
+use crate::misread::{dump_note, source_note};
 use crate::words::what_form;
 use card_words::{Fault, Form};
 use octet_core::Octets;
@@ -33,13 +34,15 @@ enum Wrong {
     Third,
 }
 
-/// What a person wants to know of a text that isn't in its form: of one in hexadecimal the first place that is wrong,
-/// by its line and column, counted from 1, with its line and a mark under it; of each what the form is, and the option
-/// for another form that takes the text, where one does.
+/// What a person wants to know of a text that isn't in its form: the first place that is wrong, by its line and column,
+/// counted from 1, with its line and a mark under it; what the form is; and the option for another form that takes the
+/// text, where one does.
 pub fn text_note(alloc: Global, form: Form, text: &[u8]) -> Result<String, AllocError> {
     let mut note = match form {
         Form::Hex => hexadecimal_note(alloc, text)?,
-        Form::Octets | Form::Dump | Form::Source => String::new(alloc),
+        Form::Dump => dump_note(alloc, text)?,
+        Form::Source => source_note(alloc, text)?,
+        Form::Octets => String::new(alloc),
     };
     note.push_str(what_form(form))?;
     note.push_str(other_form(alloc, form, text)?)?;
@@ -78,6 +81,24 @@ fn hexadecimal_note(alloc: Global, text: &[u8]) -> Result<String, AllocError> {
         Some((place, wrong)) => marked(alloc, text, place, wrong),
         None => Ok(String::new(alloc)),
     }
+}
+
+/// What a person wants to know of a line that isn't in hexadecimal: the column of the first place that is wrong,
+/// counted from 1.
+pub fn digits_note(alloc: Global, line: &[u8]) -> Result<String, AllocError> {
+    let found = match stray_octet(line) {
+        Some((place, octet)) => Some((place, Wrong::Digit(octet))),
+        None => wrong_group(line),
+    };
+    match found {
+        Some((place, wrong)) => column_said(alloc, place.saturating_add(1), wrong),
+        None => Ok(String::new(alloc)),
+    }
+}
+
+fn column_said(alloc: Global, column: usize, wrong: Wrong) -> Result<String, AllocError> {
+    let what = sentence(alloc, wrong)?;
+    format!(in alloc; "column {column}: {what}\n")
 }
 
 /// What a person wants to know of a text in hexadecimal that is a dump of some octets too: that its offsets are taken
@@ -194,15 +215,24 @@ fn is_blank(octet: u8) -> bool {
     matches!(octet, b' ' | b'\t' | b'\n' | b'\r')
 }
 
-/// A place of a text by its line and column, what is wrong there, the line, and a mark under the place.
 fn marked(alloc: Global, text: &[u8], place: usize, wrong: Wrong) -> Result<String, AllocError> {
+    let what = sentence(alloc, wrong)?;
+    marked_place(alloc, text, place, what.as_str())
+}
+
+/// A place of a text by its line and column, what is wrong there, the line, and a mark under the place.
+pub(crate) fn marked_place(
+    alloc: Global,
+    text: &[u8],
+    place: usize,
+    what: &str,
+) -> Result<String, AllocError> {
     let (number, start) = line_of(text, place);
     let column = place.saturating_sub(start).saturating_add(1);
-    let what = sentence(alloc, wrong)?;
     let first = start.max(place.saturating_sub(BEFORE));
     let line = shown(alloc, text, first)?;
     let before = place.saturating_sub(first);
-    placed(alloc, number, column, what.as_str(), line.as_str(), before)
+    placed(alloc, number, column, what, line.as_str(), before)
 }
 
 /// A line and a column, what is wrong there, the characters of the line, and a mark after so many of them.
@@ -260,6 +290,6 @@ fn shown(alloc: Global, text: &[u8], first: usize) -> Result<String, AllocError>
     Ok(line)
 }
 
-fn is_printable(octet: u8) -> bool {
+pub(crate) fn is_printable(octet: u8) -> bool {
     0x20 <= octet && octet <= 0x7E
 }

@@ -3,6 +3,7 @@
 ghost use Rattle.std.specs.Prelude.{◌≡◌, IfOk, string_bytes};
 ghost use Rattle.explainer.specs.Notes.{digit_note, odd_note, word_note};
 
+use crate::message::shown_character;
 use std::alloc::{AllocError, Global};
 
 /// A word by its number, and what is wrong with it.
@@ -26,7 +27,7 @@ pub(crate) fn digits_note(alloc: Global, number: usize, word: &str) -> Result<St
     let mut place: usize = 0;
     for character in word.chars() {
         if !character.is_ascii_hexdigit() {
-            return digit(alloc, number, character, place);
+            return digit(alloc, number, shown_character(character), place);
         }
         place = place.saturating_add(1);
     }

@@ -1,5 +1,6 @@
 //! Notes on words that are no request.
 
+use crate::message::{shown_words, without_advice};
 use crate::place::{option_place, option_value, place_of, subcommand_place, word_at};
 use crate::word::{hex_note, said};
 use card_words::{Fault, Form, read_blocks};
@@ -8,11 +9,13 @@ use std::alloc::{AllocError, Global};
 
 /// What a person wants to know of words, of which the first is the program's name: what the parser of command lines
 /// says where it refuses them, with the form that it takes, and else the first word that is wrong, by its number, and
-/// what it should be. The subcommand is word 1, or word 2 after `--explain`.
+/// what it should be. The subcommand is word 1, or word 2 after `--explain`. A control character of a word is shown as
+/// a question mark.
 pub fn words_note(alloc: Global, words: &[String]) -> Result<String, AllocError> {
-    match parser_message(alloc, words)? {
-        Some(message) => Ok(message),
-        None => word_note(alloc, words),
+    let shown = shown_words(alloc, words)?;
+    match parser_message(alloc, shown.as_slice())? {
+        Some(message) => without_advice(alloc, message.as_str()),
+        None => word_note(alloc, shown.as_slice()),
     }
 }
 
@@ -33,7 +36,7 @@ fn word_note(alloc: Global, words: &[String]) -> Result<String, AllocError> {
     }
     String::from_str(
         alloc,
-        "there is no subcommand: check, show, build, replay, migrate, apdus or simulate\n",
+        "there is no subcommand: check, show, build, replay, migrate, apdus, draw, record or simulate\n",
     )
 }
 

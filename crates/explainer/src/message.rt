@@ -1,0 +1,45 @@
+//! What the parser of command lines says, as it is shown.
+
+use std::alloc::{AllocError, Global};
+
+/// What comes before the word that the parser would take as a value after `--`. No value here begins with a dash, so
+/// its advice doesn't help.
+const ADVICE: &str = "\n  tip: to pass '";
+
+/// The words as they are shown: a question mark for each control character.
+pub(crate) fn shown_words(alloc: Global, words: &[String]) -> Result<Vec<String>, AllocError> {
+    let mut shown = Vec::new(alloc);
+    for word in words {
+        shown.push(shown_word(alloc, word.as_str())?)?;
+    }
+    Ok(shown)
+}
+
+fn shown_word(alloc: Global, word: &str) -> Result<String, AllocError> {
+    let mut shown = String::new(alloc);
+    for character in word.chars() {
+        shown.push(shown_character(character))?;
+    }
+    Ok(shown)
+}
+
+/// A character as it is shown: a question mark for one that controls a terminal.
+pub(crate) fn shown_character(character: char) -> char {
+    match character {
+        '\u{0}'..='\u{1F}' | '\u{7F}'..='\u{9F}' => '?',
+        other => other,
+    }
+}
+
+/// What the parser says, without its advice on how a word is passed as a value.
+pub(crate) fn without_advice(alloc: Global, message: &str) -> Result<String, AllocError> {
+    let Some((before, advice)) = message.split_once(ADVICE) else {
+        return String::from_str(alloc, message);
+    };
+    let after = match advice.split_once('\n') {
+        Some((_, after)) => after,
+        None => "",
+    };
+    let before = before.strip_suffix('\n').unwrap_or(before);
+    format!(in alloc; "{before}\n{after}")
+}
