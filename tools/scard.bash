@@ -8,7 +8,7 @@ _scard_before() {
     for ((at = 1; at < COMP_CWORD; at++)); do
         before=${COMP_WORDS[at]}
         case $before in
-        = | -- | --explain | --notes | --svg | --help | --version | --*=*) ;;
+        = | -- | --explain | --notes | --json | --svg | --help | --version | --*=*) ;;
         --*) value=comes ;;
         *)
             if [ "$value" ]; then
@@ -26,21 +26,22 @@ _scard_before() {
 # Sets words to those that can come at the place, where no option's value does.
 _scard_words() {
     case $command in
-    check) words='--stdin --ifs --number --explain --help' ;;
-    show) words='--stdin --ifs --number --notes --explain --help' ;;
+    check) words='--stdin --ifs --number --json --explain --help' ;;
+    show) words='--stdin --ifs --number --notes --json --explain --help' ;;
     build) words='--explain --help' ;;
-    replay) words='--end --explain --help' ;;
+    replay) words='--end --json --explain --help' ;;
     migrate) words='--explain --help' ;;
-    apdus) words='--explain --help' ;;
+    apdus) words='--json --explain --help' ;;
     draw) words='--svg --explain --help' ;;
+    record) words='--explain --help' ;;
     simulate) words='--stdin --ifsd --lose --damage --spoil --explain --help' ;;
     esac
     [ "$command $what" != 'build tidy' ] || words="$words --stdin"
     case $place:$command in
-    1:*) words='check show build replay migrate apdus draw simulate help --explain --version --help' ;;
+    1:*) words='check show build replay migrate apdus draw record simulate help --explain --version --help' ;;
     2:check | 2:show) words="$words atr block chain command response tlv dol" ;;
     2:build) words="$words chain tidy fill" ;;
-    2:help) words='check show build replay migrate apdus draw simulate' ;;
+    2:help) words='check show build replay migrate apdus draw record simulate' ;;
     esac
 }
 

@@ -4,12 +4,13 @@
 //
 // PAGE is what web/make made, PROGRAM the program scard. Octets of vectors/ are spoiled by a fixed sequence, 10,000
 // times in all, and what the page shows of each, with notes, is compared with what `show KIND --stdin lines --notes` of
-// the program prints of it. So are 200 texts of exchanges, with what `replay --explain` prints of each at both ends.
-// The last line is 'N passed, M failed'.
+// the program prints of it, but for the notes on refusals. So are 200 texts of exchanges, with what `replay --explain`
+// prints of each at both ends. The last line is 'N passed, M failed'.
 import { spawnSync } from "node:child_process";
 import { readFileSync, readdirSync } from "node:fs";
 import { Checks } from "./checks.mjs";
 import { cases, loaded } from "./loaded.mjs";
+import { withoutRefusalNotes } from "./requests.mjs";
 
 const COUNT = 10000;
 const EXCHANGES = 200;
@@ -70,7 +71,8 @@ function printed(words, input) {
 
 function compare(kind, lines) {
   const input = lines.map((line) => `${line}\n`).join("");
-  const answers = printed(["show", kind, "--stdin", "lines", "--notes"], input).split("\n\n");
+  const said = printed(["show", kind, "--stdin", "lines", "--notes"], input);
+  const answers = withoutRefusalNotes(said).split("\n\n");
   for (const [at, told] of [...scard.answers(kind, input, 254, 0, true)].entries()) {
     checks.equal(`${kind} ${lines[at]}`, (told.lines ?? [told.check]).join("\n"), answers[at]);
   }

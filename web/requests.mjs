@@ -45,6 +45,7 @@ export function answered({ scard, aroundLines, finished }, request) {
     const verdicts = ends.map(({ name, verdict }) => (end === "both" && name ? `${name}: ` : "") + verdict.check);
     return ended([...verdicts, ...(explain ? ends.flatMap(({ verdict }) => verdict.notes) : [])]);
   }
+  if (form === "lines" && explain) return null;
   if (form === "lines") return ended([...scard.answers(kind, text, ifs, first, notes)].flatMap(ofLine));
   const told = finished(scard.answering(kind, text, ifs, first, notes));
   const lines = subcommand === "show" && told.lines ? told.lines : [told.check];
@@ -53,9 +54,14 @@ export function answered({ scard, aroundLines, finished }, request) {
   return told.is === "fault" && explain ? null : ended(lines);
 }
 
+// The program's answers, without the notes on refusals, which the page has none of.
+export function withoutRefusalNotes(said) {
+  return said.replace(/^((?:short|refused) at .*?)  # .*$/gm, "$1");
+}
+
 // What the page should say: the program's words, without its options.
 export function wanted({ said }, { end }) {
   if (end) return said;
-  return said.replace(" (--ifs)", "").replace("from that of --number", "from the first that is given")
+  return withoutRefusalNotes(said).replace(" (--ifs)", "").replace("from that of --number", "from the first that is given")
     .replace(/octets there: .*\n/, "").replace(/standard input: this text is a dump too.*\n/, "");
 }

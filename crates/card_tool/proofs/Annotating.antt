@@ -1,4 +1,4 @@
--- That a value has notes which are cut off again, and a refusal none.
+-- That a value or a refusal has notes which are cut off again, and a fault none.
 use Rattle.std.proofs.Common.{◌≡◌, List, ℕ, refl, subst}
 use Rattle.card_kinds.proofs.NoSign.{no-sign}
 use Rattle.card_kinds.specs.Verdicts.{Shows}
@@ -9,18 +9,18 @@ use Rattle.card_words.specs.declared.request.Expected.{Expected}
 use Rattle.notes.proofs.Cutting.{cut-noted, noted-by-none}
 use Rattle.notes.specs.Noted.{IsNoted}
 
--- a value with notes
-pub value-noted : (expected : Expected) (b plain lent text : List ℕ) (ended : Status) → ended ≡ status.Accepted
+-- a value or a refusal with notes
+pub some-noted : (expected : Expected) (b plain lent text : List ℕ) (ended : Status) → (ended ≡ status.Fault → ⊥)
     → Shows expected.kind expected b plain ended → lent ≡ plain → IsNoted lent text
-    → ShowsNoted expected.kind expected b text status.Accepted
-value-noted expected b plain lent text ended accepted shown is noted =
+    → ShowsNoted expected.kind expected b text ended
+some-noted expected b plain lent text ended faultless shown is noted =
     let after : IsNoted plain text = subst (λ (l : List ℕ). IsNoted l text) is noted in
     record {
       plain = plain;
-      is_shown = subst (λ (e : Status). Shows expected.kind expected b plain e) accepted shown;
+      is_shown = shown;
       is_noted = after;
       is_cut = cut-noted plain text (no-sign expected.kind expected b plain ended shown) after;
-      unnoted = λ other. absurd (other refl);
+      unnoted = λ other. absurd (faultless other);
     }
 
 -- what has none

@@ -13,6 +13,7 @@ use Rattle.card_words.specs.Texts.{fault_text}
 use Rattle.card_tool.specs.Answers.{IsReadFrom, IsWritten, Writes}
 use Rattle.card_tool.specs.Explained.{IsRightWith, silent}
 use Rattle.card_tool.specs.LineAnswers.{WritesLines, answered, wanting}
+use Rattle.card_tool.specs.declared.telling.Telling.{Telling}
 use Rattle.card_kinds.specs.declared.status.Status.{Status}
 use Rattle.card_kinds.specs.declared.status.Status.TheVariants as status
 use Rattle.card_tool.proofs.Inputs.{Consumes-none}
@@ -86,8 +87,8 @@ module _ (held : Option (List ℕ)) (count : ℕ) (old new : Option (List ℕ)) 
   }
 
   -- and of lines, of which none was read
-  pub no-lines : (task : Task) → WritesLines task held held count count old new before after ended
-  no-lines task = answered (record {
+  pub no-lines : (telling : Telling) → WritesLines telling held held count count old new before after ended
+  no-lines telling = answered (record {
     text = fault_text Memory;
     right = status.Fault;
     is_right = wanting [] [] status.Accepted [] [] (Consumes-none held) refl refl (refl, refl) refl refl;

@@ -1,7 +1,7 @@
 -- Notes on the files of exchanges, by what replaying them came to.
 use Rattle.std.proofs.Common.{◌≡◌, ◌++◌, inl, inr, ℕ, List, MatchResult, Result, Ok, Err, IfOk, IsOkAnd, Some, String, string_bytes, subst}
 use Rattle.std.specs.declared.alloc.Global.{Global}
-use Rattle.card_words.specs.declared.request.End.{End}
+use Rattle.card_words.specs.declared.request.FileTask.{FileTask}
 use Rattle.card_kinds.specs.declared.answer.Answer.{Answer}
 use Rattle.card_kinds.specs.declared.status.Status.TheVariants as status
 use Rattle.exchange_text.specs.Exchange.{ExchangeParts}
@@ -12,8 +12,9 @@ use Rattle.exchange_core.specs.declared.replaying.ReplayFault.{ReplayFault}
 use Rattle.exchange_core.specs.declared.replaying.ReplayFault.TheVariants.{Differs}
 use Rattle.exchange_core.specs.declared.replaying.Side.{Side}
 use Rattle.exchange_core.specs.declared.replaying.Side.TheVariants as side
-use Rattle.card_tool.specs.Explained.{line_of, AreDifferenceNotes, IsDifferenceNote, IsLineNote, IsNoteAt, IsReplayNote}
-use Rattle.card_tool.specs.ExchangeTexts.{both_text, file_fault_text, AreReplayed, IsOutcome, IsReplayed, IsReplayedAt, Replays as ReplaysFile}
+use Rattle.card_tool.specs.Explained.{AreDifferenceNotes, IsDifferenceNote, IsFileNote, IsNoteSo}
+use Rattle.card_tool.specs.FileNotes.{line_of, IsLineNote}
+use Rattle.card_tool.specs.ExchangeTexts.{both_text, file_fault_text, AreReplayed, IsOutcome, IsReplayed, IsToldSo, TellsFile}
 use Rattle.card_tool.specs.Judged.{AreOf}
 use Rattle.card_tool.specs.Lines.{worse}
 use Rattle.card_tool.specs.declared.judged.WithNote.{WithNote}
@@ -27,16 +28,16 @@ differs-at r e which fault line gives is same h =
     (subst (IsOutcome e which) is h)
 
 -- an answer and a note that are of an exchange are of the file that was read as it
-pub of-exchange : (end : End) (file : List ℕ) (e : ExchangeParts) (made : WithNote)
+pub of-exchange : (task : FileTask) (file : List ℕ) (e : ExchangeParts) (made : WithNote)
     → UnlessMemory (Ok e) (exchange_said file)
-    → AreOf (IsReplayedAt end e) (IsNoteAt end e) made
-    → AreOf (ReplaysFile end file) (IsReplayNote end file) made
-of-exchange end file e made (inl memory) h = absurd (cc memory)
-of-exchange end file e made (inr said) h =
+    → AreOf (IsToldSo task e) (IsNoteSo task e) made
+    → AreOf (TellsFile task file) (IsFileNote task file) made
+of-exchange task file e made (inl memory) h = absurd (cc memory)
+of-exchange task file e made (inr said) h =
     subst (λ (r : Result ExchangeParts ExchangeFault). MatchResult r
-    (λ e. IsReplayedAt end e made.answer.text made.answer.status)
+    (λ e. IsToldSo task e made.answer.text made.answer.status)
     (λ fault. (made.answer.text ≡ file_fault_text fault) × (made.answer.status ≡ status.Fault))
-    × IfOk made.note (λ note. MatchResult r (λ e. IsNoteAt end e (string_bytes note))
+    × IfOk made.note (λ note. MatchResult r (λ e. IsNoteSo task e (string_bytes note))
     (λ fault. IsLineNote (line_of fault) (string_bytes note)))) said h
 
 module _ (e : ExchangeParts) where

@@ -8,7 +8,8 @@ use Rattle.atr_core.proofs.Goes as atr_goes
 use Rattle.atr_core.proofs.Unique.{one-accepted}
 use Rattle.card_words.specs.declared.request.End.{End}
 use Rattle.card_words.specs.declared.request.End.TheVariants as end
-use Rattle.card_words.specs.declared.request.Drawing.{Drawing}
+use Rattle.card_words.specs.declared.request.FileTask.{FileTask}
+use Rattle.card_words.specs.declared.request.FileTask.TheVariants.{Replay, Migrate, Apdus, Draw}
 use Rattle.apdu_list.specs.Listing.{apdus_text}
 use Rattle.exchange_text.specs.Exchange.{ExchangeParts, migrated}
 use Rattle.exchange_text.specs.Reading.{at, atr_by, atr_said, exchange_by, exchange_said, is_line_feed, lines_said, octets_said, parts_said, version_said, words_of}
@@ -20,7 +21,7 @@ use Rattle.exchange_core.specs.declared.replaying.Side.{Side}
 use Rattle.exchange_core.specs.declared.replaying.Side.TheVariants as side
 use Rattle.exchange_core.proofs.Found.{one-replay, some-replay}
 use Rattle.exchange_text.proofs.Sound.{bind, octets-sound, same-ok}
-use Rattle.card_tool.specs.ExchangeTexts.{agrees_text, both_text, differs_text, drawn, file_fault_text, AreReplayed, Draws, IsReplayed, IsReplayedAt, Lists, Migrates, Replays, agrees, differs}
+use Rattle.card_tool.specs.ExchangeTexts.{agrees_text, both_text, differs_text, drawn, file_fault_text, AreReplayed, IsReplayed, IsReplayedAt, IsToldSo, TellsFile, agrees, differs}
 use Rattle.card_tool.specs.Lines.{worse}
 use Rattle.card_kinds.specs.declared.status.Status.{Status}
 use Rattle.card_kinds.specs.declared.status.Status.TheVariants as status
@@ -158,31 +159,22 @@ module _ (e : ExchangeParts) where
 
 -- ---- files
 
--- an exchange is told so, where it was said; else its text's fault
-told-said : (Told : ExchangeParts → List ℕ → Status → Type 0) (said : Result ExchangeParts ExchangeFault)
-    → ((e : ExchangeParts) → said ≡ Ok e → OneText (Told e))
-    → OneText (λ text ended. MatchResult said (λ e. Told e text ended)
+-- what is told of an exchange, or its text's fault
+told-said : (task : FileTask) (said : Result ExchangeParts ExchangeFault)
+    → ((e : ExchangeParts) → said ≡ Ok e → OneText (IsToldSo task e))
+    → OneText (λ text ended. MatchResult said (λ e. IsToldSo task e text ended)
     (λ fault. (text ≡ file_fault_text fault) × (ended ≡ status.Fault)))
-told-said Told (Ok e) once = once e refl
-told-said Told (Err fault) once = ended-by (file_fault_text fault) status.Fault
+told-said task (Ok e) once = once e refl
+told-said task (Err fault) once = ended-by (file_fault_text fault) status.Fault
 
--- a file that is replayed comes to one text with one status
-pub replayed-once : (which : End) (file : List ℕ) → OneText (Replays which file)
-replayed-once which file =
-    told-said (λ e. IsReplayedAt which e) (exchange_said file)
-    (λ e is. at-once e which (text-octets (slice_split is_line_feed file) e is))
+-- an exchange is told by one text, where its answer to reset is octets
+told-so : (task : FileTask) (e : ExchangeParts) → AreOctets e.atr → OneText (IsToldSo task e)
+told-so (Replay which) e octets = at-once e which octets
+told-so Migrate e octets = plain (exchange_text (migrated e))
+told-so Apdus e octets = plain (apdus_text e.lines)
+told-so (Draw drawing) e octets = plain (drawn drawing e)
 
--- and so does one that is migrated
-pub migrated-once : (file : List ℕ) → OneText (Migrates file)
-migrated-once file = told-said (λ e text ended. (text ≡ exchange_text (migrated e)) × (ended ≡ status.Accepted))
-    (exchange_said file) (λ e is. plain (exchange_text (migrated e)))
-
--- and one whose commands and answers are listed
-pub listed-once : (file : List ℕ) → OneText (Lists file)
-listed-once file = told-said (λ e text ended. (text ≡ apdus_text e.lines) × (ended ≡ status.Accepted))
-    (exchange_said file) (λ e is. plain (apdus_text e.lines))
-
--- and one that is drawn
-pub drawn-once : (drawing : Drawing) (file : List ℕ) → OneText (Draws drawing file)
-drawn-once drawing file = told-said (λ e text ended. (text ≡ drawn drawing e) × (ended ≡ status.Accepted))
-    (exchange_said file) (λ e is. plain (drawn drawing e))
+-- a file comes to one text with one status
+pub file-once : (task : FileTask) (file : List ℕ) → OneText (TellsFile task file)
+file-once task file = told-said task (exchange_said file)
+    (λ e is. told-so task e (text-octets (slice_split is_line_feed file) e is))

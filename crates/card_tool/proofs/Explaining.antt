@@ -1,7 +1,7 @@
 -- How an answer becomes one with an explanation.
 use Rattle.std.proofs.Common.{◌≡◌, ◌⊎◌, ◌∙◌, ◌++◌, inl, inr, ℕ, List, [], Option, Some, None, Result, Ok, Err, IfOk, IfErr, OnOk, IsOkAnd, String, length, string_bytes, true, ap, append-nil, refl, subst, sym}
 use Rattle.std.specs.declared.alloc.Global.{Global}
-use Rattle.command_line.specs.Explain.{asks_to_explain}
+use Rattle.command_line.specs.Asked.{asks_to_explain}
 use Rattle.card_words.specs.Given.{octets_given, octets_in, IsFromReader}
 use Rattle.card_words.specs.Value.{UnlessMemory}
 use Rattle.card_words.specs.declared.given.Form.{Form}
@@ -14,7 +14,8 @@ use Rattle.card_words.specs.declared.given.Given.{Given}
 use Rattle.card_words.specs.declared.request.Asked.TheVariants.{Once}
 use Rattle.card_words.specs.declared.request.Request.{Request}
 use Rattle.card_tool.specs.Answers.{AnswersTo, Gives, IsAnswerTo, IsRight, IsRightTo, IsToldOf}
-use Rattle.card_tool.specs.Explained.{differs, form_note, octets_of, text_note, Fits, GivesExplained, IsAdded, IsExplained, IsDifferenceNote, IsFaulted, IsFaultNote, IsFillNote, IsLineNote, IsNoted, IsNotedTo, IsNoteOn, IsNoteTo, IsRightWith, IsTakenWith, on_fault, silent}
+use Rattle.card_tool.specs.Explained.{differs, form_note, octets_of, text_note, Fits, GivesExplained, IsAdded, IsExplained, IsDifferenceNote, IsFaulted, IsFaultNote, IsFillNote, IsNoted, IsNotedTo, IsNoteOn, IsNoteTo, IsRightWith, IsTakenWith, on_fault, silent}
+use Rattle.card_tool.specs.FileNotes.{IsLineNote}
 use Rattle.card_tool.specs.Files.{ReadsWhole}
 use Rattle.card_tool.specs.declared.explained.Taken.{Taken}
 use Rattle.card_tool.specs.ExchangeTexts.{IsOutcome}

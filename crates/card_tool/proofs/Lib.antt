@@ -7,9 +7,12 @@ pub mod Inputs
 pub mod ByLine
 pub mod Conversing
 pub mod Turns
+pub mod LineNoted
 pub mod LinesWritten
 pub mod Waiting
 pub mod Asking
 pub mod Answering
 pub mod Explaining
+pub mod InJson
+pub mod Records
 pub mod ExchangeNotes

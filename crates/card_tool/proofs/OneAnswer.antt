@@ -1,12 +1,14 @@
 -- That what is asked for has one answer.
 use Rattle.std.proofs.Common.{◌≡◌, ◌≤◌, ◌∙◌, ◌++◌, ℕ, List, [], ◌∷◌, Bool, true, false, if◌then◌else◌, nat_le, Result, Ok, Err, IfOk, ap, append_assoc, length, subst, sym, refl}
 use Rattle.octet_core.specs.Octets.{AreOctets}
-use Rattle.card_tool.specs.ExchangeTexts.{Draws, Lists, Migrates, Replays}
+use Rattle.card_tool.specs.ExchangeTexts.{TellsFile}
+use Rattle.card_tool.specs.RecordTexts.{Records}
 use Rattle.card_kinds.proofs.OneOf.{OneText, ended-by, plain}
-use Rattle.card_tool.proofs.Exchanges.{drawn-once, listed-once, migrated-once, replayed-once}
+use Rattle.card_tool.proofs.Exchanges.{file-once}
+use Rattle.card_tool.proofs.Records.{recorded-once}
 use Rattle.card_tool.proofs.Simulations.{simulated-once, lines-once}
 use Rattle.card_tool.specs.SimulationTexts.{SimulatesLines}
-use Rattle.card_tool.specs.Answers.{line_end, plain_aim, plain_asked, plain_request, plain_task, plain_text, plain_told, AreLinesTold, IsAnswerAsked, IsAnswerTo, IsLineTold, IsTold, IsToldOf, Tells}
+use Rattle.card_tool.specs.Answers.{line_text, plain_aim, plain_asked, plain_request, plain_task, plain_text, plain_told, AreLinesTold, IsAnswerAsked, IsAnswerTo, IsLineTold, IsTold, IsToldOf, Tells}
 use Rattle.card_kinds.specs.Verdicts.{Shows, Tidies}
 use Rattle.card_tool.proofs.Annotating.{none-noted}
 use Rattle.notes.proofs.Cutting.{cut-apart}
@@ -28,12 +30,12 @@ use Rattle.card_words.specs.Words.{AreSized, HasOctets, HaveOctets, IsOnce, IsSi
 use Rattle.card_words.proofs.Givens.{octets-given}
 use Rattle.command_line.specs.Version.{version_line}
 use Rattle.card_words.specs.declared.request.Aim.{Aim}
-use Rattle.card_words.specs.declared.request.Aim.TheVariants.{Check, Show, Note}
+use Rattle.card_words.specs.declared.request.Aim.TheVariants.{Check, Show, Note, CheckJson, ShowJson}
 use Rattle.card_words.specs.declared.request.Asked.{Asked}
 use Rattle.card_words.specs.declared.request.Asked.TheVariants.{Once, Lines}
 use Rattle.card_words.specs.declared.request.Expected.{Expected}
 use Rattle.card_words.specs.declared.request.Request.{Request}
-use Rattle.card_words.specs.declared.request.Request.TheVariants.{BuildChain, BuildTidy, BuildFill, Tell, Replay, Migrate, Apdus, Draw, Simulate, SimulateLines, Help, Version}
+use Rattle.card_words.specs.declared.request.Request.TheVariants.{BuildChain, BuildTidy, BuildFill, Tell, File, Record, Simulate, SimulateLines, Help, Version}
 use Rattle.card_words.specs.declared.request.Task.{Task}
 use Rattle.card_kinds.specs.declared.status.Status.{Status}
 use Rattle.card_kinds.specs.declared.status.Status.TheVariants as status
@@ -66,6 +68,8 @@ tells-once : (aim : Aim) (expected : Expected) → expected.ifs ≤ 254 → (b :
 tells-once Check expected small b = checked expected.kind expected b small
 tells-once Show expected small b = shown expected.kind expected b small
 tells-once Note expected small b = shown expected.kind expected b small
+tells-once CheckJson expected small b = checked expected.kind expected b small
+tells-once ShowJson expected small b = shown expected.kind expected b small
 
 -- a line's text without notes
 line-once : (task : Task) → task.expected.ifs ≤ 254 → (line : List ℕ) → OneText (IsLineTold (plain_task task) line)
@@ -76,9 +80,9 @@ line-once task small line =
     record {
       one = λ t u s q h g.
           let same = told.one h.told g.told s q h.is_told g.is_told in
-          (h.is_text ∙ ap (λ (l : List ℕ). l ++ line_end (plain_aim task.aim)) same.0 ∙ sym g.is_text, same.1);
+          (h.is_text ∙ ap (line_text (plain_aim task.aim)) same.0 ∙ sym g.is_text, same.1);
       some = (
-        told.some.0 ++ line_end (plain_aim task.aim),
+        line_text (plain_aim task.aim) told.some.0,
         told.some.1,
         record { told = told.some.0; is_told = told.some.2; is_text = refl },
       );
@@ -132,10 +136,8 @@ one-answer (BuildChain ifs number message) file sized octets as_read =
 one-answer (BuildTidy given) file sized octets as_read =
     told-octets Tidies tidied (octets_given given file) (octets-given given file octets as_read)
 one-answer (BuildFill list known) file sized octets as_read = filled-once list known octets
-one-answer (Replay side) file sized octets as_read = told-of (Replays side) (replayed-once side) file
-one-answer Migrate file sized octets as_read = told-of Migrates migrated-once file
-one-answer Apdus file sized octets as_read = told-of Lists listed-once file
-one-answer (Draw drawing) file sized octets as_read = told-of (Draws drawing) (drawn-once drawing) file
+one-answer (File task) file sized octets as_read = told-of (TellsFile task) (file-once task) file
+one-answer (Record atr) file sized octets as_read = told-of (Records atr) (recorded-once atr octets) file
 one-answer (Simulate session) file sized octets as_read = simulated-once session octets.0
 one-answer (SimulateLines session) file sized octets as_read =
     told-of (SimulatesLines session) (lines-once session octets.0) file
@@ -158,23 +160,27 @@ noted-too : (aim : Aim) (expected : Expected) (b text : List ℕ) (ended : Statu
 noted-too Check expected b text ended h = h
 noted-too Show expected b text ended h = h
 noted-too Note expected b text ended h = none-noted expected b text ended h
+noted-too CheckJson expected b text ended h = h
+noted-too ShowJson expected b text ended h = h
 
 told-too : (task : Task) (r : Result (List ℕ) Fault) (text : List ℕ) (ended : Status)
     → IsToldOf (IsTold (plain_task task)) r text ended → IsToldOf (IsTold task) r text ended
 told-too task (Ok b) text ended h = noted-too task.aim task.expected b text ended h
 told-too task (Err fault) text ended h = h
 
-same-end : (aim : Aim) → line_end (plain_aim aim) ≡ line_end aim
-same-end Check = refl
-same-end Show = refl
-same-end Note = refl
+same-line : (aim : Aim) (told : List ℕ) → line_text (plain_aim aim) told ≡ line_text aim told
+same-line Check told = refl
+same-line Show told = refl
+same-line Note told = refl
+same-line CheckJson told = refl
+same-line ShowJson told = refl
 
 line-too : (task : Task) (line text : List ℕ) (ended : Status) → IsLineTold (plain_task task) line text ended
     → IsLineTold task line text ended
 line-too task line text ended h = record {
   told = h.told;
   is_told = told-too task (line_octets line) h.told ended h.is_told;
-  is_text = h.is_text ∙ ap (λ (l : List ℕ). h.told ++ l) (same-end task.aim);
+  is_text = h.is_text ∙ same-line task.aim h.told;
 }
 
 lines-too : (task : Task) (lines : List (List ℕ)) (text : List ℕ) (ended : Status)
@@ -197,10 +203,8 @@ asked-too (Once (Tell task given)) file text ended h = told-too task (octets_giv
 asked-too (Once (BuildChain ifs number message)) file text ended h = h
 asked-too (Once (BuildTidy given)) file text ended h = h
 asked-too (Once (BuildFill list known)) file text ended h = h
-asked-too (Once (Replay side)) file text ended h = h
-asked-too (Once Migrate) file text ended h = h
-asked-too (Once Apdus) file text ended h = h
-asked-too (Once (Draw drawing)) file text ended h = h
+asked-too (Once (File task)) file text ended h = h
+asked-too (Once (Record atr)) file text ended h = h
 asked-too (Once (Simulate session)) file text ended h = h
 asked-too (Once (SimulateLines session)) file text ended h = h
 asked-too (Once (Help help)) file text ended h = h
@@ -217,6 +221,8 @@ cut-told Check expected b text ended h = h
 cut-told Show expected b text ended h = h
 cut-told Note expected b text ended h =
     subst (λ (l : List ℕ). Shows expected.kind expected b l ended) (sym h.is_cut) h.is_shown
+cut-told CheckJson expected b text ended h = h
+cut-told ShowJson expected b text ended h = h
 
 -- no line of a fault has a note
 cut-fault : (aim : Aim) (fault : Fault) → plain_told aim (fault_text fault) ≡ fault_text fault
@@ -227,6 +233,8 @@ cut-fault Note Hex = refl
 cut-fault Note Memory = refl
 cut-fault Note Read = refl
 cut-fault Note TooLarge = refl
+cut-fault CheckJson fault = refl
+cut-fault ShowJson fault = refl
 
 cut-octets : (task : Task) (r : Result (List ℕ) Fault) (text : List ℕ) (ended : Status)
     → IsToldOf (IsTold task) r text ended → IsToldOf (IsTold (plain_task task)) r (plain_told task.aim text) ended
@@ -235,18 +243,22 @@ cut-octets task (Err fault) text ended h = (ap (plain_told task.aim) h.0 ∙ cut
 
 -- what comes after the answer to a line is cut apart from it
 cut-line : (aim : Aim) (told more : List ℕ)
-    → plain_told aim ((told ++ line_end aim) ++ more) ≡ (plain_told aim told ++ line_end (plain_aim aim))
+    → plain_told aim (line_text aim told ++ more) ≡ line_text (plain_aim aim) (plain_told aim told)
     ++ plain_told aim more
 cut-line Check told more = refl
 cut-line Show told more = refl
 cut-line Note told more =
     ap without_notes (append_assoc told (10 ∷ []) more) ∙ cut-apart false told more
     ∙ sym (append_assoc (without_notes told) (10 ∷ []) (without_notes more))
+cut-line CheckJson told more = refl
+cut-line ShowJson told more = refl
 
 cut-nothing : (aim : Aim) → plain_told aim [] ≡ []
 cut-nothing Check = refl
 cut-nothing Show = refl
 cut-nothing Note = refl
+cut-nothing CheckJson = refl
+cut-nothing ShowJson = refl
 
 cut-lines : (task : Task) (lines : List (List ℕ)) (text : List ℕ) (ended : Status)
     → AreLinesTold task lines text ended → AreLinesTold (plain_task task) lines (plain_told task.aim text) ended
@@ -254,7 +266,7 @@ cut-lines task [] text ended h = (ap (plain_told task.aim) h.0 ∙ cut-nothing t
 cut-lines task (line ∷ lines) text ended h =
     let one = h.is_first in
     record {
-      first = plain_told task.aim one.told ++ line_end (plain_aim task.aim);
+      first = line_text (plain_aim task.aim) (plain_told task.aim one.told);
       one = h.one;
       more = plain_told task.aim h.more;
       others = h.others;
@@ -276,10 +288,8 @@ notes-cut (Once (Tell task given)) file text ended h = cut-octets task (octets_g
 notes-cut (Once (BuildChain ifs number message)) file text ended h = h
 notes-cut (Once (BuildTidy given)) file text ended h = h
 notes-cut (Once (BuildFill list known)) file text ended h = h
-notes-cut (Once (Replay side)) file text ended h = h
-notes-cut (Once Migrate) file text ended h = h
-notes-cut (Once Apdus) file text ended h = h
-notes-cut (Once (Draw drawing)) file text ended h = h
+notes-cut (Once (File task)) file text ended h = h
+notes-cut (Once (Record atr)) file text ended h = h
 notes-cut (Once (Simulate session)) file text ended h = h
 notes-cut (Once (SimulateLines session)) file text ended h = h
 notes-cut (Once (Help help)) file text ended h = h

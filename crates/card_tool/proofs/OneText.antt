@@ -19,8 +19,8 @@ use Rattle.command_line.specs.Version.{asks_for_version}
 use Rattle.card_words.specs.declared.request.Asked.{Asked}
 use Rattle.card_words.specs.declared.request.Asked.TheVariants.{Once, Lines}
 use Rattle.card_words.specs.declared.request.Aim.{Aim}
-use Rattle.card_words.specs.declared.request.Aim.TheVariants.{Check, Show, Note}
-use Rattle.card_words.specs.declared.request.Request.TheVariants.{BuildChain, BuildTidy, BuildFill, Tell, Replay, Migrate, Apdus, Draw, Simulate, SimulateLines, Help, Version}
+use Rattle.card_words.specs.declared.request.Aim.TheVariants.{Check, Show, Note, CheckJson, ShowJson}
+use Rattle.card_words.specs.declared.request.Request.TheVariants.{BuildChain, BuildTidy, BuildFill, Tell, File, Record, Simulate, SimulateLines, Help, Version}
 use Rattle.card_tool.specs.Answers.{plain_text, plain_told, AsksForNotes, AskForNotes, IsAnswer, IsAnswerAsked, IsSameText}
 use Rattle.notes.specs.Noted.{without_notes}
 use Rattle.card_tool.specs.Files.{file_of, largest_file, ReadsWhole}
@@ -42,6 +42,8 @@ by-aim : (aim : Aim) (text other : List ℕ) → plain_told aim text ≡ plain_t
 by-aim Check text other h = inl h
 by-aim Show text other h = inl h
 by-aim Note text other h = inr (refl, h)
+by-aim CheckJson text other h = inl h
+by-aim ShowJson text other h = inl h
 
 same-or-noted : (asked : Asked) (text other : List ℕ) → plain_text asked text ≡ plain_text asked other
     → (text ≡ other) ⊎ (AsksForNotes asked × (without_notes text ≡ without_notes other))
@@ -49,10 +51,8 @@ same-or-noted (Once (Tell task given)) text other h = by-aim task.aim text other
 same-or-noted (Once (BuildChain ifs number message)) text other h = inl h
 same-or-noted (Once (BuildTidy given)) text other h = inl h
 same-or-noted (Once (BuildFill list known)) text other h = inl h
-same-or-noted (Once (Replay side)) text other h = inl h
-same-or-noted (Once Migrate) text other h = inl h
-same-or-noted (Once Apdus) text other h = inl h
-same-or-noted (Once (Draw drawing)) text other h = inl h
+same-or-noted (Once (File task)) text other h = inl h
+same-or-noted (Once (Record atr)) text other h = inl h
 same-or-noted (Once (Simulate session)) text other h = inl h
 same-or-noted (Once (SimulateLines session)) text other h = inl h
 same-or-noted (Once (Help help)) text other h = inl h

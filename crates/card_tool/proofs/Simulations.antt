@@ -44,6 +44,22 @@ pub if-both-ok : {A E : Type 0} (r : Result A E) {P Q S : A → Type 0} → ((a 
 if-both-ok (Ok a) f h g = f a h g
 if-both-ok (Err e) f h g = tt
 
+-- ---- the file of an exchange
+
+-- an exchange has one file
+pub one-file : (e : ExchangeParts) (t u : List ℕ) (p q : Status) → IsFile e t p → IsFile e u q → (t ≡ u) × (p ≡ q)
+one-file e t u p q (fits small text ended) (fits little other different) = (text ∙ sym other, ended ∙ sym different)
+one-file e t u p q (fits small text ended) (over long other different) = absurd (omega (arith, small, long))
+one-file e t u p q (over long text ended) (fits small other different) = absurd (omega (arith, small, long))
+one-file e t u p q (over long text ended) (over large other different) = (text ∙ sym other, ended ∙ sym different)
+
+pub some-file : (e : ExchangeParts) → (length (exchange_text e) ≡ largest_file)
+    ⊎ ((length (exchange_text e) < largest_file) ⊎ (largest_file < length (exchange_text e)))
+    → (t : List ℕ) × (p : Status) × IsFile e t p
+some-file e (inl same) = (exchange_text e, status.Accepted, fits (omega (arith, same)) refl refl)
+some-file e (inr (inl small)) = (exchange_text e, status.Accepted, fits (omega (arith, small)) refl refl)
+some-file e (inr (inr long)) = (fault_text TooLarge, status.Fault, over long refl refl)
+
 -- ---- one thing is found
 
 abbrev name-of : Result ℕ (List ℕ) → List ℕ
@@ -59,41 +75,42 @@ found-name name = Err name
 not-both : (ifsc : ℕ) (name : List ℕ) → found-size ifsc ≡ found-name name → ⊥
 not-both ifsc name e = cc e
 
-module _ (s : Session) where
-  same-size : (a b : ℕ) → IsFound s.atr (Ok a) → IsFound s.atr (Ok b) → a ≡ b
+module _ (atr : List ℕ) where
+  pub same-size : (a b : ℕ) → IsFound atr (Ok a) → IsFound atr (Ok b) → a ≡ b
   same-size a b f g = ap (λ (r : Result ℕ (List ℕ)). result_unwrap_or r a)
-      (one-found one-accepted s.atr (Ok a) (Ok b) f g)
+      (one-found one-accepted atr (Ok a) (Ok b) f g)
 
-  same-name : (a b : List ℕ) → IsFound s.atr (Err a) → IsFound s.atr (Err b) → a ≡ b
-  same-name a b f g = ap name-of (one-found one-accepted s.atr (Err a) (Err b) f g)
+  pub same-name : (a b : List ℕ) → IsFound atr (Err a) → IsFound atr (Err b) → a ≡ b
+  same-name a b f g = ap name-of (one-found one-accepted atr (Err a) (Err b) f g)
 
-  apart : (ifsc : ℕ) (name : List ℕ) → IsFound s.atr (Ok ifsc) → IsFound s.atr (Err name) → ⊥
-  apart ifsc name f g = not-both ifsc name (one-found one-accepted s.atr (Ok ifsc) (Err name) f g)
+  pub apart : (ifsc : ℕ) (name : List ℕ) → IsFound atr (Ok ifsc) → IsFound atr (Err name) → ⊥
+  apart ifsc name f g = not-both ifsc name (one-found one-accepted atr (Ok ifsc) (Err name) f g)
 
+module _ (s : Session) where
   same-end : (a b : ℕ) (r q : Recording) → IsFound s.atr (Ok a) → IsFound s.atr (Ok b) → EndsAs s a r → EndsAs s b q
       → r ≡ q
-  same-end a b r q f g h k = one-end s b r q (subst (λ (ifsc : ℕ). EndsAs s ifsc r) (same-size a b f g) h) k
+  same-end a b r q f g h k = one-end s b r q (subst (λ (ifsc : ℕ). EndsAs s ifsc r) (same-size s.atr a b f g) h) k
 
   too-long-for : (a b : ℕ) (r : Recording) → IsFound s.atr (Ok a) → IsFound s.atr (Ok b) → EndsAs s a r
       → length (text-of r) ≤ largest_file
       → ((q : Recording) → EndsAs s b q → largest_file < length (text-of q)) → ⊥
   too-long-for a b r f g h small long =
-      let big = long r (subst (λ (ifsc : ℕ). EndsAs s ifsc r) (same-size a b f g) h) in
+      let big = long r (subst (λ (ifsc : ℕ). EndsAs s ifsc r) (same-size s.atr a b f g) h) in
       omega (arith, small, big)
 
   -- ---- one text
 
   one-simulated : (t u : List ℕ) (p q : Status) → Simulates s t p → Simulates s u q → (t ≡ u) × (p ≡ q)
   one-simulated t u p q (unusable a f text ended) (unusable b g other different) =
-      (text ∙ ap refused_as_text (same-name a b f g) ∙ sym other, ended ∙ sym different)
-  one-simulated t u p q (unusable a f text ended) (whole b r g end small other different) = absurd (apart b a g f)
-  one-simulated t u p q (unusable a f text ended) (too_large b g long other different) = absurd (apart b a g f)
-  one-simulated t u p q (whole a r f end small text ended) (unusable b g other different) = absurd (apart a b f g)
+      (text ∙ ap refused_as_text (same-name s.atr a b f g) ∙ sym other, ended ∙ sym different)
+  one-simulated t u p q (unusable a f text ended) (whole b r g end small other different) = absurd (apart s.atr b a g f)
+  one-simulated t u p q (unusable a f text ended) (too_large b g long other different) = absurd (apart s.atr b a g f)
+  one-simulated t u p q (whole a r f end small text ended) (unusable b g other different) = absurd (apart s.atr a b f g)
   one-simulated t u p q (whole a r f end small text ended) (whole b v g also little other different) =
       (text ∙ ap text-of (same-end a b r v f g end also) ∙ sym other, ended ∙ sym different)
   one-simulated t u p q (whole a r f end small text ended) (too_large b g long other different) =
       absurd (too-long-for a b r f g end small long)
-  one-simulated t u p q (too_large a f long text ended) (unusable b g other different) = absurd (apart a b f g)
+  one-simulated t u p q (too_large a f long text ended) (unusable b g other different) = absurd (apart s.atr a b f g)
   one-simulated t u p q (too_large a f long text ended) (whole b r g end small other different) =
       absurd (too-long-for b a r g f end small long)
   one-simulated t u p q (too_large a f long text ended) (too_large b g large other different) =
@@ -107,13 +124,6 @@ module _ (s : Session) where
   at-end ifsc r f end t p (over long text ended) =
       too_large ifsc f (λ q also. subst (λ (x : Recording). largest_file < length (text-of x))
       (one-end s ifsc r q end also) long) text ended
-
-  some-file : (e : ExchangeParts) → (length (exchange_text e) ≡ largest_file)
-      ⊎ ((length (exchange_text e) < largest_file) ⊎ (largest_file < length (exchange_text e)))
-      → (t : List ℕ) × (p : Status) × IsFile e t p
-  some-file e (inl same) = (exchange_text e, status.Accepted, fits (omega (arith, same)) refl refl)
-  some-file e (inr (inl small)) = (exchange_text e, status.Accepted, fits (omega (arith, small)) refl refl)
-  some-file e (inr (inr long)) = (fault_text TooLarge, status.Fault, over long refl refl)
 
   some-ended : (ifsc : ℕ) → IsFound s.atr (Ok ifsc) → (o : Option Recording)
       → simulated largest_file s (start s) (new_recording s.atr ifsc) ≡ o

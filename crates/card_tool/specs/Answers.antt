@@ -1,5 +1,5 @@
 -- What the program answers: one text and one status.
-use Rattle.std.specs.Prelude.{◌≡◌, ◌≢◌, ◌<◌, ◌++◌, ℕ, ◌⊎◌, List, [], Option, codes, length, take, Result, Ok, Err, MatchResult}
+use Rattle.std.specs.Prelude.{◌≡◌, ◌<◌, ◌++◌, ℕ, ◌⊎◌, List, Option, codes, length, take, Result, Ok, Err, MatchResult}
 use Rattle.std.specs.Io.KnownBytes.{Appends}
 use Rattle.octet_core.specs.Failures.{HasFailed}
 use Rattle.card_kinds.specs.Verdicts.{Checks, Shows, Tidies, IsFilled}
@@ -7,8 +7,10 @@ use Rattle.chain_core.specs.Chain.{chain_blocks}
 use Rattle.card_kinds.specs.ChainTexts.{blocks_text}
 use Rattle.card_words.specs.Texts.{fault_text}
 use Rattle.chain_core.specs.Cut.{cut_of}
-use Rattle.card_tool.specs.ExchangeTexts.{Draws, Lists, Migrates, Replays}
+use Rattle.card_tool.specs.ExchangeTexts.{TellsFile}
 use Rattle.card_tool.specs.SimulationTexts.{Simulates, SimulatesLines}
+use Rattle.card_tool.specs.RecordTexts.{Records}
+use Rattle.json_lines.specs.Answers.{json_text}
 use Rattle.card_tool.specs.Files.{ReadsWhole}
 use Rattle.card_tool.specs.Lines.{all_lines, line_octets, AreTold}
 use Rattle.card_words.specs.Given.{octets_given}
@@ -22,14 +24,14 @@ use Rattle.card_words.specs.declared.fault.Fault.{Fault}
 use Rattle.card_words.specs.declared.fault.Fault.TheVariants.{Memory}
 use Rattle.card_kinds.specs.declared.answer.Answer.{Answer}
 use Rattle.card_words.specs.declared.request.Aim.{Aim}
-use Rattle.card_words.specs.declared.request.Aim.TheVariants.{Check, Show, Note}
+use Rattle.card_words.specs.declared.request.Aim.TheVariants.{Check, Show, Note, CheckJson, ShowJson}
 use Rattle.card_words.specs.declared.request.Asked.{Asked}
 use Rattle.card_words.specs.declared.request.Asked.TheVariants.{Once, Lines}
 use Rattle.card_words.specs.declared.request.Expected.{Expected}
 use Rattle.card_words.specs.declared.request.Kind.{Kind}
 use Rattle.notes.specs.Noted.{IsNoted, without_notes}
 use Rattle.card_words.specs.declared.request.Request.{Request}
-use Rattle.card_words.specs.declared.request.Request.TheVariants.{BuildChain, BuildTidy, BuildFill, Tell, Replay, Migrate, Apdus, Draw, Simulate, SimulateLines, Help, Version}
+use Rattle.card_words.specs.declared.request.Request.TheVariants.{BuildChain, BuildTidy, BuildFill, Tell, File, Record, Simulate, SimulateLines, Help, Version}
 use Rattle.card_words.specs.declared.request.Task.{Task}
 
 -- what octets come to, or the fault for which there are none
@@ -37,35 +39,40 @@ abbrev pub IsToldOf : (List ℕ → List ℕ → Status → Type 0) → Result (
 IsToldOf Told octets text ended = MatchResult octets (λ b. Told b text ended)
     (λ fault. (text ≡ fault_text fault) × (ended ≡ status.Fault))
 
--- The value with notes after its lines. Cut at its notes it is what `show` says without them, and a refusal has none.
--- Which words the notes have is open.
+-- The value with notes after its lines, or a refusal with one. Cut at its notes the text is what `show` says without
+-- them, and a fault has none. Which words the notes have is open.
 pub record ShowsNoted (kind : Kind) (expected : Expected) (b text : List ℕ) (ended : Status) : Type 0 where
   pub plain : List ℕ
   pub is_shown : Shows kind expected b plain ended
   pub is_noted : IsNoted plain text
   pub is_cut : without_notes text ≡ plain
-  pub unnoted : ended ≢ status.Accepted → text ≡ plain
+  pub unnoted : ended ≡ status.Fault → text ≡ plain
 
--- what is told of octets
+-- what is told of octets, of which an object of JSON may still be made
 abbrev pub Tells : Aim → Expected → List ℕ → List ℕ → Status → Type 0
 Tells Check expected = Checks expected.kind expected
 Tells Show expected = Shows expected.kind expected
 Tells Note expected = ShowsNoted expected.kind expected
+Tells CheckJson expected = Checks expected.kind expected
+Tells ShowJson expected = Shows expected.kind expected
 
 abbrev pub IsTold : Task → List ℕ → List ℕ → Status → Type 0
 IsTold task = Tells task.aim task.expected
 
--- what comes after the answer to a line: one line is answered by one, and a value by several and an empty one
-abbrev pub line_end : Aim → List ℕ
-line_end Check = []
-line_end Show = codes "\n"
-line_end Note = codes "\n"
+-- how a line is answered by what is told of it: a check by one line, a value by several and an empty one, and each by
+-- one as an object of JSON
+abbrev pub line_text : Aim → List ℕ → List ℕ
+line_text Check told = told
+line_text Show told = told ++ codes "\n"
+line_text Note told = told ++ codes "\n"
+line_text CheckJson told = json_text told
+line_text ShowJson told = json_text told
 
 -- the text and the status of one line
 pub record IsLineTold (task : Task) (line text : List ℕ) (ended : Status) : Type 0 where
   pub told : List ℕ
   pub is_told : IsToldOf (IsTold task) (line_octets line) told ended
-  pub is_text : text ≡ told ++ line_end task.aim
+  pub is_text : text ≡ line_text task.aim told
 
 abbrev pub AreLinesTold : Task → List (List ℕ) → List ℕ → Status → Type 0
 AreLinesTold task lines text ended = AreTold (IsLineTold task) lines text ended
@@ -77,10 +84,8 @@ IsAnswerTo (BuildChain ifs number message) file text ended =
     (text ≡ blocks_text (chain_blocks number (cut_of ifs message))) × (ended ≡ status.Accepted)
 IsAnswerTo (BuildTidy given) file text ended = IsToldOf Tidies (octets_given given file) text ended
 IsAnswerTo (BuildFill list known) file text ended = IsFilled list known text ended
-IsAnswerTo (Replay side) file text ended = IsToldOf (Replays side) file text ended
-IsAnswerTo Migrate file text ended = IsToldOf Migrates file text ended
-IsAnswerTo Apdus file text ended = IsToldOf Lists file text ended
-IsAnswerTo (Draw drawing) file text ended = IsToldOf (Draws drawing) file text ended
+IsAnswerTo (File task) file text ended = IsToldOf (TellsFile task) file text ended
+IsAnswerTo (Record atr) file text ended = IsToldOf (Records atr) file text ended
 IsAnswerTo (Simulate session) file text ended = Simulates session text ended
 IsAnswerTo (SimulateLines session) file text ended = IsToldOf (SimulatesLines session) file text ended
 IsAnswerTo (Help help) file text ended = (text ≡ help) × (ended ≡ status.Accepted)
@@ -98,6 +103,8 @@ abbrev pub plain_aim : Aim → Aim
 plain_aim Check = Check
 plain_aim Show = Show
 plain_aim Note = Show
+plain_aim CheckJson = CheckJson
+plain_aim ShowJson = ShowJson
 
 abbrev pub plain_task : Task → Task
 plain_task task = record task { aim = plain_aim task.aim }

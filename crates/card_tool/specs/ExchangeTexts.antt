@@ -4,6 +4,8 @@ use Rattle.card_words.specs.declared.request.End.{End}
 use Rattle.card_words.specs.declared.request.End.TheVariants as end
 use Rattle.card_words.specs.declared.request.Drawing.{Drawing}
 use Rattle.card_words.specs.declared.request.Drawing.TheVariants.{Ladder, Picture}
+use Rattle.card_words.specs.declared.request.FileTask.{FileTask}
+use Rattle.card_words.specs.declared.request.FileTask.TheVariants.{Replay, Migrate, Apdus, Draw}
 use Rattle.apdu_list.specs.Listing.{apdus_text}
 use Rattle.drawings.specs.Ladder.{ladder_text}
 use Rattle.drawings.specs.Picture.{picture_text}
@@ -65,24 +67,19 @@ IsReplayedAt end.Terminal e = IsReplayed e side.Terminal
 IsReplayedAt end.Card e = IsReplayed e side.Card
 IsReplayedAt end.Both e = AreReplayed e
 
--- what a file's octets come to, where its exchange is told so; or their first fault
-abbrev pub Tells : (ExchangeParts → List ℕ → Status → Type 0) → List ℕ → List ℕ → Status → Type 0
-Tells Told file text ended = MatchResult (exchange_said file) (λ e. Told e text ended)
-    (λ fault. (text ≡ file_fault_text fault) × (ended ≡ status.Fault))
-
-abbrev pub Replays : End → List ℕ → List ℕ → Status → Type 0
-Replays which = Tells (λ e. IsReplayedAt which e)
-
-abbrev pub Migrates : List ℕ → List ℕ → Status → Type 0
-Migrates = Tells (λ e text ended. (text ≡ exchange_text (migrated e)) × (ended ≡ status.Accepted))
-
-abbrev pub Lists : List ℕ → List ℕ → Status → Type 0
-Lists = Tells (λ e text ended. (text ≡ apdus_text e.lines) × (ended ≡ status.Accepted))
-
 -- an exchange, drawn so
 abbrev pub drawn : Drawing → ExchangeParts → List ℕ
 drawn Ladder e = ladder_text e
 drawn Picture e = picture_text e
 
-abbrev pub Draws : Drawing → List ℕ → List ℕ → Status → Type 0
-Draws drawing = Tells (λ e text ended. (text ≡ drawn drawing e) × (ended ≡ status.Accepted))
+-- what is told of an exchange
+abbrev pub IsToldSo : FileTask → ExchangeParts → List ℕ → Status → Type 0
+IsToldSo (Replay which) e = IsReplayedAt which e
+IsToldSo Migrate e = λ text ended. (text ≡ exchange_text (migrated e)) × (ended ≡ status.Accepted)
+IsToldSo Apdus e = λ text ended. (text ≡ apdus_text e.lines) × (ended ≡ status.Accepted)
+IsToldSo (Draw drawing) e = λ text ended. (text ≡ drawn drawing e) × (ended ≡ status.Accepted)
+
+-- what a file's octets come to: what is told of their exchange, or their first fault
+abbrev pub TellsFile : FileTask → List ℕ → List ℕ → Status → Type 0
+TellsFile task file text ended = MatchResult (exchange_said file) (λ e. IsToldSo task e text ended)
+    (λ fault. (text ≡ file_fault_text fault) × (ended ≡ status.Fault))

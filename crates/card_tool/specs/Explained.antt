@@ -4,7 +4,7 @@
 -- counts of its calls that failed.
 use Rattle.std.specs.Prelude.{◌≡◌, ◌⊎◌, ◌++◌, ℕ, List, [], Option, Some, None, Result, Ok, Err, IfOk, IsOkAnd, MatchResult, String, string_bytes, false}
 use Rattle.std.specs.declared.alloc.Global.{Global}
-use Rattle.command_line.specs.Explain.{asks_to_explain}
+use Rattle.command_line.specs.Asked.{asks_to_explain}
 use Rattle.card_words.specs.Given.{octets_given}
 use Rattle.card_words.specs.Texts.{fault_text}
 use Rattle.card_words.specs.Words.{IsRead, NeedsFile}
@@ -17,8 +17,10 @@ use Rattle.card_words.specs.declared.given.Given.TheVariants.{Read}
 use Rattle.card_words.specs.declared.request.Asked.TheVariants.{Once}
 use Rattle.card_words.specs.declared.request.End.{End}
 use Rattle.card_words.specs.declared.request.End.TheVariants as end
+use Rattle.card_words.specs.declared.request.FileTask.{FileTask}
+use Rattle.card_words.specs.declared.request.FileTask.TheVariants.{Replay}
 use Rattle.card_words.specs.declared.request.Request.{Request}
-use Rattle.card_words.specs.declared.request.Request.TheVariants.{BuildTidy, BuildFill, Tell, Replay, Migrate, Apdus, Draw, Simulate, SimulateLines}
+use Rattle.card_words.specs.declared.request.Request.TheVariants.{BuildTidy, BuildFill, Tell, File, Record, Simulate, SimulateLines}
 use Rattle.card_kinds.specs.ForestTexts.{forest_codec}
 use Rattle.card_kinds.specs.ListTexts.{list_codec}
 use Rattle.card_kinds.specs.declared.answer.Answer.{Answer}
@@ -27,37 +29,20 @@ use Rattle.card_kinds.specs.declared.status.Status.TheVariants as status
 use Rattle.exchange_text.specs.Exchange.{ExchangeParts}
 use Rattle.exchange_text.specs.Reading.{exchange_said}
 use Rattle.exchange_core.specs.Replay as replay
-use Rattle.exchange_text.specs.declared.fault.ExchangeFault.{ExchangeFault}
-use Rattle.exchange_text.specs.declared.fault.ExchangeFault.TheVariants.{Header, End as EndAt, Word, Hex, Falls, Memory}
 use Rattle.exchange_core.specs.declared.replaying.Side.{Side}
 use Rattle.exchange_core.specs.declared.replaying.Side.TheVariants as side
 use Rattle.tlv_core.specs.Fill.{HasDuplicate}
 use Rattle.tlv_core.specs.declared.known.Known.{Known}
-use Rattle.explainer.specs.Notes.{large_note, line_note, offsets_note}
+use Rattle.explainer.specs.Notes.{large_note, offsets_note}
 use Rattle.card_tool.specs.Answers.{IsAnswerTo, IsRight, IsRightTo}
 use Rattle.card_tool.specs.Files.{largest_file, IsTaken, ReadsWhole}
 use Rattle.card_tool.specs.Judged.{IsKindNote, IsNoteBy}
 use Rattle.card_tool.specs.declared.explained.Taken.{Taken}
+use Rattle.card_tool.specs.FileNotes.{line_of, IsLineNote}
+use Rattle.card_tool.specs.RecordTexts.{IsRecordNote}
 use Rattle.card_tool.specs.SimulationTexts.{IsLinesNote, IsSimulationNote}
 
 -- ---- notes on files
-
--- the line that a fault of a file is in
-abbrev pub line_of : ExchangeFault → ℕ
-line_of Header = 1
-line_of (EndAt line) = line
-line_of (Word line) = line
-line_of (Hex line) = line
-line_of (Falls line) = line
-line_of Memory = 0
-
--- A note that shows the line with this number. What of its text is shown, and what is said of it, is open.
-abbrev pub IsLineNote : ℕ → List ℕ → Type 0
-IsLineNote number note = (shown : List ℕ) × (what : List ℕ) × (note ≡ line_note number shown what)
-
--- the note on a text that is to be a file: on the line with its first fault
-abbrev pub IsFileNote : List ℕ → List ℕ → Type 0
-IsFileNote text note = MatchResult (exchange_said text) (λ e. note ≡ []) (λ fault. IsLineNote (line_of fault) note)
 
 -- the note on an exchange that is replayed: on the first line that the end does otherwise
 pub data IsDifferenceNote (e : ExchangeParts) (which : Side) (note : List ℕ) : Type 0 where
@@ -78,9 +63,14 @@ IsNoteAt end.Terminal e = IsDifferenceNote e side.Terminal
 IsNoteAt end.Card e = IsDifferenceNote e side.Card
 IsNoteAt end.Both e = AreDifferenceNotes e
 
--- the same of a text that is to be a file
-abbrev pub IsReplayNote : End → List ℕ → List ℕ → Type 0
-IsReplayNote end text note = MatchResult (exchange_said text) (λ e. IsNoteAt end e note)
+-- the note on what is told of an exchange: only one that is replayed has any
+abbrev pub IsNoteSo : FileTask → ExchangeParts → List ℕ → Type 0
+IsNoteSo (Replay end) e = IsNoteAt end e
+IsNoteSo _ e = λ note. note ≡ []
+
+-- the note on a text that is to be a file: that on its exchange, or on the line with its first fault
+abbrev pub IsFileNote : FileTask → List ℕ → List ℕ → Type 0
+IsFileNote task text note = MatchResult (exchange_said text) (λ e. IsNoteSo task e note)
     (λ fault. IsLineNote (line_of fault) note)
 
 -- ---- notes on what a request is about
@@ -111,10 +101,8 @@ abbrev pub IsNoteTo : Request → Result (List ℕ) Fault → List ℕ → Type 
 IsNoteTo (Tell task given) file note = IsNoteOn given file (IsKindNote task.expected.kind task.expected) note
 IsNoteTo (BuildTidy given) file note = IsNoteOn given file (IsNoteBy forest_codec) note
 IsNoteTo (BuildFill list known) file note = IsFillNote list known note
-IsNoteTo (Replay end) file note = IsOkAnd file (λ text. IsReplayNote end text note)
-IsNoteTo Migrate file note = IsOkAnd file (λ text. IsFileNote text note)
-IsNoteTo Apdus file note = IsOkAnd file (λ text. IsFileNote text note)
-IsNoteTo (Draw drawing) file note = IsOkAnd file (λ text. IsFileNote text note)
+IsNoteTo (File task) file note = IsOkAnd file (λ text. IsFileNote task text note)
+IsNoteTo (Record atr) file note = IsOkAnd file (λ text. IsRecordNote atr text note)
 IsNoteTo (Simulate session) file note = IsSimulationNote session note
 IsNoteTo (SimulateLines session) file note = IsOkAnd file (λ text. IsLinesNote session text note)
 IsNoteTo _ file note = ⊥

@@ -12,8 +12,9 @@ use Rattle.card_words.specs.declared.request.Task.{Task}
 use Rattle.card_kinds.specs.declared.status.Status.{Status}
 use Rattle.card_kinds.specs.declared.status.Status.TheVariants as status
 use Rattle.card_tool.specs.Answers.{IsWritten, Writes}
-use Rattle.card_tool.specs.Explained.{IsRightWith}
+use Rattle.card_tool.specs.InJson.{IsRightAsked}
 use Rattle.card_tool.specs.LineAnswers.{AskForNoLines, WritesLines}
+use Rattle.card_tool.specs.LineNotes.{telling_of}
 
 -- no words could be had: memory ran out, or one is no UTF-8
 abbrev pub IsWithoutWords : Fault → Type 0
@@ -23,9 +24,9 @@ IsWithoutWords fault = (fault ≡ Memory) ⊎ (fault ≡ Words)
 pub record Runs (words : List (List ℕ)) (held left : Option (List ℕ)) (before after : ℕ) (old new : Option (List ℕ))
     (unwritten failures : ℕ) (ended : Status) : Type 0 where
   pub written : AskForNoLines words
-      → Writes (IsRightWith words held left before after) old new unwritten failures ended
+      → Writes (IsRightAsked words held left before after) old new unwritten failures ended
   pub lines : (task : Task) → AskForLines task words
-      → WritesLines task held left before after old new unwritten failures ended
+      → WritesLines (telling_of words task) held left before after old new unwritten failures ended
 
 -- The text that is written and the status belong together: both are those of some words, or of a fault without any.
 pub data Does (held left : Option (List ℕ)) (before after : ℕ) (old new : Option (List ℕ)) (unwritten failures : ℕ)

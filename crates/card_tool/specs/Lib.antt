@@ -2,9 +2,13 @@ pub mod Files
 pub mod Lines
 pub mod ExchangeTexts
 pub mod SimulationTexts
+pub mod FileNotes
+pub mod RecordTexts
 pub mod Conversations
 pub mod Answers
 pub mod LineAnswers
+pub mod LineNotes
 pub mod Judged
 pub mod Explained
+pub mod InJson
 pub mod Hosts

@@ -9,7 +9,9 @@ use Rattle.card_words.specs.Texts.{fault_text}
 use Rattle.card_words.specs.Words.{AskForLines}
 use Rattle.card_words.specs.declared.fault.Fault.TheVariants.{Memory, Read, TooLarge}
 use Rattle.card_words.specs.declared.request.Task.{Task}
-use Rattle.card_tool.specs.Answers.{AreLinesTold, Writes}
+use Rattle.card_tool.specs.declared.telling.Telling.{Telling}
+use Rattle.card_tool.specs.Answers.{Writes}
+use Rattle.card_tool.specs.LineNotes.{AreLinesSaid}
 use Rattle.card_tool.specs.Conversations.{Event, Happens, heard, told, unheard, untold}
 use Rattle.card_tool.specs.Files.{largest_file}
 use Rattle.card_tool.specs.Lines.{all_lines, ended_lines, rest_after}
@@ -27,65 +29,65 @@ abbrev pub most_read : ℕ
 most_read = 2 ^ 64 - 1
 
 -- What reading lines comes to.
-pub data TellsLines (task : Task) (held left : Option (List ℕ)) (before after : ℕ) (text : List ℕ)
+pub data TellsLines (telling : Telling) (held left : Option (List ℕ)) (before after : ℕ) (text : List ℕ)
     (ended : Status) : Type 0 where
   -- all lines of the octets that the reader had
   whole : (read : List ℕ) → Consumes held left read → IsAtEnd left → after ≡ before
-      → AreLinesTold task (all_lines read) text ended → TellsLines task held left before after text ended
+      → AreLinesSaid telling (all_lines read) text ended → TellsLines telling held left before after text ended
   -- a call of the reader failed: the lines that ended before, and the line of that fault
   failed : (read told : List ℕ) (so_far : Status) → Consumes held left read → after ≡ next_count before
-      → AreLinesTold task (ended_lines read) told so_far
-      → text ≡ told ++ fault_text Read → ended ≡ status.Fault → TellsLines task held left before after text ended
+      → AreLinesSaid telling (ended_lines read) told so_far
+      → text ≡ told ++ fault_text Read → ended ≡ status.Fault → TellsLines telling held left before after text ended
   -- memory ran out: the first lines, and the line of that fault
   wanting : (read told : List ℕ) (so_far : Status) (done more : List (List ℕ)) → Consumes held left read
-      → after ≡ before → all_lines read ≡ done ++ more → AreLinesTold task done told so_far
-      → text ≡ told ++ fault_text Memory → ended ≡ status.Fault → TellsLines task held left before after text ended
+      → after ≡ before → all_lines read ≡ done ++ more → AreLinesSaid telling done told so_far
+      → text ≡ told ++ fault_text Memory → ended ≡ status.Fault → TellsLines telling held left before after text ended
   -- so many octets came that they can't be counted
   endless : (read told : List ℕ) (so_far : Status) → Consumes held left read → after ≡ before → most_read ≤ length read
-      → AreLinesTold task (ended_lines read) told so_far
+      → AreLinesSaid telling (ended_lines read) told so_far
       → text ≡ told ++ fault_text TooLarge → ended ≡ status.Fault
-      → TellsLines task held left before after text ended
+      → TellsLines telling held left before after text ended
 
 -- What writing the answers to lines comes to.
-pub data WritesLines (task : Task) (held left : Option (List ℕ)) (before after : ℕ) (old new : Option (List ℕ))
+pub data WritesLines (telling : Telling) (held left : Option (List ℕ)) (before after : ℕ) (old new : Option (List ℕ))
     (unwritten failures : ℕ) (ended : Status) : Type 0 where
   -- one such text is written, or the writer failed within it
-  answered : Writes (TellsLines task held left before after) old new unwritten failures ended
-      → WritesLines task held left before after old new unwritten failures ended
+  answered : Writes (TellsLines telling held left before after) old new unwritten failures ended
+      → WritesLines telling held left before after old new unwritten failures ended
   -- the writer failed within the text of the lines that had ended, and nothing was read after that
   stopped : (read text : List ℕ) (so_far : Status) → Consumes held left read → after ≡ before
-      → AreLinesTold task (ended_lines read) text so_far
+      → AreLinesSaid telling (ended_lines read) text so_far
       → (count : ℕ) → count < length text → Appends old new (take count text) → HasFailed unwritten failures
-      → ended ≡ status.Fault → WritesLines task held left before after old new unwritten failures ended
+      → ended ≡ status.Fault → WritesLines telling held left before after old new unwritten failures ended
 
 -- ---- the lines so far
 
 -- What is kept after octets were read: the line under way, of which no more than one octet past the limit, and what its lines are told by, of which some is written.
-pub record HasSaid (task : Task) (read written line text : List ℕ) (ended : Status) : Type 0 where
-  pub is_told : AreLinesTold task (ended_lines read) (written ++ text) ended
+pub record HasSaid (telling : Telling) (read written line text : List ℕ) (ended : Status) : Type 0 where
+  pub is_told : AreLinesSaid telling (ended_lines read) (written ++ text) ended
   pub is_line : line ≡ take (largest_file + 1) (rest_after [] read)
 
 -- the first of the lines are told
-pub record HasBegun (task : Task) (lines : List (List ℕ)) (text : List ℕ) : Type 0 where
+pub record HasBegun (telling : Telling) (lines : List (List ℕ)) (text : List ℕ) : Type 0 where
   pub done : List (List ℕ)
   pub more : List (List ℕ)
   pub so_far : Status
   pub is_front : lines ≡ done ++ more
-  pub is_told : AreLinesTold task done text so_far
+  pub is_told : AreLinesSaid telling done text so_far
 
 -- what is left to be written at the end of the input, where some is written
-pub data IsRest (task : Task) (lines : List (List ℕ)) (written text : List ℕ) (ended : Status) : Type 0 where
-  all_told : AreLinesTold task lines (written ++ text) ended → IsRest task lines written text ended
-  first_told : (told : List ℕ) → HasBegun task lines (written ++ told) → text ≡ told ++ fault_text Memory
-      → ended ≡ status.Fault → IsRest task lines written text ended
+pub data IsRest (telling : Telling) (lines : List (List ℕ)) (written text : List ℕ) (ended : Status) : Type 0 where
+  all_told : AreLinesSaid telling lines (written ++ text) ended → IsRest telling lines written text ended
+  first_told : (told : List ℕ) → HasBegun telling lines (written ++ told) → text ≡ told ++ fault_text Memory
+      → ended ≡ status.Fault → IsRest telling lines written text ended
 
 -- ---- in a conversation
 --
 -- read and written are the octets that were heard, and those of the texts that were told.
 
 -- the lines that ended in what was heard are answered, each by its line, and nothing else is told
-abbrev pub IsUpToDate : Task → List ℕ → List ℕ → Type 0
-IsUpToDate task read written = (so_far : Status) × AreLinesTold task (ended_lines read) written so_far
+abbrev pub IsUpToDate : Telling → List ℕ → List ℕ → Type 0
+IsUpToDate telling read written = (so_far : Status) × AreLinesSaid telling (ended_lines read) written so_far
 
 -- These events tell a text, in one piece or more, and nothing is heard among them: all of it, and the program ends as
 -- is right, or as much as could be told.
@@ -99,38 +101,38 @@ AreTelling text right (heard octets ∷ events) ended = ⊥
 AreTelling text right (unheard ∷ events) ended = ⊥
 
 -- The last events of a conversation about lines.
-pub data Closes (task : Task) (read written : List ℕ) (events : List Event) (ended : Status) : Type 0 where
+pub data Closes (telling : Telling) (read written : List ℕ) (events : List Event) (ended : Status) : Type 0 where
   -- the input ended, and what is left of all lines is told, of a last one without an end too
   over : (more : List Event) (text : List ℕ) (right : Status) → events ≡ heard [] ∷ more
-      → IsUpToDate task read written → IsRest task (all_lines read) written text right
-      → AreTelling text right more ended → Closes task read written events ended
+      → IsUpToDate telling read written → IsRest telling (all_lines read) written text right
+      → AreTelling text right more ended → Closes telling read written events ended
   -- a call to hear more failed, and the line of that fault is told
-  unread : (more : List Event) → events ≡ unheard ∷ more → IsUpToDate task read written
-      → AreTelling (fault_text Read) status.Fault more ended → Closes task read written events ended
+  unread : (more : List Event) → events ≡ unheard ∷ more → IsUpToDate telling read written
+      → AreTelling (fault_text Read) status.Fault more ended → Closes telling read written events ended
   -- memory ran out: the first of the lines that ended are told, and the line of that fault
-  out_of_memory : (text : List ℕ) → HasBegun task (ended_lines read) (written ++ text)
-      → AreTelling (text ++ fault_text Memory) status.Fault events ended → Closes task read written events ended
+  out_of_memory : (text : List ℕ) → HasBegun telling (ended_lines read) (written ++ text)
+      → AreTelling (text ++ fault_text Memory) status.Fault events ended → Closes telling read written events ended
   -- so many octets were heard that they can't be counted
-  uncounted : (text : List ℕ) → most_read ≤ length read → IsUpToDate task read (written ++ text)
-      → AreTelling (text ++ fault_text TooLarge) status.Fault events ended → Closes task read written events ended
+  uncounted : (text : List ℕ) → most_read ≤ length read → IsUpToDate telling read (written ++ text)
+      → AreTelling (text ++ fault_text TooLarge) status.Fault events ended → Closes telling read written events ended
   -- the answers to the lines that ended couldn't be told
   unwritten : (text : List ℕ) (count : ℕ) → events ≡ untold text count ∷ []
-      → IsUpToDate task read (written ++ text) → ended ≡ status.Fault
-      → Closes task read written events ended
+      → IsUpToDate telling read (written ++ text) → ended ≡ status.Fault
+      → Closes telling read written events ended
 
 -- A conversation about lines, of which so much was heard and told before. More is heard only where the lines that ended
 -- before are answered and nothing else was told.
-abbrev pub AnswersLines : Task → List ℕ → List ℕ → List Event → Status → Type 0
-AnswersLines task read written [] ended = Closes task read written [] ended
-AnswersLines task read written (heard octets ∷ events) ended =
-    Closes task read written (heard octets ∷ events) ended
-    ⊎ ((0 < length octets) × IsUpToDate task read written
-    × AnswersLines task (read ++ octets) written events ended)
-AnswersLines task read written (told text ∷ events) ended = Closes task read written (told text ∷ events) ended
-    ⊎ AnswersLines task read (written ++ text) events ended
-AnswersLines task read written (unheard ∷ events) ended = Closes task read written (unheard ∷ events) ended
-AnswersLines task read written (untold text count ∷ events) ended =
-    Closes task read written (untold text count ∷ events) ended
+abbrev pub AnswersLines : Telling → List ℕ → List ℕ → List Event → Status → Type 0
+AnswersLines telling read written [] ended = Closes telling read written [] ended
+AnswersLines telling read written (heard octets ∷ events) ended =
+    Closes telling read written (heard octets ∷ events) ended
+    ⊎ ((0 < length octets) × IsUpToDate telling read written
+    × AnswersLines telling (read ++ octets) written events ended)
+AnswersLines telling read written (told text ∷ events) ended = Closes telling read written (told text ∷ events) ended
+    ⊎ AnswersLines telling read (written ++ text) events ended
+AnswersLines telling read written (unheard ∷ events) ended = Closes telling read written (unheard ∷ events) ended
+AnswersLines telling read written (untold text count ∷ events) ended =
+    Closes telling read written (untold text count ∷ events) ended
 
 -- a text that is right was told since another conversation
 pub record Tells {A : Type 0} (Right : List ℕ → Status → Type 0) (old new : A → List Event → Type 0) (ended : Status) :
@@ -143,11 +145,11 @@ pub record Tells {A : Type 0} (Right : List ℕ → Status → Type 0) (old new 
   pub are_telling : AreTelling text right events ended
 
 -- the lines heard since another conversation were answered
-pub record HasAnswered {A : Type 0} (task : Task) (old new : A → List Event → Type 0) (ended : Status) :
+pub record HasAnswered {A : Type 0} (telling : Telling) (old new : A → List Event → Type 0) (ended : Status) :
     Type 0 where
   pub events : List Event
   pub happened : Happens old new events
-  pub are_answers : AnswersLines task [] [] events ended
+  pub are_answers : AnswersLines telling [] [] events ended
 
 -- ---- where more is heard
 

@@ -2,11 +2,11 @@
 
 ghost use Rattle.std.specs.Prelude.{◌≡◌, ◌≢◌, ◌++◌, IfOk, IsOkAnd, string_bytes};
 ghost use Rattle.apdu_list.specs.Listing.{apdus_text};
-ghost use Rattle.exchange_text.specs.Exchange.{migrated};
 ghost use Rattle.exchange_text.specs.Text.{exchange_text};
 ghost use Rattle.exchange_text.specs.declared.fault.ExchangeFault.TheVariants.{Memory};
-ghost use Rattle.card_tool.specs.ExchangeTexts.{both_text, drawn, file_fault_text, Draws, IsOutcome, IsReplayed, IsReplayedAt, Lists, Migrates, Replays};
-ghost use Rattle.card_tool.specs.Explained.{line_of, IsDifferenceNote, IsFileNote, IsLineNote, IsNoteAt, IsReplayNote};
+ghost use Rattle.card_tool.specs.ExchangeTexts.{both_text, drawn, file_fault_text, IsOutcome, IsReplayed, IsReplayedAt, IsToldSo, TellsFile};
+ghost use Rattle.card_tool.specs.Explained.{IsDifferenceNote, IsFileNote, IsNoteAt, IsNoteSo};
+ghost use Rattle.card_tool.specs.FileNotes.{line_of, IsLineNote};
 ghost use Rattle.card_tool.specs.Judged.{AreOf};
 ghost use Rattle.card_tool.specs.Lines.{worse};
 ghost use Rattle.card_kinds.specs.declared.status.Status.TheVariants as ended;
@@ -16,7 +16,7 @@ use crate::judged::{WithNote, joined};
 use crate::lines::worse;
 use apdu_list::list_apdus;
 use card_kinds::{Answer, Status};
-use card_words::{Drawing, End};
+use card_words::{Drawing, End, FileTask};
 use drawings::{draw_ladder, draw_picture};
 use exchange_core::{
     Exchange, ExchangeFault, ReplayFault, Side, migrate, read_exchange, replay, write_exchange,
@@ -24,14 +24,58 @@ use exchange_core::{
 use octet_core::Octets;
 use std::alloc::{AllocError, Global};
 
-/// Whether the end does what the file says, or the first line at which it gives something else, each of both
-/// ends where both are named; or the file's fault.
-pub(crate) fn replayed(alloc: Global, file: Octets, end: End) -> Result<Answer, AllocError>
-    ensures { IfOk result (λ answer. Replays end file answer.text answer.status) }
+/// What is told of the file, or its fault.
+pub(crate) fn told(alloc: Global, file: Octets, task: FileTask) -> Result<Answer, AllocError>
+    ensures { IfOk result (λ answer. TellsFile task file answer.text answer.status) }
 {
     match read_exchange(alloc, file.get()) {
-        Ok(exchange) => replayed_at(alloc, &exchange, end),
+        Ok(exchange) => told_of(alloc, exchange, task),
         Err(fault) => refused(alloc, fault),
+    }
+}
+
+/// What is told of an exchange.
+fn told_of(alloc: Global, exchange: Exchange, task: FileTask) -> Result<Answer, AllocError>
+    ensures { IfOk result (λ answer. IsToldSo task exchange answer.text answer.status) }
+{
+    match task {
+        FileTask::Replay(end) => replayed_at(alloc, &exchange, end),
+        FileTask::Migrate => written(alloc, &migrate(exchange)),
+        FileTask::Apdus => listed(alloc, &exchange),
+        FileTask::Draw(drawing) => drawn(alloc, &exchange, drawing),
+    }
+}
+
+/// The same of the file, with a note on the first line that an end does otherwise, or on that of the file's fault.
+pub(crate) fn told_with_note(
+    alloc: Global,
+    file: &[u8],
+    task: FileTask,
+) -> Result<WithNote, AllocError>
+    ensures { IfOk result (AreOf (TellsFile task file.now) (IsFileNote task file.now)) }
+{
+    match read_exchange(alloc, file) {
+        Ok(exchange) => told_of_with_note(alloc, file, exchange, task),
+        Err(fault) => refused_with_note(alloc, file, fault),
+    }
+}
+
+/// What is told of an exchange, with a note where it is replayed.
+fn told_of_with_note(
+    alloc: Global,
+    file: &[u8],
+    exchange: Exchange,
+    task: FileTask,
+) -> Result<WithNote, AllocError>
+    ensures { IfOk result (AreOf (IsToldSo task exchange) (IsNoteSo task exchange)) }
+{
+    match task {
+        FileTask::Replay(end) => noted_at(alloc, file, &exchange, end),
+        FileTask::Migrate | FileTask::Apdus | FileTask::Draw(_) => {
+            let answer = told_of(alloc, exchange, task)?;
+            let note = Ok(String::new(alloc));
+            Ok(WithNote { answer, note })
+        }
     }
 }
 
@@ -73,20 +117,6 @@ fn both(alloc: Global, terminal: &Answer, card: &Answer) -> Result<Answer, Alloc
         text: Octets::of(text),
         status: worse(terminal.status, card.status),
     })
-}
-
-/// The same, with a note on the first line that an end does otherwise, or on that of the file's fault.
-pub(crate) fn replayed_with_note(
-    alloc: Global,
-    file: &[u8],
-    end: End,
-) -> Result<WithNote, AllocError>
-    ensures { IfOk result (AreOf (Replays end file.now) (IsReplayNote end file.now)) }
-{
-    match read_exchange(alloc, file) {
-        Ok(exchange) => noted_at(alloc, file, &exchange, end),
-        Err(fault) => refused_with_note(alloc, file, fault),
-    }
 }
 
 /// Whether the end that is named does what the exchange says, with a note.
@@ -143,68 +173,8 @@ fn refused_with_note(
     Ok(WithNote { answer, note })
 }
 
-/// The file in the newest version, or its fault.
-pub(crate) fn migrated(alloc: Global, file: Octets) -> Result<Answer, AllocError>
-    ensures { IfOk result (λ answer. Migrates file answer.text answer.status) }
-{
-    match read_exchange(alloc, file.get()) {
-        Ok(exchange) => newest(alloc, exchange),
-        Err(fault) => refused(alloc, fault),
-    }
-}
-
-/// The text of an exchange in the newest version.
-fn newest(alloc: Global, exchange: Exchange) -> Result<Answer, AllocError>
-    ensures text { IfOk result (λ answer. answer.text ≡ exchange_text (migrated exchange)) }
-    ensures status { IfOk result (λ answer. answer.status ≡ ended.Accepted) }
-{
-    written(alloc, &migrate(exchange))
-}
-
-/// The file in the newest version, or its fault, with a note on the line that this is in.
-pub(crate) fn migrated_with_note(alloc: Global, file: &[u8]) -> Result<WithNote, AllocError>
-    ensures { IfOk result (AreOf (Migrates file.now) (IsFileNote file.now)) }
-{
-    match read_exchange(alloc, file) {
-        Ok(exchange) => {
-            let answer = newest(alloc, exchange)?;
-            Ok(WithNote {
-                answer,
-                note: Ok(String::new(alloc)),
-            })
-        }
-        Err(fault) => refused_with_note(alloc, file, fault),
-    }
-}
-
-/// The commands and answers of the file, or its fault.
-pub(crate) fn listed(alloc: Global, file: Octets) -> Result<Answer, AllocError>
-    ensures { IfOk result (λ answer. Lists file answer.text answer.status) }
-{
-    match read_exchange(alloc, file.get()) {
-        Ok(exchange) => list(alloc, &exchange),
-        Err(fault) => refused(alloc, fault),
-    }
-}
-
-/// The commands and answers of the file, or its fault, with a note on the line that this is in.
-pub(crate) fn listed_with_note(alloc: Global, file: &[u8]) -> Result<WithNote, AllocError>
-    ensures { IfOk result (AreOf (Lists file.now) (IsFileNote file.now)) }
-{
-    match read_exchange(alloc, file) {
-        Ok(exchange) => {
-            let answer = list(alloc, &exchange)?;
-            Ok(WithNote {
-                answer,
-                note: Ok(String::new(alloc)),
-            })
-        }
-        Err(fault) => refused_with_note(alloc, file, fault),
-    }
-}
-
 /// The commands and answers of an exchange.
-fn list(alloc: Global, exchange: &Exchange) -> Result<Answer, AllocError>
+fn listed(alloc: Global, exchange: &Exchange) -> Result<Answer, AllocError>
     ensures text { IfOk result (λ answer. answer.text ≡ apdus_text exchange.now.lines) }
     ensures status { IfOk result (λ answer. answer.status ≡ ended.Accepted) }
 {
@@ -215,38 +185,8 @@ fn list(alloc: Global, exchange: &Exchange) -> Result<Answer, AllocError>
     })
 }
 
-/// The file drawn, or its fault.
-pub(crate) fn drawn(alloc: Global, file: Octets, drawing: Drawing) -> Result<Answer, AllocError>
-    ensures { IfOk result (λ answer. Draws drawing file answer.text answer.status) }
-{
-    match read_exchange(alloc, file.get()) {
-        Ok(exchange) => draw(alloc, &exchange, drawing),
-        Err(fault) => refused(alloc, fault),
-    }
-}
-
-/// The file drawn, or its fault, with a note on the line that this is in.
-pub(crate) fn drawn_with_note(
-    alloc: Global,
-    file: &[u8],
-    drawing: Drawing,
-) -> Result<WithNote, AllocError>
-    ensures { IfOk result (AreOf (Draws drawing file.now) (IsFileNote file.now)) }
-{
-    match read_exchange(alloc, file) {
-        Ok(exchange) => {
-            let answer = draw(alloc, &exchange, drawing)?;
-            Ok(WithNote {
-                answer,
-                note: Ok(String::new(alloc)),
-            })
-        }
-        Err(fault) => refused_with_note(alloc, file, fault),
-    }
-}
-
 /// An exchange, drawn.
-fn draw(alloc: Global, exchange: &Exchange, drawing: Drawing) -> Result<Answer, AllocError>
+fn drawn(alloc: Global, exchange: &Exchange, drawing: Drawing) -> Result<Answer, AllocError>
     ensures text { IfOk result (λ answer. answer.text ≡ drawn drawing exchange.now) }
     ensures status { IfOk result (λ answer. answer.status ≡ ended.Accepted) }
 {
@@ -297,7 +237,7 @@ pub(crate) fn written(alloc: Global, exchange: &Exchange) -> Result<Answer, Allo
 }
 
 /// The line of a fault of the file.
-fn refused(alloc: Global, fault: ExchangeFault) -> Result<Answer, AllocError>
+pub(crate) fn refused(alloc: Global, fault: ExchangeFault) -> Result<Answer, AllocError>
     ensures other { IfOk result (λ _. fault ≢ Memory) }
     ensures text { IfOk result (λ answer. answer.text ≡ file_fault_text fault) }
     ensures status { IfOk result (λ answer. answer.status ≡ ended.Fault) }

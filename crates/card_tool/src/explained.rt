@@ -13,11 +13,10 @@ ghost use Rattle.card_words.specs.Words.{AskForFile, IsSized, NeedsFile};
 ghost use Rattle.card_words.specs.declared.request.Request.{Request as AnyRequest};
 ghost use Rattle.command_line.specs.Form.{texts};
 
-use crate::exchange::{drawn_with_note, listed_with_note, migrated_with_note, replayed_with_note};
 use crate::file::{LARGEST_FILE, read_whole};
 use crate::judged::{answer_with_note, filled, joined, tidied};
 use crate::program::answer_to;
-use crate::simulation;
+use crate::{exchange, recording, simulation};
 use card_kinds::Answer;
 use card_words::{Fault, Form, Given, Request, Session};
 use explainer::{large_note, offsets_note, text_note, words_note};
@@ -189,26 +188,12 @@ fn exchange_explained<R: Source>(
     ensures few { IsBegun (R.remaining reader.old) (R.remaining reader.new) 4194305 }
 {
     match request {
-        Request::Replay(end) => {
+        Request::File(task) => {
             let file = read_whole(alloc, reader)?;
-            let judged = replayed_with_note(alloc, file.get(), end)?;
+            let judged = exchange::told_with_note(alloc, file.get(), task)?;
             Ok(noted(judged.answer, judged.note))
         }
-        Request::Migrate => {
-            let file = read_whole(alloc, reader)?;
-            let judged = migrated_with_note(alloc, file.get())?;
-            Ok(noted(judged.answer, judged.note))
-        }
-        Request::Apdus => {
-            let file = read_whole(alloc, reader)?;
-            let judged = listed_with_note(alloc, file.get())?;
-            Ok(noted(judged.answer, judged.note))
-        }
-        Request::Draw(drawing) => {
-            let file = read_whole(alloc, reader)?;
-            let judged = drawn_with_note(alloc, file.get(), drawing)?;
-            Ok(noted(judged.answer, judged.note))
-        }
+        Request::Record(atr) => record_explained(alloc, atr, reader),
         Request::Simulate(session) => {
             let judged = simulation::simulated_with_note(alloc, &session)?;
             Ok(noted(judged.answer, judged.note))
@@ -216,6 +201,20 @@ fn exchange_explained<R: Source>(
         Request::SimulateLines(session) => lines_explained(alloc, session, reader),
         other => answer_to(alloc, other, reader),
     }
+}
+
+/// The file of the exchange in which the blocks of standard input were seen, with what is to be said of them.
+fn record_explained<R: Source>(alloc: Global, atr: Octets, reader: &mut R) -> Result<Answer, Fault>
+    ensures told { GivesExplained
+        (IsRightTo (AnyRequest.Record atr) (R.remaining reader.old)
+        (R.remaining reader.new) (R.failures reader.old) (R.failures reader.new))
+        (IsNotedTo (AnyRequest.Record atr) (R.remaining reader.old)
+        (R.remaining reader.new) (R.failures reader.old) (R.failures reader.new)) result }
+    ensures few { IsBegun (R.remaining reader.old) (R.remaining reader.new) 4194305 }
+{
+    let text = read_whole(alloc, reader)?;
+    let judged = recording::recorded_with_note(alloc, atr.get(), text.get())?;
+    Ok(noted(judged.answer, judged.note))
 }
 
 /// The text and the status of a session whose pairs are lines of standard input, with what is to be said of it.

@@ -2,7 +2,8 @@
 
 ghost use Rattle.std.specs.Prelude.{◌≡◌, ◌≢◌, IfOk, string_bytes};
 ghost use Rattle.card_tool.specs.ExchangeTexts.{IsOutcome};
-ghost use Rattle.card_tool.specs.Explained.{line_of, IsDifferenceNote, IsLineNote};
+ghost use Rattle.card_tool.specs.Explained.{IsDifferenceNote};
+ghost use Rattle.card_tool.specs.FileNotes.{line_of, IsLineNote};
 ghost use Rattle.exchange_text.specs.declared.fault.ExchangeFault.TheVariants.{Memory};
 ghost use Rattle.explainer.specs.Notes.{line_note};
 
@@ -45,6 +46,28 @@ pub(crate) fn fault_note(
             noted(alloc, text, line, what)
         }
         ExchangeFault::Memory => Err(AllocError),
+    }
+}
+
+/// The line with the first fault of a text that has blocks which were seen, and what is expected there.
+pub(crate) fn trace_note(
+    alloc: Global,
+    text: &[u8],
+    fault: ExchangeFault,
+) -> Result<String, AllocError>
+    ensures line { IfOk result (λ note. IsLineNote (line_of fault) (string_bytes note)) }
+    ensures other { IfOk result (λ _. fault ≢ Memory) }
+{
+    match fault {
+        ExchangeFault::Word { line } => {
+            let what = "expected: t HEX or c HEX, with lost after it or not, quiet, or at N";
+            noted(alloc, text, line, what)
+        }
+        ExchangeFault::Hex { line } => {
+            let what = "expected: an even number of hexadecimal digits";
+            noted(alloc, text, line, what)
+        }
+        other => fault_note(alloc, text, other),
     }
 }
 

@@ -52,8 +52,8 @@ pub(crate) fn answer_about(alloc: Global, task: Task, octets: &[u8]) -> Result<A
     ensures { IfOk result (λ answer. IsTold task octets.now answer.text answer.status) }
 {
     match task.aim {
-        Aim::Check => check(alloc, task.expected, octets),
-        Aim::Show => show(alloc, task.expected, octets),
+        Aim::Check | Aim::CheckJson => check(alloc, task.expected, octets),
+        Aim::Show | Aim::ShowJson => show(alloc, task.expected, octets),
         Aim::Note => {
             let answer = show(alloc, task.expected, octets)?;
             annotated(alloc, task.expected, octets, answer)
@@ -73,8 +73,8 @@ pub(crate) fn answer_with_note(
         (IsKindNote task.expected.kind task.expected octets.now)) }
 {
     match task.aim {
-        Aim::Check => checked(alloc, task.expected, octets),
-        Aim::Show => shown(alloc, task.expected, octets),
+        Aim::Check | Aim::CheckJson => checked(alloc, task.expected, octets),
+        Aim::Show | Aim::ShowJson => shown(alloc, task.expected, octets),
         Aim::Note => {
             let WithNote { answer, note } = shown(alloc, task.expected, octets)?;
             let answer = annotated(alloc, task.expected, octets, answer)?;

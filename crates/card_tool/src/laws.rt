@@ -15,7 +15,7 @@ ghost use Rattle.command_line.specs.Form.{scard};
 ghost use Rattle.card_words.specs.declared.fault.Fault.{Fault as AnyFault};
 ghost use Rattle.card_words.specs.declared.fault.Fault.TheVariants.{Memory};
 ghost use Rattle.card_words.specs.declared.request.Asked.{Asked as AnyAsked};
-ghost use Rattle.card_words.specs.declared.request.Task.{Task as AnyTask};
+ghost use Rattle.card_tool.specs.declared.telling.Telling.{Telling as AnyTelling};
 ghost use Rattle.card_kinds.specs.declared.status.Status.{Status as AnyStatus};
 
 /// What is asked for has one text and one status, and no other, with what reading standard input gave; a text with
@@ -64,8 +64,8 @@ pub fn one_file()
 /// Wherever more is heard in a conversation about lines, the texts that were told before are the answers to all lines
 /// that the octets heard before end, and nothing else.
 pub fn answered_first()
-    ensures { (task : AnyTask) (events before after : List Event) (event : Event)
-        (ended : AnyStatus) → AnswersLines task [] [] events ended
+    ensures { (telling : AnyTelling) (events before after : List Event) (event : Event)
+        (ended : AnyStatus) → AnswersLines telling [] [] events ended
         → events ≡ before ++ (event ∷ after) → IsHearing event
-        → IsUpToDate task (heard_by before) (told_by before) }
+        → IsUpToDate telling (heard_by before) (told_by before) }
 {}

@@ -1,9 +1,10 @@
 //! Lines of octets, each of which is answered as it comes.
 
 ghost use Rattle.std.specs.Prelude.{◌≡◌, ◌≤◌, ◌++◌, ◌∷◌, [], ℕ, List, IfOk, IfErr, OnOk, OnErr};
-ghost use Rattle.card_tool.specs.Answers.{line_end, AreLinesTold, IsLineTold, IsTold, IsToldOf};
+ghost use Rattle.card_tool.specs.Answers.{line_text, IsTold, IsToldOf};
 ghost use Rattle.card_tool.specs.Conversations.{Event, Happens, told, untold};
 ghost use Rattle.card_tool.specs.LineAnswers.{AreTelling, HasAnswered, HasBegun, HasSaid, IsRest, Tells, WritesLines};
+ghost use Rattle.card_tool.specs.LineNotes.{AreLinesSaid, IsLineSaid};
 ghost use Rattle.card_tool.specs.Lines.{all_lines, ended_lines, line_octets, worse};
 ghost use Rattle.card_kinds.specs.declared.status.Status.TheVariants as ended;
 ghost use Rattle.card_words.specs.Texts.{fault_text};
@@ -11,7 +12,9 @@ ghost use Rattle.card_kinds.specs.declared.status.Status.{Status as AnyStatus};
 
 use crate::conversation::{Conversation, Streams};
 use crate::file::LARGEST_FILE;
+use crate::json::in_json;
 use crate::judged::answer_about;
+use crate::telling::{Telling, line_explained};
 use card_kinds::{Answer, Status};
 use card_words::{Aim, Fault, Task, loose_octets};
 use octet_core::{Octets, Sink, Source, WriteFault};
@@ -23,7 +26,7 @@ const PIECE: usize = 8_192;
 /// What is kept between two calls of the reader.
 #[derive(Drop)]
 struct Told {
-    task: Task,
+    telling: Telling,
     /// The octets of the line under way, but no more than one past the limit.
     line: Vec<u8>,
     /// What is still to be told.
@@ -34,19 +37,24 @@ struct Told {
 
 /// Answers each line that is heard by what the task tells of it: a line that `\n` ends before more is heard, and a last
 /// one, where it has octets, at the end of the input. The answer of a check is one line, and that of a value its lines
-/// and an empty one. Nothing else is told, but for the line of a fault as the last: `fault: read` where a call to hear
-/// more failed, `fault: memory` where a growth of memory was refused, and `fault: too large` after 2<sup>64</sup> - 1
+/// and an empty one. Where explanations are asked for, one comes after the lines of the answer, each of its lines after
+/// two blanks. Nothing else is told, but for the line of a fault as the last: `fault: read` where a call to hear more
+/// failed, `fault: memory` where a growth of memory was refused, and `fault: too large` after 2<sup>64</sup> - 1
 /// octets.
 ///
 /// `run` does so with a reader and a writer, as [`Streams`](crate::Streams), where words ask for the lines of standard
 /// input.
-pub fn answer_lines<C: Conversation>(alloc: Global, task: Task, conversation: &mut C) -> Status
-    requires least { 1 ≤ task.expected.ifs }
-    requires most { task.expected.ifs ≤ 254 }
-    ensures { HasAnswered task (C.said conversation.old) (C.said conversation.new) result }
+pub fn answer_lines<C: Conversation>(
+    alloc: Global,
+    telling: Telling,
+    conversation: &mut C,
+) -> Status
+    requires least { 1 ≤ telling.task.expected.ifs }
+    requires most { telling.task.expected.ifs ≤ 254 }
+    ensures { HasAnswered telling (C.said conversation.old) (C.said conversation.new) result }
 {
     let mut told = Told {
-        task,
+        telling,
         line: Vec::new(alloc),
         text: Vec::new(alloc),
         status: Status::Accepted,
@@ -72,18 +80,18 @@ pub fn answer_lines<C: Conversation>(alloc: Global, task: Task, conversation: &m
 /// Answers each line of the reader by a line, before the next call of the reader.
 pub(crate) fn tell_lines<R: Source, W: Sink>(
     alloc: Global,
-    task: Task,
+    telling: Telling,
     reader: &mut R,
     writer: &mut W,
 ) -> Status
-    requires least { 1 ≤ task.expected.ifs }
-    requires most { task.expected.ifs ≤ 254 }
-    ensures { WritesLines task (R.remaining reader.old) (R.remaining reader.new)
+    requires least { 1 ≤ telling.task.expected.ifs }
+    requires most { telling.task.expected.ifs ≤ 254 }
+    ensures { WritesLines telling (R.remaining reader.old) (R.remaining reader.new)
         (R.failures reader.old) (R.failures reader.new) (W.contents writer.old)
         (W.contents writer.new) (W.failures writer.old) (W.failures writer.new) result }
 {
     let mut streams = Streams { reader, writer };
-    answer_lines(alloc, task, &mut streams)
+    answer_lines(alloc, telling, &mut streams)
 }
 
 /// Tells the text that was kept, and empties it.
@@ -120,18 +128,18 @@ fn tell<C: Conversation>(text: &[u8], status: Status, conversation: &mut C) -> S
 impl Told {
     /// Takes the octets of a piece, and answers the lines that end in it.
     fn feed(&mut self, alloc: Global, piece: &[u8]) -> Result<(), AllocError>
-        requires least { 1 ≤ self.old.task.expected.ifs }
-        requires most { self.old.task.expected.ifs ≤ 254 }
-        ensures task { self.new.task ≡ self.old.task }
+        requires least { 1 ≤ self.old.telling.task.expected.ifs }
+        requires most { self.old.telling.task.expected.ifs ≤ 254 }
+        ensures telling { self.new.telling ≡ self.old.telling }
         ensures said { OnOk result
             ((read written : List ℕ)
-            → HasSaid self.old.task read written self.old.line.items self.old.text.items
-            self.old.status → HasSaid self.old.task (read ++ piece.now) written
+            → HasSaid self.old.telling read written self.old.line.items self.old.text.items
+            self.old.status → HasSaid self.old.telling (read ++ piece.now) written
             self.new.line.items self.new.text.items self.new.status) }
         ensures begun { OnErr result
             ((read written : List ℕ)
-            → HasSaid self.old.task read written self.old.line.items self.old.text.items
-            self.old.status → HasBegun self.old.task (ended_lines (read ++ piece.now))
+            → HasSaid self.old.telling read written self.old.line.items self.old.text.items
+            self.old.status → HasBegun self.old.telling (ended_lines (read ++ piece.now))
             (written ++ self.new.text.items)) }
     {
         for octet in piece {
@@ -142,13 +150,13 @@ impl Told {
 
     /// Takes an octet, and answers the line that it ends.
     fn take(&mut self, alloc: Global, octet: u8) -> Result<(), AllocError>
-        requires least { 1 ≤ self.old.task.expected.ifs }
-        requires most { self.old.task.expected.ifs ≤ 254 }
-        ensures task { self.new.task ≡ self.old.task }
+        requires least { 1 ≤ self.old.telling.task.expected.ifs }
+        requires most { self.old.telling.task.expected.ifs ≤ 254 }
+        ensures telling { self.new.telling ≡ self.old.telling }
         ensures said { OnOk result
             ((read written : List ℕ)
-            → HasSaid self.old.task read written self.old.line.items self.old.text.items
-            self.old.status → HasSaid self.old.task (read ++ (octet ∷ [])) written
+            → HasSaid self.old.telling read written self.old.line.items self.old.text.items
+            self.old.status → HasSaid self.old.telling (read ++ (octet ∷ [])) written
             self.new.line.items self.new.text.items self.new.status) }
         ensures kept { OnErr result (self.new.text.items ≡ self.old.text.items) }
     {
@@ -163,18 +171,18 @@ impl Told {
 
     /// Answers the line under way, and begins another.
     fn answer(&mut self, alloc: Global) -> Result<(), AllocError>
-        requires least { 1 ≤ self.old.task.expected.ifs }
-        requires most { self.old.task.expected.ifs ≤ 254 }
-        ensures task { self.new.task ≡ self.old.task }
+        requires least { 1 ≤ self.old.telling.task.expected.ifs }
+        requires most { self.old.telling.task.expected.ifs ≤ 254 }
+        ensures telling { self.new.telling ≡ self.old.telling }
         ensures told { OnOk result
             ((text : List ℕ) × (ended : AnyStatus)
-            × IsLineTold self.old.task self.old.line.items text ended
+            × IsLineSaid self.old.telling self.old.line.items text ended
             × (self.new.text.items ≡ self.old.text.items ++ text)
             × (self.new.status ≡ worse self.old.status ended)) }
         ensures line { OnOk result (self.new.line.items ≡ []) }
         ensures kept { OnErr result (self.new.text.items ≡ self.old.text.items) }
     {
-        let answer = line_answer(alloc, self.task, self.line.as_slice())?;
+        let answer = line_answer(alloc, self.telling, self.line.as_slice())?;
         self.text.extend_from_slice(answer.text.get())?;
         self.status = worse(self.status, answer.status);
         self.line.clear();
@@ -183,12 +191,12 @@ impl Told {
 
     /// Answers the last line, where it has octets: it needs no end.
     fn last(&mut self, alloc: Global) -> Result<(), AllocError>
-        requires least { 1 ≤ self.old.task.expected.ifs }
-        requires most { self.old.task.expected.ifs ≤ 254 }
+        requires least { 1 ≤ self.old.telling.task.expected.ifs }
+        requires most { self.old.telling.task.expected.ifs ≤ 254 }
         ensures told { OnOk result
             ((read written : List ℕ)
-            → HasSaid self.old.task read written self.old.line.items self.old.text.items
-            self.old.status → AreLinesTold self.old.task (all_lines read)
+            → HasSaid self.old.telling read written self.old.line.items self.old.text.items
+            self.old.status → AreLinesSaid self.old.telling (all_lines read)
             (written ++ self.new.text.items) self.new.status) }
         ensures kept { OnErr result (self.new.text.items ≡ self.old.text.items) }
     {
@@ -200,11 +208,11 @@ impl Told {
 
     /// Answers the last line, and tells what is left.
     fn ended<C: Conversation>(mut self, alloc: Global, conversation: &mut C) -> Status
-        requires least { 1 ≤ self.task.expected.ifs }
-        requires most { self.task.expected.ifs ≤ 254 }
+        requires least { 1 ≤ self.telling.task.expected.ifs }
+        requires most { self.telling.task.expected.ifs ≤ 254 }
         ensures { (read written : List ℕ)
-            → HasSaid self.task read written self.line.items self.text.items self.status
-            → Tells (IsRest self.task (all_lines read) written) (C.said conversation.old)
+            → HasSaid self.telling read written self.line.items self.text.items self.status
+            → Tells (IsRest self.telling (all_lines read) written) (C.said conversation.old)
             (C.said conversation.new) result }
     {
         match self.last(alloc) {
@@ -227,22 +235,34 @@ impl Told {
 }
 
 /// What a line of octets is answered by.
-fn line_answer(alloc: Global, task: Task, line: &[u8]) -> Result<Answer, AllocError>
-    requires least { 1 ≤ task.expected.ifs }
-    requires most { task.expected.ifs ≤ 254 }
-    ensures { IfOk result (λ answer. IsLineTold task line.now answer.text answer.status) }
+fn line_answer(alloc: Global, telling: Telling, line: &[u8]) -> Result<Answer, AllocError>
+    requires least { 1 ≤ telling.task.expected.ifs }
+    requires most { telling.task.expected.ifs ≤ 254 }
+    ensures { IfOk result (λ answer. IsLineSaid telling line.now answer.text answer.status) }
 {
-    let Answer { text, status } = line_told(alloc, task, line)?;
-    let mut text = text.into_inner();
-    text.extend_from_slice(line_end(task.aim).as_bytes())?;
-    Ok(Answer {
-        text: Octets::of(text),
-        status,
-    })
+    let Answer { text, status } = line_explained(alloc, telling, line)?;
+    let text = line_text(alloc, telling.task.aim, text)?;
+    Ok(Answer { text, status })
+}
+
+/// How a line is answered by what is told of it: an empty line comes after a value, which has several lines, and none
+/// after an object of JSON.
+fn line_text(alloc: Global, aim: Aim, told: Octets) -> Result<Octets, AllocError>
+    ensures { IfOk result (λ text. text ≡ line_text aim told) }
+{
+    match aim {
+        Aim::Check => Ok(told),
+        Aim::Show | Aim::Note => {
+            let mut text = told.into_inner();
+            text.push(b'\n')?;
+            Ok(Octets::of(text))
+        }
+        Aim::CheckJson | Aim::ShowJson => in_json(alloc, told.get()),
+    }
 }
 
 /// What is told of a line of octets.
-fn line_told(alloc: Global, task: Task, line: &[u8]) -> Result<Answer, AllocError>
+pub(crate) fn line_told(alloc: Global, task: Task, line: &[u8]) -> Result<Answer, AllocError>
     requires least { 1 ≤ task.expected.ifs }
     requires most { task.expected.ifs ≤ 254 }
     ensures { IfOk result (λ answer.
@@ -255,16 +275,6 @@ fn line_told(alloc: Global, task: Task, line: &[u8]) -> Result<Answer, AllocErro
         Ok(octets) => answer_about(alloc, task, octets.get()),
         Err(Fault::Memory) => Err(AllocError),
         Err(fault) => Answer::faulted(alloc, fault),
-    }
-}
-
-/// What comes after the answer to a line: an empty line after a value, which has several.
-fn line_end(aim: Aim) -> &'static str
-    ensures { result.now ≡ line_end aim }
-{
-    match aim {
-        Aim::Check => "",
-        Aim::Show | Aim::Note => "\n",
     }
 }
 

@@ -94,7 +94,7 @@ pub(crate) fn lines_simulated_with_note(
 }
 
 /// The text of an exchange, where it isn't larger than a file.
-fn file(alloc: Global, exchange: &Exchange) -> Result<Answer, AllocError>
+pub(crate) fn file(alloc: Global, exchange: &Exchange) -> Result<Answer, AllocError>
     ensures { IfOk result (λ answer. IsFile exchange.now answer.text answer.status) }
 {
     let answer = written(alloc, exchange)?;

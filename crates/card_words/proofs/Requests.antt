@@ -12,7 +12,7 @@ use Rattle.card_words.specs.Given.{asks_for_lines, form_of, given_of, GivesOctet
 use Rattle.card_words.specs.PairLines.{are_lines}
 use Rattle.card_words.specs.Session.{blocks_of, pair_of, pairs_of, AreOctetPairs, IsSize}
 use Rattle.card_words.specs.Value.{◌>>=◌, hex_octets, octets_of_word, parted, UnlessMemory}
-use Rattle.card_words.specs.Words.{byte_or, size_of, number_of, number_of_word, needed, kind_of, expected_of, short_message, told_by, told_of, chain_by, chain_of, tidy_of, fill_of, build_words, build_of, end_of_word, replay_of, all_or_none, asked_size, session_of, drawing_of, request_by, show_aim, asked_by, asked_of, HasOctets, HaveOctets, IsRead, AreSized, IsSized, IsTaskSized, called_for_version, taken, called_for_help, not_taken, session_by, simulate_by}
+use Rattle.card_words.specs.Words.{byte_or, size_of, number_of, number_of_word, needed, kind_of, expected_of, short_message, told_by, told_of, chain_by, chain_of, tidy_of, fill_of, build_words, build_of, end_of_word, record_of, replay_of, all_or_none, asked_size, session_of, drawing_of, request_by, check_aim, show_aim, asked_by, asked_of, HasOctets, HaveOctets, IsRead, AreSized, IsSized, IsTaskSized, called_for_version, taken, called_for_help, not_taken, session_by, simulate_by, simulate_of}
 use Rattle.command_line.specs.Form.{scard}
 use Rattle.card_words.specs.declared.fault.Fault.{Fault}
 use Rattle.card_words.specs.declared.fault.Fault.TheVariants.{Words}
@@ -21,12 +21,12 @@ use Rattle.card_words.specs.declared.session.Session.{Session}
 use Rattle.card_words.specs.declared.given.Given.{Given}
 use Rattle.card_words.specs.declared.request.Expected.{Expected}
 use Rattle.card_words.specs.declared.request.Aim.{Aim}
-use Rattle.card_words.specs.declared.request.Aim.TheVariants.{Check}
 use Rattle.card_words.specs.declared.request.Task.{Task}
 use Rattle.card_words.specs.declared.request.Asked.{Asked}
 use Rattle.card_words.specs.declared.request.Asked.TheVariants.{Once, Lines}
 use Rattle.card_words.specs.declared.request.Request.{Request}
-use Rattle.card_words.specs.declared.request.Request.TheVariants.{BuildTidy, Migrate, Apdus, Draw, Help, Version}
+use Rattle.card_words.specs.declared.request.Request.TheVariants.{BuildTidy, File, Record, Help, Version}
+use Rattle.card_words.specs.declared.request.FileTask.TheVariants.{Migrate, Apdus, Draw}
 
 -- where two steps come to a value, the first comes to one, and from that the second to this
 pub both-steps : {A B : Type 0} (r : Result A Fault) (f : A → Result B Fault) (b : B) → r >>= f ≡ Ok b → (a : A)
@@ -241,6 +241,33 @@ simulate-proper form words rows request h =
     subst IsProper (same _ request session.2)
     (either-proper lines.0 session.0 (session-proper words rows session.0 session.1))
 
+record-proper : (rows : List Row) (request : Request) → record_of rows ≡ Ok request → IsProper request
+record-proper rows request h =
+    let word = both-steps (needed (first_of (codes "atr") rows)) _ request h in
+    let atr = both-steps (octets_of_word word.0) _ request word.2 in
+    subst IsProper (same (Record atr.0) request atr.2) (tt, word-octets word.0 atr.0 atr.1)
+
+drawn-proper : (name : List ℕ) (rows : List Row) (request : Request)
+    → (if bytes_eq name (codes "draw") then Ok (File (Draw (drawing_of rows)))
+    else (if bytes_eq name (codes "record") then record_of rows
+    else (if bytes_eq name (codes "simulate") then simulate_of rows
+    else Err Words))) ≡ Ok request → IsProper request
+drawn-proper name rows request h =
+    elim (one-of (bytes_eq name (codes "draw")) (Ok (File (Draw (drawing_of rows)))) _ request h) [
+      | inl draw ↦ subst IsProper (same (File (Draw (drawing_of rows))) request draw) (tt, tt)
+      | inr made ↦
+          elim (one-of (bytes_eq name (codes "record")) (record_of rows) _ request made) [
+            | inl seen ↦ record-proper rows request seen
+            | inr both ↦
+                elim (one-of (bytes_eq name (codes "simulate")) _ (Err Words) request both) [
+                  | inl simulate ↦
+                      simulate-proper (first_of (codes "stdin") rows)
+                      (all_or_none (all_of (codes "pairs") rows)) rows request simulate
+                  | inr none ↦ cc none
+                ]
+          ]
+    ]
+
 request-proper : (name : List ℕ) (rows : List Row) (request : Request) → request_by name rows ≡ Ok request
     → IsProper request
 request-proper name rows request h =
@@ -250,22 +277,12 @@ request-proper name rows request h =
           elim (one-of (bytes_eq name (codes "replay")) (replay_of rows) _ request files) [
             | inl replay ↦ replay-proper rows request replay
             | inr last ↦
-                elim (one-of (bytes_eq name (codes "migrate")) (Ok Migrate) _ request last) [
-                  | inl migrate ↦ subst IsProper (same Migrate request migrate) (tt, tt)
+                elim (one-of (bytes_eq name (codes "migrate")) (Ok (File Migrate)) _ request last) [
+                  | inl migrate ↦ subst IsProper (same (File Migrate) request migrate) (tt, tt)
                   | inr listed ↦
-                      elim (one-of (bytes_eq name (codes "apdus")) (Ok Apdus) _ request listed) [
-                        | inl apdus ↦ subst IsProper (same Apdus request apdus) (tt, tt)
-                        | inr drawn ↦
-                            elim (one-of (bytes_eq name (codes "draw")) (Ok (Draw (drawing_of rows))) _ request drawn) [
-                              | inl draw ↦ subst IsProper (same (Draw (drawing_of rows)) request draw) (tt, tt)
-                              | inr both ↦
-                                  elim (one-of (bytes_eq name (codes "simulate")) _ (Err Words) request both) [
-                                    | inl simulate ↦
-                                        simulate-proper (first_of (codes "stdin") rows)
-                                        (all_or_none (all_of (codes "pairs") rows)) rows request simulate
-                                    | inr none ↦ cc none
-                                  ]
-                            ]
+                      elim (one-of (bytes_eq name (codes "apdus")) (Ok (File Apdus)) _ request listed) [
+                        | inl apdus ↦ subst IsProper (same (File Apdus) request apdus) (tt, tt)
+                        | inr drawn ↦ drawn-proper name rows request drawn
                       ]
                 ]
           ]
@@ -273,8 +290,8 @@ request-proper name rows request h =
 
 named-proper : (name : List ℕ) (rows : List Row) (asked : Asked) → asked_by name rows ≡ Ok asked → AreProper asked
 named-proper name rows asked h =
-    elim (one-of (bytes_eq name (codes "check")) (told_of Check rows) _ asked h) [
-      | inl check ↦ aimed-proper Check rows asked check
+    elim (one-of (bytes_eq name (codes "check")) (told_of (check_aim rows) rows) _ asked h) [
+      | inl check ↦ aimed-proper (check_aim rows) rows asked check
       | inr other ↦
           elim (one-of (bytes_eq name (codes "show")) (told_of (show_aim rows) rows) _ asked other) [
             | inl show ↦ aimed-proper (show_aim rows) rows asked show

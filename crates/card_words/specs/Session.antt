@@ -1,5 +1,5 @@
 -- A simulated session as words: an answer to reset, pairs COMMAND:REPLY, and lists of blocks.
-use Rattle.std.specs.Prelude.{◌≤◌, ◌==◌, ◌&&◌, ◌||◌, ◌+◌, ◌-◌, ◌++◌, ℕ, Bool, zero, suc, nat_le, nat_lt, length, List, [], ◌∷◌, Option, Some, None, Result, Ok, Err, if◌then◌else◌}
+use Rattle.std.specs.Prelude.{◌==◌, ◌&&◌, ◌||◌, ◌+◌, ◌-◌, ◌++◌, ℕ, Bool, zero, suc, nat_le, nat_lt, length, List, [], ◌∷◌, Option, Some, None, Result, Ok, Err, if◌then◌else◌}
 use Rattle.std.specs.List.{slice_split, position_or_len, before_first, after_first}
 use Rattle.octet_core.specs.Sizes.{IsFieldSize}
 use Rattle.octet_core.specs.Decimal.{decimal_number}

@@ -24,15 +24,16 @@ use Rattle.card_words.specs.declared.request.End.{End}
 use Rattle.card_words.specs.declared.request.End.TheVariants as end
 use Rattle.card_words.specs.declared.request.Drawing.{Drawing}
 use Rattle.card_words.specs.declared.request.Drawing.TheVariants.{Ladder, Picture}
+use Rattle.card_words.specs.declared.request.FileTask.TheVariants.{Replay, Migrate, Apdus, Draw}
 use Rattle.card_words.specs.declared.request.Expected.{Expected}
 use Rattle.card_words.specs.declared.request.Aim.{Aim}
-use Rattle.card_words.specs.declared.request.Aim.TheVariants.{Check, Show, Note}
+use Rattle.card_words.specs.declared.request.Aim.TheVariants.{Check, Show, Note, CheckJson, ShowJson}
 use Rattle.card_words.specs.declared.request.Task.{Task}
 use Rattle.card_words.specs.declared.request.Asked.{Asked}
 use Rattle.card_words.specs.declared.request.Asked.TheVariants.{Once, Lines}
 use Rattle.card_words.specs.declared.request.Request.{Request}
 use Rattle.card_words.specs.declared.session.Session.{Session}
-use Rattle.card_words.specs.declared.request.Request.TheVariants.{BuildChain, BuildTidy, BuildFill, Tell, Replay, Migrate, Apdus, Draw, Simulate, SimulateLines, Help, Version}
+use Rattle.card_words.specs.declared.request.Request.TheVariants.{BuildChain, BuildTidy, BuildFill, Tell, File, Record, Simulate, SimulateLines, Help, Version}
 use Rattle.block_core.specs.declared.pcb.Number.{Number}
 use Rattle.block_core.specs.declared.pcb.Number.TheVariants.{Zero, One}
 
@@ -97,13 +98,24 @@ abbrev pub told_of : Aim → List Row → Result Asked Fault
 told_of aim rows = expected_of rows >>= (λ expected.
     told_by (record { aim = aim; expected = expected }) (first_of (codes "hex") rows) (first_of (codes "stdin") rows))
 
--- what `show` tells: the value, with notes where a flag that is true asks for them
-abbrev pub aim_by : Option (List ℕ) → Aim
-aim_by None = Show
-aim_by (Some word) = if bytes_eq word (codes "true") then Note else Show
+-- an option without a value is there
+abbrev pub is_true : Option (List ℕ) → Bool
+is_true None = false
+is_true (Some word) = bytes_eq word (codes "true")
 
+abbrev pub has_flag : List ℕ → List Row → Bool
+has_flag name rows = is_true (first_of name rows)
+
+-- what `check` tells, as lines or as JSON
+abbrev pub check_aim : List Row → Aim
+check_aim rows = if has_flag (codes "json") rows then CheckJson else Check
+
+-- what `show` tells: the value, as JSON or with notes where one of these is asked for, and JSON has no notes
 abbrev pub show_aim : List Row → Aim
-show_aim rows = aim_by (first_of (codes "notes") rows)
+show_aim rows =
+    if has_flag (codes "json") rows then ShowJson
+    else (if has_flag (codes "notes") rows then Note
+    else Show)
 
 -- a message that a chain can carry
 abbrev pub short_message : List ℕ → Result (List ℕ) Fault
@@ -164,15 +176,18 @@ abbrev pub replay_of : List Row → Result Request Fault
 replay_of rows = do
   word ← needed (first_of (codes "end") rows)
   side ← end_of_word word
-  Ok (Replay side)
+  Ok (File (Replay side))
 
--- how recorded exchanges are drawn: as text, or as a picture where a flag that is true asks for one
-abbrev pub drawing_by : Option (List ℕ) → Drawing
-drawing_by None = Ladder
-drawing_by (Some word) = if bytes_eq word (codes "true") then Picture else Ladder
-
+-- how recorded exchanges are drawn: as text, or as a picture where one is asked for
 abbrev pub drawing_of : List Row → Drawing
-drawing_of rows = drawing_by (first_of (codes "svg") rows)
+drawing_of rows = if has_flag (codes "svg") rows then Picture else Ladder
+
+-- the answer to reset with which an exchange is made of blocks
+abbrev pub record_of : List Row → Result Request Fault
+record_of rows = do
+  atr_word ← needed (first_of (codes "atr") rows)
+  atr ← octets_of_word atr_word
+  Ok (Record atr)
 
 -- an information size that is asked for, where there is a word
 abbrev pub asked_size : Option (List ℕ) → Result (Option ℕ) Fault
@@ -209,11 +224,12 @@ abbrev pub request_by : List ℕ → List Row → Result Request Fault
 request_by name rows =
     if bytes_eq name (codes "build") then build_of rows
     else (if bytes_eq name (codes "replay") then replay_of rows
-    else (if bytes_eq name (codes "migrate") then Ok Migrate
-    else (if bytes_eq name (codes "apdus") then Ok Apdus
-    else (if bytes_eq name (codes "draw") then Ok (Draw (drawing_of rows))
+    else (if bytes_eq name (codes "migrate") then Ok (File Migrate)
+    else (if bytes_eq name (codes "apdus") then Ok (File Apdus)
+    else (if bytes_eq name (codes "draw") then Ok (File (Draw (drawing_of rows)))
+    else (if bytes_eq name (codes "record") then record_of rows
     else (if bytes_eq name (codes "simulate") then simulate_of rows
-    else Err Words)))))
+    else Err Words))))))
 
 -- a request that was read, as what is asked for
 abbrev pub once_of : Result Request Fault → Result Asked Fault
@@ -221,7 +237,7 @@ once_of read = read >>= (λ request. Ok (Once request))
 
 abbrev pub asked_by : List ℕ → List Row → Result Asked Fault
 asked_by name rows =
-    if bytes_eq name (codes "check") then told_of Check rows
+    if bytes_eq name (codes "check") then told_of (check_aim rows) rows
     else (if bytes_eq name (codes "show") then told_of (show_aim rows) rows
     else once_of (request_by name rows))
 
@@ -238,10 +254,8 @@ IsSized (Tell task given) = IsTaskSized task
 IsSized (BuildChain ifs number message) = (1 ≤ ifs) × (ifs ≤ 254) × (length message ≤ longest_message)
 IsSized (BuildTidy given) = Unit {0}
 IsSized (BuildFill list known) = Unit {0}
-IsSized (Replay side) = Unit {0}
-IsSized Migrate = Unit {0}
-IsSized Apdus = Unit {0}
-IsSized (Draw drawing) = Unit {0}
+IsSized (File task) = Unit {0}
+IsSized (Record atr) = Unit {0}
 IsSized (Simulate session) = IsSize session.ifsd
 IsSized (SimulateLines session) = IsSize session.ifsd
 IsSized (Help help) = Unit {0}
@@ -257,10 +271,8 @@ HasOctets (Tell task given) = GivesOctets given
 HasOctets (BuildChain ifs number message) = AreOctets message
 HasOctets (BuildTidy given) = GivesOctets given
 HasOctets (BuildFill list known) = AreOctets list
-HasOctets (Replay side) = Unit {0}
-HasOctets Migrate = Unit {0}
-HasOctets Apdus = Unit {0}
-HasOctets (Draw drawing) = Unit {0}
+HasOctets (File task) = Unit {0}
+HasOctets (Record atr) = AreOctets atr
 HasOctets (Simulate session) = AreOctets session.atr × AreOctetPairs session.pairs
 HasOctets (SimulateLines session) = AreOctets session.atr × AreOctetPairs session.pairs
 HasOctets (Help help) = Unit {0}
@@ -270,14 +282,12 @@ abbrev pub HaveOctets : Asked → Type 0
 HaveOctets (Once request) = HasOctets request
 HaveOctets (Lines task) = Unit {0}
 
--- a request that standard input answers: octets, a file of recorded exchanges, or pairs
+-- a request that standard input answers: octets, a file of recorded exchanges, blocks, or pairs
 abbrev pub NeedsFile : Request → Type 0
 NeedsFile (Tell task given) = IsFromReader given
 NeedsFile (BuildTidy given) = IsFromReader given
-NeedsFile (Replay side) = Unit {0}
-NeedsFile Migrate = Unit {0}
-NeedsFile Apdus = Unit {0}
-NeedsFile (Draw drawing) = Unit {0}
+NeedsFile (File task) = Unit {0}
+NeedsFile (Record atr) = Unit {0}
 NeedsFile (SimulateLines session) = Unit {0}
 NeedsFile _ = ⊥
 

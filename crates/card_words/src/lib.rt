@@ -20,6 +20,6 @@ pub use fault::Fault;
 pub use given::{Form, Given};
 pub use loose::loose_octets;
 pub use pair_lines::read_pair_lines;
-pub use request::{Aim, Asked, Drawing, End, Expected, Kind, Knowns, Request, Task};
+pub use request::{Aim, Asked, Drawing, End, Expected, FileTask, Kind, Knowns, Request, Task};
 pub use session::{BlockNumbers, MOST_NAMED, Pair, Pairs, Session, read_blocks};
 pub use words::read;

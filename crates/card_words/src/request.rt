@@ -59,6 +59,19 @@ pub enum Drawing {
     Picture,
 }
 
+/// What is told of the file of a recorded exchange.
+#[derive(Clone, Copy, Debug, PartialEq, Eq)]
+pub enum FileTask {
+    /// Whether the engine of this end, or of each, does what the file says.
+    Replay(End),
+    /// The file in the newest version.
+    Migrate,
+    /// Its commands and answers.
+    Apdus,
+    /// The file drawn so.
+    Draw(Drawing),
+}
+
 /// What is told of octets.
 #[derive(Clone, Copy, Debug, PartialEq, Eq)]
 pub enum Aim {
@@ -68,6 +81,10 @@ pub enum Aim {
     Show,
     /// The value that they spell, with notes after its lines.
     Note,
+    /// As `Check`, as an object of JSON.
+    CheckJson,
+    /// As `Show`, as an object of JSON.
+    ShowJson,
 }
 
 /// What is told of octets, and what they are taken for.
@@ -163,14 +180,10 @@ pub enum Request {
         /// the octets are a list.
         known: Result<Knowns, Fault>,
     },
-    /// Whether the engine of this end, or of each, does what the file of recorded exchanges says.
-    Replay(End),
-    /// The file of recorded exchanges in the newest version.
-    Migrate,
-    /// The commands and answers of the file of recorded exchanges.
-    Apdus,
-    /// The file of recorded exchanges, drawn so.
-    Draw(Drawing),
+    /// What is told of the file of a recorded exchange on standard input.
+    File(FileTask),
+    /// The exchange of a card with this answer to reset in which the blocks of standard input were seen.
+    Record(Octets),
     /// The exchange that a recorder of both ends writes of this session.
     Simulate(Session),
     /// The same of this session with the pairs that the lines of standard input say.

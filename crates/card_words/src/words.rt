@@ -4,7 +4,7 @@ ghost use Rattle.std.specs.Prelude.{◌≡◌, ◌⊎◌, ◌≤◌, [], Err, If
 ghost use Rattle.clap.specs.Words.{all_of, fault_of, first_of, found_of, rows_of, subcommand_of, subcommand_rows_of};
 ghost use Rattle.clap.specs.Kinds.{HasKind};
 ghost use Rattle.clap.specs.Values.{kind_of as error_kind};
-ghost use Rattle.card_words.specs.Words.{asked_of, build_of, build_words, chain_of, end_of_word, asked_size, drawing_of, expected_of, session_of, kind_of, number_of, number_of_word, replay_of, show_aim, request_by, size_of, tidy_of, told_of, fill_of, HaveOctets, IsHelpOrFault, IsRead, AreSized, IsSized, simulate_of};
+ghost use Rattle.card_words.specs.Words.{asked_of, build_of, build_words, chain_of, check_aim, end_of_word, asked_size, drawing_of, expected_of, session_of, has_flag, kind_of, number_of, number_of_word, record_of, replay_of, show_aim, request_by, size_of, tidy_of, told_of, fill_of, HaveOctets, IsHelpOrFault, IsRead, AreSized, IsSized, simulate_of};
 ghost use Rattle.command_line.specs.Form.{scard, texts};
 ghost use Rattle.card_words.specs.Session.{IsSize};
 ghost use Rattle.card_words.specs.Value.{UnlessMemory};
@@ -13,7 +13,7 @@ use crate::fault::Fault;
 use crate::given::{asks_for_lines, read_given};
 use crate::known::knowns;
 use crate::pair_lines::are_lines;
-use crate::request::{Aim, Asked, Drawing, End, Expected, Kind, Request, Task};
+use crate::request::{Aim, Asked, Drawing, End, Expected, FileTask, Kind, Request, Task};
 use crate::session::{Session, read_blocks, read_pairs};
 use crate::value::octets;
 use block_core::Number;
@@ -48,7 +48,7 @@ fn asked(alloc: Global, matches: &ArgMatches) -> Result<Asked, Fault>
         return Err(Fault::Words);
     };
     match name {
-        "check" => told(alloc, Aim::Check, entered),
+        "check" => told(alloc, check_aim(entered), entered),
         "show" => told(alloc, show_aim(entered), entered),
         _ => Ok(Asked::Once(request(alloc, name, entered)?)),
     }
@@ -62,9 +62,10 @@ fn request(alloc: Global, name: &str, matches: &ArgMatches) -> Result<Request, F
     match name {
         "build" => build(alloc, matches),
         "replay" => replay(matches),
-        "migrate" => Ok(Request::Migrate),
-        "apdus" => Ok(Request::Apdus),
-        "draw" => Ok(Request::Draw(drawing(matches))),
+        "migrate" => Ok(Request::File(FileTask::Migrate)),
+        "apdus" => Ok(Request::File(FileTask::Apdus)),
+        "draw" => Ok(Request::File(FileTask::Draw(drawing(matches)))),
+        "record" => record(alloc, matches),
         "simulate" => simulate(alloc, matches),
         _ => Err(Fault::Words),
     }
@@ -94,14 +95,35 @@ fn told(alloc: Global, aim: Aim, matches: &ArgMatches) -> Result<Asked, Fault>
     Ok(Asked::Once(Request::Tell(task, given)))
 }
 
-/// What `show` tells: the value, with notes where they are asked for.
+/// What `check` tells, as lines or as JSON.
+fn check_aim(matches: &ArgMatches) -> Aim
+    ensures { result ≡ check_aim (rows_of (found_of matches.now)) }
+{
+    if has_flag(matches, "json") {
+        Aim::CheckJson
+    } else {
+        Aim::Check
+    }
+}
+
+/// What `show` tells: the value, as JSON or with notes where one of these is asked for, and JSON has no notes.
 fn show_aim(matches: &ArgMatches) -> Aim
     ensures { result ≡ show_aim (rows_of (found_of matches.now)) }
 {
-    match word(matches, "notes") {
-        Some("true") => Aim::Note,
-        _ => Aim::Show,
+    if has_flag(matches, "json") {
+        Aim::ShowJson
+    } else if has_flag(matches, "notes") {
+        Aim::Note
+    } else {
+        Aim::Show
     }
+}
+
+/// Whether an option without a value is there.
+fn has_flag(matches: &ArgMatches, name: &str) -> bool
+    ensures { result ≡ has_flag name.now (rows_of (found_of matches.now)) }
+{
+    matches!(word(matches, name), Some("true"))
 }
 
 /// A kind, an information size and a first number.
@@ -151,17 +173,27 @@ fn replay(matches: &ArgMatches) -> Result<Request, Fault>
     ensures sized { IfOk result IsSized }
 {
     let side = end(word(matches, "end").ok_or(Fault::Words)?)?;
-    Ok(Request::Replay(side))
+    Ok(Request::File(FileTask::Replay(side)))
 }
 
 /// How recorded exchanges are drawn: as text, or as a picture where one is asked for.
 fn drawing(matches: &ArgMatches) -> Drawing
     ensures { result ≡ drawing_of (rows_of (found_of matches.now)) }
 {
-    match word(matches, "svg") {
-        Some("true") => Drawing::Picture,
-        _ => Drawing::Ladder,
+    if has_flag(matches, "svg") {
+        Drawing::Picture
+    } else {
+        Drawing::Ladder
     }
+}
+
+/// The answer to reset with which an exchange is made of the blocks that were seen.
+fn record(alloc: Global, matches: &ArgMatches) -> Result<Request, Fault>
+    ensures read { UnlessMemory result (record_of (rows_of (found_of matches.now))) }
+    ensures sized { IfOk result IsSized }
+{
+    let atr = octets(alloc, word(matches, "atr").ok_or(Fault::Words)?)?;
+    Ok(Request::Record(atr))
 }
 
 /// A session of both ends, whose pairs are words, or the lines of standard input.

@@ -46,9 +46,13 @@ number_rule = record (new_rule (codes "number"))
 abbrev pub expected_app : List ℕ → App
 expected_app name = with_rule (with_rule (with_rule (begun_app name) kind_rule) ifs_rule) number_rule
 
+-- the option by which an answer is an object of JSON
+abbrev pub json_rule : Rule
+json_rule = flag_rule (codes "json")
+
 -- the same with the octets
 abbrev pub input_app : List ℕ → App
-input_app name = with_rule (with_rule (expected_app name) hex_rule) stdin_rule
+input_app name = with_rule (with_rule (with_rule (expected_app name) hex_rule) stdin_rule) json_rule
 
 -- the subcommand that shows a value, with notes where an option asks for them
 abbrev pub notes_rule : Rule
@@ -72,15 +76,15 @@ end_rule = record (new_rule (codes "end")) { long = Some (codes "end"); value_na
 
 -- the subcommand that replays recorded exchanges at an end
 abbrev pub replay_app : App
-replay_app = with_rule (begun_app (codes "replay")) end_rule
+replay_app = with_rule (with_rule (begun_app (codes "replay")) end_rule) json_rule
 
 -- the subcommand that takes recorded exchanges into the newest version, which takes no words
 abbrev pub migrate_app : App
 migrate_app = begun_app (codes "migrate")
 
--- the subcommand that lists the commands and answers of recorded exchanges, which takes no words
+-- the subcommand that lists the commands and answers of recorded exchanges
 abbrev pub apdus_app : App
-apdus_app = begun_app (codes "apdus")
+apdus_app = with_rule (begun_app (codes "apdus")) json_rule
 
 -- the subcommand that draws recorded exchanges, as a picture where an option asks for one
 abbrev pub svg_rule : Rule
@@ -91,6 +95,10 @@ draw_app = with_rule (begun_app (codes "draw")) svg_rule
 
 abbrev pub atr_rule : Rule
 atr_rule = required_rule (codes "atr")
+
+-- the subcommand that makes recorded exchanges of the blocks that were seen on a line
+abbrev pub record_app : App
+record_app = with_rule (begun_app (codes "record")) atr_rule
 
 abbrev pub pairs_rule : Rule
 pairs_rule = record (new_rule (codes "pairs")) { value_names = 1; action = Some Append }
@@ -115,10 +123,14 @@ octets_app = with_subcommand (with_subcommand
     (with_subcommand (begun_app (codes "scard")) (input_app (codes "check")).top) show_app.top)
     build_app.top
 
+-- the same with what it says of recorded exchanges
+abbrev pub exchanges_app : App
+exchanges_app = with_subcommand (with_subcommand
+    (with_subcommand (with_subcommand octets_app replay_app.top) migrate_app.top) apdus_app.top)
+    draw_app.top
+
 unfoldable pub scard : App
-scard = with_subcommand (with_subcommand
-    (with_subcommand (with_subcommand (with_subcommand octets_app replay_app.top) migrate_app.top) apdus_app.top)
-    draw_app.top) simulate_app.top
+scard = with_subcommand (with_subcommand exchanges_app record_app.top) simulate_app.top
 
 abbrev pub texts : List (String Global) → List (List ℕ)
 texts words = map string_bytes words

@@ -1,4 +1,4 @@
 pub mod Form
 pub mod Building
 pub mod Version
-pub mod Explain
+pub mod Asked

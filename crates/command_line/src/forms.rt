@@ -3,10 +3,10 @@
 ghost use Rattle.std.specs.Prelude.{◌≡◌, false};
 ghost use Rattle.clap.specs.Words.{rule_of};
 ghost use Rattle.command_line.specs.Building.{AddsSubcommandTo, AddsTo, HasForm, IsLocal, StaysLocal};
-ghost use Rattle.command_line.specs.Form.{apdus_app, atr_rule, begun_app, build_app, draw_app, end_rule, expected_app, explain_rule, flag_rule, hex_rule, ifs_rule, ifsd_rule, input_app, kind_rule, migrate_app, notes_rule, number_rule, octets_app, option_rule, pairs_rule, replay_app, required_rule, scard, session_app, show_app, simulate_app, stdin_rule, svg_rule, what_rule, words_rule};
+ghost use Rattle.command_line.specs.Form.{apdus_app, atr_rule, begun_app, build_app, draw_app, end_rule, exchanges_app, expected_app, explain_rule, flag_rule, hex_rule, ifs_rule, ifsd_rule, input_app, json_rule, kind_rule, migrate_app, notes_rule, number_rule, octets_app, option_rule, pairs_rule, record_app, replay_app, required_rule, scard, session_app, show_app, simulate_app, stdin_rule, svg_rule, what_rule, words_rule};
 
 use crate::help::{
-    APDUS, BUILD, CHECK, DRAW, MIGRATE, PROGRAM, Page, REPLAY, SHOW, SIMULATE, with_page,
+    APDUS, BUILD, CHECK, DRAW, MIGRATE, PROGRAM, Page, RECORD, REPLAY, SHOW, SIMULATE, with_page,
 };
 use clap::{Arg, ArgAction, Command, value_parser};
 use std::alloc::{AllocError, Global};
@@ -19,11 +19,18 @@ type Built<'a> = Result<Command<'a>, AllocError>;
 pub(crate) fn program<'a>(alloc: Global) -> Built<'a>
     ensures { HasForm scard result }
 {
+    let record = offering(exchanges_command(alloc), record_command(alloc));
+    offering(record, simulate_command(alloc))
+}
+
+/// The program's command with the subcommands on octets and on recorded exchanges.
+fn exchanges_command<'a>(alloc: Global) -> Built<'a>
+    ensures { HasForm exchanges_app result }
+{
     let replay = offering(octets_command(alloc), replay_command(alloc));
     let migrate = offering(replay, migrate_command(alloc));
     let apdus = offering(migrate, apdus_command(alloc));
-    let draw = offering(apdus, draw_command(alloc));
-    offering(draw, simulate_command(alloc))
+    offering(apdus, draw_command(alloc))
 }
 
 /// The program's command with the subcommands on octets.
@@ -77,7 +84,19 @@ fn input_command<'a>(alloc: Global, name: &'a str, page: &Page<'a>) -> Built<'a>
     ensures local { IsLocal result }
 {
     let hex = asking(expected_command(alloc, name, page), hex_arg(alloc));
-    asking(hex, stdin_arg(alloc))
+    let stdin = asking(hex, stdin_arg(alloc));
+    asking(stdin, json_arg(alloc))
+}
+
+fn json_arg<'a>(alloc: Global) -> Arg<'a>
+    ensures rule { rule_of result ≡ json_rule }
+    ensures local { result.global ≡ false }
+{
+    flag_arg(
+        alloc,
+        "json",
+        "Answer by an object of JSON in place of lines",
+    )
 }
 
 /// The same without the octets: a kind, an information size and a first number.
@@ -135,7 +154,8 @@ fn replay_command<'a>(alloc: Global) -> Built<'a>
     ensures form { HasForm replay_app result }
     ensures local { IsLocal result }
 {
-    asking(begun_command(alloc, "replay", &REPLAY), end_arg(alloc))
+    let end = asking(begun_command(alloc, "replay", &REPLAY), end_arg(alloc));
+    asking(end, json_arg(alloc))
 }
 
 /// The subcommand that takes recorded exchanges into the newest version.
@@ -151,7 +171,7 @@ fn apdus_command<'a>(alloc: Global) -> Built<'a>
     ensures form { HasForm apdus_app result }
     ensures local { IsLocal result }
 {
-    begun_command(alloc, "apdus", &APDUS)
+    asking(begun_command(alloc, "apdus", &APDUS), json_arg(alloc))
 }
 
 /// The subcommand that draws recorded exchanges.
@@ -171,6 +191,14 @@ fn svg_arg<'a>(alloc: Global) -> Arg<'a>
         "svg",
         "Draw a picture that any browser shows, in place of lines of text",
     )
+}
+
+/// The subcommand that makes recorded exchanges of blocks.
+fn record_command<'a>(alloc: Global) -> Built<'a>
+    ensures form { HasForm record_app result }
+    ensures local { IsLocal result }
+{
+    asking(begun_command(alloc, "record", &RECORD), atr_arg(alloc))
 }
 
 /// The subcommand that records a session of both ends.

@@ -86,11 +86,12 @@ Examples:
 /// The page of `check`.
 pub(crate) const CHECK: Page<'static> = Page {
     about: "Say whether octets are a value, and how many of them it takes",
-    usage: "scard check <KIND> <HEX> [--ifs <N>] [--number <N>]
-       scard check <KIND> --stdin <FORM> [--ifs <N>] [--number <N>]",
+    usage: "scard check <KIND> <HEX> [--ifs <N>] [--number <N>] [--json]
+       scard check <KIND> --stdin <FORM> [--ifs <N>] [--number <N>] [--json]",
     after: "The kinds block and chain use --ifs, and chain uses --number; the others leave them unused.
 An answer to reset, a block and a chain may have more octets after them; the others end with the last octet.
 With --stdin lines each line of standard input is hexadecimal, and is answered by a line of its own as it comes.
+With --json an object of JSON in one line comes in place of each answer.
 
 Exit status:
   0  ok N octets: they are a value, or begin with one; of lines, all of them
@@ -105,13 +106,14 @@ Examples:
 /// The page of `show`.
 pub(crate) const SHOW: Page<'static> = Page {
     about: "Show the value that octets spell, line by line",
-    usage: "scard show <KIND> <HEX> [--ifs <N>] [--number <N>] [--notes]
-       scard show <KIND> --stdin <FORM> [--ifs <N>] [--number <N>] [--notes]",
+    usage: "scard show <KIND> <HEX> [--ifs <N>] [--number <N>] [--notes] [--json]
+       scard show <KIND> --stdin <FORM> [--ifs <N>] [--number <N>] [--notes] [--json]",
     after: "The kinds block and chain use --ifs, and chain uses --number; the others leave them unused.
 With --stdin lines each line of standard input is hexadecimal, and is answered as it comes, by its value or what it is
 refused by, and an empty line.
 With --notes a line may go on with two blanks, a number sign, a blank and what it means. Cut there it is the line that
 comes without --notes.
+With --json an object of JSON in one line comes in place of the lines of each answer.
 
 Exit status:
   0  the value was shown; of lines, all of them
@@ -121,6 +123,7 @@ Exit status:
 Examples:
   scard show atr 3B808131204555
   scard show command 00A4040007A000000004101000 --notes
+  scard show block 00000500A4040000A5 --json
   scard show tlv 6F108407A0000000041010A505BF0C025000 --explain",
 };
 
@@ -150,8 +153,9 @@ Examples:
 /// The page of `replay`.
 pub(crate) const REPLAY: Page<'static> = Page {
     about: "Replay the recorded exchange on standard input at one end, or at both",
-    usage: "scard replay --end <END>",
+    usage: "scard replay --end <END> [--json]",
     after: "With --end both a line comes for each end, with terminal: or card: before it.
+With --json an object of JSON comes in place of the lines.
 
 Exit status:
   0  ok N lines: the end does all that the file says, or both ends do
@@ -179,7 +183,7 @@ Examples:
 /// The page of `apdus`.
 pub(crate) const APDUS: Page<'static> = Page {
     about: "List the commands of the recorded exchange on standard input, with what came of each",
-    usage: "scard apdus",
+    usage: "scard apdus [--json]",
     after: "A line comes for each command, with these names and values:
   exchange  its number, from 1
   command   its octets
@@ -188,6 +192,7 @@ pub(crate) const APDUS: Page<'static> = Page {
   lost      which of them were lost, by their numbers in the whole file, as 2,5, or none
   damaged   which of them arrived damaged, in the same way
   time      microseconds, where the file has moments, or none
+With --json one object of JSON has them all.
 
 Exit status:
   0  the lines; nothing where the file has no command
@@ -217,6 +222,28 @@ Exit status:
 Examples:
   scard draw <examples/damaged_and_lost.exchange
   scard simulate 3B808131204555 00A4040000:9000 --lose 2 | scard draw --svg",
+};
+
+/// The page of `record`.
+pub(crate) const RECORD: Page<'static> = Page {
+    about: "Make a recorded exchange of the blocks that were seen on a line",
+    usage: "scard record <ATR>",
+    after: "Standard input has a line for each block, in the order of time:
+  t HEX       the terminal sends a block, which arrives; in hexadecimal, in either case
+  c HEX       the card sends one
+  t HEX lost  it was seen, but doesn't arrive; c HEX lost in the same way
+  quiet       the terminal's waiting time ended
+  at N        so many microseconds after some start
+A terminal and a card are led along these blocks, and what their applications must have said is added, so that
+scard replay tells whether an end does otherwise, and where first.
+
+Exit status:
+  0  the file of the exchange
+  1  refused: NAME: the answer to reset can't be used
+  2  a fault, as fault: words, fault: hex or fault: line 3: Word
+
+Examples:
+  printf 't 00000500A4040000A5\nc 000002900092\n' | scard record 3B808131204555",
 };
 
 /// The page of `simulate`.

@@ -4,12 +4,14 @@
 //! others have where, follows from it by `clap`'s own definitions.
 #![tactic(auto)]
 
+pub mod asked;
 pub mod explain;
 mod forms;
 mod help;
 pub mod parse;
 pub mod version;
 
-pub use explain::{asks_to_explain, parser_message};
+pub use asked::{asks_for_json, asks_to_explain};
+pub use explain::parser_message;
 pub use parse::matches_of;
 pub use version::{VERSION_LINE, asks_for_version};

@@ -2,6 +2,7 @@
 
 ghost use Rattle.std.specs.Prelude.{◌≤◌};
 
+use crate::json::lines_of;
 use crate::row::{Row, row_of};
 use card_tool::{Status, run};
 use octet_core::{After, Counted, Feeder, hex_upper};
@@ -31,14 +32,18 @@ impl<T: Drop> From<AllocFailed<T>> for Fault {
     }
 }
 
-/// Runs each line of a file that is neither empty nor a remark: how many they are.
-pub(crate) fn tried(alloc: Global, file: &str) -> Result<u64, Fault> {
+/// Runs each line of a file that is neither empty nor a remark, and once more for JSON where that is asked for: how many
+/// they are.
+pub(crate) fn tried(alloc: Global, file: &str, in_json: bool) -> Result<u64, Fault> {
     let mut line = 0u64;
     let mut rows = 0u64;
     for text in file.split('\n') {
         line = line.saturating_add(1);
         if !text.is_empty() && !text.starts_with('#') {
             try_line(alloc, line, text)?;
+            if in_json {
+                try_json(alloc, line, text)?;
+            }
             rows = rows.saturating_add(1);
         }
     }
@@ -85,6 +90,66 @@ fn try_row(alloc: Global, line: u64, row: Row, step: usize) -> Result<(), Fault>
         status: ended,
         text: readable(alloc, said.as_slice())?,
     })
+}
+
+/// The subcommands that take `--json`.
+const IN_JSON: [&str; 4] = ["check", "show", "replay", "apdus"];
+
+/// Runs a line with `--json`, where its subcommand takes that and its lines have nothing beside what they say: these
+/// have to come back from the objects.
+fn try_json(alloc: Global, line: u64, text: &str) -> Result<(), Fault> {
+    let Some(row) = row_of(alloc, text)? else {
+        return Err(Fault::Form { line });
+    };
+    if !may_have_json(row.words.as_slice()) {
+        return Ok(());
+    }
+    let mut words = row.words;
+    words.push(String::from_str(alloc, "--json")?)?;
+    let mut said = Vec::new(alloc);
+    let mut reader = Counted::new(Feeder::new(row.input.as_slice(), 4096, After::End));
+    let mut writer = Counted::new(&mut said);
+    let ended = number(run(alloc, words, &mut reader, &mut writer));
+    if ended == row.status && are_lines_back(alloc, said.as_slice(), row.text.as_slice())? {
+        return Ok(());
+    }
+    Err(Fault::Differs {
+        line,
+        status: ended,
+        text: readable(alloc, said.as_slice())?,
+    })
+}
+
+/// Whether these words may go on with `--json`.
+fn may_have_json(words: &[String]) -> bool {
+    let has = |option: &str| words.iter().any(|word| word.as_str() == option);
+    let Some(name) = words.get(1) else {
+        return false;
+    };
+    IN_JSON.contains(&name.as_str())
+        && !has("--explain")
+        && !has("--notes")
+        && !has("--json")
+        && !has("--")
+}
+
+/// Whether the objects stand for the lines of a text, in which an empty line may come after each value.
+fn are_lines_back(alloc: Global, objects: &[u8], text: &[u8]) -> Result<bool, AllocError> {
+    let Ok(objects) = str::from_utf8(objects) else {
+        return Ok(false);
+    };
+    let end = if text.ends_with(b"\n\n") { "\n" } else { "" };
+    let mut back = String::new(alloc);
+    for object in objects.split('\n') {
+        if !object.is_empty() {
+            let Some(lines) = lines_of(alloc, object)? else {
+                return Ok(false);
+            };
+            back.push_str(lines.as_str())?;
+            back.push_str(end)?;
+        }
+    }
+    Ok(back.as_bytes() == text)
 }
 
 /// The number of a status, as the program ends with it.

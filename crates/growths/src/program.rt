@@ -60,7 +60,7 @@ const ROWS: [(&str, &str); 17] = [
 ];
 
 /// Words that ask for octets of standard input, what it has, and the text that the program writes.
-const READ_ROWS: [(&str, &str, &str); 3] = [
+const READ_ROWS: [(&str, &str, &str); 4] = [
     ("check atr --stdin hex", "3B 80 80\n01 01", "ok 5 octets\n"),
     (
         "show tlv --stdin hex",
@@ -68,6 +68,11 @@ const READ_ROWS: [(&str, &str, &str); 3] = [
         "objects 1\n5A 8101 12\n",
     ),
     ("build tidy --stdin octets", "P\u{1}A", "500141\n"),
+    (
+        "record 3B808131204555",
+        "t 00000500A4040000A5\nc 000002900092\n",
+        FILE,
+    ),
 ];
 
 /// What the program says of each row's words. At most one of them is out of memory.

@@ -33,6 +33,7 @@ pub(crate) fn end_each(alloc: Global, share: Share) -> Result<String, Fault> {
             "replay --end card",
             "migrate",
             "apdus",
+            "record 3B808131204555",
         ] {
             most = most.max(file(alloc, line, text)?);
         }

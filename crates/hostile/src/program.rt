@@ -11,7 +11,7 @@ pub(crate) const FILE: &str =
 asked 00A4040000\nreply 9000\nc 000002900092\nanswer 9000\n";
 
 /// Words of each subcommand and kind, of those that are refused too, and of faults.
-const LINES: [&str; 36] = [
+const LINES: [&str; 38] = [
     "check atr 3B808131204555",
     "check atr 3A",
     "check block 00000500A4040000A5",
@@ -39,6 +39,8 @@ const LINES: [&str; 36] = [
     "replay --end terminal",
     "replay --end card",
     "migrate",
+    "show response AABB9000 --json",
+    "record 3B808131204555",
     "simulate 3B808131204555 00A4040000:9000",
     "simulate 3B808131204555 00A4040000:9000 --lose 1,2 --damage 3 --ifsd 2",
     "simulate 3B00 00A4040000:9000",

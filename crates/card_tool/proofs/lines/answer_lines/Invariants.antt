@@ -5,7 +5,7 @@ use Rattle.card_tool.proofs.lines.answer_lines.Given as goal
 -- what was answered so far
 abbrev pub invariant-loop-turn : goal.invariant-loop-turn
 invariant-loop-turn g l = record {
-  task : l.told.task ≡ l.fn.task;
-  so_far : HasComeTo l.fn.task (g.C.Conversation.said l.fn.conversation) (g.C.Conversation.said l.conversation)
+  telling : l.told.telling ≡ l.fn.telling;
+  so_far : HasComeTo l.fn.telling (g.C.Conversation.said l.fn.conversation) (g.C.Conversation.said l.conversation)
       l.told.line.items l.told.text.items l.told.status l._turn;
 }

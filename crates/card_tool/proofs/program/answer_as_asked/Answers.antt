@@ -1,30 +1,16 @@
-use Rattle.std.proofs.Common.{◌∙◌, inl, inr, sym}
-use Rattle.std.proofs.lemmas.Result.{err_from_is_err_and}
+use Rattle.std.proofs.Common.{◌∙◌, sym}
 use Rattle.command_line.specs.Form.{texts}
-use Rattle.card_tool.proofs.Answering.{answered-words, refused-words}
-use Rattle.card_tool.proofs.Explaining.{asked, unasked, unasked-fault}
+use Rattle.card_tool.proofs.InJson.{json-asked, lines-asked}
 use Rattle.card_tool.proofs.program.answer_as_asked.Goals as goal
 
-pub returns-in_err-request-clause-told : goal.returns-in_err-request-clause-told
-returns-in_err-request-clause-told g c =
-    let fault = err_from_is_err_and c.from_residual.result c.from_residual.ensures.1 in
-    rw (fault.1, fault.2) (unasked-fault (texts c.args.words.now) _ _ _ _ c.in_err-request.field-0.0
-    (refused-words (texts c.args.words.now) _ _ c.in_err-request.field-0.0
-    (rw c.in_err-request.was at c.requires.read)))
+pub returns-then-asks_for_json-clause-told : goal.returns-then-asks_for_json-clause-told
+returns-then-asks_for_json-clause-told g c = json-asked (texts c.args.words.now)
+    (g.R.Source.remaining c.args.reader.now) (g.R.Source.remaining c.answer_in_json.new.reader)
+    (g.R.Source.failures c.args.reader.now) (g.R.Source.failures c.answer_in_json.new.reader)
+    c.answer_in_json.result (sym c.asks_for_json.ensures ∙ c.if-asks_for_json.true) c.answer_in_json.ensures.told
 
-pub returns-clause-told : goal.returns-clause-told
-returns-clause-told g c =
-    elim (rw c.in_ok-request.was at c.requires.read) [
-      | inl memory ↦ absurd (cc memory)
-      | inr read ↦ unasked (texts c.args.words.now) (g.R.Source.remaining c.args.reader.now)
-          (g.R.Source.remaining c.answer_to.new.reader) (g.R.Source.failures c.args.reader.now)
-          (g.R.Source.failures c.answer_to.new.reader) c.answer_to.result
-          (answered-words (texts c.args.words.now) _ _ _ _ c.in_ok-request.request c.answer_to.result read
-          c.answer_to.ensures.told)
-    ]
-
-pub returns-then-asks_to_explain-clause-told : goal.returns-then-asks_to_explain-clause-told
-returns-then-asks_to_explain-clause-told g c = asked (texts c.args.words.now) (g.R.Source.remaining c.args.reader.now)
-    (g.R.Source.remaining c.explained.new.reader) (g.R.Source.failures c.args.reader.now)
-    (g.R.Source.failures c.explained.new.reader) c.explained.result (sym c.asks_to_explain.ensures
-    ∙ c.if-asks_to_explain.true) c.explained.ensures.told
+pub returns-else-asks_for_json-clause-told : goal.returns-else-asks_for_json-clause-told
+returns-else-asks_for_json-clause-told g c = lines-asked (texts c.args.words.now)
+    (g.R.Source.remaining c.args.reader.now) (g.R.Source.remaining c.answer_in_lines.new.reader)
+    (g.R.Source.failures c.args.reader.now) (g.R.Source.failures c.answer_in_lines.new.reader)
+    c.answer_in_lines.result (sym c.asks_for_json.ensures ∙ c.if-asks_for_json.false) c.answer_in_lines.ensures.told

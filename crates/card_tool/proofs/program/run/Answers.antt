@@ -1,6 +1,8 @@
 use Rattle.std.proofs.Common.{◌∙◌, ap, sym}
 use Rattle.command_line.specs.Form.{texts}
-use Rattle.card_tool.proofs.Asking.{lines-asked, no-lines, no-words, read_as, request-read, same-task}
+use Rattle.card_tool.specs.LineNotes.{telling_of}
+use Rattle.card_tool.proofs.Asking.{lines-asked, no-lines, read_as, request-read, same-task}
+use Rattle.card_tool.proofs.InJson.{no-words-asked}
 use Rattle.card_tool.proofs.program.run.Goals as goal
 
 pub returns-in-Ok-Lines-clause-written : goal.returns-in-Ok-Lines-clause-written
@@ -14,7 +16,8 @@ pub returns-in-Ok-Lines-clause-lines : goal.returns-in-Ok-Lines-clause-lines
 returns-in-Ok-Lines-clause-lines g c = λ task ask.
     rw (sym (same-task (texts c.args.words.items) c.read.result c.in-Ok-Lines.task task
     (c.in-Ok-Lines.is ∙ ap read_as c.in-Ok-Lines.field-0-is)
-    (rw c.as_slice-words.ensures.value at c.read.ensures.read) ask)) c.tell_lines.ensures
+    (rw c.as_slice-words.ensures.value at c.read.ensures.read) ask))
+    (rw (rw c.as_slice-words.ensures.value at c.are_explained-explains.ensures) at c.tell_lines.ensures)
 
 pub returns-in-Ok-Lines-clause-unread : goal.returns-in-Ok-Lines-clause-unread
 returns-in-Ok-Lines-clause-unread g c =
@@ -32,13 +35,13 @@ returns-in-Ok-Lines-clause-few g c =
 
 pub returns-in-Err-Memory-clause-written : goal.returns-in-Err-Memory-clause-written
 returns-in-Err-Memory-clause-written g c =
-    λ _. no-words (g.R.Source.remaining c.args.reader.now) (g.R.Source.failures c.args.reader.now) _ _ _ _ _
+    λ _. no-words-asked (g.R.Source.remaining c.args.reader.now) (g.R.Source.failures c.args.reader.now) _ _ _ _ _
     c.report.ensures (texts c.args.words.items)
 
 pub returns-in-Err-Memory-clause-lines : goal.returns-in-Err-Memory-clause-lines
 returns-in-Err-Memory-clause-lines g c = λ task _.
     no-lines (g.R.Source.remaining c.args.reader.now) (g.R.Source.failures c.args.reader.now) _ _ _ _ _ c.report.ensures
-    task
+    (telling_of (texts c.args.words.items) task)
 
 pub one_text-requires-clause-read : goal.one_text-requires-clause-read
 one_text-requires-clause-read g c =

@@ -3,10 +3,6 @@ use Rattle.command_line.proofs.forms.program.Goals as goal
 pub returns : goal.returns
 unfolding Rattle.command_line.specs.Form.scard
 returns c =
-    let replay-is = c.offering-replay.ensures _ _ c.octets_command.ensures c.replay_command.ensures.form
-    c.replay_command.ensures.local in
-    let migrate-is = c.offering-migrate.ensures _ _ replay-is c.migrate_command.ensures.form
-    c.migrate_command.ensures.local in
-    let apdus-is = c.offering-apdus.ensures _ _ migrate-is c.apdus_command.ensures.form c.apdus_command.ensures.local in
-    let draw-is = c.offering-draw.ensures _ _ apdus-is c.draw_command.ensures.form c.draw_command.ensures.local in
-    c.offering.ensures _ _ draw-is c.simulate_command.ensures.form c.simulate_command.ensures.local
+    let record-is = c.offering-record.ensures _ _ c.exchanges_command.ensures c.record_command.ensures.form
+    c.record_command.ensures.local in
+    c.offering.ensures _ _ record-is c.simulate_command.ensures.form c.simulate_command.ensures.local

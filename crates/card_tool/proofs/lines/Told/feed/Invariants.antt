@@ -5,8 +5,8 @@ use Rattle.card_tool.proofs.lines.Told.feed.Given as goal
 -- the octets before this one were taken
 abbrev pub invariant-loop-octet : goal.invariant-loop-octet
 invariant-loop-octet l = record {
-  task : l.self.task ≡ l.fn.self.task;
-  said : (read written : List ℕ) → HasSaid l.fn.self.task read written l.fn.self.line.items l.fn.self.text.items
-      l.fn.self.status → HasSaid l.fn.self.task (read ++ take l.octet-index l.piece) written l.self.line.items
+  telling : l.self.telling ≡ l.fn.self.telling;
+  said : (read written : List ℕ) → HasSaid l.fn.self.telling read written l.fn.self.line.items l.fn.self.text.items
+      l.fn.self.status → HasSaid l.fn.self.telling (read ++ take l.octet-index l.piece) written l.self.line.items
       l.self.text.items l.self.status;
 }

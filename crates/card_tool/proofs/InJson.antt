@@ -1,0 +1,58 @@
+-- Answers as objects of JSON, and as lines.
+use Rattle.std.proofs.Common.{◌≡◌, ℕ, List, Bool, true, false, Option, Result, Ok, Err, IfOk, refl}
+use Rattle.command_line.specs.Asked.{asks_for_json}
+use Rattle.card_words.specs.Texts.{fault_text}
+use Rattle.card_words.specs.declared.fault.Fault.{Fault}
+use Rattle.card_words.specs.declared.fault.Fault.TheVariants.{Memory}
+use Rattle.card_kinds.specs.declared.answer.Answer.{Answer}
+use Rattle.card_kinds.specs.declared.status.Status.{Status}
+use Rattle.card_kinds.specs.declared.status.Status.TheVariants as status
+use Rattle.card_tool.specs.Answers.{Gives, IsRight, IsWritten, Writes}
+use Rattle.card_tool.specs.Explained.{IsRightWith}
+use Rattle.card_tool.specs.InJson.{IsRightAsked, IsRightJson, in_json, in_lines, unmade}
+use Rattle.card_tool.proofs.Asking.{no-words}
+
+module _ (words : List (List ℕ)) (held left : Option (List ℕ)) (before after : ℕ) where
+  -- what is right in JSON is right where JSON is asked for
+  pub json-asked : (r : Result Answer Fault) → asks_for_json words ≡ true
+      → Gives (IsRightJson words held left before after) r → Gives (IsRightAsked words held left before after) r
+  json-asked (Ok answer) ask h = in_json ask h
+  json-asked (Err fault) ask h = in_json ask h
+
+  -- and what is right in lines where it isn't
+  pub lines-asked : (r : Result Answer Fault) → asks_for_json words ≡ false
+      → Gives (IsRightWith words held left before after) r → Gives (IsRightAsked words held left before after) r
+  lines-asked (Ok answer) ask h = in_lines ask h
+  lines-asked (Err fault) ask h = in_lines ask h
+
+-- the line of a fault that is right is so as an answer
+pub right-line : {E : Type 0} (words : List (List ℕ)) (held left : Option (List ℕ)) (before after : ℕ) (fault : Fault)
+    (r : Result Answer E) → IsRight words held left before after (fault_text fault) status.Fault
+    → IfOk r (λ answer. answer.text ≡ fault_text fault) → IfOk r (λ answer. answer.status ≡ status.Fault)
+    → IfOk r (λ answer. IsRight words held left before after answer.text answer.status)
+right-line words held left before after fault (Ok answer) h text ended =
+    rw (text, ended) h
+right-line words held left before after fault (Err e) h text ended = tt
+
+-- the line of memory that ran out before the words were read is right of any
+pub no-words-asked : (held : Option (List ℕ)) (count : ℕ) (old new : Option (List ℕ)) (before after : ℕ)
+    (ended : Status) → IsWritten (fault_text Memory) status.Fault old new before after ended
+    → (words : List (List ℕ)) → Writes (IsRightAsked words held held count count) old new before after ended
+no-words-asked held count old new before after ended is words = go (asks_for_json words) refl
+  where
+    go : (asked : Bool) → asks_for_json words ≡ asked
+        → Writes (IsRightAsked words held held count count) old new before after ended
+    go true ask = record {
+      text = fault_text Memory;
+      right = status.Fault;
+      is_right = in_json ask (unmade refl refl);
+      is_written = is;
+    }
+    go false ask =
+        let plain = no-words held count old new before after ended is words in
+        record {
+          text = plain.text;
+          right = plain.right;
+          is_right = in_lines ask plain.is_right;
+          is_written = plain.is_written;
+        }

@@ -1,8 +1,0 @@
-use Rattle.std.proofs.Common.{◌≡◌, drop}
-use Rattle.command_line.specs.Explain.{asked_in}
-use Rattle.command_line.specs.Form.{texts}
-use Rattle.command_line.proofs.explain.is_asked.Given as goal
-
--- no word so far settles it, so it is settled by those that are left
-abbrev pub invariant-loop-word : goal.invariant-loop-word
-invariant-loop-word l = asked_in (texts (drop l.word-index l.words)) ≡ asked_in (texts l.words)

@@ -1,0 +1,201 @@
+//! Lines, back from the object that stands for them in JSON.
+//!
+//! A form here is a line with the names of members in braces. After a `|` comes the word for a member that is null or
+//! isn't there, and a blank before a name is there where the member is.
+
+use serde_json::Value;
+use std::alloc::{AllocError, Global};
+
+/// The members of an answer in the order of their lines, each with the form of its line, and with that of its items
+/// where it is an array.
+const LINES: [(&str, &str, &str); 22] = [
+    ("convention", "convention {convention}", ""),
+    ("interface", "", "{name} {value}"),
+    ("historical", "historical {historical}", ""),
+    ("tck", "tck {tck|absent}", ""),
+    ("F", "F {F|reserved}", ""),
+    ("D", "D {D|reserved}", ""),
+    ("t1", "t1 {t1}", ""),
+    ("nad", "nad {nad}", ""),
+    ("pcb", "", ""),
+    ("inf", "inf {inf}", ""),
+    ("lrc", "lrc {lrc}", ""),
+    ("blocks", "blocks {blocks}", ""),
+    ("message", "message {message}", ""),
+    ("case", "case {case}{ length}", ""),
+    ("header", "header {header}", ""),
+    ("part", "part {part}", ""),
+    ("le", "le {le|none}", ""),
+    ("status", "status {status} {class}", ""),
+    (
+        "objects",
+        "objects {count}",
+        "{tag} {length} {value|constructed}",
+    ),
+    ("entries", "entries {count}", "{tag} {length}"),
+    (
+        "exchanges",
+        "",
+        "exchange {exchange} command {command} answer {answer} blocks {blocks} \
+            lost {lost} damaged {damaged} time {time|none}",
+    ),
+    ("other", "", ""),
+];
+
+/// The forms of a line that has an object of its own, each with a member that this has.
+const INNER: [(&str, &str); 5] = [
+    ("ifsc", "t1 ifsc {ifsc} bwi {bwi} cwi {cwi}"),
+    ("more", "pcb {kind} number {number} more {more}"),
+    ("error", "pcb {kind} number {number} error {error}"),
+    ("request", "pcb {kind} request {request}"),
+    ("response", "pcb {kind} response {response}"),
+];
+
+/// The lines for which a text in JSON stands, or none where it is no JSON.
+pub(crate) fn lines_of(alloc: Global, json: &str) -> Result<Option<String>, AllocError> {
+    let Ok(answer) = Value::from_str(alloc, json) else {
+        return Ok(None);
+    };
+    let mut text = String::new(alloc);
+    for &(name, before) in &[("terminal", "terminal: "), ("card", "card: ")] {
+        if let Some(end) = answer.get(name) {
+            text.push_str(before)?;
+            add_line(alloc, &mut text, end, verdict_form(end))?;
+        }
+    }
+    add_line(alloc, &mut text, &answer, verdict_form(&answer))?;
+    for &(name, form, item) in &LINES {
+        if let Some(value) = answer.get(name) {
+            add_member(alloc, &mut text, &answer, value, form, item)?;
+        }
+    }
+    Ok(Some(text))
+}
+
+/// The form of the line that has the verdict, or none for a value that is shown.
+fn verdict_form(object: &Value) -> &'static str {
+    let is_there = |name| object.get(name).is_some();
+    match object.get("verdict").and_then(Value::as_str) {
+        Some("ok") if is_there("octets") => "ok {octets} octets",
+        Some("ok") if is_there("lines") => "ok {lines} lines",
+        Some("short") => "short at {at}",
+        Some("refused") if is_there("at") => "refused at {at}: {reason}",
+        Some("refused") => "refused: {reason}",
+        Some("fault") if is_there("line") => "fault: line {line}: {fault}",
+        Some("fault") => "fault: {fault}",
+        Some("differs") => "line {line}: engine gives {gives}",
+        _ => "",
+    }
+}
+
+/// Adds the lines for which a member of an answer stands.
+fn add_member(
+    alloc: Global,
+    text: &mut String,
+    answer: &Value,
+    value: &Value,
+    form: &str,
+    item: &str,
+) -> Result<(), AllocError> {
+    match value {
+        Value::Object(_) => add_inner(alloc, text, value),
+        Value::Array(items) => {
+            add_line(alloc, text, answer, form)?;
+            for one in items {
+                add_item(alloc, text, one, item)?;
+            }
+            Ok(())
+        }
+        _ => add_line(alloc, text, answer, form),
+    }
+}
+
+/// Adds the line for which an object in an answer stands.
+fn add_inner(alloc: Global, text: &mut String, object: &Value) -> Result<(), AllocError> {
+    for &(name, form) in &INNER {
+        if object.get(name).is_some() {
+            add_line(alloc, text, object, form)?;
+        }
+    }
+    Ok(())
+}
+
+/// Adds the line for which an item stands: a line itself, or an object. Each depth above 1 has two blanks.
+fn add_item(alloc: Global, text: &mut String, item: &Value, form: &str) -> Result<(), AllocError> {
+    if let Value::String(line) = item {
+        text.push_str(line.as_str())?;
+        text.push('\n')?;
+        return Ok(());
+    }
+    let depth = item.get("depth").and_then(Value::as_u64).unwrap_or(1);
+    for _ in 1..depth {
+        text.push_str("  ")?;
+    }
+    add_line(alloc, text, item, form)
+}
+
+/// Adds a line of a form that isn't empty, with the members of an object.
+fn add_line(
+    alloc: Global,
+    text: &mut String,
+    object: &Value,
+    form: &str,
+) -> Result<(), AllocError> {
+    if form.is_empty() {
+        return Ok(());
+    }
+    let mut pieces = form.split('{');
+    text.push_str(pieces.next().unwrap_or(""))?;
+    for piece in pieces {
+        let (place, words) = piece.split_once('}').unwrap_or((piece, ""));
+        add_place(alloc, text, object, place)?;
+        text.push_str(words)?;
+    }
+    text.push('\n')
+}
+
+/// Adds what a member of an object has at a place.
+fn add_place(
+    alloc: Global,
+    text: &mut String,
+    object: &Value,
+    place: &str,
+) -> Result<(), AllocError> {
+    let (name, null) = place.split_once('|').unwrap_or((place, ""));
+    match name.strip_prefix(' ') {
+        None => add_value(alloc, text, object.get(name), null),
+        Some(name) if object.get(name).is_none() => Ok(()),
+        Some(name) => {
+            text.push(' ')?;
+            add_value(alloc, text, object.get(name), null)
+        }
+    }
+}
+
+/// Adds a value as a line has it.
+fn add_value(
+    alloc: Global,
+    text: &mut String,
+    value: Option<&Value>,
+    null: &str,
+) -> Result<(), AllocError> {
+    match value {
+        None | Some(Value::Null) => text.push_str(null),
+        Some(Value::String(word)) if word.is_empty() => text.push_str("none"),
+        Some(Value::String(word)) => text.push_str(word.as_str()),
+        Some(Value::Array(items)) if items.is_empty() => text.push_str("none"),
+        Some(Value::Array(items)) => add_items(alloc, text, items),
+        Some(value) => text.push_str(value.to_string(alloc)?.as_str()),
+    }
+}
+
+/// Adds numbers, with commas between them.
+fn add_items(alloc: Global, text: &mut String, items: &[Value]) -> Result<(), AllocError> {
+    let mut before = "";
+    for item in items {
+        text.push_str(before)?;
+        text.push_str(item.to_string(alloc)?.as_str())?;
+        before = ",";
+    }
+    Ok(())
+}
