@@ -69,7 +69,7 @@ pick-other sum y z e = rw e refl
 pick-last : (sum : ℕ) (y z : Came) → sum ≡ 1 → (if sum == 0 then y else z) ≡ z
 pick-last sum y z e = rw e refl
 
-damaged-sum : (b : List ℕ) → xor_of (b ++ bit_xor (xor_of b) 1 ∷ []) ≡ 1
+pub damaged-sum : (b : List ℕ) → xor_of (b ++ bit_xor (xor_of b) 1 ∷ []) ≡ 1
 damaged-sum b =
     fold-append bit_xor 0 b (bit_xor (xor_of b) 1 ∷ []) ∙ sym (xor_assoc (xor_of b) (xor_of b) 1)
     ∙ ap (λ (x : ℕ). bit_xor x 1) (xor_self (xor_of b)) ∙ xor_zero_l 1

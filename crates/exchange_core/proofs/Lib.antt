@@ -12,3 +12,4 @@ pub mod Acting
 pub mod Reaching
 pub mod Accounts
 pub mod Folds
+pub mod Stepping

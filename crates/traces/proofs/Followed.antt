@@ -145,11 +145,11 @@ waits-C Waits e = (refl, refl)
 waits-C Left e = cc
 waits-C (Sends block) e = cc
 
-left-both : (a b : Bool) → a && b ≡ true → a ≡ true
+pub left-both : (a b : Bool) → a && b ≡ true → a ≡ true
 left-both true b e = refl
 left-both false b e = cc
 
-right-both : (a b : Bool) → a && b ≡ true → b ≡ true
+pub right-both : (a b : Bool) → a && b ≡ true → b ≡ true
 right-both true b e = e
 right-both false b e = cc
 

@@ -6,3 +6,8 @@ pub mod Arriving
 pub mod Moments
 pub mod Keeping
 pub mod Followed
+pub mod Awaiting
+pub mod Changing
+pub mod Stepping
+pub mod Continuing
+pub mod Again

@@ -7,3 +7,4 @@ pub mod Following
 pub mod Recorded
 pub mod Arrived
 pub mod Followed
+pub mod Again

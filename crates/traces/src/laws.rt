@@ -1,6 +1,7 @@
 //! What holds of each recording, as contracts of functions that a caller may call to know it.
 
 ghost use Rattle.std.specs.Prelude.{◌≡◌, ℕ, List};
+ghost use Rattle.traces.specs.Again.{MadeAgain};
 ghost use Rattle.traces.specs.Arrived.{arrived_in, arrived_of};
 ghost use Rattle.traces.specs.Followed.{FollowedReplays};
 ghost use Rattle.traces.specs.Recorded.{lines_of};
@@ -17,4 +18,13 @@ pub fn seen_blocks_arrive()
 /// end (`is_followed` in `specs/Followed.antt`), and what was added for it is what makes it send what was seen.
 pub fn followed_end_replays()
     ensures { FollowedReplays }
+{}
+
+/// What a [`Recorder`](exchange_core::Recorder) recorded is made again from its line alone: the exchange of the trace of
+/// all that was on the line, the lost blocks and the waiting times that ended among it, is line for line the one that
+/// the recorder wrote. Whatever happened between both ends, it holds where the blocks tell what the applications called
+/// (`AreTold` in `specs/Again.antt`): where each message was sent whole, and each request for a size or for time was
+/// sent.
+pub fn recorded_is_made_again()
+    ensures { MadeAgain }
 {}

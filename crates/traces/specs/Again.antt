@@ -1,0 +1,65 @@
+-- What a recorder recorded, made again from what was on its line.
+use Rattle.std.specs.Prelude.{◌≡◌, ℕ, List, [], ◌∷◌, ◌++◌, Ok, true, false}
+use Rattle.t1_core.specs.Link.{Event}
+use Rattle.t1_core.specs.Promises.{AllHandOctets}
+use Rattle.exchange_text.specs.declared.line.Arrival.{Arrival}
+use Rattle.exchange_text.specs.declared.line.Arrival.TheVariants.{Whole, Lost, Changed}
+use Rattle.exchange_text.specs.declared.line.Line.{Line}
+use Rattle.exchange_text.specs.declared.line.Line.TheVariants as line
+use Rattle.exchange_core.specs.Recording.{closed}
+use Rattle.exchange_core.specs.Records as records
+use Rattle.exchange_core.specs.Replay.{IsFound}
+use Rattle.exchange_core.specs.declared.replaying.Side.{Side}
+use Rattle.exchange_core.specs.declared.replaying.Side.TheVariants as side
+use Rattle.traces.specs.declared.said.Numbers.{Numbers}
+use Rattle.traces.specs.declared.trace.Item.{Item}
+use Rattle.traces.specs.declared.trace.Item.TheVariants.{Block, Quiet, Moment}
+use Rattle.traces.specs.Recorded.{lines_of}
+use Rattle.traces.specs.Said.{application_line, at_first, host_line, numbers_after}
+
+-- what was seen of a block: of a changed one the octets that arrived
+abbrev pub block_items : Side → List ℕ → Arrival → List Item
+block_items from sent Whole = Block from sent false ∷ []
+block_items from sent Lost = Block from sent true ∷ []
+block_items from sent (Changed octets) = Block from octets false ∷ []
+
+-- what was on the line where a line of an exchange says so
+abbrev pub line_items : Line → List Item
+line_items (line.FromTerminal sent arrival) = block_items side.Terminal sent arrival
+line_items (line.FromCard sent arrival) = block_items side.Card sent arrival
+line_items line.Quiet = Quiet ∷ []
+line_items (line.Moment moment) = Moment moment ∷ []
+line_items line = []
+
+-- All that was on the line, in its order: a trace of the exchange, in which no word of an application is left.
+abbrev pub items_of : List Line → List Item
+items_of [] = []
+items_of (line ∷ lines) = line_items line ++ items_of lines
+
+-- the numbers of the last I-blocks after these items
+abbrev pub numbers_over : Numbers → List Item → Numbers
+numbers_over n [] = n
+numbers_over n (item ∷ items) = numbers_over (numbers_after n item) items
+
+-- A call of an application, where these items come after it, is the one that they tell: a message was sent whole, and
+-- a request for a size or for time was sent.
+abbrev pub IsTold : Numbers → List Item → Line → Type 0
+IsTold n items (line.Command octets) = application_line n items ≡ line.Command octets
+IsTold n items (line.Ifsd size) = application_line n items ≡ line.Ifsd size
+IsTold n items (line.Reply octets) = host_line n items ≡ line.Reply octets
+IsTold n items (line.Time multiple) = host_line n items ≡ line.Time multiple
+IsTold n items (line.Ifsc size) = host_line n items ≡ line.Ifsc size
+IsTold n items line = Unit {0}
+
+-- each call of these lines is
+abbrev pub AreTold : Numbers → List Line → Type 0
+AreTold n [] = Unit {0}
+AreTold n (line ∷ lines) = IsTold n (items_of lines) line × AreTold (numbers_over n (line_items line)) lines
+
+-- Whatever happened to a recorder, what it recorded is what is recorded of the trace of its line, where the blocks tell
+-- what both applications called.
+abbrev pub MadeAgain : Type 0
+MadeAgain = (atr : List ℕ) (ifsc : ℕ) (events : List Event) → IsFound atr (Ok ifsc) → AllHandOctets events
+    → AreTold at_first (closed (records.after_events events (records.begun atr ifsc)))
+    → lines_of ifsc (items_of (closed (records.after_events events (records.begun atr ifsc))))
+    ≡ closed (records.after_events events (records.begun atr ifsc))
