@@ -111,9 +111,11 @@ impl<'a> BlockRef<'a> {
         ensures most { result ≤ 258 }
     {
         let len = self.inf.len();
-        put(out, 0, &[self.nad, self.pcb.octet(), len as u8]);
+        let head = [self.nad, self.pcb.octet(), len as u8];
+        put(out, 0, &head);
         put(out, 3, self.inf);
-        let sum = sum_of(&out[..len + 3]);
+        // of the octets where they came from: what was just written takes longer to read
+        let sum = lrc(&head) ^ sum_of(self.inf);
         put(out, len + 3, &[sum]);
         len + 4
     }
