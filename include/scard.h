@@ -564,7 +564,8 @@ struct scard_turn {
 };
 
 /* Open an end for these parameters of T=1. All the memory of an end is taken here, some 131 KB; what the handle
- * held is freed. Unless it is OK the handle stays as it was. OK, MEMORY, ARGUMENT (`ifsc` is 0 or 255, or an index
+ * held is freed. Where the handle holds such an end already, that is made a new one in the memory that it has, where
+ * what it held is overwritten, and none is taken. Unless it is OK the handle stays as it was. OK, MEMORY, ARGUMENT (`ifsc` is 0 or 255, or an index
  * is above 15). An end measures no time, so it only looks whether the indexes are in range.
  *
  * A terminal and a card begin together, at a reset of the card. A terminal that is opened while its card goes on has

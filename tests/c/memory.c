@@ -262,7 +262,9 @@ static void try_opening(opening *open, int is_full)
         scard_close(&handle);
     } while (refused);
     CHECK(v.status == SCARD_OK && v.place == 0);
-    CHECK(turn > 1 && held == at_first);
+    /* the handle's own terminal begins anew where it is */
+    CHECK(open == open_terminal && is_full ? turn == 1 : turn > 1);
+    CHECK(held == at_first);
 }
 
 /* ---- calls that take none ---- */

@@ -163,6 +163,7 @@ static void in_a_block_without_its_end(struct scard_handle *handle)
 }
 
 typedef void holder(struct scard_handle *handle);
+typedef struct scard_verdict opening(struct scard_handle *handle, uint8_t ifsc, uint8_t bwi, uint8_t cwi);
 
 static holder *const holders[] = {
     in_a_command, in_an_answer, in_a_command_that_came, in_a_reply, in_a_chain,
@@ -181,6 +182,23 @@ static void is_overwritten(holder *hold)
     CHECK(scard_atr_reader_open(&handle).status == SCARD_OK);
     CHECK(holding() == 0 && left_behind == 0);
     scard_close(&handle);
+}
+
+/* An end that is opened again where it is takes no memory, and nothing is left of what it held. */
+static void begins_anew(holder *hold, opening *open)
+{
+    struct scard_handle handle = SCARD_HANDLE_EMPTY;
+    int before;
+    hold(&handle);
+    before = taken;
+    CHECK(holding() == 1);
+    CHECK(open(&handle, 254, 4, 5).status == SCARD_OK);
+    CHECK(holding() == 0 && left_behind == 0 && taken == before);
+    hold(&handle);
+    CHECK(holding() == 1 && taken == before);
+    CHECK(open(&handle, 0, 4, 5).status == SCARD_ARGUMENT && holding() == 1);
+    scard_close(&handle);
+    CHECK(holding() == 0 && left_behind == 0);
 }
 
 /* ---- how much is taken ---- */
@@ -209,6 +227,10 @@ int main(void)
     for (at = 0; at < sizeof holders / sizeof holders[0]; at++) {
         is_overwritten(holders[at]);
     }
+    begins_anew(in_a_command, scard_terminal_open);
+    begins_anew(in_an_answer, scard_terminal_open);
+    begins_anew(in_a_command_that_came, scard_card_open);
+    begins_anew(in_a_reply, scard_card_open);
     is_exact();
     return verdict_of_checks("wiped");
 }

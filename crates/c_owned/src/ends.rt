@@ -1,6 +1,6 @@
 //! Both ends of T=1 in handles (ISO/IEC 7816-3, clause 11.6).
 
-ghost use Rattle.std.specs.Prelude.{◌≡◌, ◌≢◌, ◌≤◌, ◌<◌, length, None, Some};
+ghost use Rattle.std.specs.Prelude.{◌≡◌, ◌≢◌, ◌≤◌, ◌<◌, length, None, Some, true, false};
 ghost use Rattle.atr_core.specs.T1.{IsUsable};
 ghost use Rattle.t1_core.specs.Came.{class_of, quiet};
 ghost use Rattle.t1_core.specs.Terminal.{new_terminal, transmit, ask_ifs, takes};
@@ -23,7 +23,8 @@ use c_lent::verdict::Verdict;
 use std::alloc::Global;
 use t1_core::{Card, Terminal};
 
-/// Opens a terminal for a card with these parameters of T=1; what the handle held is freed.
+/// Opens a terminal for a card with these parameters of T=1. A terminal that the handle holds is made a new one, in the
+/// memory that it has, where what it held is overwritten; anything else is freed.
 pub fn terminal_open(alloc: Global, handle: &mut Handle, ifsc: u8, bwi: u8, cwi: u8) -> Verdict
     ensures ok { result.status ≡ 0 →
         (result ≡ ok_at 0) × (handle.new.engine ≡ Some (TerminalEnd (new_terminal ifsc))) }
@@ -36,13 +37,17 @@ pub fn terminal_open(alloc: Global, handle: &mut Handle, ifsc: u8, bwi: u8, cwi:
     let Some(params) = T1Params::new(ifsc, bwi, cwi) else {
         return Verdict::argument();
     };
+    if begins_terminal(alloc, handle, params) {
+        return Verdict::ok(0);
+    }
     match Terminal::new(alloc, params) {
         Ok(terminal) => opened(alloc, handle, Engine::Terminal(terminal)),
         Err(_) => Verdict::memory(),
     }
 }
 
-/// Opens a card with these parameters of T=1; what the handle held is freed.
+/// Opens a card with these parameters of T=1. A card that the handle holds is made a new one, in the memory that it
+/// has, where what it held is overwritten; anything else is freed.
 pub fn card_open(alloc: Global, handle: &mut Handle, ifsc: u8, bwi: u8, cwi: u8) -> Verdict
     ensures ok { result.status ≡ 0 →
         (result ≡ ok_at 0) × (handle.new.engine ≡ Some (CardEnd (new_card ifsc))) }
@@ -55,10 +60,40 @@ pub fn card_open(alloc: Global, handle: &mut Handle, ifsc: u8, bwi: u8, cwi: u8)
     let Some(params) = T1Params::new(ifsc, bwi, cwi) else {
         return Verdict::argument();
     };
+    if begins_card(alloc, handle, params) {
+        return Verdict::ok(0);
+    }
     match Card::new(alloc, params) {
         Ok(card) => opened(alloc, handle, Engine::Card(card)),
         Err(_) => Verdict::memory(),
     }
+}
+
+/// Makes the terminal that a handle holds a new one; whether there is one for the longest messages.
+fn begins_terminal(alloc: Global, handle: &mut Handle, params: T1Params) -> bool
+    ensures begun { result ≡ true → handle.new.engine ≡ Some
+        (TerminalEnd (new_terminal params.ifsc)) }
+    ensures stays { result ≡ false → handle.new.engine ≡ handle.old.engine }
+{
+    let Some(mut engine) = handle.take(alloc) else {
+        return false;
+    };
+    let has_begun = engine.begins_terminal(params);
+    handle.put(engine);
+    has_begun
+}
+
+/// Makes the card that a handle holds a new one; whether there is one for the longest messages.
+fn begins_card(alloc: Global, handle: &mut Handle, params: T1Params) -> bool
+    ensures begun { result ≡ true → handle.new.engine ≡ Some (CardEnd (new_card params.ifsc)) }
+    ensures stays { result ≡ false → handle.new.engine ≡ handle.old.engine }
+{
+    let Some(mut engine) = handle.take(alloc) else {
+        return false;
+    };
+    let has_begun = engine.begins_card(params);
+    handle.put(engine);
+    has_begun
 }
 
 pub(crate) fn opened(alloc: Global, handle: &mut Handle, engine: Engine) -> Verdict

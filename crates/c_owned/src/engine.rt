@@ -1,10 +1,15 @@
 //! What a handle holds.
 
+ghost use Rattle.std.specs.Prelude.{◌≡◌, true};
+ghost use Rattle.chain_core.specs.Longest.{longest_command, longest_response};
+
 use crate::call::{Call, call_card, call_terminal};
 use crate::reader::Reader;
+use atr_core::T1Params;
 use c_lent::call::{CardCall, TerminalCall};
 use c_lent::turn::{CTurn, NO_END};
 use c_lent::verdict::Verdict;
+use chain_core::{LONGEST_COMMAND, LONGEST_RESPONSE};
 use t1_core::{Card, Terminal};
 
 /// The engines that a handle can hold.
@@ -16,7 +21,10 @@ pub enum Engine {
 }
 
 impl Engine {
-    ghost use Rattle.std.specs.Prelude.{◌≤◌, length, Some};
+    ghost use Rattle.std.specs.Prelude.{◌≡◌, ◌≤◌, length, Some, true, false};
+    ghost use Rattle.t1_core.specs.Terminal.{new_terminal};
+    ghost use Rattle.t1_core.specs.Card.{new_card};
+    ghost use Rattle.c_owned.specs.declared.engine.Engine.TheVariants.{Terminal as TerminalEnd, Card as CardEnd};
     ghost use Rattle.t1_core.specs.Views.{IsSlice};
     ghost use Rattle.c_owned.specs.Calls.{Takes};
     ghost use Rattle.c_lent.specs.Calls.{terminal_input, card_input};
@@ -59,6 +67,34 @@ impl Engine {
         }
     }
 
+    /// Makes a terminal a new one, in the memory that it has; whether this is one for the longest messages.
+    pub(crate) fn begins_terminal(&mut self, params: T1Params) -> bool
+        ensures begun { result ≡ true → self.new ≡ TerminalEnd (new_terminal params.ifsc) }
+        ensures stays { result ≡ false → self.new ≡ self.old }
+    {
+        match self {
+            Engine::Terminal(end) if is_longest(end.most_command(), end.most_answer()) => {
+                end.reset(params);
+                true
+            }
+            _ => false,
+        }
+    }
+
+    /// Makes a card a new one, in the memory that it has; whether this is one for the longest messages.
+    pub(crate) fn begins_card(&mut self, params: T1Params) -> bool
+        ensures begun { result ≡ true → self.new ≡ CardEnd (new_card params.ifsc) }
+        ensures stays { result ≡ false → self.new ≡ self.old }
+    {
+        match self {
+            Engine::Card(end) if is_longest(end.most_command(), end.most_reply()) => {
+                end.reset(params);
+                true
+            }
+            _ => false,
+        }
+    }
+
     /// The answer of a terminal, the command for which the card's host owes the reply, or the message of a
     /// whole chain.
     pub(crate) fn message(&self) -> Option<&[u8]>
@@ -90,4 +126,11 @@ impl Engine {
             Engine::Terminal(_) | Engine::Card(_) => Verdict::argument(),
         }
     }
+}
+
+/// Whether an end with room for so many octets takes the longest messages.
+fn is_longest(command: usize, answer: usize) -> bool
+    ensures { result ≡ true → (command ≡ longest_command) × (answer ≡ longest_response) }
+{
+    command == LONGEST_COMMAND && answer == LONGEST_RESPONSE
 }

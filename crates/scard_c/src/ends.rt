@@ -15,8 +15,9 @@ use c_lent::verdict::Verdict;
 use c_owned::handle::Handle;
 use std::alloc::Global;
 
-/// Opens a terminal for a card with these parameters of T=1; what the handle held is freed. It reserves all
-/// the memory that it needs. `ARGUMENT` where `ifsc` is 0 or 255, or an index is above 15. Unless it is
+/// Opens a terminal for a card with these parameters of T=1. A terminal that the handle holds is made a new one, in the
+/// memory that it has, where what it held is overwritten; else all the memory that it needs is reserved, and what the
+/// handle held is freed. `ARGUMENT` where `ifsc` is 0 or 255, or an index is above 15. Unless it is
 /// `OK` the handle stays.
 #[unsafe(no_mangle)]
 pub extern "C" fn scard_terminal_open(
@@ -37,8 +38,9 @@ pub extern "C" fn scard_terminal_open(
     c_owned::ends::terminal_open(alloc, handle, ifsc, bwi, cwi)
 }
 
-/// Opens a card with these parameters of T=1; what the handle held is freed. It reserves all the memory
-/// that it needs. `ARGUMENT` where `ifsc` is 0 or 255, or an index is above 15. Unless it is `OK` the
+/// Opens a card with these parameters of T=1. A card that the handle holds is made a new one, in the memory that it has,
+/// where what it held is overwritten; else all the memory that it needs is reserved, and what the handle held is freed.
+/// `ARGUMENT` where `ifsc` is 0 or 255, or an index is above 15. Unless it is `OK` the
 /// handle stays.
 #[unsafe(no_mangle)]
 pub extern "C" fn scard_card_open(

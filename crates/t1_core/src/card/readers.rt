@@ -44,6 +44,20 @@ impl Card {
     {
         self.places.awaits_block()
     }
+
+    /// The most octets of a command that the card takes: it has room for these.
+    pub fn most_command(&self) -> usize
+        ensures { result ≡ self.now.limits.command }
+    {
+        self.places.most_command
+    }
+
+    /// The most octets of its host's reply that the card takes.
+    pub fn most_reply(&self) -> usize
+        ensures { result ≡ self.now.limits.answer }
+    {
+        self.places.most_reply
+    }
 }
 
 impl CardPlaces {

@@ -56,6 +56,20 @@ impl Terminal {
     {
         self.places.is_dead()
     }
+
+    /// The most octets of a command that the terminal takes: it has room for these.
+    pub fn most_command(&self) -> usize
+        ensures { result ≡ self.now.limits.command }
+    {
+        self.places.most_command
+    }
+
+    /// The most octets of an answer that the terminal takes.
+    pub fn most_answer(&self) -> usize
+        ensures { result ≡ self.now.limits.answer }
+    {
+        self.places.most_answer
+    }
 }
 
 impl TerminalPlaces {
