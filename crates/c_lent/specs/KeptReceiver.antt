@@ -2,8 +2,8 @@
 use Rattle.std.specs.Prelude.{◌≡◌, ℕ, ◌==◌, if◌then◌else◌, List, length, Bool, Option, Some, None}
 use Rattle.octet_core.specs.declared.stop.Refusal.{Refusal}
 use Rattle.block_core.specs.declared.pcb.Number.{Number}
-use Rattle.chain_core.specs.declared.part.Part.{Part}
-use Rattle.chain_core.specs.declared.part.Part.TheVariants.{Nad, Pcb, Len, Rest}
+use Rattle.chain_core.specs.declared.stage.BlockStage.{BlockStage}
+use Rattle.chain_core.specs.declared.stage.BlockStage.TheVariants.{Nad, Pcb, Len, Rest}
 use Rattle.chain_core.specs.declared.places.ReceiverPlaces.{ReceiverPlaces}
 use Rattle.chain_core.specs.declared.reason.ChainReason.{ChainReason}
 use Rattle.chain_core.specs.declared.reason.ChainReason.TheVariants.{BadNad, BadPcb, NotInfo, BadSequence, TooManyBlocks, BadLen, OverIfs, TooLong, BadLrc}
@@ -14,8 +14,8 @@ use Rattle.c_lent.specs.Kept.{mark_of}
 use Rattle.c_lent.specs.declared.kept_receiver.CReceiver.{CReceiver}
 
 -- what comes next of the block under way, by its number
-abbrev pub part_of : ℕ → Bool → ℕ → Option Part
-part_of kind more len =
+abbrev pub stage_of : ℕ → Bool → ℕ → Option BlockStage
+stage_of kind more len =
     if kind == 0 then Some Nad
     else (if kind == 1 then Some Pcb
     else (if kind == 2 then Some (Len more)
@@ -39,28 +39,29 @@ refusal_from n place =
     else (if n == 8 then refused_at TooLong place
     else (if n == 9 then refused_at BadLrc place else None)))))))))
 
-abbrev pub part_from : CReceiver → Option Bool → Option Part
-part_from c None = None
-part_from c (Some more) = part_of c.part more c.len
+abbrev pub stage_from : CReceiver → Option Bool → Option BlockStage
+stage_from c None = None
+stage_from c (Some more) = stage_of c.part more c.len
 
-abbrev pub receiver_from : CReceiver → Option Number → Option Part → Option Bool → Option (Option (Refusal ChainReason))
+abbrev pub receiver_from : CReceiver → Option Number → Option BlockStage → Option Bool
+    → Option (Option (Refusal ChainReason))
     → Option ReceiverPlaces
-receiver_from c (Some first) (Some part) (Some is_done) (Some refusal) = Some (record {
+receiver_from c (Some first) (Some stage) (Some is_done) (Some refusal) = Some (record {
   ifs = c.ifs;
   first = first;
   max = c.max;
   blocks = c.blocks;
   joined = c.joined;
-  part = part;
+  stage = stage;
   came = c.came;
   done = is_done;
   refusal = refusal;
 })
-receiver_from c first part is_done refusal = None
+receiver_from c first stage is_done refusal = None
 
 -- the places that a state spells, if any
 abbrev pub receiver_of : CReceiver → Option ReceiverPlaces
-receiver_of c = receiver_from c (number_of c.number) (part_from c (mark_of c.more)) (mark_of c.done)
+receiver_of c = receiver_from c (number_of c.number) (stage_from c (mark_of c.more)) (mark_of c.done)
     (refusal_from c.refused c.refused_at)
 
 -- A state and a buffer are this receiver. Where they are none, no receiver is it.

@@ -2,16 +2,16 @@
 
 ghost use Rattle.std.specs.Prelude.{◌≡◌, IfSome, IfNone, Some};
 ghost use Rattle.octet_core.specs.declared.stop.Refusal.{Refusal};
-ghost use Rattle.chain_core.specs.declared.part.Part.{Part};
+ghost use Rattle.chain_core.specs.declared.stage.BlockStage.{BlockStage};
 ghost use Rattle.chain_core.specs.declared.reason.ChainReason.{ChainReason};
 ghost use Rattle.chain_core.specs.declared.places.ReceiverPlaces.{ReceiverPlaces};
 ghost use Rattle.chain_core.specs.Places.{AreReceiverPlaces};
-ghost use Rattle.c_lent.specs.KeptReceiver.{part_of, refusal_from, receiver_of};
+ghost use Rattle.c_lent.specs.KeptReceiver.{stage_of, refusal_from, receiver_of};
 
 use crate::kept::{mark, mark_of, octet};
 use crate::number::number_of;
 use crate::verdict::Numbered;
-use chain_core::{ChainReason, Part, ReceiverPlaces};
+use chain_core::{BlockStage, ChainReason, ReceiverPlaces};
 use octet_core::Refusal;
 
 /// The state of a receiver. Its fields are the library's own: no other value than those that a call left is of use,
@@ -34,27 +34,27 @@ pub struct CReceiver {
 }
 
 /// What comes next of the block under way, by its number.
-fn part_of(kind: u8, more: bool, len: u8) -> Option<Part>
-    ensures { result ≡ part_of kind more len }
+fn stage_of(kind: u8, more: bool, len: u8) -> Option<BlockStage>
+    ensures { result ≡ stage_of kind more len }
 {
     match kind {
-        0 => Some(Part::Nad),
-        1 => Some(Part::Pcb),
-        2 => Some(Part::Len { more }),
-        3 => Some(Part::Rest { more, len }),
+        0 => Some(BlockStage::Nad),
+        1 => Some(BlockStage::Pcb),
+        2 => Some(BlockStage::Len { more }),
+        3 => Some(BlockStage::Rest { more, len }),
         _ => None,
     }
 }
 
 /// Its number, whether more blocks follow, and the length of the field.
-fn part_number(part: Part) -> (u8, bool, u8)
-    ensures { part_of result.0 result.1 result.2 ≡ Some part }
+fn stage_number(stage: BlockStage) -> (u8, bool, u8)
+    ensures { stage_of result.0 result.1 result.2 ≡ Some stage }
 {
-    match part {
-        Part::Nad => (0, false, 0),
-        Part::Pcb => (1, false, 0),
-        Part::Len { more } => (2, more, 0),
-        Part::Rest { more, len } => (3, more, len),
+    match stage {
+        BlockStage::Nad => (0, false, 0),
+        BlockStage::Pcb => (1, false, 0),
+        BlockStage::Len { more } => (2, more, 0),
+        BlockStage::Rest { more, len } => (3, more, len),
     }
 }
 
@@ -93,7 +93,7 @@ impl CReceiver {
     pub fn of(places: &ReceiverPlaces) -> CReceiver
         ensures { receiver_of result ≡ Some places.now }
     {
-        let (part, more, len) = part_number(places.part);
+        let (part, more, len) = stage_number(places.stage);
         let (refused, refused_at) = refusal_number(places.refusal);
         CReceiver {
             refused_at,
@@ -117,7 +117,7 @@ impl CReceiver {
     {
         let first = number_of(self.number)?;
         let more = mark_of(self.more)?;
-        let part = part_of(self.part, more, self.len)?;
+        let stage = stage_of(self.part, more, self.len)?;
         let done = mark_of(self.done)?;
         let refusal = refusal_from(self.refused, self.refused_at)?;
         Some(ReceiverPlaces {
@@ -126,7 +126,7 @@ impl CReceiver {
             max: self.max,
             blocks: self.blocks,
             joined: self.joined,
-            part,
+            stage,
             came: self.came,
             done,
             refusal,

@@ -1,5 +1,5 @@
 -- What a receiver answers.
-use Rattle.std.proofs.Common.{◌≡◌, ℕ, ◌+◌, ◌*◌, ◌≤◌, ◌++◌, ◌⊎◌, List, [], length, take, drop, refl, sym, ap, subst, ◌∙◌, arith, Bool, true, false, append_assoc, inl, inr, Option, Some, None, Result, Ok, Err, IfErr}
+use Rattle.std.proofs.Common.{◌≡◌, ℕ, ◌+◌, ◌*◌, ◌≤◌, ◌++◌, ◌⊎◌, List, [], length, take, drop, refl, sym, ap, subst, ◌∙◌, arith, Bool, true, false, append_assoc, inl, inr, Option, Some, None, Result, Ok, Err, OnOk, IfErr}
 use Rattle.std.proofs.lemmas.List.{append-nil, take-append-drop, take-append-le}
 use Rattle.octet_core.specs.Grammar.{RefusesAt, self_ended}
 use Rattle.octet_core.specs.Reader.{IsFed, IsFinished}
@@ -16,7 +16,7 @@ use Rattle.octet_core.proofs.Begun.{begins-front}
 use Rattle.chain_core.proofs.Goes.{chain-begins}
 use Rattle.chain_core.proofs.Unique.{one-spelled}
 use Rattle.chain_core.specs.Taking.{Taking, HasTaken, AreTaken, AreBefore, IsOpen, IsClosed, nothing_taken, refusal_of}
-use Rattle.chain_core.specs.Receiving.{Goes, fed_answer, answer_after, end_answer}
+use Rattle.chain_core.specs.Receiving.{Goes, Fed, fed_answer, answer_after, end_answer}
 use Rattle.chain_core.specs.Places.{IsFinishedHere}
 use Rattle.chain_core.proofs.Taken.{done-spelled, length-taken}
 use Rattle.chain_core.proofs.Receiving.{not-chain}
@@ -79,13 +79,6 @@ not-spelled r t still h gs g =
     let a = subst (λ (d : Bool). AreTaken d r.number h.fields r.under_way t) still h.taken in
     not-chain r.ifs r.max r.number h.fields r.under_way a.0 gs (subst (IsChain r.ifs r.number r.max gs) a.1 g)
 
--- what a feed knows when it answers
-pub record Fed (old new : Taking) (piece : List ℕ) (n : ℕ) : Type 0 where
-  pub goes : Goes old new (take n piece)
-  pub inside : n ≤ length piece
-  pub closed : IsClosed old → (new ≡ old) × (n ≡ 0)
-  pub exit : (length piece ≤ n) ⊎ IsClosed new
-
 -- a receiver that took a chain is done
 pub full-done : (r : Taking) (t : List ℕ) (v : List (List ℕ)) → HasTaken r t → IsChain r.ifs r.number r.max v t
     → r.done ≡ true
@@ -116,6 +109,19 @@ chain-at old new gs t e f g h =
     subst (λ (m : ℕ). IsChain old.ifs old.number m gs t) g
     (subst (λ (n : Number). IsChain old.ifs n new.max gs t) f
     (subst (λ (i : ℕ). IsChain i new.number new.max gs t) e h))
+
+free-by : (old new : Taking) (piece : List ℕ) (n : ℕ) (o : Option (Refusal ChainReason)) → old.refusal ≡ o
+    → Fed old new piece n → new.refusal ≡ None → o ≡ None
+free-by old new piece n None e f none = refl
+free-by old new piece n (Some refusal) e f none =
+    none_some new.refusal refusal none (ap refusal_of (f.closed (inl (rw e refl))).0 ∙ e)
+
+-- one that refused nothing over a piece has taken some octets, where it had before
+pub fed-taken : (old new : Taking) (piece : List ℕ) (n : ℕ) → Fed old new piece n
+    → (old.refusal ≡ None → (t : List ℕ) × HasTaken old t) → new.refusal ≡ None → (t : List ℕ) × HasTaken new t
+fed-taken old new piece n f some none =
+    let before = some (free-by old new piece n old.refusal refl f none) in
+    (before.0 ++ take n piece, f.goes.on none before.0 before.1)
 
 -- a receiver that refuses nothing answers how many octets it took, and whether the chain is whole
 pub fed-on : (old new : Taking) (piece : List ℕ) (n : ℕ) → Fed old new piece n → new.refusal ≡ None
@@ -201,51 +207,54 @@ before-all old new piece n refusal f some t h =
 
 -- ---- the end
 
-ended-by : (r : Taking) (o : Option (Refusal ChainReason)) (d : Bool) → r.refusal ≡ o → r.done ≡ d
-    → IsFinishedHere r (answer_after o d (length r.joined + r.blocks * 4 + length r.under_way))
-ended-by r (Some refusal) d e f = record {
+-- what there is to say when no more octets come
+pub record Says (r : Taking) (result : Result Unit (Stop ChainReason)) : Type 0 where
+  pub here : IsFinishedHere r result
+  pub done : OnOk result ((r.refusal ≡ None) × (r.done ≡ true))
+  pub waits : IfErr result (λ stop. r.refusal ≡ None → (r.done ≡ false)
+      × (stop ≡ Short (length r.joined + r.blocks * 4 + length r.under_way)))
+
+pub says-by : (r : Taking) (o : Option (Refusal ChainReason)) (d : Bool) → r.refusal ≡ o → r.done ≡ d
+    → Says r (answer_after o d (length r.joined + r.blocks * 4 + length r.under_way))
+says-by r (Some refusal) d e f = record {
+  here = record {
+    done = tt;
+    short = λ none. none_some r.refusal refusal none e;
+    repeated = λ other g. ap (λ (x : Refusal ChainReason). Err (At x.place x.reason))
+        (some_is refusal other (sym e ∙ g));
+  };
   done = tt;
-  short = λ none. none_some r.refusal refusal none e;
-  repeated = λ other g. ap (λ (x : Refusal ChainReason). Err (At x.place x.reason)) (some_is refusal other (sym e ∙ g));
+  waits = λ none. none_some r.refusal refusal none e;
 }
-ended-by r None true e f = record {
-  done = λ t h. (h.fields, done-spelled r t h f);
-  short = tt;
-  repeated = λ refusal g. none_some r.refusal refusal e g;
+says-by r None true e f = record {
+  here = record {
+    done = λ t h. (h.fields, done-spelled r t h f);
+    short = tt;
+    repeated = λ refusal g. none_some r.refusal refusal e g;
+  };
+  done = (e, f);
+  waits = tt;
 }
-ended-by r None false e f = record {
+says-by r None false e f = record {
+  here = record {
+    done = tt;
+    short = λ none t h. (ap Short (sym (length-taken r t h)), not-spelled r t f h);
+    repeated = λ refusal g. none_some r.refusal refusal e g;
+  };
   done = tt;
-  short = λ none t h. (ap Short (sym (length-taken r t h)), not-spelled r t f h);
-  repeated = λ refusal g. none_some r.refusal refusal e g;
+  waits = λ none. (f, refl);
 }
 
--- and so is what it says at the end
-pub ended-here : (r : Taking) (result : Result Unit (Stop ChainReason)) → result ≡ end_answer r
-    → IsFinishedHere r result
-ended-here r result e = subst (IsFinishedHere r) (sym e) (ended-by r r.refusal r.done refl refl)
-
-waits-by : (r : Taking) (o : Option (Refusal ChainReason)) (d : Bool) → r.refusal ≡ o → r.done ≡ d
-    → IfErr (answer_after o d (length r.joined + r.blocks * 4 + length r.under_way)) (λ stop. r.refusal ≡ None
-    → (r.done ≡ false) × (stop ≡ Short (length r.joined + r.blocks * 4 + length r.under_way)))
-waits-by r (Some refusal) d e f = λ none. none_some r.refusal refusal none e
-waits-by r None true e f = tt
-waits-by r None false e f = λ none. (f, refl)
-
--- where it refused nothing it waits for more after the octets that were taken
-pub ended-waits : (r : Taking) (result : Result Unit (Stop ChainReason)) → result ≡ end_answer r
-    → IfErr result (λ stop. r.refusal ≡ None → (r.done ≡ false)
-    × (stop ≡ Short (length r.joined + r.blocks * 4 + length r.under_way)))
-ended-waits r result e =
-    subst (λ (x : Result Unit (Stop ChainReason)). IfErr x (λ stop. r.refusal ≡ None → (r.done ≡ false)
-    × (stop ≡ Short (length r.joined + r.blocks * 4 + length r.under_way)))) (sym e)
-    (waits-by r r.refusal r.done refl refl)
+-- what it answers by what it keeps is that
+pub says : (r : Taking) (result : Result Unit (Stop ChainReason)) → result ≡ end_answer r → Says r result
+says r result e = subst (Says r) (sym e) (says-by r r.refusal r.done refl refl)
 
 -- which is what a reader says there, where some octets may have been taken
 pub ended-finished : (r : Taking) (result : Result Unit (Stop ChainReason)) → result ≡ end_answer r
     → (r.refusal ≡ None → (t : List ℕ) × HasTaken r t)
     → IsFinished (IsChain r.ifs r.number r.max) (IsReason r.ifs r.number r.max) HasTaken refusal_of r result
 ended-finished r result e some =
-    let here = ended-here r result e in
+    let here = (says r result e).here in
     record { done = here.done; short = here.short; repeated = here.repeated; some_taken = some }
 
 -- ---- a new receiver has taken no octets

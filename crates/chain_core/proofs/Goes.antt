@@ -23,7 +23,7 @@ use Rattle.block_core.proofs.Computed.{pcb-known}
 use Rattle.chain_core.specs.declared.reason.ChainReason.{ChainReason}
 use Rattle.chain_core.specs.declared.reason.ChainReason.TheVariants.{BadNad, BadPcb, NotInfo, BadSequence, TooManyBlocks, BadLen, OverIfs, TooLong, BadLrc}
 use Rattle.chain_core.specs.Chain.{IsChain, message_of, open_blocks, octets_of, chain_block, number_after, spelling, MeetsInBlock, Meets, IsReason, all_reasons}
-use Rattle.chain_core.specs.Part.{more_count, IsPcbFault, IsLenFault}
+use Rattle.chain_core.specs.Stage.{more_count, IsPcbFault, IsLenFault}
 use Rattle.chain_core.proofs.Unique.{one-accepted}
 use Rattle.chain_core.proofs.Reasons.{IsPart, part-short, part-sum, reason-in_block}
 use Rattle.chain_core.proofs.Heads.{first-pcb, first-len, first-lrc}

@@ -8,10 +8,10 @@ use Rattle.block_core.specs.Block.{other, IsInfo}
 use Rattle.block_core.proofs.Computed.{pcb-back}
 use Rattle.chain_core.specs.declared.reason.ChainReason.{ChainReason}
 use Rattle.chain_core.specs.declared.reason.ChainReason.TheVariants.{BadPcb, NotInfo, BadSequence, TooManyBlocks, BadLen, OverIfs, TooLong, BadLrc}
-use Rattle.chain_core.specs.declared.part.Part as part
-use Rattle.chain_core.specs.declared.part.Part.TheVariants as parts
+use Rattle.chain_core.specs.declared.stage.BlockStage as stage
+use Rattle.chain_core.specs.declared.stage.BlockStage.TheVariants as stages
 use Rattle.chain_core.specs.Chain.{MeetsInBlock, all_reasons, message_of, number_after}
-use Rattle.chain_core.specs.Part.{IsHeadFault, IsPcbFault, IsLenFault}
+use Rattle.chain_core.specs.Stage.{IsHeadFault, IsPcbFault, IsLenFault}
 use Rattle.chain_core.specs.Places.{under_way_of}
 use Rattle.chain_core.proofs.Stuck.{not-other, same-number}
 
@@ -86,21 +86,22 @@ first-len ifs number max before c room TooLong len fits is h =
 first-len ifs number max before c room _ len fits is h = absurd h
 
 -- the reason of one of the first three octets
-pub first-head : (ifs : ℕ) (number : Number) (max : ℕ) (before : List (List ℕ)) (last : Bool) (room : ℕ) (p : part.Part)
+pub first-head : (ifs : ℕ) (number : Number) (max : ℕ) (before : List (List ℕ)) (last : Bool) (room : ℕ)
+    (p : stage.BlockStage)
     (field : List ℕ) (x : ℕ) (r : ChainReason) → (last ≡ true → length before + 1 ≡ 131072)
     → length (message_of before) ≤ max → room ≡ max - length (message_of before)
     → IsHeadFault (number_after number (length before)) last ifs room p x r
     → IsFirst all_reasons (MeetsInBlock ifs number max before
     (under_way_of (number_after number (length before)) p field ++ x ∷ [])) r
 unfolding IsFirst
-first-head ifs number max before last room parts.Nad field x r full fits is h =
+first-head ifs number max before last room stages.Nad field x r full fits is h =
     subst (IsFirst all_reasons (MeetsInBlock ifs number max before (x ∷ []))) (sym h.1) (inl ((refl, h.0), refl))
-first-head ifs number max before last room parts.Pcb field x r full fits is h =
+first-head ifs number max before last room stages.Pcb field x r full fits is h =
     first-pcb ifs number max before (0 ∷ x ∷ []) last r refl full h
-first-head ifs number max before last room (parts.Len more) field x r full fits is h =
-    first-len ifs number max before (under_way_of (number_after number (length before)) (parts.Len more) field
+first-head ifs number max before last room (stages.Len more) field x r full fits is h =
+    first-len ifs number max before (under_way_of (number_after number (length before)) (stages.Len more) field
     ++ x ∷ []) room r refl fits is h
-first-head ifs number max before last room (parts.Rest more len) field x r full fits is h = absurd h
+first-head ifs number max before last room (stages.Rest more len) field x r full fits is h = absurd h
 
 -- a wrong check sum
 pub first-lrc : (ifs : ℕ) (number : Number) (max : ℕ) (before : List (List ℕ)) (c : List ℕ) → 3 < length c

@@ -18,12 +18,12 @@ use Rattle.block_core.specs.Block.{other, pcb_octet, front_of}
 use Rattle.block_core.proofs.Computed.{among_none}
 use Rattle.chain_core.specs.declared.reason.ChainReason.{ChainReason}
 use Rattle.chain_core.specs.declared.reason.ChainReason.TheVariants.{BadPcb, NotInfo, BadSequence, TooManyBlocks, BadLen, OverIfs, TooLong, BadLrc}
-use Rattle.chain_core.specs.declared.part.Part as part
-use Rattle.chain_core.specs.declared.part.Part.TheVariants as parts
+use Rattle.chain_core.specs.declared.stage.BlockStage as stage
+use Rattle.chain_core.specs.declared.stage.BlockStage.TheVariants as stages
 use Rattle.chain_core.specs.declared.places.ReceiverPlaces.{ReceiverPlaces}
 use Rattle.chain_core.specs.Chain.{IsChain, IsReason, message_of, chain_block, chain_blocks, open_blocks, octets_of, number_after, spelling}
 use Rattle.chain_core.specs.Cut.{pieces}
-use Rattle.chain_core.specs.Part.{IsHead, IsPcbFault, IsLenFault, IsHeadFault, place_of}
+use Rattle.chain_core.specs.Stage.{IsHead, IsPcbFault, IsLenFault, IsHeadFault, place_of}
 use Rattle.chain_core.specs.Taking.{Taking, HasTaken, AreTaken, unrefused}
 use Rattle.chain_core.specs.Receiving.{Goes}
 use Rattle.chain_core.specs.Places.{under_way_of, number_at, field_at, taken_at, received_at, IsUnderWay, IsAmong, IsKept, IsNextReason, IsPcbReason, IsLenReason, AreReceiverPlaces, AreLedTo, Brings}
@@ -94,15 +94,15 @@ chain-octets number ifs (f ∷ g ∷ fs) most sizes octets =
     (block-octets number true f (omega (arith, sizes.0, most)) (octets-left f (message_of (g ∷ fs)) octets))
     (chain-octets (other number) ifs (g ∷ fs) most sizes.1 (octets-right f (message_of (g ∷ fs)) octets))
 
-under-octets : (number : Number) (ifs max blocks joined came : ℕ) (p : part.Part) (field : List ℕ) → ifs ≤ 254
+under-octets : (number : Number) (ifs max blocks joined came : ℕ) (p : stage.BlockStage) (field : List ℕ) → ifs ≤ 254
     → IsUnderWay ifs max blocks joined came p → AreOctets field → AreOctets (under_way_of number p field)
-under-octets number ifs max blocks joined came parts.Nad field most h octets = no-octets
-under-octets number ifs max blocks joined came parts.Pcb field most h octets =
+under-octets number ifs max blocks joined came stages.Nad field most h octets = no-octets
+under-octets number ifs max blocks joined came stages.Pcb field most h octets =
     octets-cons 0 [] (omega arith) no-octets
-under-octets number ifs max blocks joined came (parts.Len more) field most h octets =
+under-octets number ifs max blocks joined came (stages.Len more) field most h octets =
     octets-cons 0 (pcb_octet (Info number more) ∷ []) (omega arith)
     (octets-cons (pcb_octet (Info number more)) [] (info-octet number more) no-octets)
-under-octets number ifs max blocks joined came (parts.Rest more len) field most h octets =
+under-octets number ifs max blocks joined came (stages.Rest more len) field most h octets =
     octets-cons 0 (pcb_octet (Info number more) ∷ len ∷ field) (omega arith)
     (octets-cons (pcb_octet (Info number more)) (len ∷ field) (info-octet number more)
     (octets-cons len field (omega (arith, h.1, most)) octets))
@@ -147,26 +147,26 @@ open-led p m fit octets still =
     omega (arith, ap length text, joined-len p m (omega (arith, fit.joined, fit.reserved))) in
     let short : length field ≤ p.came = omega (arith, length-take p.came (drop p.joined m)) in
     let field-octets : AreOctets field = octets-take p.came (drop p.joined m) (octets-drop p.joined m octets) in
-    let own : IsUnderWay p.ifs p.max (length fields) (length (message_of fields)) p.came p.part =
-    subst (λ (n : ℕ). IsUnderWay p.ifs p.max n (length (message_of fields)) p.came p.part) (sym count)
-    (subst (λ (n : ℕ). IsUnderWay p.ifs p.max p.blocks n p.came p.part) (sym long) way.1) in
+    let own : IsUnderWay p.ifs p.max (length fields) (length (message_of fields)) p.came p.stage =
+    subst (λ (n : ℕ). IsUnderWay p.ifs p.max n (length (message_of fields)) p.came p.stage) (sym count)
+    (subst (λ (n : ℕ). IsUnderWay p.ifs p.max p.blocks n p.came p.stage) (sym long) way.1) in
     record {
-      octets = octets_of (open_blocks p.first fields) ++ under_way_of (number_at p) p.part field;
-      are = octets-append (octets_of (open_blocks p.first fields)) (under_way_of (number_at p) p.part field)
+      octets = octets_of (open_blocks p.first fields) ++ under_way_of (number_at p) p.stage field;
+      are = octets-append (octets_of (open_blocks p.first fields)) (under_way_of (number_at p) p.stage field)
           (open-octets p.first p.ifs fields fit.most taken.sizes taken.octets)
-          (under-octets (number_at p) p.ifs p.max p.blocks p.joined p.came p.part field fit.most way.1 field-octets);
+          (under-octets (number_at p) p.ifs p.max p.blocks p.joined p.came p.stage field fit.most way.1 field-octets);
       taken = record {
         kept = refl;
         begun = subst (λ (n : ℕ). Begins (IsChain p.ifs p.first p.max)
-            (octets_of (open_blocks p.first fields) ++ under_way_of (number_after p.first n) p.part field)) count
-            (way-begins p.ifs p.first p.max fields p.came p.part field taken (omega (arith, way.0, count))
+            (octets_of (open_blocks p.first fields) ++ under_way_of (number_after p.first n) p.stage field)) count
+            (way-begins p.ifs p.first p.max fields p.came p.stage field taken (omega (arith, way.0, count))
             (omega (arith, long, fit.joined)) short own field-octets);
         fields = fields;
         blocks = count;
         joined = text;
-        taken = subst (λ (d : Bool). AreTaken d p.first fields (under_way_of (number_at p) p.part field)
-            (octets_of (open_blocks p.first fields) ++ under_way_of (number_at p) p.part field)) (sym still) (
-              way-under (number_at p) p.ifs p.max p.blocks p.joined p.came p.part field short way.1,
+        taken = subst (λ (d : Bool). AreTaken d p.first fields (under_way_of (number_at p) p.stage field)
+            (octets_of (open_blocks p.first fields) ++ under_way_of (number_at p) p.stage field)) (sym still) (
+              way-under (number_at p) p.ifs p.max p.blocks p.joined p.came p.stage field short way.1,
               refl,
             );
       };
@@ -180,7 +180,7 @@ done-led p m fit octets done =
     let taken : Taken p.ifs fields = fields-taken p m fit octets in
     let count : length fields ≡ p.blocks = fields-count p.ifs p.blocks (take p.joined m) in
     let text : message_of fields ≡ take p.joined m = fields-text p m fit in
-    let among : (p.part ≡ parts.Nad) × (1 ≤ p.blocks) = subst (λ (d : Bool). IsAmong d p) done fit.among in
+    let among : (p.stage ≡ stages.Nad) × (1 ≤ p.blocks) = subst (λ (d : Bool). IsAmong d p) done fit.among in
     let chain : IsChain p.ifs p.first p.max fields (spelling p.first fields) =
     record {
       proper = record {
@@ -201,10 +201,10 @@ done-led p m fit octets done =
         fields = fields;
         blocks = count;
         joined = text;
-        taken = subst (λ (d : Bool). AreTaken d p.first fields (under_way_of (number_at p) p.part (field_at p m))
+        taken = subst (λ (d : Bool). AreTaken d p.first fields (under_way_of (number_at p) p.stage (field_at p m))
             (spelling p.first fields)) (sym done) (
               omega (arith, count, among.1),
-              ap (λ (q : part.Part). under_way_of (number_at p) q (field_at p m)) among.0,
+              ap (λ (q : stage.BlockStage). under_way_of (number_at p) q (field_at p m)) among.0,
               refl,
             );
       };
@@ -240,14 +240,14 @@ len-octet ifs room TooLong most h =
 len-octet ifs room _ most h = absurd h
 
 -- for each reason for which one of the first three octets of a block can be refused there is one
-head-octet : (number : Number) (ifs max blocks joined came : ℕ) (p : part.Part) (r : ChainReason) → ifs ≤ 254
+head-octet : (number : Number) (ifs max blocks joined came : ℕ) (p : stage.BlockStage) (r : ChainReason) → ifs ≤ 254
     → IsHead p → IsNextReason ifs max blocks joined came p r
     → (x : ℕ) × (x < 256) × IsHeadFault number (nat_eq (blocks + 1) 131072) ifs (max - joined) p x r
-head-octet number ifs max blocks joined came parts.Nad r most head h =
+head-octet number ifs max blocks joined came stages.Nad r most head h =
     (1, omega arith, (above 1 0 (omega arith), h))
-head-octet number ifs max blocks joined came parts.Pcb r most head h = pcb-octet number blocks r h
-head-octet number ifs max blocks joined came (parts.Len more) r most head h = len-octet ifs (max - joined) r most h
-head-octet number ifs max blocks joined came (parts.Rest more len) r most head h = absurd head
+head-octet number ifs max blocks joined came stages.Pcb r most head h = pcb-octet number blocks r h
+head-octet number ifs max blocks joined came (stages.Len more) r most head h = len-octet ifs (max - joined) r most h
+head-octet number ifs max blocks joined came (stages.Rest more len) r most head h = absurd head
 
 -- no octets have every check sum
 other-sum : (sum : ℕ) → (x : ℕ) × (x < 256) × (sum ≢ x)
@@ -265,13 +265,13 @@ record Refusable (p : ReceiverPlaces) (m : List ℕ) (reason : ChainReason) : Ty
       (At (taken_at p) reason)
 
 head-refusable : (p : ReceiverPlaces) (m : List ℕ) (reason : ChainReason)
-    → AreReceiverPlaces (record p { refusal = None }) (length m) → p.done ≡ false → IsHead p.part
-    → IsNextReason p.ifs p.max p.blocks p.joined p.came p.part reason → Refusable p m reason
+    → AreReceiverPlaces (record p { refusal = None }) (length m) → p.done ≡ false → IsHead p.stage
+    → IsNextReason p.ifs p.max p.blocks p.joined p.came p.stage reason → Refusable p m reason
 head-refusable p m reason fit still head may =
     let q : ReceiverPlaces = record p { refusal = None } in
-    let x = head-octet (number_at p) p.ifs p.max p.blocks p.joined p.came p.part reason fit.most head may in
-    let place : ℕ = p.joined + 4 * p.blocks + place_of p.part in
-    let here : place ≡ taken_at p = omega (arith, head-came p.part p.came head) in
+    let x = head-octet (number_at p) p.ifs p.max p.blocks p.joined p.came p.stage reason fit.most head may in
+    let place : ℕ = p.joined + 4 * p.blocks + place_of p.stage in
+    let here : place ≡ taken_at p = omega (arith, head-came p.stage p.came head) in
     let goes = head-off q x.0 (length m) reason m fit (held-room q (length m) fit) refl still head x.2 in
     record {
       octet = x.0;
@@ -297,25 +297,25 @@ lrc-refusable p m more len fit still =
       refused = λ t h. goes.refused (record { place = place; reason = BadLrc }) refl t h;
     }
 
-refusable-by : (p : ReceiverPlaces) (m : List ℕ) (reason : ChainReason) (q : part.Part)
-    → AreReceiverPlaces (record p { refusal = None }) (length m) → p.done ≡ false → p.part ≡ q
+refusable-by : (p : ReceiverPlaces) (m : List ℕ) (reason : ChainReason) (q : stage.BlockStage)
+    → AreReceiverPlaces (record p { refusal = None }) (length m) → p.done ≡ false → p.stage ≡ q
     → IsNextReason p.ifs p.max p.blocks p.joined p.came q reason → Refusable p m reason
-refusable-by p m reason (parts.Rest more len) fit still is may =
-    let same : with_rest p more len ≡ p = λ i. record p { part = sym is i; came = sym may.0 i } in
+refusable-by p m reason (stages.Rest more len) fit still is may =
+    let same : with_rest p more len ≡ p = λ i. record p { stage = sym is i; came = sym may.0 i } in
     subst (λ (r : ChainReason). Refusable p m r) (sym may.1)
     (subst (λ (s : ReceiverPlaces). Refusable s m BadLrc) same
     (lrc-refusable p m more len
     (subst (λ (s : ReceiverPlaces). AreReceiverPlaces (record s { refusal = None }) (length m)) (sym same) fit)
     still))
-refusable-by p m reason parts.Nad fit still is may =
+refusable-by p m reason stages.Nad fit still is may =
     head-refusable p m reason fit still (subst IsHead (sym is) tt)
-    (subst (λ (k : part.Part). IsNextReason p.ifs p.max p.blocks p.joined p.came k reason) (sym is) may)
-refusable-by p m reason parts.Pcb fit still is may =
+    (subst (λ (k : stage.BlockStage). IsNextReason p.ifs p.max p.blocks p.joined p.came k reason) (sym is) may)
+refusable-by p m reason stages.Pcb fit still is may =
     head-refusable p m reason fit still (subst IsHead (sym is) tt)
-    (subst (λ (k : part.Part). IsNextReason p.ifs p.max p.blocks p.joined p.came k reason) (sym is) may)
-refusable-by p m reason (parts.Len more) fit still is may =
+    (subst (λ (k : stage.BlockStage). IsNextReason p.ifs p.max p.blocks p.joined p.came k reason) (sym is) may)
+refusable-by p m reason (stages.Len more) fit still is may =
     head-refusable p m reason fit still (subst IsHead (sym is) tt)
-    (subst (λ (k : part.Part). IsNextReason p.ifs p.max p.blocks p.joined p.came k reason) (sym is) may)
+    (subst (λ (k : stage.BlockStage). IsNextReason p.ifs p.max p.blocks p.joined p.came k reason) (sym is) may)
 
 -- ---- any places that fit
 
@@ -365,7 +365,7 @@ brought p m None e fit octets =
 brought p m (Some refusal) e fit octets =
     let kept : IsKept (Some refusal) p = subst (λ (o : Option (Refusal ChainReason)). IsKept o p) e fit.kept in
     let l = led p m fit octets in
-    let x = refusable-by p m refusal.reason p.part (unrefused-fit p (length m) fit) kept.0 refl kept.2 in
+    let x = refusable-by p m refusal.reason p.stage (unrefused-fit p (length m) fit) kept.0 refl kept.2 in
     record {
       octets = l.octets ++ x.octet ∷ [];
       are = octets-append l.octets (x.octet ∷ []) l.are (octets-cons x.octet [] x.is no-octets);

@@ -11,11 +11,11 @@ use Rattle.octet_core.proofs.Firsts.{first_once}
 use Rattle.octet_core.proofs.Lists.{split_same}
 use Rattle.block_core.specs.declared.pcb.Number.{Number}
 use Rattle.chain_core.specs.declared.reason.ChainReason.{ChainReason}
-use Rattle.chain_core.specs.declared.part.Part as part
-use Rattle.chain_core.specs.declared.part.Part.TheVariants as parts
+use Rattle.chain_core.specs.declared.stage.BlockStage as stage
+use Rattle.chain_core.specs.declared.stage.BlockStage.TheVariants as stages
 use Rattle.chain_core.specs.declared.places.ReceiverPlaces.{ReceiverPlaces}
 use Rattle.chain_core.specs.Chain.{IsChain, IsReason, Meets, all_reasons, message_of, number_after, spelling}
-use Rattle.chain_core.specs.Part.{came_of}
+use Rattle.chain_core.specs.Stage.{came_of}
 use Rattle.chain_core.specs.Taking.{Taking, HasTaken, AreTaken, unrefused}
 use Rattle.chain_core.specs.Places.{under_way_of, number_at, field_at, received_at, AreLedTo, Brings}
 use Rattle.chain_core.proofs.Feeds.{full-done, chain-at}
@@ -76,17 +76,17 @@ one-taking r s t e f g h k =
 
 -- ---- the block under way
 
-one-part : (number : Number) (k l : part.Part) (a b : ℕ) (f g : List ℕ) → length f ≡ a → length g ≡ b
+one-part : (number : Number) (k l : stage.BlockStage) (a b : ℕ) (f g : List ℕ) → length f ≡ a → length g ≡ b
     → came_of k a ≡ a → came_of l b ≡ b → under_way_of number k f ≡ under_way_of number l g → (k ≡ l) × (a ≡ b)
-one-part number parts.Nad parts.Nad a b f g fa gb ia ib e = (refl, sym ia ∙ ib)
-one-part number parts.Pcb parts.Pcb a b f g fa gb ia ib e = (refl, sym ia ∙ ib)
-one-part number (parts.Len m) (parts.Len n) a b f g fa gb ia ib e =
+one-part number stages.Nad stages.Nad a b f g fa gb ia ib e = (refl, sym ia ∙ ib)
+one-part number stages.Pcb stages.Pcb a b f g fa gb ia ib e = (refl, sym ia ∙ ib)
+one-part number (stages.Len m) (stages.Len n) a b f g fa gb ia ib e =
     let go : m ≡ n = more-back number m n (ap (λ (l : List ℕ). slice_index l 1) e) in
-    (ap (λ (d : Bool). parts.Len d) go, sym ia ∙ ib)
-one-part number (parts.Rest m x) (parts.Rest n y) a b f g fa gb ia ib e =
+    (ap (λ (d : Bool). stages.Len d) go, sym ia ∙ ib)
+one-part number (stages.Rest m x) (stages.Rest n y) a b f g fa gb ia ib e =
     let go : m ≡ n = more-back number m n (ap (λ (l : List ℕ). slice_index l 1) e) in
     let len : x ≡ y = ap (λ (l : List ℕ). slice_index l 2) e in
-    (λ i. parts.Rest (go i) (len i), sym fa ∙ ap (λ (l : List ℕ). length (drop 3 l)) e ∙ gb)
+    (λ i. stages.Rest (go i) (len i), sym fa ∙ ap (λ (l : List ℕ). length (drop 3 l)) e ∙ gb)
 one-part number k l a b f g fa gb ia ib e = absurd (omega (arith, ap length e))
 
 -- ---- places
@@ -112,9 +112,9 @@ same-places p q m n t s e f g l k h j o =
     ) in
     let number : number_at q ≡ number_at p =
     ap (λ (x : Number). number_after x q.blocks) (sym f) ∙ ap (number_after p.first) (sym r.blocks) in
-    let way : under_way_of (number_at p) p.part (field_at p m) ≡ under_way_of (number_at p) q.part (field_at q n) =
-    r.under_way ∙ ap (λ (x : Number). under_way_of x q.part (field_at q n)) number in
-    let under = one-part (number_at p) p.part q.part p.came q.came (field_at p m) (field_at q n)
+    let way : under_way_of (number_at p) p.stage (field_at p m) ≡ under_way_of (number_at p) q.stage (field_at q n) =
+    r.under_way ∙ ap (λ (x : Number). under_way_of x q.stage (field_at q n)) number in
+    let under = one-part (number_at p) p.stage q.stage p.came q.came (field_at p m) (field_at q n)
     (field-count p m l.held l.idle) (field-count q n k.held k.idle) l.idle k.idle way in (
       λ i. record {
         ifs = e i;
@@ -122,7 +122,7 @@ same-places p q m n t s e f g l k h j o =
         max = g i;
         blocks = r.blocks i;
         joined = joined i;
-        part = under.0 i;
+        stage = under.0 i;
         came = under.1 i;
         done = r.done i;
         refusal = o i;

@@ -1,5 +1,5 @@
 -- Places that some octets lead to fit.
-use Rattle.std.proofs.Common.{◌≡◌, ◌≢◌, ℕ, zero, suc, ◌+◌, ◌-◌, ◌*◌, ◌<◌, ◌≤◌, ◌++◌, List, [], ◌∷◌, length, take, drop, refl, sym, ap, subst, ◌∙◌, arith, Bool, true, false, append_assoc, Option, Some, None, inl, inr, suc-mul, slice_index, bit_xor}
+use Rattle.std.proofs.Common.{◌≡◌, ◌≢◌, ℕ, ◌+◌, ◌-◌, ◌*◌, ◌<◌, ◌≤◌, ◌++◌, List, [], ◌∷◌, length, take, drop, refl, sym, ap, subst, ◌∙◌, arith, Bool, true, false, append_assoc, Option, Some, None, inl, inr, suc-mul, slice_index, bit_xor}
 use Rattle.std.proofs.lemmas.List.{length-append, length-take, length-drop, take-append-le}
 use Rattle.std.proofs.lemmas.List.Sums.{fold-append}
 use Rattle.std.proofs.lemmas.Bool.{cases_lt}
@@ -19,11 +19,11 @@ use Rattle.block_core.specs.Block.{other, pcb_octet}
 use Rattle.block_core.proofs.Blocks.{xor-zero}
 use Rattle.chain_core.specs.declared.reason.ChainReason.{ChainReason}
 use Rattle.chain_core.specs.declared.reason.ChainReason.TheVariants.{BadNad, BadPcb, NotInfo, BadSequence, TooManyBlocks, BadLen, OverIfs, TooLong, BadLrc}
-use Rattle.chain_core.specs.declared.part.Part as part
-use Rattle.chain_core.specs.declared.part.Part.TheVariants as parts
+use Rattle.chain_core.specs.declared.stage.BlockStage as stage
+use Rattle.chain_core.specs.declared.stage.BlockStage.TheVariants as stages
 use Rattle.chain_core.specs.declared.places.ReceiverPlaces.{ReceiverPlaces}
 use Rattle.chain_core.specs.Chain.{IsChain, IsReason, Meets, MeetsInBlock, all_reasons, message_of, chain_block, open_blocks, octets_of, number_after, spelling}
-use Rattle.chain_core.specs.Part.{IsLenFault, more_count, place_of, came_of}
+use Rattle.chain_core.specs.Stage.{IsLenFault, more_count, place_of, came_of}
 use Rattle.chain_core.specs.Taking.{HasTaken, AreTaken, unrefused}
 use Rattle.chain_core.specs.Places.{under_way_of, number_at, field_at, held_at, taken_at, received_at, IsUnderWay, IsAmong, IsKept, IsNextReason, IsPcbReason, IsLenReason, AreReceiverPlaces, AreLedTo, Brings}
 use Rattle.chain_core.proofs.Feeds.{bool_cases}
@@ -74,38 +74,38 @@ counted true next blocks count is go few most = omega (arith, go (sym is))
 
 -- the octets of the block under way
 abbrev way_at : ReceiverPlaces → List ℕ → List ℕ
-way_at p m = under_way_of (number_at p) p.part (field_at p m)
+way_at p m = under_way_of (number_at p) p.stage (field_at p m)
 
 -- are as many as are counted
-way-len : (number : Number) (q : part.Part) (came : ℕ) (field : List ℕ) → length field ≡ came
+way-len : (number : Number) (q : stage.BlockStage) (came : ℕ) (field : List ℕ) → length field ≡ came
     → length (under_way_of number q field) ≡ place_of q + came_of q came
-way-len number parts.Nad came field e = refl
-way-len number parts.Pcb came field e = refl
-way-len number (parts.Len more) came field e = refl
-way-len number (parts.Rest more len) came field e = omega (arith, e)
+way-len number stages.Nad came field e = refl
+way-len number stages.Pcb came field e = refl
+way-len number (stages.Len more) came field e = refl
+way-len number (stages.Rest more len) came field e = omega (arith, e)
 
 -- as many octets of the field are in the buffer as are counted
-pub field-count : (p : ReceiverPlaces) (m : List ℕ) → held_at p ≤ length m → came_of p.part p.came ≡ p.came
+pub field-count : (p : ReceiverPlaces) (m : List ℕ) → held_at p ≤ length m → came_of p.stage p.came ≡ p.came
     → length (field_at p m) ≡ p.came
 field-count p m held idle =
     omega (arith, length-take p.came (drop p.joined m), length-drop p.joined m, held, idle)
 
 -- what begins a block of a chain is under way
-way-next : (ifs max : ℕ) (number : Number) (fields gs : List (List ℕ)) (came : ℕ) (q : part.Part)
+way-next : (ifs max : ℕ) (number : Number) (fields gs : List (List ℕ)) (came : ℕ) (q : stage.BlockStage)
     (field more : List ℕ) → length gs ≤ 131072 → length fields < length gs → length (message_of gs) ≤ max
     → length field ≡ came → (3 < length (under_way_of (number_after number (length fields)) q field)
     → length (under_way_of (number_after number (length fields)) q field)
     < slice_index (under_way_of (number_after number (length fields)) q field) 2 + 4)
     → Next ifs max number fields gs (under_way_of (number_after number (length fields)) q field ++ more)
     → IsUnderWay ifs max (length fields) (length (message_of fields)) came q
-way-next ifs max number fields gs came parts.Nad field more most few fits count part n = tt
-way-next ifs max number fields gs came parts.Pcb field more most few fits count part n = tt
-way-next ifs max number fields gs came (parts.Len go) field more most few fits count part n =
+way-next ifs max number fields gs came stages.Nad field more most few fits count part n = tt
+way-next ifs max number fields gs came stages.Pcb field more most few fits count part n = tt
+way-next ifs max number fields gs came (stages.Len go) field more most few fits count part n =
     let own : Number = number_after number (length fields) in
     let kind : pcb_octet (Info own go) ≡ pcb_octet (Info own n.more) =
     ap (λ (l : List ℕ). slice_index l 1) n.is in
     counted go n.more (length fields) (length gs) (more-back own go n.more kind) n.blocks few most
-way-next ifs max number fields gs came (parts.Rest go len) field more most few fits count part n =
+way-next ifs max number fields gs came (stages.Rest go len) field more most few fits count part n =
     let own : Number = number_after number (length fields) in
     let kind : pcb_octet (Info own go) ≡ pcb_octet (Info own n.more) =
     ap (λ (l : List ℕ). slice_index l 1) n.is in
@@ -121,7 +121,7 @@ way-next ifs max number fields gs came (parts.Rest go len) field more most few f
 
 -- ---- places that refused nothing
 
-open-among : (p : ReceiverPlaces) (m t : List ℕ) → held_at p ≤ length m → came_of p.part p.came ≡ p.came
+open-among : (p : ReceiverPlaces) (m t : List ℕ) → held_at p ≤ length m → came_of p.stage p.came ≡ p.came
     → p.done ≡ false → HasTaken (unrefused (received_at p m)) t
     → IsAmong false p × (p.joined ≤ p.max) × (p.joined ≤ p.blocks * p.ifs)
 open-among p m t held idle still h =
@@ -140,28 +140,28 @@ open-among p m t held idle still h =
     let taken = begun-taken p.ifs p.max p.first fields c t own.1 h.begun in
     let long : length (message_of fields) ≡ p.joined =
     omega (arith, ap length h.joined, joined-len p m (omega (arith, held))) in
-    let part_of : ℕ → List ℕ = λ (k : ℕ). under_way_of (number_after p.first k) p.part (field_at p m) in
+    let part_of : ℕ → List ℕ = λ (k : ℕ). under_way_of (number_after p.first k) p.stage (field_at p m) in
     let back : p.blocks ≡ length fields = sym h.blocks in
-    let way : IsUnderWay p.ifs p.max (length fields) (length (message_of fields)) p.came p.part =
-    way-next p.ifs p.max p.first fields gs p.came p.part (field_at p m) more chain.proper.few few chain.proper.fits
+    let way : IsUnderWay p.ifs p.max (length fields) (length (message_of fields)) p.came p.stage =
+    way-next p.ifs p.max p.first fields gs p.came p.stage (field_at p m) more chain.proper.few few chain.proper.fits
     (field-count p m held idle)
     (subst (λ (k : ℕ). 3 < length (part_of k) → length (part_of k) < slice_index (part_of k) 2 + 4) back own.0)
     (subst (λ (k : ℕ). Next p.ifs p.max p.first fields gs (part_of k ++ more)) back n) in (
       (
         omega (arith, few, chain.proper.few, h.blocks),
-        subst (λ (k : ℕ). IsUnderWay p.ifs p.max k p.joined p.came p.part) h.blocks
-            (subst (λ (k : ℕ). IsUnderWay p.ifs p.max (length fields) k p.came p.part) long way),
+        subst (λ (k : ℕ). IsUnderWay p.ifs p.max k p.joined p.came p.stage) h.blocks
+            (subst (λ (k : ℕ). IsUnderWay p.ifs p.max (length fields) k p.came p.stage) long way),
       ),
       omega (arith, n.fits, chain.proper.fits, long),
       subst (λ (k : ℕ). p.joined ≤ k * p.ifs) h.blocks
           (omega (arith, message-most p.ifs fields taken.sizes, long)),
     )
 
-way-nad : (number : Number) (q : part.Part) (field : List ℕ) → under_way_of number q field ≡ [] → q ≡ parts.Nad
-way-nad number parts.Nad field e = refl
-way-nad number parts.Pcb field e = absurd (omega (arith, ap length e))
-way-nad number (parts.Len more) field e = absurd (omega (arith, ap length e))
-way-nad number (parts.Rest more len) field e = absurd (omega (arith, ap length e))
+way-nad : (number : Number) (q : stage.BlockStage) (field : List ℕ) → under_way_of number q field ≡ [] → q ≡ stages.Nad
+way-nad number stages.Nad field e = refl
+way-nad number stages.Pcb field e = absurd (omega (arith, ap length e))
+way-nad number (stages.Len more) field e = absurd (omega (arith, ap length e))
+way-nad number (stages.Rest more len) field e = absurd (omega (arith, ap length e))
 
 done-among : (p : ReceiverPlaces) (m t : List ℕ) → held_at p ≤ length m → p.done ≡ true
     → HasTaken (unrefused (received_at p m)) t
@@ -172,7 +172,7 @@ done-among p m t held done h =
     subst (λ (d : Bool). AreTaken d p.first h.fields (way_at p m) t) done h.taken in
     let long : length (message_of h.fields) ≡ p.joined =
     omega (arith, ap length h.joined, joined-len p m (omega (arith, held))) in (
-      (way-nad (number_at p) p.part (field_at p m) own.1, omega (arith, own.0, h.blocks)),
+      (way-nad (number_at p) p.stage (field_at p m) own.1, omega (arith, own.0, h.blocks)),
       omega (arith, chain.proper.fits, long),
       subst (λ (k : ℕ). p.joined ≤ k * p.ifs) h.blocks
           (omega (arith, message-most p.ifs h.fields chain.proper.sizes, long)),
@@ -280,18 +280,18 @@ sum-reached ifs max x pcb len number fields field BadLrc h =
     (omega (arith, h.0, length-append field (x ∷ [])), refl)
 sum-reached ifs max x pcb len number fields field _ h = absurd (omega (arith, h.0, length-append field (x ∷ [])))
 
-meets-by : (p : ReceiverPlaces) (m : List ℕ) (reason : ChainReason) (s : List ℕ) (x : ℕ) (q : part.Part)
-    (o : Off p m reason s x) → p.part ≡ q → IsPart (under_way_of (number_at p) q (field_at p m) ++ x ∷ [])
+meets-by : (p : ReceiverPlaces) (m : List ℕ) (reason : ChainReason) (s : List ℕ) (x : ℕ) (q : stage.BlockStage)
+    (o : Off p m reason s x) → p.stage ≡ q → IsPart (under_way_of (number_at p) q (field_at p m) ++ x ∷ [])
     → MeetsInBlock p.ifs p.first p.max o.taken.fields (under_way_of (number_at p) q (field_at p m) ++ x ∷ []) reason
 meets-by p m reason s x q o is partial =
     let text : way_at p m ++ x ∷ [] ≡ under_way_of (number_at p) q (field_at p m) ++ x ∷ [] =
-    ap (λ (k : part.Part). under_way_of (number_at p) k (field_at p m) ++ x ∷ []) is in
+    ap (λ (k : stage.BlockStage). under_way_of (number_at p) k (field_at p m) ++ x ∷ []) is in
     subst (λ (l : List ℕ). MeetsInBlock p.ifs p.first p.max o.taken.fields l reason) text
     (off-meets p m reason s x o (subst IsPart (sym text) partial))
 
 -- there is one reason
 len-one : (p : ReceiverPlaces) (m : List ℕ) (reason : ChainReason) (s : List ℕ) (x : ℕ) (more : Bool)
-    (o : Off p m reason s x) → p.part ≡ parts.Len more → length (message_of o.taken.fields) ≤ p.max
+    (o : Off p m reason s x) → p.stage ≡ stages.Len more → length (message_of o.taken.fields) ≤ p.max
     → p.max - p.joined ≡ p.max - length (message_of o.taken.fields) → (r : ChainReason)
     → IsLenFault p.ifs (p.max - p.joined) x r → r ≡ reason
 len-one p m reason s x more o is fits room r fault =
@@ -299,7 +299,7 @@ len-one p m reason s x more o is fits room r fault =
     let c : List ℕ = 0 ∷ pcb_octet (Info (number_at p) more) ∷ x ∷ [] in
     let fields : List (List ℕ) = o.taken.fields in
     let text : b ≡ octets_of (open_blocks p.first fields) ++ c =
-    off-text p m reason s x o ∙ ap (λ (k : part.Part). octets_of (open_blocks p.first fields)
+    off-text p m reason s x o ∙ ap (λ (k : stage.BlockStage). octets_of (open_blocks p.first fields)
     ++ (under_way_of (number_at p) k (field_at p m) ++ x ∷ [])) is in
     first_once all_reasons (Meets p.ifs p.first p.max b) r reason
     (reason-in_block p.ifs p.first p.max fields c b r text (part-short c (omega arith))
@@ -307,15 +307,15 @@ len-one p m reason s x more o is fits room r fault =
 
 -- the sum of a whole block isn't 0, since that would be taken
 sum-wrong : (p : ReceiverPlaces) (m : List ℕ) (reason : ChainReason) (s : List ℕ) (x : ℕ) (more : Bool) (len : ℕ)
-    → Off p m reason s x → p.done ≡ false → p.part ≡ parts.Rest more len → p.came ≡ len
+    → Off p m reason s x → p.done ≡ false → p.stage ≡ stages.Rest more len → p.came ≡ len
     → AreReceiverPlaces (record p { refusal = None }) (length m) → AreOctets m
-    → xor_of (under_way_of (number_at p) (parts.Rest more len) (field_at p m) ++ x ∷ []) ≡ 0 → ⊥
+    → xor_of (under_way_of (number_at p) (stages.Rest more len) (field_at p m) ++ x ∷ []) ≡ 0 → ⊥
 sum-wrong p m reason s x more len o still is all fit octets none =
     let q : ReceiverPlaces = record p { refusal = None } in
     let whole : ReceiverPlaces = with_rest q more len in
-    let same : q ≡ whole = λ i. record q { part = is i; came = all i } in
+    let same : q ≡ whole = λ i. record q { stage = is i; came = all i } in
     let front : List ℕ = front_at q more len m in
-    let text : under_way_of (number_at p) (parts.Rest more len) (field_at p m) ≡ front =
+    let text : under_way_of (number_at p) (stages.Rest more len) (field_at p m) ≡ front =
     ap (λ (k : ℕ). 0 ∷ pcb_octet (Info (number_at p) more) ∷ len ∷ take k (drop p.joined m)) all in
     let own : xor_of (front ++ x ∷ []) ≡ 0 = ap (λ (l : List ℕ). xor_of (l ++ x ∷ [])) (sym text) ∙ none in
     let sum : x ≡ xor_of front = xor-zero (xor_of front) x (sym (fold-append bit_xor 0 front (x ∷ [])) ∙ own) in
@@ -327,18 +327,18 @@ sum-wrong p m reason s x more len o still is all fit octets none =
     subst (λ (k : ReceiverPlaces). HasTaken (received_at k m) s) same o.taken in
     o.stuck (goes.on refl s taken).begun
 
-reason-reached : (p : ReceiverPlaces) (m : List ℕ) (reason : ChainReason) (s : List ℕ) (x : ℕ) (q : part.Part)
-    → Off p m reason s x → p.done ≡ false → p.part ≡ q → length (field_at p m) ≡ p.came
+reason-reached : (p : ReceiverPlaces) (m : List ℕ) (reason : ChainReason) (s : List ℕ) (x : ℕ) (q : stage.BlockStage)
+    → Off p m reason s x → p.done ≡ false → p.stage ≡ q → length (field_at p m) ≡ p.came
     → AreReceiverPlaces (record p { refusal = None }) (length m) → AreOctets m
     → IsNextReason p.ifs p.max p.blocks p.joined p.came q reason
-reason-reached p m reason s x parts.Nad o still is count fit octets =
+reason-reached p m reason s x stages.Nad o still is count fit octets =
     nad-reached p.ifs p.max x p.first o.taken.fields reason
-    (meets-by p m reason s x parts.Nad o is (part-short (x ∷ []) (omega arith)))
-reason-reached p m reason s x parts.Pcb o still is count fit octets =
+    (meets-by p m reason s x stages.Nad o is (part-short (x ∷ []) (omega arith)))
+reason-reached p m reason s x stages.Pcb o still is count fit octets =
     subst (λ (k : ℕ). IsPcbReason k reason) o.taken.blocks
     (pcb-reached p.ifs p.max x p.first o.taken.fields reason
-    (meets-by p m reason s x parts.Pcb o is (part-short (0 ∷ x ∷ []) (omega arith))))
-reason-reached p m reason s x (parts.Len more) o still is count fit octets =
+    (meets-by p m reason s x stages.Pcb o is (part-short (0 ∷ x ∷ []) (omega arith))))
+reason-reached p m reason s x (stages.Len more) o still is count fit octets =
     let pcb : ℕ = pcb_octet (Info (number_at p) more) in
     let long : length (message_of o.taken.fields) ≡ p.joined =
     omega (arith, ap length o.taken.joined, joined-len p m (omega (arith, fit.joined, fit.reserved))) in
@@ -346,8 +346,8 @@ reason-reached p m reason s x (parts.Len more) o still is count fit octets =
     let room : p.max - p.joined ≡ p.max - length (message_of o.taken.fields) = omega (arith, long) in
     len-reached p.ifs p.max x pcb (p.max - p.joined) p.first o.taken.fields reason o.octet fits room
     (len-one p m reason s x more o is fits room)
-    (meets-by p m reason s x (parts.Len more) o is (part-short (0 ∷ pcb ∷ x ∷ []) (omega arith)))
-reason-reached p m reason s x (parts.Rest more len) o still is count fit octets =
+    (meets-by p m reason s x (stages.Len more) o is (part-short (0 ∷ pcb ∷ x ∷ []) (omega arith)))
+reason-reached p m reason s x (stages.Rest more len) o still is count fit octets =
     let pcb : ℕ = pcb_octet (Info (number_at p) more) in
     let field : List ℕ = field_at p m in
     let c : List ℕ = 0 ∷ pcb ∷ len ∷ (field ++ x ∷ []) in
@@ -361,7 +361,7 @@ reason-reached p m reason s x (parts.Rest more len) o still is count fit octets 
           part-sum c (omega (arith, long, all)) (sum-wrong p m reason s x more len o still is all fit octets)
     ] in
     let r = sum-reached p.ifs p.max x pcb len p.first o.taken.fields field reason
-    (meets-by p m reason s x (parts.Rest more len) o is partial) in
+    (meets-by p m reason s x (stages.Rest more len) o is partial) in
     (omega (arith, r.0, count), r.1)
 
 -- ---- any places that some octets lead to
@@ -422,7 +422,7 @@ reached-by p m t (Some refusal) e octets l brings =
       last,
       length-taken (unrefused (received_at p m)) s h,
       joined-len p m (omega (arith, l.held)),
-      way-len (number_at p) p.part p.came (field_at p m) count,
+      way-len (number_at p) p.stage p.came (field_at p m) count,
     ) in
     record {
       least = fit.least;
@@ -435,7 +435,7 @@ reached-by p m t (Some refusal) e octets l brings =
       idle = fit.idle;
       among = among-kept p.done p fit.among;
       kept = subst (λ (k : Option (Refusal ChainReason)). IsKept k p) (sym e)
-          (still, place, reason-reached p m refusal.reason s x p.part off still refl count fit octets);
+          (still, place, reason-reached p m refusal.reason s x p.stage off still refl count fit octets);
     }
 
 -- places and a buffer to which some octets lead fit

@@ -16,8 +16,8 @@ use Rattle.block_core.specs.Block as block
 use Rattle.block_core.specs.Block.{other, pcb_octet, front_of}
 use Rattle.block_core.proofs.Blocks.{spelling-len}
 use Rattle.chain_core.specs.declared.reason.ChainReason.{ChainReason}
-use Rattle.chain_core.specs.declared.part.Part as part
-use Rattle.chain_core.specs.declared.part.Part.TheVariants as parts
+use Rattle.chain_core.specs.declared.stage.BlockStage as stage
+use Rattle.chain_core.specs.declared.stage.BlockStage.TheVariants as stages
 use Rattle.chain_core.specs.Chain.{IsChain, IsReason, MeetsInBlock, all_reasons, message_of, open_blocks, octets_of, chain_block, number_after, spelling}
 use Rattle.chain_core.specs.Places.{under_way_of, IsUnderWay}
 use Rattle.chain_core.proofs.Unique.{block-split, one-accepted}
@@ -65,34 +65,34 @@ begun-taken ifs max number fields c t is (gs, more, h) =
 -- ---- the block under way
 
 -- fewer octets than a block has
-pub way-under : (number : Number) (ifs max blocks joined came : ℕ) (p : part.Part) (field : List ℕ)
+pub way-under : (number : Number) (ifs max blocks joined came : ℕ) (p : stage.BlockStage) (field : List ℕ)
     → length field ≤ came → IsUnderWay ifs max blocks joined came p
     → 3 < length (under_way_of number p field)
     → length (under_way_of number p field) < slice_index (under_way_of number p field) 2 + 4
-way-under number ifs max blocks joined came parts.Nad field short h lt = absurd (omega arith)
-way-under number ifs max blocks joined came parts.Pcb field short h lt = absurd (omega arith)
-way-under number ifs max blocks joined came (parts.Len more) field short h lt = absurd (omega arith)
-way-under number ifs max blocks joined came (parts.Rest more len) field short h lt = omega (arith, short, h.3)
+way-under number ifs max blocks joined came stages.Nad field short h lt = absurd (omega arith)
+way-under number ifs max blocks joined came stages.Pcb field short h lt = absurd (omega arith)
+way-under number ifs max blocks joined came (stages.Len more) field short h lt = absurd (omega arith)
+way-under number ifs max blocks joined came (stages.Rest more len) field short h lt = omega (arith, short, h.3)
 
 -- whole blocks and what there is of the next begin a chain
-pub way-begins : (ifs : ℕ) (number : Number) (max : ℕ) (before : List (List ℕ)) (came : ℕ) (p : part.Part)
+pub way-begins : (ifs : ℕ) (number : Number) (max : ℕ) (before : List (List ℕ)) (came : ℕ) (p : stage.BlockStage)
     (field : List ℕ) → Taken ifs before → length before + 1 ≤ 131072 → length (message_of before) ≤ max
     → length field ≤ came → IsUnderWay ifs max (length before) (length (message_of before)) came p → AreOctets field
     → Begins (IsChain ifs number max)
     (octets_of (open_blocks number before) ++ under_way_of (number_after number (length before)) p field)
-way-begins ifs number max before came parts.Nad field taken few fits short h octets =
+way-begins ifs number max before came stages.Nad field taken few fits short h octets =
     part-begins ifs number max before false [] []
     (block.spelling (chain_block (number_after number (length before)) false []))
     taken (omega arith) (omega arith) (λ i. omega arith) (omega arith) refl
-way-begins ifs number max before came parts.Pcb field taken few fits short h octets =
+way-begins ifs number max before came stages.Pcb field taken few fits short h octets =
     part-begins ifs number max before false [] (0 ∷ [])
     (drop 1 (block.spelling (chain_block (number_after number (length before)) false []))) taken (omega arith)
     (omega arith) (λ i. omega arith) (omega arith) refl
-way-begins ifs number max before came (parts.Len more) field taken few fits short h octets =
+way-begins ifs number max before came (stages.Len more) field taken few fits short h octets =
     let own : Number = number_after number (length before) in
     part-begins ifs number max before more [] (0 ∷ pcb_octet (Info own more) ∷ [])
     (drop 2 (block.spelling (chain_block own more []))) taken h (omega arith) (λ i. omega arith) (omega arith) refl
-way-begins ifs number max before came (parts.Rest more len) field taken few fits short h octets =
+way-begins ifs number max before came (stages.Rest more len) field taken few fits short h octets =
     let own : Number = number_after number (length before) in
     let left : List ℕ = replicate (len - length field) 0 in
     let all : List ℕ = field ++ left in

@@ -9,9 +9,9 @@ use Rattle.block_core.specs.declared.pcb.Number.{Number}
 use Rattle.block_core.specs.Block as block
 use Rattle.block_core.specs.Block.{other}
 use Rattle.chain_core.specs.declared.reason.ChainReason.{ChainReason}
-use Rattle.chain_core.specs.declared.part.Part as part
+use Rattle.chain_core.specs.declared.stage.BlockStage as stage
 use Rattle.chain_core.specs.Chain.{IsChain, IsReason, MeetsInBlock, all_reasons, message_of, open_blocks, octets_of, chain_block, number_after}
-use Rattle.chain_core.specs.Part.{more_count}
+use Rattle.chain_core.specs.Stage.{more_count}
 use Rattle.chain_core.specs.Taking.{Taking, HasTaken, AreTaken, IsOpen}
 use Rattle.chain_core.specs.Receiving.{Goes}
 use Rattle.chain_core.specs.Places.{under_way_of, IsUnderWay}
@@ -32,7 +32,7 @@ pub open-is : (r : Taking) (t : List ℕ) → r.done ≡ false → (h : HasTaken
 open-is r t still h = (under-way r t still h).1
 
 -- more octets of the block under way
-pub more-goes : (r : Taking) (came : ℕ) (p : part.Part) (field xs : List ℕ) → IsOpen r → length field ≤ came
+pub more-goes : (r : Taking) (came : ℕ) (p : stage.BlockStage) (field xs : List ℕ) → IsOpen r → length field ≤ came
     → IsUnderWay r.ifs r.max r.blocks (length r.joined) came p → r.blocks + 1 ≤ 131072 → length r.joined ≤ r.max
     → AreOctets field
     → under_way_of (number_after r.number r.blocks) p field ≡ r.under_way ++ xs

@@ -1,6 +1,6 @@
 -- What a receiver keeps over the octets that come: its places, and the octets of its message.
 use Rattle.std.proofs.Common.{◌≡◌, ◌≢◌, ℕ, ◌+◌, ◌-◌, ◌*◌, ◌<◌, ◌≤◌, ◌++◌, List, [], ◌∷◌, length, take, drop, refl, sym, ap, subst, ◌∙◌, arith, Bool, true, false, not, inl, inr, Option, Some, None, nat_eq, bit_xor}
-use Rattle.std.proofs.lemmas.List.{length-append, length-take, length-drop, length-replicate, drop-take, drop-append-le, take-append-le, take_all}
+use Rattle.std.proofs.lemmas.List.{length-append, length-take, length-drop, length-replicate, drop-take, drop-append-le, take-append-le}
 use Rattle.std.proofs.lemmas.List.Sums.{fold-append}
 use Rattle.std.proofs.lemmas.Bool.Decides.{eqb_tells}
 use Rattle.std.proofs.Math.ListN.{replicate}
@@ -9,7 +9,7 @@ use Rattle.octet_core.specs.Octets.{AreOctets, xor_of}
 use Rattle.octet_core.specs.Grammar.{IsFirst}
 use Rattle.octet_core.specs.declared.stop.Refusal.{Refusal}
 use Rattle.octet_core.proofs.Begun.{take_take}
-use Rattle.octet_core.proofs.Lists.{octets-append, octets-take, octets-drop}
+use Rattle.octet_core.proofs.Lists.{octets-take, octets-drop}
 use Rattle.block_core.specs.declared.pcb.Number.{Number}
 use Rattle.block_core.specs.declared.pcb.Pcb.TheVariants.{Info}
 use Rattle.block_core.specs.Block as block
@@ -18,11 +18,11 @@ use Rattle.block_core.proofs.Blocks.{xor-zero}
 use Rattle.block_core.proofs.Readings.{xor-more}
 use Rattle.chain_core.specs.declared.reason.ChainReason.{ChainReason}
 use Rattle.chain_core.specs.declared.reason.ChainReason.TheVariants.{BadPcb, NotInfo, BadSequence, TooManyBlocks, BadLen, OverIfs, TooLong, BadLrc}
-use Rattle.chain_core.specs.declared.part.Part as part
-use Rattle.chain_core.specs.declared.part.Part.TheVariants as parts
+use Rattle.chain_core.specs.declared.stage.BlockStage as stage
+use Rattle.chain_core.specs.declared.stage.BlockStage.TheVariants as stages
 use Rattle.chain_core.specs.declared.places.ReceiverPlaces.{ReceiverPlaces}
 use Rattle.chain_core.specs.Chain.{MeetsInBlock, all_reasons, chain_block, number_after, message_of}
-use Rattle.chain_core.specs.Part.{IsHead, IsPcbFault, IsLenFault, IsHeadFault, IsAfter, more_count, place_of, came_of, left_of}
+use Rattle.chain_core.specs.Stage.{IsHead, IsPcbFault, IsLenFault, IsHeadFault, IsAfter, more_count, place_of, came_of, left_of}
 use Rattle.chain_core.specs.Taking.{Taking, HasTaken, nothing_taken}
 use Rattle.chain_core.specs.Receiving.{Goes}
 use Rattle.chain_core.specs.Places.{under_way_of, number_at, field_at, held_at, taken_at, received_at, IsUnderWay, IsAmong, IsKept, IsNextReason, IsPcbReason, IsLenReason, AreReceiverPlaces, IsReceiver}
@@ -37,16 +37,17 @@ use Rattle.chain_core.proofs.Receptions.{more-goes, refused-goes, joined-goes}
 pub way-of : (p : ReceiverPlaces) (room : ℕ) → AreReceiverPlaces p room → p.done ≡ false → IsAmong false p
 way-of p room fit still = subst (λ (d : Bool). IsAmong d p) still fit.among
 
-way-held : (ifs max blocks joined came : ℕ) (p : part.Part) → joined ≤ max → IsUnderWay ifs max blocks joined came p
+way-held : (ifs max blocks joined came : ℕ) (p : stage.BlockStage) → joined ≤ max
+    → IsUnderWay ifs max blocks joined came p
     → joined + came_of p came ≤ max
-way-held ifs max blocks joined came parts.Nad le h = omega arith
-way-held ifs max blocks joined came parts.Pcb le h = omega arith
-way-held ifs max blocks joined came (parts.Len more) le h = omega arith
-way-held ifs max blocks joined came (parts.Rest more len) le h = omega (arith, h.2, h.3)
+way-held ifs max blocks joined came stages.Nad le h = omega arith
+way-held ifs max blocks joined came stages.Pcb le h = omega arith
+way-held ifs max blocks joined came (stages.Len more) le h = omega arith
+way-held ifs max blocks joined came (stages.Rest more len) le h = omega (arith, h.2, h.3)
 
 among-held : (done : Bool) (p : ReceiverPlaces) → p.joined ≤ p.max → IsAmong done p → held_at p ≤ p.max
-among-held true p le h = omega (arith, le, ap (λ (q : part.Part). came_of q p.came) h.0)
-among-held false p le h = way-held p.ifs p.max p.blocks p.joined p.came p.part le h.1
+among-held true p le h = omega (arith, le, ap (λ (q : stage.BlockStage). came_of q p.came) h.0)
+among-held false p le h = way-held p.ifs p.max p.blocks p.joined p.came p.stage le h.1
 
 -- a buffer with room for the longest message has room for them
 pub held-room : (p : ReceiverPlaces) (room : ℕ) → AreReceiverPlaces p room → held_at p ≤ room
@@ -75,86 +76,87 @@ counted false last blocks few some h = omega arith
 counted true last blocks few some h = omega (arith, few (h refl))
 
 -- what comes after one of these octets, and what it is refused for
-abbrev pub IsNext : ReceiverPlaces → ℕ → part.Part → Type 0
-IsNext p x next = IsAfter (number_at p) (nat_eq (p.blocks + 1) 131072) p.ifs (p.max - p.joined) p.part x next
+abbrev pub IsNext : ReceiverPlaces → ℕ → stage.BlockStage → Type 0
+IsNext p x next = IsAfter (number_at p) (nat_eq (p.blocks + 1) 131072) p.ifs (p.max - p.joined) p.stage x next
 
 -- and what such an octet is refused for
 abbrev pub IsOff : ReceiverPlaces → ℕ → ChainReason → Type 0
-IsOff p x reason = IsHeadFault (number_at p) (nat_eq (p.blocks + 1) 131072) p.ifs (p.max - p.joined) p.part x reason
+IsOff p x reason = IsHeadFault (number_at p) (nat_eq (p.blocks + 1) 131072) p.ifs (p.max - p.joined) p.stage x reason
 
-head-text : (number : Number) (last : Bool) (ifs room x : ℕ) (p next : part.Part) (field more : List ℕ)
+head-text : (number : Number) (last : Bool) (ifs room x : ℕ) (p next : stage.BlockStage) (field more : List ℕ)
     → IsAfter number last ifs room p x next → under_way_of number next (take 0 more) ≡ under_way_of number p field
     ++ x ∷ []
-head-text number last ifs room x parts.Nad next field more h =
-    ap (λ (q : part.Part). under_way_of number q (take 0 more)) h.1 ∙ ap (λ (y : ℕ). y ∷ []) (sym h.0)
-head-text number last ifs room x parts.Pcb next field more h =
-    ap (λ (q : part.Part). under_way_of number q (take 0 more)) h.1 ∙ ap (λ (y : ℕ). 0 ∷ y ∷ []) h.2
-head-text number last ifs room x (parts.Len goes_on) next field more h =
-    ap (λ (q : part.Part). under_way_of number q (take 0 more)) h.0
-head-text number last ifs room x (parts.Rest goes_on len) next field more h = absurd h
+head-text number last ifs room x stages.Nad next field more h =
+    ap (λ (q : stage.BlockStage). under_way_of number q (take 0 more)) h.1 ∙ ap (λ (y : ℕ). y ∷ []) (sym h.0)
+head-text number last ifs room x stages.Pcb next field more h =
+    ap (λ (q : stage.BlockStage). under_way_of number q (take 0 more)) h.1 ∙ ap (λ (y : ℕ). 0 ∷ y ∷ []) h.2
+head-text number last ifs room x (stages.Len goes_on) next field more h =
+    ap (λ (q : stage.BlockStage). under_way_of number q (take 0 more)) h.0
+head-text number last ifs room x (stages.Rest goes_on len) next field more h = absurd h
 
-head-len : (number : Number) (p : part.Part) (field : List ℕ) → IsHead p
+head-len : (number : Number) (p : stage.BlockStage) (field : List ℕ) → IsHead p
     → length (under_way_of number p field) ≡ place_of p
-head-len number parts.Nad field h = refl
-head-len number parts.Pcb field h = refl
-head-len number (parts.Len more) field h = refl
-head-len number (parts.Rest more len) field h = absurd h
+head-len number stages.Nad field h = refl
+head-len number stages.Pcb field h = refl
+head-len number (stages.Len more) field h = refl
+head-len number (stages.Rest more len) field h = absurd h
 
-place-most : (p : part.Part) → IsHead p → place_of p ≤ 2
-place-most parts.Nad head = omega arith
-place-most parts.Pcb head = omega arith
-place-most (parts.Len more) head = omega arith
-place-most (parts.Rest more len) head = absurd head
+place-most : (p : stage.BlockStage) → IsHead p → place_of p ≤ 2
+place-most stages.Nad head = omega arith
+place-most stages.Pcb head = omega arith
+place-most (stages.Len more) head = omega arith
+place-most (stages.Rest more len) head = absurd head
 
-head-way : (number : Number) (ifs max blocks joined came x : ℕ) (p next : part.Part) → blocks + 1 ≤ 131072
+head-way : (number : Number) (ifs max blocks joined came x : ℕ) (p next : stage.BlockStage) → blocks + 1 ≤ 131072
     → joined ≤ max → IsUnderWay ifs max blocks joined came p
     → IsAfter number (nat_eq (blocks + 1) 131072) ifs (max - joined) p x next → IsUnderWay ifs max blocks joined 0 next
-head-way number ifs max blocks joined came x parts.Nad next few fits h b = rw b.1 tt
-head-way number ifs max blocks joined came x parts.Pcb next few fits h b =
+head-way number ifs max blocks joined came x stages.Nad next few fits h b = rw b.1 tt
+head-way number ifs max blocks joined came x stages.Pcb next few fits h b =
     rw b.1 (counted b.0 (nat_eq (blocks + 1) 131072) blocks (last-free blocks few) few b.3)
-head-way number ifs max blocks joined came x (parts.Len more) next few fits h b =
+head-way number ifs max blocks joined came x (stages.Len more) next few fits h b =
     rw b.0 (h, b.1, omega (arith, b.2, fits), omega arith)
-head-way number ifs max blocks joined came x (parts.Rest more len) next few fits h b = absurd b
+head-way number ifs max blocks joined came x (stages.Rest more len) next few fits h b = absurd b
 
-none-came : (p : part.Part) → came_of p 0 ≡ 0
-none-came parts.Nad = refl
-none-came parts.Pcb = refl
-none-came (parts.Len more) = refl
-none-came (parts.Rest more len) = refl
+none-came : (p : stage.BlockStage) → came_of p 0 ≡ 0
+none-came stages.Nad = refl
+none-came stages.Pcb = refl
+none-came (stages.Len more) = refl
+none-came (stages.Rest more len) = refl
 
 -- no octet of a field has come before the third octet of a block
-pub head-came : (p : part.Part) (came : ℕ) → IsHead p → came_of p came ≡ 0
-head-came parts.Nad came h = refl
-head-came parts.Pcb came h = refl
-head-came (parts.Len more) came h = refl
-head-came (parts.Rest more len) came h = absurd h
+pub head-came : (p : stage.BlockStage) (came : ℕ) → IsHead p → came_of p came ≡ 0
+head-came stages.Nad came h = refl
+head-came stages.Pcb came h = refl
+head-came (stages.Len more) came h = refl
+head-came (stages.Rest more len) came h = absurd h
 
 -- such an octet puts nothing into the buffer
-pub head-held : (p : ReceiverPlaces) (next : part.Part) → IsHead p.part
-    → held_at (record p { part = next; came = 0 }) ≡ held_at p
-head-held p next head = omega (arith, none-came next, head-came p.part p.came head)
+pub head-held : (p : ReceiverPlaces) (next : stage.BlockStage) → IsHead p.stage
+    → held_at (record p { stage = next; came = 0 }) ≡ held_at p
+head-held p next head = omega (arith, none-came next, head-came p.stage p.came head)
 
 -- a receiver takes such an octet, and goes on to what comes after it
-pub head-on : (p : ReceiverPlaces) (next : part.Part) (x room : ℕ) (m : List ℕ) → AreReceiverPlaces p room
+pub head-on : (p : ReceiverPlaces) (next : stage.BlockStage) (x room : ℕ) (m : List ℕ) → AreReceiverPlaces p room
     → held_at p ≤ length m → p.refusal ≡ None → p.done ≡ false → IsNext p x next
-    → Goes (received_at p m) (received_at (record p { part = next; came = 0 }) m) (x ∷ [])
+    → Goes (received_at p m) (received_at (record p { stage = next; came = 0 }) m) (x ∷ [])
 head-on p next x room m fit held none still after =
     let way = way-of p room fit still in
     let long = joined-len p m (omega (arith, held)) in
-    let next-way = head-way (number_at p) p.ifs p.max p.blocks p.joined p.came x p.part next way.0 fit.joined way.1
+    let next-way = head-way (number_at p) p.ifs p.max p.blocks p.joined p.came x p.stage next way.0 fit.joined way.1
     after in
     more-goes (received_at p m) 0 next (take 0 (drop p.joined m)) (x ∷ []) (none, still) (omega arith)
     (subst (λ (k : ℕ). IsUnderWay p.ifs p.max p.blocks k 0 next) (sym long) next-way) way.0
     (omega (arith, long, fit.joined)) (λ i. omega arith)
-    (head-text (number_at p) (nat_eq (p.blocks + 1) 131072) p.ifs (p.max - p.joined) x p.part next (field_at p m)
+    (head-text (number_at p) (nat_eq (p.blocks + 1) 131072) p.ifs (p.max - p.joined) x p.stage next (field_at p m)
     (drop p.joined m) after)
 
 -- what is kept beside the block under way stays
-fit-with : (p : ReceiverPlaces) (next : part.Part) (came : ℕ) (refusal : Option (Refusal ChainReason)) (room more : ℕ)
+fit-with : (p : ReceiverPlaces) (next : stage.BlockStage) (came : ℕ) (refusal : Option (Refusal ChainReason))
+    (room more : ℕ)
     → AreReceiverPlaces p room → room ≤ more → came_of next came ≡ came
-    → IsAmong p.done (record p { part = next; came = came; refusal = refusal })
-    → IsKept refusal (record p { part = next; came = came; refusal = refusal })
-    → AreReceiverPlaces (record p { part = next; came = came; refusal = refusal }) more
+    → IsAmong p.done (record p { stage = next; came = came; refusal = refusal })
+    → IsKept refusal (record p { stage = next; came = came; refusal = refusal })
+    → AreReceiverPlaces (record p { stage = next; came = came; refusal = refusal }) more
 fit-with p next came refusal room more fit grows idle among kept = record {
   least = fit.least;
   most = fit.most;
@@ -173,42 +175,42 @@ none-kept : (p : ReceiverPlaces) → p.refusal ≡ None → IsKept p.refusal p
 none-kept p none = subst (λ (o : Option (Refusal ChainReason)). IsKept o p) (sym none) tt
 
 -- and its places stay those of a receiver
-pub head-fit : (p : ReceiverPlaces) (next : part.Part) (x room : ℕ) → p.refusal ≡ None → p.done ≡ false
+pub head-fit : (p : ReceiverPlaces) (next : stage.BlockStage) (x room : ℕ) → p.refusal ≡ None → p.done ≡ false
     → IsNext p x next
-    → AreReceiverPlaces p room → AreReceiverPlaces (record p { part = next; came = 0 }) room
+    → AreReceiverPlaces p room → AreReceiverPlaces (record p { stage = next; came = 0 }) room
 head-fit p next x room none still after fit =
     let way = way-of p room fit still in
-    let next-way = head-way (number_at p) p.ifs p.max p.blocks p.joined p.came x p.part next way.0 fit.joined way.1
+    let next-way = head-way (number_at p) p.ifs p.max p.blocks p.joined p.came x p.stage next way.0 fit.joined way.1
     after in
     fit-with p next 0 p.refusal room room fit (omega arith) (none-came next)
-    (subst (λ (d : Bool). IsAmong d (record p { part = next; came = 0 })) (sym still) (way.0, next-way))
-    (none-kept (record p { part = next; came = 0 }) none)
+    (subst (λ (d : Bool). IsAmong d (record p { stage = next; came = 0 })) (sym still) (way.0, next-way))
+    (none-kept (record p { stage = next; came = 0 }) none)
 
 -- such an octet is refused at its place, for what is wrong with it
 pub head-off : (p : ReceiverPlaces) (x room : ℕ) (reason : ChainReason) (m : List ℕ) → AreReceiverPlaces p room
-    → held_at p ≤ length m → p.refusal ≡ None → p.done ≡ false → IsHead p.part
+    → held_at p ≤ length m → p.refusal ≡ None → p.done ≡ false → IsHead p.stage
     → IsOff p x reason
     → Goes (received_at p m) (received_at
-    (record p { refusal = Some (record { place = p.joined + 4 * p.blocks + place_of p.part; reason = reason }) }) m)
+    (record p { refusal = Some (record { place = p.joined + 4 * p.blocks + place_of p.stage; reason = reason }) }) m)
     (x ∷ [])
 head-off p x room reason m fit held none still head fault =
     let last : Bool = nat_eq (p.blocks + 1) 131072 in
-    let c : List ℕ = under_way_of (number_at p) p.part (field_at p m) in
-    let len = head-len (number_at p) p.part (field_at p m) head in
+    let c : List ℕ = under_way_of (number_at p) p.stage (field_at p m) in
+    let len = head-len (number_at p) p.stage (field_at p m) head in
     let long = joined-len p m (omega (arith, held)) in
-    refused-goes (received_at p m) x (p.joined + 4 * p.blocks + place_of p.part) reason (none, still) fit.most
-    (part-short (c ++ x ∷ []) (omega (arith, length-append c (x ∷ []), len, place-most p.part head)))
+    refused-goes (received_at p m) x (p.joined + 4 * p.blocks + place_of p.stage) reason (none, still) fit.most
+    (part-short (c ++ x ∷ []) (omega (arith, length-append c (x ∷ []), len, place-most p.stage head)))
     (omega (arith, len, long))
     (λ before count joined.
     let number-is : number_at p ≡ number_after p.first (length before) = ap (number_after p.first) (sym count) in
     let room-is : p.max - p.joined ≡ p.max - length (message_of before) = omega (arith, ap length joined, long) in
     subst (λ (n : Number). IsFirst all_reasons
-    (MeetsInBlock p.ifs p.first p.max before (under_way_of n p.part (field_at p m) ++ x ∷ [])) reason)
+    (MeetsInBlock p.ifs p.first p.max before (under_way_of n p.stage (field_at p m) ++ x ∷ [])) reason)
     (sym number-is)
-    (first-head p.ifs p.first p.max before last (p.max - p.joined) p.part (field_at p m) x reason
+    (first-head p.ifs p.first p.max before last (p.max - p.joined) p.stage (field_at p m) x reason
     (λ full. omega (arith, last-full p.blocks full, count)) (omega (arith, ap length joined, long, fit.joined))
     room-is
-    (subst (λ (n : Number). IsHeadFault n last p.ifs (p.max - p.joined) p.part x reason) number-is fault)))
+    (subst (λ (n : Number). IsHeadFault n last p.ifs (p.max - p.joined) p.stage x reason) number-is fault)))
 
 among-kept : (done : Bool) (p : ReceiverPlaces) (refusal : Refusal ChainReason) → IsAmong done p
     → IsAmong done (record p { refusal = Some refusal })
@@ -217,10 +219,10 @@ among-kept false p refusal h = h
 
 -- places that keep a refusal of the next octet stay those of a receiver
 kept-fit : (p : ReceiverPlaces) (refusal : Refusal ChainReason) (room : ℕ) → p.done ≡ false
-    → refusal.place ≡ taken_at p → IsNextReason p.ifs p.max p.blocks p.joined p.came p.part refusal.reason
+    → refusal.place ≡ taken_at p → IsNextReason p.ifs p.max p.blocks p.joined p.came p.stage refusal.reason
     → AreReceiverPlaces p room → AreReceiverPlaces (record p { refusal = Some refusal }) room
 kept-fit p refusal room still place reason fit =
-    fit-with p p.part p.came (Some refusal) room room fit (omega arith) fit.idle
+    fit-with p p.stage p.came (Some refusal) room room fit (omega arith) fit.idle
     (among-kept p.done p refusal fit.among) (still, place, reason)
 
 pcb-reason : (number : Number) (blocks x : ℕ) (r : ChainReason)
@@ -238,61 +240,61 @@ len-reason ifs room x TooLong octet h = omega (arith, h.1, h.2)
 len-reason ifs room x _ octet h = absurd h
 
 -- what is wrong with one of the first three octets of a block is a reason for which one can be refused
-head-reason : (number : Number) (ifs max blocks joined came x : ℕ) (p : part.Part) (r : ChainReason) → x < 256
+head-reason : (number : Number) (ifs max blocks joined came x : ℕ) (p : stage.BlockStage) (r : ChainReason) → x < 256
     → IsHeadFault number (nat_eq (blocks + 1) 131072) ifs (max - joined) p x r
     → IsNextReason ifs max blocks joined came p r
-head-reason number ifs max blocks joined came x parts.Nad r octet h = h.1
-head-reason number ifs max blocks joined came x parts.Pcb r octet h = pcb-reason number blocks x r h
-head-reason number ifs max blocks joined came x (parts.Len more) r octet h = len-reason ifs (max - joined) x r octet h
-head-reason number ifs max blocks joined came x (parts.Rest more len) r octet h = absurd h
+head-reason number ifs max blocks joined came x stages.Nad r octet h = h.1
+head-reason number ifs max blocks joined came x stages.Pcb r octet h = pcb-reason number blocks x r h
+head-reason number ifs max blocks joined came x (stages.Len more) r octet h = len-reason ifs (max - joined) x r octet h
+head-reason number ifs max blocks joined came x (stages.Rest more len) r octet h = absurd h
 
 -- so do those that refused one of these octets
-pub off-fit : (p : ReceiverPlaces) (x room : ℕ) (reason : ChainReason) → x < 256 → p.done ≡ false → IsHead p.part
+pub off-fit : (p : ReceiverPlaces) (x room : ℕ) (reason : ChainReason) → x < 256 → p.done ≡ false → IsHead p.stage
     → IsOff p x reason → AreReceiverPlaces p room
     → AreReceiverPlaces
-    (record p { refusal = Some (record { place = p.joined + 4 * p.blocks + place_of p.part; reason = reason }) }) room
+    (record p { refusal = Some (record { place = p.joined + 4 * p.blocks + place_of p.stage; reason = reason }) }) room
 off-fit p x room reason octet still head fault fit =
-    kept-fit p (record { place = p.joined + 4 * p.blocks + place_of p.part; reason = reason }) room still
-    (omega (arith, head-came p.part p.came head))
-    (head-reason (number_at p) p.ifs p.max p.blocks p.joined p.came x p.part reason octet fault) fit
+    kept-fit p (record { place = p.joined + 4 * p.blocks + place_of p.stage; reason = reason }) room still
+    (omega (arith, head-came p.stage p.came head))
+    (head-reason (number_at p) p.ifs p.max p.blocks p.joined p.came x p.stage reason octet fault) fit
 
 -- ---- octets of the field
 
-rest-text : (number : Number) (p : part.Part) (came : ℕ) (field xs : List ℕ) → 0 < left_of p came
+rest-text : (number : Number) (p : stage.BlockStage) (came : ℕ) (field xs : List ℕ) → 0 < left_of p came
     → under_way_of number p (field ++ xs) ≡ under_way_of number p field ++ xs
-rest-text number parts.Nad came field xs some = absurd (omega arith)
-rest-text number parts.Pcb came field xs some = absurd (omega arith)
-rest-text number (parts.Len more) came field xs some = absurd (omega arith)
-rest-text number (parts.Rest more len) came field xs some = refl
+rest-text number stages.Nad came field xs some = absurd (omega arith)
+rest-text number stages.Pcb came field xs some = absurd (omega arith)
+rest-text number (stages.Len more) came field xs some = absurd (omega arith)
+rest-text number (stages.Rest more len) came field xs some = refl
 
-more-way : (ifs max blocks joined came run : ℕ) (p : part.Part) → 0 < left_of p came → run ≤ left_of p came
+more-way : (ifs max blocks joined came run : ℕ) (p : stage.BlockStage) → 0 < left_of p came → run ≤ left_of p came
     → IsUnderWay ifs max blocks joined came p → IsUnderWay ifs max blocks joined (came + run) p
-more-way ifs max blocks joined came run parts.Nad some le h = absurd (omega arith)
-more-way ifs max blocks joined came run parts.Pcb some le h = absurd (omega arith)
-more-way ifs max blocks joined came run (parts.Len more) some le h = absurd (omega arith)
-more-way ifs max blocks joined came run (parts.Rest more len) some le h = (h.0, h.1, h.2, omega (arith, le, some))
+more-way ifs max blocks joined came run stages.Nad some le h = absurd (omega arith)
+more-way ifs max blocks joined came run stages.Pcb some le h = absurd (omega arith)
+more-way ifs max blocks joined came run (stages.Len more) some le h = absurd (omega arith)
+more-way ifs max blocks joined came run (stages.Rest more len) some le h = (h.0, h.1, h.2, omega (arith, le, some))
 
-left-held : (p : part.Part) (came now : ℕ) → 0 < left_of p came → came_of p now ≡ now
-left-held parts.Nad came now some = absurd (omega arith)
-left-held parts.Pcb came now some = absurd (omega arith)
-left-held (parts.Len more) came now some = absurd (omega arith)
-left-held (parts.Rest more len) came now some = refl
+left-held : (p : stage.BlockStage) (came now : ℕ) → 0 < left_of p came → came_of p now ≡ now
+left-held stages.Nad came now some = absurd (omega arith)
+left-held stages.Pcb came now some = absurd (omega arith)
+left-held (stages.Len more) came now some = absurd (omega arith)
+left-held (stages.Rest more len) came now some = refl
 
 -- while octets of the field come the places stay those of a receiver, in a buffer that has no less room
 pub field-fit : (p : ReceiverPlaces) (run room more : ℕ) → p.refusal ≡ None → p.done ≡ false
-    → 0 < left_of p.part p.came → run ≤ left_of p.part p.came → room ≤ more → AreReceiverPlaces p room
+    → 0 < left_of p.stage p.came → run ≤ left_of p.stage p.came → room ≤ more → AreReceiverPlaces p room
     → AreReceiverPlaces (record p { came = p.came + run }) more
 field-fit p run room more none still some le grows fit =
     let way = way-of p room fit still in
-    fit-with p p.part (p.came + run) p.refusal room more fit grows (left-held p.part p.came (p.came + run) some)
+    fit-with p p.stage (p.came + run) p.refusal room more fit grows (left-held p.stage p.came (p.came + run) some)
     (subst (λ (d : Bool). IsAmong d (record p { came = p.came + run })) (sym still)
-    (way.0, more-way p.ifs p.max p.blocks p.joined p.came run p.part some le way.1))
+    (way.0, more-way p.ifs p.max p.blocks p.joined p.came run p.stage some le way.1))
     (none-kept (record p { came = p.came + run }) none)
 
 -- what comes of the field is put after what came before
-pub field-held : (p : ReceiverPlaces) (run : ℕ) → 0 < left_of p.part p.came
+pub field-held : (p : ReceiverPlaces) (run : ℕ) → 0 < left_of p.stage p.came
     → held_at (record p { came = p.came + run }) ≡ p.joined + p.came + run
-field-held p run some = omega (arith, left-held p.part p.came (p.came + run) some)
+field-held p run some = omega (arith, left-held p.stage p.came (p.came + run) some)
 
 -- the front of a buffer whose octets after it changed
 front-stays : (n k : ℕ) (m m' xs : List ℕ) → n + k ≤ length m → take (n + k + length xs) m' ≡ take (n + k) m ++ xs
@@ -313,8 +315,8 @@ field-text n k m m' xs inside e =
 
 -- a receiver takes octets of the field, where they come after those before them in the buffer
 pub field-on : (p : ReceiverPlaces) (room : ℕ) (m m' xs : List ℕ) → AreOctets m' → AreReceiverPlaces p room
-    → p.joined + p.came ≤ length m → p.refusal ≡ None → p.done ≡ false → 0 < left_of p.part p.came
-    → length xs ≤ left_of p.part p.came
+    → p.joined + p.came ≤ length m → p.refusal ≡ None → p.done ≡ false → 0 < left_of p.stage p.came
+    → length xs ≤ left_of p.stage p.came
     → take (p.joined + p.came + length xs) m' ≡ take (p.joined + p.came) m ++ xs
     → Goes (received_at p m) (received_at (record p { came = p.came + length xs }) m') xs
 field-on p room m m' xs all fit inside none still some le text =
@@ -324,21 +326,21 @@ field-on p room m m' xs all fit inside none still some le text =
     let long = joined-len p m (omega (arith, inside)) in
     let front : take p.joined m' ≡ take p.joined m = front-stays p.joined p.came m m' xs inside text in
     let field-is : field ≡ field_at p m ++ xs = field-text p.joined p.came m m' xs inside text in
-    let next-way = subst (λ (k : ℕ). IsUnderWay p.ifs p.max p.blocks k (p.came + length xs) p.part) (sym long)
-    (more-way p.ifs p.max p.blocks p.joined p.came (length xs) p.part some le way.1) in
-    subst (λ (l : List ℕ). Goes r (record r { joined = l; under_way = under_way_of (number_at p) p.part field }) xs)
+    let next-way = subst (λ (k : ℕ). IsUnderWay p.ifs p.max p.blocks k (p.came + length xs) p.stage) (sym long)
+    (more-way p.ifs p.max p.blocks p.joined p.came (length xs) p.stage some le way.1) in
+    subst (λ (l : List ℕ). Goes r (record r { joined = l; under_way = under_way_of (number_at p) p.stage field }) xs)
     (sym front)
-    (more-goes r (p.came + length xs) p.part field xs (none, still)
+    (more-goes r (p.came + length xs) p.stage field xs (none, still)
     (omega (arith, length-take (p.came + length xs) (drop p.joined m'))) next-way way.0
     (omega (arith, long, fit.joined))
     (octets-take (p.came + length xs) (drop p.joined m') (octets-drop p.joined m' all))
-    (ap (under_way_of (number_at p) p.part) field-is ∙ rest-text (number_at p) p.part p.came (field_at p m) xs some))
+    (ap (under_way_of (number_at p) p.stage) field-is ∙ rest-text (number_at p) p.stage p.came (field_at p m) xs some))
 
 -- ---- the LRC
 
 -- the places where the whole field has come, and the LRC comes next
 abbrev pub with_rest : ReceiverPlaces → Bool → ℕ → ReceiverPlaces
-with_rest p more len = record p { part = parts.Rest more len; came = len }
+with_rest p more len = record p { stage = stages.Rest more len; came = len }
 
 -- the places after the LRC: the field is joined to the message, and the chain is whole where no more follow
 abbrev pub closed_at : ReceiverPlaces → Bool → ℕ → ReceiverPlaces
@@ -346,7 +348,7 @@ closed_at p more len = record p {
   joined = p.joined + len;
   blocks = p.blocks + 1;
   done = not more;
-  part = parts.Nad;
+  stage = stages.Nad;
   came = 0;
 }
 
@@ -449,50 +451,14 @@ lrc-off p more len x room m fit inside none still sum =
 
 -- ---- a receiver with a message of its own
 
--- it stays one over octets that come
-pub receiver-kept : (p q : ReceiverPlaces) (m m' xs : List ℕ) (room more : ℕ) → IsReceiver p m room → p.refusal ≡ None
-    → AreReceiverPlaces q more → AreOctets m' → length m' ≡ held_at q → Goes (received_at p m) (received_at q m') xs
-    → IsReceiver q m' more
-receiver-kept p q m m' xs room more r free fit octets exact goes = record {
-  fit = fit;
-  octets = octets;
-  exact = exact;
-  taken = λ none. let before = r.taken free in (before.0 ++ xs, goes.on none before.0 before.1);
-}
-
--- also where they are of the field, and are put at the end of the message
-pub receiver-field : (p : ReceiverPlaces) (m m' xs : List ℕ) (n room more : ℕ) → IsReceiver p m room → p.refusal ≡ None
-    → p.done ≡ false → AreOctets xs → room ≤ more → 0 < left_of p.part p.came → n ≤ left_of p.part p.came
-    → length xs ≡ n → m' ≡ m ++ xs
-    → Goes (received_at p m) (received_at (record p { came = p.came + n }) m') xs
-    × IsReceiver (record p { came = p.came + n }) m' more
-receiver-field p m m' xs n room more r free still octets grows some le count is =
-    let run : ℕ = length xs in
-    let q : ReceiverPlaces = record p { came = p.came + run } in
-    let a : ℕ = p.joined + p.came in
-    let inside : length m ≡ a = omega (arith, r.exact, left-held p.part p.came p.came some) in
-    let long : length m' ≡ a + run = omega (arith, ap length is, length-append m xs, inside) in
-    let all : AreOctets m' = subst AreOctets (sym is) (octets-append m xs r.octets octets) in
-    let text : take (a + run) m' ≡ take a m ++ xs =
-    take_all (a + run) m' (omega (arith, long)) ∙ is
-    ∙ ap (λ (l : List ℕ). l ++ xs) (sym (take_all a m (omega (arith, inside)))) in
-    let goes : Goes (received_at p m) (received_at q m') xs =
-    field-on p room m m' xs all r.fit (omega (arith, inside)) free still some (omega (arith, le, count)) text in
-    let fit : AreReceiverPlaces q more = field-fit p run room more free still some (omega (arith, le, count)) grows
-    r.fit in
-    let kept : IsReceiver q m' more = receiver-kept p q m m' xs room more r free fit all
-    (omega (arith, long, field-held p run some)) goes in
-    subst (λ (k : ℕ). Goes (received_at p m) (received_at (record p { came = p.came + k }) m') xs
-    × IsReceiver (record p { came = p.came + k }) m' more) count (goes, kept)
-
-way-none : (number : Number) (p : part.Part) (field : List ℕ) (came : ℕ) → under_way_of number p field ≡ []
+way-none : (number : Number) (p : stage.BlockStage) (field : List ℕ) (came : ℕ) → under_way_of number p field ≡ []
     → came_of p came ≡ 0
-way-none number parts.Nad field came e = refl
-way-none number parts.Pcb field came e = refl
-way-none number (parts.Len more) field came e = refl
-way-none number (parts.Rest more len) field came e = absurd (omega (arith, ap length e))
+way-none number stages.Nad field came e = refl
+way-none number stages.Pcb field came e = refl
+way-none number (stages.Len more) field came e = refl
+way-none number (stages.Rest more len) field came e = absurd (omega (arith, ap length e))
 
--- and a new one is one, whose message is empty
+-- a new one is one, whose message is empty
 pub receiver-fresh : (p : ReceiverPlaces) (m : List ℕ) (room ifs : ℕ) (number : Number) (max : ℕ)
     → AreReceiverPlaces p room → m ≡ [] → ((l : List ℕ) → received_at p l ≡ nothing_taken ifs number max)
     → IsReceiver p m room
@@ -504,11 +470,13 @@ receiver-fresh p m room ifs number max fit none is =
       length-take p.joined zeros,
       length-replicate {A = ℕ} p.joined 0,
     ) in
-    let came : came_of p.part p.came ≡ 0 =
-    way-none (number_at p) p.part (field_at p []) p.came (ap (λ (r : Taking). r.under_way) (is [])) in
+    let came : came_of p.stage p.came ≡ 0 =
+    way-none (number_at p) p.stage (field_at p []) p.came (ap (λ (r : Taking). r.under_way) (is [])) in
     record {
-      fit = fit;
-      octets = subst AreOctets (sym none) (λ i. omega arith);
-      exact = omega (arith, ap length none, joined, came);
+      stored = record {
+        fit = fit;
+        octets = subst AreOctets (sym none) (λ i. omega arith);
+        after = omega (arith, ap length none, joined, came);
+      };
       taken = λ free. ([], subst (λ (r : Taking). HasTaken r []) (sym (is m)) (taken-fresh ifs number max));
     }

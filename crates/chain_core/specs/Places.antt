@@ -8,21 +8,21 @@ use Rattle.octet_core.specs.declared.stop.Stop.TheVariants.{Short, At}
 use Rattle.block_core.specs.Block.{pcb_octet}
 use Rattle.block_core.specs.declared.pcb.Number.{Number}
 use Rattle.block_core.specs.declared.pcb.Pcb.TheVariants.{Info}
-use Rattle.chain_core.specs.declared.part.Part as part
-use Rattle.chain_core.specs.declared.part.Part.TheVariants as parts
+use Rattle.chain_core.specs.declared.stage.BlockStage as stage
+use Rattle.chain_core.specs.declared.stage.BlockStage.TheVariants as stages
 use Rattle.chain_core.specs.declared.places.ReceiverPlaces.{ReceiverPlaces}
 use Rattle.chain_core.specs.Chain.{IsChain, IsReason, most_blocks, longest_message, number_after}
-use Rattle.chain_core.specs.Part.{more_count, came_of, place_of}
+use Rattle.chain_core.specs.Stage.{more_count, came_of, place_of}
 use Rattle.chain_core.specs.Taking.{Taking, HasTaken, unrefused}
 use Rattle.chain_core.specs.declared.reason.ChainReason.{ChainReason}
 use Rattle.chain_core.specs.declared.reason.ChainReason.TheVariants.{BadNad, BadPcb, NotInfo, BadSequence, TooManyBlocks, BadLen, OverIfs, TooLong, BadLrc}
 
 -- the octets of the block under way, by what comes next of it and those of its field that came
-abbrev pub under_way_of : Number → part.Part → List ℕ → List ℕ
-under_way_of number parts.Nad field = []
-under_way_of number parts.Pcb field = 0 ∷ []
-under_way_of number (parts.Len more) field = 0 ∷ pcb_octet (Info number more) ∷ []
-under_way_of number (parts.Rest more len) field = 0 ∷ pcb_octet (Info number more) ∷ len ∷ field
+abbrev pub under_way_of : Number → stage.BlockStage → List ℕ → List ℕ
+under_way_of number stages.Nad field = []
+under_way_of number stages.Pcb field = 0 ∷ []
+under_way_of number (stages.Len more) field = 0 ∷ pcb_octet (Info number more) ∷ []
+under_way_of number (stages.Rest more len) field = 0 ∷ pcb_octet (Info number more) ∷ len ∷ field
 
 -- the number of the block under way, or of the next
 abbrev pub number_at : ReceiverPlaces → Number
@@ -34,7 +34,7 @@ field_at p message = take p.came (drop p.joined message)
 
 -- how many octets of the buffer are the message, or those of the field
 abbrev pub held_at : ReceiverPlaces → ℕ
-held_at p = p.joined + came_of p.part p.came
+held_at p = p.joined + came_of p.stage p.came
 
 -- the receiver that they are with this buffer
 abbrev pub received_at : ReceiverPlaces → List ℕ → Taking
@@ -44,23 +44,23 @@ received_at p message = record {
   max = p.max;
   blocks = p.blocks;
   joined = take p.joined message;
-  under_way = under_way_of (number_at p) p.part (field_at p message);
+  under_way = under_way_of (number_at p) p.stage (field_at p message);
   done = p.done;
   refusal = p.refusal;
 }
 
 -- a block under way that can come after so many blocks with so many octets, of whose field so many came
-abbrev pub IsUnderWay : (ifs max blocks joined came : ℕ) → part.Part → Type 0
-IsUnderWay ifs max blocks joined came parts.Nad = Unit {0}
-IsUnderWay ifs max blocks joined came parts.Pcb = Unit {0}
-IsUnderWay ifs max blocks joined came (parts.Len more) = blocks + 1 + more_count more ≤ most_blocks
-IsUnderWay ifs max blocks joined came (parts.Rest more len) =
+abbrev pub IsUnderWay : (ifs max blocks joined came : ℕ) → stage.BlockStage → Type 0
+IsUnderWay ifs max blocks joined came stages.Nad = Unit {0}
+IsUnderWay ifs max blocks joined came stages.Pcb = Unit {0}
+IsUnderWay ifs max blocks joined came (stages.Len more) = blocks + 1 + more_count more ≤ most_blocks
+IsUnderWay ifs max blocks joined came (stages.Rest more len) =
     (blocks + 1 + more_count more ≤ most_blocks) × (len ≤ ifs) × (joined + len ≤ max) × (came ≤ len)
 
 -- a whole chain has blocks, and none under way
 abbrev pub IsAmong : Bool → ReceiverPlaces → Type 0
-IsAmong true p = (p.part ≡ parts.Nad) × (1 ≤ p.blocks)
-IsAmong false p = (p.blocks + 1 ≤ most_blocks) × IsUnderWay p.ifs p.max p.blocks p.joined p.came p.part
+IsAmong true p = (p.stage ≡ stages.Nad) × (1 ≤ p.blocks)
+IsAmong false p = (p.blocks + 1 ≤ most_blocks) × IsUnderWay p.ifs p.max p.blocks p.joined p.came p.stage
 
 -- some octet can come for a PCB after so many blocks that is refused for this reason
 abbrev pub IsPcbReason : ℕ → ChainReason → Type 0
@@ -78,21 +78,21 @@ IsLenReason ifs room TooLong = room < ifs
 IsLenReason ifs room _ = ⊥
 
 -- some octet can come next of the block under way that is refused for this reason: of its field none is
-abbrev pub IsNextReason : (ifs max blocks joined came : ℕ) → part.Part → ChainReason → Type 0
-IsNextReason ifs max blocks joined came parts.Nad r = r ≡ BadNad
-IsNextReason ifs max blocks joined came parts.Pcb r = IsPcbReason blocks r
-IsNextReason ifs max blocks joined came (parts.Len more) r = IsLenReason ifs (max - joined) r
-IsNextReason ifs max blocks joined came (parts.Rest more len) r = (came ≡ len) × (r ≡ BadLrc)
+abbrev pub IsNextReason : (ifs max blocks joined came : ℕ) → stage.BlockStage → ChainReason → Type 0
+IsNextReason ifs max blocks joined came stages.Nad r = r ≡ BadNad
+IsNextReason ifs max blocks joined came stages.Pcb r = IsPcbReason blocks r
+IsNextReason ifs max blocks joined came (stages.Len more) r = IsLenReason ifs (max - joined) r
+IsNextReason ifs max blocks joined came (stages.Rest more len) r = (came ≡ len) × (r ≡ BadLrc)
 
 -- how many octets were taken
 abbrev pub taken_at : ReceiverPlaces → ℕ
-taken_at p = p.joined + 4 * p.blocks + (place_of p.part + came_of p.part p.came)
+taken_at p = p.joined + 4 * p.blocks + (place_of p.stage + came_of p.stage p.came)
 
 -- a refusal that is kept is of the octet after those, where more octets were taken
 abbrev pub IsKept : Option (Refusal ChainReason) → ReceiverPlaces → Type 0
 IsKept None p = Unit {0}
 IsKept (Some refusal) p = (p.done ≡ false) × (refusal.place ≡ taken_at p)
-    × IsNextReason p.ifs p.max p.blocks p.joined p.came p.part refusal.reason
+    × IsNextReason p.ifs p.max p.blocks p.joined p.came p.stage refusal.reason
 
 -- They are those of a receiver with a buffer of so many octets: those that some octets lead to (`AreLedTo`).
 pub record AreReceiverPlaces (p : ReceiverPlaces) (room : ℕ) : Type 0 where
@@ -105,7 +105,7 @@ pub record AreReceiverPlaces (p : ReceiverPlaces) (room : ℕ) : Type 0 where
   pub full : p.joined ≤ p.blocks * p.ifs
   pub blocks : p.blocks ≤ most_blocks
   -- no octet of a field is counted where none is under way
-  pub idle : came_of p.part p.came ≡ p.came
+  pub idle : came_of p.stage p.came ≡ p.came
   pub among : IsAmong p.done p
   pub kept : IsKept p.refusal p
 
@@ -126,14 +126,19 @@ pub record AreLedTo (p : ReceiverPlaces) (message t : List ℕ) : Type 0 where
   pub octets : AreOctets t
   -- what it counts is in the buffer, and is of a field only where one is under way
   pub held : held_at p ≤ length message
-  pub idle : came_of p.part p.came ≡ p.came
+  pub idle : came_of p.stage p.came ≡ p.came
   pub brings : Brings p.refusal (received_at p message) t
+
+-- Where the octets of the message are kept: there is room for the longest one, and octets that come are put after those
+-- that count.
+pub record IsStored (p : ReceiverPlaces) (kept : List ℕ) (room : ℕ) (ends_after : ℕ → Type 0) : Type 0 where
+  pub fit : AreReceiverPlaces p room
+  pub octets : AreOctets kept
+  pub after : ends_after (held_at p)
 
 -- A receiver has room for the longest message, and keeps the octets that are in use and no other.
 pub record IsReceiver (p : ReceiverPlaces) (message : List ℕ) (room : ℕ) : Type 0 where
-  pub fit : AreReceiverPlaces p room
-  pub octets : AreOctets message
-  pub exact : length message ≡ held_at p
+  pub stored : IsStored p message room (λ held. length message ≡ held)
   -- some list of octets may have been taken
   pub taken : p.refusal ≡ None → (t : List ℕ) × HasTaken (received_at p message) t
 

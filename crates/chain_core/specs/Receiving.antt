@@ -1,11 +1,11 @@
 -- How a receiver gets on, and what it answers.
-use Rattle.std.specs.Prelude.{◌≡◌, ℕ, ◌+◌, ◌*◌, List, ◌++◌, length, take, Bool, true, false, Option, Some, None, Result, Ok, Err}
+use Rattle.std.specs.Prelude.{◌≡◌, ℕ, ◌+◌, ◌*◌, ◌≤◌, ◌⊎◌, List, ◌++◌, length, take, Bool, true, false, Option, Some, None, Result, Ok, Err}
 use Rattle.octet_core.specs.Grammar.{self_ended, RefusesAt}
 use Rattle.octet_core.specs.declared.stop.Refusal.{Refusal}
 use Rattle.octet_core.specs.declared.stop.Stop.{Stop}
 use Rattle.octet_core.specs.declared.stop.Stop.TheVariants.{Short, At}
 use Rattle.chain_core.specs.Chain.{IsChain, IsReason}
-use Rattle.chain_core.specs.Taking.{Taking, HasTaken, AreBefore}
+use Rattle.chain_core.specs.Taking.{Taking, HasTaken, AreBefore, IsClosed}
 use Rattle.chain_core.specs.declared.reason.ChainReason.{ChainReason}
 
 -- how a receiver changes over octets that come: it takes them or refuses
@@ -19,6 +19,14 @@ pub record Goes (old new : Taking) (piece : List ℕ) : Type 0 where
       (At refusal.place refusal.reason)
   pub before : (refusal : Refusal ChainReason) → new.refusal ≡ Some refusal → (t : List ℕ) → HasTaken old t
       → AreBefore old.number new.blocks new.joined (take refusal.place (t ++ piece))
+
+-- how it changes over the first octets of a piece, so many: all of it, unless it refused or has a whole chain; one that
+-- had before stays as it was
+pub record Fed (old new : Taking) (piece : List ℕ) (n : ℕ) : Type 0 where
+  pub goes : Goes old new (take n piece)
+  pub inside : n ≤ length piece
+  pub closed : IsClosed old → (new ≡ old) × (n ≡ 0)
+  pub exit : (length piece ≤ n) ⊎ IsClosed new
 
 -- what it answers to a piece of which it took so many octets
 abbrev pub fed_answer : Option (Refusal ChainReason) → Bool → ℕ → Result (ℕ × Bool) (Stop ChainReason)

@@ -1,23 +1,24 @@
 //! A receiver of a chain that its caller keeps, some thirty octets, and whose message is in the caller's buffer.
 
-ghost use Rattle.std.specs.Prelude.{◌≡◌, ◌+◌, ◌*◌, ◌<◌, ◌≤◌, ◌++◌, length, take, Some, None, [], ◌∷◌, IfSome, IfNone, MatchBool, true, false, List, ℕ, ◌⊎◌, IsSome, IsTrue, ◌↔◌};
+ghost use Rattle.std.specs.Prelude.{◌≡◌, ◌+◌, ◌*◌, ◌<◌, ◌≤◌, ◌++◌, length, take, Some, None, [], IfSome, IfNone, MatchBool, true, false, List, ℕ, ◌⊎◌, IsSome, IsTrue, ◌↔◌};
 ghost use Rattle.octet_core.specs.Reader.{IsFed};
 ghost use Rattle.octet_core.specs.declared.stop.Refusal.{Refusal};
 ghost use Rattle.octet_core.specs.declared.stop.Stop.TheVariants.{Short};
 ghost use Rattle.chain_core.specs.declared.reason.ChainReason.{ChainReason};
-ghost use Rattle.chain_core.specs.declared.part.Part.TheVariants.{Rest};
-ghost use Rattle.chain_core.specs.Chain.{IsChain, IsReason, most_blocks, longest_message, number_after};
-ghost use Rattle.chain_core.specs.Part.{IsHead, left_of, place_of, came_of};
+ghost use Rattle.chain_core.specs.declared.stage.BlockStage.TheVariants.{Rest};
+ghost use Rattle.chain_core.specs.Chain.{IsChain, IsReason, most_blocks, longest_message};
+ghost use Rattle.chain_core.specs.Stage.{place_of, came_of};
 ghost use Rattle.chain_core.specs.Taking.{HasTaken, IsOpen, IsClosed, nothing_taken, refusal_of};
-ghost use Rattle.chain_core.specs.Receiving.{Goes, fed_answer, end_answer};
+ghost use Rattle.chain_core.specs.Receiving.{fed_answer, end_answer};
 ghost use Rattle.octet_core.specs.Octets.{AreOctets};
 ghost use Rattle.chain_core.specs.Places.{AreReceiverPlaces, AreLedTo, IsUnderWay, IsAmong, IsKept, IsNextReason, IsPcbReason, IsLenReason, number_at, field_at, under_way_of, received_at, held_at, taken_at, IsFinishedHere};
 
-use crate::part::{Part, after};
 use crate::reason::ChainReason;
 use crate::receiver::{LONGEST_MESSAGE, MOST_BLOCKS};
-use block_core::{LONGEST_INF, Number, Pcb};
-use octet_core::{Refusal, Stop, lrc};
+use crate::stage::BlockStage;
+use crate::store::LentBuffer;
+use block_core::{LONGEST_INF, Number};
+use octet_core::{Refusal, Stop};
 
 /// What a receiver of one chain keeps (ISO/IEC 7816-3, clause 11.6), but for the octets: the caller keeps it, and
 /// lends it the buffer of the message at each call.
@@ -38,7 +39,7 @@ pub struct ReceiverPlaces {
     /// How many octets their fields have.
     pub joined: u32,
     /// What comes next of the block under way.
-    pub part: Part,
+    pub stage: BlockStage,
     /// How many octets of its field came.
     pub came: u8,
     /// Whether the chain is whole.
@@ -66,7 +67,7 @@ impl ReceiverPlaces {
             max,
             blocks: 0,
             joined: 0,
-            part: Part::Nad,
+            stage: BlockStage::Nad,
             came: 0,
             done: false,
             refusal: None,
@@ -91,10 +92,8 @@ impl ReceiverPlaces {
         ensures led { (t : List ℕ) → AreLedTo self.old message.old t → (n : ℕ)
             × (n ≤ length piece.now) × AreLedTo self.new message.new (t ++ take n piece.now) }
     {
-        let mut taken = 0;
-        while taken < piece.len() && self.is_open() {
-            taken += self.take_run(message, &piece[taken..]);
-        }
+        let mut buffer = LentBuffer { octets: message };
+        let taken = self.take(&mut buffer, piece);
         self.answer(taken)
     }
 
@@ -102,10 +101,18 @@ impl ReceiverPlaces {
     /// have taken.
     pub fn finish(&self) -> Result<(), Stop<ChainReason>>
         requires { (room : ℕ) × AreReceiverPlaces self.now room }
-        ensures { (message : List ℕ) → AreReceiverPlaces self.now (length message)
+        ensures finished { (message : List ℕ) → AreReceiverPlaces self.now (length message)
             → IsFinishedHere (received_at self.now message) result }
+        ensures answer { (message : List ℕ) → held_at self.now ≤ length message
+            → result ≡ end_answer (received_at self.now message) }
     {
-        self.ended()
+        match self.refusal {
+            Some(refusal) => Err(refusal.stop()),
+            None if self.done => Ok(()),
+            None => Err(Stop::Short {
+                place: self.taken(),
+            }),
+        }
     }
 
     /// How many octets at the front of the buffer are the message, once the chain is whole.
@@ -153,9 +160,9 @@ impl ReceiverPlaces {
 
     /// Whether octets of a field are counted only where one is under way.
     fn is_idle(&self) -> bool
-        ensures { IsTrue result ↔ (came_of self.now.part self.now.came ≡ self.now.came) }
+        ensures { IsTrue result ↔ (came_of self.now.stage self.now.came ≡ self.now.came) }
     {
-        matches!(self.part, Part::Rest { .. }) || self.came == 0
+        matches!(self.stage, BlockStage::Rest { .. }) || self.came == 0
     }
 
     /// Whether the chain is whole, with no block under way, or a block can be under way as it is said.
@@ -165,7 +172,7 @@ impl ReceiverPlaces {
         ensures no { IsAmong self.now.done self.now → result ≡ true }
     {
         if self.done {
-            return matches!(self.part, Part::Nad) && self.blocks >= 1;
+            return matches!(self.stage, BlockStage::Nad) && self.blocks >= 1;
         }
         self.blocks < MOST_BLOCKS && self.is_under_way()
     }
@@ -176,15 +183,15 @@ impl ReceiverPlaces {
         requires joined { self.now.joined ≤ self.now.max }
         ensures yes { result ≡ true
             → IsUnderWay self.now.ifs self.now.max self.now.blocks self.now.joined self.now.came
-            self.now.part }
+            self.now.stage }
         ensures no { IsUnderWay self.now.ifs self.now.max self.now.blocks self.now.joined
-            self.now.came self.now.part → result ≡ true }
+            self.now.came self.now.stage → result ≡ true }
     {
         let is_last = self.blocks + 1 == MOST_BLOCKS;
-        match self.part {
-            Part::Nad | Part::Pcb => true,
-            Part::Len { more } => !(more && is_last),
-            Part::Rest { more, len } => {
+        match self.stage {
+            BlockStage::Nad | BlockStage::Pcb => true,
+            BlockStage::Len { more } => !(more && is_last),
+            BlockStage::Rest { more, len } => {
                 !(more && is_last)
                     && len <= self.ifs
                     && len as u32 <= self.max - self.joined
@@ -214,15 +221,16 @@ impl ReceiverPlaces {
         requires joined { self.now.joined ≤ self.now.max }
         requires blocks { self.now.blocks ≤ most_blocks }
         ensures yes { result ≡ true → IsNextReason self.now.ifs self.now.max self.now.blocks
-            self.now.joined self.now.came self.now.part reason }
+            self.now.joined self.now.came self.now.stage reason }
         ensures no { IsNextReason self.now.ifs self.now.max self.now.blocks self.now.joined
-            self.now.came self.now.part reason → result ≡ true }
+            self.now.came self.now.stage reason → result ≡ true }
     {
-        match self.part {
-            Part::Nad => matches!(reason, ChainReason::BadNad),
-            Part::Pcb => is_pcb_reason(self.blocks, reason),
-            Part::Len { .. } => is_len_reason(self.ifs, self.max - self.joined, reason),
-            Part::Rest { len, .. } => self.came == len && matches!(reason, ChainReason::BadLrc),
+        match self.stage {
+            BlockStage::Nad => matches!(reason, ChainReason::BadNad),
+            BlockStage::Pcb => is_pcb_reason(self.blocks, reason),
+            BlockStage::Len { .. } => is_len_reason(self.ifs, self.max - self.joined, reason),
+            BlockStage::Rest { len, .. } => self.came == len
+                && matches!(reason, ChainReason::BadLrc),
         }
     }
 
@@ -245,43 +253,16 @@ impl ReceiverPlaces {
         }
     }
 
-    /// What there is to say when no more octets come.
-    pub(crate) fn ended(&self) -> Result<(), Stop<ChainReason>>
-        requires { (room : ℕ) × AreReceiverPlaces self.now room }
-        ensures { (message : List ℕ) → held_at self.now ≤ length message
-            → result ≡ end_answer (received_at self.now message) }
-    {
-        match self.refusal {
-            Some(refusal) => Err(refusal.stop()),
-            None if self.done => Ok(()),
-            None => Err(Stop::Short {
-                place: self.taken(),
-            }),
-        }
-    }
-
     /// How many octets of the block under way came.
     pub(crate) fn under_way(&self) -> usize
         ensures few { result ≤ 258 }
-        ensures place { result ≡ place_of self.now.part + came_of self.now.part self.now.came }
+        ensures place { result ≡ place_of self.now.stage + came_of self.now.stage self.now.came }
         ensures count { (message : List ℕ) → held_at self.now ≤ length message →
-            result ≡ length (under_way_of (number_at self.now) self.now.part (field_at self.now message)) }
+            result ≡ length (under_way_of (number_at self.now) self.now.stage (field_at self.now message)) }
     {
-        match self.part {
-            Part::Rest { .. } => 3 + self.came as usize,
-            Part::Nad | Part::Pcb | Part::Len { .. } => self.part.place(),
-        }
-    }
-
-    /// How many octets of the field under way are still to come, none where another octet comes next.
-    pub(crate) fn field_left(&self) -> usize
-        requires { IsUnderWay self.now.ifs self.now.max self.now.blocks self.now.joined
-            self.now.came self.now.part }
-        ensures { result ≡ left_of self.now.part self.now.came }
-    {
-        match self.part {
-            Part::Rest { len, .. } => (len - self.came) as usize,
-            Part::Nad | Part::Pcb | Part::Len { .. } => 0,
+        match self.stage {
+            BlockStage::Rest { .. } => 3 + self.came as usize,
+            BlockStage::Nad | BlockStage::Pcb | BlockStage::Len { .. } => self.stage.place(),
         }
     }
 
@@ -292,129 +273,6 @@ impl ReceiverPlaces {
             (IsClosed (received_at self.now message)) }
     {
         self.refusal.is_none() && !self.done
-    }
-
-    /// The number of the block under way, or of the next.
-    fn number(&self) -> Number
-        ensures { result ≡ number_after self.now.first self.now.blocks }
-    {
-        if self.blocks % 2 == 0 {
-            self.first
-        } else {
-            self.first.other()
-        }
-    }
-
-    /// Takes octets of the field under way, or one other octet of the block.
-    fn take_run(&mut self, message: &mut [u8], piece: &[u8]) -> usize
-        requires some { 0 < length piece.now }
-        requires fit { AreReceiverPlaces self.old (length message.old) }
-        requires open { (self.old.refusal ≡ None) × (self.old.done ≡ false) }
-        ensures some { 0 < result }
-        ensures most { result ≤ length piece.now }
-        ensures room { length message.new ≡ length message.old }
-        ensures fit { AreReceiverPlaces self.new (length message.new) }
-        ensures goes { Goes (received_at self.old message.old) (received_at self.new message.new)
-            (take result piece.now) }
-        ensures stays { IsSome self.new.refusal → ((record self.new { refusal = None }) ≡ self.old)
-            × (message.new ≡ message.old) × (result ≡ 1) }
-    {
-        let run = piece.len().min(self.field_left());
-        if run == 0 {
-            self.take_control(message, piece[0]);
-            return 1;
-        }
-        let start = self.joined as usize + self.came as usize;
-        message[start..start + run].copy_from_slice(&piece[..run]);
-        self.came += run as u8;
-        run
-    }
-
-    /// Takes one of the first three octets of a block, or its LRC.
-    pub(crate) fn take_control(&mut self, message: &[u8], octet: u8)
-        requires open { (self.old.refusal ≡ None) × (self.old.done ≡ false) }
-        requires fit { (room : ℕ) × AreReceiverPlaces self.old room }
-        requires held { held_at self.old ≤ length message.now }
-        requires whole { left_of self.old.part self.old.came ≡ 0 }
-        ensures fit { (room : ℕ) → AreReceiverPlaces self.old room
-            → AreReceiverPlaces self.new room }
-        ensures held { held_at self.new ≡ held_at self.old }
-        ensures goes { Goes (received_at self.old message.now) (received_at self.new message.now)
-            (octet ∷ []) }
-        ensures stays { IsSome self.new.refusal → (record self.new { refusal = None }) ≡ self.old }
-    {
-        match self.part {
-            Part::Rest { more, len } => self.take_lrc(message, more, len, octet),
-            Part::Nad | Part::Pcb | Part::Len { .. } => self.take_head(octet),
-        }
-    }
-
-    /// Takes one of the first three octets of a block.
-    fn take_head(&mut self, octet: u8)
-        requires open { (self.old.refusal ≡ None) × (self.old.done ≡ false) }
-        requires head { IsHead self.old.part }
-        requires fit { (room : ℕ) × AreReceiverPlaces self.old room }
-        ensures fit { (room : ℕ) → AreReceiverPlaces self.old room
-            → AreReceiverPlaces self.new room }
-        ensures held { held_at self.new ≡ held_at self.old }
-        ensures goes { (message : List ℕ) → held_at self.old ≤ length message →
-            Goes (received_at self.old message) (received_at self.new message) (octet ∷ []) }
-        ensures stays { IsSome self.new.refusal → (record self.new { refusal = None }) ≡ self.old }
-    {
-        let last = self.blocks + 1 == MOST_BLOCKS;
-        let room = (self.max - self.joined) as usize;
-        match after(self.part, octet, self.ifs, self.number(), last, room) {
-            Ok(part) => {
-                self.part = part;
-                self.came = 0;
-            }
-            Err(reason) => self.refuse(self.part.place(), reason),
-        }
-    }
-
-    /// Takes the LRC of a block whose field came, which then joins the message.
-    fn take_lrc(&mut self, message: &[u8], more: bool, len: u8, octet: u8)
-        requires open { (self.old.refusal ≡ None) × (self.old.done ≡ false) }
-        requires fit { (room : ℕ) × AreReceiverPlaces self.old room }
-        requires held { self.old.joined + len ≤ length message.now }
-        requires part { self.old.part ≡ Rest more len }
-        requires came { self.old.came ≡ len }
-        ensures fit { (room : ℕ) → AreReceiverPlaces self.old room
-            → AreReceiverPlaces self.new room }
-        ensures held { held_at self.new ≡ held_at self.old }
-        ensures goes { Goes (received_at self.old message.now) (received_at self.new message.now)
-            (octet ∷ []) }
-        ensures stays { IsSome self.new.refusal → (record self.new { refusal = None }) ≡ self.old }
-    {
-        let start = self.joined as usize;
-        let end = start + len as usize;
-        let pcb = Pcb::Info {
-            number: self.number(),
-            more,
-        };
-        if lrc(&[0, pcb.octet(), len]) ^ lrc(&message[start..end]) != octet {
-            self.refuse(3 + len as usize, ChainReason::BadLrc);
-            return;
-        }
-        self.joined += len as u32;
-        self.blocks += 1;
-        self.done = !more;
-        self.part = Part::Nad;
-        self.came = 0;
-    }
-
-    /// Keeps the refusal of the octet at this place of the block under way.
-    fn refuse(&mut self, place: usize, reason: ChainReason)
-        requires place { place ≤ 258 }
-        requires blocks { self.old.blocks ≤ most_blocks }
-        requires joined { self.old.joined ≤ longest_message }
-        ensures { self.new ≡ record self.old {
-          refusal = Some (record
-              { place = self.old.joined + 4 * self.old.blocks + place; reason = reason });
-        } }
-    {
-        let place = self.joined as usize + 4 * self.blocks as usize + place;
-        self.refusal = Some(Refusal { place, reason });
     }
 }
 

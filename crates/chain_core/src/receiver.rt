@@ -7,7 +7,6 @@ ghost use Rattle.octet_core.specs.declared.stop.Stop.TheVariants.{Short};
 ghost use Rattle.chain_core.specs.declared.reason.ChainReason.{ChainReason};
 ghost use Rattle.chain_core.specs.Chain.{IsChain, IsReason, longest_message};
 ghost use Rattle.chain_core.specs.Taking.{HasTaken, AreBefore, IsOpen, IsClosed, nothing_taken, refusal_of};
-ghost use Rattle.chain_core.specs.Receiving.{Goes};
 
 use crate::places::ReceiverPlaces;
 use crate::reason::ChainReason;
@@ -87,10 +86,7 @@ impl Receiver {
             → AreBefore self.old.number self.new.blocks self.new.joined
             (take refusal.place (t ++ piece.now)) }
     {
-        let mut taken = 0;
-        while taken < piece.len() && self.is_open() {
-            taken += self.take_run(&piece[taken..]);
-        }
+        let taken = self.places.take(&mut self.message, piece);
         self.places.answer(taken)
     }
 
@@ -106,7 +102,7 @@ impl Receiver {
             × (stop ≡ Short (length self.now.joined + self.now.blocks * 4 + length
             self.now.under_way))) }
     {
-        self.places.ended()
+        self.places.finish()
     }
 
     /// The message, once the chain is whole.
@@ -146,25 +142,7 @@ impl Receiver {
         ensures taken { (t : List ℕ) × HasTaken self.now t }
         ensures limit { self.now.max ≤ longest_message }
     {
-        self.places.part.end() - self.places.under_way()
-    }
-
-    /// Takes octets of the field under way, or one other octet of the block.
-    fn take_run(&mut self, piece: &[u8]) -> usize
-        requires some { 0 < length piece.now }
-        requires open { IsOpen self.old }
-        ensures some { 0 < result }
-        ensures most { result ≤ length piece.now }
-        ensures goes { Goes self.old self.new (take result piece.now) }
-    {
-        let run = piece.len().min(self.places.field_left());
-        if run == 0 {
-            self.places.take_control(self.message.as_slice(), piece[0]);
-            return 1;
-        }
-        self.message.append(&piece[..run]);
-        self.places.came += run as u8;
-        run
+        self.places.stage.end() - self.places.under_way()
     }
 }
 

@@ -21,7 +21,7 @@ returns-in-Some c =
           (sym (receiver-held-by c.args.state.now message r p c.in-Some.ensures.some.0 is))
           (record {
             answer = c.finish.result;
-            finished = c.finish.ensures message c.in-Some.ensures.some.1;
+            finished = c.finish.ensures.finished message c.in-Some.ensures.some.1;
             verdict =
                 c.ended.ensures;
           });

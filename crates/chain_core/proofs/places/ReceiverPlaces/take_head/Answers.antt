@@ -1,5 +1,5 @@
 use Rattle.std.proofs.Common.{◌≡◌, ◌+◌, ◌*◌, ◌<◌, ℕ, Some, sym, ap, subst, ◌∙◌, ◌∷◌, [], arith}
-use Rattle.chain_core.specs.Part.{place_of}
+use Rattle.chain_core.specs.Stage.{place_of}
 use Rattle.chain_core.specs.Receiving.{Goes}
 use Rattle.chain_core.specs.Places.{held_at, received_at, AreReceiverPlaces}
 use Rattle.chain_core.specs.declared.places.ReceiverPlaces.{ReceiverPlaces}
@@ -9,14 +9,14 @@ use Rattle.chain_core.proofs.places.ReceiverPlaces.take_head.Goals as goal
 pub returns-in-Ok-clause-fit : goal.returns-in-Ok-clause-fit
 returns-in-Ok-clause-fit c = λ room fit.
     let p : ReceiverPlaces = c.args.self.now in
-    let after : IsNext p c.args.octet c.in-Ok.part = rw c.number.ensures at c.in-Ok.ensures.on in
-    head-fit p c.in-Ok.part c.args.octet room c.requires.open.0 c.requires.open.1 after fit
+    let after : IsNext p c.args.octet c.in-Ok.stage = rw c.number.ensures at c.in-Ok.ensures.on in
+    head-fit p c.in-Ok.stage c.args.octet room c.requires.open.0 c.requires.open.1 after fit
 
 pub returns-in-Ok-clause-goes : goal.returns-in-Ok-clause-goes
 returns-in-Ok-clause-goes c = λ m held.
     let p : ReceiverPlaces = c.args.self.now in
-    let after : IsNext p c.args.octet c.in-Ok.part = rw c.number.ensures at c.in-Ok.ensures.on in
-    head-on p c.in-Ok.part c.args.octet c.requires.fit.0 m c.requires.fit.1 held c.requires.open.0 c.requires.open.1
+    let after : IsNext p c.args.octet c.in-Ok.stage = rw c.number.ensures at c.in-Ok.ensures.on in
+    head-on p c.in-Ok.stage c.args.octet c.requires.fit.0 m c.requires.fit.1 held c.requires.open.0 c.requires.open.1
     after
 
 pub returns-in-Err-clause-fit : goal.returns-in-Err-clause-fit
@@ -34,7 +34,7 @@ returns-in-Err-clause-goes c = λ m held.
     let p : ReceiverPlaces = c.args.self.now in
     let fault : IsOff p c.args.octet c.in-Err.reason = rw c.number.ensures at c.in-Err.ensures.refused in
     let is : c.refuse.new.self ≡ record p
-    { refusal = Some (record { place = p.joined + 4 * p.blocks + place_of p.part; reason = c.in-Err.reason }) } =
+    { refusal = Some (record { place = p.joined + 4 * p.blocks + place_of p.stage; reason = c.in-Err.reason }) } =
     c.refuse.ensures ∙ ap (λ (k : ℕ). record p
     { refusal = Some (record { place = p.joined + 4 * p.blocks + k; reason = c.in-Err.reason }) }) c.place.ensures
     in
@@ -43,7 +43,7 @@ returns-in-Err-clause-goes c = λ m held.
     c.requires.open.1 c.requires.head fault)
 
 pub returns-in-Ok-clause-held : goal.returns-in-Ok-clause-held
-returns-in-Ok-clause-held c = head-held c.args.self.now c.in-Ok.part c.requires.head
+returns-in-Ok-clause-held c = head-held c.args.self.now c.in-Ok.stage c.requires.head
 
 pub returns-in-Err-clause-held : goal.returns-in-Err-clause-held
 returns-in-Err-clause-held c = ap held_at c.refuse.ensures

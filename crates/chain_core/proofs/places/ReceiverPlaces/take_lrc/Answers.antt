@@ -15,7 +15,7 @@ returns-then-lrc-octet-clause-goes c =
     let len : ℕ = c.args.len in
     let x : ℕ = c.args.octet in
     let q : ReceiverPlaces = with_rest p more len in
-    let same : p ≡ q = λ i. record p { part = c.requires.part i; came = c.requires.came i } in
+    let same : p ≡ q = λ i. record p { stage = c.requires.stage i; came = c.requires.came i } in
     let fit : AreReceiverPlaces q c.requires.fit.0 =
     subst (λ (s : ReceiverPlaces). AreReceiverPlaces s c.requires.fit.0) same c.requires.fit.1 in
     let sum : bit_xor c.lrc.result c.lrc-2.result ≡ xor_of (front_at p more len m) =
@@ -36,7 +36,7 @@ pub returns-then-lrc-octet-clause-fit : goal.returns-then-lrc-octet-clause-fit
 returns-then-lrc-octet-clause-fit c = λ room fit.
     let p : ReceiverPlaces = c.args.self.now in
     let q : ReceiverPlaces = with_rest p c.args.more c.args.len in
-    let same : p ≡ q = λ i. record p { part = c.requires.part i; came = c.requires.came i } in
+    let same : p ≡ q = λ i. record p { stage = c.requires.stage i; came = c.requires.came i } in
     subst (λ (s : ReceiverPlaces). AreReceiverPlaces s room)
     (ap (λ (s : ReceiverPlaces). record s {
       refusal = Some (record { place = p.joined + 4 * p.blocks + (3 + c.args.len); reason = BadLrc });
@@ -49,7 +49,7 @@ pub returns-clause-fit : goal.returns-clause-fit
 returns-clause-fit c = λ room fit.
     let p : ReceiverPlaces = c.args.self.now in
     let same : p ≡ with_rest p c.args.more c.args.len =
-    λ i. record p { part = c.requires.part i; came = c.requires.came i } in
+    λ i. record p { stage = c.requires.stage i; came = c.requires.came i } in
     closed-fit p c.args.more c.args.len room c.requires.open.0 c.requires.open.1
     (subst (λ (s : ReceiverPlaces). AreReceiverPlaces s room) same fit)
 
@@ -61,7 +61,7 @@ returns-clause-goes c =
     let len : ℕ = c.args.len in
     let x : ℕ = c.args.octet in
     let q : ReceiverPlaces = with_rest p more len in
-    let same : p ≡ q = λ i. record p { part = c.requires.part i; came = c.requires.came i } in
+    let same : p ≡ q = λ i. record p { stage = c.requires.stage i; came = c.requires.came i } in
     let octets : AreOctets m = λ i. omega (arith, c.type_inv.message i) in
     let fit : AreReceiverPlaces q c.requires.fit.0 =
     subst (λ (s : ReceiverPlaces). AreReceiverPlaces s c.requires.fit.0) same c.requires.fit.1 in

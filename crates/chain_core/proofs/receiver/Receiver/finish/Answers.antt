@@ -1,28 +1,26 @@
-use Rattle.std.proofs.Common.{◌≡◌, ◌+◌, ◌*◌, length, None, IfErr, false, arith, subst}
-use Rattle.octet_core.specs.declared.stop.Stop.TheVariants.{Short}
-use Rattle.octet_core.specs.Reader.{IsFinished}
-use Rattle.chain_core.specs.Chain.{IsChain, IsReason}
-use Rattle.chain_core.specs.Taking.{Taking, HasTaken, refusal_of}
-use Rattle.chain_core.specs.Places.{received_at}
+use Rattle.std.proofs.Common.{◌≡◌, ◌∙◌, ℕ, List, None, arith, ap, subst}
+use Rattle.chain_core.specs.Taking.{Taking, HasTaken}
+use Rattle.chain_core.specs.Receiving.{end_answer}
 use Rattle.chain_core.specs.Wiped.{held_in}
-use Rattle.chain_core.proofs.Feeds.{ended-finished, ended-waits}
+use Rattle.chain_core.proofs.Feeds.{ended-finished, says}
 use Rattle.chain_core.proofs.receiver.Receiver.finish.Goals as goal
 
-pub ended-requires : goal.ended-requires
-ended-requires c = (_, c.self.invariant.fit)
+-- what it answers
+answered : (c : goal.After-finish) → c.finish.result ≡ end_answer c.args.self.now
+answered c =
+    c.finish.ensures.answer (held_in c.self.inside.message) (omega (arith, c.self.invariant.stored.after))
+    ∙ ap end_answer c.self.view_is
+
+pub finish-requires : goal.finish-requires
+finish-requires c = (_, c.self.invariant.stored.fit)
 
 pub returns-clause-finished : goal.returns-clause-finished
 returns-clause-finished c =
-    let i = c.self.inside in
-    subst (λ (s : Taking). IsFinished (IsChain s.ifs s.number s.max) (IsReason s.ifs s.number s.max) HasTaken
-    refusal_of s c.ended.result) c.self.view_is
-    (ended-finished (received_at i.places (held_in i.message)) c.ended.result
-    (c.ended.ensures (held_in i.message) (omega (arith, c.self.invariant.exact))) c.self.invariant.taken)
+    ended-finished c.args.self.now c.finish.result (answered c)
+    (subst (λ (r : Taking). r.refusal ≡ None → (t : List ℕ) × HasTaken r t) c.self.view_is c.self.invariant.taken)
+
+pub returns-clause-done : goal.returns-clause-done
+returns-clause-done c = (says c.args.self.now c.finish.result (answered c)).done
 
 pub returns-clause-waits : goal.returns-clause-waits
-returns-clause-waits c =
-    let i = c.self.inside in
-    subst (λ (s : Taking). IfErr c.ended.result (λ stop. s.refusal ≡ None → (s.done ≡ false)
-    × (stop ≡ Short (length s.joined + s.blocks * 4 + length s.under_way)))) c.self.view_is
-    (ended-waits (received_at i.places (held_in i.message)) c.ended.result
-    (c.ended.ensures (held_in i.message) (omega (arith, c.self.invariant.exact))))
+returns-clause-waits c = (says c.args.self.now c.finish.result (answered c)).waits

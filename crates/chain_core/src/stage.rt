@@ -3,14 +3,14 @@
 ghost use Rattle.std.specs.Prelude.{◌≡◌, ◌≢◌, ◌<◌, ◌≤◌, IfOk, IfErr, OnOk, true, false, IsTrue};
 ghost use Rattle.block_core.specs.Block.{other, pcb_octet, IsInfo};
 ghost use Rattle.block_core.specs.declared.pcb.Pcb.TheVariants.{Info};
-ghost use Rattle.chain_core.specs.Part.{IsPcbFault, IsLenFault, IsHead, IsHeadFault, IsAfter, place_of, end_of};
+ghost use Rattle.chain_core.specs.Stage.{IsPcbFault, IsLenFault, IsHead, IsHeadFault, IsAfter, place_of, end_of};
 
 use crate::reason::ChainReason;
 use block_core::{BlockReason, Number, Pcb, block_len};
 
 /// What comes next of the block under way.
 #[derive(Clone, Copy, Debug, PartialEq, Eq)]
-pub enum Part {
+pub enum BlockStage {
     Nad,
     Pcb,
     /// LEN, of a block that says by M whether more follow.
@@ -19,16 +19,16 @@ pub enum Part {
     Rest { more: bool, len: u8 },
 }
 
-impl Part {
+impl BlockStage {
     /// The place in the block of the octet that comes next, 3 for all from the field on.
     pub(crate) fn place(self) -> usize
         ensures { result ≡ place_of self }
     {
         match self {
-            Part::Nad => 0,
-            Part::Pcb => 1,
-            Part::Len { .. } => 2,
-            Part::Rest { .. } => 3,
+            BlockStage::Nad => 0,
+            BlockStage::Pcb => 1,
+            BlockStage::Len { .. } => 2,
+            BlockStage::Rest { .. } => 3,
         }
     }
 
@@ -38,8 +38,8 @@ impl Part {
         ensures { result ≡ end_of self }
     {
         match self {
-            Part::Nad | Part::Pcb | Part::Len { .. } => 3,
-            Part::Rest { len, .. } => block_len(len),
+            BlockStage::Nad | BlockStage::Pcb | BlockStage::Len { .. } => 3,
+            BlockStage::Rest { len, .. } => block_len(len),
         }
     }
 }
@@ -86,29 +86,29 @@ fn check_len(pcb: Pcb, len: u8, ifs: u8, room: usize) -> Result<(), ChainReason>
 /// What comes after one of the first three octets of a block. `number` is the number of the block, `last`
 /// says that it is the last that a chain can have, and `room` octets have room in the message.
 pub(crate) fn after(
-    part: Part,
+    stage: BlockStage,
     octet: u8,
     ifs: u8,
     number: Number,
     last: bool,
     room: usize,
-) -> Result<Part, ChainReason>
-    requires head { IsHead part }
+) -> Result<BlockStage, ChainReason>
+    requires head { IsHead stage }
     requires most { ifs ≤ 254 }
-    ensures on { IfOk result (IsAfter number last ifs room part octet) }
-    ensures refused { IfErr result (IsHeadFault number last ifs room part octet) }
+    ensures on { IfOk result (IsAfter number last ifs room stage octet) }
+    ensures refused { IfErr result (IsHeadFault number last ifs room stage octet) }
 {
-    match part {
-        Part::Nad if octet != 0 => Err(ChainReason::BadNad),
-        Part::Nad => Ok(Part::Pcb),
-        Part::Pcb => {
+    match stage {
+        BlockStage::Nad if octet != 0 => Err(ChainReason::BadNad),
+        BlockStage::Nad => Ok(BlockStage::Pcb),
+        BlockStage::Pcb => {
             let more = more_of(octet, number, last)?;
-            Ok(Part::Len { more })
+            Ok(BlockStage::Len { more })
         }
-        Part::Len { more } => {
+        BlockStage::Len { more } => {
             check_len(Pcb::Info { number, more }, octet, ifs, room)?;
-            Ok(Part::Rest { more, len: octet })
+            Ok(BlockStage::Rest { more, len: octet })
         }
-        Part::Rest { .. } => unreachable!(),
+        BlockStage::Rest { .. } => unreachable!(),
     }
 }
