@@ -11,7 +11,7 @@ use Rattle.line_core.specs.declared.line.Received.TheVariants.{Octets, Nothing}
 use Rattle.line_core.specs.Line.{Arrival, block, nothing, failure, Talk}
 use Rattle.line_core.specs.Service.{Event}
 use Rattle.line_core.specs.Service as at_card
-use Rattle.line_core.specs.declared.streaming.StreamLine.{StreamLine}
+use Rattle.line_core.specs.declared.streaming.UntimedLine.{UntimedLine}
 
 -- The octets that are left to read and those that were written, where they are known, and how many calls of the reader
 -- and of the writer failed.
@@ -123,14 +123,14 @@ HasServed first [] now = first ≡ now
 HasServed first (event ∷ events) now = (next : Wire) × Moves first event next × HasServed next events now
 
 module _ {R W : Type 0} where
-  abbrev pub source_of : StreamLine R W → R
+  abbrev pub source_of : UntimedLine R W → R
   source_of line = line.source
 
-  abbrev pub sink_of : StreamLine R W → W
+  abbrev pub sink_of : UntimedLine R W → W
   sink_of line = line.sink
 
   -- what is known of its reader and of its writer, by these
-  abbrev pub wire_of : (R → Option (List ℕ)) → (R → ℕ) → (W → Option (List ℕ)) → (W → ℕ) → StreamLine R W → Wire
+  abbrev pub wire_of : (R → Option (List ℕ)) → (R → ℕ) → (W → Option (List ℕ)) → (W → ℕ) → UntimedLine R W → Wire
   wire_of remaining not_read contents not_written line = record {
     left = remaining line.source;
     written = contents line.sink;

@@ -6,9 +6,9 @@
 //! `specs/Exchange.antt` says what these do: what was on the line is a run of the terminal's table
 //! over what came. [`exchange_command`] makes such a run of a command as a value, and
 //! [`response_of`] reads the answer. [`begin_by_resynch`] begins with a card that can't be reset:
-//! `specs/Resynch.antt`. [`StreamLine`] is a line over a reader and a writer of octets. At the
-//! other end [`serve`] has a card answer what comes over a [`CardLine`], with the replies of its
-//! [`Host`]: `specs/Service.antt`. What holds of both ends over one line are the [`laws`].
+//! `specs/Resynch.antt`. [`UntimedLine`] is a line over a reader and a writer of octets,
+//! which wait by their own clock. At the other end [`serve`] has a card answer what comes over a [`CardLine`],
+//! with the replies of its [`Host`]: `specs/Service.antt`. What holds of both ends over one line are the [`laws`].
 #![tactic(auto)]
 
 pub mod commanding;
@@ -26,4 +26,4 @@ pub use fault::TransceiveFault;
 pub use line::{Received, TerminalLine};
 pub use resynching::begin_by_resynch;
 pub use serving::{CardLine, Host, ServeFault, serve};
-pub use streaming::StreamLine;
+pub use streaming::UntimedLine;

@@ -19,8 +19,8 @@ pub enum Received {
 /// A line to a card: what a driver of a reader has.
 ///
 /// Contracts see the talks that were on it since it was another line. Where none were on a line since it was itself, as
-/// with a [`StreamLine`](crate::StreamLine), a caller takes the line before a call for the other one, and has all that
-/// was on it since. A line of which nothing is known, such as a device, has for `said` what always holds,
+/// with an [`UntimedLine`](crate::UntimedLine), a caller takes the line before a call for the other one, and has all
+/// that was on it since. A line of which nothing is known, such as a device, has for `said` what always holds,
 /// `λ _ _ _. Unit {0}`.
 pub trait TerminalLine {
     /// These may be the talks that were on the line since it was another line (the second).

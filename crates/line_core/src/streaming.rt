@@ -14,15 +14,20 @@ use block_core::block_len;
 use octet_core::{Sink, Source, write_octets};
 use std::io::{self, ErrorKind};
 
-/// A line over a reader and a writer, as those of a serial port: a `TerminalLine` for a terminal, and a `CardLine` for
-/// a card.
+/// A line over a reader and a writer, as those of a serial port, that has no clock: a `TerminalLine` for a terminal,
+/// and a `CardLine` for a card.
+///
+/// The waiting time of `transceive` isn't handed on: how long a block is waited for is the reader's affair. A reader
+/// that blocks for ever makes a terminal wait for ever where the card is silent. So who uses this line for a terminal
+/// sets a limit on the reader, no shorter than the longest waiting time that the card may ask for. Where a call of the
+/// reader fails with `TimedOut` or `WouldBlock` before the first octet, that counts as the end of the waiting time:
+/// nothing came.
 ///
 /// A block is written whole. What comes is read up to its end, which its third octet tells: the reader is
-/// asked for NAD, PCB and LEN, and then for LEN + 1 octets, so what follows the block stays unread. How long a
-/// block is waited for is the reader's affair: where a call fails with `TimedOut` or `WouldBlock` before the
-/// first octet, nothing came. A block of which only the first octets came before the reader ended or failed is
-/// handed over so far. `Err` comes where the writer failed, as `WriteZero`, and where the reader failed
-/// otherwise before the first octet. No failed call is tried again.
+/// asked for NAD, PCB and LEN, and then for LEN + 1 octets, so what follows the block stays unread. A block of
+/// which only the first octets came before the reader ended or failed is handed over so far. `Err` comes where the
+/// writer failed, as `WriteZero`, and where the reader failed otherwise before the first octet. No failed call is
+/// tried again.
 ///
 /// The ends differ where the reader has ended before the first octet, or fails with `UnexpectedEof` there. For
 /// a terminal, whose block has no answer then, that is the line's failure, `UnexpectedEof`. For a card it is
@@ -32,18 +37,18 @@ use std::io::{self, ErrorKind};
 /// Contracts see what each call wrote and read, and which of it was whole, by the calls of the reader and the
 /// writer that failed: `said` has it of every talk, so the clauses of `exchange` and `serve` do.
 #[derive(Debug, Drop)]
-pub struct StreamLine<R, W> {
+pub struct UntimedLine<R, W> {
     source: R,
     sink: W,
 }
 
-impl<R, W> StreamLine<R, W> {
+impl<R, W> UntimedLine<R, W> {
     /// The line over these two.
     pub fn new(source: R, sink: W) -> Self
         ensures source { source_of result ≡ source }
         ensures sink { sink_of result ≡ sink }
     {
-        StreamLine { source, sink }
+        UntimedLine { source, sink }
     }
 
     /// The reader and the writer back.
@@ -54,7 +59,7 @@ impl<R, W> StreamLine<R, W> {
     }
 }
 
-impl<R: Source, W: Sink> TerminalLine for StreamLine<R, W> {
+impl<R: Source, W: Sink> TerminalLine for UntimedLine<R, W> {
     ghost said = { λ line first talks.
         HasCarried (wire_of R.remaining R.failures W.contents W.failures first) talks
         (wire_of R.remaining R.failures W.contents W.failures line) };
@@ -81,7 +86,7 @@ impl<R: Source, W: Sink> TerminalLine for StreamLine<R, W> {
     }
 }
 
-impl<R: Source, W: Sink> CardLine for StreamLine<R, W> {
+impl<R: Source, W: Sink> CardLine for UntimedLine<R, W> {
     ghost said = { λ line first events.
         HasServed (wire_of R.remaining R.failures W.contents W.failures first) events
         (wire_of R.remaining R.failures W.contents W.failures line) };

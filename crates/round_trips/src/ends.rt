@@ -12,7 +12,7 @@ ghost use Rattle.line_core.specs.Joined.{Trip, talks_of, events_of, services_of,
 
 use apdu_core::{Command, encode_command_into};
 use atr_core::T1Params;
-use line_core::{StreamLine, TerminalLine, TransceiveFault, exchange_command};
+use line_core::{TerminalLine, TransceiveFault, UntimedLine, exchange_command};
 use octet_core::{Sink, Source};
 use t1_core::Terminal;
 
@@ -47,7 +47,7 @@ pub fn acted_on_once<L: TerminalLine>(
 /// with what each call of them was taken for, is a run of the terminal's table.
 pub fn exchanged_over_streams<R: Source, W: Sink>(
     terminal: &mut Terminal,
-    line: &mut StreamLine<R, W>,
+    line: &mut UntimedLine<R, W>,
     command: &Command,
     buffer: &mut [u8],
     most_blocks: usize,

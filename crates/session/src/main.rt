@@ -4,7 +4,7 @@
 ghost use Rattle.std.specs.Prelude.{[], ◌∷◌};
 
 use atr_core::{decode, t1_params};
-use line_core::{Host, Received, StreamLine, TerminalLine, exchange, serve};
+use line_core::{Host, Received, TerminalLine, UntimedLine, exchange, serve};
 use octet_core::{Counted, hex_upper};
 use std::io;
 use t1_core::{Card, Terminal};
@@ -57,7 +57,7 @@ impl TerminalLine for Wire<'_> {
     fn transceive(&mut self, block: &[u8], _waiting: u8, room: &mut [u8]) -> io::Result<Received> {
         println!(self.rt; "terminal {}", hex_upper(self.rt.alloc(), block)?)?;
         let mut out = Vec::new(self.rt.alloc());
-        let mut line = StreamLine::new(Counted::new(block), Counted::new(&mut out));
+        let mut line = UntimedLine::new(Counted::new(block), Counted::new(&mut out));
         // The card's reader ends after the block, and with it the serving.
         if serve(&mut self.card, &mut line, &mut Done, 2).is_err() {
             return Ok(Received::Nothing);

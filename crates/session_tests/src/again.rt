@@ -4,7 +4,7 @@ use crate::ends::{params, terminal};
 use apdu_core::{Body, Command, Response};
 use atr_core::Atr;
 use block_core::{Block, Number};
-use line_core::StreamLine;
+use line_core::UntimedLine;
 use octet_core::{After, Counted, Feeder, Octets, Taker};
 use round_trips::{
     acted_on_once, atr_again, block_again, command_again, command_in_two_pieces, dol_again,
@@ -134,13 +134,13 @@ fn a_response_in_two_pieces_arrives(rt: HostRuntime) {
     }
 }
 
-type Line<'a> = StreamLine<Counted<Feeder<'a>>, Counted<Taker>>;
+type Line<'a> = UntimedLine<Counted<Feeder<'a>>, Counted<Taker>>;
 
 /// A line whose card says 9000 to each block.
 fn line() -> Line<'static> {
     let source = Feeder::new(&[0x00, 0x00, 0x02, 0x90, 0x00, 0x92], 6, After::Repeats);
     let sink = Taker::new(64, 64, After::End);
-    StreamLine::new(Counted::new(source), Counted::new(sink))
+    UntimedLine::new(Counted::new(source), Counted::new(sink))
 }
 
 fn is_done(t: &Terminal) -> bool {

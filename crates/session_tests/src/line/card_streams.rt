@@ -7,7 +7,7 @@ use super::streams::{Streams, has_carried, line_over};
 use super::{DONE, DONE_BLOCK, SELECT, SELECT_BLOCK};
 use crate::ends::{card, terminal};
 use line_core::{
-    CardLine, LONGEST_ARRIVAL, Received, ServeFault, StreamLine, TerminalLine, TransceiveFault,
+    CardLine, LONGEST_ARRIVAL, Received, ServeFault, TerminalLine, TransceiveFault, UntimedLine,
     exchange, serve,
 };
 use octet_core::{After, Counted, FailsOnce, Feeder, Taker};
@@ -190,7 +190,7 @@ fn a_block_in_parts(rt: HostRuntime) {
 }
 
 /// A line whose reader and writer fail once.
-type Breaking<'a> = StreamLine<Counted<FailsOnce<Feeder<'a>>>, Counted<FailsOnce<Taker>>>;
+type Breaking<'a> = UntimedLine<Counted<FailsOnce<Feeder<'a>>>, Counted<FailsOnce<Taker>>>;
 
 /// Whether so many octets of SELECT are heard before the failure.
 fn breaks_as_it_hears(line: &mut Breaking<'_>, left: usize) -> bool {
@@ -215,7 +215,7 @@ fn breaks(fault: After, left: usize) -> bool
 {
     let source = FailsOnce::new(Feeder::new(&SELECT_BLOCK, 9, After::Repeats), left, fault);
     let sink = FailsOnce::new(Taker::new(64, 9, After::End), left, fault);
-    let mut line = StreamLine::new(Counted::new(source), Counted::new(sink));
+    let mut line = UntimedLine::new(Counted::new(source), Counted::new(sink));
     breaks_as_it_hears(&mut line, left) && breaks_as_it_says(line, left)
 }
 

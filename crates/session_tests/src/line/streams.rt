@@ -2,7 +2,7 @@
 
 use super::{DONE, DONE_BLOCK, SELECT, SELECT_BLOCK, is_answer};
 use crate::ends::terminal;
-use line_core::{LONGEST_ARRIVAL, Received, StreamLine, TerminalLine, exchange};
+use line_core::{LONGEST_ARRIVAL, Received, TerminalLine, UntimedLine, exchange};
 use octet_core::{After, Counted, Feeder, Taker};
 use t1_core::Terminal;
 
@@ -10,10 +10,10 @@ use t1_core::Terminal;
 const DONE_AND_MORE: [u8; 8] = [0x00, 0x00, 0x02, 0x90, 0x00, 0x92, 0x00, 0x40];
 
 /// A line whose writer keeps what it takes.
-pub(super) type Streams<R> = StreamLine<Counted<R>, Counted<Taker>>;
+pub(super) type Streams<R> = UntimedLine<Counted<R>, Counted<Taker>>;
 
 pub(super) fn line_over<R>(reader: R, writer: Taker) -> Streams<R> {
-    StreamLine::new(Counted::new(reader), Counted::new(writer))
+    UntimedLine::new(Counted::new(reader), Counted::new(writer))
 }
 
 /// Whether the reader gave so many octets, and the writer kept these.

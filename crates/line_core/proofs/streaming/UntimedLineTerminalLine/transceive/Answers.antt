@@ -1,5 +1,5 @@
 use Rattle.line_core.proofs.Carrying.{carries-all, carries-part, carried-on}
-use Rattle.line_core.proofs.streaming.StreamLineTerminalLine.transceive.Goals as goal
+use Rattle.line_core.proofs.streaming.UntimedLineTerminalLine.transceive.Goals as goal
 
 pub returns-in-Ok-clause-carried : goal.returns-in-Ok-clause-carried
 returns-in-Ok-clause-carried g c =

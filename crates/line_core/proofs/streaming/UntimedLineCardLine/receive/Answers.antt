@@ -1,6 +1,6 @@
 use Rattle.line_core.specs.Line.{arrival_of}
 use Rattle.line_core.proofs.Carrying.{moves-heard, served-on}
-use Rattle.line_core.proofs.streaming.StreamLineCardLine.receive.Goals as goal
+use Rattle.line_core.proofs.streaming.UntimedLineCardLine.receive.Goals as goal
 
 pub returns-clause-moved : goal.returns-clause-moved
 returns-clause-moved g c = moves-heard _ _ _ _ (arrival_of c.over_at_end.result c.read_block.new.room)

@@ -1,5 +1,5 @@
 use Rattle.line_core.proofs.Carrying.{moves-said, served-on}
-use Rattle.line_core.proofs.streaming.StreamLineCardLine.send.Goals as goal
+use Rattle.line_core.proofs.streaming.UntimedLineCardLine.send.Goals as goal
 
 pub returns-clause-moved : goal.returns-clause-moved
 returns-clause-moved g c = moves-said _ _ _ c.args.block.now c.write_block.result c.write_block.ensures.all
