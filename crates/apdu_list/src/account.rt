@@ -3,7 +3,7 @@
 ghost use Rattle.std.specs.Prelude.{◌≡◌, ◌+◌, ◌<◌, ◌^◌, IfOk, [], None};
 ghost use Rattle.apdu_list.specs.Listing as listing;
 
-use crate::numbers::Numbers;
+use crate::numbers::{Numbers, with_number};
 use crate::span::Span;
 use exchange_text::{Arrival, Line};
 use std::alloc::{AllocError, Global};
@@ -142,13 +142,13 @@ impl Begun {
             Arrival::Whole => Ok(self),
             Arrival::Lost => Ok(Begun {
                 before: self.before,
-                lost: self.lost.with(number)?,
+                lost: with_number(self.lost, number)?,
                 damaged: self.damaged,
             }),
             Arrival::Changed(_) => Ok(Begun {
                 before: self.before,
                 lost: self.lost,
-                damaged: self.damaged.with(number)?,
+                damaged: with_number(self.damaged, number)?,
             }),
         }
     }

@@ -14,7 +14,8 @@ use Rattle.dumps.specs.declared.fault.DumpFault.TheVariants as dump
 use Rattle.dumps.proofs.Octets.{dump-octets}
 use Rattle.dumps.proofs.SourceOctets.{source-octets}
 use Rattle.card_words.specs.Given.{octets_given, of_dump, GivesOctets, IsAsRead}
-use Rattle.card_words.specs.Loose.{digits_of, group_octets, grouped_octets, is_blank, is_none_alone, loose_octets}
+use Rattle.octet_core.specs.Words.{is_blank}
+use Rattle.card_words.specs.Loose.{digits_of, group_octets, grouped_octets, is_none_alone, loose_octets}
 use Rattle.card_words.specs.Value.{all_said, UnlessMemory}
 use Rattle.card_words.specs.declared.fault.Fault.{Fault}
 use Rattle.card_words.specs.declared.fault.Fault.TheVariants.{Hex}

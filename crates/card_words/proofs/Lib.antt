@@ -4,5 +4,4 @@ pub mod Each
 pub mod Groups
 pub mod Numbers
 pub mod Requests
-pub mod PairLines
 pub mod Givens

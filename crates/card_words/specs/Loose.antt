@@ -2,12 +2,9 @@
 use Rattle.std.specs.Prelude.{◌&&◌, ◌||◌, ◌==◌, ℕ, drop, List, [], ◌∷◌, Bool, false, Result, Ok, if◌then◌else◌}
 use Rattle.std.specs.List.{list_all, slice_split}
 use Rattle.hex.specs.Hex.{decode_of}
+use Rattle.octet_core.specs.Words.{after_blanks, is_blank}
 use Rattle.card_words.specs.Value.{all_said, hex_octets}
 use Rattle.card_words.specs.declared.fault.Fault.{Fault}
-
--- a space, a tab, or what ends a line: LF, CR
-abbrev pub is_blank : ℕ → Bool
-is_blank x = x == 32 || (x == 9 || (x == 10 || x == 13))
 
 -- 0x or 0X, and more after it
 abbrev pub is_marked : List ℕ → Bool
@@ -27,11 +24,6 @@ abbrev pub is_none_before_blanks : List ℕ → Bool
 is_none_before_blanks (a ∷ b ∷ c ∷ d ∷ more) =
     a == 110 && (b == 111 && (c == 110 && (d == 101 && list_all is_blank more)))
 is_none_before_blanks _ = false
-
--- a text from its first octet on that is no blank
-abbrev pub after_blanks : List ℕ → List ℕ
-after_blanks [] = []
-after_blanks (x ∷ text) = if is_blank x then after_blanks text else x ∷ text
 
 -- none alone, with blanks before and after
 abbrev pub is_none_alone : List ℕ → Bool

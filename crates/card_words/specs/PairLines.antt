@@ -1,21 +1,13 @@
 -- The pairs of a session as lines: in each a command and the reply to it, which blanks part.
-use Rattle.std.specs.Prelude.{◌==◌, ◌||◌, ℕ, codes, drop, length, not, List, [], ◌∷◌, Bool, true, false, Option, Some, None, Result, Ok, Err, if◌then◌else◌}
+use Rattle.std.specs.Prelude.{◌==◌, ◌||◌, ℕ, codes, length, not, List, [], ◌∷◌, Bool, true, false, Option, Some, None, Result, Ok, Err, if◌then◌else◌}
 use Rattle.std.specs.Str.{bytes_eq}
-use Rattle.std.specs.List.{before_first, position_or_len, slice_split}
-use Rattle.card_words.specs.Loose.{after_blanks, is_blank}
+use Rattle.std.specs.List.{slice_split}
+use Rattle.octet_core.specs.Words.{first_word}
 use Rattle.card_words.specs.Session.{pair_by}
 use Rattle.card_words.specs.Value.{◌>>=◌, all_said}
 use Rattle.card_words.specs.declared.fault.Fault.{Fault}
 use Rattle.card_words.specs.declared.fault.Fault.TheVariants.{Hex, Words}
 use Rattle.card_words.specs.declared.session.Pair.{Pair}
-
--- what comes before the next blank, and the rest from there on
-abbrev pub at_blank : List ℕ → List ℕ × List ℕ
-at_blank text = (before_first is_blank text, drop (position_or_len is_blank text) text)
-
--- the first word of a line, which is empty where the line has none, and the rest after it
-abbrev pub first_word : List ℕ → List ℕ × List ℕ
-first_word line = at_blank (after_blanks line)
 
 -- what the words of a line say, with the one after the first two: no pair where there is no word, else that of two
 abbrev pub pairs_of_words : List ℕ → List ℕ → List ℕ → Result (List Pair) Fault

@@ -2,11 +2,12 @@
 
 ghost use Rattle.std.specs.Prelude.{◌≡◌};
 ghost use Rattle.std.specs.List.{list_all};
-ghost use Rattle.card_words.specs.Loose.{after_blanks, digits_of, group_octets, grouped_octets, is_blank, is_none_alone, is_none_before_blanks, loose_octets};
+ghost use Rattle.octet_core.specs.Words.{is_blank};
+ghost use Rattle.card_words.specs.Loose.{digits_of, group_octets, grouped_octets, is_none_alone, is_none_before_blanks, loose_octets};
 ghost use Rattle.card_words.specs.Value.{AddsSaid, UnlessMemory};
 
 use crate::fault::Fault;
-use octet_core::Octets;
+use octet_core::{Octets, after_blanks, is_blank};
 use std::alloc::Global;
 
 /// The octets that a text gives in hexadecimal, two digits each, in groups that blanks part; none where the
@@ -25,20 +26,6 @@ fn is_none_alone(text: &[u8]) -> bool
     ensures { result ≡ is_none_alone text.now }
 {
     is_none_before_blanks(after_blanks(text))
-}
-
-/// What is left of a text without the blanks that it begins with.
-pub(crate) fn after_blanks(text: &[u8]) -> &[u8]
-    ensures { result.now ≡ after_blanks text.now }
-{
-    let mut rest = text;
-    while let [x, after @ ..] = rest {
-        if !is_blank(*x) {
-            break;
-        }
-        rest = after;
-    }
-    rest
 }
 
 /// Whether a text is `none`, with blanks after it.
@@ -66,13 +53,6 @@ fn grouped_octets(alloc: Global, text: &[u8]) -> Result<Octets, Fault>
         push_group(&mut octets, group)?;
     }
     Ok(Octets::of(octets))
-}
-
-/// Whether an octet of a text is a space, a tab, or ends a line.
-pub(crate) fn is_blank(octet: u8) -> bool
-    ensures { result ≡ is_blank octet }
-{
-    matches!(octet, b' ' | b'\t' | b'\n' | b'\r')
 }
 
 /// Adds the octets of a group, which has no blanks.

@@ -1,14 +1,12 @@
 //! The pairs of a session as lines: in each a command and the reply to it, which blanks part.
 
-ghost use Rattle.std.specs.Prelude.{◌≡◌, ◌<◌, ◌≤◌, length, map, option_map, IfSome};
-ghost use Rattle.std.specs.List.{position_from, position_or_len};
-ghost use Rattle.card_words.specs.Loose.{is_blank};
-ghost use Rattle.card_words.specs.PairLines.{are_lines, at_blank, first_word, pairs_in, pairs_of_line};
+ghost use Rattle.std.specs.Prelude.{◌≡◌, map, option_map};
+ghost use Rattle.card_words.specs.PairLines.{are_lines, pairs_in, pairs_of_line};
 ghost use Rattle.card_words.specs.Value.{AddsSaid, UnlessMemory};
 
 use crate::fault::Fault;
-use crate::loose::{after_blanks, is_blank};
 use crate::session::{Pair, Pairs, push_pair, read_parts};
+use octet_core::first_word;
 use std::alloc::Global;
 
 /// Whether the pairs of a session are the lines of standard input, by its form and the words that are pairs: `Words`
@@ -56,34 +54,4 @@ fn push_line(alloc: Global, pairs: &mut Vec<Pair>, line: &[u8]) -> Result<(), Fa
     let pair = read_parts(alloc, command, reply)?;
     push_pair(pairs, pair)?;
     Ok(())
-}
-
-/// The first word of a line, empty where it has none, and the rest after it.
-fn first_word(line: &[u8]) -> (&[u8], &[u8])
-    ensures { (result.0.now, result.1.now) ≡ first_word line.now }
-{
-    at_blank(after_blanks(line))
-}
-
-/// What comes before the next blank of a text, and the rest from there on.
-fn at_blank(text: &[u8]) -> (&[u8], &[u8])
-    ensures { (result.0.now, result.1.now) ≡ at_blank text.now }
-{
-    text.split_at(word_len(text))
-}
-
-/// How many octets of a text come before its next blank.
-fn word_len(text: &[u8]) -> usize
-    ensures place { result ≡ position_or_len is_blank text.now }
-    ensures inside { result ≤ length text.now }
-{
-    blank_place(text).unwrap_or(text.len())
-}
-
-/// The place of the first blank.
-fn blank_place(text: &[u8]) -> Option<usize>
-    ensures place { result ≡ position_from is_blank 0 text.now }
-    ensures inside { IfSome result (λ place. place < length text.now) }
-{
-    text.iter().position(|octet| is_blank(*octet))
 }

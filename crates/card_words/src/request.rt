@@ -6,8 +6,7 @@ use crate::fault::Fault;
 use crate::given::Given;
 use crate::session::Session;
 use block_core::Number;
-use octet_core::{Octets, Text};
-use std::marker::Model;
+use octet_core::{Listed, Octets, Text};
 use tlv_core::Known;
 
 /// What octets are checked or shown as.
@@ -95,58 +94,7 @@ pub struct Task {
 }
 
 /// Values that are known for tags, in the order of their words, which contracts see as a list.
-#[derive(Debug, Drop)]
-pub struct Knowns {
-    list: Vec<Known>,
-}
-
-impl Model for Knowns {
-    ghost use Rattle.std.specs.Prelude.{List};
-    ghost use Rattle.tlv_core.specs.declared.known.Known.{Known};
-
-    ghost Value = { List Known };
-
-    ghost view = { λ knowns. knowns.list.items };
-}
-
-impl Knowns {
-    /// The values in a vector.
-    pub fn of(list: Vec<Known>) -> Knowns
-        ensures { result ≡ list.items }
-    {
-        Knowns { list }
-    }
-
-    /// The values, lent.
-    pub fn get(&self) -> &[Known]
-        ensures { result.now ≡ self.now }
-    {
-        self.list.as_slice()
-    }
-}
-
-impl PartialEq for Knowns {
-    ghost use lib.Pointwise.{pointwise};
-    ghost use Rattle.std.specs.Cmp.{partial_equiv_from_equiv};
-    ghost use Rattle.std.proofs.lemmas.Cmp.{lists_equiv};
-    ghost use Rattle.tlv_core.specs.contracts.known.KnownPartialEq.TheImpl as same_known;
-    ghost use Rattle.tlv_core.specs.contracts.known.KnownEq.TheImpl.Laws as same_laws;
-
-    ghost eq = { pointwise same_known.eq-value.it };
-
-    ghost laws = { partial_equiv_from_equiv (lists_equiv same_laws.laws-law) };
-
-    fn eq(&self, other: &Self) -> bool {
-        self.get() == other.get()
-    }
-}
-
-impl Eq for Knowns {
-    ghost use Rattle.std.proofs.lemmas.Cmp.{lists_equiv};
-    ghost use Rattle.tlv_core.specs.contracts.known.KnownEq.TheImpl.Laws as same_laws;
-
-    ghost laws = { lists_equiv same_laws.laws-law };
-}
+pub type Knowns = Listed<Known>;
 
 /// What a command line asks for.
 #[derive(Debug, PartialEq, Eq, Drop)]

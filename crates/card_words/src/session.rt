@@ -7,9 +7,8 @@ ghost use Rattle.card_words.specs.Value.{UnlessMemory};
 
 use crate::fault::Fault;
 use crate::value::{parts, word_octets};
-use octet_core::{Octets, decimal_of};
+use octet_core::{Listed, Octets, decimal_of};
 use std::alloc::{AllocError, Global};
-use std::marker::Model;
 
 /// A command, and the reply that the card's host gives to it.
 #[derive(Debug, PartialEq, Eq, Drop)]
@@ -19,151 +18,10 @@ pub struct Pair {
 }
 
 /// Commands and their replies, in the order of their words, which contracts see as a list.
-#[derive(Debug, Drop)]
-pub struct Pairs {
-    pairs: Vec<Pair>,
-}
-
-impl Model for Pairs {
-    ghost use Rattle.std.specs.Prelude.{List};
-    ghost use Rattle.card_words.specs.declared.session.Pair.{Pair};
-
-    ghost Value = { List Pair };
-
-    ghost view = { λ held. held.pairs.items };
-}
-
-impl Pairs {
-    /// The pairs in a vector.
-    pub fn of(pairs: Vec<Pair>) -> Pairs
-        ensures { result ≡ pairs.items }
-    {
-        Pairs { pairs }
-    }
-
-    /// The pairs, lent.
-    pub fn get(&self) -> &[Pair]
-        ensures { result.now ≡ self.now }
-    {
-        self.pairs.as_slice()
-    }
-}
-
-impl PartialEq for Pairs {
-    ghost use Rattle.std.specs.Prelude.{◌==◌};
-    ghost use Rattle.std.specs.Ordering.{on, eq_of_both};
-    ghost use lib.Pointwise.{pointwise};
-    ghost use Rattle.std.proofs.Common.{rules};
-    ghost use Rattle.std.specs.Cmp.Rules.{comparing};
-
-    ghost eq = { pointwise (eq_of_both (on (λ p. p.command) (pointwise ◌==◌))
-        (on (λ p. p.reply) (pointwise ◌==◌))) };
-
-    ghost laws = { Prim.search (comparing, rules) };
-
-    fn eq(&self, other: &Self) -> bool {
-        self.get() == other.get()
-    }
-}
-
-impl Eq for Pairs {
-    ghost use Rattle.std.proofs.Common.{rules};
-    ghost use Rattle.std.specs.Cmp.Rules.{comparing};
-
-    ghost laws = { Prim.search (comparing, rules) };
-}
+pub type Pairs = Listed<Pair>;
 
 /// Numbers of blocks, from 1, in the order of their word, which contracts see as a list.
-#[derive(Debug, Drop)]
-pub struct BlockNumbers {
-    numbers: Vec<u64>,
-}
-
-impl Model for BlockNumbers {
-    ghost use Rattle.std.specs.Prelude.{List, ℕ};
-
-    ghost Value = { List ℕ };
-
-    ghost view = { λ held. held.numbers.items };
-}
-
-impl BlockNumbers {
-    /// The numbers in a vector.
-    pub fn of(numbers: Vec<u64>) -> BlockNumbers
-        ensures { result ≡ numbers.items }
-    {
-        BlockNumbers { numbers }
-    }
-
-    /// The numbers, lent.
-    pub fn get(&self) -> &[u64]
-        ensures { result.now ≡ self.now }
-    {
-        self.numbers.as_slice()
-    }
-
-    /// These and the blocks that a part of a list names.
-    fn with_part(self, word: &str) -> Result<BlockNumbers, Fault>
-        ensures { UnlessMemory result (session.with_part self word.now) }
-    {
-        let (first, last) = read_range(word)?;
-        self.with_range(first, last)
-    }
-
-    /// These and the blocks of a range, where these are not too many.
-    fn with_range(self, first: u64, last: u64) -> Result<BlockNumbers, Fault>
-        requires { last < 10 ^ 15 }
-        ensures { UnlessMemory result (session.with_range self first last) }
-    {
-        if !self.have_room(first, last) {
-            return Err(Fault::Words);
-        }
-        Ok(self.with_numbers(first, last + 1)?)
-    }
-
-    /// Whether a range is one, and a list may name its blocks after these.
-    fn have_room(&self, first: u64, last: u64) -> bool
-        requires { last < 10 ^ 15 }
-        ensures { result ≡ (nat_le first last && (first == last
-            || nat_le (length self.now + (last + 1 - first)) most_named)) }
-    {
-        first <= last
-            && (first == last || self.numbers.len() as u64 + (last + 1 - first) <= MOST_NAMED)
-    }
-
-    /// These and the numbers from one on, up to another without it.
-    fn with_numbers(self, first: u64, end: u64) -> Result<BlockNumbers, AllocError>
-        ensures { IfOk result (λ named. named ≡ self ++ numbers_from first (end - first)) }
-    {
-        let mut numbers = self.numbers;
-        for number in first..end {
-            numbers.push(number)?;
-        }
-        Ok(BlockNumbers { numbers })
-    }
-}
-
-impl PartialEq for BlockNumbers {
-    ghost use Rattle.std.specs.Prelude.{◌==◌};
-    ghost use lib.Pointwise.{pointwise};
-    ghost use Rattle.std.proofs.Common.{rules};
-    ghost use Rattle.std.specs.Cmp.Rules.{comparing};
-
-    ghost eq = { pointwise ◌==◌ };
-
-    ghost laws = { Prim.search (comparing, rules) };
-
-    fn eq(&self, other: &Self) -> bool {
-        self.get() == other.get()
-    }
-}
-
-impl Eq for BlockNumbers {
-    ghost use Rattle.std.proofs.Common.{rules};
-    ghost use Rattle.std.specs.Cmp.Rules.{comparing};
-
-    ghost laws = { Prim.search (comparing, rules) };
-}
+pub type BlockNumbers = Listed<u64>;
 
 /// A session of both ends on one line.
 #[derive(Debug, PartialEq, Eq, Drop)]
@@ -254,10 +112,49 @@ fn read_numbers(alloc: Global, word: &str) -> Result<BlockNumbers, Fault>
     let mut named = BlockNumbers::of(Vec::new(alloc));
     let mut rest = word;
     'parts: while let Some((part, after)) = rest.split_once(',') {
-        named = named.with_part(part)?;
+        named = with_part(named, part)?;
         rest = after;
     }
-    named.with_part(rest)
+    with_part(named, rest)
+}
+
+/// These and the blocks that a part of a list names.
+fn with_part(named: BlockNumbers, word: &str) -> Result<BlockNumbers, Fault>
+    ensures { UnlessMemory result (session.with_part named word.now) }
+{
+    let (first, last) = read_range(word)?;
+    with_range(named, first, last)
+}
+
+/// These and the blocks of a range, where these are not too many.
+fn with_range(named: BlockNumbers, first: u64, last: u64) -> Result<BlockNumbers, Fault>
+    requires { last < 10 ^ 15 }
+    ensures { UnlessMemory result (session.with_range named first last) }
+{
+    if !have_room(named.get(), first, last) {
+        return Err(Fault::Words);
+    }
+    Ok(with_numbers(named, first, last + 1)?)
+}
+
+/// Whether a range is one, and a list may name its blocks after these.
+fn have_room(named: &[u64], first: u64, last: u64) -> bool
+    requires { last < 10 ^ 15 }
+    ensures { result ≡ (nat_le first last && (first == last
+        || nat_le (length named.now + (last + 1 - first)) most_named)) }
+{
+    first <= last && (first == last || named.len() as u64 + (last + 1 - first) <= MOST_NAMED)
+}
+
+/// These and the numbers from one on, up to another without it.
+fn with_numbers(named: BlockNumbers, first: u64, end: u64) -> Result<BlockNumbers, AllocError>
+    ensures { IfOk result (λ longer. longer ≡ named ++ numbers_from first (end - first)) }
+{
+    let mut numbers = named.into_inner();
+    for number in first..end {
+        numbers.push(number)?;
+    }
+    Ok(BlockNumbers::of(numbers))
 }
 
 /// The first and the last block that a part of a list names.

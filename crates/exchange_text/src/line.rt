@@ -3,8 +3,7 @@
 ghost use Rattle.std.specs.Prelude.{◌≡◌};
 ghost use Rattle.exchange_text.specs.Exchange.{arrived};
 
-use octet_core::{Octets, Text};
-use std::marker::Model;
+use octet_core::{Listed, Octets, Text};
 
 /// What became of a block on its way.
 #[derive(Debug, PartialEq, Eq, Drop)]
@@ -66,41 +65,4 @@ pub enum Line {
 }
 
 /// Lines in their order, which contracts see as a list.
-#[derive(Debug, Drop)]
-pub struct Lines {
-    held: Vec<Line>,
-}
-
-impl Model for Lines {
-    ghost use Rattle.std.specs.Prelude.{List};
-    ghost use Rattle.exchange_text.specs.declared.line.Line.{Line};
-
-    ghost Value = { List Line };
-
-    ghost view = { λ lines. lines.held.items };
-}
-
-impl Lines {
-    ghost use Rattle.std.specs.Prelude.{◌≡◌};
-
-    /// The lines of a vector.
-    pub fn of(held: Vec<Line>) -> Self
-        ensures { result ≡ held.items }
-    {
-        Lines { held }
-    }
-
-    /// The lines, lent.
-    pub fn get(&self) -> &[Line]
-        ensures { result.now ≡ self.now }
-    {
-        self.held.as_slice()
-    }
-
-    /// The vector back.
-    pub fn into_inner(self) -> Vec<Line>
-        ensures { result.items ≡ self }
-    {
-        self.held
-    }
-}
+pub type Lines = Listed<Line>;

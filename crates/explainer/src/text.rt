@@ -6,7 +6,7 @@ ghost use Rattle.explainer.specs.Notes.{offsets_note, place_note};
 use crate::misread::{dump_note, source_note};
 use crate::words::what_form;
 use card_words::{Fault, Form};
-use octet_core::Octets;
+use octet_core::{Octets, is_blank};
 use std::alloc::{AllocError, Global};
 
 /// How many characters are shown before the one that is marked, at most.
@@ -209,10 +209,6 @@ fn wrong_group(text: &[u8]) -> Option<(usize, Wrong)> {
         place = place.saturating_add(group.len()).saturating_add(1);
     }
     None
-}
-
-fn is_blank(octet: u8) -> bool {
-    matches!(octet, b' ' | b'\t' | b'\n' | b'\r')
 }
 
 fn marked(alloc: Global, text: &[u8], place: usize, wrong: Wrong) -> Result<String, AllocError> {

@@ -7,3 +7,4 @@ pub mod Answered
 pub mod Failures
 pub mod HexadecimalLemmas
 pub mod Decimals
+pub mod Blanks

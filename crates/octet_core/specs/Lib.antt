@@ -3,6 +3,7 @@ pub mod Octets
 pub mod Grammar
 pub mod Hexadecimal
 pub mod Decimal
+pub mod Words
 pub mod Sizes
 -- what the code keeps between calls, what calls answer, and what is printed
 pub mod Failures

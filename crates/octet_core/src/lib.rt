@@ -1,5 +1,6 @@
 //! What every codec of the stack stands on: lists of octets and why they are refused, the
-//! redundancy check, and readers and writers whose failures are counted.
+//! redundancy check, and readers and writers whose failures are counted. Beside these, what is
+//! read of texts in more than one crate: hexadecimal, decimal numbers, words that blanks part.
 //!
 //! The grammar of a codec is a relation between values and lists of octets. What a decoder answers
 //! is the *verdict* of its grammar: the value and the octets that it takes, or the place at which no
@@ -12,21 +13,25 @@ pub mod decimal;
 pub mod device;
 pub mod format;
 pub mod hexadecimal;
+pub mod listed;
 pub mod named;
 pub mod octets;
 pub mod redundancy;
 pub mod size;
 pub mod stop;
 pub mod stream;
+pub mod words;
 
 pub use counted::Counted;
 pub use decimal::decimal_of;
 pub use device::{After, FailsOnce, Feeder, Taker};
 pub use format::Format;
 pub use hexadecimal::{HexFault, hex_upper, octets_of};
+pub use listed::Listed;
 pub use named::Named;
 pub use octets::{Octets, Text};
 pub use redundancy::lrc;
 pub use size::is_reserved;
 pub use stop::{Refusal, Refused, Stop};
 pub use stream::{Sink, Source, WriteFault, write_octets};
+pub use words::{after_blanks, first_word, is_blank};

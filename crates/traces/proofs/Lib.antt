@@ -1,4 +1,3 @@
-pub mod Words
 pub mod Blocks
 pub mod Texts
 pub mod Marks

@@ -1,10 +1,11 @@
 -- What a text says of a line: the items that were seen on it, or the first fault.
-use Rattle.std.specs.Prelude.{◌≡◌, ◌≤◌, ◌⊎◌, ◌==◌, ◌||◌, ◌&&◌, not, ◌+◌, ℕ, nat_lt, List, [], ◌∷◌, ◌++◌, length, drop, codes, Bool, true, false, Option, Some, None, Result, Ok, Err, if◌then◌else◌}
+use Rattle.std.specs.Prelude.{◌≡◌, ◌≤◌, ◌⊎◌, ◌==◌, ◌||◌, ◌&&◌, not, ◌+◌, ℕ, nat_lt, List, [], ◌∷◌, ◌++◌, length, codes, Bool, true, false, Option, Some, None, Result, Ok, Err, if◌then◌else◌}
 use Rattle.std.specs.Str.{bytes_eq}
-use Rattle.std.specs.List.{before_first, position_or_len, slice_split}
+use Rattle.std.specs.List.{slice_split}
 use Rattle.hex.specs.Hex.{decode_of}
 use Rattle.hex.specs.declared.error.FromHexError.{FromHexError}
 use Rattle.octet_core.specs.Decimal.{decimal_number}
+use Rattle.octet_core.specs.Words.{first_word}
 use Rattle.exchange_text.specs.Exchange.{latest_moment}
 use Rattle.exchange_text.specs.Names.{name_text}
 use Rattle.exchange_text.specs.declared.name.Name.TheVariants as name
@@ -26,23 +27,7 @@ abbrev pub ◌>>=◌ : {A B : Type 0} → Result A ExchangeFault → (A → Resu
 abbrev pub UnlessMemory : {X : Type 0} → Result X ExchangeFault → Result X ExchangeFault → Type 0
 UnlessMemory result expected = (result ≡ Err Memory) ⊎ (result ≡ expected)
 
--- ---- words
-
--- a space, a tab or a carriage return
-abbrev pub is_blank : ℕ → Bool
-is_blank x = x == 32 || (x == 9 || x == 13)
-
-abbrev pub after_blanks : List ℕ → List ℕ
-after_blanks [] = []
-after_blanks (x ∷ text) = if is_blank x then after_blanks text else x ∷ text
-
--- what comes before the next blank, and the rest from there on
-abbrev pub at_blank : List ℕ → List ℕ × List ℕ
-at_blank text = (before_first is_blank text, drop (position_or_len is_blank text) text)
-
--- the first word of a line, which is empty where the line has none, and the rest after it
-abbrev pub first_word : List ℕ → List ℕ × List ℕ
-first_word line = at_blank (after_blanks line)
+-- ---- words, which spaces, tabs and CR part; a line has no LF
 
 -- the first three words of a line, empty where it has fewer, and the next one
 pub record Words : Type 0 where

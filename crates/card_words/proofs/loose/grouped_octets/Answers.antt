@@ -4,7 +4,8 @@ use Rattle.std.proofs.lemmas.Iterator.Splits.{YieldsList-from_slice_split}
 use Rattle.std.proofs.lemmas.List.{length_push}
 use Rattle.std.proofs.lemmas.Result.{err_from_is_err_and}
 use Rattle.std.specs.List.{slice_split}
-use Rattle.card_words.specs.Loose.{group_octets, grouped_octets, is_blank}
+use Rattle.octet_core.specs.Words.{is_blank}
+use Rattle.card_words.specs.Loose.{group_octets, grouped_octets}
 use Rattle.card_words.proofs.Groups.{next-fault, next-group, no-more, none-yet}
 use Rattle.card_words.proofs.loose.grouped_octets.Goals as goal
 

@@ -1,6 +1,7 @@
 use Rattle.std.proofs.Common.{◌≡◌, drop, length}
 use Rattle.std.specs.List.{slice_split}
-use Rattle.card_words.specs.Loose.{group_octets, grouped_octets, is_blank}
+use Rattle.octet_core.specs.Words.{is_blank}
+use Rattle.card_words.specs.Loose.{group_octets, grouped_octets}
 use Rattle.card_words.proofs.Groups.{after}
 use Rattle.card_words.proofs.loose.grouped_octets.Given as goal
 

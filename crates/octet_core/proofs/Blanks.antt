@@ -1,11 +1,11 @@
--- How a line comes apart at its blanks.
+-- How a text comes apart at its blanks.
 use Rattle.std.proofs.Common.{◌≡◌, ◌≤◌, ◌∙◌, ap, ℕ, List, length, Option, Some, None, arith, cond, ltb, sym}
 use Rattle.std.specs.List.{position_from, position_or_len}
 use Rattle.std.specs.Option.{unwrap_or}
 use Rattle.std.proofs.lemmas.Bool.Decides.{nat_tests}
 use Rattle.std.proofs.lemmas.Iterator.Adapters.{position_from-zero}
 use Rattle.std.proofs.lemmas.List.Sums.{prefix_len-le-length}
-use Rattle.traces.specs.Reading.{is_blank}
+use Rattle.octet_core.specs.Words.{is_blank}
 
 abbrev place-in : ℕ → ℕ → Option ℕ
 place-in place len = cond (ltb place len) (Some place) None

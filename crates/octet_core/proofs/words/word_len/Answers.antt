@@ -1,7 +1,7 @@
 use Rattle.std.proofs.Common.{◌∙◌, ap, length, ℕ, Option}
 use Rattle.std.specs.Option.{unwrap_or}
-use Rattle.card_words.proofs.PairLines.{blank-or-len}
-use Rattle.card_words.proofs.pair_lines.word_len.Goals as goal
+use Rattle.octet_core.proofs.Blanks.{blank-or-len}
+use Rattle.octet_core.proofs.words.word_len.Goals as goal
 
 pub returns-clause-place : goal.returns-clause-place
 returns-clause-place c = c.unwrap_or.ensures

@@ -1,10 +1,10 @@
 use Rattle.std.proofs.Common.{◌++◌, ◌-◌}
 use Rattle.card_words.specs.Session.{numbers_from}
 use Rattle.card_words.proofs.Numbers.{next-number}
-use Rattle.card_words.proofs.session.BlockNumbers.with_numbers.Goals as goal
+use Rattle.card_words.proofs.session.with_numbers.Goals as goal
 
 pub loop-number-preserved : goal.loop-number-preserved
 loop-number-preserved c =
     next-number c.loop-number.numbers.items c.push.new.self.items
-    (c.args.self ++ numbers_from c.args.first (c.args.end - c.args.first)) c.loop-number.number c.args.end
+    (c.args.named ++ numbers_from c.args.first (c.args.end - c.args.first)) c.loop-number.number c.args.end
     c.loop-number-test.true c.in_ok-push.ensures.items c.loop-number.invariant

@@ -1,9 +1,9 @@
 use Rattle.std.proofs.Common.{◌≡◌, length}
-use Rattle.traces.specs.Reading.{after_blanks}
-use Rattle.traces.proofs.line_words.after_blanks.Given as goal
+use Rattle.octet_core.specs.Words.{after_blanks}
+use Rattle.octet_core.proofs.words.after_blanks.Given as goal
 
 abbrev pub invariant-loop-rest : goal.invariant-loop-rest
-invariant-loop-rest l = after_blanks l.rest ≡ after_blanks l.text
+invariant-loop-rest l = after_blanks l.text ≡ after_blanks l.rest
 
 abbrev pub decreases-loop-rest : goal.decreases-loop-rest
 decreases-loop-rest l = length l.rest
