@@ -168,6 +168,16 @@ abbrev pub GivesExplained : (List ℕ → Status → Type 0) → (List ℕ → L
 GivesExplained Right Noted (Ok answer) = IsExplained Noted answer.text answer.status
 GivesExplained Right Noted (Err fault) = Right (fault_text fault) status.Fault
 
+-- an answer to a request, with a note after it
+abbrev pub AnswersExplainedTo : Request → Option (List ℕ) → Option (List ℕ) → ℕ → ℕ → Result Answer Fault → Type 0
+AnswersExplainedTo request held left before after =
+    GivesExplained (IsRightTo request held left before after) (IsNotedTo request held left before after)
+
+-- and to words
+abbrev pub AnswersExplained : List (List ℕ) → Option (List ℕ) → Option (List ℕ) → ℕ → ℕ → Result Answer Fault → Type 0
+AnswersExplained words held left before after =
+    GivesExplained (IsRight words held left before after) (IsNoted words held left before after)
+
 -- the line of a fault with a note after it, or the fault itself
 abbrev pub IsFaulted : Fault → Result Answer Fault → Type 0
 IsFaulted told (Ok answer) = (answer.status ≡ status.Fault) × (note : List ℕ)

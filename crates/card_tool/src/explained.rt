@@ -4,8 +4,8 @@
 //! the crate explainer; where memory for it is refused it is left out.
 
 ghost use Rattle.std.specs.Prelude.{◌≡◌, ◌++◌, List, ℕ, IfOk, string_bytes};
-ghost use Rattle.card_tool.specs.Answers.{IsReadFrom, IsRight, IsRightTo};
-ghost use Rattle.card_tool.specs.Explained.{octets_of, text_note, GivesExplained, IsAdded, IsFaulted, IsFaultNote, IsNoted, IsNotedTo, IsTakenWith};
+ghost use Rattle.card_tool.specs.Answers.{IsReadFrom};
+ghost use Rattle.card_tool.specs.Explained.{octets_of, text_note, AnswersExplained, AnswersExplainedTo, IsAdded, IsFaulted, IsFaultNote, IsTakenWith};
 ghost use Rattle.card_tool.specs.Files.{IsBegun};
 ghost use Rattle.card_words.specs.Given.{octets_in, IsFromReader};
 ghost use Rattle.card_words.specs.Value.{UnlessMemory};
@@ -32,11 +32,8 @@ pub(crate) fn explained<R: Source>(
 ) -> Result<Answer, Fault>
     requires read { IsReadFrom (texts words.now) read }
     requires sized { IfOk read IsSized }
-    ensures told { GivesExplained
-        (IsRight (texts words.now) (R.remaining reader.old) (R.remaining reader.new)
-        (R.failures reader.old) (R.failures reader.new))
-        (IsNoted (texts words.now) (R.remaining reader.old) (R.remaining reader.new)
-        (R.failures reader.old) (R.failures reader.new)) result }
+    ensures told { AnswersExplained (texts words.now) (R.remaining reader.old)
+        (R.remaining reader.new) (R.failures reader.old) (R.failures reader.new) result }
     ensures unread { (AskForFile (texts words.now) → ⊥) → reader.new ≡ reader.old }
     ensures few { IsBegun (R.remaining reader.old) (R.remaining reader.new) 4194305 }
 {
@@ -57,11 +54,8 @@ fn answered<R: Source>(
 ) -> Result<Answer, Fault>
     requires read { IsReadFrom (texts words.now) read }
     requires sized { IfOk read IsSized }
-    ensures told { GivesExplained
-        (IsRight (texts words.now) (R.remaining reader.old) (R.remaining reader.new)
-        (R.failures reader.old) (R.failures reader.new))
-        (IsNoted (texts words.now) (R.remaining reader.old) (R.remaining reader.new)
-        (R.failures reader.old) (R.failures reader.new)) result }
+    ensures told { AnswersExplained (texts words.now) (R.remaining reader.old)
+        (R.remaining reader.new) (R.failures reader.old) (R.failures reader.new) result }
     ensures unread { (AskForFile (texts words.now) → ⊥) → reader.new ≡ reader.old }
     ensures few { IsBegun (R.remaining reader.old) (R.remaining reader.new) 4194305 }
 {
@@ -78,11 +72,8 @@ fn answered_to<R: Source>(
     on_text: &mut Option<String>,
 ) -> Result<Answer, Fault>
     requires sized { IsSized request }
-    ensures told { GivesExplained
-        (IsRightTo request (R.remaining reader.old) (R.remaining reader.new) (R.failures reader.old)
-        (R.failures reader.new))
-        (IsNotedTo request (R.remaining reader.old) (R.remaining reader.new) (R.failures reader.old)
-        (R.failures reader.new)) result }
+    ensures told { AnswersExplainedTo request (R.remaining reader.old) (R.remaining reader.new)
+        (R.failures reader.old) (R.failures reader.new) result }
     ensures unread { (NeedsFile request → ⊥) → reader.new ≡ reader.old }
     ensures few { IsBegun (R.remaining reader.old) (R.remaining reader.new) 4194305 }
 {
@@ -179,11 +170,8 @@ fn exchange_explained<R: Source>(
     reader: &mut R,
 ) -> Result<Answer, Fault>
     requires sized { IsSized request }
-    ensures told { GivesExplained
-        (IsRightTo request (R.remaining reader.old) (R.remaining reader.new) (R.failures reader.old)
-        (R.failures reader.new))
-        (IsNotedTo request (R.remaining reader.old) (R.remaining reader.new) (R.failures reader.old)
-        (R.failures reader.new)) result }
+    ensures told { AnswersExplainedTo request (R.remaining reader.old) (R.remaining reader.new)
+        (R.failures reader.old) (R.failures reader.new) result }
     ensures unread { (NeedsFile request → ⊥) → reader.new ≡ reader.old }
     ensures few { IsBegun (R.remaining reader.old) (R.remaining reader.new) 4194305 }
 {
@@ -205,11 +193,8 @@ fn exchange_explained<R: Source>(
 
 /// The file of the exchange in which the blocks of standard input were seen, with what is to be said of them.
 fn record_explained<R: Source>(alloc: Global, atr: Octets, reader: &mut R) -> Result<Answer, Fault>
-    ensures told { GivesExplained
-        (IsRightTo (AnyRequest.Record atr) (R.remaining reader.old)
-        (R.remaining reader.new) (R.failures reader.old) (R.failures reader.new))
-        (IsNotedTo (AnyRequest.Record atr) (R.remaining reader.old)
-        (R.remaining reader.new) (R.failures reader.old) (R.failures reader.new)) result }
+    ensures told { AnswersExplainedTo (AnyRequest.Record atr) (R.remaining reader.old)
+        (R.remaining reader.new) (R.failures reader.old) (R.failures reader.new) result }
     ensures few { IsBegun (R.remaining reader.old) (R.remaining reader.new) 4194305 }
 {
     let text = read_whole(alloc, reader)?;
@@ -223,11 +208,8 @@ fn lines_explained<R: Source>(
     session: Session,
     reader: &mut R,
 ) -> Result<Answer, Fault>
-    ensures told { GivesExplained
-        (IsRightTo (AnyRequest.SimulateLines session) (R.remaining reader.old)
-        (R.remaining reader.new) (R.failures reader.old) (R.failures reader.new))
-        (IsNotedTo (AnyRequest.SimulateLines session) (R.remaining reader.old)
-        (R.remaining reader.new) (R.failures reader.old) (R.failures reader.new)) result }
+    ensures told { AnswersExplainedTo (AnyRequest.SimulateLines session) (R.remaining reader.old)
+        (R.remaining reader.new) (R.failures reader.old) (R.failures reader.new) result }
     ensures few { IsBegun (R.remaining reader.old) (R.remaining reader.new) 4194305 }
 {
     let text = read_whole(alloc, reader)?;
