@@ -14,6 +14,7 @@ use crate::judged::WithNote;
 use crate::simulation::file;
 use card_kinds::{Answer, Status};
 use explainer::{large_note, session_note};
+use octet_core::Named;
 use std::alloc::{AllocError, Global};
 use traces::{RecordFault, Trace, read_trace, record_trace};
 
@@ -34,7 +35,7 @@ fn recorded_items(alloc: Global, atr: &[u8], trace: &Trace) -> Result<Answer, Al
 {
     match record_trace(alloc, atr, trace) {
         Ok(exchange) => file(alloc, &exchange),
-        Err(RecordFault::Refused(name)) => Answer::refused_as(alloc, name),
+        Err(RecordFault::Refused(fault)) => Answer::refused_as(alloc, fault.name()),
         Err(RecordFault::Memory) => Err(AllocError),
     }
 }

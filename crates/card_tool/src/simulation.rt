@@ -15,6 +15,7 @@ use card_kinds::{Answer, Status};
 use card_words::{Fault, Session, read_pair_lines};
 use exchange_core::{Exchange, Line};
 use explainer::{large_note, pairs_note, session_note, unsent_note};
+use octet_core::Named;
 use simulator::{SimulationFault, simulate};
 use std::alloc::{AllocError, Global};
 
@@ -31,7 +32,7 @@ pub(crate) fn simulated(alloc: Global, session: &Session) -> Result<Answer, Allo
 {
     match exchange_of(alloc, session) {
         Ok(exchange) => file(alloc, &exchange),
-        Err(SimulationFault::Refused(name)) => Answer::refused_as(alloc, name),
+        Err(SimulationFault::Refused(fault)) => Answer::refused_as(alloc, fault.name()),
         Err(SimulationFault::TooLarge) => Answer::faulted(alloc, Fault::TooLarge),
         Err(SimulationFault::Memory) => Err(AllocError),
     }
@@ -43,8 +44,8 @@ pub(crate) fn simulated_with_note(alloc: Global, session: &Session) -> Result<Wi
 {
     match exchange_of(alloc, session) {
         Ok(exchange) => file_with_note(alloc, session, &exchange),
-        Err(SimulationFault::Refused(name)) => {
-            let answer = Answer::refused_as(alloc, name)?;
+        Err(SimulationFault::Refused(fault)) => {
+            let answer = Answer::refused_as(alloc, fault.name())?;
             let note = session_note(alloc, session.atr.get());
             Ok(WithNote { answer, note })
         }

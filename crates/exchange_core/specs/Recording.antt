@@ -13,6 +13,7 @@ use Rattle.t1_core.specs.declared.turns.TerminalTurn.{TerminalTurn}
 use Rattle.t1_core.specs.declared.turns.CardTurn.{CardTurn}
 use Rattle.exchange_text.specs.Exchange.{are_proper}
 use Rattle.exchange_text.specs.Exchange.{arrived}
+use Rattle.exchange_core.specs.Faults.{atr_fault_name}
 use Rattle.exchange_core.specs.Replay.{End, by_role, terminal_end, terminal_line, card_end, card_line, IsFound}
 use Rattle.exchange_core.specs.Told.{Covers, told}
 use Rattle.exchange_text.specs.declared.exchange.Version.TheVariants.{One}
@@ -289,5 +290,5 @@ IsLent lent under_way = ⊥
 
 -- this of the name of a refused answer to reset; of being out of memory nothing is said
 abbrev pub IfRefused : RecorderFault → (List ℕ → Type 0) → Type 0
-IfRefused (Refused name) P = P name.now
+IfRefused (Refused fault) P = P (atr_fault_name fault)
 IfRefused NoMemory P = Unit {0}

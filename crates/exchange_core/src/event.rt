@@ -3,6 +3,7 @@
 ghost use Rattle.std.specs.Prelude.{◌≡◌};
 ghost use Rattle.exchange_core.specs.declared.event.EventFault.TheVariants.{Memory};
 
+use crate::params::AtrFault;
 use std::alloc::AllocError;
 use std::error::Error;
 use std::fmt::{self, Debug, Display, Formatter, Write};
@@ -97,9 +98,8 @@ impl From<AllocError> for EventFault {
 /// Why there is no recorder.
 #[derive(Clone, Copy, Debug, PartialEq, Eq)]
 pub enum RecorderFault {
-    /// The answer to reset can't be used, by the name that replay gives: `BadAtr`, `NoT1`, `ReservedIfsc` or
-    /// `Crc`.
-    Refused(&'static str),
+    /// The answer to reset can't be used, for what replay names.
+    Refused(AtrFault),
     /// Out of memory.
     Memory,
 }
@@ -113,7 +113,7 @@ impl Display for RecorderFault {
 
     fn fmt<W: Write>(&self, f: &mut Formatter<W>) -> fmt::Result {
         match self {
-            RecorderFault::Refused(name) => write!(f, "Refused: {name}"),
+            RecorderFault::Refused(fault) => write!(f, "Refused: {fault}"),
             RecorderFault::Memory => f.write_str("memory"),
         }
     }

@@ -10,6 +10,7 @@ mod end;
 pub mod event;
 mod given;
 pub mod laws;
+pub mod params;
 pub mod recording;
 pub mod replaying;
 
@@ -18,5 +19,6 @@ pub use event::{Event, EventFault, LastTurn, RecorderFault};
 pub use exchange_text::{
     Arrival, Exchange, ExchangeFault, Line, Lines, Version, migrate, read_exchange, write_exchange,
 };
+pub use params::{AtrFault, params_of};
 pub use recording::{Recorder, answers_are_replies, refused_event_changes_nothing, told};
-pub use replaying::{ReplayFault, Side, params_of, replay};
+pub use replaying::{ReplayFault, Side, replay};

@@ -16,7 +16,7 @@ ghost use Rattle.exchange_core.specs.declared.replaying.Side.TheVariants as side
 use crate::carrying::{Change, card_takes, copied, spelled, terminal_takes};
 use crate::end::Replayed;
 use crate::event::{Event, EventFault, LastTurn, RecorderFault};
-use crate::replaying::params_of;
+use crate::params::params_of;
 use atr_core::T1Params;
 use block_core::Block;
 use exchange_text::{Exchange, Line, Lines, Version};
@@ -70,7 +70,7 @@ impl Recorder {
     {
         let params = match params_of(atr) {
             Ok(params) => params,
-            Err(name) => return Err(RecorderFault::Refused(name)),
+            Err(fault) => return Err(RecorderFault::Refused(fault)),
         };
         Ok(Recorder {
             alloc,

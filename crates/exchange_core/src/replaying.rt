@@ -2,11 +2,12 @@
 
 ghost use Rattle.std.specs.Prelude.{◌≡◌, Some, None, Ok, Err, IfOk, IfErr, OnOk, string_bytes};
 ghost use Rattle.exchange_core.specs.declared.replaying.ReplayFault.TheVariants.{Differs, Memory};
-ghost use Rattle.exchange_core.specs.Replay.{Replays, IfDiffers, IsFound, replay_from, replay_line, replay_lines, refused};
+ghost use Rattle.exchange_core.specs.Replay.{Replays, IfDiffers, replay_from, replay_line, replay_lines, refused};
 ghost use Rattle.exchange_core.specs.Run.{IsRun};
 
 use crate::end::{Effect, Replayed};
-use atr_core::{T1Params, decode, t1_params};
+use crate::params::params_of;
+use atr_core::T1Params;
 use exchange_text::{Exchange, Line};
 use octet_core::{Named, Text};
 use std::alloc::{AllocError, Global};
@@ -80,21 +81,9 @@ pub fn replay(alloc: Global, exchange: &Exchange, side: Side) -> Result<(), Repl
 {
     let params = match params_of(exchange.atr()) {
         Ok(params) => params,
-        Err(name) => return differs(ATR_LINE, refused(alloc, name)?),
+        Err(fault) => return differs(ATR_LINE, refused(alloc, fault.name())?),
     };
     replay_from(alloc, params, exchange.lines().get(), side)
-}
-
-/// The parameters of T=1 of octets that are one whole answer to reset, or the name of what is wrong, as replay and a
-/// recorder give it: `BadAtr`, `NoT1`, `ReservedIfsc` or `Crc`.
-pub fn params_of(octets: &[u8]) -> Result<T1Params, &'static str>
-    ensures found { IfOk result (λ params. IsFound octets.now (Ok params.ifsc)) }
-    ensures refused { IfErr result (λ name. IsFound octets.now (Err name.now)) }
-{
-    match decode(octets) {
-        Ok((atr, taken)) if taken == octets.len() => t1_params(&atr).map_err(|fault| fault.name()),
-        _ => Err("BadAtr"),
-    }
 }
 
 /// Replays a new end with these parameters over the lines.

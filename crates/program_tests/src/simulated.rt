@@ -2,8 +2,9 @@
 
 mod requests;
 
+use atr_core::ParamFault;
 use card_words::{BlockNumbers, Pair, Pairs, Session};
-use exchange_core::{Exchange, Side, replay};
+use exchange_core::{AtrFault, Exchange, Side, replay};
 use octet_core::Octets;
 use simulator::{SimulationFault, simulate};
 use std::alloc::Global;
@@ -103,8 +104,10 @@ fn sessions_that_are_too_large(rt: HostRuntime) {
     assert_event_count(&rt, rt.alloc(), &session, 5);
 }
 
+const NO_T1: SimulationFault = SimulationFault::Refused(AtrFault::Params(ParamFault::NoT1));
+
 const FAULTS: [(SimulationFault, &str); 3] = [
-    (SimulationFault::Refused("NoT1"), "Refused: NoT1"),
+    (NO_T1, "Refused: NoT1"),
     (SimulationFault::TooLarge, "TooLarge"),
     (SimulationFault::Memory, "memory"),
 ];

@@ -12,6 +12,7 @@ use Rattle.t1_core.specs.declared.turns.TerminalTurn.TheVariants.{Send, Answered
 use Rattle.t1_core.specs.declared.turns.CardTurn.TheVariants.{Send as Sends, Asked}
 use Rattle.exchange_text.specs.Exchange.{ExchangeParts}
 use Rattle.exchange_core.specs.Recording.{Recording, closed, recorded}
+use Rattle.exchange_core.specs.Faults.{atr_fault_name}
 use Rattle.exchange_core.specs.Replay.{IsFound}
 use Rattle.exchange_text.specs.Text.{exchange_text}
 use Rattle.exchange_core.specs.declared.event.EventFault.{EventFault}
@@ -140,7 +141,7 @@ EachSessionEnds = (s : Session) (ifsc : ℕ) → IsFound s.atr (Ok ifsc)
 abbrev pub IsSimulated : ℕ → Session → Result ExchangeParts SimulationFault → Type 0
 IsSimulated largest s (Ok e) = (ifsc : ℕ) × (r : Recording) × IsFound s.atr (Ok ifsc) × EndsAs s ifsc r
     × (e ≡ exchange_of r)
-IsSimulated largest s (Err (Refused name)) = IsFound s.atr (Err name.now)
+IsSimulated largest s (Err (Refused fault)) = IsFound s.atr (Err (atr_fault_name fault))
 IsSimulated largest s (Err TooLarge) = (ifsc : ℕ) × IsFound s.atr (Ok ifsc)
     × ((r : Recording) → EndsAs s ifsc r → largest < length (exchange_text (exchange_of r)))
 IsSimulated largest s (Err Memory) = Unit {0}
@@ -161,12 +162,12 @@ pub record AreFates (fates : Fates) (s : Session) : Type 0 where
 
 -- this where a run had no end in time; it refuses no answer to reset
 abbrev pub IfTooLarge : SimulationFault → Type 0 → Type 0
-IfTooLarge (Refused name) P = ⊥
+IfTooLarge (Refused fault) P = ⊥
 IfTooLarge TooLarge P = P
 IfTooLarge Memory P = Unit {0}
 
 -- this where a session is too large
 abbrev pub WhereTooLarge : SimulationFault → Type 0 → Type 0
-WhereTooLarge (Refused name) P = Unit {0}
+WhereTooLarge (Refused fault) P = Unit {0}
 WhereTooLarge TooLarge P = P
 WhereTooLarge Memory P = Unit {0}

@@ -1,6 +1,6 @@
 //! Why there is no exchange of a session.
 
-use exchange_core::RecorderFault;
+use exchange_core::{AtrFault, RecorderFault};
 use std::alloc::AllocError;
 use std::error::Error;
 use std::fmt::{self, Display, Formatter, Write};
@@ -8,9 +8,8 @@ use std::fmt::{self, Display, Formatter, Write};
 /// Why there is no exchange of a session.
 #[derive(Clone, Copy, Debug, PartialEq, Eq)]
 pub enum SimulationFault {
-    /// The answer to reset can't be used, by the name that replay gives: `BadAtr`, `NoT1`, `ReservedIfsc` or
-    /// `Crc`.
-    Refused(&'static str),
+    /// The answer to reset can't be used, for what replay names.
+    Refused(AtrFault),
     /// The session went on after so many events that its text has too many octets.
     TooLarge,
     /// Out of memory.
@@ -26,7 +25,7 @@ impl Display for SimulationFault {
 
     fn fmt<W: Write>(&self, f: &mut Formatter<W>) -> fmt::Result {
         match self {
-            SimulationFault::Refused(name) => write!(f, "Refused: {name}"),
+            SimulationFault::Refused(fault) => write!(f, "Refused: {fault}"),
             SimulationFault::TooLarge => f.write_str("TooLarge"),
             SimulationFault::Memory => f.write_str("memory"),
         }
@@ -54,7 +53,7 @@ impl From<RecorderFault> for SimulationFault {
 
     fn from(fault: RecorderFault) -> SimulationFault {
         match fault {
-            RecorderFault::Refused(name) => SimulationFault::Refused(name),
+            RecorderFault::Refused(fault) => SimulationFault::Refused(fault),
             RecorderFault::Memory => SimulationFault::Memory,
         }
     }

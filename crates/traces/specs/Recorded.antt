@@ -4,6 +4,7 @@ use Rattle.exchange_text.specs.Exchange.{ExchangeParts}
 use Rattle.exchange_text.specs.declared.exchange.Version.{Version}
 use Rattle.exchange_text.specs.declared.exchange.Version.TheVariants.{One, Two}
 use Rattle.exchange_text.specs.declared.line.Line.{Line}
+use Rattle.exchange_core.specs.Faults.{atr_fault_name}
 use Rattle.exchange_core.specs.Replay.{IsFound}
 use Rattle.traces.specs.declared.recording.RecordFault.{RecordFault}
 use Rattle.traces.specs.declared.recording.RecordFault.TheVariants.{Refused, Memory}
@@ -27,5 +28,5 @@ exchange_of ifsc atr items = record { version = version_of items; atr = atr; lin
 -- What is recorded: the exchange, or why there is none.
 abbrev pub IsRecorded : List ℕ → List Item → Result ExchangeParts RecordFault → Type 0
 IsRecorded atr items (Ok e) = (ifsc : ℕ) × IsFound atr (Ok ifsc) × (e ≡ exchange_of ifsc atr items)
-IsRecorded atr items (Err (Refused name)) = IsFound atr (Err name.now)
+IsRecorded atr items (Err (Refused fault)) = IsFound atr (Err (atr_fault_name fault))
 IsRecorded atr items (Err Memory) = Unit {0}

@@ -7,7 +7,7 @@ ghost use Rattle.traces.specs.Recorded.{lines_of, IsRecorded};
 use crate::follower::Follower;
 use crate::trace::{Item, Trace};
 use atr_core::T1Params;
-use exchange_core::{Exchange, Lines, Version, copied, params_of};
+use exchange_core::{AtrFault, Exchange, Lines, Version, copied, params_of};
 use std::alloc::{AllocError, Global};
 use std::error::Error;
 use std::fmt::{self, Display, Formatter, Write};
@@ -15,9 +15,8 @@ use std::fmt::{self, Display, Formatter, Write};
 /// Why there is no exchange of a trace.
 #[derive(Clone, Copy, Debug, PartialEq, Eq)]
 pub enum RecordFault {
-    /// The answer to reset can't be used, by the name that replay gives: `BadAtr`, `NoT1`, `ReservedIfsc` or
-    /// `Crc`.
-    Refused(&'static str),
+    /// The answer to reset can't be used, for what replay names.
+    Refused(AtrFault),
     /// Out of memory.
     Memory,
 }
@@ -26,7 +25,7 @@ pub enum RecordFault {
 impl Display for RecordFault {
     fn fmt<W: Write>(&self, f: &mut Formatter<W>) -> fmt::Result {
         match self {
-            RecordFault::Refused(name) => write!(f, "Refused: {name}"),
+            RecordFault::Refused(fault) => write!(f, "Refused: {fault}"),
             RecordFault::Memory => f.write_str("memory"),
         }
     }
@@ -55,7 +54,7 @@ pub fn record_trace(alloc: Global, atr: &[u8], trace: &Trace) -> Result<Exchange
 {
     let params = match params_of(atr) {
         Ok(params) => params,
-        Err(name) => return Err(RecordFault::Refused(name)),
+        Err(fault) => return Err(RecordFault::Refused(fault)),
     };
     let items = trace.items();
     let lines = lines_of(alloc, params, items)?;

@@ -1,6 +1,7 @@
 //! What is printed of faults, and of values that may hold a message.
 
-use exchange_core::{Event, EventFault, RecorderFault, ReplayFault};
+use atr_core::ParamFault;
+use exchange_core::{AtrFault, Event, EventFault, RecorderFault, ReplayFault};
 use octet_core::Text;
 use std::alloc::Global;
 use t1_core::{CardFault, TerminalFault};
@@ -31,7 +32,8 @@ fn difference(alloc: Global) -> ReplayFault {
 #[test]
 fn faults_of_recorders_and_replays_are_printed(rt: HostRuntime) {
     let alloc = rt.alloc();
-    assert!(rt; shows(alloc, &RecorderFault::Refused("Crc"), "Refused: Crc"));
+    let crc = RecorderFault::Refused(AtrFault::Params(ParamFault::Crc));
+    assert!(rt; shows(alloc, &crc, "Refused: Crc"));
     assert!(rt; shows(alloc, &RecorderFault::Memory, "memory"));
     assert!(rt; shows(alloc, &difference(alloc), "line 7: Differs"));
     assert!(rt; shows(alloc, &ReplayFault::Memory, "memory"));

@@ -9,8 +9,8 @@ returns-in-Ok c =
 
 pub returns-in-Err-Refused : goal.returns-in-Err-Refused
 returns-in-Err-Refused c =
-    let found = rw c.in-Err-Refused.field-0-is at c.in-Err-Refused.ensures.simulated in
-    if-both-ok c.refused_as.result (λ answer text status. unusable c.in-Err-Refused.name.now found text status)
+    let found = rw (c.in-Err-Refused.field-0-is, ← c.name.ensures) at c.in-Err-Refused.ensures.simulated in
+    if-both-ok c.refused_as.result (λ answer text status. unusable c.name.result.now found text status)
     c.refused_as.ensures.text c.refused_as.ensures.status
 
 pub returns-in-Err-TooLarge : goal.returns-in-Err-TooLarge

@@ -10,10 +10,10 @@ returns-in-Ok c = IfOk-weaker c.file_with_note.result _ _
 
 pub returns-in_ok-answer-in-Err-Refused : goal.returns-in_ok-answer-in-Err-Refused
 returns-in_ok-answer-in-Err-Refused c =
-    let found = rw c.in-Err-Refused.field-0-is at c.in-Err-Refused.ensures.simulated in (
-      unusable c.in-Err-Refused.name.now found c.in_ok-answer-in-Err-Refused.ensures.text
+    let found = rw (c.in-Err-Refused.field-0-is, ← c.name.ensures) at c.in-Err-Refused.ensures.simulated in (
+      unusable c.name.result.now found c.in_ok-answer-in-Err-Refused.ensures.text
           c.in_ok-answer-in-Err-Refused.ensures.status,
-      if-ok c.session_note-note.result (λ note h. refused c.in-Err-Refused.name.now found h)
+      if-ok c.session_note-note.result (λ note h. refused c.name.result.now found h)
           (rw c.get.ensures at c.session_note-note.ensures),
     )
 

@@ -1,7 +1,7 @@
 use Rattle.atr_core.proofs.Unique.{one-accepted}
 use Rattle.exchange_core.proofs.Found.{refused-found, longer-found}
-use Rattle.exchange_core.proofs.replaying.params_of.Goals as goal
-use Rattle.exchange_core.proofs.replaying.params_of.Goals.{in_default-via-in-Ok+else-taken-octets, in_default-via-in_default}
+use Rattle.exchange_core.proofs.params.params_of.Goals as goal
+use Rattle.exchange_core.proofs.params.params_of.Goals.{in_default-via-in-Ok+else-taken-octets, in_default-via-in_default}
 
 pub returns-in_default-clause-refused : goal.returns-in_default-clause-refused
 returns-in_default-clause-refused c =
