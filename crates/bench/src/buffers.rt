@@ -6,7 +6,7 @@ use crate::session::{ends, told};
 use block_core::LONGEST_BLOCK;
 use std::io;
 use std::time::Instant;
-use t1_core::{Card, CardPut, Terminal, TerminalPut};
+use t1_core::{Card, EncodedCardTurn, EncodedTerminalTurn, Terminal};
 
 /// Exchanges the longest command and response under the information sizes 254 and 32.
 pub(crate) fn exchange_each(
@@ -39,11 +39,11 @@ fn exchange(
     let mut turn = terminal.transmit_into(command, &mut sent);
     for pairs in 0..140_000usize {
         match turn {
-            Ok(TerminalPut::Send { count, .. }) => {
+            Ok(EncodedTerminalTurn::Send { count, .. }) => {
                 let count = served(card, sent.get(..count)?, reply, &mut back)?;
                 turn = terminal.received_into(back.get(..count)?, &mut sent);
             }
-            Ok(TerminalPut::Answered) if terminal.answer() == Some(reply) => {
+            Ok(EncodedTerminalTurn::Answered) if terminal.answer() == Some(reply) => {
                 return Some(2 * pairs);
             }
             _ => return None,
@@ -58,11 +58,11 @@ pub(crate) fn served(card: &mut Card, octets: &[u8], reply: &[u8], out: &mut [u8
     ensures { IfSome result (λ count. count ≤ 258) }
 {
     let put = match card.received_into(octets, out) {
-        Ok(CardPut::Asked) => card.reply_into(reply, out),
+        Ok(EncodedCardTurn::Asked) => card.reply_into(reply, out),
         put => put,
     };
     match put {
-        Ok(CardPut::Send(count)) => Some(count),
+        Ok(EncodedCardTurn::Send(count)) => Some(count),
         _ => None,
     }
 }

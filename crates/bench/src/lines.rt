@@ -9,7 +9,7 @@ use block_core::LONGEST_BLOCK;
 use line_core::{CardLine, Host, Received, TerminalLine, exchange, serve};
 use std::io::{self, ErrorKind};
 use std::time::Instant;
-use t1_core::{Card, Terminal, TerminalPut};
+use t1_core::{Card, EncodedTerminalTurn, Terminal};
 
 /// More blocks than an end sends in the longest exchange.
 const MOST_BLOCKS: usize = 10_000;
@@ -146,7 +146,7 @@ impl CardLine for TerminalAtLine<'_> {
             },
         };
         match put {
-            Ok(TerminalPut::Send { count, .. }) => Ok(Received::Octets(count)),
+            Ok(EncodedTerminalTurn::Send { count, .. }) => Ok(Received::Octets(count)),
             _ => Ok(Received::Nothing),
         }
     }

@@ -3,12 +3,12 @@ use Rattle.std.proofs.Common.{◌≡◌, ℕ, ◌++◌, List, drop, sym, ap, sub
 use Rattle.std.specs.Prelude.{Result, Ok, Err}
 use Rattle.t1_core.specs.declared.turns.TerminalTurn.{TerminalTurn}
 use Rattle.t1_core.specs.declared.turns.TerminalTurn.TheVariants.{Send, Answered, IfsSet, GivenUp, Dead}
-use Rattle.t1_core.specs.declared.turns.TerminalPut.{TerminalPut}
+use Rattle.t1_core.specs.declared.turns.EncodedTerminalTurn.{EncodedTerminalTurn}
 use Rattle.t1_core.specs.declared.turns.TerminalFault.{TerminalFault}
 use Rattle.t1_core.specs.declared.turns.TerminalFault.TheVariants as fault
 use Rattle.t1_core.specs.declared.turns.CardTurn.{CardTurn}
 use Rattle.t1_core.specs.declared.turns.CardTurn.TheVariants as card_turns
-use Rattle.t1_core.specs.declared.turns.CardPut.{CardPut}
+use Rattle.t1_core.specs.declared.turns.EncodedCardTurn.{EncodedCardTurn}
 use Rattle.t1_core.specs.declared.turns.CardFault.{CardFault}
 use Rattle.t1_core.specs.declared.turns.CardFault.TheVariants as card_fault
 use Rattle.t1_core.specs.Put.{IsTerminalPut, IsCardPut}
@@ -28,7 +28,7 @@ sent wait block old new count turn is put = record {
 }
 
 terminal-told : (given : Result TerminalTurn TerminalFault) (old new : List ℕ)
-    (answer : Result TerminalPut TerminalFault) → IsTerminalPut given old new answer
+    (answer : Result EncodedTerminalTurn TerminalFault) → IsTerminalPut given old new answer
     → IsTerminalTurn given old new (told_terminal answer)
 terminal-told (Ok (Send block)) old new answer (count, is, put) =
     sent (waiting_times (Send block)) block old new count (told_terminal answer) (ap told_terminal is) put
@@ -42,7 +42,7 @@ terminal-told (Err fault.TooLong) old new answer (is, same) = (ap told_terminal 
 terminal-told (Err fault.Reserved) old new answer (is, same) = (ap told_terminal is, same)
 terminal-told (Err fault.Idle) old new answer (is, same) = (ap told_terminal is, same)
 
-card-told : (given : Result CardTurn CardFault) (old new : List ℕ) (answer : Result CardPut CardFault)
+card-told : (given : Result CardTurn CardFault) (old new : List ℕ) (answer : Result EncodedCardTurn CardFault)
     → IsCardPut given old new answer → IsCardTurn given old new (told_card answer)
 card-told (Ok (card_turns.Send block)) old new answer (count, is, put) =
     sent 0 block old new count (told_card answer) (ap told_card is) put
@@ -53,13 +53,13 @@ card-told (Err card_fault.Reserved) old new answer (is, same) = (ap told_card is
 
 -- what C is told of a terminal's turn whose octets were put into the buffer is what it is told of the turn
 pub terminal_told : (given : Result TerminalTurn TerminalFault) (old new : List ℕ)
-    (answer : Result TerminalPut TerminalFault) (turn : CTurn) → IsTerminalPut given old new answer
+    (answer : Result EncodedTerminalTurn TerminalFault) (turn : CTurn) → IsTerminalPut given old new answer
     → turn ≡ told_terminal answer → IsTerminalTurn given old new turn
 terminal_told given old new answer turn put is =
     subst (λ (t : CTurn). IsTerminalTurn given old new t) (sym is) (terminal-told given old new answer put)
 
 -- the same of a card's turn
-pub card_told : (given : Result CardTurn CardFault) (old new : List ℕ) (answer : Result CardPut CardFault)
+pub card_told : (given : Result CardTurn CardFault) (old new : List ℕ) (answer : Result EncodedCardTurn CardFault)
     (turn : CTurn) → IsCardPut given old new answer → turn ≡ told_card answer → IsCardTurn given old new turn
 card_told given old new answer turn put is =
     subst (λ (t : CTurn). IsCardTurn given old new t) (sym is) (card-told given old new answer put)

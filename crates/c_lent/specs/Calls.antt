@@ -4,12 +4,12 @@ use Rattle.t1_core.specs.Came.{class_of, quiet}
 use Rattle.t1_core.specs.Terminal.{TerminalState, TerminalInput, transmit, ask_ifs, takes}
 use Rattle.t1_core.specs.Card.{CardState, CardInput, replies, more_time}
 use Rattle.t1_core.specs.Card as card
-use Rattle.t1_core.specs.declared.turns.TerminalPut.{TerminalPut}
-use Rattle.t1_core.specs.declared.turns.TerminalPut.TheVariants.{Send, Answered, IfsSet, GivenUp, Dead}
+use Rattle.t1_core.specs.declared.turns.EncodedTerminalTurn.{EncodedTerminalTurn}
+use Rattle.t1_core.specs.declared.turns.EncodedTerminalTurn.TheVariants.{Send, Answered, IfsSet, GivenUp, Dead}
 use Rattle.t1_core.specs.declared.turns.TerminalFault.{TerminalFault}
 use Rattle.t1_core.specs.declared.turns.TerminalFault.TheVariants as fault
-use Rattle.t1_core.specs.declared.turns.CardPut.{CardPut}
-use Rattle.t1_core.specs.declared.turns.CardPut.TheVariants as card_put
+use Rattle.t1_core.specs.declared.turns.EncodedCardTurn.{EncodedCardTurn}
+use Rattle.t1_core.specs.declared.turns.EncodedCardTurn.TheVariants as card_put
 use Rattle.t1_core.specs.declared.turns.CardFault.{CardFault}
 use Rattle.t1_core.specs.declared.turns.CardFault.TheVariants as card_fault
 use Rattle.c_lent.specs.declared.call.TerminalCall.{TerminalCall}
@@ -34,7 +34,7 @@ card_input (card_call.MoreTime multiple) c = more_time multiple
 card_input (card_call.AskIfs size) c = card.ask_ifs size
 
 -- what C is told of what a call of a terminal answered, with the octets of its block in the buffer
-abbrev pub told_terminal : Result TerminalPut TerminalFault → CTurn
+abbrev pub told_terminal : Result EncodedTerminalTurn TerminalFault → CTurn
 told_terminal (Ok (Send count waiting)) = record { kind = 0; wait = waiting; count = count }
 told_terminal (Ok Answered) = turned 1
 told_terminal (Ok IfsSet) = turned 2
@@ -47,7 +47,7 @@ told_terminal (Err fault.Reserved) = turned 19
 told_terminal (Err fault.Idle) = turned 20
 
 -- what C is told of what a call of a card answered, with the octets of its block in the buffer
-abbrev pub told_card : Result CardPut CardFault → CTurn
+abbrev pub told_card : Result EncodedCardTurn CardFault → CTurn
 told_card (Ok (card_put.Send count)) = record { kind = 0; wait = 0; count = count }
 told_card (Ok card_put.Asked) = turned 1
 told_card (Err card_fault.Order) = turned 21

@@ -8,7 +8,9 @@ ghost use Rattle.t1_core.specs.Views.{terminal_held, AreTerminalPlaces};
 ghost use Rattle.t1_core.specs.CardViews.{card_held, AreCardPlaces};
 ghost use Rattle.c_lent.specs.Calls.{terminal_input, card_input};
 
-use t1_core::{CardFault, CardPlaces, CardPut, TerminalFault, TerminalPlaces, TerminalPut};
+use t1_core::{
+    CardFault, CardPlaces, EncodedCardTurn, EncodedTerminalTurn, TerminalFault, TerminalPlaces,
+};
 
 /// A call of a terminal.
 #[derive(Clone, Copy)]
@@ -44,7 +46,7 @@ impl<'a> TerminalCall<'a> {
         command: &mut [u8],
         answer: &mut [u8],
         out: &mut [u8],
-    ) -> Result<TerminalPut, TerminalFault>
+    ) -> Result<EncodedTerminalTurn, TerminalFault>
         requires room { 258 ≤ length out.old }
         requires fit { AreTerminalPlaces end.old (length command.old) (length answer.old) }
         ensures turn { IsTerminalPut
@@ -73,7 +75,7 @@ impl<'a> CardCall<'a> {
         command: &mut [u8],
         reply: &mut [u8],
         out: &mut [u8],
-    ) -> Result<CardPut, CardFault>
+    ) -> Result<EncodedCardTurn, CardFault>
         requires room { 258 ≤ length out.old }
         requires fit { AreCardPlaces end.old (length command.old) (length reply.old) }
         ensures turn { IsCardPut (card_turn_of (card_turn (card_held end.old command.old reply.old)

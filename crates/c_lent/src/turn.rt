@@ -5,7 +5,7 @@ ghost use Rattle.c_lent.specs.Turns.{turned, no_room};
 ghost use Rattle.c_lent.specs.Calls.{told_terminal, told_card};
 
 use block_core::LONGEST_BLOCK;
-use t1_core::{CardFault, CardPut, TerminalFault, TerminalPut};
+use t1_core::{CardFault, EncodedCardTurn, EncodedTerminalTurn, TerminalFault};
 
 /// Send a block.
 const SEND: u8 = 0;
@@ -55,7 +55,7 @@ const NO_ROOM: u8 = 33;
 /// `count` octets.
 ///
 /// `wait` is how many block waiting times a terminal waits for the block after the one that it sends, 1 to
-/// 255: what [`TerminalPut::Send`] says. It is 0 where no time is set: at a card, which waits for its
+/// 255: what [`EncodedTerminalTurn::Send`] says. It is 0 where no time is set: at a card, which waits for its
 /// terminal without end, and where nothing is sent.
 #[repr(C)]
 #[derive(Clone, Copy)]
@@ -89,19 +89,19 @@ impl CTurn {
     }
 
     /// What a call of a terminal answered.
-    pub fn of_terminal(answer: Result<TerminalPut, TerminalFault>) -> CTurn
+    pub fn of_terminal(answer: Result<EncodedTerminalTurn, TerminalFault>) -> CTurn
         ensures { result ≡ told_terminal answer }
     {
         match answer {
-            Ok(TerminalPut::Send { count, waiting }) => CTurn {
+            Ok(EncodedTerminalTurn::Send { count, waiting }) => CTurn {
                 kind: SEND,
                 wait: waiting,
                 count,
             },
-            Ok(TerminalPut::Answered) => CTurn::of(DONE),
-            Ok(TerminalPut::IfsSet) => CTurn::of(IFS_SET),
-            Ok(TerminalPut::GivenUp) => CTurn::of(GIVEN_UP),
-            Ok(TerminalPut::Dead) => CTurn::of(DEAD),
+            Ok(EncodedTerminalTurn::Answered) => CTurn::of(DONE),
+            Ok(EncodedTerminalTurn::IfsSet) => CTurn::of(IFS_SET),
+            Ok(EncodedTerminalTurn::GivenUp) => CTurn::of(GIVEN_UP),
+            Ok(EncodedTerminalTurn::Dead) => CTurn::of(DEAD),
             Err(TerminalFault::Dead) => CTurn::of(REFUSED_DEAD),
             Err(TerminalFault::Busy) => CTurn::of(REFUSED_BUSY),
             Err(TerminalFault::TooLong) => CTurn::of(REFUSED_TOO_LONG),
@@ -111,16 +111,16 @@ impl CTurn {
     }
 
     /// What a call of a card answered.
-    pub fn of_card(answer: Result<CardPut, CardFault>) -> CTurn
+    pub fn of_card(answer: Result<EncodedCardTurn, CardFault>) -> CTurn
         ensures { result ≡ told_card answer }
     {
         match answer {
-            Ok(CardPut::Send(count)) => CTurn {
+            Ok(EncodedCardTurn::Send(count)) => CTurn {
                 kind: SEND,
                 wait: 0,
                 count,
             },
-            Ok(CardPut::Asked) => CTurn::of(DONE),
+            Ok(EncodedCardTurn::Asked) => CTurn::of(DONE),
             Err(CardFault::Order) => CTurn::of(REFUSED_ORDER),
             Err(CardFault::TooLong) => CTurn::of(REFUSED_TOO_LONG),
             Err(CardFault::Reserved) => CTurn::of(REFUSED_RESERVED),

@@ -7,7 +7,7 @@ ghost use Rattle.t1_core.specs.Put.{IsTerminalPut, IsCardPut};
 ghost use Rattle.c_lent.specs.Calls.{terminal_input, card_input};
 
 use c_lent::call::{CardCall, TerminalCall};
-use t1_core::{Card, CardFault, CardPut, Terminal, TerminalFault, TerminalPut};
+use t1_core::{Card, CardFault, EncodedCardTurn, EncodedTerminalTurn, Terminal, TerminalFault};
 
 /// A call of either end.
 #[derive(Clone, Copy)]
@@ -22,7 +22,7 @@ pub(crate) fn call_terminal(
     call: TerminalCall<'_>,
     end: &mut Terminal,
     out: &mut [u8],
-) -> Result<TerminalPut, TerminalFault>
+) -> Result<EncodedTerminalTurn, TerminalFault>
     requires { 258 ≤ length out.old }
     ensures turn { IsTerminalPut
         (turn_of (terminal_turn end.old (terminal_input call.entry end.old))) out.old out.new
@@ -44,7 +44,7 @@ pub(crate) fn call_card(
     call: CardCall<'_>,
     end: &mut Card,
     out: &mut [u8],
-) -> Result<CardPut, CardFault>
+) -> Result<EncodedCardTurn, CardFault>
     requires { 258 ≤ length out.old }
     ensures turn { IsCardPut (card_turn_of (card_turn end.old (card_input call.entry end.old)))
         out.old out.new result }

@@ -2,7 +2,7 @@
 use Rattle.std.proofs.Common.{◌≡◌, ◌⊎◌, inl, inr, ℕ, List, [], Option, Result, Ok, Err, ap, sym, refl, subst}
 use Rattle.card_words.specs.Texts.{fault_text}
 use Rattle.card_words.specs.Given.{octets_given, IsFromReader}
-use Rattle.card_words.specs.declared.given.Given.{Given}
+use Rattle.card_words.specs.declared.given.OctetSource.{OctetSource}
 use Rattle.card_words.specs.Words.{AskForFile, AskForOctets, HasOther, IsOnce, IsRead, NeedsFile, NeedsOctets, called_for_version, taken, called_for_help, not_taken}
 use Rattle.clap.specs.Kinds.{IsAmong}
 use Rattle.clap.specs.declared.error.kind.ErrorKind.TheVariants.{DisplayHelp}
@@ -105,7 +105,8 @@ needs-octets words asked (not_taken parsed other e) need = cc e
 -- ---- octets that are given
 
 -- a request that tells of the octets that are given
-module _ (request : Request) (given : Given) (Told : List ℕ → List ℕ → Status → Type 0) (held left : Option (List ℕ))
+module _ (request : Request) (given : OctetSource) (Told : List ℕ → List ℕ → Status → Type 0)
+    (held left : Option (List ℕ))
     (before after : ℕ) (need : NeedsFile request → IsFromReader given)
     (answers : (file : Result (List ℕ) Fault) (text : List ℕ) (ended : Status)
     → IsToldOf Told (octets_given given file) text ended → IsAnswerTo request file text ended) where

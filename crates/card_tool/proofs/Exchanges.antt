@@ -6,8 +6,8 @@ use Rattle.std.specs.Str.{bytes_eq}
 use Rattle.octet_core.specs.Octets.{AreOctets}
 use Rattle.atr_core.proofs.Goes as atr_goes
 use Rattle.atr_core.proofs.Unique.{one-accepted}
-use Rattle.card_words.specs.declared.request.End.{End}
-use Rattle.card_words.specs.declared.request.End.TheVariants as end
+use Rattle.card_words.specs.declared.request.Ends.{Ends}
+use Rattle.card_words.specs.declared.request.Ends.TheVariants as end
 use Rattle.card_words.specs.declared.request.FileTask.{FileTask}
 use Rattle.card_words.specs.declared.request.FileTask.TheVariants.{Replay, Migrate, Apdus, Draw}
 use Rattle.apdu_list.specs.Listing.{apdus_text}
@@ -152,7 +152,7 @@ module _ (e : ExchangeParts) where
         );
       }
 
-  at-once : (which : End) → AreOctets e.atr → OneText (IsReplayedAt which e)
+  at-once : (which : Ends) → AreOctets e.atr → OneText (IsReplayedAt which e)
   at-once end.Terminal octets = replayed-at e side.Terminal octets
   at-once end.Card octets = replayed-at e side.Card octets
   at-once end.Both octets = both-replayed octets

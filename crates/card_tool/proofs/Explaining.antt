@@ -5,12 +5,12 @@ use Rattle.command_line.specs.Asked.{asks_to_explain}
 use Rattle.card_words.specs.Given.{octets_given, octets_in, IsFromReader}
 use Rattle.card_words.specs.Value.{UnlessMemory}
 use Rattle.card_words.specs.declared.given.Form.{Form}
-use Rattle.card_words.specs.declared.given.Given.TheVariants.{Read, Word}
+use Rattle.card_words.specs.declared.given.OctetSource.TheVariants.{Read, Word}
 use Rattle.card_words.specs.Texts.{fault_text}
 use Rattle.card_words.specs.Words.{IsRead, NeedsFile}
 use Rattle.card_words.specs.declared.fault.Fault.{Fault}
 use Rattle.card_words.specs.declared.fault.Fault.TheVariants.{Memory}
-use Rattle.card_words.specs.declared.given.Given.{Given}
+use Rattle.card_words.specs.declared.given.OctetSource.{OctetSource}
 use Rattle.card_words.specs.declared.request.Asked.TheVariants.{Once}
 use Rattle.card_words.specs.declared.request.Request.{Request}
 use Rattle.card_tool.specs.Answers.{AnswersTo, Gives, IsAnswerTo, IsRight, IsRightTo, IsToldOf}
@@ -192,7 +192,7 @@ read-with form held left before after text result had octets note = record {
 }
 
 -- a request that tells of the octets that are given, and has a note on them and on their text
-module _ (request : Request) (given : Given) (Told : List ℕ → List ℕ → Status → Type 0)
+module _ (request : Request) (given : OctetSource) (Told : List ℕ → List ℕ → Status → Type 0)
     (Note : List ℕ → List ℕ → Type 0)
     (held left : Option (List ℕ)) (before after : ℕ) (need : NeedsFile request → IsFromReader given)
     (answers : (file : Result (List ℕ) Fault) (text : List ℕ) (ended : Status)

@@ -6,7 +6,7 @@ use Rattle.std.specs.Io.KnownBytes.{Consumes, Keeps}
 use Rattle.octet_core.specs.Failures.{next_count}
 use Rattle.card_words.specs.declared.fault.Fault.{Fault}
 use Rattle.card_words.specs.declared.fault.Fault.TheVariants.{Words, Hex, Memory, Read, TooLarge}
-use Rattle.card_words.specs.declared.given.Given.TheVariants.{Word}
+use Rattle.card_words.specs.declared.given.OctetSource.TheVariants.{Word}
 use Rattle.card_tool.specs.Files.{largest_file, IsBegun, IsHeld, IsMore, IsTaken, IsTooLarge, IsWhole, ReadsMore, ReadsWhole}
 
 -- two reads in a row

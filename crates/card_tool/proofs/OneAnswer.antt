@@ -23,7 +23,7 @@ use Rattle.card_words.specs.Given.{octets_given}
 use Rattle.card_words.specs.Loose.{loose_octets}
 use Rattle.card_words.specs.declared.fault.Fault.TheVariants.{Words, Hex, Memory, Read, TooLarge}
 use Rattle.card_words.specs.declared.given.Form.TheVariants as form
-use Rattle.card_words.specs.declared.given.Given.TheVariants as given
+use Rattle.card_words.specs.declared.given.OctetSource.TheVariants as given
 use Rattle.card_tool.specs.Files.{largest_file}
 use Rattle.card_tool.specs.Lines.{all_lines, line_octets, worse, AreTold}
 use Rattle.card_words.specs.Words.{AreSized, HasOctets, HaveOctets, IsOnce, IsSized, NeedsOctets}

@@ -1,7 +1,7 @@
 -- What the program says of a file of recorded exchanges.
 use Rattle.std.specs.Prelude.{◌≡◌, ℕ, ◌+◌, List, ◌++◌, codes, decimal, length, Some, None, Result, Ok, Err, MatchResult}
-use Rattle.card_words.specs.declared.request.End.{End}
-use Rattle.card_words.specs.declared.request.End.TheVariants as end
+use Rattle.card_words.specs.declared.request.Ends.{Ends}
+use Rattle.card_words.specs.declared.request.Ends.TheVariants as end
 use Rattle.card_words.specs.declared.request.Drawing.{Drawing}
 use Rattle.card_words.specs.declared.request.Drawing.TheVariants.{Ladder, Picture}
 use Rattle.card_words.specs.declared.request.FileTask.{FileTask}
@@ -62,7 +62,7 @@ pub record AreReplayed (e : ExchangeParts) (text : List ℕ) (ended : Status) : 
   pub is_text : text ≡ both_text terminal card
   pub is_ended : ended ≡ worse one other
 
-abbrev pub IsReplayedAt : End → ExchangeParts → List ℕ → Status → Type 0
+abbrev pub IsReplayedAt : Ends → ExchangeParts → List ℕ → Status → Type 0
 IsReplayedAt end.Terminal e = IsReplayed e side.Terminal
 IsReplayedAt end.Card e = IsReplayed e side.Card
 IsReplayedAt end.Both e = AreReplayed e

@@ -12,11 +12,11 @@ use Rattle.card_words.specs.declared.fault.Fault.{Fault}
 use Rattle.card_words.specs.declared.fault.Fault.TheVariants as fault
 use Rattle.card_words.specs.declared.given.Form.{Form}
 use Rattle.card_words.specs.declared.given.Form.TheVariants as form
-use Rattle.card_words.specs.declared.given.Given.{Given}
-use Rattle.card_words.specs.declared.given.Given.TheVariants.{Read}
+use Rattle.card_words.specs.declared.given.OctetSource.{OctetSource}
+use Rattle.card_words.specs.declared.given.OctetSource.TheVariants.{Read}
 use Rattle.card_words.specs.declared.request.Asked.TheVariants.{Once}
-use Rattle.card_words.specs.declared.request.End.{End}
-use Rattle.card_words.specs.declared.request.End.TheVariants as end
+use Rattle.card_words.specs.declared.request.Ends.{Ends}
+use Rattle.card_words.specs.declared.request.Ends.TheVariants as end
 use Rattle.card_words.specs.declared.request.FileTask.{FileTask}
 use Rattle.card_words.specs.declared.request.FileTask.TheVariants.{Replay}
 use Rattle.card_words.specs.declared.request.Request.{Request}
@@ -58,7 +58,7 @@ pub record AreDifferenceNotes (e : ExchangeParts) (note : List ℕ) : Type 0 whe
   pub is_card : IsDifferenceNote e side.Card card
   pub is_note : note ≡ terminal ++ card
 
-abbrev pub IsNoteAt : End → ExchangeParts → List ℕ → Type 0
+abbrev pub IsNoteAt : Ends → ExchangeParts → List ℕ → Type 0
 IsNoteAt end.Terminal e = IsDifferenceNote e side.Terminal
 IsNoteAt end.Card e = IsDifferenceNote e side.Card
 IsNoteAt end.Both e = AreDifferenceNotes e
@@ -87,12 +87,12 @@ text_note form.Hex text = offsets_note text
 text_note _ text = []
 
 -- what is said of the text that octets are taken from, if there is one
-abbrev pub form_note : Given → Result (List ℕ) Fault → List ℕ
+abbrev pub form_note : OctetSource → Result (List ℕ) Fault → List ℕ
 form_note (Read form) (Ok text) = text_note form text
 form_note _ _ = []
 
 -- a note on octets, and after it that on the text that they were taken from
-abbrev pub IsNoteOn : Given → Result (List ℕ) Fault → (List ℕ → List ℕ → Type 0) → List ℕ → Type 0
+abbrev pub IsNoteOn : OctetSource → Result (List ℕ) Fault → (List ℕ → List ℕ → Type 0) → List ℕ → Type 0
 IsNoteOn given file Note note = IsOkAnd (octets_given given file)
     (λ b. (first : List ℕ) × Note b first × (note ≡ first ++ form_note given file))
 
@@ -147,7 +147,8 @@ octets_of (Ok taken) = Ok taken.octets
 octets_of (Err fault) = Err fault
 
 -- what taking octets gives, and what is said of their text, where memory was there for it
-pub record IsTakenWith (given : Given) (held left : Option (List ℕ)) (before after : ℕ) (result : Result Taken Fault) :
+pub record IsTakenWith (given : OctetSource) (held left : Option (List ℕ)) (before after : ℕ)
+    (result : Result Taken Fault) :
     Type 0 where
   pub taken : IsTaken given held left before after (octets_of result)
   pub is_note : IfOk result

@@ -6,7 +6,7 @@ use Rattle.std.specs.Prelude.{◌≡◌, ◌⊎◌, ℕ, ◌+◌, ◌≤◌, Lis
 use Rattle.std.specs.Io.KnownBytes.{Consumes, IsAtEnd, Keeps}
 use Rattle.octet_core.specs.Failures.{next_count}
 use Rattle.card_words.specs.Given.{octets_given, IsFromReader}
-use Rattle.card_words.specs.declared.given.Given.{Given}
+use Rattle.card_words.specs.declared.given.OctetSource.{OctetSource}
 use Rattle.card_words.specs.declared.fault.Fault.{Fault}
 use Rattle.card_words.specs.declared.fault.Fault.TheVariants.{Memory, Read, TooLarge}
 
@@ -47,7 +47,8 @@ ReadsWhole held left before after (Err Memory) = IsBegun held left largest_file 
 ReadsWhole held left before after (Err _) = ⊥
 
 -- What taking the octets gives: those that the word gave, or that were read and have this form; or their fault; or that memory ran out, with no failed call.
-pub record IsTaken (given : Given) (held left : Option (List ℕ)) (before after : ℕ) (taken : Result (List ℕ) Fault) :
+pub record IsTaken (given : OctetSource) (held left : Option (List ℕ)) (before after : ℕ)
+    (taken : Result (List ℕ) Fault) :
     Type 0 where
   pub file : Result (List ℕ) Fault
   pub is_file : IsFromReader given → ReadsWhole held left before after file

@@ -16,7 +16,7 @@ use crate::judged::{WithNote, joined};
 use crate::lines::worse;
 use apdu_list::list_apdus;
 use card_kinds::{Answer, Status};
-use card_words::{Drawing, End, FileTask};
+use card_words::{Drawing, Ends, FileTask};
 use drawings::{draw_ladder, draw_picture};
 use exchange_core::{
     Exchange, ExchangeFault, ReplayFault, Side, migrate, read_exchange, replay, write_exchange,
@@ -80,13 +80,13 @@ fn told_of_with_note(
 }
 
 /// Whether the end that is named does what the exchange says.
-fn replayed_at(alloc: Global, exchange: &Exchange, end: End) -> Result<Answer, AllocError>
+fn replayed_at(alloc: Global, exchange: &Exchange, end: Ends) -> Result<Answer, AllocError>
     ensures { IfOk result (λ answer. IsReplayedAt end exchange.now answer.text answer.status) }
 {
     match end {
-        End::Terminal => replayed_by(alloc, exchange, Side::Terminal),
-        End::Card => replayed_by(alloc, exchange, Side::Card),
-        End::Both => {
+        Ends::Terminal => replayed_by(alloc, exchange, Side::Terminal),
+        Ends::Card => replayed_by(alloc, exchange, Side::Card),
+        Ends::Both => {
             let terminal = replayed_by(alloc, exchange, Side::Terminal)?;
             let card = replayed_by(alloc, exchange, Side::Card)?;
             both(alloc, &terminal, &card)
@@ -124,14 +124,14 @@ fn noted_at(
     alloc: Global,
     file: &[u8],
     exchange: &Exchange,
-    end: End,
+    end: Ends,
 ) -> Result<WithNote, AllocError>
     ensures { IfOk result (AreOf (IsReplayedAt end exchange.now) (IsNoteAt end exchange.now)) }
 {
     match end {
-        End::Terminal => noted_by(alloc, file, exchange, Side::Terminal),
-        End::Card => noted_by(alloc, file, exchange, Side::Card),
-        End::Both => {
+        Ends::Terminal => noted_by(alloc, file, exchange, Side::Terminal),
+        Ends::Card => noted_by(alloc, file, exchange, Side::Card),
+        Ends::Both => {
             let terminal = noted_by(alloc, file, exchange, Side::Terminal)?;
             let card = noted_by(alloc, file, exchange, Side::Card)?;
             let answer = both(alloc, &terminal.answer, &card.answer)?;

@@ -18,7 +18,7 @@ use crate::judged::{answer_with_note, filled, joined, tidied};
 use crate::program::answer_to;
 use crate::{exchange, recording, simulation};
 use card_kinds::Answer;
-use card_words::{Fault, Form, Given, Request, Session};
+use card_words::{Fault, Form, OctetSource, Request, Session};
 use explainer::{large_note, offsets_note, text_note, words_note};
 use octet_core::{Octets, Source};
 use std::alloc::{AllocError, Global};
@@ -107,7 +107,7 @@ struct Taken {
 /// `on_text`, where memory for it isn't refused.
 fn octets_explained<R: Source>(
     alloc: Global,
-    given: Given,
+    given: OctetSource,
     reader: &mut R,
     on_text: &mut Option<String>,
 ) -> Result<Taken, Fault>
@@ -117,11 +117,11 @@ fn octets_explained<R: Source>(
     ensures few { IsBegun (R.remaining reader.old) (R.remaining reader.new) 4194305 }
 {
     match given {
-        Given::Word(octets) => Ok(Taken {
+        OctetSource::Word(octets) => Ok(Taken {
             octets,
             note: Ok(String::new(alloc)),
         }),
-        Given::Read(form) => {
+        OctetSource::Read(form) => {
             let text = read_whole(alloc, reader)?;
             read_as(alloc, form, text, on_text)
         }

@@ -4,7 +4,7 @@ ghost use Rattle.std.specs.Prelude.{◌≡◌, ◌<◌, ◌≤◌, OnOk, length,
 ghost use Rattle.card_tool.specs.Files.{IsBegun, IsTaken, ReadsMore, ReadsWhole};
 ghost use Rattle.card_words.specs.Given.{IsFromReader};
 
-use card_words::{Fault, Given};
+use card_words::{Fault, OctetSource};
 use octet_core::{Octets, Source};
 use std::alloc::{AllocError, Global};
 
@@ -18,7 +18,7 @@ const FIRST_ROOM: usize = 4_096;
 /// read only then.
 pub(crate) fn octets_given<R: Source>(
     alloc: Global,
-    given: Given,
+    given: OctetSource,
     reader: &mut R,
 ) -> Result<Octets, Fault>
     ensures taken { IsTaken given (R.remaining reader.old) (R.remaining reader.new)
@@ -27,8 +27,8 @@ pub(crate) fn octets_given<R: Source>(
     ensures few { IsBegun (R.remaining reader.old) (R.remaining reader.new) 4194305 }
 {
     match given {
-        Given::Word(octets) => Ok(octets),
-        Given::Read(form) => {
+        OctetSource::Word(octets) => Ok(octets),
+        OctetSource::Read(form) => {
             let text = read_whole(alloc, reader)?;
             form.octets(alloc, text)
         }

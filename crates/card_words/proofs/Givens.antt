@@ -20,8 +20,8 @@ use Rattle.card_words.specs.Value.{all_said, UnlessMemory}
 use Rattle.card_words.specs.declared.fault.Fault.{Fault}
 use Rattle.card_words.specs.declared.fault.Fault.TheVariants.{Hex}
 use Rattle.card_words.specs.declared.given.Form.TheVariants as form
-use Rattle.card_words.specs.declared.given.Given.{Given}
-use Rattle.card_words.specs.declared.given.Given.TheVariants.{Word, Read}
+use Rattle.card_words.specs.declared.given.OctetSource.{OctetSource}
+use Rattle.card_words.specs.declared.given.OctetSource.TheVariants.{Word, Read}
 use Rattle.card_words.proofs.Requests.{both-steps, read-hex, same}
 
 -- ---- octets
@@ -64,7 +64,7 @@ dumped read expected result is (inl memory) = inl (rw (is, memory) refl)
 dumped read expected result is (inr same_as) = inr (rw is (ap of_dump same_as))
 
 -- the octets that are given are octets, where those of a word are, and those that are taken as they are read
-pub octets-given : (given : Given) (file : Result (List ℕ) Fault) → GivesOctets given
+pub octets-given : (given : OctetSource) (file : Result (List ℕ) Fault) → GivesOctets given
     → (IsAsRead given → IfOk file AreOctets) → IfOk (octets_given given file) AreOctets
 octets-given (Word octets) file h as_read = h
 octets-given (Read form.Hex) (Ok text) h as_read = loosely (loose_octets text) (loose-octets text)

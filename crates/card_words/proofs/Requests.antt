@@ -18,7 +18,7 @@ use Rattle.card_words.specs.declared.fault.Fault.{Fault}
 use Rattle.card_words.specs.declared.fault.Fault.TheVariants.{Words}
 use Rattle.card_words.specs.declared.session.Pair.{Pair}
 use Rattle.card_words.specs.declared.session.Session.{Session}
-use Rattle.card_words.specs.declared.given.Given.{Given}
+use Rattle.card_words.specs.declared.given.OctetSource.{OctetSource}
 use Rattle.card_words.specs.declared.request.Expected.{Expected}
 use Rattle.card_words.specs.declared.request.Aim.{Aim}
 use Rattle.card_words.specs.declared.request.Task.{Task}
@@ -89,7 +89,7 @@ expected-sized rows expected h =
     subst (λ (e : Expected). (1 ≤ e.ifs) × (e.ifs ≤ 254)) is (sized (first_of (codes "ifs") rows) size.0 size.1)
 
 -- octets that a word gives, or that are on standard input
-given-octets : (hex form : Option (List ℕ)) (given : Given) → given_of hex form ≡ Ok given → GivesOctets given
+given-octets : (hex form : Option (List ℕ)) (given : OctetSource) → given_of hex form ≡ Ok given → GivesOctets given
 given-octets (Some hex) None given h =
     let octets = both-steps (octets_of_word hex) _ given h in
     subst GivesOctets (same _ given octets.2) (word-octets hex octets.0 octets.1)

@@ -12,8 +12,8 @@ use Rattle.card_words.specs.declared.fault.Fault.{Fault}
 use Rattle.card_words.specs.declared.fault.Fault.TheVariants.{Hex, Memory, Words}
 use Rattle.card_words.specs.declared.given.Form.{Form}
 use Rattle.card_words.specs.declared.given.Form.TheVariants as form
-use Rattle.card_words.specs.declared.given.Given.{Given}
-use Rattle.card_words.specs.declared.given.Given.TheVariants.{Word, Read}
+use Rattle.card_words.specs.declared.given.OctetSource.{OctetSource}
+use Rattle.card_words.specs.declared.given.OctetSource.TheVariants.{Word, Read}
 
 -- ---- as words
 
@@ -26,7 +26,7 @@ form_of word =
     else Err Words)))
 
 -- a HEX word, or a form of standard input: one of them, and not both
-abbrev pub given_of : Option (List ℕ) → Option (List ℕ) → Result Given Fault
+abbrev pub given_of : Option (List ℕ) → Option (List ℕ) → Result OctetSource Fault
 given_of (Some hex) None = octets_of_word hex >>= (λ octets. Ok (Word octets))
 given_of None (Some word) = form_of word >>= (λ form. Ok (Read form))
 given_of _ _ = Err Words
@@ -52,21 +52,21 @@ octets_in form.Dump text = of_dump (dump_octets text)
 octets_in form.Source text = of_dump (source_octets text)
 
 -- the octets, with what reading standard input gave
-abbrev pub octets_given : Given → Result (List ℕ) Fault → Result (List ℕ) Fault
+abbrev pub octets_given : OctetSource → Result (List ℕ) Fault → Result (List ℕ) Fault
 octets_given (Word octets) file = Ok octets
 octets_given (Read form) file = file >>= octets_in form
 
 -- they are on standard input
-abbrev pub IsFromReader : Given → Type 0
+abbrev pub IsFromReader : OctetSource → Type 0
 IsFromReader (Word octets) = ⊥
 IsFromReader (Read form) = Unit {0}
 
 -- they are what is read there, as it is
-abbrev pub IsAsRead : Given → Type 0
+abbrev pub IsAsRead : OctetSource → Type 0
 IsAsRead (Read form.Octets) = Unit {0}
 IsAsRead _ = ⊥
 
 -- what a word gave are octets
-abbrev pub GivesOctets : Given → Type 0
+abbrev pub GivesOctets : OctetSource → Type 0
 GivesOctets (Word octets) = AreOctets octets
 GivesOctets (Read form) = Unit {0}

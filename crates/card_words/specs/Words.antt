@@ -20,8 +20,8 @@ use Rattle.card_words.specs.declared.fault.Fault.{Fault}
 use Rattle.card_words.specs.declared.fault.Fault.TheVariants.{Words, Memory}
 use Rattle.card_words.specs.declared.request.Kind.{Kind}
 use Rattle.card_words.specs.declared.request.Kind.TheVariants.{Atr, Block, Chain, Command, Response, Tlv, Dol}
-use Rattle.card_words.specs.declared.request.End.{End}
-use Rattle.card_words.specs.declared.request.End.TheVariants as end
+use Rattle.card_words.specs.declared.request.Ends.{Ends}
+use Rattle.card_words.specs.declared.request.Ends.TheVariants as end
 use Rattle.card_words.specs.declared.request.Drawing.{Drawing}
 use Rattle.card_words.specs.declared.request.Drawing.TheVariants.{Ladder, Picture}
 use Rattle.card_words.specs.declared.request.FileTask.TheVariants.{Replay, Migrate, Apdus, Draw}
@@ -165,7 +165,7 @@ build_of rows = do
   build_by what (all_or_none (all_of (codes "words") rows)) (first_of (codes "stdin") rows)
 
 -- an end as a word, or both
-abbrev pub end_of_word : List ℕ → Result End Fault
+abbrev pub end_of_word : List ℕ → Result Ends Fault
 end_of_word word =
     if bytes_eq word (codes "terminal") then Ok end.Terminal
     else (if bytes_eq word (codes "card") then Ok end.Card

@@ -27,7 +27,7 @@ pub enum Form {
 
 /// Where octets come from.
 #[derive(Debug, PartialEq, Eq, Drop)]
-pub enum Given {
+pub enum OctetSource {
     /// A word gives them.
     Word(Octets),
     /// They are on standard input, in this form.
@@ -64,13 +64,13 @@ pub(crate) fn read_given(
     alloc: Global,
     hex: Option<&str>,
     form_word: Option<&str>,
-) -> Result<Given, Fault>
+) -> Result<OctetSource, Fault>
     ensures { UnlessMemory result (given_of (option_map (λ word. word.now) hex.entry)
         (option_map (λ word. word.now) form_word.entry)) }
 {
     match (hex, form_word) {
-        (Some(hex), None) => Ok(Given::Word(octets(alloc, hex)?)),
-        (None, Some(word)) => Ok(Given::Read(read_form(word)?)),
+        (Some(hex), None) => Ok(OctetSource::Word(octets(alloc, hex)?)),
+        (None, Some(word)) => Ok(OctetSource::Read(read_form(word)?)),
         _ => Err(Fault::Words),
     }
 }

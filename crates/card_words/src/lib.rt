@@ -17,9 +17,9 @@ mod value;
 pub mod words;
 
 pub use fault::Fault;
-pub use given::{Form, Given};
+pub use given::{Form, OctetSource};
 pub use loose::loose_octets;
 pub use pair_lines::read_pair_lines;
-pub use request::{Aim, Asked, Drawing, End, Expected, FileTask, Kind, Knowns, Request, Task};
+pub use request::{Aim, Asked, Drawing, Ends, Expected, FileTask, Kind, Knowns, Request, Task};
 pub use session::{BlockNumbers, MOST_NAMED, Pair, Pairs, Session, read_blocks};
 pub use words::read;

@@ -3,7 +3,7 @@
 ghost use Rattle.std.specs.Prelude.{◌≡◌};
 
 use crate::fault::Fault;
-use crate::given::Given;
+use crate::given::OctetSource;
 use crate::session::Session;
 use block_core::Number;
 use octet_core::{Listed, Octets, Text};
@@ -30,7 +30,7 @@ pub enum Kind {
 
 /// An end of a line, or both of them.
 #[derive(Clone, Copy, Debug, PartialEq, Eq)]
-pub enum End {
+pub enum Ends {
     /// The terminal's end.
     Terminal,
     /// The card's end.
@@ -62,7 +62,7 @@ pub enum Drawing {
 #[derive(Clone, Copy, Debug, PartialEq, Eq)]
 pub enum FileTask {
     /// Whether the engine of this end, or of each, does what the file says.
-    Replay(End),
+    Replay(Ends),
     /// The file in the newest version.
     Migrate,
     /// Its commands and answers.
@@ -109,7 +109,7 @@ pub enum Asked {
 #[derive(Debug, PartialEq, Eq, Drop)]
 pub enum Request {
     /// What is told of these octets.
-    Tell(Task, Given),
+    Tell(Task, OctetSource),
     /// The blocks of the chain into which a message of at most 131,072 octets is cut.
     BuildChain {
         /// The information size, 1 to 254.
@@ -119,7 +119,7 @@ pub enum Request {
         message: Octets,
     },
     /// The forest that the octets spell, in the shortest octets that say the same.
-    BuildTidy(Given),
+    BuildTidy(OctetSource),
     /// The octets that a data object list asks for.
     BuildFill {
         /// The octets of the list.

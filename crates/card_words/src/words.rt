@@ -13,7 +13,7 @@ use crate::fault::Fault;
 use crate::given::{asks_for_lines, read_given};
 use crate::known::knowns;
 use crate::pair_lines::are_lines;
-use crate::request::{Aim, Asked, Drawing, End, Expected, FileTask, Kind, Request, Task};
+use crate::request::{Aim, Asked, Drawing, Ends, Expected, FileTask, Kind, Request, Task};
 use crate::session::{Session, read_blocks, read_pairs};
 use crate::value::octets;
 use block_core::Number;
@@ -315,13 +315,13 @@ fn kind(word: &str) -> Result<Kind, Fault>
 }
 
 /// An end of a line, or both. `clap` takes any word there.
-fn end(word: &str) -> Result<End, Fault>
+fn end(word: &str) -> Result<Ends, Fault>
     ensures { result ≡ end_of_word word.now }
 {
     match word {
-        "terminal" => Ok(End::Terminal),
-        "card" => Ok(End::Card),
-        "both" => Ok(End::Both),
+        "terminal" => Ok(Ends::Terminal),
+        "card" => Ok(Ends::Card),
+        "both" => Ok(Ends::Both),
         _ => Err(Fault::Words),
     }
 }

@@ -9,7 +9,7 @@ use Rattle.t1_core.specs.declared.turns.CardFault.{CardFault}
 use Rattle.t1_core.specs.Names.{terminal_fault_name, card_fault_name}
 use Rattle.exchange_text.specs.declared.line.Line.{Line}
 use Rattle.exchange_core.specs.declared.end.Effect.TheVariants.{Called}
-use Rattle.exchange_core.specs.Given.{effect_of}
+use Rattle.exchange_core.specs.Output.{effect_of}
 use Rattle.exchange_core.specs.Replay.{called, terminal_end, terminal_gives, card_end, card_gives}
 
 -- what the terminal answers, in the state that it leaves, is what comes of its step

@@ -5,5 +5,5 @@ pub mod Told
 pub mod Recording
 pub mod Records
 -- what the code keeps between calls, what calls answer, and what is printed
-pub mod Given
+pub mod Output
 pub mod Faults

@@ -5,11 +5,11 @@ ghost use Rattle.octet_core.specs.Octets.{AreOctets};
 ghost use Rattle.block_core.specs.Block.{spelling};
 ghost use Rattle.t1_core.specs.Terminal.{terminal_turn, turn_of, state_after};
 ghost use Rattle.t1_core.specs.Card.{card_turn, turn_of as card_turn_of, state_after as card_state_after};
-ghost use Rattle.exchange_core.specs.Given.{line_of};
+ghost use Rattle.exchange_core.specs.Output.{line_of};
 ghost use Rattle.exchange_core.specs.Recording.{arrival_of, damaged_octets, as_lost, as_list, terminal_input, card_input, Turns, terminal_outcome, card_outcome, IfNotMemory};
 
 use crate::event::EventFault;
-use crate::given::Given;
+use crate::output::Output;
 use block_core::{Block, Pcb, encode};
 use exchange_text::{Arrival, Line};
 use octet_core::Octets;
@@ -83,25 +83,25 @@ fn elsewhere(block: &Block) -> Block
     }
 }
 
-impl Given<'_> {
+impl Output<'_> {
     /// The line of what an end gives, where its block is lost.
     pub fn lost(self, alloc: Global) -> Result<Line, AllocError>
         ensures { IfOk result (λ line. line ≡ as_lost (line_of self.entry)) }
     {
         Ok(match self {
-            Given::FromTerminal(block) => Line::FromTerminal {
+            Output::FromTerminal(block) => Line::FromTerminal {
                 sent: spelled(alloc, block)?,
                 arrival: Arrival::Lost,
             },
-            Given::FromCard(block) => Line::FromCard {
+            Output::FromCard(block) => Line::FromCard {
                 sent: spelled(alloc, block)?,
                 arrival: Arrival::Lost,
             },
-            Given::Answer(octets) => Line::Answer(copied(alloc, octets)?),
-            Given::Asked(octets) => Line::Asked(copied(alloc, octets)?),
-            Given::IfsSet => Line::IfsSet,
-            Given::GivenUp => Line::GivenUp,
-            Given::Dead => Line::Dead,
+            Output::Answer(octets) => Line::Answer(copied(alloc, octets)?),
+            Output::Asked(octets) => Line::Asked(copied(alloc, octets)?),
+            Output::IfsSet => Line::IfsSet,
+            Output::GivenUp => Line::GivenUp,
+            Output::Dead => Line::Dead,
         })
     }
 }

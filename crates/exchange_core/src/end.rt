@@ -1,11 +1,11 @@
 //! The two ends, line by line.
 
 ghost use Rattle.std.specs.Prelude.{◌≡◌, ℕ, List};
-ghost use Rattle.exchange_core.specs.Given.{line_of, effect_of};
+ghost use Rattle.exchange_core.specs.Output.{line_of, effect_of};
 ghost use Rattle.exchange_core.specs.Replay.{End, replay_line, terminal_end, card_end};
 ghost use Rattle.t1_core.specs.Names.{terminal_fault_name, card_fault_name};
 
-use crate::given::Given;
+use crate::output::Output;
 use exchange_text::{Arrival, Line};
 use octet_core::Named;
 use t1_core::{Card, CardFault, CardTurn, Terminal, TerminalFault, TerminalTurn};
@@ -46,7 +46,7 @@ pub(crate) trait Replayed {
         ensures { result.now ≡ refusal fault };
 
     /// What a turn gives, while the end is in the state after it.
-    fn given<'a>(&'a self, turn: &'a Self::Turn) -> Given<'a>
+    fn given<'a>(&'a self, turn: &'a Self::Turn) -> Output<'a>
         ensures { line_of result ≡ end.line self.now turn.now };
 }
 
@@ -89,13 +89,13 @@ impl Replayed for Terminal {
         fault.name()
     }
 
-    fn given<'a>(&'a self, turn: &'a TerminalTurn) -> Given<'a> {
+    fn given<'a>(&'a self, turn: &'a TerminalTurn) -> Output<'a> {
         match turn {
-            TerminalTurn::Send(block) => Given::FromTerminal(block),
-            TerminalTurn::Answered => Given::Answer(self.answer().unwrap_or(&[])),
-            TerminalTurn::IfsSet => Given::IfsSet,
-            TerminalTurn::GivenUp => Given::GivenUp,
-            TerminalTurn::Dead => Given::Dead,
+            TerminalTurn::Send(block) => Output::FromTerminal(block),
+            TerminalTurn::Answered => Output::Answer(self.answer().unwrap_or(&[])),
+            TerminalTurn::IfsSet => Output::IfsSet,
+            TerminalTurn::GivenUp => Output::GivenUp,
+            TerminalTurn::Dead => Output::Dead,
         }
     }
 }
@@ -135,10 +135,10 @@ impl Replayed for Card {
         fault.name()
     }
 
-    fn given<'a>(&'a self, turn: &'a CardTurn) -> Given<'a> {
+    fn given<'a>(&'a self, turn: &'a CardTurn) -> Output<'a> {
         match turn {
-            CardTurn::Send(block) => Given::FromCard(block),
-            CardTurn::Asked => Given::Asked(self.command().unwrap_or(&[])),
+            CardTurn::Send(block) => Output::FromCard(block),
+            CardTurn::Asked => Output::Asked(self.command().unwrap_or(&[])),
         }
     }
 }

@@ -8,8 +8,8 @@
 mod carrying;
 mod end;
 pub mod event;
-mod given;
 pub mod laws;
+mod output;
 pub mod params;
 pub mod recording;
 pub mod replaying;

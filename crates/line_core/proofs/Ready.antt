@@ -5,14 +5,14 @@ use Rattle.block_core.specs.Block.{Parts, IsPut, spelling}
 use Rattle.t1_core.specs.Put.{IsTerminalPut}
 use Rattle.t1_core.specs.declared.turns.TerminalTurn.{TerminalTurn}
 use Rattle.t1_core.specs.declared.turns.TerminalTurn.TheVariants.{Send, Answered, IfsSet, GivenUp, Dead}
-use Rattle.t1_core.specs.declared.turns.TerminalPut.{TerminalPut}
+use Rattle.t1_core.specs.declared.turns.EncodedTerminalTurn.{EncodedTerminalTurn}
 use Rattle.t1_core.specs.declared.turns.TerminalFault.{TerminalFault}
 use Rattle.line_core.specs.declared.fault.TransceiveFault.{TransceiveFault}
 use Rattle.line_core.specs.declared.fault.TransceiveFault.TheVariants as fault
 use Rattle.line_core.specs.Exchange.{next_of, IsReady}
 
 -- what the caller is told of a refusal
-abbrev pub lifted : Result TerminalPut TerminalFault → Result TerminalPut TransceiveFault
+abbrev pub lifted : Result EncodedTerminalTurn TerminalFault → Result EncodedTerminalTurn TransceiveFault
 lifted (Ok turn) = Ok turn
 lifted (Err inner) = Err (fault.Refused inner)
 
@@ -20,7 +20,8 @@ front : (sent : Parts) (old new : List ℕ) (count : ℕ) → IsPut sent old new
 front sent old new count is = grind (arith, common_steps, is.counted, is.buffer, is.spells.is)
 
 -- the turn is in the caller's hands: its block is at the front of the buffer, or it ends the exchange
-pub ready : (turn : Result TerminalTurn TerminalFault) (old new : List ℕ) (answer : Result TerminalPut TerminalFault)
+pub ready : (turn : Result TerminalTurn TerminalFault) (old new : List ℕ)
+    (answer : Result EncodedTerminalTurn TerminalFault)
     → IsTerminalPut turn old new answer → IsReady (next_of turn) new (lifted answer)
 ready (Ok (Send sent)) old new answer (count, is, placed) = rw is (sent, refl, front sent old new count placed, refl)
 ready (Ok Answered) old new answer (is, kept) = rw is refl

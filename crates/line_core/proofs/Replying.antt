@@ -6,12 +6,12 @@ use Rattle.t1_core.specs.Put.{IsCardPut}
 use Rattle.t1_core.specs.Card.{CardState, CardStep, host, turn_of, state_after}
 use Rattle.t1_core.specs.declared.turns.CardTurn.{CardTurn}
 use Rattle.t1_core.specs.declared.turns.CardTurn.TheVariants.{Send, Asked}
-use Rattle.t1_core.specs.declared.turns.CardPut.{CardPut}
-use Rattle.t1_core.specs.declared.turns.CardPut.TheVariants as put
+use Rattle.t1_core.specs.declared.turns.EncodedCardTurn.{EncodedCardTurn}
+use Rattle.t1_core.specs.declared.turns.EncodedCardTurn.TheVariants as put
 use Rattle.t1_core.specs.declared.turns.CardFault.{CardFault}
 
 -- the turn, by what the call answers
-abbrev pub IsGiven : Result CardTurn CardFault → List ℕ → Result CardPut CardFault → Type 0
+abbrev pub IsGiven : Result CardTurn CardFault → List ℕ → Result EncodedCardTurn CardFault → Type 0
 IsGiven turn out (Ok (put.Send count)) = (parts : Parts) × (turn ≡ Ok (Send parts)) × (take count out ≡ spelling parts)
 IsGiven turn out (Ok put.Asked) = turn ≡ Ok Asked
 IsGiven turn out (Err inner) = turn ≡ Err inner
@@ -20,7 +20,7 @@ front : (parts : Parts) (old new : List ℕ) (count : ℕ) → IsPut parts old n
 front parts old new count is = grind (arith, common_steps, is.counted, is.buffer, is.spells.is)
 
 -- what the call answers tells the turn, whose block is at the front of the buffer
-pub given : (turn : Result CardTurn CardFault) (old new : List ℕ) (answer : Result CardPut CardFault)
+pub given : (turn : Result CardTurn CardFault) (old new : List ℕ) (answer : Result EncodedCardTurn CardFault)
     → IsCardPut turn old new answer → IsGiven turn new answer
 given (Ok (Send parts)) old new answer (count, is, placed) = rw is (parts, refl, front parts old new count placed)
 given (Ok Asked) old new answer (is, kept) = rw is refl

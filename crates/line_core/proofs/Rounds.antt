@@ -6,7 +6,7 @@ use Rattle.block_core.specs.Block.{Parts}
 use Rattle.t1_core.specs.Card.{CardState, CardStep, card_turn, replies, turn_of, state_after}
 use Rattle.t1_core.specs.declared.turns.CardTurn.{CardTurn}
 use Rattle.t1_core.specs.declared.turns.CardTurn.TheVariants.{Send, Asked}
-use Rattle.t1_core.specs.declared.turns.CardPut.TheVariants as put
+use Rattle.t1_core.specs.declared.turns.EncodedCardTurn.TheVariants as put
 use Rattle.t1_core.specs.declared.turns.CardFault.{CardFault}
 use Rattle.line_core.specs.declared.serving.ServeFault.{ServeFault}
 use Rattle.line_core.specs.declared.serving.ServeFault.TheVariants.{Line, Refused}

@@ -3,8 +3,8 @@ use Rattle.std.proofs.Common.{◌≡◌, ◌≤◌, ℕ, ◌-◌, List, [], ◌�
 use Rattle.std.proofs.lemmas.List.{append-nil}
 use Rattle.block_core.specs.Block.{Parts}
 use Rattle.t1_core.specs.Terminal.{TerminalState}
-use Rattle.t1_core.specs.declared.turns.TerminalPut.{TerminalPut}
-use Rattle.t1_core.specs.declared.turns.TerminalPut.TheVariants as put
+use Rattle.t1_core.specs.declared.turns.EncodedTerminalTurn.{EncodedTerminalTurn}
+use Rattle.t1_core.specs.declared.turns.EncodedTerminalTurn.TheVariants as put
 use Rattle.line_core.specs.declared.fault.TransceiveFault.{TransceiveFault}
 use Rattle.line_core.specs.Line.{Talk, Adds, Arrival}
 use Rattle.line_core.specs.Exchange.{Next, sends, ends, Ending, used_up, Runs, IsSent, IsReady, next_after, left_after}
@@ -19,7 +19,7 @@ pub record Going {A : Type 0} (first now : A → List Talk → Type 0) (most lef
 
 -- The next turn of an exchange under way is in the caller's hands.
 abbrev pub Holds : {A : Type 0} → (A → List Talk → Type 0) → (A → List Talk → Type 0) → ℕ → ℕ → Next → TerminalState
-    → TerminalState → List ℕ → Result TerminalPut TransceiveFault → Type 0
+    → TerminalState → List ℕ → Result EncodedTerminalTurn TransceiveFault → Type 0
 Holds first now most left next start t out turn =
     (here : Next) × Going first now most left next here start t × IsReady here out turn
 
@@ -61,7 +61,7 @@ talks-on first now after most left next start t sent talk some is adds g = recor
 
 -- The exchange ended.
 pub closes : {A : Type 0} (first now : A → List Talk → Type 0) (most left : ℕ) (next : Next) (start t : TerminalState)
-    (out : List ℕ) (turn : Result TerminalPut TransceiveFault) (how : Ending)
+    (out : List ℕ) (turn : Result EncodedTerminalTurn TransceiveFault) (how : Ending)
     → ((here : Next) → IsReady here out turn → here ≡ ends how) → Holds first now most left next start t out turn
     → IsRun first now most next start how t
 closes first now most left next start t out turn how is (here, going, ready) =
@@ -90,14 +90,15 @@ goes-on first now after most left next start t out count waiting arrival some ad
 
 -- What a call of the loop's body promises, with the state that it leaves.
 abbrev pub Talked : {A : Type 0} → (A → List Talk → Type 0) → (A → List Talk → Type 0) → TerminalState → TerminalState
-    → List ℕ → List ℕ → ℕ → ℕ → Result TerminalPut TransceiveFault → Type 0
+    → List ℕ → List ℕ → ℕ → ℕ → Result EncodedTerminalTurn TransceiveFault → Type 0
 Talked now after t t' out out' count waiting turn =
     (arrival : Arrival) × Adds now after (record { sent = take count out; waiting = waiting; arrival = arrival } ∷ [])
     × IsReady (next_after t arrival) out' turn × (t' ≡ left_after t arrival)
 
 -- after such a call the next turn is in the caller's hands again, with one block less left
 pub holds-on : {A : Type 0} (first now after : A → List Talk → Type 0) (most left : ℕ) (next : Next)
-    (start t t' : TerminalState) (out out' : List ℕ) (count waiting : ℕ) (turn : Result TerminalPut TransceiveFault)
+    (start t t' : TerminalState) (out out' : List ℕ) (count waiting : ℕ)
+    (turn : Result EncodedTerminalTurn TransceiveFault)
     → 1 ≤ left → Talked now after t t' out out' count waiting turn
     → Holds first now most left next start t out (Ok (put.Send count waiting))
     → Holds first after most (left - 1) next start t' out' turn

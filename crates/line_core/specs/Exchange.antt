@@ -7,8 +7,8 @@ use Rattle.t1_core.specs.Terminal.{TerminalState, takes, terminal_turn, turn_of,
 use Rattle.t1_core.specs.Waiting.{waiting_times}
 use Rattle.t1_core.specs.declared.turns.TerminalTurn.{TerminalTurn}
 use Rattle.t1_core.specs.declared.turns.TerminalTurn.TheVariants.{Send, Answered, IfsSet, GivenUp, Dead}
-use Rattle.t1_core.specs.declared.turns.TerminalPut.{TerminalPut}
-use Rattle.t1_core.specs.declared.turns.TerminalPut.TheVariants as put
+use Rattle.t1_core.specs.declared.turns.EncodedTerminalTurn.{EncodedTerminalTurn}
+use Rattle.t1_core.specs.declared.turns.EncodedTerminalTurn.TheVariants as put
 use Rattle.t1_core.specs.declared.turns.TerminalFault.{TerminalFault}
 use Rattle.line_core.specs.declared.fault.TransceiveFault.{TransceiveFault}
 use Rattle.line_core.specs.declared.fault.TransceiveFault.TheVariants as fault
@@ -73,14 +73,14 @@ Runs most (ends how) t [] ending left = (ending ≡ how) × (left ≡ t)
 Runs most (ends how) t (talk ∷ talks) ending left = ⊥
 
 -- The next turn is in the caller's hands: the block that is sent at the front of the buffer, or how it ends.
-abbrev pub IsReady : Next → List ℕ → Result TerminalPut TransceiveFault → Type 0
+abbrev pub IsReady : Next → List ℕ → Result EncodedTerminalTurn TransceiveFault → Type 0
 IsReady next out (Ok (put.Send count waiting)) =
     (sent : Parts) × (next ≡ sends sent) × (take count out ≡ spelling sent) × (waiting ≡ waiting_times (Send sent))
 IsReady next out (Ok put.Answered) = next ≡ ends done
 IsReady next out (Ok put.IfsSet) = next ≡ ends done
 IsReady next out (Ok put.GivenUp) = next ≡ ends given_up
 IsReady next out (Ok put.Dead) = next ≡ ends dead
-IsReady next out (Err inner) = next ≡ ends (ending_of {A = TerminalPut} (Err inner))
+IsReady next out (Err inner) = next ≡ ends (ending_of {A = EncodedTerminalTurn} (Err inner))
 
 -- The terminal in state t takes this call: what is added to the line, and the state that it leaves, are those of such a
 -- run.

@@ -13,7 +13,7 @@ ghost use Rattle.line_core.specs.Exchange.{Next, Runs, HasRun, IsAnswer, IsReady
 use crate::fault::TransceiveFault;
 use crate::line::{Received, TerminalLine};
 use block_core::LONGEST_BLOCK;
-use t1_core::{Terminal, TerminalPut};
+use t1_core::{EncodedTerminalTurn, Terminal};
 
 /// The most octets that are taken as one block: one more than the longest block has, so that the front of
 /// a longer one isn't taken for a block.
@@ -109,7 +109,7 @@ pub(crate) fn send_command<L: TerminalLine>(
 fn run<L: TerminalLine>(
     terminal: &mut Terminal,
     line: &mut L,
-    first: TerminalPut,
+    first: EncodedTerminalTurn,
     out: &mut [u8],
     most_blocks: usize,
 ) -> Result<(), TransceiveFault>
@@ -124,14 +124,14 @@ fn run<L: TerminalLine>(
     let mut left = most_blocks;
     loop {
         put = match put {
-            TerminalPut::Send { count, waiting } if left > 0 => {
+            EncodedTerminalTurn::Send { count, waiting } if left > 0 => {
                 left -= 1;
                 talked(terminal, line, count, waiting, out, &mut room)?
             }
-            TerminalPut::Send { .. } => return Err(TransceiveFault::UsedUp),
-            TerminalPut::Answered | TerminalPut::IfsSet => return Ok(()),
-            TerminalPut::GivenUp => return Err(TransceiveFault::GivenUp),
-            TerminalPut::Dead => return Err(TransceiveFault::Dead),
+            EncodedTerminalTurn::Send { .. } => return Err(TransceiveFault::UsedUp),
+            EncodedTerminalTurn::Answered | EncodedTerminalTurn::IfsSet => return Ok(()),
+            EncodedTerminalTurn::GivenUp => return Err(TransceiveFault::GivenUp),
+            EncodedTerminalTurn::Dead => return Err(TransceiveFault::Dead),
         };
     }
 }
@@ -145,7 +145,7 @@ fn talked<L: TerminalLine>(
     waiting: u8,
     out: &mut [u8],
     room: &mut [u8],
-) -> Result<TerminalPut, TransceiveFault>
+) -> Result<EncodedTerminalTurn, TransceiveFault>
     requires room { 258 ≤ length out.old }
     requires count { count ≤ length out.old }
     requires heard { 259 ≤ length room.old }

@@ -13,7 +13,7 @@ use block_core::LONGEST_BLOCK;
 use std::error::Error;
 use std::fmt::{self, Display, Formatter, Write};
 use std::io;
-use t1_core::{Card, CardFault, CardPut};
+use t1_core::{Card, CardFault, EncodedCardTurn};
 
 /// The line of a card: what a card, or a simulator of one, has.
 ///
@@ -170,8 +170,8 @@ fn answer_block<H: Host>(
         events out.new result card.new }
 {
     match card.received_into(octets, out)? {
-        CardPut::Send(count) => Ok(count),
-        CardPut::Asked => Ok(reply_to(card, host, out)?),
+        EncodedCardTurn::Send(count) => Ok(count),
+        EncodedCardTurn::Asked => Ok(reply_to(card, host, out)?),
     }
 }
 
@@ -187,7 +187,7 @@ fn reply_to<H: Host>(card: &mut Card, host: &mut H, out: &mut [u8]) -> Result<us
 {
     host.act(card.command().unwrap_or(&[]));
     match card.reply_into(host.reply(), out)? {
-        CardPut::Send(count) => Ok(count),
-        CardPut::Asked => unreachable!(),
+        EncodedCardTurn::Send(count) => Ok(count),
+        EncodedCardTurn::Asked => unreachable!(),
     }
 }

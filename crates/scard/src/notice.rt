@@ -4,7 +4,7 @@ ghost use Rattle.std.specs.Prelude.{◌↔◌, IsTrue};
 ghost use Rattle.card_words.specs.Given.{IsFromReader};
 ghost use Rattle.card_words.specs.Words.{NeedsFile};
 
-use card_words::{Asked, Given, Request, read};
+use card_words::{Asked, OctetSource, Request, read};
 use std::env;
 use std::io::IsTerminal;
 
@@ -46,8 +46,8 @@ fn needs_file(request: &Request) -> bool
 }
 
 /// Whether octets come from standard input.
-fn is_read(given: &Given) -> bool
+fn is_read(given: &OctetSource) -> bool
     ensures { IsTrue result ↔ IsFromReader given.now }
 {
-    matches!(given, Given::Read(_))
+    matches!(given, OctetSource::Read(_))
 }

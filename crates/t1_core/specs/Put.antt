@@ -4,18 +4,18 @@ use Rattle.std.specs.Prelude.{◌≡◌, ◌≤◌, ℕ, List, Result, Ok, Err}
 use Rattle.block_core.specs.Block.{IsPut}
 use Rattle.t1_core.specs.declared.turns.TerminalTurn.{TerminalTurn}
 use Rattle.t1_core.specs.declared.turns.TerminalTurn.TheVariants.{Send, Answered, IfsSet, GivenUp, Dead}
-use Rattle.t1_core.specs.declared.turns.TerminalPut.{TerminalPut}
-use Rattle.t1_core.specs.declared.turns.TerminalPut.TheVariants as put
+use Rattle.t1_core.specs.declared.turns.EncodedTerminalTurn.{EncodedTerminalTurn}
+use Rattle.t1_core.specs.declared.turns.EncodedTerminalTurn.TheVariants as put
 use Rattle.t1_core.specs.declared.turns.TerminalFault.{TerminalFault}
 use Rattle.t1_core.specs.declared.turns.CardTurn.{CardTurn}
 use Rattle.t1_core.specs.declared.turns.CardTurn.TheVariants as card_turns
-use Rattle.t1_core.specs.declared.turns.CardPut.{CardPut}
-use Rattle.t1_core.specs.declared.turns.CardPut.TheVariants as card_put
+use Rattle.t1_core.specs.declared.turns.EncodedCardTurn.{EncodedCardTurn}
+use Rattle.t1_core.specs.declared.turns.EncodedCardTurn.TheVariants as card_put
 use Rattle.t1_core.specs.declared.turns.CardFault.{CardFault}
 use Rattle.t1_core.specs.Waiting.{waiting_times}
 
 abbrev pub IsTerminalPut : Result TerminalTurn TerminalFault → List ℕ → List ℕ
-    → Result TerminalPut TerminalFault → Type 0
+    → Result EncodedTerminalTurn TerminalFault → Type 0
 IsTerminalPut (Ok (Send block)) old new answer =
     (count : ℕ) × (answer ≡ Ok (put.Send count (waiting_times (Send block)))) × IsPut block old new count
 IsTerminalPut (Ok Answered) old new answer = (answer ≡ Ok put.Answered) × (new ≡ old)
@@ -24,7 +24,7 @@ IsTerminalPut (Ok GivenUp) old new answer = (answer ≡ Ok put.GivenUp) × (new 
 IsTerminalPut (Ok Dead) old new answer = (answer ≡ Ok put.Dead) × (new ≡ old)
 IsTerminalPut (Err fault) old new answer = (answer ≡ Err fault) × (new ≡ old)
 
-abbrev pub IsCardPut : Result CardTurn CardFault → List ℕ → List ℕ → Result CardPut CardFault → Type 0
+abbrev pub IsCardPut : Result CardTurn CardFault → List ℕ → List ℕ → Result EncodedCardTurn CardFault → Type 0
 IsCardPut (Ok (card_turns.Send block)) old new answer =
     (count : ℕ) × (answer ≡ Ok (card_put.Send count)) × IsPut block old new count
 IsCardPut (Ok card_turns.Asked) old new answer = (answer ≡ Ok card_put.Asked) × (new ≡ old)
@@ -34,13 +34,13 @@ IsCardPut (Err fault) old new answer = (answer ≡ Err fault) × (new ≡ old)
 abbrev pub IsBlockLen : ℕ → Type 0
 IsBlockLen count = (4 ≤ count) × (count ≤ 258)
 
-abbrev pub FitsTerminalPut : TerminalPut → Type 0
+abbrev pub FitsTerminalPut : EncodedTerminalTurn → Type 0
 FitsTerminalPut (put.Send count waiting) = IsBlockLen count × (1 ≤ waiting)
 FitsTerminalPut put.Answered = Unit {0}
 FitsTerminalPut put.IfsSet = Unit {0}
 FitsTerminalPut put.GivenUp = Unit {0}
 FitsTerminalPut put.Dead = Unit {0}
 
-abbrev pub FitsCardPut : CardPut → Type 0
+abbrev pub FitsCardPut : EncodedCardTurn → Type 0
 FitsCardPut (card_put.Send count) = IsBlockLen count
 FitsCardPut card_put.Asked = Unit {0}

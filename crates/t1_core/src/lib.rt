@@ -28,6 +28,6 @@ pub use chain_core::{LONGEST_COMMAND, LONGEST_RESPONSE as LONGEST_ANSWER};
 pub use places::{CardPlaces, TerminalPlaces};
 pub use terminal::{FIRST_IFSD, MOST_REPEATS, MOST_RESYNCHS, Terminal};
 pub use turns::{
-    CardAsked, CardAwaits, CardFault, CardPut, CardTurn, CardWait, Cut, TerminalAwaits,
-    TerminalFault, TerminalPut, TerminalTurn, TerminalWait,
+    CardAsked, CardAwaits, CardFault, CardTurn, CardWait, Cut, EncodedCardTurn,
+    EncodedTerminalTurn, TerminalAwaits, TerminalFault, TerminalTurn, TerminalWait,
 };

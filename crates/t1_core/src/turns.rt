@@ -53,7 +53,7 @@ pub(crate) fn granted(pcb: Pcb, inf: &[u8]) -> u8
 
 /// What the terminal does next, where the octets of its block are in the caller's buffer.
 #[derive(Clone, Copy, Debug, PartialEq, Eq)]
-pub enum TerminalPut {
+pub enum EncodedTerminalTurn {
     /// It sends the first `count` octets of the buffer, 4 to 258, and waits for the card. `waiting` is what
     /// [`TerminalTurn::waiting`] says of that turn.
     Send { count: usize, waiting: u8 },
@@ -123,7 +123,7 @@ pub enum CardTurn {
 
 /// What the card does next, where the octets of its block are in the caller's buffer.
 #[derive(Clone, Copy, Debug, PartialEq, Eq)]
-pub enum CardPut {
+pub enum EncodedCardTurn {
     /// It sends the first so many octets of the buffer, 4 to 258, and waits for the terminal.
     Send(usize),
     /// It is the host's turn: it owes the reply to `command`.

@@ -10,7 +10,7 @@ use line_core::{
 use std::alloc::Global;
 use std::io::{self, ErrorKind};
 use std::process::Abort;
-use t1_core::{Card, CardFault, CardPut, Terminal};
+use t1_core::{Card, CardFault, EncodedCardTurn, Terminal};
 
 /// A card at the other end of a line, whose host gives every command the same reply.
 #[derive(Drop)]
@@ -30,9 +30,9 @@ fn is_command(card: &Card, octets: &[u8]) -> bool {
 
 impl Wire<'_> {
     /// What the card says to a block, by its host.
-    fn put(&mut self, block: &[u8], out: &mut Buffer) -> Result<CardPut, CardFault> {
+    fn put(&mut self, block: &[u8], out: &mut Buffer) -> Result<EncodedCardTurn, CardFault> {
         let put = self.card.received_into(block, out);
-        if put != Ok(CardPut::Asked) {
+        if put != Ok(EncodedCardTurn::Asked) {
             return put;
         }
         if !is_command(&self.card, self.command) {
@@ -48,7 +48,7 @@ impl TerminalLine for Wire<'_> {
     fn transceive(&mut self, block: &[u8], _waiting: u8, room: &mut [u8]) -> io::Result<Received> {
         let mut out = [0; 258];
         match self.put(block, &mut out) {
-            Ok(CardPut::Send(count)) => Ok(filled(&out[..count.min(258)], room)),
+            Ok(EncodedCardTurn::Send(count)) => Ok(filled(&out[..count.min(258)], room)),
             _ => Err(ErrorKind::Other.into()),
         }
     }

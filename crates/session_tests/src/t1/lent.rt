@@ -5,18 +5,18 @@ use super::calls::{Call, CardCall};
 use crate::ends::params;
 use std::process::Abort;
 use t1_core::{
-    CardFault, CardPlaces, CardPut, CardWait, TerminalFault, TerminalPlaces, TerminalPut,
-    TerminalWait,
+    CardFault, CardPlaces, CardWait, EncodedCardTurn, EncodedTerminalTurn, TerminalFault,
+    TerminalPlaces, TerminalWait,
 };
 use testing::same;
 
 /// SELECT is sent, and a block that asks for the answer again.
-const SENT: TerminalPut = TerminalPut::Send {
+const SENT: EncodedTerminalTurn = EncodedTerminalTurn::Send {
     count: 9,
     waiting: 1,
 };
 
-const ASKED_AGAIN: TerminalPut = TerminalPut::Send {
+const ASKED_AGAIN: EncodedTerminalTurn = EncodedTerminalTurn::Send {
     count: 4,
     waiting: 1,
 };
@@ -28,7 +28,7 @@ fn put(
     joined: &mut [u8],
     call: Call<'_>,
     out: &mut [u8; 258],
-) -> Option<Result<TerminalPut, TerminalFault>> {
+) -> Option<Result<EncodedTerminalTurn, TerminalFault>> {
     if !t.fits(held.len(), joined.len()) {
         return None;
     }
@@ -72,7 +72,11 @@ impl LentTerminal {
     }
 
     /// Whether a call gives this.
-    fn gives(&mut self, call: Call<'_>, wanted: Result<TerminalPut, TerminalFault>) -> bool {
+    fn gives(
+        &mut self,
+        call: Call<'_>,
+        wanted: Result<EncodedTerminalTurn, TerminalFault>,
+    ) -> bool {
         let LentTerminal {
             places,
             held,
@@ -92,7 +96,12 @@ fn a_lent_terminal(rt: HostRuntime) {
     assert!(rt; t.out.starts_with(&SELECT_BLOCK));
     assert!(rt; awaits_block(&t.places, &t.joined));
     assert!(rt; t.gives(Call::Quiet, Ok(ASKED_AGAIN)));
-    assert!(rt; t.gives(Call::Received(&DONE_BLOCK), Ok(TerminalPut::Answered)));
+    assert!(rt;
+        t.gives(
+            Call::Received(&DONE_BLOCK),
+            Ok(EncodedTerminalTurn::Answered)
+        )
+    );
     assert!(rt; is_answer(&t.places, &t.joined, &DONE));
 }
 
@@ -103,7 +112,7 @@ fn card_put(
     answer: &mut [u8],
     call: CardCall<'_>,
     out: &mut [u8; 258],
-) -> Option<Result<CardPut, CardFault>> {
+) -> Option<Result<EncodedCardTurn, CardFault>> {
     if !c.fits(held.len(), answer.len()) {
         return None;
     }
@@ -142,7 +151,7 @@ impl LentCard {
     }
 
     /// Whether a call gives this.
-    fn gives(&mut self, call: CardCall<'_>, wanted: Result<CardPut, CardFault>) -> bool {
+    fn gives(&mut self, call: CardCall<'_>, wanted: Result<EncodedCardTurn, CardFault>) -> bool {
         let LentCard {
             places,
             held,
@@ -156,10 +165,15 @@ impl LentCard {
 #[test]
 fn a_lent_card(rt: HostRuntime) {
     let mut c = LentCard::new(&rt);
-    assert!(rt; c.gives(CardCall::Received(&SELECT_BLOCK), Ok(CardPut::Asked)));
+    assert!(rt;
+        c.gives(
+            CardCall::Received(&SELECT_BLOCK),
+            Ok(EncodedCardTurn::Asked)
+        )
+    );
     assert!(rt; is_command(&c.places, &c.held, &SELECT));
     assert!(rt; c.gives(CardCall::Reply(&[0; 3]), Err(CardFault::TooLong)));
-    assert!(rt; c.gives(CardCall::Reply(&DONE), Ok(CardPut::Send(6))));
+    assert!(rt; c.gives(CardCall::Reply(&DONE), Ok(EncodedCardTurn::Send(6))));
     assert!(rt; c.out.starts_with(&DONE_BLOCK));
 }
 

@@ -6,7 +6,7 @@ use crate::ends::{card, terminal};
 use block_core::LONGEST_BLOCK;
 use std::alloc::Global;
 use std::process::Abort;
-use t1_core::{Card, CardFault, CardPut, Terminal, TerminalFault, TerminalPut};
+use t1_core::{Card, CardFault, EncodedCardTurn, EncodedTerminalTurn, Terminal, TerminalFault};
 
 /// The octets of a block, in a buffer that had others.
 type Buffer = [u8; LONGEST_BLOCK];
@@ -17,7 +17,11 @@ const EMPTY: Buffer = [0xEE; LONGEST_BLOCK];
 const MORE_TIME: [u8; 5] = [0x00, 0xC3, 0x01, 0x03, 0xC1];
 
 /// What the terminal says to a call.
-fn put(t: &mut Terminal, call: Call<'_>, out: &mut Buffer) -> Result<TerminalPut, TerminalFault> {
+fn put(
+    t: &mut Terminal,
+    call: Call<'_>,
+    out: &mut Buffer,
+) -> Result<EncodedTerminalTurn, TerminalFault> {
     match call {
         Call::Transmit(octets) => t.transmit_into(octets, out),
         Call::AskIfs(size) => t.ask_ifs_into(size, out),
@@ -27,7 +31,11 @@ fn put(t: &mut Terminal, call: Call<'_>, out: &mut Buffer) -> Result<TerminalPut
 }
 
 /// What the card says to a call.
-fn card_put(c: &mut Card, call: CardCall<'_>, out: &mut Buffer) -> Result<CardPut, CardFault> {
+fn card_put(
+    c: &mut Card,
+    call: CardCall<'_>,
+    out: &mut Buffer,
+) -> Result<EncodedCardTurn, CardFault> {
     match call {
         CardCall::Received(octets) => c.received_into(octets, out),
         CardCall::Reply(octets) => c.reply_into(octets, out),
@@ -41,7 +49,7 @@ fn puts(
     t: &mut Terminal,
     call: Call<'_>,
     out: &mut Buffer,
-    wanted: Result<TerminalPut, TerminalFault>,
+    wanted: Result<EncodedTerminalTurn, TerminalFault>,
 ) -> bool {
     put(t, call, out) == wanted
 }
@@ -51,7 +59,7 @@ fn card_puts(
     c: &mut Card,
     call: CardCall<'_>,
     out: &mut Buffer,
-    wanted: Result<CardPut, CardFault>,
+    wanted: Result<EncodedCardTurn, CardFault>,
 ) -> bool {
     card_put(c, call, out) == wanted
 }
@@ -61,15 +69,15 @@ fn holds(buffer: &Buffer, octets: &[u8]) -> bool {
     buffer.starts_with(octets) && buffer.get(octets.len()) == Some(&0xEE)
 }
 
-fn sent(count: usize, waiting: u8) -> Result<TerminalPut, TerminalFault> {
-    Ok(TerminalPut::Send { count, waiting })
+fn sent(count: usize, waiting: u8) -> Result<EncodedTerminalTurn, TerminalFault> {
+    Ok(EncodedTerminalTurn::Send { count, waiting })
 }
 
 #[test]
 fn blocks_put_by_the_terminal(rt: HostRuntime) {
     let mut t = terminal(&rt, rt.alloc());
     let mut out = EMPTY;
-    let answered = Ok(TerminalPut::Answered);
+    let answered = Ok(EncodedTerminalTurn::Answered);
     assert!(rt; puts(&mut t, Call::Transmit(&SELECT), &mut out, sent(9, 1)));
     assert!(rt; holds(&out, &SELECT_BLOCK));
     assert!(rt; puts(&mut t, Call::Received(&MORE_TIME), &mut out, sent(5, 3)));
@@ -90,7 +98,7 @@ fn a_size_put_by_the_terminal(rt: HostRuntime) {
 fn asked(rt: &impl Abort, alloc: Global, out: &mut Buffer) -> Card {
     let mut c = card(rt, alloc);
     let select = CardCall::Received(&SELECT_BLOCK);
-    assert!(rt; card_puts(&mut c, select, out, Ok(CardPut::Asked)));
+    assert!(rt; card_puts(&mut c, select, out, Ok(EncodedCardTurn::Asked)));
     c
 }
 
@@ -100,7 +108,7 @@ fn blocks_put_by_the_card(rt: HostRuntime) {
     let mut c = asked(&rt, rt.alloc(), &mut out);
     assert!(rt; holds(&out, &[]));
     let reply = CardCall::Reply(&DONE);
-    assert!(rt; card_puts(&mut c, reply, &mut out, Ok(CardPut::Send(6))));
+    assert!(rt; card_puts(&mut c, reply, &mut out, Ok(EncodedCardTurn::Send(6))));
     assert!(rt; holds(&out, &DONE_BLOCK));
 }
 
@@ -110,7 +118,7 @@ fn questions_put_by_the_card(rt: HostRuntime) {
     let mut c = asked(&rt, rt.alloc(), &mut out);
     let reserved = Err(CardFault::Reserved);
     assert!(rt; card_puts(&mut c, CardCall::AskIfs(0), &mut out, reserved));
-    let asked = Ok(CardPut::Send(5));
+    let asked = Ok(EncodedCardTurn::Send(5));
     assert!(rt; card_puts(&mut c, CardCall::MoreTime(3), &mut out, asked));
     assert!(rt; holds(&out, &MORE_TIME));
 }

@@ -10,14 +10,18 @@ ghost use Rattle.t1_core.specs.Card.{takes, replies, more_time, ask_ifs, card_tu
 use crate::card::Card;
 use crate::places::CardPlaces;
 use crate::sending::CardAct;
-use crate::turns::{CardFault, CardPut, CardTurn};
+use crate::turns::{CardFault, CardTurn, EncodedCardTurn};
 
 /// Each call does what the one without `_into` does, in the same order of refusals; the octets of the
 /// block are put together once, at the front of `out`, which has room for the longest block, 258 octets.
 /// What follows them stays, and where no block is sent all of it.
 impl Card {
     /// What is sent for these octets of the line, as `received`.
-    pub fn received_into(&mut self, octets: &[u8], out: &mut [u8]) -> Result<CardPut, CardFault>
+    pub fn received_into(
+        &mut self,
+        octets: &[u8],
+        out: &mut [u8],
+    ) -> Result<EncodedCardTurn, CardFault>
         requires room { 258 ≤ length out.old }
         ensures turn { IsCardPut (turn_of
             (card_turn self.old (takes (class_of self.old.ifsc octets.now)))) out.old out.new
@@ -35,7 +39,11 @@ impl Card {
     }
 
     /// The first I-block of a reply, as `reply`.
-    pub fn reply_into(&mut self, octets: &[u8], out: &mut [u8]) -> Result<CardPut, CardFault>
+    pub fn reply_into(
+        &mut self,
+        octets: &[u8],
+        out: &mut [u8],
+    ) -> Result<EncodedCardTurn, CardFault>
         requires room { 258 ≤ length out.old }
         ensures turn { IsCardPut (turn_of (card_turn self.old (replies octets.now))) out.old out.new
             result }
@@ -51,7 +59,11 @@ impl Card {
     }
 
     /// The question for more waiting time, as `more_time`.
-    pub fn more_time_into(&mut self, multiple: u8, out: &mut [u8]) -> Result<CardPut, CardFault>
+    pub fn more_time_into(
+        &mut self,
+        multiple: u8,
+        out: &mut [u8],
+    ) -> Result<EncodedCardTurn, CardFault>
         requires room { 258 ≤ length out.old }
         ensures turn { IsCardPut (turn_of (card_turn self.old (more_time multiple))) out.old out.new
             result }
@@ -67,7 +79,7 @@ impl Card {
     }
 
     /// The question about a size, as `ask_ifs`.
-    pub fn ask_ifs_into(&mut self, size: u8, out: &mut [u8]) -> Result<CardPut, CardFault>
+    pub fn ask_ifs_into(&mut self, size: u8, out: &mut [u8]) -> Result<EncodedCardTurn, CardFault>
         requires room { 258 ≤ length out.old }
         ensures turn { IsCardPut (turn_of (card_turn self.old (ask_ifs size))) out.old out.new
             result }
@@ -89,7 +101,7 @@ impl CardPlaces {
         answer: &[u8],
         octets: &[u8],
         out: &mut [u8],
-    ) -> Result<CardPut, CardFault>
+    ) -> Result<EncodedCardTurn, CardFault>
         requires room { 258 ≤ length out.old }
         requires fit { AreCardPlaces self.old (length held.old) (length answer.now) }
         ensures turn { IsCardPut (turn_of (card_turn (card_held self.old held.old answer.now)
@@ -113,7 +125,7 @@ impl CardPlaces {
         answer: &mut [u8],
         octets: &[u8],
         out: &mut [u8],
-    ) -> Result<CardPut, CardFault>
+    ) -> Result<EncodedCardTurn, CardFault>
         requires room { 258 ≤ length out.old }
         requires fit { AreCardPlaces self.old (length held.now) (length answer.old) }
         ensures turn { IsCardPut (turn_of
@@ -136,7 +148,7 @@ impl CardPlaces {
         answer: &[u8],
         multiple: u8,
         out: &mut [u8],
-    ) -> Result<CardPut, CardFault>
+    ) -> Result<EncodedCardTurn, CardFault>
         requires room { 258 ≤ length out.old }
         requires fit { AreCardPlaces self.old (length held.now) (length answer.now) }
         ensures turn { IsCardPut (turn_of
@@ -159,7 +171,7 @@ impl CardPlaces {
         answer: &[u8],
         size: u8,
         out: &mut [u8],
-    ) -> Result<CardPut, CardFault>
+    ) -> Result<EncodedCardTurn, CardFault>
         requires room { 258 ≤ length out.old }
         requires fit { AreCardPlaces self.old (length held.now) (length answer.now) }
         ensures turn { IsCardPut (turn_of
@@ -184,7 +196,7 @@ impl CardPlaces {
         answer: &[u8],
         acted: Result<CardAct, CardFault>,
         out: &mut [u8],
-    ) -> Result<CardPut, CardFault>
+    ) -> Result<EncodedCardTurn, CardFault>
         requires room { 258 ≤ length out.old }
         requires fit { AreCardPlaces self.now (length held.now) (length answer.now) }
         ensures put { IsCardPut (card_answers (card_held self.now held.now answer.now) acted)
@@ -192,10 +204,10 @@ impl CardPlaces {
         ensures fits { IfOk result FitsCardPut }
     {
         match acted {
-            Ok(CardAct::Send(sent)) => Ok(CardPut::Send(
+            Ok(CardAct::Send(sent)) => Ok(EncodedCardTurn::Send(
                 self.lent(held, answer, &sent).encode_into(out),
             )),
-            Ok(CardAct::Asked) => Ok(CardPut::Asked),
+            Ok(CardAct::Asked) => Ok(EncodedCardTurn::Asked),
             Err(fault) => Err(fault),
         }
     }

@@ -10,7 +10,7 @@ ghost use Rattle.t1_core.specs.Terminal.{takes, transmit, ask_ifs, terminal_turn
 use crate::places::TerminalPlaces;
 use crate::sending::TerminalAct;
 use crate::terminal::Terminal;
-use crate::turns::{TerminalFault, TerminalPut, TerminalTurn, granted};
+use crate::turns::{EncodedTerminalTurn, TerminalFault, TerminalTurn, granted};
 
 /// Each call does what the one without `_into` does, in the same order of refusals; the octets of the
 /// block are put together once, at the front of `out`, which has room for the longest block, 258 octets.
@@ -21,7 +21,7 @@ impl Terminal {
         &mut self,
         command: &[u8],
         out: &mut [u8],
-    ) -> Result<TerminalPut, TerminalFault>
+    ) -> Result<EncodedTerminalTurn, TerminalFault>
         requires room { 258 ≤ length out.old }
         ensures turn { IsTerminalPut (turn_of (terminal_turn self.old (transmit command.now)))
             out.old out.new result }
@@ -38,7 +38,11 @@ impl Terminal {
     }
 
     /// The question about a size, as `ask_ifs`.
-    pub fn ask_ifs_into(&mut self, size: u8, out: &mut [u8]) -> Result<TerminalPut, TerminalFault>
+    pub fn ask_ifs_into(
+        &mut self,
+        size: u8,
+        out: &mut [u8],
+    ) -> Result<EncodedTerminalTurn, TerminalFault>
         requires room { 258 ≤ length out.old }
         ensures turn { IsTerminalPut (turn_of (terminal_turn self.old (ask_ifs size))) out.old
             out.new result }
@@ -54,7 +58,7 @@ impl Terminal {
         &mut self,
         octets: &[u8],
         out: &mut [u8],
-    ) -> Result<TerminalPut, TerminalFault>
+    ) -> Result<EncodedTerminalTurn, TerminalFault>
         requires room { 258 ≤ length out.old }
         ensures turn { IsTerminalPut
             (turn_of (terminal_turn self.old (takes (class_of self.old.ifsd octets.now)))) out.old
@@ -72,7 +76,7 @@ impl Terminal {
     }
 
     /// What is sent where nothing came, as `quiet`.
-    pub fn quiet_into(&mut self, out: &mut [u8]) -> Result<TerminalPut, TerminalFault>
+    pub fn quiet_into(&mut self, out: &mut [u8]) -> Result<EncodedTerminalTurn, TerminalFault>
         requires room { 258 ≤ length out.old }
         ensures turn { IsTerminalPut (turn_of (terminal_turn self.old (takes quiet))) out.old
             out.new result }
@@ -94,7 +98,7 @@ impl TerminalPlaces {
         joined: &[u8],
         command: &[u8],
         out: &mut [u8],
-    ) -> Result<TerminalPut, TerminalFault>
+    ) -> Result<EncodedTerminalTurn, TerminalFault>
         requires room { 258 ≤ length out.old }
         requires fit { AreTerminalPlaces self.old (length held.old) (length joined.now) }
         ensures turn { IsTerminalPut
@@ -117,7 +121,7 @@ impl TerminalPlaces {
         joined: &[u8],
         size: u8,
         out: &mut [u8],
-    ) -> Result<TerminalPut, TerminalFault>
+    ) -> Result<EncodedTerminalTurn, TerminalFault>
         requires room { 258 ≤ length out.old }
         requires fit { AreTerminalPlaces self.old (length held.now) (length joined.now) }
         ensures turn { IsTerminalPut
@@ -140,7 +144,7 @@ impl TerminalPlaces {
         joined: &mut [u8],
         octets: &[u8],
         out: &mut [u8],
-    ) -> Result<TerminalPut, TerminalFault>
+    ) -> Result<EncodedTerminalTurn, TerminalFault>
         requires room { 258 ≤ length out.old }
         requires fit { AreTerminalPlaces self.old (length held.now) (length joined.old) }
         ensures turn { IsTerminalPut
@@ -164,7 +168,7 @@ impl TerminalPlaces {
         held: &[u8],
         joined: &[u8],
         out: &mut [u8],
-    ) -> Result<TerminalPut, TerminalFault>
+    ) -> Result<EncodedTerminalTurn, TerminalFault>
         requires room { 258 ≤ length out.old }
         requires fit { AreTerminalPlaces self.old (length held.now) (length joined.now) }
         ensures turn { IsTerminalPut
@@ -189,7 +193,7 @@ impl TerminalPlaces {
         joined: &[u8],
         acted: Result<TerminalAct, TerminalFault>,
         out: &mut [u8],
-    ) -> Result<TerminalPut, TerminalFault>
+    ) -> Result<EncodedTerminalTurn, TerminalFault>
         requires room { 258 ≤ length out.old }
         requires fit { AreTerminalPlaces self.now (length held.now) (length joined.now) }
         ensures put { IsTerminalPut
@@ -202,12 +206,12 @@ impl TerminalPlaces {
                 let block = self.lent(held, joined, &sent);
                 let waiting = granted(block.pcb(), block.inf());
                 let count = block.encode_into(out);
-                Ok(TerminalPut::Send { count, waiting })
+                Ok(EncodedTerminalTurn::Send { count, waiting })
             }
-            Ok(TerminalAct::Answered) => Ok(TerminalPut::Answered),
-            Ok(TerminalAct::IfsSet) => Ok(TerminalPut::IfsSet),
-            Ok(TerminalAct::GivenUp) => Ok(TerminalPut::GivenUp),
-            Ok(TerminalAct::Dead) => Ok(TerminalPut::Dead),
+            Ok(TerminalAct::Answered) => Ok(EncodedTerminalTurn::Answered),
+            Ok(TerminalAct::IfsSet) => Ok(EncodedTerminalTurn::IfsSet),
+            Ok(TerminalAct::GivenUp) => Ok(EncodedTerminalTurn::GivenUp),
+            Ok(TerminalAct::Dead) => Ok(EncodedTerminalTurn::Dead),
             Err(fault) => Err(fault),
         }
     }

@@ -1,6 +1,6 @@
 use Rattle.std.proofs.lemmas.Result.{err_from_is_err_and}
 use Rattle.std.proofs.Common.{inl, inr, Ok, Err, arith}
-use Rattle.t1_core.specs.declared.turns.TerminalPut.TheVariants as put
+use Rattle.t1_core.specs.declared.turns.EncodedTerminalTurn.TheVariants as put
 use Rattle.line_core.specs.Exchange.{done, given_up, dead}
 use Rattle.line_core.proofs.Running.{begins, closes, stops, holds-on}
 use Rattle.line_core.proofs.exchanging.run.Goals as goal

@@ -2,7 +2,7 @@ use Rattle.std.proofs.Common.{Ok, Err}
 use Rattle.std.proofs.lemmas.Result.{err_from_is_err_and}
 use Rattle.t1_core.specs.Came.{class_of}
 use Rattle.t1_core.specs.Card.{takes, card_turn}
-use Rattle.t1_core.specs.declared.turns.CardPut.TheVariants as put
+use Rattle.t1_core.specs.declared.turns.EncodedCardTurn.TheVariants as put
 use Rattle.t1_core.proofs.Told.{tells}
 use Rattle.line_core.proofs.Replying.{given, waits-for-host}
 use Rattle.line_core.proofs.Rounds.{answers-refused, answers-sent, answers-replied, answers-refused-reply}

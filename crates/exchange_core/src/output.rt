@@ -2,7 +2,7 @@
 
 ghost use Rattle.std.specs.Prelude.{◌≡◌, IfOk, string_bytes, bytes_eq};
 ghost use Rattle.block_core.specs.Block.{spelling};
-ghost use Rattle.exchange_core.specs.Given.{line_of};
+ghost use Rattle.exchange_core.specs.Output.{line_of};
 ghost use Rattle.exchange_core.specs.Replay.{is_met};
 ghost use Rattle.exchange_text.specs.Text.{line_text};
 
@@ -12,7 +12,7 @@ use std::alloc::{AllocError, Global};
 
 /// What an end gives: a turn as its line, with the message of the end lent.
 #[derive(Clone, Copy)]
-pub(crate) enum Given<'a> {
+pub(crate) enum Output<'a> {
     /// The terminal sends this block.
     FromTerminal(&'a Block),
     /// The card sends this block.
@@ -29,31 +29,31 @@ pub(crate) enum Given<'a> {
     Dead,
 }
 
-impl Given<'_> {
+impl Output<'_> {
     /// Whether a line is this one, whatever became of its block on the way.
     pub fn is_met_by(self, line: &Line) -> bool
         ensures { result ≡ is_met (line_of self.entry) line.now }
     {
         match self {
-            Given::FromTerminal(block) => match line {
+            Output::FromTerminal(block) => match line {
                 Line::FromTerminal { sent, .. } => is_spelled(block, sent.get()),
                 _ => false,
             },
-            Given::FromCard(block) => match line {
+            Output::FromCard(block) => match line {
                 Line::FromCard { sent, .. } => is_spelled(block, sent.get()),
                 _ => false,
             },
-            Given::Answer(octets) => match line {
+            Output::Answer(octets) => match line {
                 Line::Answer(recorded) => octets == recorded.get(),
                 _ => false,
             },
-            Given::Asked(octets) => match line {
+            Output::Asked(octets) => match line {
                 Line::Asked(recorded) => octets == recorded.get(),
                 _ => false,
             },
-            Given::IfsSet => matches!(line, Line::IfsSet),
-            Given::GivenUp => matches!(line, Line::GivenUp),
-            Given::Dead => matches!(line, Line::Dead),
+            Output::IfsSet => matches!(line, Line::IfsSet),
+            Output::GivenUp => matches!(line, Line::GivenUp),
+            Output::Dead => matches!(line, Line::Dead),
         }
     }
 
@@ -63,7 +63,7 @@ impl Given<'_> {
     {
         let mut text = String::new(alloc);
         match self {
-            Given::FromTerminal(block) => {
+            Output::FromTerminal(block) => {
                 push_message(
                     alloc,
                     &mut text,
@@ -71,14 +71,14 @@ impl Given<'_> {
                     encode(block).as_slice(),
                 )?
             }
-            Given::FromCard(block) => {
+            Output::FromCard(block) => {
                 push_message(alloc, &mut text, Name::FromCard, encode(block).as_slice())?
             }
-            Given::Answer(octets) => push_message(alloc, &mut text, Name::Answer, octets)?,
-            Given::Asked(octets) => push_message(alloc, &mut text, Name::Asked, octets)?,
-            Given::IfsSet => text.push_str(Name::IfsSet.word())?,
-            Given::GivenUp => text.push_str(Name::GivenUp.word())?,
-            Given::Dead => text.push_str(Name::Dead.word())?,
+            Output::Answer(octets) => push_message(alloc, &mut text, Name::Answer, octets)?,
+            Output::Asked(octets) => push_message(alloc, &mut text, Name::Asked, octets)?,
+            Output::IfsSet => text.push_str(Name::IfsSet.word())?,
+            Output::GivenUp => text.push_str(Name::GivenUp.word())?,
+            Output::Dead => text.push_str(Name::Dead.word())?,
         }
         Ok(text)
     }

@@ -1,5 +1,5 @@
 use Rattle.card_tool.proofs.ByLine.{begun-within, if-err}
-use Rattle.card_tool.proofs.lines.Told.feed.Goals as goal
+use Rattle.card_tool.proofs.lines.LineSession.feed.Goals as goal
 
 pub returns-in_err-take-clause-begun : goal.returns-in_err-take-clause-begun
 returns-in_err-take-clause-begun c =

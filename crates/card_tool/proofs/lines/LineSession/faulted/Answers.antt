@@ -4,7 +4,7 @@ use Rattle.card_kinds.specs.declared.status.Status.TheVariants as ended
 use Rattle.card_tool.specs.Conversations.{told, untold}
 use Rattle.card_tool.specs.LineAnswers.{AreTelling}
 use Rattle.card_tool.proofs.Conversing.{Happens-then}
-use Rattle.card_tool.proofs.lines.Told.faulted.Goals as goal
+use Rattle.card_tool.proofs.lines.LineSession.faulted.Goals as goal
 
 pub returns-in-Ok : goal.returns-in-Ok
 returns-in-Ok g c =

@@ -4,7 +4,7 @@ use Rattle.card_words.specs.declared.fault.Fault.TheVariants.{Memory}
 use Rattle.card_tool.specs.LineAnswers.{all_told, first_told, AreTelling}
 use Rattle.card_kinds.specs.declared.status.Status.TheVariants as ended
 use Rattle.card_tool.proofs.ByLine.{begun-here}
-use Rattle.card_tool.proofs.lines.Told.ended.Goals as goal
+use Rattle.card_tool.proofs.lines.LineSession.ended.Goals as goal
 
 pub returns-in-Ok : goal.returns-in-Ok
 returns-in-Ok g c read written h = record {

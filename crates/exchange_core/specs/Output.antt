@@ -3,15 +3,15 @@ use Rattle.std.specs.Prelude.{ℕ, List, Option, Some, Result, Ok, Err}
 use Rattle.block_core.specs.Block.{spelling}
 use Rattle.exchange_core.specs.declared.end.Effect.{Effect}
 use Rattle.exchange_core.specs.declared.end.Effect.TheVariants.{Passed, Said, Early, Called}
-use Rattle.exchange_core.specs.declared.given.Given.{Given}
-use Rattle.exchange_core.specs.declared.given.Given.TheVariants as given
+use Rattle.exchange_core.specs.declared.output.Output.{Output}
+use Rattle.exchange_core.specs.declared.output.Output.TheVariants as given
 use Rattle.exchange_text.specs.declared.line.Arrival.TheVariants.{Whole}
 use Rattle.exchange_text.specs.declared.line.Line.{Line}
 use Rattle.exchange_text.specs.declared.line.Line.TheVariants.{Answer, IfsSet, GivenUp, Dead, Asked, FromTerminal, FromCard}
 use Rattle.exchange_text.specs.Text.{line_text}
 use Rattle.exchange_core.specs.Replay.{End, gives, passes, by_role, refused}
 
-abbrev pub line_of : Given → Line
+abbrev pub line_of : Output → Line
 line_of (given.FromTerminal block) = FromTerminal (spelling block.now) Whole
 line_of (given.FromCard block) = FromCard (spelling block.now) Whole
 line_of (given.Answer octets) = Answer octets.now

@@ -1,6 +1,6 @@
 use Rattle.std.proofs.Common.{◌≡◌, ◌++◌, ℕ, List, take}
 use Rattle.card_tool.specs.LineAnswers.{HasSaid}
-use Rattle.card_tool.proofs.lines.Told.feed.Given as goal
+use Rattle.card_tool.proofs.lines.LineSession.feed.Given as goal
 
 -- the octets before this one were taken
 abbrev pub invariant-loop-octet : goal.invariant-loop-octet

@@ -1,6 +1,6 @@
 use Rattle.std.proofs.Common.{rules}
 use Rattle.card_tool.proofs.ByLine.{answered-said, octet-kept, octet-left, if-both-ok}
-use Rattle.card_tool.proofs.lines.Told.take.Goals as goal
+use Rattle.card_tool.proofs.lines.LineSession.take.Goals as goal
 
 pub returns-then-octet-eq10-clause-said : goal.returns-then-octet-eq10-clause-said
 returns-then-octet-eq10-clause-said c =

@@ -1,6 +1,6 @@
 use Rattle.std.proofs.Common.{rules}
 use Rattle.card_tool.proofs.ByLine.{all-ended, answered-last, if-ok, no-octets}
-use Rattle.card_tool.proofs.lines.Told.last.Goals as goal
+use Rattle.card_tool.proofs.lines.LineSession.last.Goals as goal
 
 pub returns-then-is_empty-clause-told : goal.returns-then-is_empty-clause-told
 returns-then-is_empty-clause-told c =
