@@ -136,7 +136,7 @@ fn octets_that_are_no_command(rt: HostRuntime) {
 fn comes_back(body: Body, again: Body) -> bool {
     match Command::new(READ, body) {
         Ok(_) => false,
-        Err(body) => body == again,
+        Err(body) => same(body, again),
     }
 }
 
@@ -362,16 +362,26 @@ fn no_response(
     response_read(alloc, reader, 254).err()
 }
 
+/// Whether a chain carries no command, but so many octets of one, and FF is left.
+fn carries_no_command(alloc: Global, octets: &[u8], place: usize) -> bool {
+    let mut reader = reader_of(octets, 4096);
+    let short = ReceiveFault::Apdu(Stop::Short { place });
+    same(no_command(alloc, &mut reader), Some(short)) && is_left(&mut reader)
+}
+
+/// Whether a chain carries no response, but so many octets of one, and FF is left.
+fn carries_no_response(alloc: Global, octets: &[u8], place: usize) -> bool {
+    let mut reader = reader_of(octets, 4096);
+    let short = ReceiveFault::Apdu(Stop::Short { place });
+    same(no_response(alloc, &mut reader), Some(short)) && is_left(&mut reader)
+}
+
 #[test]
 fn chains_that_carry_no_apdu(rt: HostRuntime) {
-    let mut reader = reader_of(&[0x00, 0x00, 0x02, 0x00, 0xA4, 0xA6, 0xFF], 4096);
-    let short = ReceiveFault::Apdu(Stop::Short { place: 2 });
-    assert!(rt; same(no_command(rt.alloc(), &mut reader), Some(short)));
-    assert!(rt; is_left(&mut reader));
-    let mut reader = reader_of(&[0x00, 0x00, 0x01, 0x90, 0x91, 0xFF], 4096);
-    let short = ReceiveFault::Apdu(Stop::Short { place: 1 });
-    assert!(rt; same(no_response(rt.alloc(), &mut reader), Some(short)));
-    assert!(rt; is_left(&mut reader));
+    let command = [0x00, 0x00, 0x02, 0x00, 0xA4, 0xA6, 0xFF];
+    assert!(rt; carries_no_command(rt.alloc(), &command, 2));
+    let response = [0x00, 0x00, 0x01, 0x90, 0x91, 0xFF];
+    assert!(rt; carries_no_response(rt.alloc(), &response, 1));
 }
 
 #[test]

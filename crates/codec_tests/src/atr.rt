@@ -94,17 +94,34 @@ fn has(reader: &AtrReader, octets: &[u8]) -> bool {
     }
 }
 
+/// Whether a reader answers so to each of these pieces, one after another.
+fn feeds_each(reader: &mut AtrReader, pieces: &[(&[u8], Fed)]) -> bool {
+    for &(piece, wanted) in pieces {
+        if !feeds(reader, piece, wanted) {
+            return false;
+        }
+    }
+    true
+}
+
+/// The card with T=1 in pieces up to TCK, and what a reader answers to each.
+const FRONT: [(&[u8], Fed); 3] = [
+    (b"\x3B", Ok((1, false))),
+    (b"", Ok((0, false))),
+    (b"\x80\x81\x31\x20\x45", Ok((5, false))),
+];
+
+/// TCK, and an octet after it.
+const BACK: [(&[u8], Fed); 2] = [(b"\x55\x00", Ok((1, true))), (b"\x00", Ok((0, true)))];
+
 #[test]
 fn fed_in_pieces(rt: HostRuntime) {
     let mut reader = AtrReader::new();
     assert!(rt; ends(&reader, Err(Stop::Short { place: 0 })));
-    assert!(rt; feeds(&mut reader, b"\x3B", Ok((1, false))));
-    assert!(rt; feeds(&mut reader, b"", Ok((0, false))));
-    assert!(rt; feeds(&mut reader, b"\x80\x81\x31\x20\x45", Ok((5, false))));
+    assert!(rt; feeds_each(&mut reader, &FRONT));
     assert!(rt; ends(&reader, Err(Stop::Short { place: 6 })));
     assert!(rt; is_empty(&reader));
-    assert!(rt; feeds(&mut reader, b"\x55\x00", Ok((1, true))));
-    assert!(rt; feeds(&mut reader, b"\x00", Ok((0, true))));
+    assert!(rt; feeds_each(&mut reader, &BACK));
     assert!(rt; ends(&reader, Ok(())));
     assert!(rt; has(&reader, &T1_CARD));
 }

@@ -131,12 +131,21 @@ const BAD_PCB: Stop<BlockReason> = Stop::At {
     reason: BlockReason::BadPcb,
 };
 
+/// Whether a reader refuses each of these pieces so, one after another.
+fn refuses_each(reader: &mut BlockReader, pieces: &[&[u8]]) -> bool {
+    for &piece in pieces {
+        if !feeds(reader, piece, Err(BAD_PCB)) {
+            return false;
+        }
+    }
+    true
+}
+
 #[test]
 fn fed_after_a_refusal(rt: HostRuntime) {
+    const PIECES: [&[u8]; 3] = [&[0x00, 0x83], &[0x00], &[]];
     let mut reader = BlockReader::new(254);
-    assert!(rt; feeds(&mut reader, &[0x00, 0x83], Err(BAD_PCB)));
-    assert!(rt; feeds(&mut reader, &[0x00], Err(BAD_PCB)));
-    assert!(rt; feeds(&mut reader, &[], Err(BAD_PCB)));
+    assert!(rt; refuses_each(&mut reader, &PIECES));
     assert!(rt; ends(&reader, Err(BAD_PCB)));
     assert!(rt; is_empty(&reader));
 }
@@ -237,16 +246,23 @@ const MORE: Pcb = Pcb::Info {
     more: true,
 };
 
+/// Whether a request for fields of 254 octets is put into the front of a buffer that is full of EE.
+fn puts_size(rt: &impl Abort, out: &mut [u8; LONGEST_BLOCK]) -> bool {
+    let size = lent(rt, 0x00, Pcb::Request(S::Ifs), &[0xFE]);
+    same(written(&size, out), 5) && out.starts_with(&[0x00, 0xC1, 0x01, 0xFE, 0x3E, 0xEE])
+}
+
+/// Whether the longest block fills a buffer.
+fn puts_longest(rt: &impl Abort, out: &mut [u8; LONGEST_BLOCK]) -> bool {
+    let longest = lent(rt, 0x12, MORE, &[0xA5; 254]);
+    same(written(&longest, out), LONGEST_BLOCK) && is_written(&longest, out)
+}
+
 #[test]
 fn written_into_a_buffer(rt: HostRuntime) {
     let mut out = [0xEE; LONGEST_BLOCK];
-    let size = lent(&rt, 0x00, Pcb::Request(S::Ifs), &[0xFE]);
-    assert!(rt; same(written(&size, &mut out), 5));
-    assert!(rt; out[..6] == [0x00, 0xC1, 0x01, 0xFE, 0x3E, 0xEE]);
-    let field = [0xA5; 254];
-    let longest = lent(&rt, 0x12, MORE, &field);
-    assert!(rt; same(written(&longest, &mut out), LONGEST_BLOCK));
-    assert!(rt; is_written(&longest, &out));
+    assert!(rt; puts_size(&rt, &mut out));
+    assert!(rt; puts_longest(&rt, &mut out));
 }
 
 /// Whether no block can lend this field.

@@ -119,15 +119,20 @@ fn has_lent(places: &ReceiverPlaces, message: &[u8; 6]) -> bool {
         && same(finish_lent(places, 4), None)
 }
 
+/// Whether the chain is joined in a lent buffer from these two pieces.
+fn is_joined(front: &[u8], back: &[u8]) -> bool {
+    let mut places = ReceiverPlaces::begin(2, Number::Zero, 5);
+    let mut message = [0; 6];
+    takes_front_lent(&mut places, &mut message, front)
+        && takes_back_lent(&mut places, &mut message, back)
+        && has_lent(&places, &message)
+}
+
 #[test]
 fn joined_in_a_lent_buffer(rt: HostRuntime) {
     for cut in 0..CHAIN.len() + 1 {
         let (front, back) = CHAIN.split_at(cut);
-        let mut places = ReceiverPlaces::begin(2, Number::Zero, 5);
-        let mut message = [0; 6];
-        assert!(rt; takes_front_lent(&mut places, &mut message, front));
-        assert!(rt; takes_back_lent(&mut places, &mut message, back));
-        assert!(rt; has_lent(&places, &message));
+        assert!(rt; is_joined(front, back));
     }
 }
 
@@ -352,16 +357,24 @@ const REFUSED: [([u8; 6], usize, ChainReason, u64); 5] = [
     ),
 ];
 
+/// Whether a receiver reads each of these blocks up to the octet that is refused.
+fn reads_up_to_each(receiver: &mut Receiver) -> bool {
+    for (octets, place, reason, given) in &REFUSED {
+        receiver.restart(Number::Zero);
+        if !reads(receiver, octets, stop(*place, *reason), *given) {
+            return false;
+        }
+    }
+    true
+}
+
 #[test]
 fn read_up_to_the_refused_block(rt: HostRuntime) {
     let mut receiver = receiver(&rt, rt.alloc(), 4);
     let refusal = stop(14, ChainReason::TooLong);
     assert!(rt; reads(&mut receiver, &CHAIN, refusal, 15));
     assert!(rt; reads(&mut receiver, &CHAIN, refusal, 0));
-    for (octets, place, reason, given) in &REFUSED {
-        receiver.restart(Number::Zero);
-        assert!(rt; reads(&mut receiver, octets, stop(*place, *reason), *given));
-    }
+    assert!(rt; reads_up_to_each(&mut receiver));
 }
 
 /// Whether a receiver that is done takes nothing from a source of one more chain.

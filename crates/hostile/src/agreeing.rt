@@ -23,7 +23,13 @@ fn all_agree(alloc: Global, kind: Kind, octets: &[u8], answer: &Answer) -> Resul
         place: 0,
         piece: 0,
     };
-    case.expect(alloc, is_said_again(alloc, kind, octets, answer)?)?;
+    let is_said_again = is_said_again(alloc, kind, octets, answer)?;
+    case.expect(alloc, is_said_again)?;
+    readers_agree(alloc, kind, octets, answer)
+}
+
+/// The readers of the kind.
+fn readers_agree(alloc: Global, kind: Kind, octets: &[u8], answer: &Answer) -> Result<(), Fault> {
     if kind.is_fed() {
         is_fed(alloc, kind, octets, answer)?;
     }
@@ -55,13 +61,24 @@ fn is_fed(alloc: Global, kind: Kind, octets: &[u8], answer: &Answer) -> Result<(
         place: 0,
         piece: 0,
     };
-    case.expect(alloc, is_fed_so(alloc, kind, &[octets], answer)?)?;
-    let each: Vec<&[u8]> = octets.chunks(1).collect(alloc)?;
+    let is_so = is_fed_so(alloc, kind, &[octets], answer)?;
+    case.expect(alloc, is_so)?;
     let case = Case {
         what: "fed octet by octet",
         ..case
     };
-    case.expect(alloc, is_fed_so(alloc, kind, each.as_slice(), answer)?)
+    case.expect(alloc, is_fed_by_octets(alloc, kind, octets, answer)?)
+}
+
+/// Whether the readers of a kind say it of octets that come one by one.
+fn is_fed_by_octets(
+    alloc: Global,
+    kind: Kind,
+    octets: &[u8],
+    answer: &Answer,
+) -> Result<bool, Fault> {
+    let each: Vec<&[u8]> = octets.chunks(1).collect(alloc)?;
+    Ok(is_fed_so(alloc, kind, each.as_slice(), answer)?)
 }
 
 /// The readers, fed in two pieces, cut at each place.
@@ -79,7 +96,7 @@ pub(crate) fn agrees_in_two(
             place,
             piece: 0,
         };
-        case.expect(alloc, is_fed_so(alloc, kind, &[front, back], answer)?)?;
+        agrees(alloc, kind, &[front, back], answer, case)?;
     }
     Ok(())
 }
@@ -102,10 +119,21 @@ pub(crate) fn agrees_in_three(
                 place,
                 piece,
             };
-            let pieces = [front, middle, back];
-            case.expect(alloc, is_fed_so(alloc, kind, &pieces, answer)?)?;
+            agrees(alloc, kind, &[front, middle, back], answer, case)?;
             cuts = cuts.saturating_add(1);
         }
     }
     Ok(cuts)
+}
+
+/// The readers, fed these pieces, in a case of such cuts.
+fn agrees(
+    alloc: Global,
+    kind: Kind,
+    pieces: &[&[u8]],
+    answer: &Answer,
+    case: Case<'_>,
+) -> Result<(), Fault> {
+    let is_so = is_fed_so(alloc, kind, pieces, answer)?;
+    case.expect(alloc, is_so)
 }

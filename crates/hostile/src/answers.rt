@@ -6,10 +6,13 @@ use crate::kind::{Answer, Chain, Kind, Reason, Value, stop_of};
 use apdu_core::{
     Body, Command, CommandRef, Response, ResponseRef, Shape, decode_command, decode_response,
 };
+use atr_core::Atr;
+use block_core::Block;
 use chain_core::{LONGEST_MESSAGE, Receiver};
 use octet_core::{Octets, Refused};
 use std::alloc::{AllocError, Global};
-use tlv_core::{Dol, FlatForest};
+use testing::{Size, same};
+use tlv_core::{Dol, FlatForest, Forest};
 
 /// How many octets a forest has at most here.
 pub(crate) const FOREST: usize = 65_536;
@@ -17,19 +20,27 @@ pub(crate) const FOREST: usize = 65_536;
 /// What the first call on a whole list says.
 pub(crate) fn answer(alloc: Global, kind: Kind, octets: &[u8]) -> Result<Answer, AllocError> {
     match kind {
-        Kind::Atr => Ok(match atr_core::decode(octets) {
-            Ok((atr, taken)) => Ok((Value::Atr(atr), taken)),
-            Err(stop) => Err(stop_of(stop, Reason::Atr)),
-        }),
-        Kind::Block(size) => Ok(match block_core::decode(octets, size.octets()) {
-            Ok((block, taken)) => Ok((Value::Block(block), taken)),
-            Err(stop) => Err(stop_of(stop, Reason::Block)),
-        }),
+        Kind::Atr => Ok(atr_answer(octets)),
+        Kind::Block(size) => Ok(block_answer(size, octets)),
         Kind::Chain(chain) => chain_answer(alloc, chain, octets),
         Kind::Command => command_answer(alloc, octets),
         Kind::Response => response_answer(alloc, octets),
         Kind::Forest => forest_answer(alloc, octets),
         Kind::List => list_answer(alloc, octets),
+    }
+}
+
+fn atr_answer(octets: &[u8]) -> Answer {
+    match atr_core::decode(octets) {
+        Ok((atr, taken)) => Ok((Value::Atr(atr), taken)),
+        Err(stop) => Err(stop_of(stop, Reason::Atr)),
+    }
+}
+
+fn block_answer(size: Size, octets: &[u8]) -> Answer {
+    match block_core::decode(octets, size.octets()) {
+        Ok((block, taken)) => Ok((Value::Block(block), taken)),
+        Err(stop) => Err(stop_of(stop, Reason::Block)),
     }
 }
 
@@ -42,15 +53,17 @@ pub(crate) fn receiver(alloc: Global, chain: Chain) -> Result<Receiver, AllocErr
 fn chain_answer(alloc: Global, chain: Chain, octets: &[u8]) -> Result<Answer, AllocError> {
     let mut receiver = receiver(alloc, chain)?;
     let fed = receiver.feed(octets);
-    let said = receiver.finish();
-    Ok(match (fed, said, receiver.message()) {
-        (Ok((taken, _)), Ok(()), Some(message)) => {
-            let message = Octets::of(Vec::from_slice(alloc, message)?);
-            Ok((Value::Message(message), taken))
-        }
-        (Err(stop), _, _) | (_, Err(stop), _) => Err(stop_of(stop, Reason::Chain)),
-        (Ok((taken, _)), Ok(()), None) => Ok((Value::Message(Octets::of(Vec::new(alloc))), taken)),
-    })
+    match (fed, receiver.finish()) {
+        (Ok((taken, _)), Ok(())) => message_answer(alloc, &receiver, taken),
+        (Err(stop), _) | (_, Err(stop)) => Ok(Err(stop_of(stop, Reason::Chain))),
+    }
+}
+
+/// The message of a receiver that took so many octets.
+fn message_answer(alloc: Global, receiver: &Receiver, taken: usize) -> Result<Answer, AllocError> {
+    let message = receiver.message().unwrap_or(&[]);
+    let message = Octets::of(Vec::from_slice(alloc, message)?);
+    Ok(Ok((Value::Message(message), taken)))
 }
 
 fn command_answer(alloc: Global, octets: &[u8]) -> Result<Answer, AllocError> {
@@ -71,24 +84,30 @@ fn response_answer(alloc: Global, octets: &[u8]) -> Result<Answer, AllocError> {
 
 fn forest_answer(alloc: Global, octets: &[u8]) -> Result<Answer, AllocError> {
     match tlv_core::decode(alloc, octets, FOREST) {
-        Ok(forest) => {
-            let spelled = Octets::of(tlv_core::encode(alloc, &forest)?);
-            Ok(Ok((Value::Forest(spelled), octets.len())))
-        }
+        Ok(forest) => spelled_forest(alloc, &forest, octets.len()),
         Err(Refused::Stop(stop)) => Ok(Err(stop_of(stop, Reason::Forest))),
         Err(Refused::Memory) => Err(AllocError),
     }
 }
 
+/// A forest of so many octets, by those that its encoder gives.
+fn spelled_forest(alloc: Global, forest: &Forest, taken: usize) -> Result<Answer, AllocError> {
+    let spelled = Octets::of(tlv_core::encode(alloc, forest)?);
+    Ok(Ok((Value::Forest(spelled), taken)))
+}
+
 fn list_answer(alloc: Global, octets: &[u8]) -> Result<Answer, AllocError> {
     match Dol::decode(alloc, octets) {
-        Ok(list) => {
-            let spelled = Octets::of(list.encode(alloc)?);
-            Ok(Ok((Value::List(spelled), octets.len())))
-        }
+        Ok(list) => spelled_list(alloc, &list, octets.len()),
         Err(Refused::Stop(stop)) => Ok(Err(stop_of(stop, Reason::List))),
         Err(Refused::Memory) => Err(AllocError),
     }
+}
+
+/// A list of so many octets, by those that its encoder gives.
+fn spelled_list(alloc: Global, list: &Dol, taken: usize) -> Result<Answer, AllocError> {
+    let spelled = Octets::of(list.encode(alloc)?);
+    Ok(Ok((Value::List(spelled), taken)))
 }
 
 /// Whether the other calls on a whole list say the same: what the encoder makes of the value, the
@@ -103,22 +122,28 @@ pub(crate) fn is_said_again(
         (Kind::Command, _) => is_lent_command(octets, answer),
         (Kind::Response, _) => is_lent_response(octets, answer),
         (Kind::Forest, _) => is_flat(alloc, octets, answer)?,
-        (Kind::List, Ok((Value::List(spelled), _))) => spelled.get() == octets,
-        (Kind::Atr, Ok((Value::Atr(atr), taken))) => {
-            Some(atr_core::encode(atr).as_slice()) == octets.get(..*taken)
-        }
+        (Kind::List, Ok((Value::List(spelled), _))) => same(spelled.get(), octets),
+        (Kind::Atr, Ok((Value::Atr(atr), taken))) => is_atr_spelled(atr, octets.get(..*taken)),
         (Kind::Block(_), Ok((Value::Block(block), taken))) => {
-            Some(block_core::encode(block).as_slice()) == octets.get(..*taken)
+            is_block_spelled(block, octets.get(..*taken))
         }
         (_, Err(_)) | (Kind::Chain(_), Ok((Value::Message(_), _))) => true,
         _ => false,
     })
 }
 
+fn is_atr_spelled(atr: &Atr, octets: Option<&[u8]>) -> bool {
+    same(Some(atr_core::encode(atr).as_slice()), octets)
+}
+
+fn is_block_spelled(block: &Block, octets: Option<&[u8]>) -> bool {
+    same(Some(block_core::encode(block).as_slice()), octets)
+}
+
 fn is_lent_command(octets: &[u8], answer: &Answer) -> bool {
     match (CommandRef::decode(octets), answer) {
         (Ok(lent), Ok((Value::Command(command), _))) => is_same_command(&lent, command),
-        (Err(stop), Err(said)) => stop_of(stop, Reason::Command) == *said,
+        (Err(stop), Err(said)) => same(stop_of(stop, Reason::Command), *said),
         _ => false,
     }
 }
@@ -134,28 +159,28 @@ fn is_same_command(lent: &CommandRef<'_>, command: &Command) -> bool {
         Body::LongPart { part } => (Shape::LongPart, part.get(), None),
         Body::LongBoth { part, le } => (Shape::LongBoth, part.get(), Some(*le)),
     };
-    lent.header() == command.header()
-        && lent.shape() == shape
-        && lent.part() == part
-        && lent.le() == le
+    same((lent.header(), lent.shape()), (command.header(), shape))
+        && same(lent.part(), part)
+        && same(lent.le(), le)
 }
 
 fn is_lent_response(octets: &[u8], answer: &Answer) -> bool {
     match (ResponseRef::decode(octets), answer) {
         (Ok(lent), Ok((Value::Response(response), _))) => is_same_response(&lent, response),
-        (Err(stop), Err(said)) => stop_of(stop, Reason::Response) == *said,
+        (Err(stop), Err(said)) => same(stop_of(stop, Reason::Response), *said),
         _ => false,
     }
 }
 
 fn is_same_response(lent: &ResponseRef<'_>, response: &Response) -> bool {
-    lent.part() == response.part() && lent.sw1() == response.sw1() && lent.sw2() == response.sw2()
+    same(lent.part(), response.part())
+        && same((lent.sw1(), lent.sw2()), (response.sw1(), response.sw2()))
 }
 
 fn is_flat(alloc: Global, octets: &[u8], answer: &Answer) -> Result<bool, AllocError> {
     match (FlatForest::read(alloc, octets, FOREST), answer) {
-        (Ok(_), Ok((Value::Forest(spelled), _))) => Ok(spelled.get() == octets),
-        (Err(Refused::Stop(stop)), Err(said)) => Ok(stop_of(stop, Reason::Forest) == *said),
+        (Ok(_), Ok((Value::Forest(spelled), _))) => Ok(same(spelled.get(), octets)),
+        (Err(Refused::Stop(stop)), Err(said)) => Ok(same(stop_of(stop, Reason::Forest), *said)),
         (Err(Refused::Memory), _) => Err(AllocError),
         _ => Ok(false),
     }

@@ -30,21 +30,23 @@ pub(crate) fn change_each(
 ) -> Result<String, Fault> {
     let mut changed = Changed::default();
     for vector in vectors {
-        for place in 0..vector.octets.len() {
-            changed = change(alloc, vector, place, share, changed)?;
-        }
+        changed = change_at_each(alloc, vector, share, changed)?;
     }
-    let Changed {
-        accepted,
-        short,
-        refused,
-        lengths,
-        blocks,
-    } = changed;
-    Ok(format!(in alloc;
-        "changed: {accepted} lists accepted, {short} short, {refused} refused; \
-        {lengths} changes of a block's length leave {blocks} blocks"
-    )?)
+    changed.line(alloc)
+}
+
+/// Each octet of a list is set to each other value.
+fn change_at_each(
+    alloc: Global,
+    vector: &Vector,
+    share: Share,
+    changed: Changed,
+) -> Result<Changed, Fault> {
+    let mut changed = changed;
+    for place in 0..vector.octets.len() {
+        changed = change(alloc, vector, place, share, changed)?;
+    }
+    Ok(changed)
 }
 
 /// An octet is set to each other value.
@@ -74,22 +76,23 @@ fn judge(
     changed: Changed,
 ) -> Result<Changed, Fault> {
     let answer = agreed(alloc, kind, octets)?;
-    is_judged(alloc, kind, octets, place, &answer)?;
-    Ok(changed.and(kind, place, &answer))
+    judge_answer(alloc, kind, octets, place, &answer, changed)
 }
 
 /// They are answered so in every two pieces too, and a block is kept out.
-fn is_judged(
+fn judge_answer(
     alloc: Global,
     kind: Kind,
     octets: &[u8],
     place: usize,
     answer: &Answer,
-) -> Result<(), Fault> {
+    changed: Changed,
+) -> Result<Changed, Fault> {
     if kind.is_fed() {
         agrees_in_two(alloc, kind, octets, answer)?;
     }
-    is_kept_out(alloc, kind, octets, place, answer)
+    is_kept_out(alloc, kind, octets, place, answer)?;
+    Ok(changed.and(kind, place, answer))
 }
 
 /// A block with a change outside its length is refused at a place.
@@ -114,6 +117,21 @@ fn is_kept_out(
 }
 
 impl Changed {
+    /// The line of what was said.
+    fn line(self, alloc: Global) -> Result<String, Fault> {
+        let Changed {
+            accepted,
+            short,
+            refused,
+            lengths,
+            blocks,
+        } = self;
+        Ok(format!(in alloc;
+            "changed: {accepted} lists accepted, {short} short, {refused} refused; \
+            {lengths} changes of a block's length leave {blocks} blocks"
+        )?)
+    }
+
     /// With one answer more.
     fn and(self, kind: Kind, place: usize, answer: &Answer) -> Changed {
         let mut changed = self;

@@ -19,15 +19,29 @@ struct Fronts {
 pub(crate) fn cut_each(alloc: Global, vectors: &[Vector]) -> Result<String, Fault> {
     let mut fronts = Fronts::default();
     for vector in vectors {
-        for place in 0..vector.octets.len() {
-            let (front, _) = vector.octets.as_slice().split_at(place);
-            fronts = cut(alloc, vector.kind, front, fronts)?;
-        }
+        fronts = cut_at_each(alloc, vector.kind, vector.octets.as_slice(), fronts)?;
     }
-    let Fronts { short, accepted } = fronts;
-    Ok(format!(in alloc;
-        "cut: {short} fronts short at their length, {accepted} accepted as shorter values"
-    )?)
+    fronts.line(alloc)
+}
+
+impl Fronts {
+    /// The line of these fronts.
+    fn line(self, alloc: Global) -> Result<String, Fault> {
+        let Fronts { short, accepted } = self;
+        Ok(format!(in alloc;
+            "cut: {short} fronts short at their length, {accepted} accepted as shorter values"
+        )?)
+    }
+}
+
+/// Each front of octets but the whole.
+fn cut_at_each(alloc: Global, kind: Kind, octets: &[u8], fronts: Fronts) -> Result<Fronts, Fault> {
+    let mut fronts = fronts;
+    for place in 0..octets.len() {
+        let (front, _) = octets.split_at(place);
+        fronts = cut(alloc, kind, front, fronts)?;
+    }
+    Ok(fronts)
 }
 
 /// One front more.

@@ -1,12 +1,15 @@
 //! Input without an end.
 
+ghost use Rattle.std.specs.Prelude.{◌≤◌, length};
+
+use crate::act;
 use crate::program::words;
 use atr_core::AtrReader;
 use block_core::{BlockReader, Number};
-use card_tool::{Status, run};
+use card_tool::Status;
 use chain_core::{ChainReason, ReadRefusal, Receiver, read_chain};
 use octet_core::{After, Counted, Feeder, Stop, Taker};
-use std::alloc::Global;
+use std::alloc::{AllocError, Global};
 use testing::{Case, Fault, Share};
 use tlv_core::{ForestCheck, TlvReason};
 
@@ -28,46 +31,77 @@ pub(crate) fn end_each(alloc: Global, share: Share) -> Result<String, Fault> {
     let given = chain(alloc)?;
     let mut most = 0u64;
     for text in TEXTS.iter().take(share.most(TEXTS.len())) {
-        for line in [
-            "replay --end terminal",
-            "replay --end card",
-            "migrate",
-            "apdus",
-            "record 3B808131204555",
-        ] {
-            most = most.max(file(alloc, line, text)?);
-        }
+        most = most.max(files(alloc, text)?);
     }
     let pieces = forest(alloc)?;
     fixed(alloc)?;
+    line_of(alloc, given, most, pieces)
+}
+
+/// The line of so many octets.
+fn line_of(alloc: Global, given: u64, most: u64, pieces: usize) -> Result<String, Fault> {
     Ok(format!(in alloc;
         "endless: {given} octets of a chain, {most} of a file, {pieces} of a forest, \
         one answer to reset, one block"
     )?)
 }
 
+/// The command lines that read a file.
+const LINES: [&str; 5] = [
+    "replay --end terminal",
+    "replay --end card",
+    "migrate",
+    "apdus",
+    "record 3B808131204555",
+];
+
+/// A file that begins so is too large for each of them: how many octets were read at most.
+fn files(alloc: Global, text: &str) -> Result<u64, Fault> {
+    let mut most = 0u64;
+    for &line in &LINES {
+        most = most.max(file(alloc, line, text)?);
+    }
+    Ok(most)
+}
+
 /// A chain of empty blocks is refused at its last block: how many octets were read. The first three
 /// octets of a block are asked for by one call, so one octet after the refused one is read where
 /// they come by one call.
 fn chain(alloc: Global) -> Result<u64, Fault> {
-    let mut given = 0;
-    for (step, read) in [(1, 524_286), (8, 524_287)] {
-        let mut receiver = Receiver::new(alloc, 254, Number::Zero, 0)?;
-        let mut reader = Counted::new(Feeder::new(&BLOCKS, step, After::Repeats));
-        let said = read_chain(&mut reader, &mut receiver);
-        let place = 524_285;
-        let reason = ChainReason::TooManyBlocks;
-        given = reader.into_inner().given();
-        let case = Case {
-            what: "an endless chain",
-            octets: &BLOCKS,
-            place,
-            piece: step,
-        };
-        let stop = Stop::At { place, reason };
-        case.expect(alloc, said == Err(ReadRefusal::Stop(stop)) && given == read)?;
-    }
+    chain_by(alloc, 1, 524_286)?;
+    chain_by(alloc, 8, 524_287)
+}
+
+/// Where and why a chain of empty blocks is refused.
+const TOO_MANY_BLOCKS: Stop<ChainReason> = Stop::At {
+    place: 524_285,
+    reason: ChainReason::TooManyBlocks,
+};
+
+/// A chain of empty blocks that come by so many octets is refused once so many were read.
+fn chain_by(alloc: Global, step: usize, read: u64) -> Result<u64, Fault>
+    requires { 1 ≤ step }
+{
+    let (said, given) = chain_read(alloc, step)?;
+    let case = Case {
+        what: "an endless chain",
+        octets: &BLOCKS,
+        place: 524_285,
+        piece: step,
+    };
+    let is_refused = said == Err(ReadRefusal::Stop(TOO_MANY_BLOCKS));
+    case.expect(alloc, is_refused && given == read)?;
     Ok(given)
+}
+
+/// What reading a chain of empty blocks gives that come by so many octets, and how many were read.
+fn chain_read(alloc: Global, step: usize) -> Result<(Result<(), ReadRefusal>, u64), AllocError>
+    requires { 1 ≤ step }
+{
+    let mut receiver = Receiver::new(alloc, 254, Number::Zero, 0)?;
+    let mut reader = Counted::new(Feeder::new(&BLOCKS, step, After::Repeats));
+    let said = read_chain(&mut reader, &mut receiver);
+    Ok((said, reader.into_inner().given()))
 }
 
 /// A file without an end is too large: how many octets were read.
@@ -76,24 +110,29 @@ fn file(alloc: Global, line: &str, text: &str) -> Result<u64, Fault> {
     if octets.is_empty() {
         return Err(Fault::Stream);
     }
-    let mut reader = Counted::new(Feeder::new(octets, 4096, After::Repeats));
-    let mut writer = Counted::new(Taker::new(4096, 4096, After::End));
-    let status = run(alloc, words(alloc, line)?, &mut reader, &mut writer);
-    let given = reader.into_inner().given();
-    let taker = writer.into_inner();
+    let (is_too_large, given) = file_read(alloc, words(alloc, line)?, octets);
     let case = Case {
         what: "an endless file",
         octets,
         place: 0,
         piece: 0,
     };
-    case.expect(
-        alloc,
-        status == Status::Fault
-            && taker.kept() == b"fault: TooLarge\n".as_slice()
-            && given <= LARGEST,
-    )?;
+    case.expect(alloc, is_too_large && given <= LARGEST)?;
     Ok(given)
+}
+
+/// Whether the program says of octets that come again and again that they are too large, and how many it read.
+fn file_read(alloc: Global, words: Vec<String>, octets: &[u8]) -> (bool, u64)
+    requires { 1 ≤ length octets.now }
+{
+    let mut reader = Counted::new(Feeder::new(octets, 4096, After::Repeats));
+    let mut writer = Counted::new(Taker::new(4096, 4096, After::End));
+    let status = act(alloc, words, &mut reader, &mut writer);
+    let is_told = writer.into_inner().kept() == b"fault: TooLarge\n".as_slice();
+    (
+        status == Status::Fault && is_told,
+        reader.into_inner().given(),
+    )
 }
 
 /// Fillers without an end are refused at the limit: how many were taken.

@@ -9,7 +9,8 @@ use block_core::BlockReader;
 use chain_core::{ReadRefusal, Receiver, read_chain};
 use octet_core::{After, Counted, Feeder, Refused, Stop};
 use std::alloc::{AllocError, Global};
-use tlv_core::{ForestCheck, ForestReader, TlvReason, encode};
+use testing::same;
+use tlv_core::{Forest, ForestCheck, ForestReader, TlvReason, encode};
 
 /// A reader that is fed in pieces.
 trait Reader {
@@ -80,14 +81,14 @@ fn fed<R: Reader>(reader: &mut R, pieces: &[&[u8]]) -> Option<Result<usize, Stop
                 is_done = done;
             }
             (Err(stop), None) if !is_done => refusal = Some(stop),
-            (Err(stop), Some(first)) if stop == first => {}
+            (Err(stop), Some(first)) if same(stop, first) => {}
             _ => return None,
         }
     }
     match (reader.ends(), refusal) {
         (Ok(()), None) => Some(Ok(total)),
         (Err(stop), None) if !is_done => Some(Err(stop)),
-        (Err(stop), Some(first)) if stop == first => Some(Err(stop)),
+        (Err(stop), Some(first)) if same(stop, first) => Some(Err(stop)),
         _ => None,
     }
 }
@@ -96,7 +97,7 @@ fn fed<R: Reader>(reader: &mut R, pieces: &[&[u8]]) -> Option<Result<usize, Stop
 fn is_same(said: Option<Result<usize, Stop<Reason>>>, answer: &Answer) -> bool {
     match (said, answer) {
         (Some(Ok(taken)), Ok((_, whole))) => taken == *whole,
-        (Some(Err(stop)), Err(whole)) => stop == *whole,
+        (Some(Err(stop)), Err(whole)) => same(stop, *whole),
         _ => false,
     }
 }
@@ -125,7 +126,7 @@ fn is_atr_so(pieces: &[&[u8]], answer: &Answer) -> bool {
     let said = fed(&mut reader, pieces);
     is_same(said, answer)
         && match answer {
-            Ok((Value::Atr(atr), _)) => reader.value() == Some(atr),
+            Ok((Value::Atr(atr), _)) => same(reader.value(), Some(atr)),
             _ => reader.value().is_none(),
         }
 }
@@ -138,7 +139,7 @@ fn is_block_so(size: u8, pieces: &[&[u8]], answer: &Answer) -> bool
     let said = fed(&mut reader, pieces);
     is_same(said, answer)
         && match answer {
-            Ok((Value::Block(block), _)) => reader.value() == Some(block),
+            Ok((Value::Block(block), _)) => same(reader.value(), Some(block)),
             _ => reader.value().is_none(),
         }
 }
@@ -157,7 +158,7 @@ fn is_chain_so(
 /// Whether a receiver has the message of an answer, and none where that is no value.
 fn is_message_so(receiver: &Receiver, answer: &Answer) -> bool {
     match answer {
-        Ok((Value::Message(message), _)) => receiver.message() == Some(message.get()),
+        Ok((Value::Message(message), _)) => same(receiver.message(), Some(message.get())),
         _ => receiver.message().is_none(),
     }
 }
@@ -179,7 +180,7 @@ pub(crate) fn is_read_so(
     let given = reader.into_inner().given();
     let is_said = match (said, answer) {
         (Ok(()), Ok((_, taken))) => given == *taken as u64,
-        (Err(ReadRefusal::Stop(stop)), Err(whole)) => stop_of(stop, Reason::Chain) == *whole,
+        (Err(ReadRefusal::Stop(stop)), Err(whole)) => same(stop_of(stop, Reason::Chain), *whole),
         _ => false,
     };
     Ok(is_said && is_message_so(&receiver, answer))
@@ -188,18 +189,36 @@ pub(crate) fn is_read_so(
 /// Whether the tree that is read in pieces is the one of the whole list.
 fn is_tree_so(alloc: Global, pieces: &[&[u8]], answer: &Answer) -> Result<bool, AllocError> {
     let mut reader = ForestReader::new(alloc, FOREST)?;
-    let Some(refusal) = grown(&mut reader, pieces)? else {
-        return Ok(false);
-    };
-    match (reader.finish(), answer) {
+    let grown = grown(&mut reader, pieces);
+    match grown? {
+        Some(refusal) => is_forest_so(alloc, reader.finish(), refusal, answer),
+        None => Ok(false),
+    }
+}
+
+/// Whether what a forest's reader says in the end, after such a refusal, is what the whole list's answer says.
+fn is_forest_so(
+    alloc: Global,
+    said: Result<Forest, Stop<TlvReason>>,
+    refusal: Option<Stop<TlvReason>>,
+    answer: &Answer,
+) -> Result<bool, AllocError> {
+    match (said, answer) {
         (Ok(forest), Ok((Value::Forest(spelled), _))) => {
-            Ok(refusal.is_none() && encode(alloc, &forest)?.as_slice() == spelled.get())
+            let is_spelled = is_spelled(alloc, &forest, spelled.get());
+            Ok(is_spelled? && refusal.is_none())
         }
         (Err(stop), Err(whole)) => Ok(
-            (refusal.is_none() || refusal == Some(stop)) && stop_of(stop, Reason::Forest) == *whole,
+            (refusal.is_none() || same(refusal, Some(stop)))
+                && same(stop_of(stop, Reason::Forest), *whole),
         ),
         _ => Ok(false),
     }
+}
+
+/// Whether a forest is spelled by these octets.
+fn is_spelled(alloc: Global, forest: &Forest, octets: &[u8]) -> Result<bool, AllocError> {
+    Ok(same(encode(alloc, forest)?.as_slice(), octets))
 }
 
 /// The refusal of a forest's reader that was fed the pieces, where there was one; none at all where
@@ -214,7 +233,7 @@ fn grown(
             (Ok(()), None) => {}
             (Err((_, Refused::Memory)), _) => return Err(AllocError),
             (Err((_, Refused::Stop(stop))), None) => refusal = Some(stop),
-            (Err((0, Refused::Stop(stop))), Some(first)) if stop == first => {}
+            (Err((0, Refused::Stop(stop))), Some(first)) if same(stop, first) => {}
             _ => return Ok(None),
         }
     }

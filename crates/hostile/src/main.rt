@@ -17,6 +17,9 @@ mod program;
 mod streams;
 mod vectors;
 
+use card_tool::{Status, run};
+use octet_core::{Counted, Feeder, Taker};
+use std::alloc::Global;
 use std::io;
 use std::process::ExitCode;
 use testing::{Fault, asked};
@@ -29,6 +32,17 @@ fn main(rt: HostRuntime) -> io::Result<ExitCode> {
             Ok(ExitCode::from(1))
         }
     }
+}
+
+/// The status of the program on these words. It is called here alone, since it takes long to be proved where much else
+/// is known.
+fn act(
+    alloc: Global,
+    words: Vec<String>,
+    reader: &mut Counted<Feeder<'_>>,
+    writer: &mut Counted<Taker>,
+) -> Status {
+    run(alloc, words, reader, writer)
 }
 
 /// Prints the line of each list.

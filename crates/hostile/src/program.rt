@@ -1,6 +1,7 @@
 //! The program, over writers that fail.
 
-use card_tool::{Status, run};
+use crate::act;
+use card_tool::Status;
 use octet_core::{After, Counted, Feeder, Taker};
 use std::alloc::{AllocError, Global};
 use testing::{Case, Fault, Share};
@@ -54,42 +55,82 @@ const LINES: [&str; 38] = [
 
 /// Each text is cut short by a writer that fails after each number of its octets.
 pub(crate) fn fail_each(alloc: Global, share: Share) -> Result<String, Fault> {
+    fail_in_each(alloc, &LINES, share)
+}
+
+/// The text of each of these lines is cut short.
+fn fail_in_each(alloc: Global, lines: &[&str], share: Share) -> Result<String, Fault> {
     let mut writers = 0u64;
-    for &line in &LINES {
-        let (text, _) = told(alloc, line, 4096, 4096, Failing::Fails)?;
-        for place in 0..text.len() {
-            if share.has(place) {
-                writers = writers.saturating_add(fail_at(alloc, line, text.as_slice(), place)?);
-            }
-        }
+    for &line in lines {
+        writers = writers.saturating_add(fail_in(alloc, line, share)?);
     }
-    let count = LINES.len();
+    told_line(alloc, writers, lines.len())
+}
+
+/// The line of so many writers.
+fn told_line(alloc: Global, writers: u64, count: usize) -> Result<String, Fault> {
     Ok(format!(in alloc;
         "program: {writers} writers failed within the texts of {count} command lines"
     )?)
 }
 
+/// The text of a command line is cut short after each number of octets: how many writers failed.
+fn fail_in(alloc: Global, line: &str, share: Share) -> Result<u64, Fault> {
+    let (text, _) = told(alloc, line, 4096, 4096, Failing::Fails)?;
+    fail_at_each(alloc, line, text.as_slice(), share)
+}
+
+/// The same of this text.
+fn fail_at_each(alloc: Global, line: &str, text: &[u8], share: Share) -> Result<u64, Fault> {
+    let mut writers = 0u64;
+    for place in 0..text.len() {
+        if share.has(place) {
+            writers = writers.saturating_add(fail_at(alloc, line, text, place)?);
+        }
+    }
+    Ok(writers)
+}
+
+/// How many octets each writer takes by a call at most, and how it fails.
+const WRITERS: [(usize, Failing); 4] = [
+    (4096, Failing::Fails),
+    (1, Failing::Fails),
+    (7, Failing::Interrupted),
+    (7, Failing::TakesNothing),
+];
+
 /// The text of a command line is cut short after so many octets by writers of each kind: how many.
 fn fail_at(alloc: Global, line: &str, text: &[u8], place: usize) -> Result<u64, Fault> {
     let mut writers = 0u64;
-    for (step, failing) in [
-        (4096, Failing::Fails),
-        (1, Failing::Fails),
-        (7, Failing::Interrupted),
-        (7, Failing::TakesNothing),
-    ] {
-        let (kept, status) = told(alloc, line, place, step, failing)?;
-        let is_right = status == Status::Fault && Some(kept.as_slice()) == text.get(..place);
-        let case = Case {
-            what: "the program over a writer that fails",
-            octets: line.as_bytes(),
-            place,
-            piece: step,
-        };
-        case.expect(alloc, is_right)?;
+    for &(step, failing) in &WRITERS {
+        let is_right = is_cut(alloc, line, text, place, step, failing)?;
+        case_of(line, place, step).expect(alloc, is_right)?;
         writers = writers.saturating_add(1);
     }
     Ok(writers)
+}
+
+/// The case of a command line whose writer fails after so many octets.
+fn case_of(line: &str, place: usize, step: usize) -> Case<'_> {
+    Case {
+        what: "the program over a writer that fails",
+        octets: line.as_bytes(),
+        place,
+        piece: step,
+    }
+}
+
+/// Whether the text of a command line is cut short after so many octets, and the status says so.
+fn is_cut(
+    alloc: Global,
+    line: &str,
+    text: &[u8],
+    place: usize,
+    step: usize,
+    failing: Failing,
+) -> Result<bool, Fault> {
+    let (kept, status) = told(alloc, line, place, step, failing)?;
+    Ok(status == Status::Fault && Some(kept.as_slice()) == text.get(..place))
 }
 
 /// How a writer fails.
@@ -108,16 +149,30 @@ fn told(
     step: usize,
     failing: Failing,
 ) -> Result<(Vec<u8>, Status), Fault> {
+    let words = words(alloc, line)?;
+    Ok(told_of(alloc, words, taker(room, step, failing))?)
+}
+
+/// A writer with so much room, which takes so many octets by a call at most.
+fn taker(room: usize, step: usize, failing: Failing) -> Taker {
     let room = room.min(4096);
     let step = step.max(1);
-    let taker = match failing {
+    match failing {
         Failing::Fails => Taker::new(room, step, After::Fails),
         Failing::Interrupted => Taker::new(room, step, After::Interrupted),
         Failing::TakesNothing => Taker::new(room, step, After::End),
-    };
+    }
+}
+
+/// What a writer holds after these words, and the program's status.
+fn told_of(
+    alloc: Global,
+    words: Vec<String>,
+    taker: Taker,
+) -> Result<(Vec<u8>, Status), AllocError> {
     let mut reader = Counted::new(Feeder::new(FILE.as_bytes(), 64, After::End));
     let mut writer = Counted::new(taker);
-    let status = run(alloc, words(alloc, line)?, &mut reader, &mut writer);
+    let status = act(alloc, words, &mut reader, &mut writer);
     let kept = Vec::from_slice(alloc, writer.into_inner().kept())?;
     Ok((kept, status))
 }

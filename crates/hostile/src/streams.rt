@@ -93,22 +93,72 @@ fn each_reader_fails(alloc: Global, carried: &Carried) -> Result<u64, Fault> {
 /// Writers that fail, are interrupted, or take nothing more, after so many octets: how many.
 fn writers_fail(alloc: Global, carried: &Carried, place: usize) -> Result<u64, Fault> {
     let mut writers = 0u64;
-    for step in [1, 3, 64] {
-        for after in [Failing::Fails, Failing::Interrupted, Failing::End] {
-            let case = Case {
-                what: "a writer that fails",
-                octets: carried.chain.as_slice(),
-                place,
-                piece: step,
-            };
-            let is_right = is_left_at(alloc, carried, place, step, after)?
-                && is_not_tried_again(alloc, carried, place, step, after)?;
-            case.expect(alloc, is_right)?;
-            writers = writers.saturating_add(2);
-        }
+    for &(step, after) in &FAILING {
+        let is_right = does_writer(alloc, carried, place, step.octets(), after)?;
+        let case = case_of("a writer that fails", carried, place, step.octets());
+        case.expect(alloc, is_right)?;
+        writers = writers.saturating_add(2);
     }
     Ok(writers)
 }
+
+/// The case of a stream that fails after so many octets.
+fn case_of<'a>(what: &'static str, carried: &'a Carried, place: usize, step: usize) -> Case<'a> {
+    Case {
+        what,
+        octets: carried.chain.as_slice(),
+        place,
+        piece: step,
+    }
+}
+
+/// Whether a writer that fails does so as it should, for good and once.
+fn does_writer(
+    alloc: Global,
+    carried: &Carried,
+    place: usize,
+    step: usize,
+    after: Failing,
+) -> Result<bool, Fault>
+    requires { 1 ≤ step }
+{
+    let is_left = is_left_at(alloc, carried, place, step, after)?;
+    let is_once = is_not_tried_again(alloc, carried, place, step, after)?;
+    Ok(is_left && is_once)
+}
+
+/// How many octets a device gives or takes by a call at most.
+#[derive(Clone, Copy)]
+enum Step {
+    One,
+    Three,
+    Many,
+}
+
+impl Step {
+    fn octets(self) -> usize
+        ensures { 1 ≤ result }
+    {
+        match self {
+            Step::One => 1,
+            Step::Three => 3,
+            Step::Many => 64,
+        }
+    }
+}
+
+/// Each way to give or take octets, and to fail.
+const FAILING: [(Step, Failing); 9] = [
+    (Step::One, Failing::Fails),
+    (Step::One, Failing::Interrupted),
+    (Step::One, Failing::End),
+    (Step::Three, Failing::Fails),
+    (Step::Three, Failing::Interrupted),
+    (Step::Three, Failing::End),
+    (Step::Many, Failing::Fails),
+    (Step::Many, Failing::Interrupted),
+    (Step::Many, Failing::End),
+];
 
 /// How a device fails.
 #[derive(Clone, Copy)]
@@ -211,24 +261,29 @@ fn response(alloc: Global) -> Result<Response, Fault> {
 /// Readers that fail, are interrupted, or end, after so many octets: how many.
 fn readers_fail(alloc: Global, carried: &Carried, place: usize) -> Result<u64, Fault> {
     let mut readers = 0u64;
-    for step in [1, 3, 64] {
-        for after in [Failing::Fails, Failing::Interrupted, Failing::End] {
-            let case = Case {
-                what: "a reader that fails",
-                octets: carried.chain.as_slice(),
-                place,
-                piece: step,
-            };
-            case.expect(
-                alloc,
-                is_read_until(alloc, carried, place, step, after)?
-                    && is_left_to_read(alloc, carried, place, step, after)?
-                    && is_gone_on_with(alloc, carried, place, step, after)?,
-            )?;
-            readers = readers.saturating_add(3);
-        }
+    for &(step, after) in &FAILING {
+        let is_right = does_reader(alloc, carried, place, step.octets(), after)?;
+        let case = case_of("a reader that fails", carried, place, step.octets());
+        case.expect(alloc, is_right)?;
+        readers = readers.saturating_add(3);
     }
     Ok(readers)
+}
+
+/// Whether a reader that fails does so as it should, for good and once, and is gone on with.
+fn does_reader(
+    alloc: Global,
+    carried: &Carried,
+    place: usize,
+    step: usize,
+    after: Failing,
+) -> Result<bool, Fault>
+    requires { 1 ≤ step }
+{
+    let is_until = is_read_until(alloc, carried, place, step, after)?;
+    let is_left = is_left_to_read(alloc, carried, place, step, after)?;
+    let is_gone_on = is_gone_on_with(alloc, carried, place, step, after)?;
+    Ok(is_until && is_left && is_gone_on)
 }
 
 /// What reading came to: all was read, it failed after so many octets, or the input ended there.

@@ -10,7 +10,7 @@ use exchange_core::Exchange;
 use octet_core::{Stop, hex_upper};
 use std::alloc::{AllocError, Global};
 use t1_core::{Card, CardFault, CardTurn, Terminal, TerminalFault, TerminalTurn};
-use testing::{Case, Fault, Share, Size, of_hex, with_octet};
+use testing::{Case, Fault, Share, Size, of_hex, same, with_octet};
 
 /// What octets are to an end.
 #[derive(Clone, Copy)]
@@ -120,18 +120,18 @@ fn deliver_in(
     delivered: Delivered,
 ) -> Result<Delivered, Fault> {
     let reached = way_to(alloc, state)?;
-    deliver_blocks(alloc, &reached, share, delivered)
+    deliver_blocks(alloc, &reached, &BLOCKS, share, delivered)
 }
 
-/// Each block is delivered in a state that is reached so.
+/// Each of these blocks is delivered in a state that is reached so.
 fn deliver_blocks(
     alloc: Global,
     reached: &Reached,
+    blocks: &[&str],
     share: Share,
     delivered: Delivered,
 ) -> Result<Delivered, Fault> {
     let mut delivered = delivered;
-    let blocks: &[&str] = &BLOCKS;
     for &block in blocks.iter().take(share.most(blocks.len())) {
         delivered = deliver_text(alloc, reached, block, share, delivered)?;
     }
@@ -254,17 +254,21 @@ fn to_terminal(
     octets: &[u8],
     place: usize,
 ) -> Result<Class, Fault> {
-    let state = reached.state;
-    let class = class_of(octets, state.ifsd);
-    let wanted = wanted(alloc, &state.terminal, class, octets)?;
-    let case = Case {
-        what: state.name,
+    let class = class_of(octets, reached.state.ifsd);
+    let wanted = wanted(alloc, &reached.state.terminal, class, octets)?;
+    let is_right = does_terminal(alloc, reached, octets, wanted)?;
+    case_of(reached, octets, place, 0).expect(alloc, is_right)?;
+    Ok(class)
+}
+
+/// The case of octets that come to an end, which has a number.
+fn case_of<'a>(reached: &Reached, octets: &'a [u8], place: usize, end: usize) -> Case<'a> {
+    Case {
+        what: reached.state.name,
         octets,
         place,
-        piece: 0,
-    };
-    case.expect(alloc, does_terminal(alloc, reached, octets, wanted)?)?;
-    Ok(class)
+        piece: end,
+    }
 }
 
 /// Whether the terminal does what is wanted with octets, and is usable after that.
@@ -275,23 +279,48 @@ fn does_terminal(
     wanted: Wanted,
 ) -> Result<bool, Fault> {
     let mut ends = reached.ends(alloc)?;
-    let mut card = Card::new(alloc, reached.params)?;
-    let is_right = is_terminal(alloc, &ends.terminal.received(octets), wanted)?;
-    Ok(is_right && is_terminal_usable(&mut ends.terminal, &mut card))
+    is_terminal_right(alloc, &mut ends.terminal, reached.params, octets, wanted)
+}
+
+/// Whether a terminal does what is wanted with octets, and is usable after that.
+fn is_terminal_right(
+    alloc: Global,
+    terminal: &mut Terminal,
+    params: T1Params,
+    octets: &[u8],
+    wanted: Wanted,
+) -> Result<bool, Fault> {
+    let is_right = is_terminals_turn(alloc, terminal, octets, wanted)?;
+    let is_usable = is_terminal_usable_after(alloc, terminal, params)?;
+    Ok(is_right && is_usable)
+}
+
+/// Whether the turn of a terminal to which octets come is the one that is wanted.
+fn is_terminals_turn(
+    alloc: Global,
+    terminal: &mut Terminal,
+    octets: &[u8],
+    wanted: Wanted,
+) -> Result<bool, AllocError> {
+    is_terminal(alloc, &terminal.received(octets), wanted)
+}
+
+/// Whether a terminal is usable with a new card.
+fn is_terminal_usable_after(
+    alloc: Global,
+    terminal: &mut Terminal,
+    params: T1Params,
+) -> Result<bool, AllocError> {
+    let mut card = Card::new(alloc, params)?;
+    Ok(is_terminal_usable(terminal, &mut card))
 }
 
 /// The octets come to the card.
 fn to_card(alloc: Global, reached: &Reached, octets: &[u8], place: usize) -> Result<Class, Fault> {
-    let state = reached.state;
     let class = class_of(octets, Size::Two);
-    let wanted = wanted(alloc, &state.card, class, octets)?;
-    let case = Case {
-        what: state.name,
-        octets,
-        place,
-        piece: 1,
-    };
-    case.expect(alloc, does_card(alloc, reached, octets, wanted)?)?;
+    let wanted = wanted(alloc, &reached.state.card, class, octets)?;
+    let is_right = does_card(alloc, reached, octets, wanted)?;
+    case_of(reached, octets, place, 1).expect(alloc, is_right)?;
     Ok(class)
 }
 
@@ -303,9 +332,40 @@ fn does_card(
     wanted: Wanted,
 ) -> Result<bool, Fault> {
     let mut ends = reached.ends(alloc)?;
-    let mut terminal = Terminal::new(alloc, reached.params)?;
-    let is_right = is_card(alloc, &ends.card.received(octets), wanted)?;
-    Ok(is_right && is_card_usable(&mut terminal, &mut ends.card))
+    is_card_right(alloc, &mut ends.card, reached.params, octets, wanted)
+}
+
+/// Whether a card does what is wanted with octets, and is usable after that.
+fn is_card_right(
+    alloc: Global,
+    card: &mut Card,
+    params: T1Params,
+    octets: &[u8],
+    wanted: Wanted,
+) -> Result<bool, Fault> {
+    let is_right = is_cards_turn(alloc, card, octets, wanted)?;
+    let is_usable = is_card_usable_after(alloc, card, params)?;
+    Ok(is_right && is_usable)
+}
+
+/// Whether the turn of a card to which octets come is the one that is wanted.
+fn is_cards_turn(
+    alloc: Global,
+    card: &mut Card,
+    octets: &[u8],
+    wanted: Wanted,
+) -> Result<bool, AllocError> {
+    is_card(alloc, &card.received(octets), wanted)
+}
+
+/// Whether a card is usable with a new terminal.
+fn is_card_usable_after(
+    alloc: Global,
+    card: &mut Card,
+    params: T1Params,
+) -> Result<bool, AllocError> {
+    let mut terminal = Terminal::new(alloc, params)?;
+    Ok(is_card_usable(&mut terminal, card))
 }
 
 /// Octets in hexadecimal. It has no contract, so that its callers carry none.
@@ -317,17 +377,17 @@ fn text_of(alloc: Global, octets: &[u8]) -> Result<String, AllocError> {
 fn wanted(alloc: Global, turns: &Turns, class: Class, octets: &[u8]) -> Result<Wanted, AllocError> {
     match class {
         Class::Block => Ok(fitting(turns, text_of(alloc, octets)?.as_str())),
-        Class::Damaged => Ok(turns.damaged),
-        Class::Invalid => Ok(turns.other),
+        Class::Damaged => Ok(turns.misfit.damaged()),
+        Class::Invalid => Ok(turns.misfit.other()),
     }
 }
 
 /// What an end is to make of a whole block, in hexadecimal.
 fn fitting(turns: &Turns, block: &str) -> Wanted {
-    let [first, second] = turns.fits;
+    let (first, second) = turns.fits;
     match (found(first, block), found(second, block)) {
         (Some(wanted), _) | (None, Some(wanted)) => wanted,
-        (None, None) => turns.other,
+        (None, None) => turns.misfit.other(),
     }
 }
 
@@ -343,7 +403,7 @@ fn found(fits: Fits, block: &str) -> Option<Wanted> {
 
 /// Whether a block has these octets, in hexadecimal.
 fn is_block(alloc: Global, block: &Block, text: &str) -> Result<bool, AllocError> {
-    Ok(text_of(alloc, encode(block).as_slice())?.as_str() == text)
+    Ok(same(text_of(alloc, encode(block).as_slice())?.as_str(), text))
 }
 
 /// Whether a turn of the terminal is the one that is wanted.
@@ -393,16 +453,16 @@ fn is_terminal_usable(terminal: &mut Terminal, card: &mut Card) -> bool {
 
 /// Whether the terminal refuses each call as dead.
 fn is_dead(terminal: &mut Terminal) -> bool {
-    terminal.quiet() == Err(TerminalFault::Dead)
-        && terminal.received(&RESYNCHED) == Err(TerminalFault::Dead)
-        && terminal.transmit(&COMMAND) == Err(TerminalFault::Dead)
-        && terminal.ask_ifs(32) == Err(TerminalFault::Dead)
+    same(terminal.quiet(), Err(TerminalFault::Dead))
+        && same(terminal.received(&RESYNCHED), Err(TerminalFault::Dead))
+        && same(terminal.transmit(&COMMAND), Err(TerminalFault::Dead))
+        && same(terminal.ask_ifs(32), Err(TerminalFault::Dead))
 }
 
 /// Whether the card, whose host replies where it owes to, begins again and an exchange with a new
 /// terminal passes.
 fn is_card_usable(terminal: &mut Terminal, card: &mut Card) -> bool {
-    if card.received(&RESYNCH) == Err(CardFault::Order) {
+    if same(card.received(&RESYNCH), Err(CardFault::Order)) {
         let is_replied = card.reply(&REPLY).is_ok();
         if !is_replied || card.received(&RESYNCH).is_err() {
             return false;
@@ -424,12 +484,14 @@ fn is_exchanged(terminal: &mut Terminal, card: &mut Card) -> bool {
 
 /// Whether a block brings the card's host the command.
 fn is_asked(card: &mut Card, sent: &Block) -> bool {
-    card.received(encode(sent).as_slice()) == Ok(CardTurn::Asked)
-        && card.command() == Some(COMMAND.as_slice())
+    same(card.received(encode(sent).as_slice()), Ok(CardTurn::Asked))
+        && same(card.command(), Some(COMMAND.as_slice()))
 }
 
 /// Whether a block brings the terminal the reply.
 fn is_answered(terminal: &mut Terminal, back: &Block) -> bool {
-    terminal.received(encode(back).as_slice()) == Ok(TerminalTurn::Answered)
-        && terminal.answer() == Some(REPLY.as_slice())
+    same(
+        terminal.received(encode(back).as_slice()),
+        Ok(TerminalTurn::Answered),
+    ) && same(terminal.answer(), Some(REPLY.as_slice()))
 }

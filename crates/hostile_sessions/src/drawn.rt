@@ -33,14 +33,24 @@ pub(crate) fn draw_each(alloc: Global, share: Share) -> Result<String, Fault> {
     let mut answers = 0u64;
     for number in 0..SESSIONS {
         if share.has(number as usize) {
-            let exchange = record(alloc, &mut generator)?;
-            answers = answers.saturating_add(answers_of(alloc, &exchange, number)?);
+            answers = answers.saturating_add(draw(alloc, &mut generator, number)?);
             sessions = sessions.saturating_add(1);
         }
     }
+    line(alloc, sessions, answers)
+}
+
+/// The line of so many sessions.
+fn line(alloc: Global, sessions: u64, answers: u64) -> Result<String, Fault> {
     Ok(format!(in alloc;
         "drawn: {sessions} sessions replay at both ends, with {answers} answers, each the reply"
     )?)
+}
+
+/// A session more, which has this number: how many answers.
+fn draw(alloc: Global, generator: &mut Pcg32, number: u32) -> Result<u64, Fault> {
+    let exchange = record(alloc, generator)?;
+    answers_of(alloc, &exchange, number)
 }
 
 /// A session replays, and each answer is the reply: how many answers.
@@ -52,7 +62,8 @@ fn answers_of(alloc: Global, exchange: &Exchange, number: u32) -> Result<u64, Fa
         place: number as usize,
         piece: 0,
     };
-    case.expect(alloc, answers.is_some() && is_replayed(alloc, exchange)?)?;
+    let is_replayed = is_replayed(alloc, exchange)?;
+    case.expect(alloc, answers.is_some() && is_replayed)?;
     Ok(answers.unwrap_or(0))
 }
 

@@ -5,7 +5,7 @@ use block_core::{Block, encode};
 use exchange_core::{Arrival, Exchange, Line, ReplayFault, Side, replay};
 use std::alloc::{AllocError, Global};
 use t1_core::{Card, CardFault, CardTurn, Terminal, TerminalFault, TerminalTurn};
-use testing::Fault;
+use testing::{Fault, same};
 
 /// Both ends, and the last turn of each.
 #[derive(Drop)]
@@ -106,13 +106,13 @@ impl Ends {
         match line {
             Line::Answer(answer) => {
                 matches!(&self.terminal_turn, Some(TerminalTurn::Answered))
-                    && self.terminal.answer() == Some(answer.get())
+                    && same(self.terminal.answer(), Some(answer.get()))
             }
             Line::IfsSet => matches!(&self.terminal_turn, Some(TerminalTurn::IfsSet)),
             Line::GivenUp => matches!(&self.terminal_turn, Some(TerminalTurn::GivenUp)),
             Line::Dead => matches!(&self.terminal_turn, Some(TerminalTurn::Dead)),
             Line::Asked(command) => {
-                self.is_hosts_turn() && self.card.command() == Some(command.get())
+                self.is_hosts_turn() && same(self.card.command(), Some(command.get()))
             }
             _ => false,
         }
@@ -194,7 +194,7 @@ impl Ends {
 /// Whether a block is there and has these octets.
 fn is_sent(block: Option<&Block>, octets: &[u8]) -> bool {
     match block {
-        Some(block) => encode(block).as_slice() == octets,
+        Some(block) => same(encode(block).as_slice(), octets),
         None => false,
     }
 }

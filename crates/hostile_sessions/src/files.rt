@@ -2,7 +2,7 @@
 
 use crate::{as_exchange, as_replayed};
 use exchange_core::{Exchange, Side, write_exchange};
-use std::alloc::Global;
+use std::alloc::{AllocError, Global};
 use testing::{Case, Fault, Share, with_octet};
 
 /// What was said of files.
@@ -21,15 +21,31 @@ pub(crate) fn spoil_each(alloc: Global, files: &[Vec<u8>], share: Share) -> Resu
     for file in files.iter().take(share.most(files.len())) {
         said = spoil(alloc, file.as_slice(), share, said)?;
     }
-    let Said {
-        read,
-        faults,
-        replayed,
-    } = said;
-    Ok(format!(in alloc;
-        "files: {faults} faults, {read} read and written again, \
-        of which {replayed} replay at both ends"
-    )?)
+    said.line(alloc)
+}
+
+impl Said {
+    /// With one text more that is read, and replays at both ends or not.
+    fn and(self, replays: bool) -> Said {
+        Said {
+            read: self.read.saturating_add(1),
+            replayed: self.replayed.saturating_add(u64::from(replays)),
+            ..self
+        }
+    }
+
+    /// The line of what was said.
+    fn line(self, alloc: Global) -> Result<String, Fault> {
+        let Said {
+            read,
+            faults,
+            replayed,
+        } = self;
+        Ok(format!(in alloc;
+            "files: {faults} faults, {read} read and written again, \
+            of which {replayed} replay at both ends"
+        )?)
+    }
 }
 
 /// A file as it is, and spoilt at each place.
@@ -86,22 +102,26 @@ fn changed(
 
 /// With one text more: it is read, written as it was, and replays the same twice, or has a fault.
 fn judged(alloc: Global, text: &[u8], place: usize, said: Said) -> Result<Said, Fault> {
-    let mut said = said;
     match as_exchange(alloc, text) {
-        Ok(exchange) => {
-            said.read = said.read.saturating_add(1);
-            if is_written_again(alloc, &exchange, text, place)? {
-                said.replayed = said.replayed.saturating_add(1);
-            }
-        }
-        Err(fault) => {
-            if matches!(&fault, Fault::Memory) {
-                return Err(fault);
-            }
-            said.faults = said.faults.saturating_add(1);
-        }
+        Ok(exchange) => judged_as(alloc, &exchange, text, place, said),
+        Err(Fault::Memory) => Err(Fault::Memory),
+        Err(_) => Ok(Said {
+            faults: said.faults.saturating_add(1),
+            ..said
+        }),
     }
-    Ok(said)
+}
+
+/// With one text more that is this exchange.
+fn judged_as(
+    alloc: Global,
+    exchange: &Exchange,
+    text: &[u8],
+    place: usize,
+    said: Said,
+) -> Result<Said, Fault> {
+    let replays = is_written_again(alloc, exchange, text, place)?;
+    Ok(said.and(replays))
 }
 
 /// An exchange is written as it was read. Whether it replays at both ends.
@@ -111,18 +131,29 @@ fn is_written_again(
     text: &[u8],
     place: usize,
 ) -> Result<bool, Fault> {
-    let written = write_exchange(alloc, exchange)?;
     let case = Case {
         what: "a file that is written again",
         octets: text,
         place,
         piece: 0,
     };
-    case.expect(alloc, written.as_slice() == text)?;
+    let is_text = is_text(alloc, exchange, text)?;
+    case.expect(alloc, is_text)?;
     let case = Case {
         what: "a file that is replayed twice",
         ..case
     };
+    replays(alloc, exchange, case)
+}
+
+/// Whether an exchange is written as this text.
+fn is_text(alloc: Global, exchange: &Exchange, text: &[u8]) -> Result<bool, AllocError> {
+    let written = write_exchange(alloc, exchange)?;
+    Ok(written.as_slice() == text)
+}
+
+/// Whether an exchange replays at both ends, twice alike, or this case went wrong.
+fn replays(alloc: Global, exchange: &Exchange, case: Case<'_>) -> Result<bool, Fault> {
     let mut replays = true;
     for side in [Side::Terminal, Side::Card] {
         let outcome = as_replayed(alloc, exchange, side)?;

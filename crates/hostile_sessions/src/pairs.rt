@@ -52,16 +52,23 @@ pub(crate) fn disturb_each(alloc: Global, share: Share) -> Result<String, Fault>
     let mut disturbed = Disturbed::default();
     for number in 1..BLOCKS + 1 {
         if share.has(BLOCKS.saturating_sub(number) as usize) {
-            for &event in &WAYS {
-                let first = Disturbance { number, event };
-                disturbed = disturb(alloc, first, disturbed)?;
-            }
+            disturbed = disturb_in_each_way(alloc, number, disturbed)?;
         }
     }
-    let Disturbed { sessions, answered } = disturbed;
-    Ok(format!(in alloc;
-        "disturbed: {sessions} sessions of {BLOCKS} blocks replay at both ends, {answered} of them answered"
-    )?)
+    disturbed.line(alloc)
+}
+
+/// Disturbs the block with a number in each way.
+fn disturb_in_each_way(
+    alloc: Global,
+    number: u32,
+    disturbed: Disturbed,
+) -> Result<Disturbed, Fault> {
+    let mut disturbed = disturbed;
+    for &event in &WAYS {
+        disturbed = disturb(alloc, Disturbance { number, event }, disturbed)?;
+    }
+    Ok(disturbed)
 }
 
 /// Disturbs one block, and each one after it.
@@ -111,6 +118,14 @@ fn expect(
 }
 
 impl Disturbed {
+    /// The line of these sessions.
+    fn line(self, alloc: Global) -> Result<String, Fault> {
+        let Disturbed { sessions, answered } = self;
+        Ok(format!(in alloc;
+            "disturbed: {sessions} sessions of {BLOCKS} blocks replay at both ends, {answered} of them answered"
+        )?)
+    }
+
     /// With one session more.
     fn and(self, is_answered: bool) -> Disturbed {
         Disturbed {

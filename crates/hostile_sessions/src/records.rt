@@ -55,13 +55,22 @@ const DEAD: [Event<'static>; 8] = [
 /// and so is that of the whole session.
 pub(crate) fn refuse_each(alloc: Global, share: Share) -> Result<String, Fault> {
     let long = vec![in alloc; 0xA5u8; 65_545]?;
+    let refused = refused_in_each(alloc, share, long.as_slice());
+    line(alloc, refused?)
+}
+
+/// The line of so many events.
+fn line(alloc: Global, refused: u64) -> Result<String, Fault> {
+    Ok(format!(in alloc; "recorded: {refused} events refused, which left the record as it was")?)
+}
+
+/// How many events are refused within the sessions.
+fn refused_in_each(alloc: Global, share: Share, long: &[u8]) -> Result<u64, Fault> {
     let answered = match share {
-        Share::All => refused_in(alloc, &ANSWERED, long.as_slice())?,
+        Share::All => refused_in(alloc, &ANSWERED, long)?,
         Share::Few => 0,
     };
-    let dead = refused_in(alloc, &DEAD, long.as_slice())?;
-    let refused = answered.saturating_add(dead);
-    Ok(format!(in alloc; "recorded: {refused} events refused, which left the record as it was")?)
+    Ok(answered.saturating_add(refused_in(alloc, &DEAD, long)?))
 }
 
 /// How many events are refused within a session.
@@ -107,24 +116,37 @@ fn is_put(
     place: usize,
     event: Event<'_>,
 ) -> Result<bool, Fault> {
-    let Some((before, after)) = session.split_at_checked(place) else {
+    let Some(before) = session.get(..place) else {
         return Ok(false);
     };
-    let Some(text) = refused_after(alloc, before, event)? else {
-        return Ok(false);
-    };
+    match refused_after(alloc, before, event)? {
+        Some(text) => {
+            let is_as_before = is_record(alloc, before, text.as_slice());
+            expect(alloc, session, place, event, is_as_before)
+        }
+        None => Ok(false),
+    }
+}
+
+/// An event that is refused before the event at `place` leaves the record as it was, and that of the whole session.
+fn expect(
+    alloc: Global,
+    session: &[Event<'_>],
+    place: usize,
+    event: Event<'_>,
+    is_as_before: Result<bool, Fault>,
+) -> Result<bool, Fault> {
+    let is_as_before = is_as_before?;
+    let goes_on = goes_on(alloc, session, place, event)?;
     let case = Case {
         what: "an event that is refused",
         octets: &ATR,
         place,
         piece: session.len(),
     };
-    let is_as_before = is_record(alloc, before, text.as_slice())?;
-    let goes_on = goes_on(alloc, session, place, event)?;
     case.expect(alloc, is_as_before && goes_on)?;
     Ok(true)
 }
-
 /// The text of a session with an event after it that is refused; nothing where that is taken.
 fn refused_after(
     alloc: Global,

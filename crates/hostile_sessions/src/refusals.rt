@@ -1,9 +1,10 @@
 //! Calls that an end refuses, within sessions.
 
 use crate::ends::{Ends, Waits, params};
+use atr_core::T1Params;
 use exchange_core::{Exchange, Line};
 use octet_core::is_reserved;
-use std::alloc::Global;
+use std::alloc::{AllocError, Global};
 use t1_core::{CardFault, TerminalFault};
 use testing::{Case, Fault, Share};
 
@@ -62,14 +63,23 @@ pub(crate) fn refuse_each(
     sessions: &[Exchange],
     share: Share,
 ) -> Result<String, Fault> {
+    let count = share.most(sessions.len());
     let long = vec![in alloc; 0xA5u8; 65_545]?;
-    let handed = Handed {
+    let refused = refused_in_each(alloc, sessions, count, as_handed(long.as_slice()));
+    line(alloc, refused?, count)
+}
+
+/// What is handed to the calls, with these octets as too many.
+fn as_handed(long: &[u8]) -> Handed<'_> {
+    Handed {
         block: &[0x00, 0x80, 0x00, 0x80],
         short: &[0x90, 0x00],
-        long: long.as_slice(),
-    };
-    let count = share.most(sessions.len());
-    let refused = refused_in_each(alloc, sessions, count, handed)?;
+        long,
+    }
+}
+
+/// The line of so many calls.
+fn line(alloc: Global, refused: u64, count: usize) -> Result<String, Fault> {
     Ok(format!(in alloc;
         "refused: {refused} calls within {count} sessions, which went on unchanged"
     )?)
@@ -84,9 +94,16 @@ fn refused_in_each(
 ) -> Result<u64, Fault> {
     let mut refused = 0u64;
     for session in sessions.iter().take(count) {
-        for place in 0..=session.lines().get().len() {
-            refused = refused.saturating_add(refused_at(alloc, session, place, handed)?);
-        }
+        refused = refused.saturating_add(refused_in(alloc, session, handed)?);
+    }
+    Ok(refused)
+}
+
+/// How many calls are refused within a session.
+fn refused_in(alloc: Global, session: &Exchange, handed: Handed<'_>) -> Result<u64, Fault> {
+    let mut refused = 0u64;
+    for place in 0..=session.lines().get().len() {
+        refused = refused.saturating_add(refused_at(alloc, session, place, handed)?);
     }
     Ok(refused)
 }
@@ -118,8 +135,8 @@ fn is_put(
     let Some((before, after)) = session.lines().get().split_at_checked(place) else {
         return Ok(false);
     };
-    let mut ends = Ends::new(alloc, params(session)?)?;
-    let Some(is_right) = goes_on(&mut ends, before, call, handed, after) else {
+    let params = params(session)?;
+    let Some(is_right) = goes_on_from(alloc, params, before, call, handed, after)? else {
         return Ok(false);
     };
     let case = Case {
@@ -130,6 +147,20 @@ fn is_put(
     };
     case.expect(alloc, is_right)?;
     Ok(true)
+}
+
+/// Whether new ends do what the lines say, with a call between them that is refused as it should; nothing where the
+/// call isn't one that is refused there.
+fn goes_on_from(
+    alloc: Global,
+    params: T1Params,
+    before: &[Line],
+    call: Call,
+    handed: Handed<'_>,
+    after: &[Line],
+) -> Result<Option<bool>, AllocError> {
+    let mut ends = Ends::new(alloc, params)?;
+    Ok(goes_on(&mut ends, before, call, handed, after))
 }
 
 /// Whether a call between lines is refused as it should, and the ends do what the lines say; nothing where the call

@@ -7,11 +7,57 @@ use testing::Size;
 /// What an end makes of what comes.
 pub(crate) struct Turns {
     /// Blocks that fit.
-    pub(crate) fits: [Fits; 2],
-    /// Damaged octets.
-    pub(crate) damaged: Wanted,
-    /// Invalid ones, and blocks that don't fit.
-    pub(crate) other: Wanted,
+    pub(crate) fits: (Fits, Fits),
+    /// Octets that are no such block.
+    pub(crate) misfit: Misfit,
+}
+
+/// What an end makes of octets that are no block that fits. These are names and no blocks, since a table of values that
+/// hold references takes long to be proved.
+#[derive(Clone, Copy)]
+pub(crate) enum Misfit {
+    /// R-blocks for the number 0, with a redundancy error and with another error.
+    AsksForZero,
+    /// The same for the number 1.
+    AsksForOne,
+    /// Requests: RESYNCH, IFS with 2 and with 254, WTX.
+    Resynch,
+    AsksSize,
+    AsksLargest,
+    AsksTime,
+    /// The terminal refuses them as idle or dead, or finds the card dead.
+    Idle,
+    Dead,
+    Dies,
+    /// The card refuses them.
+    Order,
+}
+
+impl Misfit {
+    /// What comes of damaged octets.
+    pub(crate) fn damaged(self) -> Wanted {
+        match self {
+            Misfit::AsksForZero => Wanted::Sends("00810081"),
+            Misfit::AsksForOne => Wanted::Sends("00910091"),
+            _ => self.other(),
+        }
+    }
+
+    /// What comes of invalid ones, and of blocks that don't fit.
+    pub(crate) fn other(self) -> Wanted {
+        match self {
+            Misfit::AsksForZero => Wanted::Sends("00820082"),
+            Misfit::AsksForOne => Wanted::Sends("00920092"),
+            Misfit::Resynch => Wanted::Sends("00C000C0"),
+            Misfit::AsksSize => Wanted::Sends("00C10102C2"),
+            Misfit::AsksLargest => Wanted::Sends("00C101FE3E"),
+            Misfit::AsksTime => Wanted::Sends("00C30101C3"),
+            Misfit::Idle => Wanted::Terminal(TerminalFault::Idle),
+            Misfit::Dead => Wanted::Terminal(TerminalFault::Dead),
+            Misfit::Dies => Wanted::Dies,
+            Misfit::Order => Wanted::Card(CardFault::Order),
+        }
+    }
 }
 
 /// A state of both ends, after the lines of an exchange.
@@ -26,30 +72,6 @@ pub(crate) struct State {
     pub(crate) card: Turns,
 }
 
-/// R-blocks with a redundancy error and another error, for the numbers 0 and 1.
-const DAMAGED_0: Wanted = Wanted::Sends("00810081");
-
-const INVALID_0: Wanted = Wanted::Sends("00820082");
-
-const DAMAGED_1: Wanted = Wanted::Sends("00910091");
-
-const INVALID_1: Wanted = Wanted::Sends("00920092");
-
-/// Requests: RESYNCH, IFS with 2 and with 254, WTX.
-const RESYNCH: Wanted = Wanted::Sends("00C000C0");
-
-const ASKED_SIZE: Wanted = Wanted::Sends("00C10102C2");
-
-const ASKED_LARGEST: Wanted = Wanted::Sends("00C101FE3E");
-
-const ASKED_TIME: Wanted = Wanted::Sends("00C30101C3");
-
-const IDLE: Wanted = Wanted::Terminal(TerminalFault::Idle);
-
-const DEAD: Wanted = Wanted::Terminal(TerminalFault::Dead);
-
-const ORDER: Wanted = Wanted::Card(CardFault::Order);
-
 /// Each state of the terminal, with its failures in a row, and each of the card.
 pub(crate) static STATES: [State; 17] = [
     State {
@@ -57,14 +79,12 @@ pub(crate) static STATES: [State; 17] = [
         text: "",
         ifsd: Size::ThirtyTwo,
         terminal: Turns {
-            fits: [Fits::Nothing, Fits::Nothing],
-            damaged: IDLE,
-            other: IDLE,
+            fits: (Fits::Nothing, Fits::Nothing),
+            misfit: Misfit::Idle,
         },
         card: Turns {
-            fits: [Fits::StartCard, Fits::Served],
-            damaged: DAMAGED_0,
-            other: INVALID_0,
+            fits: (Fits::StartCard, Fits::Served),
+            misfit: Misfit::AsksForZero,
         },
     },
     State {
@@ -72,14 +92,12 @@ pub(crate) static STATES: [State; 17] = [
         text: "command 00A4040000\n",
         ifsd: Size::ThirtyTwo,
         terminal: Turns {
-            fits: [Fits::Granted, Fits::Ack],
-            damaged: DAMAGED_0,
-            other: INVALID_0,
+            fits: (Fits::Granted, Fits::Ack),
+            misfit: Misfit::AsksForZero,
         },
         card: Turns {
-            fits: [Fits::StartCard, Fits::Served],
-            damaged: DAMAGED_0,
-            other: INVALID_0,
+            fits: (Fits::StartCard, Fits::Served),
+            misfit: Misfit::AsksForZero,
         },
     },
     State {
@@ -93,14 +111,12 @@ t 00800080 lost\n\
 quiet\n",
         ifsd: Size::ThirtyTwo,
         terminal: Turns {
-            fits: [Fits::Granted, Fits::AckAtLast],
-            damaged: RESYNCH,
-            other: RESYNCH,
+            fits: (Fits::Granted, Fits::AckAtLast),
+            misfit: Misfit::Resynch,
         },
         card: Turns {
-            fits: [Fits::StartCard, Fits::Served],
-            damaged: DAMAGED_0,
-            other: INVALID_0,
+            fits: (Fits::StartCard, Fits::Served),
+            misfit: Misfit::AsksForZero,
         },
     },
     State {
@@ -108,14 +124,12 @@ quiet\n",
         text: "command 00A4\n",
         ifsd: Size::ThirtyTwo,
         terminal: Turns {
-            fits: [Fits::Granted, Fits::Answer],
-            damaged: DAMAGED_0,
-            other: INVALID_0,
+            fits: (Fits::Granted, Fits::Answer),
+            misfit: Misfit::AsksForZero,
         },
         card: Turns {
-            fits: [Fits::StartCard, Fits::Served],
-            damaged: DAMAGED_0,
-            other: INVALID_0,
+            fits: (Fits::StartCard, Fits::Served),
+            misfit: Misfit::AsksForZero,
         },
     },
     State {
@@ -129,14 +143,12 @@ t 00800080 lost\n\
 quiet\n",
         ifsd: Size::ThirtyTwo,
         terminal: Turns {
-            fits: [Fits::Granted, Fits::AnswerAtLast],
-            damaged: RESYNCH,
-            other: RESYNCH,
+            fits: (Fits::Granted, Fits::AnswerAtLast),
+            misfit: Misfit::Resynch,
         },
         card: Turns {
-            fits: [Fits::StartCard, Fits::Served],
-            damaged: DAMAGED_0,
-            other: INVALID_0,
+            fits: (Fits::StartCard, Fits::Served),
+            misfit: Misfit::AsksForZero,
         },
     },
     State {
@@ -152,14 +164,12 @@ reply AABB9000\n\
 c 002002AABB33\n",
         ifsd: Size::Two,
         terminal: Turns {
-            fits: [Fits::Granted, Fits::More],
-            damaged: DAMAGED_1,
-            other: INVALID_1,
+            fits: (Fits::Granted, Fits::More),
+            misfit: Misfit::AsksForOne,
         },
         card: Turns {
-            fits: [Fits::Reply, Fits::Served],
-            damaged: DAMAGED_1,
-            other: INVALID_1,
+            fits: (Fits::Reply, Fits::Served),
+            misfit: Misfit::AsksForOne,
         },
     },
     State {
@@ -167,14 +177,12 @@ c 002002AABB33\n",
         text: "ifsd 02\n",
         ifsd: Size::ThirtyTwo,
         terminal: Turns {
-            fits: [Fits::SizeSet, Fits::Nothing],
-            damaged: ASKED_SIZE,
-            other: ASKED_SIZE,
+            fits: (Fits::SizeSet, Fits::Nothing),
+            misfit: Misfit::AsksSize,
         },
         card: Turns {
-            fits: [Fits::StartCard, Fits::Served],
-            damaged: DAMAGED_0,
-            other: INVALID_0,
+            fits: (Fits::StartCard, Fits::Served),
+            misfit: Misfit::AsksForZero,
         },
     },
     State {
@@ -190,14 +198,12 @@ t 00800080 lost\n\
 quiet\n",
         ifsd: Size::ThirtyTwo,
         terminal: Turns {
-            fits: [Fits::GivenUp, Fits::Nothing],
-            damaged: RESYNCH,
-            other: RESYNCH,
+            fits: (Fits::GivenUp, Fits::Nothing),
+            misfit: Misfit::Resynch,
         },
         card: Turns {
-            fits: [Fits::StartCard, Fits::Served],
-            damaged: DAMAGED_0,
-            other: INVALID_0,
+            fits: (Fits::StartCard, Fits::Served),
+            misfit: Misfit::AsksForZero,
         },
     },
     State {
@@ -215,14 +221,12 @@ t 00C000C0 lost\n\
 quiet\n",
         ifsd: Size::ThirtyTwo,
         terminal: Turns {
-            fits: [Fits::GivenUp, Fits::Nothing],
-            damaged: RESYNCH,
-            other: RESYNCH,
+            fits: (Fits::GivenUp, Fits::Nothing),
+            misfit: Misfit::Resynch,
         },
         card: Turns {
-            fits: [Fits::StartCard, Fits::Served],
-            damaged: DAMAGED_0,
-            other: INVALID_0,
+            fits: (Fits::StartCard, Fits::Served),
+            misfit: Misfit::AsksForZero,
         },
     },
     State {
@@ -242,14 +246,12 @@ t 00C000C0 lost\n\
 quiet\n",
         ifsd: Size::ThirtyTwo,
         terminal: Turns {
-            fits: [Fits::GivenUp, Fits::Nothing],
-            damaged: Wanted::Dies,
-            other: Wanted::Dies,
+            fits: (Fits::GivenUp, Fits::Nothing),
+            misfit: Misfit::Dies,
         },
         card: Turns {
-            fits: [Fits::StartCard, Fits::Served],
-            damaged: DAMAGED_0,
-            other: INVALID_0,
+            fits: (Fits::StartCard, Fits::Served),
+            misfit: Misfit::AsksForZero,
         },
     },
     State {
@@ -272,14 +274,12 @@ quiet\n\
 dead\n",
         ifsd: Size::ThirtyTwo,
         terminal: Turns {
-            fits: [Fits::Nothing, Fits::Nothing],
-            damaged: DEAD,
-            other: DEAD,
+            fits: (Fits::Nothing, Fits::Nothing),
+            misfit: Misfit::Dead,
         },
         card: Turns {
-            fits: [Fits::StartCard, Fits::Served],
-            damaged: DAMAGED_0,
-            other: INVALID_0,
+            fits: (Fits::StartCard, Fits::Served),
+            misfit: Misfit::AsksForZero,
         },
     },
     State {
@@ -288,14 +288,12 @@ dead\n",
 t 00200200A486\n",
         ifsd: Size::ThirtyTwo,
         terminal: Turns {
-            fits: [Fits::Granted, Fits::Ack],
-            damaged: DAMAGED_0,
-            other: INVALID_0,
+            fits: (Fits::Granted, Fits::Ack),
+            misfit: Misfit::AsksForZero,
         },
         card: Turns {
-            fits: [Fits::Joining, Fits::Served],
-            damaged: DAMAGED_1,
-            other: INVALID_1,
+            fits: (Fits::Joining, Fits::Served),
+            misfit: Misfit::AsksForOne,
         },
     },
     State {
@@ -305,14 +303,12 @@ t 00000200A4A6\n\
 asked 00A4\n",
         ifsd: Size::ThirtyTwo,
         terminal: Turns {
-            fits: [Fits::Granted, Fits::Answer],
-            damaged: DAMAGED_0,
-            other: INVALID_0,
+            fits: (Fits::Granted, Fits::Answer),
+            misfit: Misfit::AsksForZero,
         },
         card: Turns {
-            fits: [Fits::Nothing, Fits::Nothing],
-            damaged: ORDER,
-            other: ORDER,
+            fits: (Fits::Nothing, Fits::Nothing),
+            misfit: Misfit::Order,
         },
     },
     State {
@@ -323,14 +319,12 @@ asked 00A4\n\
 reply 9000\n",
         ifsd: Size::ThirtyTwo,
         terminal: Turns {
-            fits: [Fits::Granted, Fits::Answer],
-            damaged: DAMAGED_0,
-            other: INVALID_0,
+            fits: (Fits::Granted, Fits::Answer),
+            misfit: Misfit::AsksForZero,
         },
         card: Turns {
-            fits: [Fits::Saved, Fits::Served],
-            damaged: DAMAGED_1,
-            other: INVALID_1,
+            fits: (Fits::Saved, Fits::Served),
+            misfit: Misfit::AsksForOne,
         },
     },
     State {
@@ -341,14 +335,12 @@ asked 00A4\n\
 time 01\n",
         ifsd: Size::ThirtyTwo,
         terminal: Turns {
-            fits: [Fits::Granted, Fits::Answer],
-            damaged: DAMAGED_0,
-            other: INVALID_0,
+            fits: (Fits::Granted, Fits::Answer),
+            misfit: Misfit::AsksForZero,
         },
         card: Turns {
-            fits: [Fits::TimeGranted, Fits::BegunAnew],
-            damaged: ASKED_TIME,
-            other: ASKED_TIME,
+            fits: (Fits::TimeGranted, Fits::BegunAnew),
+            misfit: Misfit::AsksTime,
         },
     },
     State {
@@ -359,14 +351,12 @@ asked 00A4\n\
 ifsc FE\n",
         ifsd: Size::ThirtyTwo,
         terminal: Turns {
-            fits: [Fits::Granted, Fits::Answer],
-            damaged: DAMAGED_0,
-            other: INVALID_0,
+            fits: (Fits::Granted, Fits::Answer),
+            misfit: Misfit::AsksForZero,
         },
         card: Turns {
-            fits: [Fits::BegunAnew, Fits::Nothing],
-            damaged: ASKED_LARGEST,
-            other: ASKED_LARGEST,
+            fits: (Fits::BegunAnew, Fits::Nothing),
+            misfit: Misfit::AsksLargest,
         },
     },
     State {
@@ -379,14 +369,12 @@ c 000002900092\n\
 answer 9000\n",
         ifsd: Size::ThirtyTwo,
         terminal: Turns {
-            fits: [Fits::Nothing, Fits::Nothing],
-            damaged: IDLE,
-            other: IDLE,
+            fits: (Fits::Nothing, Fits::Nothing),
+            misfit: Misfit::Idle,
         },
         card: Turns {
-            fits: [Fits::Saved, Fits::Served],
-            damaged: DAMAGED_1,
-            other: INVALID_1,
+            fits: (Fits::Saved, Fits::Served),
+            misfit: Misfit::AsksForOne,
         },
     },
 ];

@@ -7,7 +7,7 @@ use std::io;
 
 /// A case: what is tried, over which octets, at which place in them, and with which value or piece
 /// there.
-#[derive(Clone, Copy, Debug)]
+#[derive(Clone, Copy)]
 pub struct Case<'a> {
     pub what: &'static str,
     pub octets: &'a [u8],
@@ -18,13 +18,9 @@ pub struct Case<'a> {
 /// Why a list of cases ended before its end.
 #[derive(Debug, Drop)]
 pub enum Fault {
-    /// A case gave another answer than it should; the octets in hexadecimal.
-    Wrong {
-        what: &'static str,
-        octets: String,
-        place: usize,
-        piece: usize,
-    },
+    /// A case gave another answer than it should: what is said of it, as one text, since each way out of a function
+    /// gives back a fault.
+    Wrong(String),
     /// Out of memory.
     Memory,
     /// A file couldn't be read, or a line not be printed.
@@ -37,12 +33,19 @@ impl Case<'_> {
         if is_right {
             return Ok(());
         }
-        Err(Fault::Wrong {
-            what: self.what,
-            octets: hex_upper(alloc, self.octets)?,
-            place: self.place,
-            piece: self.piece,
-        })
+        Err(Fault::Wrong(self.text(alloc)?))
+    }
+
+    /// What is said of the case where it went wrong; the octets in hexadecimal.
+    fn text(self, alloc: Global) -> Result<String, Fault> {
+        let Case {
+            what,
+            octets,
+            place,
+            piece,
+        } = self;
+        let octets = hex_upper(alloc, octets)?;
+        Ok(format!(in alloc; "wrong: {what}: octets {octets}, place {place}, piece {piece}")?)
     }
 }
 
@@ -76,15 +79,7 @@ impl From<HexFault> for Fault {
 impl Display for Fault {
     fn fmt<W: Write>(&self, f: &mut Formatter<W>) -> fmt::Result {
         match self {
-            Fault::Wrong {
-                what,
-                octets,
-                place,
-                piece,
-            } => write!(
-                f,
-                "wrong: {what}: octets {octets}, place {place}, piece {piece}"
-            ),
+            Fault::Wrong(text) => f.write_str(text.as_str()),
             Fault::Memory => f.write_str("out of memory"),
             Fault::Stream => f.write_str("a file or a stream failed"),
         }

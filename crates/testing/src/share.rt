@@ -4,7 +4,7 @@ use crate::Fault;
 use std::env::{self, Env};
 
 /// How many cases of the long lists are tried.
-#[derive(Clone, Copy, Debug, PartialEq, Eq)]
+#[derive(Clone, Copy)]
 pub enum Share {
     All,
     /// One in 256.
@@ -14,7 +14,7 @@ pub enum Share {
 impl Share {
     /// Whether the case with this number is tried.
     pub fn has(self, number: usize) -> bool {
-        self == Share::All || number % 256 == 0
+        matches!(self, Share::All) || number % 256 == 0
     }
 
     /// How many of so many long cases are tried.
