@@ -5,6 +5,7 @@ use crate::place::{option_place, option_value, place_of, subcommand_place, word_
 use crate::word::{hex_note, said};
 use card_words::{Fault, Form, read_blocks};
 use command_line::parser_message;
+use octet_core::is_blank;
 use std::alloc::{AllocError, Global};
 
 /// What a person wants to know of words, of which the first is the program's name: what the parser of command lines
@@ -67,9 +68,31 @@ fn given_note(alloc: Global, words: &[String], hex: usize) -> Result<String, All
         return form_note(alloc, words, form);
     }
     if hex < words.len() {
-        return hex_note(alloc, hex, word_at(words, hex));
+        return octets_note(alloc, hex, word_at(words, hex));
     }
     String::from_str(alloc, "there is no word HEX, and no --stdin FORM\n")
+}
+
+/// What is wrong with a word HEX, and how standard input takes what it looks like.
+fn octets_note(alloc: Global, number: usize, word: &str) -> Result<String, AllocError> {
+    let mut note = hex_note(alloc, number, word)?;
+    if !note.is_empty() {
+        note.push_str(way_in(word))?;
+    }
+    Ok(note)
+}
+
+/// How standard input takes what a word looks like that isn't hexadecimal: octets with blanks or `0x`, or the name of a
+/// file.
+fn way_in(word: &str) -> &'static str {
+    let octets = word.as_bytes();
+    if octets.iter().any(|octet| is_blank(*octet)) || has_mark(octets) {
+        "standard input takes octets with blanks or 0x: --stdin hex\n"
+    } else if octets.iter().any(|octet| matches!(*octet, b'.' | b'/')) {
+        "standard input takes a file: --stdin hex <FILE\n"
+    } else {
+        ""
+    }
 }
 
 /// A form of standard input, and the text that is read there.
@@ -108,6 +131,13 @@ pub(crate) fn what_form(form: Form) -> &'static str {
         Form::Source =>
             "standard input: octets are 0x3B, \\x3b, 3Bh or 3B, all written in one way\n",
     }
+}
+
+/// Whether a `0x` or a `0X` is in these octets.
+fn has_mark(octets: &[u8]) -> bool {
+    octets
+        .windows(2)
+        .any(|two| matches!(two, [b'0', b'x' | b'X']))
 }
 
 /// What is built, and of which words.
