@@ -428,7 +428,8 @@ class Scard {
     const value = isConstructed ? "constructed" : wordOf(octets.subarray(place, place + count));
     const note = () => {
       const text = isConstructed ? "" : this.quoted(memory.octets + place, count);
-      return [counted(count), this.note("tag", tag[0]), ...(text ? [text] : [])].join(", ");
+      const places = [`at ${place - width - tag[3]}`, `value at ${place}`];
+      return [...places, counted(count), this.note("tag", tag[0]), ...(text ? [text] : [])].join(", ");
     };
     return say(`${"  ".repeat(depth - 1)}${tagOf(tag)} ${hexOf(octets.subarray(place - width, place))} ${value}`, note);
   }

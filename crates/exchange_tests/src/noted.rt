@@ -54,10 +54,13 @@ const BLOCKS: [[&str; 2]; 4] = [
 ];
 
 const FORESTS: [[&str; 2]; 2] = [
-    ["500141", "|1 octet, application class, \"A\"|"],
+    [
+        "500141",
+        "|at 0, value at 2, 1 octet, application class, \"A\"|",
+    ],
     [
         "6F03840100",
-        "|3 octets, application class|1 octet, context-specific class|",
+        "|at 0, value at 2, 3 octets, application class|at 2, value at 4, 1 octet, context-specific class|",
     ],
 ];
 

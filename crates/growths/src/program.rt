@@ -37,7 +37,7 @@ const ROWS: [(&str, &str); 17] = [
     ),
     (
         "show tlv 500141 --notes",
-        "objects 1\n50 01 41  # 1 octet, application class, \"A\"\n",
+        "objects 1\n50 01 41  # at 0, value at 2, 1 octet, application class, \"A\"\n",
     ),
     ("build chain 2 0 00A404", "00200200A486\n0040010445\n"),
     ("build tidy 00005A81011200", "5A0112\n"),

@@ -3,6 +3,7 @@
 ghost use Rattle.std.specs.Prelude.{◌≡◌, ◌≤◌};
 ghost use Rattle.notes.specs.Missing.{wanted_of};
 
+use crate::forest::header_at;
 use crate::missing::front;
 use octet_core::{Stop, hex_upper};
 use std::alloc::{AllocError, Global};
@@ -62,8 +63,7 @@ fn value_end(part: PlacedPart) -> usize
 /// The tag of an object and the place of its header.
 fn named(alloc: Global, part: PlacedPart) -> Result<String, AllocError> {
     let tag = hex_upper(alloc, part.tag.octets())?;
-    let header = part.tag.octets().len() + part.form.octets();
-    let place = (part.place as usize).saturating_sub(header);
+    let place = header_at(part.tag, part.form, part.place as usize);
     format!(in alloc; "{tag} at {place}")
 }
 
