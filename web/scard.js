@@ -305,7 +305,8 @@ class Scard {
     lines.push(say(`F ${rate(memory.other)}`), say(`D ${rate(memory.other + 2)}`));
     const { refused, ifsc, bwi, cwi } = this.t1();
     const params = `ifsc ${ifsc} bwi ${bwi} cwi ${cwi}`;
-    lines.push(say(`t1 ${refused ?? params}`, () => (refused ? "" : "redundancy code LRC")));
+    const alone = atr[7] ? "" : "offers T=0 alone";
+    lines.push(say(`t1 ${refused ?? params}`, () => (refused ? alone : "redundancy code LRC")));
     return lines;
   }
 

@@ -69,7 +69,7 @@ const ANSWERS: [[&str; 2]; 2] = [
         "3B808131204555",
         "|offers T=1|offers T=1||||exclusive-or of T0 to here is 00|||redundancy code LRC|",
     ],
-    ["3B024142", "|\"AB\"|||||"],
+    ["3B024142", "|\"AB\"||||offers T=0 alone|"],
 ];
 
 /// Whether the notes are these, each of which a bar ends.

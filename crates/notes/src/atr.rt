@@ -9,7 +9,8 @@ use atr_core::{Atr, Indicated, Interface, t1_params};
 use std::alloc::{AllocError, Global};
 
 /// The notes of an answer to reset, one a line: of a TD the protocol that it offers, of TA2 the mode, of historical
-/// bytes their text, of TCK what it makes 00, of the parameters of T=1 the redundancy code (ISO/IEC 7816-3, clause 8).
+/// bytes their text, of TCK what it makes 00, of the parameters of T=1 the redundancy code; and where there is no TD,
+/// that T=0 alone is offered (ISO/IEC 7816-3, clause 8).
 pub fn atr_notes(alloc: Global, atr: &Atr) -> Result<Vec<String>, AllocError> {
     let mut notes = Vec::new(alloc);
     notes.push(String::new(alloc))?;
@@ -87,6 +88,7 @@ fn tck_note(alloc: Global, tck: Option<u8>) -> Result<String, AllocError> {
 fn t1_note(alloc: Global, atr: &Atr) -> Result<String, AllocError> {
     match t1_params(atr) {
         Ok(_) => String::from_str(alloc, "redundancy code LRC"),
+        Err(_) if atr.indicated().is_empty() => String::from_str(alloc, "offers T=0 alone"),
         Err(_) => Ok(String::new(alloc)),
     }
 }
