@@ -4,6 +4,7 @@ use crate::as_exchange;
 use crate::ends::{Ends, params};
 use crate::states::{STATES, State, Turns};
 use crate::turns::{Fits, ROWS, Wanted};
+use crate::usable::{is_card_usable, is_terminal_usable};
 use atr_core::T1Params;
 use block_core::{Block, BlockReason, decode, encode};
 use exchange_core::Exchange;
@@ -20,18 +21,8 @@ enum Class {
     Invalid,
 }
 
-/// The RESYNCH request and response.
-const RESYNCH: [u8; 4] = [0x00, 0xC0, 0x00, 0xC0];
-
-const RESYNCHED: [u8; 4] = [0x00, 0xE0, 0x00, 0xE0];
-
 /// What an exchange begins with whose card takes fields of 2 octets.
 const HEAD: &str = "scard-exchange 1\natr 3B808131024577\n";
-
-/// What is exchanged after a delivery.
-const COMMAND: [u8; 2] = [0x00, 0xA4];
-
-const REPLY: [u8; 2] = [0x90, 0x00];
 
 /// The blocks that are delivered, in hexadecimal.
 const BLOCKS: [&str; 20] = [
@@ -435,63 +426,4 @@ fn is_card(
         (Err(fault), Wanted::Card(wanted)) => Ok(*fault == wanted),
         _ => Ok(false),
     }
-}
-
-/// Whether the terminal begins again with a new card and an exchange passes, or refuses all as dead.
-fn is_terminal_usable(terminal: &mut Terminal, card: &mut Card) -> bool {
-    for _ in 0..8usize {
-        match terminal.received(&RESYNCHED) {
-            Ok(TerminalTurn::GivenUp) => return is_exchanged(terminal, card),
-            Ok(TerminalTurn::Dead) | Err(TerminalFault::Dead) => return is_dead(terminal),
-            Err(TerminalFault::Idle) if terminal.transmit(&COMMAND).is_ok() => {}
-            Ok(_) => {}
-            Err(_) => return false,
-        }
-    }
-    false
-}
-
-/// Whether the terminal refuses each call as dead.
-fn is_dead(terminal: &mut Terminal) -> bool {
-    same(terminal.quiet(), Err(TerminalFault::Dead))
-        && same(terminal.received(&RESYNCHED), Err(TerminalFault::Dead))
-        && same(terminal.transmit(&COMMAND), Err(TerminalFault::Dead))
-        && same(terminal.ask_ifs(32), Err(TerminalFault::Dead))
-}
-
-/// Whether the card, whose host replies where it owes to, begins again and an exchange with a new
-/// terminal passes.
-fn is_card_usable(terminal: &mut Terminal, card: &mut Card) -> bool {
-    if same(card.received(&RESYNCH), Err(CardFault::Order)) {
-        let is_replied = card.reply(&REPLY).is_ok();
-        if !is_replied || card.received(&RESYNCH).is_err() {
-            return false;
-        }
-    }
-    is_exchanged(terminal, card)
-}
-
-/// Whether a command passes from an idle terminal to the card, and its reply back.
-fn is_exchanged(terminal: &mut Terminal, card: &mut Card) -> bool {
-    match terminal.transmit(&COMMAND) {
-        Ok(TerminalTurn::Send(sent)) if is_asked(card, &sent) => match card.reply(&REPLY) {
-            Ok(CardTurn::Send(back)) => is_answered(terminal, &back),
-            _ => false,
-        },
-        _ => false,
-    }
-}
-
-/// Whether a block brings the card's host the command.
-fn is_asked(card: &mut Card, sent: &Block) -> bool {
-    same(card.received(encode(sent).as_slice()), Ok(CardTurn::Asked))
-        && same(card.command(), Some(COMMAND.as_slice()))
-}
-
-/// Whether a block brings the terminal the reply.
-fn is_answered(terminal: &mut Terminal, back: &Block) -> bool {
-    same(
-        terminal.received(encode(back).as_slice()),
-        Ok(TerminalTurn::Answered),
-    ) && same(terminal.answer(), Some(REPLY.as_slice()))
 }

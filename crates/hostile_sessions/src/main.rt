@@ -15,6 +15,7 @@ mod refusals;
 mod sessions;
 mod states;
 mod turns;
+mod usable;
 
 use exchange_core::{Exchange, ExchangeFault, ReplayFault, Side, read_exchange, replay};
 use std::alloc::Global;
