@@ -1,21 +1,24 @@
-// The page in headless Chromium.
+// The page in headless Chromium and Firefox, where they are there; Firefox needs a node that has WebSocket.
 //
 // usage: node web/browser.mjs PAGE [PICTURES]
 //
 // PAGE is what web/make made. On each line of vectors/ that the page has an answer to, what it says in the browser is
-// compared, character by character, with what the vectors give for the program. Then it is used: each example is
-// chosen, texts are typed, and nothing may be loaded, sent or complained of. A forest of 1 MiB has to be shown in a
+// compared, character by character, with what the vectors give for the program. Then each example is chosen, and
+// nothing may be loaded, sent or complained of. In Chromium texts are typed too: a forest of 1 MiB has to be shown in a
 // second, and no text of 64 KiB may keep what is typed for 50 milliseconds. With PICTURES, pictures of each example go
 // into that folder, light, dark and narrow. The last line is 'N passed, M failed'.
 import { execFileSync } from "node:child_process";
 import { join } from "node:path";
 import { Checks } from "./checks.mjs";
-import { Page, wait } from "./chromium.mjs";
+import { Page as Chromium } from "./chromium.mjs";
+import { Page as Firefox } from "./firefox.mjs";
 import { cases } from "./loaded.mjs";
+import { wait } from "./remote.mjs";
 import { answered, asked as askedBy, wanted } from "./requests.mjs";
 import { SAID, TEXTS } from "./shown.mjs";
 
-const NAMES = ["chromium", "chromium-browser", "google-chrome"];
+const CHROMIUM = ["chromium", "chromium-browser", "google-chrome"];
+const FIREFOX = ["firefox-esr", "firefox"];
 const BATCH = 500;
 const TRIES = 3;
 // Milliseconds until a text is shown, and for which a text of at most so many characters may keep what is typed.
@@ -24,9 +27,9 @@ const [SOON, KEPT, SHORT] = [1000, 50, 65536];
 const [file, pictures] = process.argv.slice(2);
 const checks = new Checks("browser", 20);
 
-// The command that starts the browser, where there is one.
-function chromium() {
-  return NAMES.find((name) => {
+// The command that starts a browser, where there is one.
+function found(names) {
+  return names.find((name) => {
     try {
       return execFileSync("sh", ["-c", `command -v ${name}`]);
     } catch {
@@ -115,25 +118,39 @@ async function draw(page) {
   }
 }
 
-const name = chromium();
-if (!name) {
-  console.log("browser: there is no chromium here");
-  checks.end(0);
-  process.exit();
+// What the page does in each browser: it answers, and loads and sends nothing.
+async function used(page) {
+  console.log(`browser: ${await page.version()}`);
+  await page.until('part("status").textContent === "ok 5 octets"');
+  await compare(page);
+  for (const at of SAID.keys()) await choose(page, at);
 }
-const page = await Page.open(name, file);
-console.log(`browser: ${(await page.call("Browser.getVersion")).product}`);
-await page.until('part("status").textContent === "ok 5 octets"');
-await compare(page);
-for (const at of SAID.keys()) await choose(page, at);
-await measure(page);
-if (pictures) await draw(page);
-await wait(100);
-const asked = page.seen.filter(({ method }) => method === "Network.requestWillBeSent");
-const addresses = asked.map(({ params }) => params.request.url);
-checks.equal("what is loaded", addresses.filter((it) => !/^(file|about):/.test(it)).join(" "), "");
-checks.equal("how many files are loaded", addresses.filter((it) => it.startsWith("file:")).length, 1);
-const faults = page.seen.filter(({ method }) => ["Log.entryAdded", "Runtime.exceptionThrown"].includes(method));
-checks.equal("what the browser complains of", JSON.stringify(faults), "[]");
-await page.close();
-checks.end();
+
+// Nothing but the page was asked for, and there is nothing to complain of. Firefox doesn't tell of files.
+async function left(page, files) {
+  await wait(100);
+  const addresses = page.addresses();
+  checks.equal("what is loaded", addresses.filter((it) => !/^(file|about):/.test(it)).join(" "), "");
+  checks.equal("how many files are loaded", addresses.filter((it) => it.startsWith("file:")).length, files);
+  checks.equal("what the browser complains of", JSON.stringify(page.complaints()), "[]");
+  await page.close();
+}
+
+const [chromium, firefox] = [found(CHROMIUM), found(FIREFOX)];
+if (chromium) {
+  const page = await Chromium.open(chromium, file);
+  await used(page);
+  await measure(page);
+  if (pictures) await draw(page);
+  await left(page, 1);
+} else {
+  console.log("browser: there is no chromium here");
+}
+if (firefox && globalThis.WebSocket) {
+  const page = await Firefox.open(firefox, file);
+  await used(page);
+  await left(page, 0);
+} else {
+  console.log(`browser: ${firefox ? "this node has no WebSocket, so firefox is left out" : "there is no firefox here"}`);
+}
+checks.end(chromium || (firefox && globalThis.WebSocket) ? 1 : 0);

@@ -4,11 +4,12 @@ import { mkdtempSync, rmSync, writeFileSync } from "node:fs";
 import { tmpdir } from "node:os";
 import { join } from "node:path";
 import { pathToFileURL } from "node:url";
+import { Remote, wait } from "./remote.mjs";
 
 const WORDS = ["--headless=new", "--remote-debugging-pipe", "--no-first-run", "--disable-gpu", "--disable-extensions",
   "--disable-background-networking", "--disable-dev-shm-usage"];
 
-export class Page {
+export class Page extends Remote {
   // Opens a file in a browser of its own. As root Chromium runs without its sandbox alone.
   static async open(chromium, file) {
     const page = new Page(chromium);
@@ -21,11 +22,12 @@ export class Page {
   }
 
   constructor(chromium) {
+    super();
     this.profile = mkdtempSync(join(tmpdir(), "scard-chromium-"));
     const root = process.getuid() === 0 ? ["--no-sandbox"] : [];
     const words = [...WORDS, ...root, `--user-data-dir=${this.profile}`];
     this.browser = spawn(chromium, words, { stdio: ["ignore", "ignore", "ignore", "pipe", "pipe"] });
-    [this.number, this.asked, this.seen, this.left] = [0, new Map(), [], ""];
+    this.left = "";
     this.browser.on("error", (fault) => this.end(fault));
     this.browser.on("exit", () => this.end(new Error("the browser ended")));
     this.browser.stdio[4].setEncoding("utf8").on("data", (text) => this.read(text));
@@ -38,27 +40,8 @@ export class Page {
     for (const message of messages) this.take(JSON.parse(message));
   }
 
-  take({ id, error, result, method, params }) {
-    if (id === undefined) {
-      this.seen.push({ method, params });
-      return;
-    }
-    const { yes, no } = this.asked.get(id);
-    this.asked.delete(id);
-    if (error) no(new Error(error.message));
-    else yes(result);
-  }
-
-  end(fault) {
-    for (const { no } of this.asked.values()) no(fault);
-    this.asked.clear();
-  }
-
   call(method, params = {}) {
-    const message = { id: ++this.number, method, params, sessionId: this.session };
-    const answer = new Promise((yes, no) => this.asked.set(message.id, { yes, no }));
-    this.browser.stdio[3].write(`${JSON.stringify(message)}\0`);
-    return answer;
+    return this.sent({ method, params, sessionId: this.session }, (text) => this.browser.stdio[3].write(`${text}\0`));
   }
 
   // Loads an address, and waits until it is there.
@@ -76,13 +59,18 @@ export class Page {
     return result.value;
   }
 
-  // Waits until an expression holds.
-  async until(expression) {
-    for (let times = 0; times < 500; times++) {
-      if (await this.value(expression)) return;
-      await wait(10);
-    }
-    throw new Error(`this never came: ${expression}`);
+  async version() {
+    return (await this.call("Browser.getVersion")).product;
+  }
+
+  // The addresses that were asked for.
+  addresses() {
+    const asked = this.seen.filter(({ method }) => method === "Network.requestWillBeSent");
+    return asked.map(({ params }) => params.request.url);
+  }
+
+  complaints() {
+    return this.seen.filter(({ method }) => ["Log.entryAdded", "Runtime.exceptionThrown"].includes(method));
   }
 
   // Puts a picture of the whole page into a file.
@@ -101,5 +89,3 @@ export class Page {
     rmSync(this.profile, { recursive: true, force: true, maxRetries: 5 });
   }
 }
-
-export const wait = (milliseconds) => new Promise((yes) => setTimeout(yes, milliseconds));

@@ -1,0 +1,85 @@
+// A page in headless Firefox, over WebDriver BiDi: nothing of npm. Its port is of this machine alone.
+import { spawn } from "node:child_process";
+import { mkdtempSync, rmSync } from "node:fs";
+import { tmpdir } from "node:os";
+import { join } from "node:path";
+import { pathToFileURL } from "node:url";
+import { Remote } from "./remote.mjs";
+
+const HERE = /WebDriver BiDi listening on (ws:\S+)/;
+const EVENTS = ["log.entryAdded", "network.beforeRequestSent"];
+
+export class Page extends Remote {
+  // Opens a file in a browser of its own.
+  static async open(firefox, file) {
+    const page = new Page(firefox);
+    await page.connected();
+    const { capabilities } = await page.call("session.new", { capabilities: {} });
+    page.capabilities = capabilities;
+    const { contexts } = await page.call("browsingContext.getTree", {});
+    page.context = contexts[0].context;
+    await page.call("session.subscribe", { events: EVENTS });
+    const url = pathToFileURL(file).href;
+    await page.call("browsingContext.navigate", { context: page.context, url, wait: "complete" });
+    return page;
+  }
+
+  constructor(firefox) {
+    super();
+    this.profile = mkdtempSync(join(tmpdir(), "scard-firefox-"));
+    const words = ["--headless", "--no-remote", "--remote-debugging-port=0", "--profile", this.profile];
+    this.browser = spawn(firefox, words, { stdio: ["ignore", "ignore", "pipe"] });
+    this.ended = new Promise((yes) => this.browser.on("exit", yes));
+  }
+
+  // Waits until the browser has said where its tools are, and connects to them.
+  async connected() {
+    const address = await new Promise((yes, no) => {
+      let said = "";
+      this.browser.on("error", no);
+      this.browser.on("exit", () => no(new Error("the browser ended")));
+      this.browser.stderr.setEncoding("utf8").on("data", (text) => {
+        said += text;
+        if (HERE.test(said)) yes(HERE.exec(said)[1]);
+      });
+    });
+    this.socket = new WebSocket(`${address}/session`);
+    this.socket.onmessage = ({ data }) => this.take(JSON.parse(data));
+    this.socket.onclose = () => this.end(new Error("the browser ended"));
+    await new Promise((yes, no) => Object.assign(this.socket, { onopen: yes, onerror: no }));
+  }
+
+  call(method, params) {
+    return this.sent({ method, params }, (text) => this.socket.send(text));
+  }
+
+  // What an expression of the page's own world comes to.
+  async value(expression) {
+    const target = { context: this.context };
+    const text = `Promise.resolve(${expression}).then((it) => JSON.stringify(it))`;
+    const how = { expression: text, target, awaitPromise: true };
+    const { type, result, exceptionDetails } = await this.call("script.evaluate", how);
+    if (type === "exception") throw new Error(exceptionDetails.text);
+    return result.value === undefined ? undefined : JSON.parse(result.value);
+  }
+
+  async version() {
+    return `${this.capabilities.browserName} ${this.capabilities.browserVersion}`;
+  }
+
+  // The addresses that were asked for.
+  addresses() {
+    const asked = this.seen.filter(({ method }) => method === "network.beforeRequestSent");
+    return asked.map(({ params }) => params.request.url);
+  }
+
+  complaints() {
+    return this.seen.filter(({ method }) => method === "log.entryAdded");
+  }
+
+  async close() {
+    this.call("browser.close", {}).catch(() => {});
+    await this.ended;
+    rmSync(this.profile, { recursive: true, force: true, maxRetries: 5 });
+  }
+}

@@ -1,0 +1,43 @@
+// What pages in both browsers share: calls of the browser's tools by number, their answers, and what is seen meanwhile.
+export class Remote {
+  constructor() {
+    [this.number, this.asked, this.seen] = [0, new Map(), []];
+  }
+
+  // What the browser said: the answer to a call, or something that happened.
+  take({ id, error, result, method, params, message = error?.message }) {
+    if (!this.asked.has(id)) {
+      this.seen.push({ method, params });
+      return;
+    }
+    const { yes, no } = this.asked.get(id);
+    this.asked.delete(id);
+    if (error) no(new Error(message));
+    else yes(result);
+  }
+
+  // The browser ended, or can't be started.
+  end(fault) {
+    for (const { no } of this.asked.values()) no(fault);
+    this.asked.clear();
+  }
+
+  // Sends a call, with its number, and waits for its answer.
+  sent(call, send) {
+    const message = { id: ++this.number, ...call };
+    const answer = new Promise((yes, no) => this.asked.set(message.id, { yes, no }));
+    send(JSON.stringify(message));
+    return answer;
+  }
+
+  // Waits until an expression of the page holds.
+  async until(expression) {
+    for (let times = 0; times < 500; times++) {
+      if (await this.value(expression)) return;
+      await wait(10);
+    }
+    throw new Error(`this never came: ${expression}`);
+  }
+}
+
+export const wait = (milliseconds) => new Promise((yes) => setTimeout(yes, milliseconds));
