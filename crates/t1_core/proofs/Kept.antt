@@ -16,8 +16,8 @@ use Rattle.t1_core.specs.declared.turns.CardFault.TheVariants.{TooLong as ReplyT
 use Rattle.block_core.specs.Block.{other}
 use Rattle.t1_core.specs.Came.{same, info, ready, request}
 use Rattle.t1_core.specs.Terminal.{failure, no_failure, fails, sends_next, is_reserved, idle, answer, resynch, dead, Limits, most_repeats, most_resynchs}
-use Rattle.t1_core.specs.Card.{CardState, command, host, reply, asking, size, time, number_after, sends_next as card_sends_next, sends_saved, waiting as card_waiting}
-use Rattle.t1_core.specs.Link.{tables, Link, link_with, run, nothing, to_card, Exchange, answered, unanswered, given_up, command_of, without_answer, terminal_makes, card_makes, happens, Event, delivers, damages, spoils, loses, transmits, asks_ifsd, host_replies, host_asks_time, host_asks_ifsc}
+use Rattle.t1_core.specs.Card.{CardState, CardStep, Waits as CardWaits, if_host, command, host, reply, asking, size, time, number_after, sends_next as card_sends_next, sends_saved, waiting as card_waiting}
+use Rattle.t1_core.specs.Link.{tables, Link, link_with, run, nothing, to_card, Exchange, answered, unanswered, given_up, command_of, without_answer, with_reply, terminal_makes, card_makes, happens, Event, delivers, damages, spoils, loses, transmits, asks_ifsd, host_replies, host_asks_time, host_asks_ifsc}
 use Rattle.t1_core.specs.Promises.{Matches, FitsReceiver, AllFit}
 use Rattle.t1_core.proofs.Good.{Good, at_rest, size_asked, size_taken, size_doubted, asks_resynch, resynched, resynch_doubted, over, sends, sends_asked, sends_doubted, taken_asked, taken_told, served, size_wanted, size_given, size_missed, time_wanted, time_given, time_missed, replying, replies_asked, replies_doubted, joined_told, joined_doubted, Few, Counts, Spare, Asked, Fine, Held, Ended, OlderEnded, term, crd, link, NoHost, first, further}
 
@@ -616,136 +616,85 @@ replied s c n i j i0 a m field es hs d f y fits u ok true h =
     (cut_fits j y) ok
 replied s c n i j i0 a m field es hs d f y fits u ok false h = served u ok
 
+-- the host has no turn, or the terminal waits for its reply with nothing under way
+data Turn (P : Type 0) (kt kc : Limits) : Link → Type 0 where
+  none : {l : Link} → NoHost l.card.waits → Turn P kt kc l
+  owes : {s c : Number} {n i j i0 : ℕ} {a : Option (List ℕ)} {m field : List ℕ} {es hs : List Exchange} {d f : ℕ}
+      → Counts P n f d → Fine es hs
+      → Turn P kt kc (link (term kt s c n i j i0 m (answer field) a) (crd kc c (other s) None i j i0 m host) nothing
+      (unanswered m ∷ es) (unanswered m ∷ hs) d f)
+
+turn : {P : Type 0} {kt kc : Limits} (l : Link) → Good P kt kc l → Turn P kt kc l
+turn l (served u ok) = owes u ok
+turn l (at_rest u ok) = none tt
+turn l (size_asked u ok) = none tt
+turn l (size_taken u ok) = none tt
+turn l (size_doubted u ok) = none tt
+turn l (asks_resynch w u nh ok) = none nh
+turn l (resynched u ok) = none tt
+turn l (resynch_doubted w pcb u nh plain ok) = none nh
+turn l (over w u nh ok) = none nh
+turn l (sends joined field rest u e p q ok) = none tt
+turn l (sends_asked joined field rest u e p q ok) = none tt
+turn l (sends_doubted joined field rest u e p q ok) = none tt
+turn l (taken_asked u e p ok) = none tt
+turn l (taken_told u e p ok) = none tt
+turn l (size_wanted u ok) = none tt
+turn l (size_given u ok) = none tt
+turn l (size_missed u ok) = none tt
+turn l (time_wanted u ok) = none tt
+turn l (time_given u ok) = none tt
+turn l (time_missed u ok) = none tt
+turn l (replying ear field [] u e p q ok) = none tt
+turn l (replying ear field (x ∷ rest) u e p q ok) = none tt
+turn l (replies_asked ear field [] u e p q ok) = none tt
+turn l (replies_asked ear field (x ∷ rest) u e p q ok) = none tt
+turn l (replies_doubted ear field [] u e p q ok) = none tt
+turn l (replies_doubted ear field (x ∷ rest) u e p q ok) = none tt
+turn l (joined_told u e p ok) = none tt
+turn l (joined_doubted u e p ok) = none tt
+
+-- a call of the host out of turn changes nothing
+out_of_turn : (before l : Link) (w : CardWaits) (step : CardStep) → NoHost w
+    → before ≡ card_makes before l (if_host w step)
+out_of_turn before l (command joined) step nh = refl
+out_of_turn before l host step nh = absurd nh
+out_of_turn before l (reply field rest) step nh = refl
+out_of_turn before l (asking q) step nh = refl
+
 -- The host replies.
-pub kept_replies : {P : Type 0} {kt kc : Limits} (y : List ℕ) → (P → FitsReceiver kt kc (host_replies y)) → (l : Link)
-    → Good P kt kc l → Good P kt kc (happens tables l (host_replies y))
-kept_replies {P} {kt} {kc} y fits l (served {s = s} {c = c} {n = n} {i = i} {j = j} {i0 = i0} {a = a} {m = m}
+replies_in_turn : {P : Type 0} {kt kc : Limits} (y : List ℕ) → (P → FitsReceiver kt kc (host_replies y)) → (l : Link)
+    → Good P kt kc l → Turn P kt kc l → Good P kt kc (happens tables l (host_replies y))
+replies_in_turn {P} {kt} {kc} y fits l g (none nh) =
+    subst (Good P kt kc) (out_of_turn l (record l { services = with_reply l.services y }) l.card.waits _ nh) g
+replies_in_turn {P} {kt} {kc} y fits l g (owes {s = s} {c = c} {n = n} {i = i} {j = j} {i0 = i0} {a = a} {m = m}
     {field = field} {es = es} {hs = hs} {d = d} {f = f} u ok) =
     replied s c n i j i0 a m field es hs d f y fits u ok (nat_le (length y) kc.answer) refl
-kept_replies y fits l (at_rest u ok) = at_rest u ok
-kept_replies y fits l (size_asked u ok) = size_asked u ok
-kept_replies y fits l (size_taken u ok) = size_taken u ok
-kept_replies y fits l (size_doubted u ok) = size_doubted u ok
-kept_replies y fits l (asks_resynch (command joined) u nh ok) = asks_resynch (command joined) u nh ok
-kept_replies y fits l (asks_resynch (reply field rest) u nh ok) = asks_resynch (reply field rest) u nh ok
-kept_replies y fits l (asks_resynch (asking q) u nh ok) = asks_resynch (asking q) u nh ok
-kept_replies y fits l (asks_resynch host u nh ok) = absurd nh
-kept_replies y fits l (resynched u ok) = resynched u ok
-kept_replies y fits l (resynch_doubted (command joined) pcb u nh plain ok) =
-    resynch_doubted (command joined) pcb u nh plain ok
-kept_replies y fits l (resynch_doubted (reply field rest) pcb u nh plain ok) =
-    resynch_doubted (reply field rest) pcb u nh plain ok
-kept_replies y fits l (resynch_doubted (asking q) pcb u nh plain ok) = resynch_doubted (asking q) pcb u nh plain ok
-kept_replies y fits l (resynch_doubted host pcb u nh plain ok) = absurd nh
-kept_replies y fits l (over (command joined) u nh ok) = over (command joined) u nh ok
-kept_replies y fits l (over (reply field rest) u nh ok) = over (reply field rest) u nh ok
-kept_replies y fits l (over (asking q) u nh ok) = over (asking q) u nh ok
-kept_replies y fits l (over host u nh ok) = absurd nh
-kept_replies y fits l (sends joined field rest u e p q ok) = sends joined field rest u e p q ok
-kept_replies y fits l (sends_asked joined field rest u e p q ok) = sends_asked joined field rest u e p q ok
-kept_replies y fits l (sends_doubted joined field rest u e p q ok) = sends_doubted joined field rest u e p q ok
-kept_replies y fits l (taken_asked u e p ok) = taken_asked u e p ok
-kept_replies y fits l (taken_told u e p ok) = taken_told u e p ok
-kept_replies y fits l (size_wanted u ok) = size_wanted u ok
-kept_replies y fits l (size_given u ok) = size_given u ok
-kept_replies y fits l (size_missed u ok) = size_missed u ok
-kept_replies y fits l (time_wanted u ok) = time_wanted u ok
-kept_replies y fits l (time_given u ok) = time_given u ok
-kept_replies y fits l (time_missed u ok) = time_missed u ok
-kept_replies y fits l (replying ear field [] u e p q ok) = replying ear field [] u e p q ok
-kept_replies y fits l (replying ear field (x ∷ rest) u e p q ok) = replying ear field (x ∷ rest) u e p q ok
-kept_replies y fits l (replies_asked ear field [] u e p q ok) = replies_asked ear field [] u e p q ok
-kept_replies y fits l (replies_asked ear field (x ∷ rest) u e p q ok) = replies_asked ear field (x ∷ rest) u e p q ok
-kept_replies y fits l (replies_doubted ear field [] u e p q ok) = replies_doubted ear field [] u e p q ok
-kept_replies y fits l (replies_doubted ear field (x ∷ rest) u e p q ok) =
-    replies_doubted ear field (x ∷ rest) u e p q ok
-kept_replies y fits l (joined_told u e p ok) = joined_told u e p ok
-kept_replies y fits l (joined_doubted u e p ok) = joined_doubted u e p ok
+
+pub kept_replies : {P : Type 0} {kt kc : Limits} (y : List ℕ) → (P → FitsReceiver kt kc (host_replies y)) → (l : Link)
+    → Good P kt kc l → Good P kt kc (happens tables l (host_replies y))
+kept_replies y fits l g = replies_in_turn y fits l g (turn l g)
 
 -- The host asks for time.
+time_in_turn : {P : Type 0} {kt kc : Limits} (v : ℕ) (l : Link) → Good P kt kc l → Turn P kt kc l
+    → Good P kt kc (happens tables l (host_asks_time v))
+time_in_turn {P} {kt} {kc} v l g (none nh) = subst (Good P kt kc) (out_of_turn l l l.card.waits _ nh) g
+time_in_turn v l g (owes u ok) = time_wanted u ok
+
 pub kept_time : {P : Type 0} {kt kc : Limits} (v : ℕ) (l : Link) → Good P kt kc l
     → Good P kt kc (happens tables l (host_asks_time v))
-kept_time v l (served u ok) = time_wanted u ok
-kept_time v l (at_rest u ok) = at_rest u ok
-kept_time v l (size_asked u ok) = size_asked u ok
-kept_time v l (size_taken u ok) = size_taken u ok
-kept_time v l (size_doubted u ok) = size_doubted u ok
-kept_time v l (asks_resynch (command joined) u nh ok) = asks_resynch (command joined) u nh ok
-kept_time v l (asks_resynch (reply field rest) u nh ok) = asks_resynch (reply field rest) u nh ok
-kept_time v l (asks_resynch (asking q) u nh ok) = asks_resynch (asking q) u nh ok
-kept_time v l (asks_resynch host u nh ok) = absurd nh
-kept_time v l (resynched u ok) = resynched u ok
-kept_time v l (resynch_doubted (command joined) pcb u nh plain ok) = resynch_doubted (command joined) pcb u nh plain ok
-kept_time v l (resynch_doubted (reply field rest) pcb u nh plain ok) =
-    resynch_doubted (reply field rest) pcb u nh plain ok
-kept_time v l (resynch_doubted (asking q) pcb u nh plain ok) = resynch_doubted (asking q) pcb u nh plain ok
-kept_time v l (resynch_doubted host pcb u nh plain ok) = absurd nh
-kept_time v l (over (command joined) u nh ok) = over (command joined) u nh ok
-kept_time v l (over (reply field rest) u nh ok) = over (reply field rest) u nh ok
-kept_time v l (over (asking q) u nh ok) = over (asking q) u nh ok
-kept_time v l (over host u nh ok) = absurd nh
-kept_time v l (sends joined field rest u e p q ok) = sends joined field rest u e p q ok
-kept_time v l (sends_asked joined field rest u e p q ok) = sends_asked joined field rest u e p q ok
-kept_time v l (sends_doubted joined field rest u e p q ok) = sends_doubted joined field rest u e p q ok
-kept_time v l (taken_asked u e p ok) = taken_asked u e p ok
-kept_time v l (taken_told u e p ok) = taken_told u e p ok
-kept_time v l (size_wanted u ok) = size_wanted u ok
-kept_time v l (size_given u ok) = size_given u ok
-kept_time v l (size_missed u ok) = size_missed u ok
-kept_time v l (time_wanted u ok) = time_wanted u ok
-kept_time v l (time_given u ok) = time_given u ok
-kept_time v l (time_missed u ok) = time_missed u ok
-kept_time v l (replying ear field [] u e p q ok) = replying ear field [] u e p q ok
-kept_time v l (replying ear field (x ∷ rest) u e p q ok) = replying ear field (x ∷ rest) u e p q ok
-kept_time v l (replies_asked ear field [] u e p q ok) = replies_asked ear field [] u e p q ok
-kept_time v l (replies_asked ear field (x ∷ rest) u e p q ok) = replies_asked ear field (x ∷ rest) u e p q ok
-kept_time v l (replies_doubted ear field [] u e p q ok) = replies_doubted ear field [] u e p q ok
-kept_time v l (replies_doubted ear field (x ∷ rest) u e p q ok) = replies_doubted ear field (x ∷ rest) u e p q ok
-kept_time v l (joined_told u e p ok) = joined_told u e p ok
-kept_time v l (joined_doubted u e p ok) = joined_doubted u e p ok
+kept_time v l g = time_in_turn v l g (turn l g)
 
 -- The host asks for a size.
+size_in_turn : {P : Type 0} {kt kc : Limits} (v : ℕ) (l : Link) → Good P kt kc l → Turn P kt kc l
+    → Good P kt kc (happens tables l (host_asks_ifsc v))
+size_in_turn {P} {kt} {kc} v l g (none nh) = subst (Good P kt kc) (out_of_turn l l l.card.waits _ nh) g
+size_in_turn {P} {kt} {kc} v l g (owes u ok) =
+    either (λ y. Good P kt kc (card_makes l l y)) (is_reserved v) _ _ (served u ok) (size_wanted u ok)
+
 pub kept_size : {P : Type 0} {kt kc : Limits} (v : ℕ) (l : Link) → Good P kt kc l
     → Good P kt kc (happens tables l (host_asks_ifsc v))
-kept_size {P} {kt} {kc} v l (served u ok) =
-    either (λ y. Good P kt kc (card_makes l l y)) (is_reserved v) _ _ (served u ok) (size_wanted u ok)
-kept_size v l (at_rest u ok) = at_rest u ok
-kept_size v l (size_asked u ok) = size_asked u ok
-kept_size v l (size_taken u ok) = size_taken u ok
-kept_size v l (size_doubted u ok) = size_doubted u ok
-kept_size v l (asks_resynch (command joined) u nh ok) = asks_resynch (command joined) u nh ok
-kept_size v l (asks_resynch (reply field rest) u nh ok) = asks_resynch (reply field rest) u nh ok
-kept_size v l (asks_resynch (asking q) u nh ok) = asks_resynch (asking q) u nh ok
-kept_size v l (asks_resynch host u nh ok) = absurd nh
-kept_size v l (resynched u ok) = resynched u ok
-kept_size v l (resynch_doubted (command joined) pcb u nh plain ok) = resynch_doubted (command joined) pcb u nh plain ok
-kept_size v l (resynch_doubted (reply field rest) pcb u nh plain ok) =
-    resynch_doubted (reply field rest) pcb u nh plain ok
-kept_size v l (resynch_doubted (asking q) pcb u nh plain ok) = resynch_doubted (asking q) pcb u nh plain ok
-kept_size v l (resynch_doubted host pcb u nh plain ok) = absurd nh
-kept_size v l (over (command joined) u nh ok) = over (command joined) u nh ok
-kept_size v l (over (reply field rest) u nh ok) = over (reply field rest) u nh ok
-kept_size v l (over (asking q) u nh ok) = over (asking q) u nh ok
-kept_size v l (over host u nh ok) = absurd nh
-kept_size v l (sends joined field rest u e p q ok) = sends joined field rest u e p q ok
-kept_size v l (sends_asked joined field rest u e p q ok) = sends_asked joined field rest u e p q ok
-kept_size v l (sends_doubted joined field rest u e p q ok) = sends_doubted joined field rest u e p q ok
-kept_size v l (taken_asked u e p ok) = taken_asked u e p ok
-kept_size v l (taken_told u e p ok) = taken_told u e p ok
-kept_size v l (size_wanted u ok) = size_wanted u ok
-kept_size v l (size_given u ok) = size_given u ok
-kept_size v l (size_missed u ok) = size_missed u ok
-kept_size v l (time_wanted u ok) = time_wanted u ok
-kept_size v l (time_given u ok) = time_given u ok
-kept_size v l (time_missed u ok) = time_missed u ok
-kept_size v l (replying ear field [] u e p q ok) = replying ear field [] u e p q ok
-kept_size v l (replying ear field (x ∷ rest) u e p q ok) = replying ear field (x ∷ rest) u e p q ok
-kept_size v l (replies_asked ear field [] u e p q ok) = replies_asked ear field [] u e p q ok
-kept_size v l (replies_asked ear field (x ∷ rest) u e p q ok) = replies_asked ear field (x ∷ rest) u e p q ok
-kept_size v l (replies_doubted ear field [] u e p q ok) = replies_doubted ear field [] u e p q ok
-kept_size v l (replies_doubted ear field (x ∷ rest) u e p q ok) = replies_doubted ear field (x ∷ rest) u e p q ok
-kept_size v l (joined_told u e p ok) = joined_told u e p ok
-kept_size v l (joined_doubted u e p ok) = joined_doubted u e p ok
+kept_size v l g = size_in_turn v l g (turn l g)
 
 -- each event keeps what is reached, where its message fits the receiver if it is to
 pub kept : {P : Type 0} {kt kc : Limits} (e : Event) → (P → FitsReceiver kt kc e) → (l : Link) → Good P kt kc l
