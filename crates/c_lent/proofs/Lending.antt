@@ -2,8 +2,8 @@
 use Rattle.std.proofs.Common.{◌≡◌, ℕ, ◌≤◌, List, length, take, Bool, true, false, Option, Some, None, IfSome, IfNone, ap, ◌∙◌}
 use Rattle.std.proofs.lemmas.List.{length-take-le}
 use denote.Ref.{Bor}
-use Rattle.t1_core.specs.declared.places.TerminalPlaces.{TerminalPlaces}
-use Rattle.t1_core.specs.declared.places.CardPlaces.{CardPlaces}
+use Rattle.t1_core.specs.declared.lent.LentTerminal.{LentTerminal}
+use Rattle.t1_core.specs.declared.lent.LentCard.{LentCard}
 use Rattle.t1_core.specs.Terminal.{TerminalState}
 use Rattle.t1_core.specs.Card.{CardState}
 use Rattle.t1_core.specs.Views.{IsSlice, answered_of, terminal_held}
@@ -12,53 +12,53 @@ use Rattle.c_lent.specs.Verdict.{ok_at, wrong_argument}
 use Rattle.c_lent.specs.Kept.{IsTerminal, IsCard, terminal_of, card_of}
 use Rattle.c_lent.specs.Lent.{IsAtFront}
 use Rattle.c_lent.specs.KeptCheck.{IsCheck, check_of}
-use Rattle.tlv_core.specs.declared.places.CheckPlaces.{CheckPlaces}
+use Rattle.tlv_core.specs.declared.lent.LentCheck.{LentCheck}
 use Rattle.tlv_core.specs.Check.{Checked}
-use Rattle.tlv_core.specs.Places.{checked_at}
+use Rattle.tlv_core.specs.Lent.{checked_at}
 use Rattle.c_lent.specs.declared.kept_check.CCheck.{CCheck}
-use Rattle.chain_core.specs.declared.places.ReceiverPlaces.{ReceiverPlaces}
+use Rattle.chain_core.specs.declared.lent.LentReceiver.{LentReceiver}
 use Rattle.chain_core.specs.Taking.{Taking}
-use Rattle.chain_core.specs.Places.{received_at}
+use Rattle.chain_core.specs.Lent.{received_at}
 use Rattle.c_lent.specs.KeptReceiver.{IsReceiver, receiver_of}
 use Rattle.c_lent.specs.declared.kept_receiver.CReceiver.{CReceiver}
 use Rattle.c_lent.specs.declared.verdict.Verdict.{Verdict}
 use Rattle.c_lent.specs.declared.kept.CTerminal.{CTerminal}
 use Rattle.c_lent.specs.declared.kept.CCard.{CCard}
 
-same-places : (spelled : Option TerminalPlaces) (p q : TerminalPlaces) → spelled ≡ Some p → spelled ≡ Some q → p ≡ q
-same-places spelled p q e f = cc
+same-terminal : (spelled : Option LentTerminal) (p q : LentTerminal) → spelled ≡ Some p → spelled ≡ Some q → p ≡ q
+same-terminal spelled p q e f = cc
 
--- the terminal that a state is has the places that the state spells
-pub held-by : (c : CTerminal) (command answer : List ℕ) (t : TerminalState) (p : TerminalPlaces)
+-- the terminal that a state is is the one that the state spells
+pub held-by : (c : CTerminal) (command answer : List ℕ) (t : TerminalState) (p : LentTerminal)
     → terminal_of c ≡ Some p → IsTerminal c command answer t → t ≡ terminal_held p command answer
 held-by c command answer t p e is =
-    is.held ∙ ap (λ (q : TerminalPlaces). terminal_held q command answer)
-    (same-places (terminal_of c) is.places p is.spelled e)
+    is.held ∙ ap (λ (q : LentTerminal). terminal_held q command answer)
+    (same-terminal (terminal_of c) is.end p is.spelled e)
 
-same-card : (spelled : Option CardPlaces) (p q : CardPlaces) → spelled ≡ Some p → spelled ≡ Some q → p ≡ q
+same-card : (spelled : Option LentCard) (p q : LentCard) → spelled ≡ Some p → spelled ≡ Some q → p ≡ q
 same-card spelled p q e f = cc
 
--- the card that a state is has the places that the state spells
-pub card-held-by : (c : CCard) (command reply : List ℕ) (t : CardState) (p : CardPlaces)
+-- the card that a state is is the one that the state spells
+pub card-held-by : (c : CCard) (command reply : List ℕ) (t : CardState) (p : LentCard)
     → card_of c ≡ Some p → IsCard c command reply t → t ≡ card_held p command reply
 card-held-by c command reply t p e is =
-    is.held ∙ ap (λ (q : CardPlaces). card_held q command reply) (same-card (card_of c) is.places p is.spelled e)
+    is.held ∙ ap (λ (q : LentCard). card_held q command reply) (same-card (card_of c) is.end p is.spelled e)
 
-same-check : (spelled : Option CheckPlaces) (p q : CheckPlaces) → spelled ≡ Some p → spelled ≡ Some q → p ≡ q
+same-check : (spelled : Option LentCheck) (p q : LentCheck) → spelled ≡ Some p → spelled ≡ Some q → p ≡ q
 same-check spelled p q e f = cc
 
--- the check that a state is keeps the places that the state spells
-pub check-held-by : (c : CCheck) (k : Checked) (p : CheckPlaces) → check_of c ≡ Some p → IsCheck c k → k ≡ checked_at p
-check-held-by c k p e is = is.held ∙ ap checked_at (same-check (check_of c) is.places p is.spelled e)
+-- the check that a state is is the one that the state spells
+pub check-held-by : (c : CCheck) (k : Checked) (p : LentCheck) → check_of c ≡ Some p → IsCheck c k → k ≡ checked_at p
+check-held-by c k p e is = is.held ∙ ap checked_at (same-check (check_of c) is.check p is.spelled e)
 
-same-receiver : (spelled : Option ReceiverPlaces) (p q : ReceiverPlaces) → spelled ≡ Some p → spelled ≡ Some q → p ≡ q
+same-receiver : (spelled : Option LentReceiver) (p q : LentReceiver) → spelled ≡ Some p → spelled ≡ Some q → p ≡ q
 same-receiver spelled p q e f = cc
 
--- the receiver that a state and a buffer are has the places that the state spells
-pub receiver-held-by : (c : CReceiver) (message : List ℕ) (r : Taking) (p : ReceiverPlaces) → receiver_of c ≡ Some p
+-- the receiver that a state and a buffer are is the one that the state spells
+pub receiver-held-by : (c : CReceiver) (message : List ℕ) (r : Taking) (p : LentReceiver) → receiver_of c ≡ Some p
     → IsReceiver c message r → r ≡ received_at p message
 receiver-held-by c message r p e is = is.held
-    ∙ ap (λ (q : ReceiverPlaces). received_at q message) (same-receiver (receiver_of c) is.places p is.spelled e)
+    ∙ ap (λ (q : LentReceiver). received_at q message) (same-receiver (receiver_of c) is.receiver p is.spelled e)
 
 -- the first octets of a buffer, as the answer
 pub answer-at-front : (is_answered : Bool) (n : ℕ) (buffer : List ℕ) (lent : Option (Bor (List ℕ))) (v : Verdict)

@@ -7,12 +7,12 @@ use Rattle.t1_core.specs.declared.turns.TerminalWait.TheVariants as terminal_wai
 use Rattle.t1_core.specs.declared.turns.CardAsked.TheVariants.{Size, Time}
 use Rattle.t1_core.specs.declared.turns.CardWait.{CardWait}
 use Rattle.t1_core.specs.declared.turns.CardWait.TheVariants as card_wait
-use Rattle.t1_core.specs.declared.places.TerminalPlaces.{TerminalPlaces}
-use Rattle.t1_core.specs.declared.places.CardPlaces.{CardPlaces}
+use Rattle.t1_core.specs.declared.lent.LentTerminal.{LentTerminal}
+use Rattle.t1_core.specs.declared.lent.LentCard.{LentCard}
 use Rattle.t1_core.specs.Terminal.{TerminalState}
 use Rattle.t1_core.specs.Card.{CardState}
-use Rattle.t1_core.specs.Views.{terminal_held, AreTerminalPlaces}
-use Rattle.t1_core.specs.CardViews.{card_held, AreCardPlaces}
+use Rattle.t1_core.specs.Views.{terminal_held, IsLentTerminal}
+use Rattle.t1_core.specs.CardViews.{card_held, IsLentCard}
 use Rattle.c_lent.specs.Number.{number_of}
 use Rattle.c_lent.specs.declared.kept.CTerminal.{CTerminal}
 use Rattle.c_lent.specs.declared.kept.CCard.{CCard}
@@ -36,7 +36,7 @@ terminal_wait_of kind size place =
     else (if kind == 6 then Some terminal_wait.Dead else None))))))
 
 abbrev pub terminal_from : CTerminal → Option Number → Option Number → Option TerminalWait → Option Bool
-    → Option TerminalPlaces
+    → Option LentTerminal
 terminal_from c (Some number) (Some expected) (Some wait) (Some is_answered) = Some (record {
   number = number;
   expected = expected;
@@ -49,12 +49,12 @@ terminal_from c (Some number) (Some expected) (Some wait) (Some is_answered) = S
   most_command = c.most_command;
   most_answer = c.most_answer;
   command_len = c.command_len;
-  joined_len = c.answer_len;
+  answer_len = c.answer_len;
 })
 terminal_from c number expected wait is_answered = None
 
--- the places that a state spells, if any
-abbrev pub terminal_of : CTerminal → Option TerminalPlaces
+-- the terminal that a state spells, if any
+abbrev pub terminal_of : CTerminal → Option LentTerminal
 terminal_of c = terminal_from c (number_of c.number) (number_of c.expected) (terminal_wait_of c.wait c.size c.place)
     (mark_of c.is_answered)
 
@@ -73,7 +73,7 @@ abbrev pub saved_from : Bool → Cut → Option Cut
 saved_from false cut = None
 saved_from true cut = Some cut
 
-abbrev pub card_from : CCard → Option Number → Option Number → Option CardWait → Option Bool → Option CardPlaces
+abbrev pub card_from : CCard → Option Number → Option Number → Option CardWait → Option Bool → Option LentCard
 card_from c (Some number) (Some expected) (Some wait) (Some has_saved) = Some (record {
   number = number;
   expected = expected;
@@ -89,21 +89,21 @@ card_from c (Some number) (Some expected) (Some wait) (Some has_saved) = Some (r
 })
 card_from c number expected wait has_saved = None
 
--- the places that a state spells, if any
-abbrev pub card_of : CCard → Option CardPlaces
+-- the card that a state spells, if any
+abbrev pub card_of : CCard → Option LentCard
 card_of c = card_from c (number_of c.number) (number_of c.expected) (card_wait_of c.wait c.size c.place)
     (mark_of c.has_saved)
 
 -- A state and both buffers are this terminal. Where they are none, no terminal is it.
 pub record IsTerminal (c : CTerminal) (command answer : List ℕ) (t : TerminalState) : Type 0 where
-  pub places : TerminalPlaces
-  pub spelled : terminal_of c ≡ Some places
-  pub fit : AreTerminalPlaces places (length command) (length answer)
-  pub held : t ≡ terminal_held places command answer
+  pub end : LentTerminal
+  pub spelled : terminal_of c ≡ Some end
+  pub fit : IsLentTerminal end (length command) (length answer)
+  pub held : t ≡ terminal_held end command answer
 
 -- A state and both buffers are this card.
 pub record IsCard (c : CCard) (command reply : List ℕ) (t : CardState) : Type 0 where
-  pub places : CardPlaces
-  pub spelled : card_of c ≡ Some places
-  pub fit : AreCardPlaces places (length command) (length reply)
-  pub held : t ≡ card_held places command reply
+  pub end : LentCard
+  pub spelled : card_of c ≡ Some end
+  pub fit : IsLentCard end (length command) (length reply)
+  pub held : t ≡ card_held end command reply

@@ -6,9 +6,9 @@ use Rattle.tlv_core.specs.declared.header.Header.{Header}
 use Rattle.tlv_core.specs.declared.header.Header.TheVariants as header
 use Rattle.tlv_core.specs.declared.reason.TlvReason.{TlvReason}
 use Rattle.tlv_core.specs.declared.reason.TlvReason.TheVariants.{TooDeep, TagSecond, TagLong, LengthForm, Overrun, TooLong}
-use Rattle.tlv_core.specs.declared.places.CheckPlaces.{CheckPlaces}
+use Rattle.tlv_core.specs.declared.lent.LentCheck.{LentCheck}
 use Rattle.tlv_core.specs.Check.{Checked}
-use Rattle.tlv_core.specs.Places.{AreCheckPlaces, checked_at}
+use Rattle.tlv_core.specs.Lent.{IsLentCheck, checked_at}
 use Rattle.c_lent.specs.declared.kept_check.CHeader.{CHeader}
 use Rattle.c_lent.specs.declared.kept_check.CCheck.{CCheck}
 
@@ -49,7 +49,7 @@ header_of h =
     else (if h.kind == 3 then Some (header.Tagged (tag_of h))
     else (if h.kind == 4 then sized_from h (form_of h.form) else None))))
 
-abbrev pub check_from : CCheck → Option Header → Option (Option TlvReason) → Option CheckPlaces
+abbrev pub check_from : CCheck → Option Header → Option (Option TlvReason) → Option LentCheck
 check_from c (Some header) (Some refused) = Some (record {
   max = c.max;
   count = c.count;
@@ -61,13 +61,13 @@ check_from c (Some header) (Some refused) = Some (record {
 })
 check_from c header refused = None
 
--- the places that a state spells, if any
-abbrev pub check_of : CCheck → Option CheckPlaces
+-- the check that a state spells, if any
+abbrev pub check_of : CCheck → Option LentCheck
 check_of c = check_from c (header_of c.header) (refused_of c.refused)
 
 -- A state is this check. Where it is none, no check is it.
 pub record IsCheck (c : CCheck) (k : Checked) : Type 0 where
-  pub places : CheckPlaces
-  pub spelled : check_of c ≡ Some places
-  pub fit : AreCheckPlaces places
-  pub held : k ≡ checked_at places
+  pub check : LentCheck
+  pub spelled : check_of c ≡ Some check
+  pub fit : IsLentCheck check
+  pub held : k ≡ checked_at check

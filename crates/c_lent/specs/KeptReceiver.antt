@@ -4,11 +4,11 @@ use Rattle.octet_core.specs.declared.stop.Refusal.{Refusal}
 use Rattle.block_core.specs.declared.pcb.Number.{Number}
 use Rattle.chain_core.specs.declared.stage.BlockStage.{BlockStage}
 use Rattle.chain_core.specs.declared.stage.BlockStage.TheVariants.{Nad, Pcb, Len, Rest}
-use Rattle.chain_core.specs.declared.places.ReceiverPlaces.{ReceiverPlaces}
+use Rattle.chain_core.specs.declared.lent.LentReceiver.{LentReceiver}
 use Rattle.chain_core.specs.declared.reason.ChainReason.{ChainReason}
 use Rattle.chain_core.specs.declared.reason.ChainReason.TheVariants.{BadNad, BadPcb, NotInfo, BadSequence, TooManyBlocks, BadLen, OverIfs, TooLong, BadLrc}
 use Rattle.chain_core.specs.Taking.{Taking}
-use Rattle.chain_core.specs.Places.{AreReceiverPlaces, received_at}
+use Rattle.chain_core.specs.Lent.{IsLentReceiver, received_at}
 use Rattle.c_lent.specs.Number.{number_of}
 use Rattle.c_lent.specs.Kept.{mark_of}
 use Rattle.c_lent.specs.declared.kept_receiver.CReceiver.{CReceiver}
@@ -45,7 +45,7 @@ stage_from c (Some more) = stage_of c.part more c.len
 
 abbrev pub receiver_from : CReceiver → Option Number → Option BlockStage → Option Bool
     → Option (Option (Refusal ChainReason))
-    → Option ReceiverPlaces
+    → Option LentReceiver
 receiver_from c (Some first) (Some stage) (Some is_done) (Some refusal) = Some (record {
   ifs = c.ifs;
   first = first;
@@ -59,14 +59,14 @@ receiver_from c (Some first) (Some stage) (Some is_done) (Some refusal) = Some (
 })
 receiver_from c first stage is_done refusal = None
 
--- the places that a state spells, if any
-abbrev pub receiver_of : CReceiver → Option ReceiverPlaces
+-- the receiver that a state spells, if any
+abbrev pub receiver_of : CReceiver → Option LentReceiver
 receiver_of c = receiver_from c (number_of c.number) (stage_from c (mark_of c.more)) (mark_of c.done)
     (refusal_from c.refused c.refused_at)
 
 -- A state and a buffer are this receiver. Where they are none, no receiver is it.
 pub record IsReceiver (c : CReceiver) (message : List ℕ) (r : Taking) : Type 0 where
-  pub places : ReceiverPlaces
-  pub spelled : receiver_of c ≡ Some places
-  pub fit : AreReceiverPlaces places (length message)
-  pub held : r ≡ received_at places message
+  pub receiver : LentReceiver
+  pub spelled : receiver_of c ≡ Some receiver
+  pub fit : IsLentReceiver receiver (length message)
+  pub held : r ≡ received_at receiver message

@@ -2,7 +2,7 @@
 use Rattle.std.specs.Prelude.{◌≡◌, ℕ, List, Result}
 use Rattle.octet_core.specs.declared.stop.Stop.{Stop}
 use Rattle.chain_core.specs.Taking.{Taking}
-use Rattle.chain_core.specs.Places.{IsFinishedHere}
+use Rattle.chain_core.specs.Lent.{IsFinishedHere}
 use Rattle.chain_core.specs.declared.reason.ChainReason.{ChainReason}
 use Rattle.c_lent.specs.Chain.{chain_reason}
 use Rattle.c_lent.specs.Verdict.{told_end, wrong_argument}

@@ -4,12 +4,12 @@ ghost use Rattle.std.specs.Prelude.{◌≡◌, ◌≤◌, length};
 ghost use Rattle.t1_core.specs.Terminal.{terminal_turn, turn_of, state_after};
 ghost use Rattle.t1_core.specs.Card.{card_turn, turn_of as card_turn_of, state_after as card_after};
 ghost use Rattle.t1_core.specs.Put.{IsTerminalPut, IsCardPut};
-ghost use Rattle.t1_core.specs.Views.{terminal_held, AreTerminalPlaces};
-ghost use Rattle.t1_core.specs.CardViews.{card_held, AreCardPlaces};
+ghost use Rattle.t1_core.specs.Views.{terminal_held, IsLentTerminal};
+ghost use Rattle.t1_core.specs.CardViews.{card_held, IsLentCard};
 ghost use Rattle.c_lent.specs.Calls.{terminal_input, card_input};
 
 use t1_core::{
-    CardFault, CardPlaces, EncodedCardTurn, EncodedTerminalTurn, TerminalFault, TerminalPlaces,
+    CardFault, EncodedCardTurn, EncodedTerminalTurn, LentCard, LentTerminal, TerminalFault,
 };
 
 /// A call of a terminal.
@@ -42,17 +42,17 @@ impl<'a> TerminalCall<'a> {
     /// The same of a terminal over lent buffers.
     pub fn lend(
         self,
-        end: &mut TerminalPlaces,
+        end: &mut LentTerminal,
         command: &mut [u8],
         answer: &mut [u8],
         out: &mut [u8],
     ) -> Result<EncodedTerminalTurn, TerminalFault>
         requires room { 258 ≤ length out.old }
-        requires fit { AreTerminalPlaces end.old (length command.old) (length answer.old) }
+        requires fit { IsLentTerminal end.old (length command.old) (length answer.old) }
         ensures turn { IsTerminalPut
             (turn_of (terminal_turn (terminal_held end.old command.old answer.old)
             (terminal_input self.entry (terminal_held end.old command.old answer.old)))) out.old out.new result }
-        ensures fit { AreTerminalPlaces end.new (length command.new) (length answer.new) }
+        ensures fit { IsLentTerminal end.new (length command.new) (length answer.new) }
         ensures state { terminal_held end.new command.new answer.new ≡
             state_after (terminal_held end.old command.old answer.old)
             (terminal_turn (terminal_held end.old command.old answer.old)
@@ -71,16 +71,16 @@ impl<'a> CardCall<'a> {
     /// The same of a card over lent buffers.
     pub fn lend(
         self,
-        end: &mut CardPlaces,
+        end: &mut LentCard,
         command: &mut [u8],
         reply: &mut [u8],
         out: &mut [u8],
     ) -> Result<EncodedCardTurn, CardFault>
         requires room { 258 ≤ length out.old }
-        requires fit { AreCardPlaces end.old (length command.old) (length reply.old) }
+        requires fit { IsLentCard end.old (length command.old) (length reply.old) }
         ensures turn { IsCardPut (card_turn_of (card_turn (card_held end.old command.old reply.old)
             (card_input self.entry (card_held end.old command.old reply.old)))) out.old out.new result }
-        ensures fit { AreCardPlaces end.new (length command.new) (length reply.new) }
+        ensures fit { IsLentCard end.new (length command.new) (length reply.new) }
         ensures state { card_held end.new command.new reply.new ≡
             card_after (card_held end.old command.old reply.old)
             (card_turn (card_held end.old command.old reply.old)

@@ -1,16 +1,16 @@
 //! The states of both ends, where the caller keeps them and has no allocator.
 
 ghost use Rattle.std.specs.Prelude.{◌≡◌, IfSome, IfNone, Some};
-ghost use Rattle.t1_core.specs.declared.places.TerminalPlaces.{TerminalPlaces};
-ghost use Rattle.t1_core.specs.declared.places.CardPlaces.{CardPlaces};
-ghost use Rattle.t1_core.specs.Views.{AreTerminalPlaces};
-ghost use Rattle.t1_core.specs.CardViews.{AreCardPlaces};
+ghost use Rattle.t1_core.specs.declared.lent.LentTerminal.{LentTerminal};
+ghost use Rattle.t1_core.specs.declared.lent.LentCard.{LentCard};
+ghost use Rattle.t1_core.specs.Views.{IsLentTerminal};
+ghost use Rattle.t1_core.specs.CardViews.{IsLentCard};
 ghost use Rattle.c_lent.specs.Number.{number_of};
 ghost use Rattle.c_lent.specs.Kept.{mark_of, saved_from, cut_at, terminal_wait_of, terminal_of, card_wait_of, card_of};
 
 use crate::number::number_of;
 use block_core::Number;
-use t1_core::{CardAsked, CardPlaces, CardWait, Cut, TerminalPlaces, TerminalWait};
+use t1_core::{CardAsked, CardWait, Cut, LentCard, LentTerminal, TerminalWait};
 
 /// The state of a terminal. Its fields are the library's own: no other value than those that a call left is
 /// of use, and each call tests them.
@@ -164,34 +164,34 @@ fn saving(saved: Option<Cut>) -> (bool, usize, u8)
 }
 
 impl CTerminal {
-    /// The state of these places.
-    pub fn of(places: &TerminalPlaces) -> CTerminal
-        ensures { terminal_of result ≡ Some places.now }
+    /// The state of a terminal.
+    pub fn of(end: &LentTerminal) -> CTerminal
+        ensures { terminal_of result ≡ Some end.now }
     {
-        let (wait, size, place) = terminal_waiting(places.wait);
+        let (wait, size, place) = terminal_waiting(end.wait);
         CTerminal {
-            number: octet(places.number),
-            expected: octet(places.expected),
-            failures: places.failures,
-            ifsc: places.ifsc,
-            ifsd: places.ifsd,
-            first_ifsc: places.first_ifsc,
+            number: octet(end.number),
+            expected: octet(end.expected),
+            failures: end.failures,
+            ifsc: end.ifsc,
+            ifsd: end.ifsd,
+            first_ifsc: end.first_ifsc,
             wait,
             size,
-            is_answered: mark(places.is_answered),
+            is_answered: mark(end.is_answered),
             place,
-            most_command: places.most_command,
-            most_answer: places.most_answer,
-            command_len: places.command_len,
-            answer_len: places.joined_len,
+            most_command: end.most_command,
+            most_answer: end.most_answer,
+            command_len: end.command_len,
+            answer_len: end.answer_len,
         }
     }
 
-    /// The places that it spells, if any.
-    fn spelled(&self) -> Option<TerminalPlaces>
+    /// The terminal that it spells, if any.
+    fn spelled(&self) -> Option<LentTerminal>
         ensures { result ≡ terminal_of self.now }
     {
-        Some(TerminalPlaces {
+        Some(LentTerminal {
             number: number_of(self.number)?,
             expected: number_of(self.expected)?,
             failures: self.failures,
@@ -203,21 +203,21 @@ impl CTerminal {
             most_command: self.most_command,
             most_answer: self.most_answer,
             command_len: self.command_len,
-            joined_len: self.answer_len,
+            answer_len: self.answer_len,
         })
     }
 
-    /// The places that it spells, where they fit buffers of these sizes.
-    pub fn places(&self, command: usize, answer: usize) -> Option<TerminalPlaces>
-        ensures some { IfSome result (λ places.
-            (terminal_of self.now ≡ Some places) × AreTerminalPlaces places command answer) }
+    /// The terminal that it spells, where it fits buffers of these sizes.
+    pub fn fitting(&self, command: usize, answer: usize) -> Option<LentTerminal>
+        ensures some { IfSome result (λ end.
+            (terminal_of self.now ≡ Some end) × IsLentTerminal end command answer) }
         ensures none { IfNone result
-            ((places : TerminalPlaces) → terminal_of self.now ≡ Some places →
-            AreTerminalPlaces places command answer → ⊥) }
+            ((end : LentTerminal) → terminal_of self.now ≡ Some end →
+            IsLentTerminal end command answer → ⊥) }
     {
-        let places = self.spelled()?;
-        if places.fits(command, answer) {
-            Some(places)
+        let end = self.spelled()?;
+        if end.fits(command, answer) {
+            Some(end)
         } else {
             None
         }
@@ -225,40 +225,40 @@ impl CTerminal {
 }
 
 impl CCard {
-    /// The state of these places.
-    pub fn of(places: &CardPlaces) -> CCard
-        ensures { card_of result ≡ Some places.now }
+    /// The state of a card.
+    pub fn of(end: &LentCard) -> CCard
+        ensures { card_of result ≡ Some end.now }
     {
-        let (wait, size, place) = card_waiting(places.wait);
-        let (has_saved, saved_place, saved_size) = saving(places.saved);
+        let (wait, size, place) = card_waiting(end.wait);
+        let (has_saved, saved_place, saved_size) = saving(end.saved);
         CCard {
-            number: octet(places.number),
-            expected: octet(places.expected),
+            number: octet(end.number),
+            expected: octet(end.expected),
             has_saved: mark(has_saved),
             saved_size,
-            ifsc: places.ifsc,
-            ifsd: places.ifsd,
-            first_ifsc: places.first_ifsc,
+            ifsc: end.ifsc,
+            ifsd: end.ifsd,
+            first_ifsc: end.first_ifsc,
             wait,
             size,
             saved_place,
             place,
-            most_command: places.most_command,
-            most_reply: places.most_reply,
-            command_len: places.command_len,
-            reply_len: places.reply_len,
+            most_command: end.most_command,
+            most_reply: end.most_reply,
+            command_len: end.command_len,
+            reply_len: end.reply_len,
         }
     }
 
-    /// The places that it spells, if any.
-    fn spelled(&self) -> Option<CardPlaces>
+    /// The card that it spells, if any.
+    fn spelled(&self) -> Option<LentCard>
         ensures { result ≡ card_of self.now }
     {
         let number = number_of(self.number)?;
         let expected = number_of(self.expected)?;
         let wait = card_wait_of(self.wait, self.size, self.place)?;
         let has_saved = mark_of(self.has_saved)?;
-        Some(CardPlaces {
+        Some(LentCard {
             number,
             expected,
             saved: saved_from(has_saved, self.saved_place, self.saved_size),
@@ -273,16 +273,16 @@ impl CCard {
         })
     }
 
-    /// The places that it spells, where they fit buffers of these sizes.
-    pub fn places(&self, command: usize, reply: usize) -> Option<CardPlaces>
-        ensures some { IfSome result (λ places.
-            (card_of self.now ≡ Some places) × AreCardPlaces places command reply) }
-        ensures none { IfNone result ((places : CardPlaces) → card_of self.now ≡ Some places →
-            AreCardPlaces places command reply → ⊥) }
+    /// The card that it spells, where it fits buffers of these sizes.
+    pub fn fitting(&self, command: usize, reply: usize) -> Option<LentCard>
+        ensures some { IfSome result (λ end.
+            (card_of self.now ≡ Some end) × IsLentCard end command reply) }
+        ensures none { IfNone result ((end : LentCard) → card_of self.now ≡ Some end →
+            IsLentCard end command reply → ⊥) }
     {
-        let places = self.spelled()?;
-        if places.fits(command, reply) {
-            Some(places)
+        let end = self.spelled()?;
+        if end.fits(command, reply) {
+            Some(end)
         } else {
             None
         }

@@ -2,14 +2,14 @@
 
 ghost use Rattle.std.specs.Prelude.{◌≡◌, ◌≤◌, length, IfSome, IfNone, MatchOption, Some};
 ghost use Rattle.tlv_core.specs.declared.header.Header.{Header};
-ghost use Rattle.tlv_core.specs.declared.places.CheckPlaces.{CheckPlaces};
+ghost use Rattle.tlv_core.specs.declared.lent.LentCheck.{LentCheck};
 ghost use Rattle.tlv_core.specs.Header.{IsWell};
-ghost use Rattle.tlv_core.specs.Places.{AreCheckPlaces};
+ghost use Rattle.tlv_core.specs.Lent.{IsLentCheck};
 ghost use Rattle.tlv_core.specs.Tag.{IsTag};
 ghost use Rattle.c_lent.specs.KeptCheck.{refused_of, form_of, tag_of, header_of, check_of};
 
 use crate::verdict::Numbered;
-use tlv_core::{CheckPlaces, Form, Header, Tag, TlvReason};
+use tlv_core::{Form, Header, LentCheck, Tag, TlvReason};
 
 /// The header under way: what is kept of it, by `kind`, and its octets.
 #[repr(C)]
@@ -165,29 +165,29 @@ impl CHeader {
 }
 
 impl CCheck {
-    /// The state of these places.
-    pub fn of(places: &CheckPlaces) -> CCheck
-        ensures { check_of result ≡ Some places.now }
+    /// The state of a check.
+    pub fn of(check: &LentCheck) -> CCheck
+        ensures { check_of result ≡ Some check.now }
     {
         CCheck {
-            max: places.max,
-            count: places.count,
-            value_left: places.value_left,
-            header: CHeader::of(places.header),
-            ends: places.ends,
-            level: places.level,
-            refused: refused_number(places.refused),
+            max: check.max,
+            count: check.count,
+            value_left: check.value_left,
+            header: CHeader::of(check.header),
+            ends: check.ends,
+            level: check.level,
+            refused: refused_number(check.refused),
         }
     }
 
-    /// The places that it spells, where they are those of a check.
-    pub fn places(&self) -> Option<CheckPlaces>
+    /// The check that it spells, where it is one.
+    pub fn fitting(&self) -> Option<LentCheck>
         ensures some { IfSome result
-            (λ places. (check_of self.now ≡ Some places) × AreCheckPlaces places) }
-        ensures none { IfNone result ((places : CheckPlaces) → check_of self.now ≡ Some places →
-            AreCheckPlaces places → ⊥) }
+            (λ check. (check_of self.now ≡ Some check) × IsLentCheck check) }
+        ensures none { IfNone result ((check : LentCheck) → check_of self.now ≡ Some check →
+            IsLentCheck check → ⊥) }
     {
-        let places = CheckPlaces {
+        let check = LentCheck {
             max: self.max,
             count: self.count,
             ends: self.ends,
@@ -196,6 +196,6 @@ impl CCheck {
             value_left: self.value_left,
             refused: refused_of(self.refused)?,
         };
-        if places.fit() { Some(places) } else { None }
+        if check.fit() { Some(check) } else { None }
     }
 }

@@ -4,14 +4,14 @@ ghost use Rattle.std.specs.Prelude.{◌≡◌, IfSome, IfNone, Some};
 ghost use Rattle.octet_core.specs.declared.stop.Refusal.{Refusal};
 ghost use Rattle.chain_core.specs.declared.stage.BlockStage.{BlockStage};
 ghost use Rattle.chain_core.specs.declared.reason.ChainReason.{ChainReason};
-ghost use Rattle.chain_core.specs.declared.places.ReceiverPlaces.{ReceiverPlaces};
-ghost use Rattle.chain_core.specs.Places.{AreReceiverPlaces};
+ghost use Rattle.chain_core.specs.declared.lent.LentReceiver.{LentReceiver};
+ghost use Rattle.chain_core.specs.Lent.{IsLentReceiver};
 ghost use Rattle.c_lent.specs.KeptReceiver.{stage_of, refusal_from, receiver_of};
 
 use crate::kept::{mark, mark_of, octet};
 use crate::number::number_of;
 use crate::verdict::Numbered;
-use chain_core::{BlockStage, ChainReason, ReceiverPlaces};
+use chain_core::{BlockStage, ChainReason, LentReceiver};
 use octet_core::Refusal;
 
 /// The state of a receiver. Its fields are the library's own: no other value than those that a call left is of use,
@@ -89,30 +89,30 @@ fn refusal_number(refusal: Option<Refusal<ChainReason>>) -> (u8, usize)
 }
 
 impl CReceiver {
-    /// The state of these places.
-    pub fn of(places: &ReceiverPlaces) -> CReceiver
-        ensures { receiver_of result ≡ Some places.now }
+    /// The state of a receiver.
+    pub fn of(receiver: &LentReceiver) -> CReceiver
+        ensures { receiver_of result ≡ Some receiver.now }
     {
-        let (part, more, len) = stage_number(places.stage);
-        let (refused, refused_at) = refusal_number(places.refusal);
+        let (part, more, len) = stage_number(receiver.stage);
+        let (refused, refused_at) = refusal_number(receiver.refusal);
         CReceiver {
             refused_at,
-            max: places.max,
-            blocks: places.blocks,
-            joined: places.joined,
-            ifs: places.ifs,
-            number: octet(places.first),
+            max: receiver.max,
+            blocks: receiver.blocks,
+            joined: receiver.joined,
+            ifs: receiver.ifs,
+            number: octet(receiver.first),
             part,
             more: mark(more),
             len,
-            came: places.came,
-            done: mark(places.done),
+            came: receiver.came,
+            done: mark(receiver.done),
             refused,
         }
     }
 
-    /// The places that it spells, if any.
-    fn spelled(&self) -> Option<ReceiverPlaces>
+    /// The receiver that it spells, if any.
+    fn spelled(&self) -> Option<LentReceiver>
         ensures { result ≡ receiver_of self.now }
     {
         let first = number_of(self.number)?;
@@ -120,7 +120,7 @@ impl CReceiver {
         let stage = stage_of(self.part, more, self.len)?;
         let done = mark_of(self.done)?;
         let refusal = refusal_from(self.refused, self.refused_at)?;
-        Some(ReceiverPlaces {
+        Some(LentReceiver {
             ifs: self.ifs,
             first,
             max: self.max,
@@ -133,15 +133,19 @@ impl CReceiver {
         })
     }
 
-    /// The places that it spells, where they are those of a receiver with a buffer of so many octets.
-    pub fn places(&self, room: usize) -> Option<ReceiverPlaces>
+    /// The receiver that it spells, where it fits a buffer of so many octets.
+    pub fn fitting(&self, room: usize) -> Option<LentReceiver>
         ensures some { IfSome result
-            (λ places. (receiver_of self.now ≡ Some places) × AreReceiverPlaces places room) }
+            (λ receiver. (receiver_of self.now ≡ Some receiver) × IsLentReceiver receiver room) }
         ensures none { IfNone result
-            ((places : ReceiverPlaces) → receiver_of self.now ≡ Some places →
-            AreReceiverPlaces places room → ⊥) }
+            ((receiver : LentReceiver) → receiver_of self.now ≡ Some receiver →
+            IsLentReceiver receiver room → ⊥) }
     {
-        let places = self.spelled()?;
-        if places.fit(room) { Some(places) } else { None }
+        let receiver = self.spelled()?;
+        if receiver.fit(room) {
+            Some(receiver)
+        } else {
+            None
+        }
     }
 }

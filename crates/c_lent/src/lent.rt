@@ -18,7 +18,7 @@ use crate::turn::{CTurn, NO_END};
 use crate::verdict::Verdict;
 use atr_core::T1Params;
 use block_core::LONGEST_BLOCK;
-use t1_core::{CardPlaces, TerminalPlaces};
+use t1_core::{LentCard, LentTerminal};
 
 /// Begins a terminal for a card with these parameters of T=1, over two buffers that are set to 0:
 /// messages have at most as many octets as the buffers, and no more than 65,544 and 65,538.
@@ -42,7 +42,7 @@ pub fn lent_terminal_begin(
     let Some(params) = T1Params::new(ifsc, bwi, cwi) else {
         return Verdict::argument();
     };
-    *state = CTerminal::of(&TerminalPlaces::begin(params, command, answer));
+    *state = CTerminal::of(&LentTerminal::begin(params, command, answer));
     Verdict::ok(0)
 }
 
@@ -119,11 +119,11 @@ fn terminal_turn(
     if out.len() < LONGEST_BLOCK {
         return CTurn::no_room();
     }
-    let Some(mut places) = state.places(command.len(), answer.len()) else {
+    let Some(mut end) = state.fitting(command.len(), answer.len()) else {
         return CTurn::of(NO_END);
     };
-    let put = call.lend(&mut places, command, answer, out);
-    *state = CTerminal::of(&places);
+    let put = call.lend(&mut end, command, answer, out);
+    *state = CTerminal::of(&end);
     CTurn::of_terminal(put)
 }
 
@@ -135,8 +135,8 @@ pub fn lent_terminal_answer(state: &CTerminal, command: &[u8], answer: &[u8]) ->
     ensures none { ((t : TerminalState) → IsTerminal state.now command.now answer.now t → ⊥) →
         result ≡ wrong_argument 0 }
 {
-    match state.places(command.len(), answer.len()) {
-        Some(places) => at_front(places.answer(answer)),
+    match state.fitting(command.len(), answer.len()) {
+        Some(end) => at_front(end.answer(answer)),
         None => Verdict::argument(),
     }
 }
@@ -162,7 +162,7 @@ pub fn lent_card_begin(
     let Some(params) = T1Params::new(ifsc, bwi, cwi) else {
         return Verdict::argument();
     };
-    *state = CCard::of(&CardPlaces::begin(params, command, reply));
+    *state = CCard::of(&LentCard::begin(params, command, reply));
     Verdict::ok(0)
 }
 
@@ -241,11 +241,11 @@ fn card_turn(
     if out.len() < LONGEST_BLOCK {
         return CTurn::no_room();
     }
-    let Some(mut places) = state.places(command.len(), reply.len()) else {
+    let Some(mut end) = state.fitting(command.len(), reply.len()) else {
         return CTurn::of(NO_END);
     };
-    let put = call.lend(&mut places, command, reply, out);
-    *state = CCard::of(&places);
+    let put = call.lend(&mut end, command, reply, out);
+    *state = CCard::of(&end);
     CTurn::of_card(put)
 }
 
@@ -257,8 +257,8 @@ pub fn lent_card_command(state: &CCard, command: &[u8], reply: &[u8]) -> Verdict
     ensures none { ((c : CardState) → IsCard state.now command.now reply.now c → ⊥) →
         result ≡ wrong_argument 0 }
 {
-    match state.places(command.len(), reply.len()) {
-        Some(places) => at_front(places.command(command)),
+    match state.fitting(command.len(), reply.len()) {
+        Some(end) => at_front(end.command(command)),
         None => Verdict::argument(),
     }
 }

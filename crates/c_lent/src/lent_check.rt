@@ -9,7 +9,7 @@ ghost use Rattle.c_lent.specs.Pieces.{told_checked};
 use crate::kept_check::CCheck;
 use crate::verdict::Verdict;
 use octet_core::Stop;
-use tlv_core::{CheckPlaces, LARGEST_FOREST, TlvReason};
+use tlv_core::{LARGEST_FOREST, LentCheck, TlvReason};
 
 /// Begins a check of a forest of at most `max` octets, whatever the state was.
 pub fn lent_check_begin(state: &mut CCheck, max: usize) -> Verdict
@@ -19,7 +19,7 @@ pub fn lent_check_begin(state: &mut CCheck, max: usize) -> Verdict
     if max > LARGEST_FOREST {
         return Verdict::argument();
     }
-    *state = CCheck::of(&CheckPlaces::begin(max));
+    *state = CCheck::of(&LentCheck::begin(max));
     Verdict::ok(0)
 }
 
@@ -27,11 +27,11 @@ pub fn lent_check_begin(state: &mut CCheck, max: usize) -> Verdict
 pub fn lent_check_feed(state: &mut CCheck, piece: &[u8]) -> Verdict
     ensures { CheckFed state.old state.new piece.now result }
 {
-    let Some(mut places) = state.places() else {
+    let Some(mut check) = state.fitting() else {
         return Verdict::argument();
     };
-    let answer = places.feed(piece);
-    *state = CCheck::of(&places);
+    let answer = check.feed(piece);
+    *state = CCheck::of(&check);
     checked(answer, piece.len())
 }
 
@@ -40,8 +40,8 @@ pub fn lent_check_feed(state: &mut CCheck, piece: &[u8]) -> Verdict
 pub fn lent_check_finish(state: &CCheck) -> Verdict
     ensures { CheckEnded state.now result }
 {
-    match state.places() {
-        Some(places) => Verdict::ended(places.finish()),
+    match state.fitting() {
+        Some(check) => Verdict::ended(check.finish()),
         None => Verdict::argument(),
     }
 }

@@ -15,7 +15,7 @@ ghost use Rattle.c_lent.specs.LentReceiver.{ReceiverFed, ReceiverEnded};
 use crate::kept_receiver::CReceiver;
 use crate::number::number_of;
 use crate::verdict::Verdict;
-use chain_core::{LONGEST_MESSAGE, ReceiverPlaces};
+use chain_core::{LONGEST_MESSAGE, LentReceiver};
 use octet_core::is_reserved;
 
 /// Begins a receiver of one chain under an information size of 1 to 254, whose first block has the
@@ -36,7 +36,7 @@ pub fn lent_receiver_begin(state: &mut CReceiver, ifs: u8, ns: u8, max: usize) -
     let Some(number) = number_of(ns) else {
         return Verdict::argument();
     };
-    *state = CReceiver::of(&ReceiverPlaces::begin(ifs, number, max as u32));
+    *state = CReceiver::of(&LentReceiver::begin(ifs, number, max as u32));
     Verdict::ok(0)
 }
 
@@ -44,11 +44,11 @@ pub fn lent_receiver_begin(state: &mut CReceiver, ifs: u8, ns: u8, max: usize) -
 pub fn lent_receiver_feed(state: &mut CReceiver, message: &mut [u8], piece: &[u8]) -> Verdict
     ensures { ReceiverFed state.old message.old piece.now state.new message.new result }
 {
-    let Some(mut places) = state.places(message.len()) else {
+    let Some(mut receiver) = state.fitting(message.len()) else {
         return Verdict::argument();
     };
-    let answer = places.feed(message, piece);
-    *state = CReceiver::of(&places);
+    let answer = receiver.feed(message, piece);
+    *state = CReceiver::of(&receiver);
     Verdict::fed(answer)
 }
 
@@ -57,8 +57,8 @@ pub fn lent_receiver_feed(state: &mut CReceiver, message: &mut [u8], piece: &[u8
 pub fn lent_receiver_finish(state: &CReceiver, message: &[u8]) -> Verdict
     ensures { ReceiverEnded state.now message.now result }
 {
-    match state.places(message.len()) {
-        Some(places) => Verdict::ended(places.finish()),
+    match state.fitting(message.len()) {
+        Some(receiver) => Verdict::ended(receiver.finish()),
         None => Verdict::argument(),
     }
 }
@@ -70,10 +70,10 @@ pub fn lent_receiver_message(state: &CReceiver, message: &[u8]) -> Verdict
     ensures none { ((r : Taking) → IsReceiver state.now message.now r → ⊥)
         → result ≡ wrong_argument 0 }
 {
-    let Some(places) = state.places(message.len()) else {
+    let Some(receiver) = state.fitting(message.len()) else {
         return Verdict::argument();
     };
-    match places.message_len() {
+    match receiver.message_len() {
         Some(count) => Verdict::ok(count),
         None => Verdict::argument(),
     }

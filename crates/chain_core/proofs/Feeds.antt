@@ -17,7 +17,7 @@ use Rattle.chain_core.proofs.Goes.{chain-begins}
 use Rattle.chain_core.proofs.Unique.{one-spelled}
 use Rattle.chain_core.specs.Taking.{Taking, HasTaken, AreTaken, AreBefore, IsOpen, IsClosed, nothing_taken, refusal_of}
 use Rattle.chain_core.specs.Receiving.{Goes, Fed, fed_answer, answer_after, end_answer}
-use Rattle.chain_core.specs.Places.{IsFinishedHere}
+use Rattle.chain_core.specs.Lent.{IsFinishedHere}
 use Rattle.chain_core.proofs.Taken.{done-spelled, length-taken}
 use Rattle.chain_core.proofs.Receiving.{not-chain}
 

@@ -12,7 +12,7 @@ use Rattle.chain_core.specs.declared.stage.BlockStage as stage
 use Rattle.chain_core.specs.declared.stage.BlockStage.TheVariants as stages
 use Rattle.chain_core.specs.Chain.{MeetsInBlock, all_reasons, message_of, number_after}
 use Rattle.chain_core.specs.Stage.{IsHeadFault, IsPcbFault, IsLenFault}
-use Rattle.chain_core.specs.Places.{under_way_of}
+use Rattle.chain_core.specs.Lent.{under_way_of}
 use Rattle.chain_core.proofs.Stuck.{not-other, same-number}
 
 -- the fault of a control octet is the reason, where only block number 131,072 counts as the last

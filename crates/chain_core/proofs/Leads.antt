@@ -20,13 +20,13 @@ use Rattle.chain_core.specs.declared.reason.ChainReason.{ChainReason}
 use Rattle.chain_core.specs.declared.reason.ChainReason.TheVariants.{BadPcb, NotInfo, BadSequence, TooManyBlocks, BadLen, OverIfs, TooLong, BadLrc}
 use Rattle.chain_core.specs.declared.stage.BlockStage as stage
 use Rattle.chain_core.specs.declared.stage.BlockStage.TheVariants as stages
-use Rattle.chain_core.specs.declared.places.ReceiverPlaces.{ReceiverPlaces}
+use Rattle.chain_core.specs.declared.lent.LentReceiver.{LentReceiver}
 use Rattle.chain_core.specs.Chain.{IsChain, IsReason, message_of, chain_block, chain_blocks, open_blocks, octets_of, number_after, spelling}
 use Rattle.chain_core.specs.Cut.{pieces}
 use Rattle.chain_core.specs.Stage.{IsHead, IsPcbFault, IsLenFault, IsHeadFault, place_of}
 use Rattle.chain_core.specs.Taking.{Taking, HasTaken, AreTaken, unrefused}
 use Rattle.chain_core.specs.Receiving.{Goes}
-use Rattle.chain_core.specs.Places.{under_way_of, number_at, field_at, taken_at, received_at, IsUnderWay, IsAmong, IsKept, IsNextReason, IsPcbReason, IsLenReason, AreReceiverPlaces, AreLedTo, Brings}
+use Rattle.chain_core.specs.Lent.{under_way_of, number_at, field_at, taken_at, received_at, IsUnderWay, IsAmong, IsKept, IsNextReason, IsPcbReason, IsLenReason, IsLentReceiver, AreLedTo, Brings}
 use Rattle.chain_core.proofs.Cuts.{message_of-pieces, length-pieces, pieces-sizes}
 use Rattle.chain_core.proofs.Feeds.{bool_cases}
 use Rattle.chain_core.proofs.Goes.{Taken}
@@ -115,18 +115,18 @@ record Led (r : Taking) : Type 0 where
   taken : HasTaken r octets
 
 -- the fields of the whole blocks
-abbrev fields_at : ReceiverPlaces → List ℕ → List (List ℕ)
+abbrev fields_at : LentReceiver → List ℕ → List (List ℕ)
 fields_at p m = fields_for p.ifs p.blocks (take p.joined m)
 
-fields-fit : (p : ReceiverPlaces) (m : List ℕ) → AreReceiverPlaces p (length m)
+fields-fit : (p : LentReceiver) (m : List ℕ) → IsLentReceiver p (length m)
     → length (take p.joined m) ≤ p.blocks * p.ifs
 fields-fit p m fit = omega (arith, joined-len p m (omega (arith, fit.joined, fit.reserved)), fit.full)
 
-fields-text : (p : ReceiverPlaces) (m : List ℕ) → AreReceiverPlaces p (length m)
+fields-text : (p : LentReceiver) (m : List ℕ) → IsLentReceiver p (length m)
     → message_of (fields_at p m) ≡ take p.joined m
 fields-text p m fit = fields-message p.ifs p.blocks (take p.joined m) (fields-fit p m fit)
 
-fields-taken : (p : ReceiverPlaces) (m : List ℕ) → AreReceiverPlaces p (length m) → AreOctets m
+fields-taken : (p : LentReceiver) (m : List ℕ) → IsLentReceiver p (length m) → AreOctets m
     → Taken p.ifs (fields_at p m)
 fields-taken p m fit octets = record {
   sizes = fields-sizes p.ifs p.blocks (take p.joined m) (fields-fit p m fit);
@@ -134,7 +134,7 @@ fields-taken p m fit octets = record {
 }
 
 -- blocks that go on, and what there is of the next
-open-led : (p : ReceiverPlaces) (m : List ℕ) → AreReceiverPlaces p (length m) → AreOctets m → p.done ≡ false
+open-led : (p : LentReceiver) (m : List ℕ) → IsLentReceiver p (length m) → AreOctets m → p.done ≡ false
     → Led (unrefused (received_at p m))
 open-led p m fit octets still =
     let fields : List (List ℕ) = fields_at p m in
@@ -173,7 +173,7 @@ open-led p m fit octets still =
     }
 
 -- a whole chain
-done-led : (p : ReceiverPlaces) (m : List ℕ) → AreReceiverPlaces p (length m) → AreOctets m → p.done ≡ true
+done-led : (p : LentReceiver) (m : List ℕ) → IsLentReceiver p (length m) → AreOctets m → p.done ≡ true
     → Led (unrefused (received_at p m))
 done-led p m fit octets done =
     let fields : List (List ℕ) = fields_at p m in
@@ -257,18 +257,18 @@ other-sum sum = elim (same sum 0) [
 ]
 
 -- an octet that is refused after those that the places may have taken, for this reason
-record Refusable (p : ReceiverPlaces) (m : List ℕ) (reason : ChainReason) : Type 0 where
+record Refusable (p : LentReceiver) (m : List ℕ) (reason : ChainReason) : Type 0 where
   octet : ℕ
   is : octet < 256
   refused : (t : List ℕ) → HasTaken (unrefused (received_at p m)) t
       → RefusesAt self_ended (IsChain p.ifs p.first p.max) (IsReason p.ifs p.first p.max) (t ++ octet ∷ [])
       (At (taken_at p) reason)
 
-head-refusable : (p : ReceiverPlaces) (m : List ℕ) (reason : ChainReason)
-    → AreReceiverPlaces (record p { refusal = None }) (length m) → p.done ≡ false → IsHead p.stage
+head-refusable : (p : LentReceiver) (m : List ℕ) (reason : ChainReason)
+    → IsLentReceiver (record p { refusal = None }) (length m) → p.done ≡ false → IsHead p.stage
     → IsNextReason p.ifs p.max p.blocks p.joined p.came p.stage reason → Refusable p m reason
 head-refusable p m reason fit still head may =
-    let q : ReceiverPlaces = record p { refusal = None } in
+    let q : LentReceiver = record p { refusal = None } in
     let x = head-octet (number_at p) p.ifs p.max p.blocks p.joined p.came p.stage reason fit.most head may in
     let place : ℕ = p.joined + 4 * p.blocks + place_of p.stage in
     let here : place ≡ taken_at p = omega (arith, head-came p.stage p.came head) in
@@ -282,11 +282,11 @@ head-refusable p m reason fit still head may =
           (goes.refused (record { place = place; reason = reason }) refl t h);
     }
 
-lrc-refusable : (p : ReceiverPlaces) (m : List ℕ) (more : Bool) (len : ℕ)
-    → AreReceiverPlaces (record (with_rest p more len) { refusal = None }) (length m) → p.done ≡ false
+lrc-refusable : (p : LentReceiver) (m : List ℕ) (more : Bool) (len : ℕ)
+    → IsLentReceiver (record (with_rest p more len) { refusal = None }) (length m) → p.done ≡ false
     → Refusable (with_rest p more len) m BadLrc
 lrc-refusable p m more len fit still =
-    let q : ReceiverPlaces = record p { refusal = None } in
+    let q : LentReceiver = record p { refusal = None } in
     let x = other-sum (xor_of (front_at q more len m)) in
     let place : ℕ = p.joined + 4 * p.blocks + (3 + len) in
     let goes = lrc-off q more len x.0 (length m) m fit (held-room (with_rest q more len) (length m) fit) refl still
@@ -297,15 +297,15 @@ lrc-refusable p m more len fit still =
       refused = λ t h. goes.refused (record { place = place; reason = BadLrc }) refl t h;
     }
 
-refusable-by : (p : ReceiverPlaces) (m : List ℕ) (reason : ChainReason) (q : stage.BlockStage)
-    → AreReceiverPlaces (record p { refusal = None }) (length m) → p.done ≡ false → p.stage ≡ q
+refusable-by : (p : LentReceiver) (m : List ℕ) (reason : ChainReason) (q : stage.BlockStage)
+    → IsLentReceiver (record p { refusal = None }) (length m) → p.done ≡ false → p.stage ≡ q
     → IsNextReason p.ifs p.max p.blocks p.joined p.came q reason → Refusable p m reason
 refusable-by p m reason (stages.Rest more len) fit still is may =
     let same : with_rest p more len ≡ p = λ i. record p { stage = sym is i; came = sym may.0 i } in
     subst (λ (r : ChainReason). Refusable p m r) (sym may.1)
-    (subst (λ (s : ReceiverPlaces). Refusable s m BadLrc) same
+    (subst (λ (s : LentReceiver). Refusable s m BadLrc) same
     (lrc-refusable p m more len
-    (subst (λ (s : ReceiverPlaces). AreReceiverPlaces (record s { refusal = None }) (length m)) (sym same) fit)
+    (subst (λ (s : LentReceiver). IsLentReceiver (record s { refusal = None }) (length m)) (sym same) fit)
     still))
 refusable-by p m reason stages.Nad fit still is may =
     head-refusable p m reason fit still (subst IsHead (sym is) tt)
@@ -319,13 +319,13 @@ refusable-by p m reason (stages.Len more) fit still is may =
 
 -- ---- any places that fit
 
-unrefused-among : (done : Bool) (p : ReceiverPlaces) → IsAmong done p → IsAmong done (record p { refusal = None })
+unrefused-among : (done : Bool) (p : LentReceiver) → IsAmong done p → IsAmong done (record p { refusal = None })
 unrefused-among true p h = h
 unrefused-among false p h = h
 
 -- places that fit do so without their refusal
-unrefused-fit : (p : ReceiverPlaces) (room : ℕ) → AreReceiverPlaces p room
-    → AreReceiverPlaces (record p { refusal = None }) room
+unrefused-fit : (p : LentReceiver) (room : ℕ) → IsLentReceiver p room
+    → IsLentReceiver (record p { refusal = None }) room
 unrefused-fit p room fit = record {
   least = fit.least;
   most = fit.most;
@@ -339,20 +339,20 @@ unrefused-fit p room fit = record {
   kept = tt;
 }
 
-led : (p : ReceiverPlaces) (m : List ℕ) → AreReceiverPlaces p (length m) → AreOctets m
+led : (p : LentReceiver) (m : List ℕ) → IsLentReceiver p (length m) → AreOctets m
     → Led (unrefused (received_at p m))
 led p m fit octets = elim (bool_cases p.done) [
   | inl done ↦ done-led p m fit octets done
   | inr still ↦ open-led p m fit octets still
 ]
 
-record Brought (p : ReceiverPlaces) (m : List ℕ) (refusal : Option (Refusal ChainReason)) : Type 0 where
+record Brought (p : LentReceiver) (m : List ℕ) (refusal : Option (Refusal ChainReason)) : Type 0 where
   octets : List ℕ
   are : AreOctets octets
   brings : Brings refusal (received_at p m) octets
 
-brought : (p : ReceiverPlaces) (m : List ℕ) (o : Option (Refusal ChainReason)) → p.refusal ≡ o
-    → AreReceiverPlaces p (length m) → AreOctets m → Brought p m o
+brought : (p : LentReceiver) (m : List ℕ) (o : Option (Refusal ChainReason)) → p.refusal ≡ o
+    → IsLentReceiver p (length m) → AreOctets m → Brought p m o
 brought p m None e fit octets =
     let l = led p m fit octets in
     record {
@@ -380,7 +380,7 @@ brought p m (Some refusal) e fit octets =
     }
 
 -- places that fit and are brought there by octets are led to by them
-pub brought-led : (p : ReceiverPlaces) (m t : List ℕ) → AreReceiverPlaces p (length m) → AreOctets t
+pub brought-led : (p : LentReceiver) (m t : List ℕ) → IsLentReceiver p (length m) → AreOctets t
     → Brings p.refusal (received_at p m) t → AreLedTo p m t
 brought-led p m t fit octets brings = record {
   least = fit.least;
@@ -394,7 +394,7 @@ brought-led p m t fit octets brings = record {
 }
 
 -- whatever octets are in the buffer, some octets lead to places that fit it and to these
-pub fit-led : (p : ReceiverPlaces) (m : List ℕ) → AreReceiverPlaces p (length m) → AreOctets m
+pub fit-led : (p : LentReceiver) (m : List ℕ) → IsLentReceiver p (length m) → AreOctets m
     → (t : List ℕ) × AreLedTo p m t
 fit-led p m fit octets =
     let b = brought p m p.refusal refl fit octets in (
@@ -409,27 +409,27 @@ pub open-brings : (r : Taking) (t : List ℕ) → r.refusal ≡ None → Brings 
 open-brings r t none b = subst (λ (o : Option (Refusal ChainReason)). Brings o r t) none b
 
 -- an octet that is refused changes nothing but the refusal
-abbrev pub Stays : ReceiverPlaces → ReceiverPlaces → List ℕ → List ℕ → ℕ → Type 0
+abbrev pub Stays : LentReceiver → LentReceiver → List ℕ → List ℕ → ℕ → Type 0
 Stays p q m m' n = IsSome q.refusal → ((record q { refusal = None }) ≡ p) × (m' ≡ m) × (n ≡ 1)
 
-one-octet : (p q : ReceiverPlaces) (m m' xs t : List ℕ) (f : Refusal ChainReason) → (record q { refusal = None }) ≡ p
+one-octet : (p q : LentReceiver) (m m' xs t : List ℕ) (f : Refusal ChainReason) → (record q { refusal = None }) ≡ p
     → m' ≡ m → length xs ≡ 1 → q.refusal ≡ Some f → Goes (received_at p m) (received_at q m') xs
     → HasTaken (received_at p m) t → Brings (Some f) (received_at q m') (t ++ xs)
 one-octet p q m m' [] t f same buffer one e goes h = absurd (omega arith)
 one-octet p q m m' (x ∷ y ∷ xs) t f same buffer one e goes h = absurd (omega arith)
 one-octet p q m m' (x ∷ []) t f same buffer one e goes h =
     let before : HasTaken (received_at (record q { refusal = None }) m') t =
-    subst (λ (s : ReceiverPlaces). HasTaken (received_at s m') t) (sym same)
+    subst (λ (s : LentReceiver). HasTaken (received_at s m') t) (sym same)
     (subst (λ (l : List ℕ). HasTaken (received_at p l) t) (sym buffer) h) in (
       t,
       x,
       refl,
       before,
-      subst (λ (s : ReceiverPlaces). RefusesAt self_ended (IsChain s.ifs s.first s.max) (IsReason s.ifs s.first s.max)
+      subst (λ (s : LentReceiver). RefusesAt self_ended (IsChain s.ifs s.first s.max) (IsReason s.ifs s.first s.max)
           (t ++ x ∷ []) (At f.place f.reason)) (sym same) (goes.refused f e t h),
     )
 
-run-by : (p q : ReceiverPlaces) (m m' xs t : List ℕ) (o : Option (Refusal ChainReason)) → q.refusal ≡ o
+run-by : (p q : LentReceiver) (m m' xs t : List ℕ) (o : Option (Refusal ChainReason)) → q.refusal ≡ o
     → Stays p q m m' (length xs) → Goes (received_at p m) (received_at q m') xs → HasTaken (received_at p m) t
     → Brings o (received_at q m') (t ++ xs)
 run-by p q m m' xs t None e stays goes h = goes.on e t h
@@ -437,7 +437,7 @@ run-by p q m m' xs t (Some f) e stays goes h =
     let s = stays (rw e refl) in one-octet p q m m' xs t f s.0 s.1 s.2 e goes h
 
 -- so the octets that lead to places that are open, and those that these take, lead to what they are then
-pub run-brings : (p q : ReceiverPlaces) (m m' xs t : List ℕ) → Stays p q m m' (length xs)
+pub run-brings : (p q : LentReceiver) (m m' xs t : List ℕ) → Stays p q m m' (length xs)
     → Goes (received_at p m) (received_at q m') xs → HasTaken (received_at p m) t
     → Brings q.refusal (received_at q m') (t ++ xs)
 run-brings p q m m' xs t stays goes h = run-by p q m m' xs t q.refusal refl stays goes h

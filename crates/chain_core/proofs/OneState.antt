@@ -13,11 +13,11 @@ use Rattle.block_core.specs.declared.pcb.Number.{Number}
 use Rattle.chain_core.specs.declared.reason.ChainReason.{ChainReason}
 use Rattle.chain_core.specs.declared.stage.BlockStage as stage
 use Rattle.chain_core.specs.declared.stage.BlockStage.TheVariants as stages
-use Rattle.chain_core.specs.declared.places.ReceiverPlaces.{ReceiverPlaces}
+use Rattle.chain_core.specs.declared.lent.LentReceiver.{LentReceiver}
 use Rattle.chain_core.specs.Chain.{IsChain, IsReason, Meets, all_reasons, message_of, number_after, spelling}
 use Rattle.chain_core.specs.Stage.{came_of}
 use Rattle.chain_core.specs.Taking.{Taking, HasTaken, AreTaken, unrefused}
-use Rattle.chain_core.specs.Places.{under_way_of, number_at, field_at, received_at, AreLedTo, Brings}
+use Rattle.chain_core.specs.Lent.{under_way_of, number_at, field_at, received_at, AreLedTo, Brings}
 use Rattle.chain_core.proofs.Feeds.{full-done, chain-at}
 use Rattle.chain_core.proofs.Reached.{field-count}
 use Rattle.chain_core.proofs.Reasons.{IsPart, part-short, part-under, part-split}
@@ -91,14 +91,14 @@ one-part number k l a b f g fa gb ia ib e = absurd (omega (arith, ap length e))
 
 -- ---- places
 
-aligned : (P : ℕ → Number → ℕ → Type 0) (p q : ReceiverPlaces) → p.ifs ≡ q.ifs → p.first ≡ q.first → p.max ≡ q.max
+aligned : (P : ℕ → Number → ℕ → Type 0) (p q : LentReceiver) → p.ifs ≡ q.ifs → p.first ≡ q.first → p.max ≡ q.max
     → P q.ifs q.first q.max → P p.ifs p.first p.max
 aligned P p q e f g h =
     subst (λ (m : ℕ). P p.ifs p.first m) (sym g)
     (subst (λ (n : Number). P p.ifs n q.max) (sym f) (subst (λ (i : ℕ). P i q.first q.max) (sym e) h))
 
 -- places that have taken the same octets, but for a refused one, are the same with the same refusal
-same-places : (p q : ReceiverPlaces) (m n t s : List ℕ) → p.ifs ≡ q.ifs → p.first ≡ q.first → p.max ≡ q.max
+same-places : (p q : LentReceiver) (m n t s : List ℕ) → p.ifs ≡ q.ifs → p.first ≡ q.first → p.max ≡ q.max
     → AreLedTo p m t → AreLedTo q n t → HasTaken (unrefused (received_at p m)) s
     → HasTaken (unrefused (received_at q n)) s → p.refusal ≡ q.refusal
     → (p ≡ q) × (take p.joined m ≡ take q.joined n)
@@ -136,7 +136,7 @@ not-both : (S : List (List ℕ) → List ℕ → Type 0) (t : List ℕ) (n : ℕ
 not-both S t n begun inside stuck =
     stuck (begins-take S (n + 1) (length t) t (omega (arith, inside)) (subst (Begins S) (sym (take-length t)) begun))
 
-one-by : (p q : ReceiverPlaces) (m n t : List ℕ) (o u : Option (Refusal ChainReason)) → p.ifs ≡ q.ifs
+one-by : (p q : LentReceiver) (m n t : List ℕ) (o u : Option (Refusal ChainReason)) → p.ifs ≡ q.ifs
     → p.first ≡ q.first → p.max ≡ q.max → AreLedTo p m t → AreLedTo q n t → p.refusal ≡ o → q.refusal ≡ u
     → Brings o (received_at p m) t → Brings u (received_at q n) t
     → (p ≡ q) × (take p.joined m ≡ take q.joined n)
@@ -171,6 +171,6 @@ one-by p q m n t (Some x) (Some y) e f g l k a b h j =
     (a ∙ ap (λ (z : Refusal ChainReason). Some z) refusal ∙ sym b)
 
 -- the same octets lead to one state of a receiver, and put the same octets into its buffer
-pub one-state : (p q : ReceiverPlaces) (m n t : List ℕ) → p.ifs ≡ q.ifs → p.first ≡ q.first → p.max ≡ q.max
+pub one-state : (p q : LentReceiver) (m n t : List ℕ) → p.ifs ≡ q.ifs → p.first ≡ q.first → p.max ≡ q.max
     → AreLedTo p m t → AreLedTo q n t → (p ≡ q) × (take p.joined m ≡ take q.joined n)
 one-state p q m n t e f g l k = one-by p q m n t p.refusal q.refusal e f g l k refl refl l.brings k.brings

@@ -21,11 +21,11 @@ use Rattle.chain_core.specs.declared.reason.ChainReason.{ChainReason}
 use Rattle.chain_core.specs.declared.reason.ChainReason.TheVariants.{BadNad, BadPcb, NotInfo, BadSequence, TooManyBlocks, BadLen, OverIfs, TooLong, BadLrc}
 use Rattle.chain_core.specs.declared.stage.BlockStage as stage
 use Rattle.chain_core.specs.declared.stage.BlockStage.TheVariants as stages
-use Rattle.chain_core.specs.declared.places.ReceiverPlaces.{ReceiverPlaces}
+use Rattle.chain_core.specs.declared.lent.LentReceiver.{LentReceiver}
 use Rattle.chain_core.specs.Chain.{IsChain, IsReason, Meets, MeetsInBlock, all_reasons, message_of, chain_block, open_blocks, octets_of, number_after, spelling}
 use Rattle.chain_core.specs.Stage.{IsLenFault, more_count, place_of, came_of}
 use Rattle.chain_core.specs.Taking.{HasTaken, AreTaken, unrefused}
-use Rattle.chain_core.specs.Places.{under_way_of, number_at, field_at, held_at, taken_at, received_at, IsUnderWay, IsAmong, IsKept, IsNextReason, IsPcbReason, IsLenReason, AreReceiverPlaces, AreLedTo, Brings}
+use Rattle.chain_core.specs.Lent.{under_way_of, number_at, field_at, held_at, taken_at, received_at, IsUnderWay, IsAmong, IsKept, IsNextReason, IsPcbReason, IsLenReason, IsLentReceiver, AreLedTo, Brings}
 use Rattle.chain_core.proofs.Feeds.{bool_cases}
 use Rattle.chain_core.proofs.Heads.{first-len}
 use Rattle.chain_core.proofs.Reasons.{IsPart, part-short, part-under, part-sum, part-meets, part-split, reason-in_block}
@@ -73,7 +73,7 @@ counted true next blocks count is go few most = omega (arith, go (sym is))
 -- ---- the block under way
 
 -- the octets of the block under way
-abbrev way_at : ReceiverPlaces → List ℕ → List ℕ
+abbrev way_at : LentReceiver → List ℕ → List ℕ
 way_at p m = under_way_of (number_at p) p.stage (field_at p m)
 
 -- are as many as are counted
@@ -85,7 +85,7 @@ way-len number (stages.Len more) came field e = refl
 way-len number (stages.Rest more len) came field e = omega (arith, e)
 
 -- as many octets of the field are in the buffer as are counted
-pub field-count : (p : ReceiverPlaces) (m : List ℕ) → held_at p ≤ length m → came_of p.stage p.came ≡ p.came
+pub field-count : (p : LentReceiver) (m : List ℕ) → held_at p ≤ length m → came_of p.stage p.came ≡ p.came
     → length (field_at p m) ≡ p.came
 field-count p m held idle =
     omega (arith, length-take p.came (drop p.joined m), length-drop p.joined m, held, idle)
@@ -121,7 +121,7 @@ way-next ifs max number fields gs came (stages.Rest go len) field more most few 
 
 -- ---- places that refused nothing
 
-open-among : (p : ReceiverPlaces) (m t : List ℕ) → held_at p ≤ length m → came_of p.stage p.came ≡ p.came
+open-among : (p : LentReceiver) (m t : List ℕ) → held_at p ≤ length m → came_of p.stage p.came ≡ p.came
     → p.done ≡ false → HasTaken (unrefused (received_at p m)) t
     → IsAmong false p × (p.joined ≤ p.max) × (p.joined ≤ p.blocks * p.ifs)
 open-among p m t held idle still h =
@@ -163,7 +163,7 @@ way-nad number stages.Pcb field e = absurd (omega (arith, ap length e))
 way-nad number (stages.Len more) field e = absurd (omega (arith, ap length e))
 way-nad number (stages.Rest more len) field e = absurd (omega (arith, ap length e))
 
-done-among : (p : ReceiverPlaces) (m t : List ℕ) → held_at p ≤ length m → p.done ≡ true
+done-among : (p : LentReceiver) (m t : List ℕ) → held_at p ≤ length m → p.done ≡ true
     → HasTaken (unrefused (received_at p m)) t
     → IsAmong true p × (p.joined ≤ p.max) × (p.joined ≤ p.blocks * p.ifs) × (p.blocks ≤ 131072)
 done-among p m t held done h =
@@ -180,8 +180,8 @@ done-among p m t held done h =
     )
 
 -- places without a refusal fit, where some octets led to them
-unrefused-reached : (p : ReceiverPlaces) (m t : List ℕ) → AreLedTo p m t → (s : List ℕ)
-    → HasTaken (unrefused (received_at p m)) s → AreReceiverPlaces (record p { refusal = None }) (length m)
+unrefused-reached : (p : LentReceiver) (m t : List ℕ) → AreLedTo p m t → (s : List ℕ)
+    → HasTaken (unrefused (received_at p m)) s → IsLentReceiver (record p { refusal = None }) (length m)
 unrefused-reached p m t l s h = elim (bool_cases p.done) [
   | inl done ↦
       let a = done-among p m s l.held done h in
@@ -216,7 +216,7 @@ unrefused-reached p m t l s h = elim (bool_cases p.done) [
 -- ---- a refusal
 
 -- an octet x after octets s that may have been taken, which is refused for this reason
-record Off (p : ReceiverPlaces) (m : List ℕ) (reason : ChainReason) (s : List ℕ) (x : ℕ) : Type 0 where
+record Off (p : LentReceiver) (m : List ℕ) (reason : ChainReason) (s : List ℕ) (x : ℕ) : Type 0 where
   octet : x < 256
   taken : HasTaken (unrefused (received_at p m)) s
   opened : s ≡ octets_of (open_blocks p.first taken.fields) ++ way_at p m
@@ -224,13 +224,13 @@ record Off (p : ReceiverPlaces) (m : List ℕ) (reason : ChainReason) (s : List 
   first : IsReason p.ifs p.first p.max reason (s ++ x ∷ [])
 
 -- it comes in the block under way
-off-text : (p : ReceiverPlaces) (m : List ℕ) (reason : ChainReason) (s : List ℕ) (x : ℕ) (o : Off p m reason s x)
+off-text : (p : LentReceiver) (m : List ℕ) (reason : ChainReason) (s : List ℕ) (x : ℕ) (o : Off p m reason s x)
     → s ++ x ∷ [] ≡ octets_of (open_blocks p.first o.taken.fields) ++ (way_at p m ++ x ∷ [])
 off-text p m reason s x o = ap (λ (l : List ℕ). l ++ x ∷ []) o.opened
     ∙ append_assoc (octets_of (open_blocks p.first o.taken.fields)) (way_at p m) (x ∷ [])
 
 -- and meets the line of the table there, where the block isn't whole
-off-meets : (p : ReceiverPlaces) (m : List ℕ) (reason : ChainReason) (s : List ℕ) (x : ℕ) (o : Off p m reason s x)
+off-meets : (p : LentReceiver) (m : List ℕ) (reason : ChainReason) (s : List ℕ) (x : ℕ) (o : Off p m reason s x)
     → IsPart (way_at p m ++ x ∷ [])
     → MeetsInBlock p.ifs p.first p.max o.taken.fields (way_at p m ++ x ∷ []) reason
 off-meets p m reason s x o part =
@@ -280,7 +280,7 @@ sum-reached ifs max x pcb len number fields field BadLrc h =
     (omega (arith, h.0, length-append field (x ∷ [])), refl)
 sum-reached ifs max x pcb len number fields field _ h = absurd (omega (arith, h.0, length-append field (x ∷ [])))
 
-meets-by : (p : ReceiverPlaces) (m : List ℕ) (reason : ChainReason) (s : List ℕ) (x : ℕ) (q : stage.BlockStage)
+meets-by : (p : LentReceiver) (m : List ℕ) (reason : ChainReason) (s : List ℕ) (x : ℕ) (q : stage.BlockStage)
     (o : Off p m reason s x) → p.stage ≡ q → IsPart (under_way_of (number_at p) q (field_at p m) ++ x ∷ [])
     → MeetsInBlock p.ifs p.first p.max o.taken.fields (under_way_of (number_at p) q (field_at p m) ++ x ∷ []) reason
 meets-by p m reason s x q o is partial =
@@ -290,7 +290,7 @@ meets-by p m reason s x q o is partial =
     (off-meets p m reason s x o (subst IsPart (sym text) partial))
 
 -- there is one reason
-len-one : (p : ReceiverPlaces) (m : List ℕ) (reason : ChainReason) (s : List ℕ) (x : ℕ) (more : Bool)
+len-one : (p : LentReceiver) (m : List ℕ) (reason : ChainReason) (s : List ℕ) (x : ℕ) (more : Bool)
     (o : Off p m reason s x) → p.stage ≡ stages.Len more → length (message_of o.taken.fields) ≤ p.max
     → p.max - p.joined ≡ p.max - length (message_of o.taken.fields) → (r : ChainReason)
     → IsLenFault p.ifs (p.max - p.joined) x r → r ≡ reason
@@ -306,30 +306,30 @@ len-one p m reason s x more o is fits room r fault =
     (first-len p.ifs p.first p.max fields c (p.max - p.joined) r refl fits room fault)) o.first
 
 -- the sum of a whole block isn't 0, since that would be taken
-sum-wrong : (p : ReceiverPlaces) (m : List ℕ) (reason : ChainReason) (s : List ℕ) (x : ℕ) (more : Bool) (len : ℕ)
+sum-wrong : (p : LentReceiver) (m : List ℕ) (reason : ChainReason) (s : List ℕ) (x : ℕ) (more : Bool) (len : ℕ)
     → Off p m reason s x → p.done ≡ false → p.stage ≡ stages.Rest more len → p.came ≡ len
-    → AreReceiverPlaces (record p { refusal = None }) (length m) → AreOctets m
+    → IsLentReceiver (record p { refusal = None }) (length m) → AreOctets m
     → xor_of (under_way_of (number_at p) (stages.Rest more len) (field_at p m) ++ x ∷ []) ≡ 0 → ⊥
 sum-wrong p m reason s x more len o still is all fit octets none =
-    let q : ReceiverPlaces = record p { refusal = None } in
-    let whole : ReceiverPlaces = with_rest q more len in
+    let q : LentReceiver = record p { refusal = None } in
+    let whole : LentReceiver = with_rest q more len in
     let same : q ≡ whole = λ i. record q { stage = is i; came = all i } in
     let front : List ℕ = front_at q more len m in
     let text : under_way_of (number_at p) (stages.Rest more len) (field_at p m) ≡ front =
     ap (λ (k : ℕ). 0 ∷ pcb_octet (Info (number_at p) more) ∷ len ∷ take k (drop p.joined m)) all in
     let own : xor_of (front ++ x ∷ []) ≡ 0 = ap (λ (l : List ℕ). xor_of (l ++ x ∷ [])) (sym text) ∙ none in
     let sum : x ≡ xor_of front = xor-zero (xor_of front) x (sym (fold-append bit_xor 0 front (x ∷ [])) ∙ own) in
-    let fits : AreReceiverPlaces whole (length m) =
-    subst (λ (k : ReceiverPlaces). AreReceiverPlaces k (length m)) same fit in
+    let fits : IsLentReceiver whole (length m) =
+    subst (λ (k : LentReceiver). IsLentReceiver k (length m)) same fit in
     let way = way-of whole (length m) fits still in
     let goes = lrc-on q more len x (length m) m octets fits (omega (arith, way.1.2, fit.reserved)) refl still sum in
     let taken : HasTaken (received_at whole m) s =
-    subst (λ (k : ReceiverPlaces). HasTaken (received_at k m) s) same o.taken in
+    subst (λ (k : LentReceiver). HasTaken (received_at k m) s) same o.taken in
     o.stuck (goes.on refl s taken).begun
 
-reason-reached : (p : ReceiverPlaces) (m : List ℕ) (reason : ChainReason) (s : List ℕ) (x : ℕ) (q : stage.BlockStage)
+reason-reached : (p : LentReceiver) (m : List ℕ) (reason : ChainReason) (s : List ℕ) (x : ℕ) (q : stage.BlockStage)
     → Off p m reason s x → p.done ≡ false → p.stage ≡ q → length (field_at p m) ≡ p.came
-    → AreReceiverPlaces (record p { refusal = None }) (length m) → AreOctets m
+    → IsLentReceiver (record p { refusal = None }) (length m) → AreOctets m
     → IsNextReason p.ifs p.max p.blocks p.joined p.came q reason
 reason-reached p m reason s x stages.Nad o still is count fit octets =
     nad-reached p.ifs p.max x p.first o.taken.fields reason
@@ -366,7 +366,7 @@ reason-reached p m reason s x (stages.Rest more len) o still is count fit octets
 
 -- ---- any places that some octets lead to
 
-among-kept : (done : Bool) (p : ReceiverPlaces) → IsAmong done (record p { refusal = None }) → IsAmong done p
+among-kept : (done : Bool) (p : LentReceiver) → IsAmong done (record p { refusal = None }) → IsAmong done p
 among-kept true p h = h
 among-kept false p h = h
 
@@ -382,12 +382,12 @@ refused-last S s t x n is begun inside stuck =
       | inr le ↦ omega (arith, inside, long, le)
     ]
 
-reached-by : (p : ReceiverPlaces) (m t : List ℕ) (o : Option (Refusal ChainReason)) → p.refusal ≡ o → AreOctets m
-    → AreLedTo p m t → Brings o (received_at p m) t → AreReceiverPlaces p (length m)
+reached-by : (p : LentReceiver) (m t : List ℕ) (o : Option (Refusal ChainReason)) → p.refusal ≡ o → AreOctets m
+    → AreLedTo p m t → Brings o (received_at p m) t → IsLentReceiver p (length m)
 reached-by p m t None e octets l brings =
     let h : HasTaken (unrefused (received_at p m)) t =
     subst (λ (k : Option (Refusal ChainReason)). HasTaken (record (received_at p m) { refusal = k }) t) e brings in
-    subst (λ (k : Option (Refusal ChainReason)). AreReceiverPlaces (record p { refusal = k }) (length m)) (sym e)
+    subst (λ (k : Option (Refusal ChainReason)). IsLentReceiver (record p { refusal = k }) (length m)) (sym e)
     (unrefused-reached p m t l t h)
 reached-by p m t (Some refusal) e octets l brings =
     let S : List (List ℕ) → List ℕ → Type 0 = IsChain p.ifs p.first p.max in
@@ -439,5 +439,5 @@ reached-by p m t (Some refusal) e octets l brings =
     }
 
 -- places and a buffer to which some octets lead fit
-pub led-fit : (p : ReceiverPlaces) (m t : List ℕ) → AreOctets m → AreLedTo p m t → AreReceiverPlaces p (length m)
+pub led-fit : (p : LentReceiver) (m t : List ℕ) → AreOctets m → AreLedTo p m t → IsLentReceiver p (length m)
 led-fit p m t octets l = reached-by p m t p.refusal refl octets l l.brings

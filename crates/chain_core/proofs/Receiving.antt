@@ -19,7 +19,7 @@ use Rattle.chain_core.specs.declared.reason.ChainReason.{ChainReason}
 use Rattle.chain_core.specs.declared.stage.BlockStage as stage
 use Rattle.chain_core.specs.declared.stage.BlockStage.TheVariants as stages
 use Rattle.chain_core.specs.Chain.{IsChain, IsReason, MeetsInBlock, all_reasons, message_of, open_blocks, octets_of, chain_block, number_after, spelling}
-use Rattle.chain_core.specs.Places.{under_way_of, IsUnderWay}
+use Rattle.chain_core.specs.Lent.{under_way_of, IsUnderWay}
 use Rattle.chain_core.proofs.Unique.{block-split, one-accepted}
 use Rattle.chain_core.proofs.Goes.{Taken, part-begins}
 use Rattle.chain_core.proofs.Reasons.{IsPart, reason-in_block}

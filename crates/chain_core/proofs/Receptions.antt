@@ -14,7 +14,7 @@ use Rattle.chain_core.specs.Chain.{IsChain, IsReason, MeetsInBlock, all_reasons,
 use Rattle.chain_core.specs.Stage.{more_count}
 use Rattle.chain_core.specs.Taking.{Taking, HasTaken, AreTaken, IsOpen}
 use Rattle.chain_core.specs.Receiving.{Goes}
-use Rattle.chain_core.specs.Places.{under_way_of, IsUnderWay}
+use Rattle.chain_core.specs.Lent.{under_way_of, IsUnderWay}
 use Rattle.chain_core.proofs.Goes.{chain-begins, spelling-mid, message-append, count-append}
 use Rattle.chain_core.proofs.Reasons.{IsPart}
 use Rattle.chain_core.proofs.Receiving.{begun-taken, way-under, way-begins, refused-in_block}

@@ -20,12 +20,12 @@ use Rattle.chain_core.specs.declared.reason.ChainReason.{ChainReason}
 use Rattle.chain_core.specs.declared.reason.ChainReason.TheVariants.{BadPcb, NotInfo, BadSequence, TooManyBlocks, BadLen, OverIfs, TooLong, BadLrc}
 use Rattle.chain_core.specs.declared.stage.BlockStage as stage
 use Rattle.chain_core.specs.declared.stage.BlockStage.TheVariants as stages
-use Rattle.chain_core.specs.declared.places.ReceiverPlaces.{ReceiverPlaces}
+use Rattle.chain_core.specs.declared.lent.LentReceiver.{LentReceiver}
 use Rattle.chain_core.specs.Chain.{MeetsInBlock, all_reasons, chain_block, number_after, message_of}
 use Rattle.chain_core.specs.Stage.{IsHead, IsPcbFault, IsLenFault, IsHeadFault, IsAfter, more_count, place_of, came_of, left_of}
 use Rattle.chain_core.specs.Taking.{Taking, HasTaken, nothing_taken}
 use Rattle.chain_core.specs.Receiving.{Goes}
-use Rattle.chain_core.specs.Places.{under_way_of, number_at, field_at, held_at, taken_at, received_at, IsUnderWay, IsAmong, IsKept, IsNextReason, IsPcbReason, IsLenReason, AreReceiverPlaces, IsReceiver}
+use Rattle.chain_core.specs.Lent.{under_way_of, number_at, field_at, held_at, taken_at, received_at, IsUnderWay, IsAmong, IsKept, IsNextReason, IsPcbReason, IsLenReason, IsLentReceiver, IsReceiver}
 use Rattle.chain_core.proofs.Feeds.{taken-fresh}
 use Rattle.chain_core.proofs.Heads.{first-head, first-lrc}
 use Rattle.chain_core.proofs.Reasons.{part-short, part-sum}
@@ -34,7 +34,7 @@ use Rattle.chain_core.proofs.Receptions.{more-goes, refused-goes, joined-goes}
 -- ---- the octets that are kept
 
 -- a receiver whose chain isn't whole has a block under way that may come
-pub way-of : (p : ReceiverPlaces) (room : ℕ) → AreReceiverPlaces p room → p.done ≡ false → IsAmong false p
+pub way-of : (p : LentReceiver) (room : ℕ) → IsLentReceiver p room → p.done ≡ false → IsAmong false p
 way-of p room fit still = subst (λ (d : Bool). IsAmong d p) still fit.among
 
 way-held : (ifs max blocks joined came : ℕ) (p : stage.BlockStage) → joined ≤ max
@@ -45,16 +45,16 @@ way-held ifs max blocks joined came stages.Pcb le h = omega arith
 way-held ifs max blocks joined came (stages.Len more) le h = omega arith
 way-held ifs max blocks joined came (stages.Rest more len) le h = omega (arith, h.2, h.3)
 
-among-held : (done : Bool) (p : ReceiverPlaces) → p.joined ≤ p.max → IsAmong done p → held_at p ≤ p.max
+among-held : (done : Bool) (p : LentReceiver) → p.joined ≤ p.max → IsAmong done p → held_at p ≤ p.max
 among-held true p le h = omega (arith, le, ap (λ (q : stage.BlockStage). came_of q p.came) h.0)
 among-held false p le h = way-held p.ifs p.max p.blocks p.joined p.came p.stage le h.1
 
 -- a buffer with room for the longest message has room for them
-pub held-room : (p : ReceiverPlaces) (room : ℕ) → AreReceiverPlaces p room → held_at p ≤ room
+pub held-room : (p : LentReceiver) (room : ℕ) → IsLentReceiver p room → held_at p ≤ room
 held-room p room fit = omega (arith, among-held p.done p fit.joined fit.among, fit.reserved)
 
 -- where they are in the buffer, there are as many
-pub joined-len : (p : ReceiverPlaces) (m : List ℕ) → p.joined ≤ length m → length (take p.joined m) ≡ p.joined
+pub joined-len : (p : LentReceiver) (m : List ℕ) → p.joined ≤ length m → length (take p.joined m) ≡ p.joined
 joined-len p m inside = omega (arith, length-take p.joined m, inside)
 
 -- ---- one of the first three octets of a block
@@ -76,11 +76,11 @@ counted false last blocks few some h = omega arith
 counted true last blocks few some h = omega (arith, few (h refl))
 
 -- what comes after one of these octets, and what it is refused for
-abbrev pub IsNext : ReceiverPlaces → ℕ → stage.BlockStage → Type 0
+abbrev pub IsNext : LentReceiver → ℕ → stage.BlockStage → Type 0
 IsNext p x next = IsAfter (number_at p) (nat_eq (p.blocks + 1) 131072) p.ifs (p.max - p.joined) p.stage x next
 
 -- and what such an octet is refused for
-abbrev pub IsOff : ReceiverPlaces → ℕ → ChainReason → Type 0
+abbrev pub IsOff : LentReceiver → ℕ → ChainReason → Type 0
 IsOff p x reason = IsHeadFault (number_at p) (nat_eq (p.blocks + 1) 131072) p.ifs (p.max - p.joined) p.stage x reason
 
 head-text : (number : Number) (last : Bool) (ifs room x : ℕ) (p next : stage.BlockStage) (field more : List ℕ)
@@ -131,12 +131,12 @@ head-came (stages.Len more) came h = refl
 head-came (stages.Rest more len) came h = absurd h
 
 -- such an octet puts nothing into the buffer
-pub head-held : (p : ReceiverPlaces) (next : stage.BlockStage) → IsHead p.stage
+pub head-held : (p : LentReceiver) (next : stage.BlockStage) → IsHead p.stage
     → held_at (record p { stage = next; came = 0 }) ≡ held_at p
 head-held p next head = omega (arith, none-came next, head-came p.stage p.came head)
 
 -- a receiver takes such an octet, and goes on to what comes after it
-pub head-on : (p : ReceiverPlaces) (next : stage.BlockStage) (x room : ℕ) (m : List ℕ) → AreReceiverPlaces p room
+pub head-on : (p : LentReceiver) (next : stage.BlockStage) (x room : ℕ) (m : List ℕ) → IsLentReceiver p room
     → held_at p ≤ length m → p.refusal ≡ None → p.done ≡ false → IsNext p x next
     → Goes (received_at p m) (received_at (record p { stage = next; came = 0 }) m) (x ∷ [])
 head-on p next x room m fit held none still after =
@@ -151,12 +151,12 @@ head-on p next x room m fit held none still after =
     (drop p.joined m) after)
 
 -- what is kept beside the block under way stays
-fit-with : (p : ReceiverPlaces) (next : stage.BlockStage) (came : ℕ) (refusal : Option (Refusal ChainReason))
+fit-with : (p : LentReceiver) (next : stage.BlockStage) (came : ℕ) (refusal : Option (Refusal ChainReason))
     (room more : ℕ)
-    → AreReceiverPlaces p room → room ≤ more → came_of next came ≡ came
+    → IsLentReceiver p room → room ≤ more → came_of next came ≡ came
     → IsAmong p.done (record p { stage = next; came = came; refusal = refusal })
     → IsKept refusal (record p { stage = next; came = came; refusal = refusal })
-    → AreReceiverPlaces (record p { stage = next; came = came; refusal = refusal }) more
+    → IsLentReceiver (record p { stage = next; came = came; refusal = refusal }) more
 fit-with p next came refusal room more fit grows idle among kept = record {
   least = fit.least;
   most = fit.most;
@@ -171,13 +171,13 @@ fit-with p next came refusal room more fit grows idle among kept = record {
 }
 
 -- where none is refused no refusal is kept
-none-kept : (p : ReceiverPlaces) → p.refusal ≡ None → IsKept p.refusal p
+none-kept : (p : LentReceiver) → p.refusal ≡ None → IsKept p.refusal p
 none-kept p none = subst (λ (o : Option (Refusal ChainReason)). IsKept o p) (sym none) tt
 
 -- and its places stay those of a receiver
-pub head-fit : (p : ReceiverPlaces) (next : stage.BlockStage) (x room : ℕ) → p.refusal ≡ None → p.done ≡ false
+pub head-fit : (p : LentReceiver) (next : stage.BlockStage) (x room : ℕ) → p.refusal ≡ None → p.done ≡ false
     → IsNext p x next
-    → AreReceiverPlaces p room → AreReceiverPlaces (record p { stage = next; came = 0 }) room
+    → IsLentReceiver p room → IsLentReceiver (record p { stage = next; came = 0 }) room
 head-fit p next x room none still after fit =
     let way = way-of p room fit still in
     let next-way = head-way (number_at p) p.ifs p.max p.blocks p.joined p.came x p.stage next way.0 fit.joined way.1
@@ -187,7 +187,7 @@ head-fit p next x room none still after fit =
     (none-kept (record p { stage = next; came = 0 }) none)
 
 -- such an octet is refused at its place, for what is wrong with it
-pub head-off : (p : ReceiverPlaces) (x room : ℕ) (reason : ChainReason) (m : List ℕ) → AreReceiverPlaces p room
+pub head-off : (p : LentReceiver) (x room : ℕ) (reason : ChainReason) (m : List ℕ) → IsLentReceiver p room
     → held_at p ≤ length m → p.refusal ≡ None → p.done ≡ false → IsHead p.stage
     → IsOff p x reason
     → Goes (received_at p m) (received_at
@@ -212,15 +212,15 @@ head-off p x room reason m fit held none still head fault =
     room-is
     (subst (λ (n : Number). IsHeadFault n last p.ifs (p.max - p.joined) p.stage x reason) number-is fault)))
 
-among-kept : (done : Bool) (p : ReceiverPlaces) (refusal : Refusal ChainReason) → IsAmong done p
+among-kept : (done : Bool) (p : LentReceiver) (refusal : Refusal ChainReason) → IsAmong done p
     → IsAmong done (record p { refusal = Some refusal })
 among-kept true p refusal h = h
 among-kept false p refusal h = h
 
 -- places that keep a refusal of the next octet stay those of a receiver
-kept-fit : (p : ReceiverPlaces) (refusal : Refusal ChainReason) (room : ℕ) → p.done ≡ false
+kept-fit : (p : LentReceiver) (refusal : Refusal ChainReason) (room : ℕ) → p.done ≡ false
     → refusal.place ≡ taken_at p → IsNextReason p.ifs p.max p.blocks p.joined p.came p.stage refusal.reason
-    → AreReceiverPlaces p room → AreReceiverPlaces (record p { refusal = Some refusal }) room
+    → IsLentReceiver p room → IsLentReceiver (record p { refusal = Some refusal }) room
 kept-fit p refusal room still place reason fit =
     fit-with p p.stage p.came (Some refusal) room room fit (omega arith) fit.idle
     (among-kept p.done p refusal fit.among) (still, place, reason)
@@ -249,9 +249,9 @@ head-reason number ifs max blocks joined came x (stages.Len more) r octet h = le
 head-reason number ifs max blocks joined came x (stages.Rest more len) r octet h = absurd h
 
 -- so do those that refused one of these octets
-pub off-fit : (p : ReceiverPlaces) (x room : ℕ) (reason : ChainReason) → x < 256 → p.done ≡ false → IsHead p.stage
-    → IsOff p x reason → AreReceiverPlaces p room
-    → AreReceiverPlaces
+pub off-fit : (p : LentReceiver) (x room : ℕ) (reason : ChainReason) → x < 256 → p.done ≡ false → IsHead p.stage
+    → IsOff p x reason → IsLentReceiver p room
+    → IsLentReceiver
     (record p { refusal = Some (record { place = p.joined + 4 * p.blocks + place_of p.stage; reason = reason }) }) room
 off-fit p x room reason octet still head fault fit =
     kept-fit p (record { place = p.joined + 4 * p.blocks + place_of p.stage; reason = reason }) room still
@@ -281,9 +281,9 @@ left-held (stages.Len more) came now some = absurd (omega arith)
 left-held (stages.Rest more len) came now some = refl
 
 -- while octets of the field come the places stay those of a receiver, in a buffer that has no less room
-pub field-fit : (p : ReceiverPlaces) (run room more : ℕ) → p.refusal ≡ None → p.done ≡ false
-    → 0 < left_of p.stage p.came → run ≤ left_of p.stage p.came → room ≤ more → AreReceiverPlaces p room
-    → AreReceiverPlaces (record p { came = p.came + run }) more
+pub field-fit : (p : LentReceiver) (run room more : ℕ) → p.refusal ≡ None → p.done ≡ false
+    → 0 < left_of p.stage p.came → run ≤ left_of p.stage p.came → room ≤ more → IsLentReceiver p room
+    → IsLentReceiver (record p { came = p.came + run }) more
 field-fit p run room more none still some le grows fit =
     let way = way-of p room fit still in
     fit-with p p.stage (p.came + run) p.refusal room more fit grows (left-held p.stage p.came (p.came + run) some)
@@ -292,7 +292,7 @@ field-fit p run room more none still some le grows fit =
     (none-kept (record p { came = p.came + run }) none)
 
 -- what comes of the field is put after what came before
-pub field-held : (p : ReceiverPlaces) (run : ℕ) → 0 < left_of p.stage p.came
+pub field-held : (p : LentReceiver) (run : ℕ) → 0 < left_of p.stage p.came
     → held_at (record p { came = p.came + run }) ≡ p.joined + p.came + run
 field-held p run some = omega (arith, left-held p.stage p.came (p.came + run) some)
 
@@ -314,7 +314,7 @@ field-text n k m m' xs inside e =
     ∙ ap (λ (l : List ℕ). l ++ xs) (drop-take n k m)
 
 -- a receiver takes octets of the field, where they come after those before them in the buffer
-pub field-on : (p : ReceiverPlaces) (room : ℕ) (m m' xs : List ℕ) → AreOctets m' → AreReceiverPlaces p room
+pub field-on : (p : LentReceiver) (room : ℕ) (m m' xs : List ℕ) → AreOctets m' → IsLentReceiver p room
     → p.joined + p.came ≤ length m → p.refusal ≡ None → p.done ≡ false → 0 < left_of p.stage p.came
     → length xs ≤ left_of p.stage p.came
     → take (p.joined + p.came + length xs) m' ≡ take (p.joined + p.came) m ++ xs
@@ -339,11 +339,11 @@ field-on p room m m' xs all fit inside none still some le text =
 -- ---- the LRC
 
 -- the places where the whole field has come, and the LRC comes next
-abbrev pub with_rest : ReceiverPlaces → Bool → ℕ → ReceiverPlaces
+abbrev pub with_rest : LentReceiver → Bool → ℕ → LentReceiver
 with_rest p more len = record p { stage = stages.Rest more len; came = len }
 
 -- the places after the LRC: the field is joined to the message, and the chain is whole where no more follow
-abbrev pub closed_at : ReceiverPlaces → Bool → ℕ → ReceiverPlaces
+abbrev pub closed_at : LentReceiver → Bool → ℕ → LentReceiver
 closed_at p more len = record p {
   joined = p.joined + len;
   blocks = p.blocks + 1;
@@ -353,15 +353,15 @@ closed_at p more len = record p {
 }
 
 -- the octets of the block but for its LRC
-abbrev pub front_at : ReceiverPlaces → Bool → ℕ → List ℕ → List ℕ
+abbrev pub front_at : LentReceiver → Bool → ℕ → List ℕ → List ℕ
 front_at p more len m = 0 ∷ pcb_octet (Info (number_at p) more) ∷ len ∷ take len (drop p.joined m)
 
-field-len : (p : ReceiverPlaces) (len : ℕ) (m : List ℕ) → p.joined + len ≤ length m
+field-len : (p : LentReceiver) (len : ℕ) (m : List ℕ) → p.joined + len ≤ length m
     → length (take len (drop p.joined m)) ≡ len
 field-len p len m inside = omega (arith, length-take len (drop p.joined m), length-drop p.joined m, inside)
 
 -- the exclusive-or of the first three octets and of the field is that of both
-pub front-sum : (p : ReceiverPlaces) (more : Bool) (number : Number) (len pcb a b : ℕ) (m : List ℕ)
+pub front-sum : (p : LentReceiver) (more : Bool) (number : Number) (len pcb a b : ℕ) (m : List ℕ)
     → number ≡ number_at p → pcb ≡ pcb_octet (Info number more) → a ≡ xor_of (0 ∷ pcb ∷ len ∷ [])
     → b ≡ xor_of (take (p.joined + len - p.joined) (drop p.joined m)) → bit_xor a b ≡ xor_of (front_at p more len m)
 front-sum p more number len pcb a b m own is head field =
@@ -376,8 +376,8 @@ pub sum-off : (front : List ℕ) (x : ℕ) → xor_of front ≢ x → xor_of (fr
 sum-off front x ne = λ e. ne (sym (xor-zero (xor_of front) x (sym (fold-append bit_xor 0 front (x ∷ [])) ∙ e)))
 
 -- the exclusive-or of the octets before it closes the block
-pub lrc-on : (p : ReceiverPlaces) (more : Bool) (len x room : ℕ) (m : List ℕ) → AreOctets m
-    → AreReceiverPlaces (with_rest p more len) room → p.joined + len ≤ length m → p.refusal ≡ None → p.done ≡ false
+pub lrc-on : (p : LentReceiver) (more : Bool) (len x room : ℕ) (m : List ℕ) → AreOctets m
+    → IsLentReceiver (with_rest p more len) room → p.joined + len ≤ length m → p.refusal ≡ None → p.done ≡ false
     → x ≡ xor_of (front_at p more len m)
     → Goes (received_at (with_rest p more len) m) (received_at (closed_at p more len) m) (x ∷ [])
 lrc-on p more len x room m all fit inside none still sum =
@@ -396,7 +396,7 @@ lrc-on p more len x room m all fit inside none still sum =
     (octets-take len (drop p.joined m) (octets-drop p.joined m all)) way.1.0 (omega (arith, long, len-is, way.1.2))
     spelled)
 
-among-closed : (p : ReceiverPlaces) (more : Bool) (len : ℕ) → p.blocks + 1 + more_count more ≤ 131072
+among-closed : (p : LentReceiver) (more : Bool) (len : ℕ) → p.blocks + 1 + more_count more ≤ 131072
     → IsAmong (not more) (closed_at p more len)
 among-closed p true len few = (omega (arith, few), tt)
 among-closed p false len few = (refl, omega arith)
@@ -407,8 +407,8 @@ more-full blocks ifs joined len full size =
     let more : (blocks + 1) * ifs ≡ blocks * ifs + ifs = omega arith in omega (arith, full, size, more)
 
 -- and the places stay those of a receiver
-pub closed-fit : (p : ReceiverPlaces) (more : Bool) (len room : ℕ) → p.refusal ≡ None → p.done ≡ false
-    → AreReceiverPlaces (with_rest p more len) room → AreReceiverPlaces (closed_at p more len) room
+pub closed-fit : (p : LentReceiver) (more : Bool) (len room : ℕ) → p.refusal ≡ None → p.done ≡ false
+    → IsLentReceiver (with_rest p more len) room → IsLentReceiver (closed_at p more len) room
 closed-fit p more len room none still fit =
     let way = way-of (with_rest p more len) room fit still in
     record {
@@ -425,17 +425,17 @@ closed-fit p more len room none still fit =
     }
 
 -- also where the LRC is refused
-pub sum-fit : (p : ReceiverPlaces) (more : Bool) (len room : ℕ) → p.done ≡ false
-    → AreReceiverPlaces (with_rest p more len) room
-    → AreReceiverPlaces (record (with_rest p more len)
+pub sum-fit : (p : LentReceiver) (more : Bool) (len room : ℕ) → p.done ≡ false
+    → IsLentReceiver (with_rest p more len) room
+    → IsLentReceiver (record (with_rest p more len)
     { refusal = Some (record { place = p.joined + 4 * p.blocks + (3 + len); reason = BadLrc }) }) room
 sum-fit p more len room still fit =
     kept-fit (with_rest p more len) (record { place = p.joined + 4 * p.blocks + (3 + len); reason = BadLrc }) room still
     refl (refl, refl) fit
 
 -- an LRC with which the sum isn't 0 is refused, at its place
-pub lrc-off : (p : ReceiverPlaces) (more : Bool) (len x room : ℕ) (m : List ℕ)
-    → AreReceiverPlaces (with_rest p more len) room → p.joined + len ≤ length m → p.refusal ≡ None → p.done ≡ false
+pub lrc-off : (p : LentReceiver) (more : Bool) (len x room : ℕ) (m : List ℕ)
+    → IsLentReceiver (with_rest p more len) room → p.joined + len ≤ length m → p.refusal ≡ None → p.done ≡ false
     → xor_of (front_at p more len m ++ x ∷ []) ≢ 0
     → Goes (received_at (with_rest p more len) m)
     (received_at (record (with_rest p more len)
@@ -459,8 +459,8 @@ way-none number (stages.Len more) field came e = refl
 way-none number (stages.Rest more len) field came e = absurd (omega (arith, ap length e))
 
 -- a new one is one, whose message is empty
-pub receiver-fresh : (p : ReceiverPlaces) (m : List ℕ) (room ifs : ℕ) (number : Number) (max : ℕ)
-    → AreReceiverPlaces p room → m ≡ [] → ((l : List ℕ) → received_at p l ≡ nothing_taken ifs number max)
+pub receiver-fresh : (p : LentReceiver) (m : List ℕ) (room ifs : ℕ) (number : Number) (max : ℕ)
+    → IsLentReceiver p room → m ≡ [] → ((l : List ℕ) → received_at p l ≡ nothing_taken ifs number max)
     → IsReceiver p m room
 receiver-fresh p m room ifs number max fit none is =
     let zeros : List ℕ = replicate p.joined 0 in

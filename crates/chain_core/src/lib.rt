@@ -3,7 +3,7 @@
 //! A chain carries a message in the information fields of I-blocks, with NAD 00, alternating numbers, and
 //! M=1 on all but the last. The grammar, `IsChain` in `specs/Chain.antt`, relates the fields to the octets
 //! of the blocks in a row; `specs/Cut.antt` says how a message is cut into fields. `cut` and `write_chain`
-//! make chains, a `Receiver` takes one in pieces and joins its message, `ReceiverPlaces` join it in a buffer that
+//! make chains, a `Receiver` takes one in pieces and joins its message, a `LentReceiver` joins it in a buffer that
 //! their caller lends, `read_chain` feeds a receiver from a source, and `laws` says what holds of the grammar
 //! alone. A `Wiped` has octets of a message in memory of their own, which is overwritten before it is given back.
 #![tactic(auto)]
@@ -11,8 +11,8 @@
 pub mod blocks;
 pub mod cutting;
 pub mod laws;
+pub mod lent;
 pub mod longest;
-pub mod places;
 pub mod reading;
 pub mod reason;
 pub mod receiver;
@@ -24,8 +24,8 @@ pub mod writing;
 
 pub use blocks::{Cut, block_at};
 pub use cutting::cut;
+pub use lent::LentReceiver;
 pub use longest::{LONGEST_COMMAND, LONGEST_RESPONSE};
-pub use places::ReceiverPlaces;
 pub use reading::{ReadRefusal, read_chain};
 pub use reason::ChainReason;
 pub use receiver::{LONGEST_MESSAGE, MOST_BLOCKS, Receiver};

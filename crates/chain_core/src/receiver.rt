@@ -8,7 +8,7 @@ ghost use Rattle.chain_core.specs.declared.reason.ChainReason.{ChainReason};
 ghost use Rattle.chain_core.specs.Chain.{IsChain, IsReason, longest_message};
 ghost use Rattle.chain_core.specs.Taking.{HasTaken, AreBefore, IsOpen, IsClosed, nothing_taken, refusal_of};
 
-use crate::places::ReceiverPlaces;
+use crate::lent::LentReceiver;
 use crate::reason::ChainReason;
 use crate::wiped::Wiped;
 use block_core::Number;
@@ -25,25 +25,25 @@ pub const LONGEST_MESSAGE: usize = 131_072;
 
 /// A receiver of one chain (ISO/IEC 7816-3, clause 11.6) whose octets come in pieces. It joins the fields
 /// of the blocks to the message, for which `new` reserves memory once; no later call takes any. It judges
-/// octets as [`ReceiverPlaces`] do, which it keeps beside a message of its own. Where it is restarted or dropped, the
+/// octets as [`LentReceiver`] do, which it keeps beside a message of its own. Where it is restarted or dropped, the
 /// octets of that message are overwritten.
 #[derive(Drop)]
 pub struct Receiver {
-    places: ReceiverPlaces,
+    state: LentReceiver,
     /// The message so far, and then what came of the field under way.
     message: Wiped,
 }
 
 impl Model for Receiver {
     ghost use Rattle.chain_core.specs.Taking.{Taking};
-    ghost use Rattle.chain_core.specs.Places.{received_at, IsReceiver};
+    ghost use Rattle.chain_core.specs.Lent.{received_at, IsReceiver};
     ghost use Rattle.chain_core.specs.Wiped.{held_in, room_in};
 
     ghost Value = { Taking };
 
-    ghost view = { λ r. received_at r.places (held_in r.message) };
+    ghost view = { λ r. received_at r.state (held_in r.message) };
 
-    ghost invariant = { λ r. IsReceiver r.places (held_in r.message) (room_in r.message) };
+    ghost invariant = { λ r. IsReceiver r.state (held_in r.message) (room_in r.message) };
 }
 
 impl Receiver {
@@ -57,15 +57,15 @@ impl Receiver {
         ensures { IfOk result (λ r. r ≡ nothing_taken ifs number max) }
     {
         let message = Wiped::with_room(alloc, max)?;
-        let places = ReceiverPlaces::begin(ifs, number, max as u32);
-        Ok(Receiver { places, message })
+        let state = LentReceiver::begin(ifs, number, max as u32);
+        Ok(Receiver { state, message })
     }
 
     /// Begins again, with a first block of this number.
     pub fn restart(&mut self, number: Number)
         ensures { self.new ≡ nothing_taken self.old.ifs number self.old.max }
     {
-        self.places = ReceiverPlaces::begin(self.places.ifs, number, self.places.max);
+        self.state = LentReceiver::begin(self.state.ifs, number, self.state.max);
         self.message.clear();
     }
 
@@ -86,8 +86,8 @@ impl Receiver {
             → AreBefore self.old.number self.new.blocks self.new.joined
             (take refusal.place (t ++ piece.now)) }
     {
-        let taken = self.places.take(&mut self.message, piece);
-        self.places.answer(taken)
+        let taken = self.state.take(&mut self.message, piece);
+        self.state.answer(taken)
     }
 
     /// What there is to say when no more octets come: `Short` with the octets taken where the chain isn't
@@ -102,7 +102,7 @@ impl Receiver {
             × (stop ≡ Short (length self.now.joined + self.now.blocks * 4 + length
             self.now.under_way))) }
     {
-        self.places.finish()
+        self.state.finish()
     }
 
     /// The message, once the chain is whole.
@@ -112,7 +112,7 @@ impl Receiver {
             × (message.now ≡ self.now.joined)) }
         ensures none { IfNone result (IsSome self.now.refusal ⊎ (self.now.done ≡ false)) }
     {
-        let len = self.places.message_len()?;
+        let len = self.state.message_len()?;
         Some(&self.message.as_slice()[..len])
     }
 
@@ -120,14 +120,14 @@ impl Receiver {
     pub fn blocks(&self) -> u32
         ensures { result ≡ self.now.blocks }
     {
-        self.places.blocks
+        self.state.blocks
     }
 
     /// Whether it takes more octets.
     pub(crate) fn is_open(&self) -> bool
         ensures { MatchBool result (IsOpen self.now) (IsClosed self.now) }
     {
-        self.places.is_open()
+        self.state.is_open()
     }
 
     /// How many octets may come next so that none lies past the block under way: those that are left of
@@ -142,7 +142,7 @@ impl Receiver {
         ensures taken { (t : List ℕ) × HasTaken self.now t }
         ensures limit { self.now.max ≤ longest_message }
     {
-        self.places.stage.end() - self.places.under_way()
+        self.state.stage.end() - self.state.under_way()
     }
 }
 
@@ -150,7 +150,7 @@ impl Receiver {
 impl Debug for Receiver {
     fn fmt<W: Write>(&self, f: &mut Formatter<W>) -> fmt::Result {
         f.debug_struct("Receiver")
-            .field("places", &self.places)
+            .field("state", &self.state)
             .finish()
     }
 }

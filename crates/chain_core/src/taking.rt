@@ -5,9 +5,9 @@ ghost use Rattle.chain_core.specs.declared.stage.BlockStage.TheVariants.{Rest};
 ghost use Rattle.chain_core.specs.Chain.{most_blocks, longest_message, number_after};
 ghost use Rattle.chain_core.specs.Stage.{IsHead, left_of};
 ghost use Rattle.chain_core.specs.Receiving.{Goes, Fed};
-ghost use Rattle.chain_core.specs.Places.{AreReceiverPlaces, Brings, IsStored, IsUnderWay, received_at, held_at};
+ghost use Rattle.chain_core.specs.Lent.{IsLentReceiver, Brings, IsStored, IsUnderWay, received_at, held_at};
 
-use crate::places::ReceiverPlaces;
+use crate::lent::LentReceiver;
 use crate::reason::ChainReason;
 use crate::receiver::MOST_BLOCKS;
 use crate::stage::{BlockStage, after};
@@ -15,7 +15,7 @@ use crate::store::MessageStore;
 use block_core::{Number, Pcb};
 use octet_core::{Refusal, lrc};
 
-impl ReceiverPlaces {
+impl LentReceiver {
     /// Takes the next octets: how many of this piece. It takes the whole piece unless the chain ends in it, or an
     /// octet is refused.
     pub(crate) fn take<S: MessageStore>(&mut self, store: &mut S, piece: &[u8]) -> usize
@@ -91,11 +91,11 @@ impl ReceiverPlaces {
     /// Takes one of the first three octets of a block, or its LRC.
     fn take_control(&mut self, message: &[u8], octet: u8)
         requires open { (self.old.refusal ≡ None) × (self.old.done ≡ false) }
-        requires fit { (room : ℕ) × AreReceiverPlaces self.old room }
+        requires fit { (room : ℕ) × IsLentReceiver self.old room }
         requires held { held_at self.old ≤ length message.now }
         requires whole { left_of self.old.stage self.old.came ≡ 0 }
-        ensures fit { (room : ℕ) → AreReceiverPlaces self.old room
-            → AreReceiverPlaces self.new room }
+        ensures fit { (room : ℕ) → IsLentReceiver self.old room
+            → IsLentReceiver self.new room }
         ensures held { held_at self.new ≡ held_at self.old }
         ensures goes { Goes (received_at self.old message.now) (received_at self.new message.now)
             (octet ∷ []) }
@@ -111,9 +111,9 @@ impl ReceiverPlaces {
     fn take_head(&mut self, octet: u8)
         requires open { (self.old.refusal ≡ None) × (self.old.done ≡ false) }
         requires head { IsHead self.old.stage }
-        requires fit { (room : ℕ) × AreReceiverPlaces self.old room }
-        ensures fit { (room : ℕ) → AreReceiverPlaces self.old room
-            → AreReceiverPlaces self.new room }
+        requires fit { (room : ℕ) × IsLentReceiver self.old room }
+        ensures fit { (room : ℕ) → IsLentReceiver self.old room
+            → IsLentReceiver self.new room }
         ensures held { held_at self.new ≡ held_at self.old }
         ensures goes { (message : List ℕ) → held_at self.old ≤ length message →
             Goes (received_at self.old message) (received_at self.new message) (octet ∷ []) }
@@ -133,12 +133,12 @@ impl ReceiverPlaces {
     /// Takes the LRC of a block whose field came, which then joins the message.
     fn take_lrc(&mut self, message: &[u8], more: bool, len: u8, octet: u8)
         requires open { (self.old.refusal ≡ None) × (self.old.done ≡ false) }
-        requires fit { (room : ℕ) × AreReceiverPlaces self.old room }
+        requires fit { (room : ℕ) × IsLentReceiver self.old room }
         requires held { self.old.joined + len ≤ length message.now }
         requires stage { self.old.stage ≡ Rest more len }
         requires came { self.old.came ≡ len }
-        ensures fit { (room : ℕ) → AreReceiverPlaces self.old room
-            → AreReceiverPlaces self.new room }
+        ensures fit { (room : ℕ) → IsLentReceiver self.old room
+            → IsLentReceiver self.new room }
         ensures held { held_at self.new ≡ held_at self.old }
         ensures goes { Goes (received_at self.old message.now) (received_at self.new message.now)
             (octet ∷ []) }

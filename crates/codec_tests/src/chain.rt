@@ -7,7 +7,7 @@ mod printed;
 ghost use Rattle.std.specs.Prelude.{◌≤◌};
 
 use block_core::{Number, encode};
-use chain_core::{ChainReason, ReadRefusal, Receiver, ReceiverPlaces, block_at, cut};
+use chain_core::{ChainReason, LentReceiver, ReadRefusal, Receiver, block_at, cut};
 use octet_core::{After, Counted, Feeder, Source, Stop, Taker};
 use plain::{Fed, ends, feed_lent, feeds, finish_lent, has, lacks, read, receiver, write};
 use std::alloc::Global;
@@ -91,41 +91,39 @@ fn received_in_two_pieces(rt: HostRuntime) {
 }
 
 /// Whether a receiver over a lent buffer takes the first piece of the chain, and lacks the rest of it, if there is some.
-fn takes_front_lent(places: &mut ReceiverPlaces, message: &mut [u8; 6], front: &[u8]) -> bool {
+fn takes_front_lent(lent: &mut LentReceiver, message: &mut [u8; 6], front: &[u8]) -> bool {
     let place = front.len();
     let whole = place == CHAIN.len();
-    same(feed_lent(places, message, front), Some(Ok((place, whole))))
-        && (whole || lacks_lent(places, place))
+    same(feed_lent(lent, message, front), Some(Ok((place, whole))))
+        && (whole || lacks_lent(lent, place))
 }
 
 /// Whether a receiver over a lent buffer has no message after so many octets.
-fn lacks_lent(places: &ReceiverPlaces, place: usize) -> bool {
-    places.message_len().is_none() && same(finish_lent(places, 5), Some(Err(Stop::Short { place })))
+fn lacks_lent(lent: &LentReceiver, place: usize) -> bool {
+    lent.message_len().is_none() && same(finish_lent(lent, 5), Some(Err(Stop::Short { place })))
 }
 
 /// Whether a receiver over a lent buffer takes the last piece of the chain and no octet more.
-fn takes_back_lent(places: &mut ReceiverPlaces, message: &mut [u8; 6], back: &[u8]) -> bool {
-    same(
-        feed_lent(places, message, back),
-        Some(Ok((back.len(), true))),
-    ) && same(feed_lent(places, message, &[0xFF]), Some(Ok((0, true))))
+fn takes_back_lent(lent: &mut LentReceiver, message: &mut [u8; 6], back: &[u8]) -> bool {
+    same(feed_lent(lent, message, back), Some(Ok((back.len(), true))))
+        && same(feed_lent(lent, message, &[0xFF]), Some(Ok((0, true))))
 }
 
 /// Whether a receiver over a lent buffer has the message, and is none over a buffer of four octets.
-fn has_lent(places: &ReceiverPlaces, message: &[u8; 6]) -> bool {
-    same(finish_lent(places, 5), Some(Ok(())))
-        && same(places.message_len(), Some(5))
+fn has_lent(lent: &LentReceiver, message: &[u8; 6]) -> bool {
+    same(finish_lent(lent, 5), Some(Ok(())))
+        && same(lent.message_len(), Some(5))
         && message.starts_with(&SELECT)
-        && same(finish_lent(places, 4), None)
+        && same(finish_lent(lent, 4), None)
 }
 
 /// Whether the chain is joined in a lent buffer from these two pieces.
 fn is_joined(front: &[u8], back: &[u8]) -> bool {
-    let mut places = ReceiverPlaces::begin(2, Number::Zero, 5);
+    let mut lent = LentReceiver::begin(2, Number::Zero, 5);
     let mut message = [0; 6];
-    takes_front_lent(&mut places, &mut message, front)
-        && takes_back_lent(&mut places, &mut message, back)
-        && has_lent(&places, &message)
+    takes_front_lent(&mut lent, &mut message, front)
+        && takes_back_lent(&mut lent, &mut message, back)
+        && has_lent(&lent, &message)
 }
 
 #[test]

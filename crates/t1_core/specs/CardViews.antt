@@ -1,11 +1,11 @@
--- The card's buffers and places, seen as its state.
+-- The lent card and its buffers, seen as its state.
 use Rattle.std.specs.Prelude.{◌≡◌, ◌≤◌, List, [], ℕ, take, Option, Some, None}
 use Rattle.t1_core.specs.declared.turns.Cut.{Cut}
 use Rattle.t1_core.specs.declared.turns.CardAsked.{CardAsked}
 use Rattle.t1_core.specs.declared.turns.CardAsked.TheVariants.{Size, Time}
 use Rattle.t1_core.specs.declared.turns.CardWait.{CardWait}
 use Rattle.t1_core.specs.declared.turns.CardWait.TheVariants.{Command, Joining, Host, Reply, Asking}
-use Rattle.t1_core.specs.declared.places.CardPlaces.{CardPlaces}
+use Rattle.t1_core.specs.declared.lent.LentCard.{LentCard}
 use Rattle.t1_core.specs.Card.{CardState, CardRequest, size, time, Waits, command, host, reply, asking}
 use Rattle.t1_core.specs.Views.{field_at, rest_at, IsSize, IsInner, IsLast}
 
@@ -72,9 +72,9 @@ abbrev pub rest_of : Waits → List ℕ
 rest_of (reply field rest) = rest
 rest_of waits = []
 
--- ---- the card, by its places and its two buffers, whoever owns those
+-- ---- the lent card and its two buffers, whoever owns those
 
-abbrev pub card_seen : CardPlaces → List ℕ → List ℕ → CardState
+abbrev pub card_seen : LentCard → List ℕ → List ℕ → CardState
 card_seen p buffer message = record {
   number = p.number;
   expected = p.expected;
@@ -88,11 +88,11 @@ card_seen p buffer message = record {
 }
 
 -- the same, where its messages are the first octets of two buffers
-abbrev pub card_held : CardPlaces → List ℕ → List ℕ → CardState
+abbrev pub card_held : LentCard → List ℕ → List ℕ → CardState
 card_held p buffer message = card_seen p (take p.command_len buffer) (take p.reply_len message)
 
--- the places are those of a card whose buffers have room for so many octets
-pub record AreCardPlaces (p : CardPlaces) (room reply_room : ℕ) : Type 0 where
+-- this is a card whose buffers have room for so many octets
+pub record IsLentCard (p : LentCard) (room reply_room : ℕ) : Type 0 where
   pub wait : IsCardWait p.wait p.saved p.reply_len
   pub saved : IsSaved p.saved p.reply_len
   pub ifsc : IsSize p.ifsc

@@ -1,6 +1,6 @@
 -- The terminal of the T=1 protocol (ISO/IEC 7816-3, clause 11.6). The counts of repeats, and what RESYNCH leaves, are
 -- this project's profile.
-use Rattle.std.specs.Prelude.{ℕ, ◌+◌, List, [], ◌∷◌, ◌++◌, length, take, drop, Bool, true, false, ◌&&◌, ◌||◌, ◌==◌, nat_lt, nat_le, min, if◌then◌else◌, Option, Some, None, Result, Ok, Err}
+use Rattle.std.specs.Prelude.{ℕ, ◌+◌, List, [], ◌∷◌, ◌++◌, length, take, drop, Bool, true, false, ◌&&◌, ◌==◌, nat_lt, nat_le, min, if◌then◌else◌, Option, Some, None, Result, Ok, Err}
 pub use Rattle.octet_core.specs.Sizes.{is_reserved}
 use Rattle.chain_core.specs.Longest.{longest_command, longest_response}
 use Rattle.block_core.specs.Block.{Parts}

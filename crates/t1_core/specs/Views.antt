@@ -1,4 +1,4 @@
--- The engines' buffers and places, seen as states.
+-- The engines' buffers and lent ends, seen as states.
 use Rattle.std.specs.Prelude.{◌≡◌, ℕ, ◌+◌, ◌<◌, ◌≤◌, ◌==◌, List, [], take, drop, Bool, true, false, Option, Some, None}
 use Rattle.t1_core.specs.declared.turns.Cut.{Cut}
 use Rattle.t1_core.specs.declared.turns.TerminalWait.{TerminalWait}
@@ -10,7 +10,7 @@ pub use Rattle.octet_core.specs.Sizes.{IsFieldSize as IsSize}
 use Rattle.block_core.specs.declared.pcb.S.TheVariants.{Ifs as Size}
 use Rattle.block_core.specs.declared.pcb.Pcb.TheVariants.{Response}
 use Rattle.t1_core.specs.Came.{Came, got, damaged, invalid, carried}
-use Rattle.t1_core.specs.declared.places.TerminalPlaces.{TerminalPlaces}
+use Rattle.t1_core.specs.declared.lent.LentTerminal.{LentTerminal}
 use Rattle.t1_core.specs.Terminal.{TerminalState, Waits, idle, ack, answer, more, ifs, resynch, dead, most_resynchs}
 
 abbrev pub came_of : Arrived → Came
@@ -80,9 +80,9 @@ abbrev pub is_response_with : ℕ → Came → Bool
 is_response_with size (got (Response Size) inf) = carried inf == size
 is_response_with size came = false
 
--- ---- the terminal, by its places and its two buffers, whoever owns those
+-- ---- the lent terminal and its two buffers, whoever owns those
 
-abbrev pub terminal_seen : TerminalPlaces → List ℕ → List ℕ → TerminalState
+abbrev pub terminal_seen : LentTerminal → List ℕ → List ℕ → TerminalState
 terminal_seen p command joined = record {
   number = p.number;
   expected = p.expected;
@@ -97,17 +97,17 @@ terminal_seen p command joined = record {
 }
 
 -- the same, where its messages are the first octets of two buffers
-abbrev pub terminal_held : TerminalPlaces → List ℕ → List ℕ → TerminalState
-terminal_held p command joined = terminal_seen p (take p.command_len command) (take p.joined_len joined)
+abbrev pub terminal_held : LentTerminal → List ℕ → List ℕ → TerminalState
+terminal_held p command joined = terminal_seen p (take p.command_len command) (take p.answer_len joined)
 
--- the places are those of a terminal whose buffers have room for so many octets
-pub record AreTerminalPlaces (p : TerminalPlaces) (room answer_room : ℕ) : Type 0 where
-  pub wait : IsWait p.wait p.command_len p.joined_len p.is_answered
+-- this is a terminal whose buffers have room for so many octets
+pub record IsLentTerminal (p : LentTerminal) (room answer_room : ℕ) : Type 0 where
+  pub wait : IsWait p.wait p.command_len p.answer_len p.is_answered
   pub ifsc : IsSize p.ifsc
   pub ifsd : IsSize p.ifsd
   pub first_ifsc : IsSize p.first_ifsc
   -- what the buffers hold, and the most that they are to hold
   pub command_held : p.command_len ≤ room
-  pub answer_held : p.joined_len ≤ answer_room
+  pub answer_held : p.answer_len ≤ answer_room
   pub most_command : p.most_command ≤ room
   pub most_answer : p.most_answer ≤ answer_room

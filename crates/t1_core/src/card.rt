@@ -12,7 +12,7 @@ mod readers;
 mod steps;
 mod taking;
 
-use crate::places::CardPlaces;
+use crate::lent::LentCard;
 use crate::turns::{CardFault, CardTurn};
 use atr_core::T1Params;
 use chain_core::{LONGEST_COMMAND, LONGEST_RESPONSE as LONGEST_ANSWER, Wiped, overwrite};
@@ -25,7 +25,7 @@ use std::marker::Model;
 /// Where a card is dropped, its buffers are overwritten before their memory is given back.
 #[derive(Drop)]
 pub struct Card {
-    places: CardPlaces,
+    state: LentCard,
     command: Wiped,
     reply: Wiped,
 }
@@ -33,13 +33,13 @@ pub struct Card {
 impl Model for Card {
     ghost use Rattle.t1_core.specs.Card.{CardState};
     ghost use Rattle.chain_core.specs.Wiped.{held_in, count_in};
-    ghost use Rattle.t1_core.specs.CardViews.{card_held, AreCardPlaces};
+    ghost use Rattle.t1_core.specs.CardViews.{card_held, IsLentCard};
 
     ghost Value = { CardState };
 
-    ghost view = { λ c. card_held c.places (held_in c.command) (held_in c.reply) };
+    ghost view = { λ c. card_held c.state (held_in c.command) (held_in c.reply) };
 
-    ghost invariant = { λ c. AreCardPlaces c.places (count_in c.command) (count_in c.reply) };
+    ghost invariant = { λ c. IsLentCard c.state (count_in c.command) (count_in c.reply) };
 }
 
 impl Card {
@@ -71,9 +71,9 @@ impl Card {
     {
         let command = Wiped::zeros(alloc, command.min(LONGEST_COMMAND))?;
         let reply = Wiped::zeros(alloc, answer.min(LONGEST_ANSWER))?;
-        let places = CardPlaces::new(params, command.as_slice(), reply.as_slice());
+        let state = LentCard::new(params, command.as_slice(), reply.as_slice());
         Ok(Card {
-            places,
+            state,
             command,
             reply,
         })
@@ -87,9 +87,9 @@ impl Card {
     {
         overwrite(self.command.as_mut_slice());
         overwrite(self.reply.as_mut_slice());
-        let command = &self.command.as_slice()[..self.places.most_command];
-        let reply = &self.reply.as_slice()[..self.places.most_reply];
-        self.places = CardPlaces::new(params, command, reply);
+        let command = &self.command.as_slice()[..self.state.most_command];
+        let reply = &self.reply.as_slice()[..self.state.most_reply];
+        self.state = LentCard::new(params, command, reply);
     }
 
     /// The command, while the host owes its reply: in its turn, and while the card asks the terminal for
@@ -97,7 +97,7 @@ impl Card {
     pub fn command(&self) -> Option<&[u8]>
         ensures { IsSlice result (owed self.now self.now.waits) }
     {
-        self.places.command(self.command.as_slice())
+        self.state.command(self.command.as_slice())
     }
 
     /// The line delivered these octets as one block: a whole one, or what came of one that broke off, where
@@ -112,9 +112,9 @@ impl Card {
             (card_turn self.old (takes (class_of self.old.ifsc octets.now))) }
     {
         let acted = self
-            .places
+            .state
             .takes(self.command.as_mut_slice(), self.reply.as_slice(), octets);
-        self.places
+        self.state
             .answered(self.command.as_slice(), self.reply.as_slice(), acted)
     }
 
@@ -127,9 +127,9 @@ impl Card {
         ensures state { self.new ≡ state_after self.old (card_turn self.old (replies octets.now)) }
     {
         let acted = self
-            .places
+            .state
             .replies(self.command.as_slice(), self.reply.as_mut_slice(), octets);
-        self.places
+        self.state
             .answered(self.command.as_slice(), self.reply.as_slice(), acted)
     }
 
@@ -139,9 +139,9 @@ impl Card {
         ensures state { self.new ≡ state_after self.old (card_turn self.old (more_time multiple)) }
     {
         let acted = self
-            .places
+            .state
             .asks_time(self.command.as_slice(), self.reply.as_slice(), multiple);
-        self.places
+        self.state
             .answered(self.command.as_slice(), self.reply.as_slice(), acted)
     }
 
@@ -153,9 +153,9 @@ impl Card {
         ensures state { self.new ≡ state_after self.old (card_turn self.old (ask_ifs size)) }
     {
         let acted = self
-            .places
+            .state
             .asks_ifs(self.command.as_slice(), self.reply.as_slice(), size);
-        self.places
+        self.state
             .answered(self.command.as_slice(), self.reply.as_slice(), acted)
     }
 }

@@ -1,11 +1,10 @@
-//! Whether places are those of an end with buffers of these sizes: for places that were kept where anything
-//! may have written to them.
+//! Whether a lent end is one with buffers of these sizes: for one that was kept where anything may have written to it.
 
 ghost use Rattle.std.specs.Prelude.{◌≡◌, true};
-ghost use Rattle.t1_core.specs.Views.{AreTerminalPlaces, IsSize, IsInner, IsLast, IsWait};
-ghost use Rattle.t1_core.specs.CardViews.{AreCardPlaces, IsSaved, IsCardWait};
+ghost use Rattle.t1_core.specs.Views.{IsLentTerminal, IsSize, IsInner, IsLast, IsWait};
+ghost use Rattle.t1_core.specs.CardViews.{IsLentCard, IsSaved, IsCardWait};
 
-use crate::places::{CardPlaces, TerminalPlaces};
+use crate::lent::{LentCard, LentTerminal};
 use crate::terminal::MOST_RESYNCHS;
 use crate::turns::{CardAsked, CardWait, Cut, TerminalWait};
 use octet_core::is_reserved;
@@ -53,19 +52,19 @@ impl TerminalWait {
     }
 }
 
-impl TerminalPlaces {
-    /// Whether these are the places of a terminal whose buffers have room for so many octets.
+impl LentTerminal {
+    /// Whether this is a terminal whose buffers have room for so many octets.
     pub fn fits(&self, command: usize, answer: usize) -> bool
-        ensures yes { result ≡ true → AreTerminalPlaces self.now command answer }
-        ensures no { AreTerminalPlaces self.now command answer → result ≡ true }
+        ensures yes { result ≡ true → IsLentTerminal self.now command answer }
+        ensures no { IsLentTerminal self.now command answer → result ≡ true }
     {
         self.wait
-            .fits(self.command_len, self.joined_len, self.is_answered)
+            .fits(self.command_len, self.answer_len, self.is_answered)
             && is_size(self.ifsc)
             && is_size(self.ifsd)
             && is_size(self.first_ifsc)
             && self.command_len <= command
-            && self.joined_len <= answer
+            && self.answer_len <= answer
             && self.most_command <= command
             && self.most_answer <= answer
     }
@@ -97,11 +96,11 @@ fn may_be_saved(saved: Option<Cut>, octets: usize) -> bool
     }
 }
 
-impl CardPlaces {
-    /// Whether these are the places of a card whose buffers have room for so many octets.
+impl LentCard {
+    /// Whether this is a card whose buffers have room for so many octets.
     pub fn fits(&self, command: usize, reply: usize) -> bool
-        ensures yes { result ≡ true → AreCardPlaces self.now command reply }
-        ensures no { AreCardPlaces self.now command reply → result ≡ true }
+        ensures yes { result ≡ true → IsLentCard self.now command reply }
+        ensures no { IsLentCard self.now command reply → result ≡ true }
     {
         self.wait.fits(self.saved, self.reply_len)
             && may_be_saved(self.saved, self.reply_len)

@@ -6,7 +6,7 @@
 //! have the table of each end, an equation for each row; the counts of repeats, what RESYNCH leaves and
 //! the errors that R-blocks report are this project's profile. `specs/Link.antt` joins the two ends by
 //! a line that loses and damages blocks, and `laws` says what holds after whatever happens on it. The
-//! constructors of `Terminal` and `Card` reserve all memory. `TerminalPlaces` and `CardPlaces` are the same
+//! constructors of `Terminal` and `Card` reserve all memory. `LentTerminal` and `LentCard` are the same
 //! ends where the caller keeps a few dozen octets of state and lends the buffers to each call.
 #![tactic(auto)]
 
@@ -17,7 +17,7 @@ mod cutting;
 mod fitting;
 mod guards;
 pub mod laws;
-mod places;
+mod lent;
 mod replying;
 mod sending;
 pub mod terminal;
@@ -25,7 +25,7 @@ pub mod turns;
 
 pub use card::Card;
 pub use chain_core::{LONGEST_COMMAND, LONGEST_RESPONSE as LONGEST_ANSWER};
-pub use places::{CardPlaces, TerminalPlaces};
+pub use lent::{LentCard, LentTerminal};
 pub use terminal::{FIRST_IFSD, MOST_REPEATS, MOST_RESYNCHS, Terminal};
 pub use turns::{
     CardAsked, CardAwaits, CardFault, CardTurn, CardWait, Cut, EncodedCardTurn,

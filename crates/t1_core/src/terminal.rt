@@ -10,7 +10,7 @@ mod readers;
 mod steps;
 mod taking;
 
-use crate::places::TerminalPlaces;
+use crate::lent::LentTerminal;
 use crate::turns::{TerminalFault, TerminalTurn};
 use atr_core::T1Params;
 use chain_core::{LONGEST_COMMAND, LONGEST_RESPONSE as LONGEST_ANSWER, Wiped, overwrite};
@@ -35,21 +35,21 @@ pub const MOST_RESYNCHS: u8 = 3;
 /// Where a terminal is dropped, its buffers are overwritten before their memory is given back.
 #[derive(Drop)]
 pub struct Terminal {
-    places: TerminalPlaces,
+    state: LentTerminal,
     command: Wiped,
-    joined: Wiped,
+    answer: Wiped,
 }
 
 impl Model for Terminal {
     ghost use Rattle.t1_core.specs.Terminal.{TerminalState};
     ghost use Rattle.chain_core.specs.Wiped.{held_in, count_in};
-    ghost use Rattle.t1_core.specs.Views.{terminal_held, AreTerminalPlaces};
+    ghost use Rattle.t1_core.specs.Views.{terminal_held, IsLentTerminal};
 
     ghost Value = { TerminalState };
 
-    ghost view = { λ t. terminal_held t.places (held_in t.command) (held_in t.joined) };
+    ghost view = { λ t. terminal_held t.state (held_in t.command) (held_in t.answer) };
 
-    ghost invariant = { λ t. AreTerminalPlaces t.places (count_in t.command) (count_in t.joined) };
+    ghost invariant = { λ t. IsLentTerminal t.state (count_in t.command) (count_in t.answer) };
 }
 
 impl Terminal {
@@ -81,12 +81,12 @@ impl Terminal {
             terminal ≡ terminal_with (at_most command answer) params.ifsc) }
     {
         let command = Wiped::zeros(alloc, command.min(LONGEST_COMMAND))?;
-        let joined = Wiped::zeros(alloc, answer.min(LONGEST_ANSWER))?;
-        let places = TerminalPlaces::new(params, command.as_slice(), joined.as_slice());
+        let answer = Wiped::zeros(alloc, answer.min(LONGEST_ANSWER))?;
+        let state = LentTerminal::new(params, command.as_slice(), answer.as_slice());
         Ok(Terminal {
-            places,
+            state,
             command,
-            joined,
+            answer,
         })
     }
 
@@ -97,17 +97,17 @@ impl Terminal {
         ensures { self.new ≡ terminal_with self.old.limits params.ifsc }
     {
         overwrite(self.command.as_mut_slice());
-        overwrite(self.joined.as_mut_slice());
-        let command = &self.command.as_slice()[..self.places.most_command];
-        let joined = &self.joined.as_slice()[..self.places.most_answer];
-        self.places = TerminalPlaces::new(params, command, joined);
+        overwrite(self.answer.as_mut_slice());
+        let command = &self.command.as_slice()[..self.state.most_command];
+        let answer = &self.answer.as_slice()[..self.state.most_answer];
+        self.state = LentTerminal::new(params, command, answer);
     }
 
     /// The answer, from the turn `Answered` on until the next command is taken; else `None`.
     pub fn answer(&self) -> Option<&[u8]>
         ensures { IsSlice result self.now.answered }
     {
-        self.places.answer(self.joined.as_slice())
+        self.state.answer(self.answer.as_slice())
     }
 
     /// The application hands over a command: its first I-block is sent, and an earlier answer is
@@ -120,13 +120,13 @@ impl Terminal {
         ensures state { self.new ≡ state_after self.old
             (terminal_turn self.old (transmit command.now)) }
     {
-        let acted = self.places.transmits(
+        let acted = self.state.transmits(
             self.command.as_mut_slice(),
-            self.joined.as_slice(),
+            self.answer.as_slice(),
             command,
         );
-        self.places
-            .answered(self.command.as_slice(), self.joined.as_slice(), acted)
+        self.state
+            .answered(self.command.as_slice(), self.answer.as_slice(), acted)
     }
 
     /// The application asks the card to send information fields of up to `size` octets.
@@ -137,10 +137,10 @@ impl Terminal {
         ensures state { self.new ≡ state_after self.old (terminal_turn self.old (ask_ifs size)) }
     {
         let acted = self
-            .places
-            .asks_ifs(self.command.as_slice(), self.joined.as_slice(), size);
-        self.places
-            .answered(self.command.as_slice(), self.joined.as_slice(), acted)
+            .state
+            .asks_ifs(self.command.as_slice(), self.answer.as_slice(), size);
+        self.state
+            .answered(self.command.as_slice(), self.answer.as_slice(), acted)
     }
 
     /// The line delivered these octets as one block: a whole one, or what came of one that broke off, where
@@ -154,9 +154,9 @@ impl Terminal {
         ensures state { self.new ≡ state_after self.old
             (terminal_turn self.old (takes (class_of self.old.ifsd octets.now))) }
     {
-        let acted = self.places.takes(self.command.as_slice(), self.joined.as_mut_slice(), octets);
-        self.places
-            .answered(self.command.as_slice(), self.joined.as_slice(), acted)
+        let acted = self.state.takes(self.command.as_slice(), self.answer.as_mut_slice(), octets);
+        self.state
+            .answered(self.command.as_slice(), self.answer.as_slice(), acted)
     }
 
     /// Nothing came within the waiting time: `T1Params::bwt` times [`TerminalTurn::waiting`] of the turn
@@ -166,9 +166,9 @@ impl Terminal {
         ensures state { self.new ≡ state_after self.old (terminal_turn self.old (takes quiet)) }
     {
         let acted = self
-            .places
-            .hears_nothing(self.command.as_slice(), self.joined.as_slice());
-        self.places
-            .answered(self.command.as_slice(), self.joined.as_slice(), acted)
+            .state
+            .hears_nothing(self.command.as_slice(), self.answer.as_slice());
+        self.state
+            .answered(self.command.as_slice(), self.answer.as_slice(), acted)
     }
 }

@@ -7,7 +7,7 @@ use Rattle.tlv_core.specs.declared.form.Form.{Form}
 use Rattle.tlv_core.specs.declared.form.Form.TheVariants.{One, Two, Three, Four, Five}
 use Rattle.tlv_core.specs.declared.header.Header.{Header}
 use Rattle.tlv_core.specs.declared.header.Header.TheVariants as header
-use Rattle.tlv_core.specs.declared.places.CheckPlaces.{CheckPlaces}
+use Rattle.tlv_core.specs.declared.lent.LentCheck.{LentCheck}
 use Rattle.tlv_core.specs.Form.{further, capacity}
 use Rattle.tlv_core.specs.Tag.{IsTag, header_of}
 use Rattle.tlv_core.specs.Tree.{End}
@@ -19,8 +19,8 @@ use Rattle.tlv_core.specs.declared.reason.TlvReason.TheVariants.{TooDeep, TagSec
 use Rattle.tlv_core.specs.Reasons.{Kept, HasTaken, Opens, IsWrong, need, room_of}
 use Rattle.tlv_core.specs.Number.{zeros, high_first}
 use Rattle.tlv_core.specs.Open.{AreEnds, AreNested, rooms_to}
-use Rattle.tlv_core.specs.Places as places
-use Rattle.tlv_core.specs.Places.{AreInRange, ends_at}
+use Rattle.tlv_core.specs.Lent as places
+use Rattle.tlv_core.specs.Lent.{AreInRange, ends_at}
 use Rattle.tlv_core.specs.Led.{value_from, inner_from, inner_at, room_at, IsAtHeader, IsInValue, CanCome}
 use Rattle.tlv_core.proofs.Ends.{length-rooms}
 use Rattle.tlv_core.proofs.Listed.{length-header}
@@ -269,10 +269,10 @@ under-ok (header.Tagged tag) level well most shallow =
 under-ok (header.Sized tag form read number) level well most shallow =
     well_under (header.Sized tag form read number) (1 + level) well (omega (arith, shallow (λ e. cc)))
 
-level-is : (p : CheckPlaces) → AreInRange p → length (ends_at p) ≤ 16
+level-is : (p : LentCheck) → AreInRange p → length (ends_at p) ≤ 16
 level-is p range = omega (arith, length-take p.level p.ends, range.levels)
 
-header-led : (p : CheckPlaces) → AreInRange p → p.value_left ≡ 0 → IsAtHeader p
+header-led : (p : LentCheck) → AreInRange p → p.value_left ≡ 0 → IsAtHeader p
     → (b : List ℕ) × HasTaken b (places.kept_at p)
 header-led p range idle at =
     let ends : List ℕ = ends_at p in
@@ -302,7 +302,7 @@ header-led p range idle at =
     { max = p.max; count = p.count; rooms = rooms; header = header_octets p.header; value_left = n }) (sym idle) in
     (o.octets, subst (HasTaken o.octets) same taken)
 
-value-led : (p : CheckPlaces) → AreInRange p → 0 < p.value_left → IsInValue p
+value-led : (p : LentCheck) → AreInRange p → 0 < p.value_left → IsInValue p
     → (b : List ℕ) × HasTaken b (places.kept_at p)
 value-led p range some at =
     let ends : List ℕ = ends_at p in
@@ -346,7 +346,7 @@ value-led p range some at =
     (o.octets, subst (HasTaken o.octets) same taken)
 
 -- places in range lead back to octets, where these can have come to them
-pub come-led : (p : CheckPlaces) → AreInRange p → CanCome p → (b : List ℕ) × HasTaken b (places.kept_at p)
+pub come-led : (p : LentCheck) → AreInRange p → CanCome p → (b : List ℕ) × HasTaken b (places.kept_at p)
 come-led p range come = elim (cases_eq p.value_left 0) [
   | inl idle ↦ header-led p range idle (come.0 idle)
   | inr some ↦ let ne : p.value_left ≢ 0 = some in let more : 0 < p.value_left = omega arith in
@@ -378,7 +378,7 @@ nothing-of (header.Sized tag form read number) well e = absurd (omega (
 ))
 
 -- what is held with the octets b, of places whose count they have
-record Reached (p : CheckPlaces) (u : Under) : Type 0 where
+record Reached (p : LentCheck) (u : Under) : Type 0 where
   octets : List ℕ
   long : length octets ≡ p.count
   opens : Opens 1 (rooms_to p.count (ends_at p)) (under_octets u) octets
@@ -386,13 +386,13 @@ record Reached (p : CheckPlaces) (u : Under) : Type 0 where
   room : under_need u ≤ room_at p
   is : places.kept_at p ≡ kept_at p.max p.count (rooms_to p.count (ends_at p)) u
 
-inner-reached : (p : CheckPlaces) (u : Under) → AreInRange p → Reached p u
+inner-reached : (p : LentCheck) (u : Under) → AreInRange p → Reached p u
     → inner_at p + length (under_octets u) ≤ p.count
 inner-reached p u range r =
     opened-from 1 0 p.count (ends_at p) (under_octets u) r.octets
     (below-of p.max p.count (ends_at p) range.limit range.ahead) r.opens (omega (arith, r.long))
 
-header-reached : (p : CheckPlaces) (u : Under) → AreInRange p → Reached p u → header_octets p.header ≡ under_octets u
+header-reached : (p : LentCheck) (u : Under) → AreInRange p → Reached p u → header_octets p.header ≡ under_octets u
     → IsHeader u → IsAtHeader p
 header-reached p u range r e h = record {
   begun = omega (arith, inner-reached p u range r, ap length e);
@@ -405,7 +405,7 @@ header-reached p u range r e h = record {
   );
 }
 
-reached-by : (p : CheckPlaces) (u : Under) → AreInRange p → Reached p u → CanCome p
+reached-by : (p : LentCheck) (u : Under) → AreInRange p → Reached p u → CanCome p
 reached-by p Nothing range r = (
   λ idle. header-reached p Nothing range r (ap (λ (k : Kept). k.header) r.is) tt,
   λ some. absurd (omega (arith, some, ap (λ (k : Kept). k.value_left) r.is)),
@@ -451,7 +451,7 @@ reached-by p (Valued tag form value left) range r =
     some-tag (x ∷ more) h = omega arith
 
 -- places in range to which some octets lead are among those
-pub led-come : (p : CheckPlaces) → AreInRange p → ((b : List ℕ) × HasTaken b (places.kept_at p)) → CanCome p
+pub led-come : (p : LentCheck) → AreInRange p → ((b : List ℕ) × HasTaken b (places.kept_at p)) → CanCome p
 led-come p range (b, taken) =
     let rooms : List ℕ = rooms_to p.count (ends_at p) in
     let h = held_of b (places.kept_at p) taken in

@@ -1,11 +1,11 @@
 -- To which places of a check octets can have come, told by their numbers.
 use Rattle.std.specs.Prelude.{◌≡◌, ℕ, ◌+◌, ◌-◌, ◌<◌, ◌≤◌, List, [], ◌∷◌, length, nat_lt, cond}
 use Rattle.tlv_core.specs.declared.header.Header.TheVariants.{Nothing}
-use Rattle.tlv_core.specs.declared.places.CheckPlaces.{CheckPlaces}
+use Rattle.tlv_core.specs.declared.lent.LentCheck.{LentCheck}
 use Rattle.tlv_core.specs.Header.{header_octets, header_need}
 use Rattle.tlv_core.specs.Open.{rooms_to}
 use Rattle.tlv_core.specs.Reasons.{room_of}
-use Rattle.tlv_core.specs.Places.{ends_at}
+use Rattle.tlv_core.specs.Lent.{ends_at}
 
 -- The first place at which the value of an object can begin that ends at this one, where its header comes from `place` on:
 -- after a tag of one octet and the shortest length field.
@@ -20,25 +20,25 @@ inner_from place [] = place
 inner_from place (end ∷ ends) = inner_from (value_from place end) ends
 
 -- the first place at which the innermost list can begin
-abbrev pub inner_at : CheckPlaces → ℕ
+abbrev pub inner_at : LentCheck → ℕ
 inner_at p = inner_from 0 (ends_at p)
 
 -- the room at the next octet
-abbrev pub room_at : CheckPlaces → ℕ
+abbrev pub room_at : LentCheck → ℕ
 room_at p = room_of (p.max - p.count) (rooms_to p.count (ends_at p))
 
 -- The octets of a header can have come since then, and what it needs has room.
-pub record IsAtHeader (p : CheckPlaces) : Type 0 where
+pub record IsAtHeader (p : LentCheck) : Type 0 where
   pub begun : inner_at p + length (header_octets p.header) ≤ p.count
   pub need : header_need p.header ≤ room_at p
 
 -- The header of a primitive object can have come since then, and the rest of its value has room.
-pub record IsInValue (p : CheckPlaces) : Type 0 where
+pub record IsInValue (p : LentCheck) : Type 0 where
   pub none : p.header ≡ Nothing
   pub shallow : length (ends_at p) < 16
   pub begun : value_from (inner_at p) (p.count + p.value_left) ≤ p.count
   pub need : p.value_left ≤ room_at p
 
 -- one of both
-abbrev pub CanCome : CheckPlaces → Type 0
+abbrev pub CanCome : LentCheck → Type 0
 CanCome p = (p.value_left ≡ 0 → IsAtHeader p) × (0 < p.value_left → IsInValue p)

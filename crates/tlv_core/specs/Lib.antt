@@ -26,7 +26,7 @@ pub mod OpenEnds
 pub mod Progress
 pub mod Check
 pub mod Checking
-pub mod Places
+pub mod Lent
 pub mod Led
 pub mod Grown
 pub mod Read

@@ -9,8 +9,8 @@ ghost use Rattle.tlv_core.specs.OpenEnds.{ends_of, kept_idle};
 ghost use Rattle.tlv_core.specs.WellProp.{IsWell-prop};
 
 use crate::header::{Header, Next, ObjectHeader};
+use crate::lent::LentCheck;
 use crate::open_ends::OpenEnds;
-use crate::places::CheckPlaces;
 use crate::reason::TlvReason;
 use crate::short::ShortHeader;
 use octet_core::Refusal;
@@ -42,7 +42,7 @@ impl Progress {
     ghost use Rattle.tlv_core.specs.Short.{after_short, whole_of, MayCome};
     ghost use Rattle.tlv_core.specs.Tag.{constructed_bit};
     ghost use Rattle.tlv_core.specs.Progress.{kept_of};
-    ghost use Rattle.tlv_core.specs.Places.{AreInRange, kept_at};
+    ghost use Rattle.tlv_core.specs.Lent.{AreInRange, kept_at};
 
     /// Before the first octet of a forest of at most `max` octets.
     pub(crate) fn new(max: usize) -> Self
@@ -65,21 +65,21 @@ impl Progress {
         }
     }
 
-    /// What these places keep.
-    pub(crate) fn of(places: &CheckPlaces) -> Self
-        requires { AreInRange places.now }
-        ensures { kept_of result ≡ kept_at places.now }
+    /// What a check keeps.
+    pub(crate) fn of(check: &LentCheck) -> Self
+        requires { AreInRange check.now }
+        ensures { kept_of result ≡ kept_at check.now }
     {
-        let ends = &places.ends[..places.level as usize];
+        let ends = &check.ends[..check.level as usize];
         Progress {
-            ends: OpenEnds::of(places.max as usize, places.count as usize, ends),
-            header: places.header,
-            value_left: places.value_left as usize,
+            ends: OpenEnds::of(check.max as usize, check.count as usize, ends),
+            header: check.header,
+            value_left: check.value_left as usize,
         }
     }
 
-    /// The places that keep this, and why the next octet was refused, if it was.
-    pub(crate) fn places(&self, refused: Option<TlvReason>) -> CheckPlaces
+    /// The check that keeps this, and why the next octet was refused, if it was.
+    pub(crate) fn lent(&self, refused: Option<TlvReason>) -> LentCheck
         ensures range { AreInRange result }
         ensures kept { kept_at result ≡ kept_of self.now }
         ensures reason { result.refused ≡ refused }
@@ -87,7 +87,7 @@ impl Progress {
         let level = self.ends.level();
         let mut ends = [0; DEEPEST];
         ends[..level].copy_from_slice(self.ends.places());
-        CheckPlaces {
+        LentCheck {
             max: self.ends.max() as u32,
             count: self.ends.count() as u32,
             ends,

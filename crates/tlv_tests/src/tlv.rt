@@ -15,9 +15,9 @@ use tlv_core::{
 mod as_value;
 mod equality;
 mod improper;
+mod lent;
 mod parts;
 mod pieces;
-mod places;
 mod printed;
 
 /// Octets that are no tag.

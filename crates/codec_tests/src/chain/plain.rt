@@ -4,7 +4,7 @@ ghost use Rattle.std.specs.Prelude.{◌≤◌};
 
 use super::SELECT;
 use block_core::Number;
-use chain_core::{ChainReason, ReadRefusal, Receiver, ReceiverPlaces, read_chain, write_chain};
+use chain_core::{ChainReason, LentReceiver, ReadRefusal, Receiver, read_chain, write_chain};
 use octet_core::{Sink, Source, Stop, WriteFault};
 use std::alloc::Global;
 use std::process::Abort;
@@ -41,26 +41,22 @@ pub(super) fn has(receiver: &Receiver, message: &[u8]) -> bool {
 }
 
 /// What a receiver over a lent buffer answers to these octets; nothing where it is none.
-pub(super) fn feed_lent(
-    places: &mut ReceiverPlaces,
-    message: &mut [u8],
-    octets: &[u8],
-) -> Option<Fed> {
-    if !places.fit(message.len()) {
+pub(super) fn feed_lent(lent: &mut LentReceiver, message: &mut [u8], octets: &[u8]) -> Option<Fed> {
+    if !lent.fit(message.len()) {
         return None;
     }
-    Some(places.feed(message, octets))
+    Some(lent.feed(message, octets))
 }
 
 /// What it says when no more octets come.
 pub(super) fn finish_lent(
-    places: &ReceiverPlaces,
+    lent: &LentReceiver,
     room: usize,
 ) -> Option<Result<(), Stop<ChainReason>>> {
-    if !places.fit(room) {
+    if !lent.fit(room) {
         return None;
     }
-    Some(places.finish())
+    Some(lent.finish())
 }
 
 /// What reading a chain gives.

@@ -61,7 +61,7 @@ fn debug_shows_no_octet(rt: HostRuntime) {
     assert!(rt; debugs(rt.alloc(), &blocks, seen));
     let receiver = under_way(&rt, rt.alloc());
     let seen =
-        "Receiver { places: ReceiverPlaces { ifs: 2, first: Zero, max: 8, blocks: 0, joined: 0, \
+        "Receiver { state: LentReceiver { ifs: 2, first: Zero, max: 8, blocks: 0, joined: 0, \
         stage: Rest { more: true, len: 2 }, came: 2, done: false, refusal: None } }";
     assert!(rt; debugs(rt.alloc(), &receiver, seen));
 }

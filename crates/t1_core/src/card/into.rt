@@ -4,11 +4,11 @@ ghost use Rattle.std.specs.Prelude.{◌≡◌, ◌≤◌, length, IfOk};
 ghost use Rattle.t1_core.specs.Came.{class_of};
 ghost use Rattle.t1_core.specs.Put.{IsCardPut, FitsCardPut};
 ghost use Rattle.t1_core.specs.Sending.{card_answers};
-ghost use Rattle.t1_core.specs.CardViews.{card_held, AreCardPlaces};
+ghost use Rattle.t1_core.specs.CardViews.{card_held, IsLentCard};
 ghost use Rattle.t1_core.specs.Card.{takes, replies, more_time, ask_ifs, card_turn, turn_of, state_after};
 
 use crate::card::Card;
-use crate::places::CardPlaces;
+use crate::lent::LentCard;
 use crate::sending::CardAct;
 use crate::turns::{CardFault, CardTurn, EncodedCardTurn};
 
@@ -30,7 +30,7 @@ impl Card {
         ensures state { self.new ≡ state_after self.old
             (card_turn self.old (takes (class_of self.old.ifsc octets.now))) }
     {
-        self.places.received_into(
+        self.state.received_into(
             self.command.as_mut_slice(),
             self.reply.as_slice(),
             octets,
@@ -50,7 +50,7 @@ impl Card {
         ensures fits { IfOk result FitsCardPut }
         ensures state { self.new ≡ state_after self.old (card_turn self.old (replies octets.now)) }
     {
-        self.places.reply_into(
+        self.state.reply_into(
             self.command.as_slice(),
             self.reply.as_mut_slice(),
             octets,
@@ -70,7 +70,7 @@ impl Card {
         ensures fits { IfOk result FitsCardPut }
         ensures state { self.new ≡ state_after self.old (card_turn self.old (more_time multiple)) }
     {
-        self.places.more_time_into(
+        self.state.more_time_into(
             self.command.as_slice(),
             self.reply.as_slice(),
             multiple,
@@ -86,105 +86,105 @@ impl Card {
         ensures fits { IfOk result FitsCardPut }
         ensures state { self.new ≡ state_after self.old (card_turn self.old (ask_ifs size)) }
     {
-        self.places
+        self.state
             .ask_ifs_into(self.command.as_slice(), self.reply.as_slice(), size, out)
     }
 }
 
-/// The same of a card whose buffers are lent to each call: `held` is the command's, and `answer` the
-/// reply's. They are those of the call before, in size and octets.
-impl CardPlaces {
+/// The same of a card whose buffers are lent to each call: those of the call before, in size and octets.
+impl LentCard {
     /// What is sent for these octets of the line, as `received`.
     pub fn received_into(
         &mut self,
-        held: &mut [u8],
-        answer: &[u8],
+        command_buffer: &mut [u8],
+        reply_buffer: &[u8],
         octets: &[u8],
         out: &mut [u8],
     ) -> Result<EncodedCardTurn, CardFault>
         requires room { 258 ≤ length out.old }
-        requires fit { AreCardPlaces self.old (length held.old) (length answer.now) }
-        ensures turn { IsCardPut (turn_of (card_turn (card_held self.old held.old answer.now)
-            (takes (class_of (card_held self.old held.old answer.now).ifsc octets.now)))) out.old
+        requires fit { IsLentCard self.old (length command_buffer.old) (length reply_buffer.now) }
+        ensures turn { IsCardPut (turn_of
+            (card_turn (card_held self.old command_buffer.old reply_buffer.now)
+            (takes (class_of (card_held self.old command_buffer.old reply_buffer.now).ifsc octets.now)))) out.old
             out.new result }
         ensures fits { IfOk result FitsCardPut }
-        ensures fit { AreCardPlaces self.new (length held.new) (length answer.now) }
-        ensures state { card_held self.new held.new answer.now
-            ≡ state_after (card_held self.old held.old answer.now)
-            (card_turn (card_held self.old held.old answer.now)
-            (takes (class_of (card_held self.old held.old answer.now).ifsc octets.now))) }
+        ensures fit { IsLentCard self.new (length command_buffer.new) (length reply_buffer.now) }
+        ensures state { card_held self.new command_buffer.new reply_buffer.now
+            ≡ state_after (card_held self.old command_buffer.old reply_buffer.now)
+            (card_turn (card_held self.old command_buffer.old reply_buffer.now)
+            (takes (class_of (card_held self.old command_buffer.old reply_buffer.now).ifsc octets.now))) }
     {
-        let acted = self.takes(held, answer, octets);
-        self.put(held, answer, acted, out)
+        let acted = self.takes(command_buffer, reply_buffer, octets);
+        self.put(command_buffer, reply_buffer, acted, out)
     }
 
     /// The first I-block of a reply, as `reply`.
     pub fn reply_into(
         &mut self,
-        held: &[u8],
-        answer: &mut [u8],
+        command_buffer: &[u8],
+        reply_buffer: &mut [u8],
         octets: &[u8],
         out: &mut [u8],
     ) -> Result<EncodedCardTurn, CardFault>
         requires room { 258 ≤ length out.old }
-        requires fit { AreCardPlaces self.old (length held.now) (length answer.old) }
+        requires fit { IsLentCard self.old (length command_buffer.now) (length reply_buffer.old) }
         ensures turn { IsCardPut (turn_of
-            (card_turn (card_held self.old held.now answer.old) (replies octets.now))) out.old
+            (card_turn (card_held self.old command_buffer.now reply_buffer.old) (replies octets.now))) out.old
             out.new result }
         ensures fits { IfOk result FitsCardPut }
-        ensures fit { AreCardPlaces self.new (length held.now) (length answer.new) }
-        ensures state { card_held self.new held.now answer.new
-            ≡ state_after (card_held self.old held.now answer.old)
-            (card_turn (card_held self.old held.now answer.old) (replies octets.now)) }
+        ensures fit { IsLentCard self.new (length command_buffer.now) (length reply_buffer.new) }
+        ensures state { card_held self.new command_buffer.now reply_buffer.new
+            ≡ state_after (card_held self.old command_buffer.now reply_buffer.old)
+            (card_turn (card_held self.old command_buffer.now reply_buffer.old) (replies octets.now)) }
     {
-        let acted = self.replies(held, answer, octets);
-        self.put(held, answer, acted, out)
+        let acted = self.replies(command_buffer, reply_buffer, octets);
+        self.put(command_buffer, reply_buffer, acted, out)
     }
 
     /// The question for more waiting time, as `more_time`.
     pub fn more_time_into(
         &mut self,
-        held: &[u8],
-        answer: &[u8],
+        command_buffer: &[u8],
+        reply_buffer: &[u8],
         multiple: u8,
         out: &mut [u8],
     ) -> Result<EncodedCardTurn, CardFault>
         requires room { 258 ≤ length out.old }
-        requires fit { AreCardPlaces self.old (length held.now) (length answer.now) }
+        requires fit { IsLentCard self.old (length command_buffer.now) (length reply_buffer.now) }
         ensures turn { IsCardPut (turn_of
-            (card_turn (card_held self.old held.now answer.now) (more_time multiple))) out.old
+            (card_turn (card_held self.old command_buffer.now reply_buffer.now) (more_time multiple))) out.old
             out.new result }
         ensures fits { IfOk result FitsCardPut }
-        ensures fit { AreCardPlaces self.new (length held.now) (length answer.now) }
-        ensures state { card_held self.new held.now answer.now
-            ≡ state_after (card_held self.old held.now answer.now)
-            (card_turn (card_held self.old held.now answer.now) (more_time multiple)) }
+        ensures fit { IsLentCard self.new (length command_buffer.now) (length reply_buffer.now) }
+        ensures state { card_held self.new command_buffer.now reply_buffer.now
+            ≡ state_after (card_held self.old command_buffer.now reply_buffer.now)
+            (card_turn (card_held self.old command_buffer.now reply_buffer.now) (more_time multiple)) }
     {
-        let acted = self.asks_time(held, answer, multiple);
-        self.put(held, answer, acted, out)
+        let acted = self.asks_time(command_buffer, reply_buffer, multiple);
+        self.put(command_buffer, reply_buffer, acted, out)
     }
 
     /// The question about a size, as `ask_ifs`.
     pub fn ask_ifs_into(
         &mut self,
-        held: &[u8],
-        answer: &[u8],
+        command_buffer: &[u8],
+        reply_buffer: &[u8],
         size: u8,
         out: &mut [u8],
     ) -> Result<EncodedCardTurn, CardFault>
         requires room { 258 ≤ length out.old }
-        requires fit { AreCardPlaces self.old (length held.now) (length answer.now) }
+        requires fit { IsLentCard self.old (length command_buffer.now) (length reply_buffer.now) }
         ensures turn { IsCardPut (turn_of
-            (card_turn (card_held self.old held.now answer.now) (ask_ifs size))) out.old out.new
+            (card_turn (card_held self.old command_buffer.now reply_buffer.now) (ask_ifs size))) out.old out.new
             result }
         ensures fits { IfOk result FitsCardPut }
-        ensures fit { AreCardPlaces self.new (length held.now) (length answer.now) }
-        ensures state { card_held self.new held.now answer.now
-            ≡ state_after (card_held self.old held.now answer.now)
-            (card_turn (card_held self.old held.now answer.now) (ask_ifs size)) }
+        ensures fit { IsLentCard self.new (length command_buffer.now) (length reply_buffer.now) }
+        ensures state { card_held self.new command_buffer.now reply_buffer.now
+            ≡ state_after (card_held self.old command_buffer.now reply_buffer.now)
+            (card_turn (card_held self.old command_buffer.now reply_buffer.now) (ask_ifs size)) }
     {
-        let acted = self.asks_ifs(held, answer, size);
-        self.put(held, answer, acted, out)
+        let acted = self.asks_ifs(command_buffer, reply_buffer, size);
+        self.put(command_buffer, reply_buffer, acted, out)
     }
 
     /// What a call answers, with the octets of the block that is sent in the buffer. Inlined, so that the call's
@@ -192,20 +192,22 @@ impl CardPlaces {
     #[inline(always)]
     fn put(
         &self,
-        held: &[u8],
-        answer: &[u8],
+        command_buffer: &[u8],
+        reply_buffer: &[u8],
         acted: Result<CardAct, CardFault>,
         out: &mut [u8],
     ) -> Result<EncodedCardTurn, CardFault>
         requires room { 258 ≤ length out.old }
-        requires fit { AreCardPlaces self.now (length held.now) (length answer.now) }
-        ensures put { IsCardPut (card_answers (card_held self.now held.now answer.now) acted)
+        requires fit { IsLentCard self.now (length command_buffer.now) (length reply_buffer.now) }
+        ensures put { IsCardPut (card_answers
+            (card_held self.now command_buffer.now reply_buffer.now) acted)
             out.old out.new result }
         ensures fits { IfOk result FitsCardPut }
     {
         match acted {
             Ok(CardAct::Send(sent)) => Ok(EncodedCardTurn::Send(
-                self.lent(held, answer, &sent).encode_into(out),
+                self.lent(command_buffer, reply_buffer, &sent)
+                    .encode_into(out),
             )),
             Ok(CardAct::Asked) => Ok(EncodedCardTurn::Asked),
             Err(fault) => Err(fault),
@@ -215,16 +217,17 @@ impl CardPlaces {
     /// What a call answers, with the block that is sent put together.
     pub(super) fn answered(
         &self,
-        held: &[u8],
-        answer: &[u8],
+        command_buffer: &[u8],
+        reply_buffer: &[u8],
         acted: Result<CardAct, CardFault>,
     ) -> Result<CardTurn, CardFault>
-        requires fit { AreCardPlaces self.now (length held.now) (length answer.now) }
-        ensures { result ≡ card_answers (card_held self.now held.now answer.now) acted }
+        requires fit { IsLentCard self.now (length command_buffer.now) (length reply_buffer.now) }
+        ensures { result ≡ card_answers (card_held self.now command_buffer.now reply_buffer.now)
+            acted }
     {
         match acted {
             Ok(CardAct::Send(sent)) => {
-                Ok(CardTurn::Send(self.lent(held, answer, &sent).to_block()))
+                Ok(CardTurn::Send(self.lent(command_buffer, reply_buffer, &sent).to_block()))
             }
             Ok(CardAct::Asked) => Ok(CardTurn::Asked),
             Err(fault) => Err(fault),

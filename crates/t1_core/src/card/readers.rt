@@ -7,7 +7,7 @@ ghost use Rattle.t1_core.specs.CardViews.{card_held, owed};
 ghost use Rattle.t1_core.specs.Awaited.{awaited_by_card, card_awaits_block};
 
 use crate::card::Card;
-use crate::places::CardPlaces;
+use crate::lent::LentCard;
 use crate::turns::{CardAsked, CardAwaits, CardWait};
 use std::fmt;
 
@@ -20,21 +20,21 @@ impl Card {
     pub fn ifsc(&self) -> u8
         ensures { result ≡ self.now.ifsc }
     {
-        self.places.ifsc
+        self.state.ifsc
     }
 
     /// The most octets of an information field that the terminal takes now, 1 to 254.
     pub fn ifsd(&self) -> u8
         ensures { result ≡ self.now.ifsd }
     {
-        self.places.ifsd
+        self.state.ifsd
     }
 
     /// What the card waits for.
     pub fn awaits(&self) -> CardAwaits
         ensures { result ≡ awaited_by_card self.now.waits }
     {
-        self.places.awaits()
+        self.state.awaits()
     }
 
     /// Whether a block is awaited. In the host's turn none is: one that comes then is refused `Order` by
@@ -42,25 +42,25 @@ impl Card {
     pub fn awaits_block(&self) -> bool
         ensures { result ≡ card_awaits_block self.now.waits }
     {
-        self.places.awaits_block()
+        self.state.awaits_block()
     }
 
     /// The most octets of a command that the card takes: it has room for these.
     pub fn most_command(&self) -> usize
         ensures { result ≡ self.now.limits.command }
     {
-        self.places.most_command
+        self.state.most_command
     }
 
     /// The most octets of its host's reply that the card takes.
     pub fn most_reply(&self) -> usize
         ensures { result ≡ self.now.limits.answer }
     {
-        self.places.most_reply
+        self.state.most_reply
     }
 }
 
-impl CardPlaces {
+impl LentCard {
     /// What the card waits for.
     pub fn awaits(&self) -> CardAwaits
         ensures { (command reply : List ℕ)
@@ -88,13 +88,14 @@ impl CardPlaces {
     }
 
     /// The command, as [`Card::command`], in the command's buffer.
-    pub fn command<'a>(&self, held: &'a [u8]) -> Option<&'a [u8]>
-        requires { self.now.command_len ≤ length held.now }
-        ensures { (reply : List ℕ) → IsSlice result (owed (card_held self.now held.now reply)
-            (card_held self.now held.now reply).waits) }
+    pub fn command<'a>(&self, command_buffer: &'a [u8]) -> Option<&'a [u8]>
+        requires { self.now.command_len ≤ length command_buffer.now }
+        ensures { (reply : List ℕ)
+            → IsSlice result (owed (card_held self.now command_buffer.now reply)
+            (card_held self.now command_buffer.now reply).waits) }
     {
         match self.wait {
-            CardWait::Host | CardWait::Asking(_) => Some(&held[..self.command_len]),
+            CardWait::Host | CardWait::Asking(_) => Some(&command_buffer[..self.command_len]),
             CardWait::Command | CardWait::Joining | CardWait::Reply(_) => None,
         }
     }
@@ -105,15 +106,15 @@ impl fmt::Debug for Card {
     fn fmt<W: fmt::Write>(&self, f: &mut fmt::Formatter<W>) -> fmt::Result {
         f.debug_struct("Card")
             .field("awaits", &self.awaits())
-            .field("number", &self.places.number)
-            .field("expected", &self.places.expected)
-            .field("ifsc", &self.places.ifsc)
-            .field("ifsd", &self.places.ifsd)
-            .field("command_octets", &self.places.command_len)
-            .field("reply_octets", &self.places.reply_len)
-            .field("is_saved", &self.places.saved.is_some())
-            .field("most_command", &self.places.most_command)
-            .field("most_reply", &self.places.most_reply)
+            .field("number", &self.state.number)
+            .field("expected", &self.state.expected)
+            .field("ifsc", &self.state.ifsc)
+            .field("ifsd", &self.state.ifsd)
+            .field("command_octets", &self.state.command_len)
+            .field("reply_octets", &self.state.reply_len)
+            .field("is_saved", &self.state.saved.is_some())
+            .field("most_command", &self.state.most_command)
+            .field("most_reply", &self.state.most_reply)
             .finish()
     }
 }

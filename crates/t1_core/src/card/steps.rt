@@ -2,7 +2,7 @@
 
 ghost use Rattle.std.specs.Prelude.{◌≡◌, ◌≤◌, length};
 ghost use Rattle.t1_core.specs.Came.{class_of, info};
-ghost use Rattle.t1_core.specs.CardViews.{card_held, AreCardPlaces, field_of};
+ghost use Rattle.t1_core.specs.CardViews.{card_held, IsLentCard, field_of};
 ghost use Rattle.t1_core.specs.Sending.{field_saved, card_sends, card_answers};
 ghost use Rattle.t1_core.specs.Card.{takes, replies, more_time, ask_ifs, card_turn, turn_of, state_after};
 
@@ -10,61 +10,70 @@ use crate::buffers::append;
 use crate::class::classify;
 use crate::cutting::field_in;
 use crate::guards::if_host;
-use crate::places::CardPlaces;
+use crate::lent::LentCard;
 use crate::replying::next_block;
 use crate::sending::{CardAct, Sent};
 use crate::turns::{CardAsked, CardFault, CardWait};
 use block_core::{BlockRef, Pcb};
 use octet_core::is_reserved;
 
-impl CardPlaces {
+impl LentCard {
     /// These octets came as one block.
     pub(super) fn takes(
         &mut self,
-        held: &mut [u8],
-        answer: &[u8],
+        command_buffer: &mut [u8],
+        reply_buffer: &[u8],
         octets: &[u8],
     ) -> Result<CardAct, CardFault>
-        requires fit { AreCardPlaces self.old (length held.old) (length answer.now) }
-        ensures fit { AreCardPlaces self.new (length held.new) (length answer.now) }
-        ensures turn { card_answers (card_held self.new held.new answer.now) result
-            ≡ turn_of (card_turn (card_held self.old held.old answer.now)
-            (takes (class_of (card_held self.old held.old answer.now).ifsc octets.now))) }
-        ensures state { card_held self.new held.new answer.now
-            ≡ state_after (card_held self.old held.old answer.now)
-            (card_turn (card_held self.old held.old answer.now)
-            (takes (class_of (card_held self.old held.old answer.now).ifsc octets.now))) }
+        requires fit { IsLentCard self.old (length command_buffer.old) (length reply_buffer.now) }
+        ensures fit { IsLentCard self.new (length command_buffer.new) (length reply_buffer.now) }
+        ensures turn { card_answers (card_held self.new command_buffer.new reply_buffer.now) result
+            ≡ turn_of (card_turn (card_held self.old command_buffer.old reply_buffer.now)
+            (takes (class_of (card_held self.old command_buffer.old reply_buffer.now).ifsc octets.now))) }
+        ensures state { card_held self.new command_buffer.new reply_buffer.now
+            ≡ state_after (card_held self.old command_buffer.old reply_buffer.now)
+            (card_turn (card_held self.old command_buffer.old reply_buffer.now)
+            (takes (class_of (card_held self.old command_buffer.old reply_buffer.now).ifsc octets.now))) }
     {
         let arrived = classify(octets, self.ifsc);
         match self.wait {
             CardWait::Host => Err(CardFault::Order),
-            CardWait::Command | CardWait::Joining => Ok(self.command_took(held, answer, &arrived)),
-            CardWait::Reply(_) => Ok(self.reply_took(held, answer, &arrived)),
-            CardWait::Asking(request) => Ok(self.asking_took(held, answer, request, &arrived)),
+            CardWait::Command | CardWait::Joining => Ok(self.command_took(
+                command_buffer,
+                reply_buffer,
+                &arrived,
+            )),
+            CardWait::Reply(_) => Ok(self.reply_took(command_buffer, reply_buffer, &arrived)),
+            CardWait::Asking(request) => Ok(self.asking_took(
+                command_buffer,
+                reply_buffer,
+                request,
+                &arrived,
+            )),
         }
     }
 
     /// The host hands over its reply.
     pub(super) fn replies(
         &mut self,
-        held: &[u8],
-        answer: &mut [u8],
+        command_buffer: &[u8],
+        reply_buffer: &mut [u8],
         octets: &[u8],
     ) -> Result<CardAct, CardFault>
-        requires fit { AreCardPlaces self.old (length held.now) (length answer.old) }
-        ensures fit { AreCardPlaces self.new (length held.now) (length answer.new) }
-        ensures turn { card_answers (card_held self.new held.now answer.new) result
-            ≡ turn_of (card_turn (card_held self.old held.now answer.old) (replies octets.now)) }
-        ensures state { card_held self.new held.now answer.new
-            ≡ state_after (card_held self.old held.now answer.old)
-            (card_turn (card_held self.old held.now answer.old) (replies octets.now)) }
+        requires fit { IsLentCard self.old (length command_buffer.now) (length reply_buffer.old) }
+        ensures fit { IsLentCard self.new (length command_buffer.now) (length reply_buffer.new) }
+        ensures turn { card_answers (card_held self.new command_buffer.now reply_buffer.new) result
+            ≡ turn_of (card_turn (card_held self.old command_buffer.now reply_buffer.old) (replies octets.now)) }
+        ensures state { card_held self.new command_buffer.now reply_buffer.new
+            ≡ state_after (card_held self.old command_buffer.now reply_buffer.old)
+            (card_turn (card_held self.old command_buffer.now reply_buffer.old) (replies octets.now)) }
     {
         if_host(self.wait)?;
         if octets.len() > self.most_reply {
             return Err(CardFault::TooLong);
         }
-        self.reply_len = append(answer, 0, octets);
-        let next = next_block(&answer[..self.reply_len], 0, self.ifsd);
+        self.reply_len = append(reply_buffer, 0, octets);
+        let next = next_block(&reply_buffer[..self.reply_len], 0, self.ifsd);
         self.wait = next.wait;
         self.saved = next.saved;
         Ok(CardAct::Send(next.sent))
@@ -73,17 +82,17 @@ impl CardPlaces {
     /// The host wants more waiting time.
     pub(super) fn asks_time(
         &mut self,
-        held: &[u8],
-        answer: &[u8],
+        command_buffer: &[u8],
+        reply_buffer: &[u8],
         multiple: u8,
     ) -> Result<CardAct, CardFault>
-        requires fit { AreCardPlaces self.old (length held.now) (length answer.now) }
-        ensures fit { AreCardPlaces self.new (length held.now) (length answer.now) }
-        ensures turn { card_answers (card_held self.new held.now answer.now) result
-            ≡ turn_of (card_turn (card_held self.old held.now answer.now) (more_time multiple)) }
-        ensures state { card_held self.new held.now answer.now
-            ≡ state_after (card_held self.old held.now answer.now)
-            (card_turn (card_held self.old held.now answer.now) (more_time multiple)) }
+        requires fit { IsLentCard self.old (length command_buffer.now) (length reply_buffer.now) }
+        ensures fit { IsLentCard self.new (length command_buffer.now) (length reply_buffer.now) }
+        ensures turn { card_answers (card_held self.new command_buffer.now reply_buffer.now) result
+            ≡ turn_of (card_turn (card_held self.old command_buffer.now reply_buffer.now) (more_time multiple)) }
+        ensures state { card_held self.new command_buffer.now reply_buffer.now
+            ≡ state_after (card_held self.old command_buffer.now reply_buffer.now)
+            (card_turn (card_held self.old command_buffer.now reply_buffer.now) (more_time multiple)) }
     {
         if_host(self.wait)?;
         let request = CardAsked::Time(multiple);
@@ -94,17 +103,17 @@ impl CardPlaces {
     /// The host wants the card to take fields of this size.
     pub(super) fn asks_ifs(
         &mut self,
-        held: &[u8],
-        answer: &[u8],
+        command_buffer: &[u8],
+        reply_buffer: &[u8],
         size: u8,
     ) -> Result<CardAct, CardFault>
-        requires fit { AreCardPlaces self.old (length held.now) (length answer.now) }
-        ensures fit { AreCardPlaces self.new (length held.now) (length answer.now) }
-        ensures turn { card_answers (card_held self.new held.now answer.now) result
-            ≡ turn_of (card_turn (card_held self.old held.now answer.now) (ask_ifs size)) }
-        ensures state { card_held self.new held.now answer.now
-            ≡ state_after (card_held self.old held.now answer.now)
-            (card_turn (card_held self.old held.now answer.now) (ask_ifs size)) }
+        requires fit { IsLentCard self.old (length command_buffer.now) (length reply_buffer.now) }
+        ensures fit { IsLentCard self.new (length command_buffer.now) (length reply_buffer.now) }
+        ensures turn { card_answers (card_held self.new command_buffer.now reply_buffer.now) result
+            ≡ turn_of (card_turn (card_held self.old command_buffer.now reply_buffer.now) (ask_ifs size)) }
+        ensures state { card_held self.new command_buffer.now reply_buffer.now
+            ≡ state_after (card_held self.old command_buffer.now reply_buffer.now)
+            (card_turn (card_held self.old command_buffer.now reply_buffer.now) (ask_ifs size)) }
     {
         if_host(self.wait)?;
         if is_reserved(size) {
@@ -117,13 +126,19 @@ impl CardPlaces {
 
     /// The block that is sent, its field lent.
     #[inline(always)]
-    pub(super) fn lent<'a>(&self, held: &[u8], answer: &'a [u8], sent: &'a Sent) -> BlockRef<'a>
-        requires fit { AreCardPlaces self.now (length held.now) (length answer.now) }
-        ensures { result ≡ card_sends (card_held self.now held.now answer.now) sent.now }
+    pub(super) fn lent<'a>(
+        &self,
+        command_buffer: &[u8],
+        reply_buffer: &'a [u8],
+        sent: &'a Sent,
+    ) -> BlockRef<'a>
+        requires fit { IsLentCard self.now (length command_buffer.now) (length reply_buffer.now) }
+        ensures { result ≡ card_sends (card_held self.now command_buffer.now reply_buffer.now)
+            sent.now }
     {
         match sent {
-            Sent::Inner => self.info(true, self.inner(held, answer)),
-            Sent::Last => self.info(false, self.last(held, answer)),
+            Sent::Inner => self.info(true, self.inner(command_buffer, reply_buffer)),
+            Sent::Last => self.info(false, self.last(command_buffer, reply_buffer)),
             Sent::Other(short) => short.lent(),
         }
     }
@@ -141,25 +156,27 @@ impl CardPlaces {
     }
 
     /// The field of the I-block under way that more follow.
-    fn inner<'a>(&self, held: &[u8], answer: &'a [u8]) -> &'a [u8]
-        requires fit { AreCardPlaces self.now (length held.now) (length answer.now) }
-        ensures octets { result.now ≡ field_of (card_held self.now held.now answer.now).waits }
+    fn inner<'a>(&self, command_buffer: &[u8], reply_buffer: &'a [u8]) -> &'a [u8]
+        requires fit { IsLentCard self.now (length command_buffer.now) (length reply_buffer.now) }
+        ensures octets { result.now ≡ field_of
+            (card_held self.now command_buffer.now reply_buffer.now).waits }
         ensures most { length result.now ≤ 254 }
     {
         match self.wait {
-            CardWait::Reply(cut) => field_in(&answer[..self.reply_len], cut),
+            CardWait::Reply(cut) => field_in(&reply_buffer[..self.reply_len], cut),
             _ => &[],
         }
     }
 
     /// The field of the last I-block, while nothing has acknowledged it.
-    fn last<'a>(&self, held: &[u8], answer: &'a [u8]) -> &'a [u8]
-        requires fit { AreCardPlaces self.now (length held.now) (length answer.now) }
-        ensures octets { result.now ≡ field_saved (card_held self.now held.now answer.now).saved }
+    fn last<'a>(&self, command_buffer: &[u8], reply_buffer: &'a [u8]) -> &'a [u8]
+        requires fit { IsLentCard self.now (length command_buffer.now) (length reply_buffer.now) }
+        ensures octets { result.now ≡ field_saved
+            (card_held self.now command_buffer.now reply_buffer.now).saved }
         ensures most { length result.now ≤ 254 }
     {
         match self.saved {
-            Some(cut) => field_in(&answer[..self.reply_len], cut),
+            Some(cut) => field_in(&reply_buffer[..self.reply_len], cut),
             None => &[],
         }
     }

@@ -5,110 +5,123 @@ ghost use Rattle.block_core.specs.declared.pcb.Fault.TheVariants.{Free};
 ghost use Rattle.block_core.specs.declared.pcb.Pcb.TheVariants.{Ready};
 ghost use Rattle.t1_core.specs.Came.{got};
 ghost use Rattle.t1_core.specs.Views.{came_of};
-ghost use Rattle.t1_core.specs.CardViews.{card_held, AreCardPlaces, field_of, rest_of, taken_of, request_of, IsTaking, IsRequest};
+ghost use Rattle.t1_core.specs.CardViews.{card_held, IsLentCard, field_of, rest_of, taken_of, request_of, IsTaking, IsRequest};
 ghost use Rattle.t1_core.specs.Sending.{card_does};
 ghost use Rattle.t1_core.specs.Card.{command, reply, asking, card_came, in_either, in_reply, joins, sends_saved, resynched, turn_of, state_after};
 
 use crate::buffers::append;
 use crate::class::Arrived;
-use crate::places::CardPlaces;
+use crate::lent::LentCard;
 use crate::replying::{acknowledged, next_block};
 use crate::sending::{CardAct, Sent, Short};
 use crate::terminal::FIRST_IFSD;
 use crate::turns::{CardAsked, CardWait};
 use block_core::{Fault, Number, Pcb, S};
 
-impl CardPlaces {
+impl LentCard {
     /// It waits for a block of a command.
     pub(super) fn command_took(
         &mut self,
-        held: &mut [u8],
-        answer: &[u8],
+        command_buffer: &mut [u8],
+        reply_buffer: &[u8],
         arrived: &Arrived,
     ) -> CardAct
-        requires fit { AreCardPlaces self.old (length held.old) (length answer.now) }
-        requires waits { (card_held self.old held.old answer.now).waits
-            ≡ command (taken_of (card_held self.old held.old answer.now).waits) }
-        ensures fit { AreCardPlaces self.new (length held.new) (length answer.now) }
-        ensures turn { turn_of (card_came (card_held self.old held.old answer.now)
-            (command (taken_of (card_held self.old held.old answer.now).waits))
+        requires fit { IsLentCard self.old (length command_buffer.old) (length reply_buffer.now) }
+        requires waits { (card_held self.old command_buffer.old reply_buffer.now).waits
+            ≡ command (taken_of (card_held self.old command_buffer.old reply_buffer.now).waits) }
+        ensures fit { IsLentCard self.new (length command_buffer.new) (length reply_buffer.now) }
+        ensures turn { turn_of (card_came (card_held self.old command_buffer.old reply_buffer.now)
+            (command (taken_of (card_held self.old command_buffer.old reply_buffer.now).waits))
             (came_of arrived.now))
-            ≡ Ok (card_does (card_held self.new held.new answer.now) result) }
-        ensures state { card_held self.new held.new answer.now
-            ≡ state_after (card_held self.old held.old answer.now)
-            (card_came (card_held self.old held.old answer.now)
-            (command (taken_of (card_held self.old held.old answer.now).waits))
+            ≡ Ok (card_does (card_held self.new command_buffer.new reply_buffer.now) result) }
+        ensures state { card_held self.new command_buffer.new reply_buffer.now
+            ≡ state_after (card_held self.old command_buffer.old reply_buffer.now)
+            (card_came (card_held self.old command_buffer.old reply_buffer.now)
+            (command (taken_of (card_held self.old command_buffer.old reply_buffer.now).waits))
             (came_of arrived.now)) }
     {
         match arrived {
-            Arrived::Damaged | Arrived::Invalid => self.either_took(held, answer, arrived),
+            Arrived::Damaged | Arrived::Invalid => self.either_took(
+                command_buffer,
+                reply_buffer,
+                arrived,
+            ),
             Arrived::Whole(block) => match block.pcb() {
                 Pcb::Info { number, more } => {
-                    let fits = self.taken_len(held, answer) + block.inf().len()
+                    let fits = self.taken_len(command_buffer, reply_buffer) + block.inf().len()
                         <= self.most_command;
                     if number == self.expected && fits {
-                        self.joins(held, answer, block.inf(), more)
+                        self.joins(command_buffer, reply_buffer, block.inf(), more)
                     } else {
-                        self.either_took(held, answer, arrived)
+                        self.either_took(command_buffer, reply_buffer, arrived)
                     }
                 }
                 Pcb::Ready { number, .. } => {
                     let is_own = number == self.number;
-                    self.sends_saved(held, answer, is_own)
+                    self.sends_saved(command_buffer, reply_buffer, is_own)
                 }
-                Pcb::Request(S::Resynch) => self.resynched(held, answer),
+                Pcb::Request(S::Resynch) => self.resynched(command_buffer, reply_buffer),
                 Pcb::Request(S::Ifs | S::Abort | S::Wtx) | Pcb::Response(_) => {
-                    self.either_took(held, answer, arrived)
+                    self.either_took(command_buffer, reply_buffer, arrived)
                 }
             },
         }
     }
 
     /// An I-block of the reply that isn't its last is under way.
-    pub(super) fn reply_took(&mut self, held: &[u8], answer: &[u8], arrived: &Arrived) -> CardAct
-        requires fit { AreCardPlaces self.old (length held.now) (length answer.now) }
-        requires waits { (card_held self.old held.now answer.now).waits
-            ≡ reply (field_of (card_held self.old held.now answer.now).waits)
-            (rest_of (card_held self.old held.now answer.now).waits) }
-        ensures fit { AreCardPlaces self.new (length held.now) (length answer.now) }
-        ensures turn { turn_of (card_came (card_held self.old held.now answer.now)
-            (reply (field_of (card_held self.old held.now answer.now).waits)
-            (rest_of (card_held self.old held.now answer.now).waits)) (came_of arrived.now))
-            ≡ Ok (card_does (card_held self.new held.now answer.now) result) }
-        ensures state { card_held self.new held.now answer.now
-            ≡ state_after (card_held self.old held.now answer.now)
-            (card_came (card_held self.old held.now answer.now)
-            (reply (field_of (card_held self.old held.now answer.now).waits)
-            (rest_of (card_held self.old held.now answer.now).waits)) (came_of arrived.now)) }
+    pub(super) fn reply_took(
+        &mut self,
+        command_buffer: &[u8],
+        reply_buffer: &[u8],
+        arrived: &Arrived,
+    ) -> CardAct
+        requires fit { IsLentCard self.old (length command_buffer.now) (length reply_buffer.now) }
+        requires waits { (card_held self.old command_buffer.now reply_buffer.now).waits
+            ≡ reply (field_of (card_held self.old command_buffer.now reply_buffer.now).waits)
+            (rest_of (card_held self.old command_buffer.now reply_buffer.now).waits) }
+        ensures fit { IsLentCard self.new (length command_buffer.now) (length reply_buffer.now) }
+        ensures turn { turn_of (card_came (card_held self.old command_buffer.now reply_buffer.now)
+            (reply (field_of (card_held self.old command_buffer.now reply_buffer.now).waits)
+            (rest_of (card_held self.old command_buffer.now reply_buffer.now).waits)) (came_of arrived.now))
+            ≡ Ok (card_does (card_held self.new command_buffer.now reply_buffer.now) result) }
+        ensures state { card_held self.new command_buffer.now reply_buffer.now
+            ≡ state_after (card_held self.old command_buffer.now reply_buffer.now)
+            (card_came (card_held self.old command_buffer.now reply_buffer.now)
+            (reply (field_of (card_held self.old command_buffer.now reply_buffer.now).waits)
+            (rest_of (card_held self.old command_buffer.now reply_buffer.now).waits)) (came_of arrived.now)) }
     {
         match arrived {
-            Arrived::Damaged | Arrived::Invalid => self.either_took(held, answer, arrived),
+            Arrived::Damaged | Arrived::Invalid => self.either_took(
+                command_buffer,
+                reply_buffer,
+                arrived,
+            ),
             Arrived::Whole(block) => match block.pcb() {
-                Pcb::Ready { number, .. } => self.reply_asked(held, answer, number),
-                Pcb::Request(S::Resynch) => self.resynched(held, answer),
+                Pcb::Ready { number, .. } => self.reply_asked(command_buffer, reply_buffer, number),
+                Pcb::Request(S::Resynch) => self.resynched(command_buffer, reply_buffer),
                 Pcb::Info { .. } | Pcb::Request(S::Ifs | S::Abort | S::Wtx) | Pcb::Response(_) =>
-                    self.either_took(held, answer, arrived),
+                    self.either_took(command_buffer, reply_buffer, arrived),
             },
         }
     }
 
     /// While the reply is sent an R-block came: with the number of the block under way it is sent again,
     /// with the other one the next block.
-    fn reply_asked(&mut self, held: &[u8], answer: &[u8], number: Number) -> CardAct
-        requires fit { AreCardPlaces self.old (length held.now) (length answer.now) }
-        requires waits { (card_held self.old held.now answer.now).waits
-            ≡ reply (field_of (card_held self.old held.now answer.now).waits)
-            (rest_of (card_held self.old held.now answer.now).waits) }
-        ensures fit { AreCardPlaces self.new (length held.now) (length answer.now) }
-        ensures turn { turn_of (in_reply (card_held self.old held.now answer.now)
-            (field_of (card_held self.old held.now answer.now).waits)
-            (rest_of (card_held self.old held.now answer.now).waits) (got (Ready number Free) []))
-            ≡ Ok (card_does (card_held self.new held.now answer.now) result) }
-        ensures state { card_held self.new held.now answer.now
-            ≡ state_after (card_held self.old held.now answer.now)
-            (in_reply (card_held self.old held.now answer.now)
-            (field_of (card_held self.old held.now answer.now).waits)
-            (rest_of (card_held self.old held.now answer.now).waits) (got (Ready number Free) [])) }
+    fn reply_asked(&mut self, command_buffer: &[u8], reply_buffer: &[u8], number: Number) -> CardAct
+        requires fit { IsLentCard self.old (length command_buffer.now) (length reply_buffer.now) }
+        requires waits { (card_held self.old command_buffer.now reply_buffer.now).waits
+            ≡ reply (field_of (card_held self.old command_buffer.now reply_buffer.now).waits)
+            (rest_of (card_held self.old command_buffer.now reply_buffer.now).waits) }
+        ensures fit { IsLentCard self.new (length command_buffer.now) (length reply_buffer.now) }
+        ensures turn { turn_of (in_reply (card_held self.old command_buffer.now reply_buffer.now)
+            (field_of (card_held self.old command_buffer.now reply_buffer.now).waits)
+            (rest_of (card_held self.old command_buffer.now reply_buffer.now).waits) (got (Ready number Free) []))
+            ≡ Ok (card_does (card_held self.new command_buffer.now reply_buffer.now) result) }
+        ensures state { card_held self.new command_buffer.now reply_buffer.now
+            ≡ state_after (card_held self.old command_buffer.now reply_buffer.now)
+            (in_reply (card_held self.old command_buffer.now reply_buffer.now)
+            (field_of (card_held self.old command_buffer.now reply_buffer.now).waits)
+            (rest_of (card_held self.old command_buffer.now reply_buffer.now).waits) (got (Ready number Free) [])) }
     {
         let CardWait::Reply(cut) = self.wait else {
             unreachable!()
@@ -118,7 +131,7 @@ impl CardPlaces {
         }
         self.number = self.number.other();
         let next = next_block(
-            &answer[..self.reply_len],
+            &reply_buffer[..self.reply_len],
             cut.place + cut.size as usize,
             self.ifsd,
         );
@@ -130,28 +143,28 @@ impl CardPlaces {
     /// It waits for the response to a request.
     pub(super) fn asking_took(
         &mut self,
-        held: &[u8],
-        answer: &[u8],
+        command_buffer: &[u8],
+        reply_buffer: &[u8],
         request: CardAsked,
         arrived: &Arrived,
     ) -> CardAct
-        requires fit { AreCardPlaces self.old (length held.now) (length answer.now) }
-        requires waits { (card_held self.old held.now answer.now).waits
+        requires fit { IsLentCard self.old (length command_buffer.now) (length reply_buffer.now) }
+        requires waits { (card_held self.old command_buffer.now reply_buffer.now).waits
             ≡ asking (request_of request) }
         requires request { IsRequest request }
-        ensures fit { AreCardPlaces self.new (length held.now) (length answer.now) }
-        ensures turn { turn_of (card_came (card_held self.old held.now answer.now)
+        ensures fit { IsLentCard self.new (length command_buffer.now) (length reply_buffer.now) }
+        ensures turn { turn_of (card_came (card_held self.old command_buffer.now reply_buffer.now)
             (asking (request_of request)) (came_of arrived.now))
-            ≡ Ok (card_does (card_held self.new held.now answer.now) result) }
-        ensures state { card_held self.new held.now answer.now
-            ≡ state_after (card_held self.old held.now answer.now)
-            (card_came (card_held self.old held.now answer.now) (asking (request_of request))
+            ≡ Ok (card_does (card_held self.new command_buffer.now reply_buffer.now) result) }
+        ensures state { card_held self.new command_buffer.now reply_buffer.now
+            ≡ state_after (card_held self.old command_buffer.now reply_buffer.now)
+            (card_came (card_held self.old command_buffer.now reply_buffer.now) (asking (request_of request))
             (came_of arrived.now)) }
     {
         match arrived {
             Arrived::Damaged | Arrived::Invalid => CardAct::Send(Sent::Other(request.block())),
             Arrived::Whole(block) => match (request, block.pcb()) {
-                (_, Pcb::Request(S::Resynch)) => self.resynched(held, answer),
+                (_, Pcb::Request(S::Resynch)) => self.resynched(command_buffer, reply_buffer),
                 (CardAsked::Size(size), Pcb::Response(S::Ifs)) if block.inf()[0] == size => {
                     self.ifsc = size;
                     self.wait = CardWait::Host;
@@ -168,15 +181,20 @@ impl CardPlaces {
     }
 
     /// While it waits for a block of a command or for an R-block, what is taken alike.
-    fn either_took(&mut self, held: &[u8], answer: &[u8], arrived: &Arrived) -> CardAct
-        requires fit { AreCardPlaces self.old (length held.now) (length answer.now) }
-        ensures fit { AreCardPlaces self.new (length held.now) (length answer.now) }
-        ensures turn { turn_of (in_either (card_held self.old held.now answer.now)
+    fn either_took(
+        &mut self,
+        command_buffer: &[u8],
+        reply_buffer: &[u8],
+        arrived: &Arrived,
+    ) -> CardAct
+        requires fit { IsLentCard self.old (length command_buffer.now) (length reply_buffer.now) }
+        ensures fit { IsLentCard self.new (length command_buffer.now) (length reply_buffer.now) }
+        ensures turn { turn_of (in_either (card_held self.old command_buffer.now reply_buffer.now)
             (came_of arrived.now))
-            ≡ Ok (card_does (card_held self.new held.now answer.now) result) }
-        ensures state { card_held self.new held.now answer.now
-            ≡ state_after (card_held self.old held.now answer.now)
-            (in_either (card_held self.old held.now answer.now) (came_of arrived.now)) }
+            ≡ Ok (card_does (card_held self.new command_buffer.now reply_buffer.now) result) }
+        ensures state { card_held self.new command_buffer.now reply_buffer.now
+            ≡ state_after (card_held self.old command_buffer.now reply_buffer.now)
+            (in_either (card_held self.old command_buffer.now reply_buffer.now) (came_of arrived.now)) }
     {
         let fault = match arrived {
             Arrived::Damaged => Fault::Redundancy,
@@ -193,21 +211,32 @@ impl CardPlaces {
     }
 
     /// An I-block of the command that fits is joined, and acknowledges the saved block.
-    fn joins(&mut self, held: &mut [u8], answer: &[u8], inf: &[u8], more: bool) -> CardAct
-        requires fit { AreCardPlaces self.old (length held.old) (length answer.now) }
-        requires taking { IsTaking (card_held self.old held.old answer.now).waits }
-        requires fits { length (taken_of (card_held self.old held.old answer.now).waits)
+    fn joins(
+        &mut self,
+        command_buffer: &mut [u8],
+        reply_buffer: &[u8],
+        inf: &[u8],
+        more: bool,
+    ) -> CardAct
+        requires fit { IsLentCard self.old (length command_buffer.old) (length reply_buffer.now) }
+        requires taking { IsTaking (card_held self.old command_buffer.old reply_buffer.now).waits }
+        requires fits { length (taken_of
+            (card_held self.old command_buffer.old reply_buffer.now).waits)
             + length inf.now ≤ self.old.most_command }
-        ensures fit { AreCardPlaces self.new (length held.new) (length answer.now) }
-        ensures turn { turn_of (joins (card_held self.old held.old answer.now)
-            (taken_of (card_held self.old held.old answer.now).waits ++ inf.now) more)
-            ≡ Ok (card_does (card_held self.new held.new answer.now) result) }
-        ensures state { card_held self.new held.new answer.now
-            ≡ state_after (card_held self.old held.old answer.now)
-            (joins (card_held self.old held.old answer.now)
-            (taken_of (card_held self.old held.old answer.now).waits ++ inf.now) more) }
+        ensures fit { IsLentCard self.new (length command_buffer.new) (length reply_buffer.now) }
+        ensures turn { turn_of (joins (card_held self.old command_buffer.old reply_buffer.now)
+            (taken_of (card_held self.old command_buffer.old reply_buffer.now).waits ++ inf.now) more)
+            ≡ Ok (card_does (card_held self.new command_buffer.new reply_buffer.now) result) }
+        ensures state { card_held self.new command_buffer.new reply_buffer.now
+            ≡ state_after (card_held self.old command_buffer.old reply_buffer.now)
+            (joins (card_held self.old command_buffer.old reply_buffer.now)
+            (taken_of (card_held self.old command_buffer.old reply_buffer.now).waits ++ inf.now) more) }
     {
-        self.command_len = append(held, self.taken_len(held, answer), inf);
+        self.command_len = append(
+            command_buffer,
+            self.taken_len(command_buffer, reply_buffer),
+            inf,
+        );
         self.number = acknowledged(self.saved, self.number);
         self.saved = None;
         self.expected = self.expected.other();
@@ -221,9 +250,10 @@ impl CardPlaces {
     }
 
     /// How many octets of a command came so far.
-    fn taken_len(&self, held: &[u8], answer: &[u8]) -> usize
-        requires fit { AreCardPlaces self.now (length held.now) (length answer.now) }
-        ensures { result ≡ length (taken_of (card_held self.now held.now answer.now).waits) }
+    fn taken_len(&self, command_buffer: &[u8], reply_buffer: &[u8]) -> usize
+        requires fit { IsLentCard self.now (length command_buffer.now) (length reply_buffer.now) }
+        ensures { result ≡ length (taken_of
+            (card_held self.now command_buffer.now reply_buffer.now).waits) }
     {
         match self.wait {
             CardWait::Joining => self.command_len,
@@ -232,16 +262,16 @@ impl CardPlaces {
     }
 
     /// While it waits for a command an R-block came: with its own number the saved block is sent again.
-    fn sends_saved(&mut self, held: &[u8], answer: &[u8], is_own: bool) -> CardAct
-        requires fit { AreCardPlaces self.old (length held.now) (length answer.now) }
-        ensures fit { AreCardPlaces self.new (length held.now) (length answer.now) }
-        ensures turn { turn_of (sends_saved (card_held self.old held.now answer.now)
-            (card_held self.old held.now answer.now).saved is_own)
-            ≡ Ok (card_does (card_held self.new held.now answer.now) result) }
-        ensures state { card_held self.new held.now answer.now
-            ≡ state_after (card_held self.old held.now answer.now)
-            (sends_saved (card_held self.old held.now answer.now)
-            (card_held self.old held.now answer.now).saved is_own) }
+    fn sends_saved(&mut self, command_buffer: &[u8], reply_buffer: &[u8], is_own: bool) -> CardAct
+        requires fit { IsLentCard self.old (length command_buffer.now) (length reply_buffer.now) }
+        ensures fit { IsLentCard self.new (length command_buffer.now) (length reply_buffer.now) }
+        ensures turn { turn_of (sends_saved (card_held self.old command_buffer.now reply_buffer.now)
+            (card_held self.old command_buffer.now reply_buffer.now).saved is_own)
+            ≡ Ok (card_does (card_held self.new command_buffer.now reply_buffer.now) result) }
+        ensures state { card_held self.new command_buffer.now reply_buffer.now
+            ≡ state_after (card_held self.old command_buffer.now reply_buffer.now)
+            (sends_saved (card_held self.old command_buffer.now reply_buffer.now)
+            (card_held self.old command_buffer.now reply_buffer.now).saved is_own) }
     {
         match self.saved {
             Some(_) if is_own => CardAct::Send(Sent::Last),
@@ -250,14 +280,14 @@ impl CardPlaces {
     }
 
     /// RESYNCH: as at the start, with no command.
-    fn resynched(&mut self, held: &[u8], answer: &[u8]) -> CardAct
-        requires fit { AreCardPlaces self.old (length held.now) (length answer.now) }
-        ensures fit { AreCardPlaces self.new (length held.now) (length answer.now) }
-        ensures turn { turn_of (resynched (card_held self.old held.now answer.now))
-            ≡ Ok (card_does (card_held self.new held.now answer.now) result) }
-        ensures state { card_held self.new held.now answer.now
-            ≡ state_after (card_held self.old held.now answer.now)
-            (resynched (card_held self.old held.now answer.now)) }
+    fn resynched(&mut self, command_buffer: &[u8], reply_buffer: &[u8]) -> CardAct
+        requires fit { IsLentCard self.old (length command_buffer.now) (length reply_buffer.now) }
+        ensures fit { IsLentCard self.new (length command_buffer.now) (length reply_buffer.now) }
+        ensures turn { turn_of (resynched (card_held self.old command_buffer.now reply_buffer.now))
+            ≡ Ok (card_does (card_held self.new command_buffer.now reply_buffer.now) result) }
+        ensures state { card_held self.new command_buffer.now reply_buffer.now
+            ≡ state_after (card_held self.old command_buffer.now reply_buffer.now)
+            (resynched (card_held self.old command_buffer.now reply_buffer.now)) }
     {
         self.number = Number::Zero;
         self.expected = Number::Zero;

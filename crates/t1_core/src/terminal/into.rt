@@ -4,10 +4,10 @@ ghost use Rattle.std.specs.Prelude.{◌≡◌, ◌≤◌, length, IfOk};
 ghost use Rattle.t1_core.specs.Came.{class_of, quiet};
 ghost use Rattle.t1_core.specs.Put.{IsTerminalPut, FitsTerminalPut};
 ghost use Rattle.t1_core.specs.Sending.{terminal_answers};
-ghost use Rattle.t1_core.specs.Views.{terminal_held, AreTerminalPlaces};
+ghost use Rattle.t1_core.specs.Views.{terminal_held, IsLentTerminal};
 ghost use Rattle.t1_core.specs.Terminal.{takes, transmit, ask_ifs, terminal_turn, turn_of, state_after};
 
-use crate::places::TerminalPlaces;
+use crate::lent::LentTerminal;
 use crate::sending::TerminalAct;
 use crate::terminal::Terminal;
 use crate::turns::{EncodedTerminalTurn, TerminalFault, TerminalTurn, granted};
@@ -29,9 +29,9 @@ impl Terminal {
         ensures state { self.new ≡ state_after self.old
             (terminal_turn self.old (transmit command.now)) }
     {
-        self.places.transmit_into(
+        self.state.transmit_into(
             self.command.as_mut_slice(),
-            self.joined.as_slice(),
+            self.answer.as_slice(),
             command,
             out,
         )
@@ -49,8 +49,8 @@ impl Terminal {
         ensures fits { IfOk result FitsTerminalPut }
         ensures state { self.new ≡ state_after self.old (terminal_turn self.old (ask_ifs size)) }
     {
-        self.places
-            .ask_ifs_into(self.command.as_slice(), self.joined.as_slice(), size, out)
+        self.state
+            .ask_ifs_into(self.command.as_slice(), self.answer.as_slice(), size, out)
     }
 
     /// What is sent for these octets of the line, as `received`.
@@ -67,9 +67,9 @@ impl Terminal {
         ensures state { self.new ≡ state_after self.old
             (terminal_turn self.old (takes (class_of self.old.ifsd octets.now))) }
     {
-        self.places.received_into(
+        self.state.received_into(
             self.command.as_slice(),
-            self.joined.as_mut_slice(),
+            self.answer.as_mut_slice(),
             octets,
             out,
         )
@@ -83,105 +83,112 @@ impl Terminal {
         ensures fits { IfOk result FitsTerminalPut }
         ensures state { self.new ≡ state_after self.old (terminal_turn self.old (takes quiet)) }
     {
-        self.places
-            .quiet_into(self.command.as_slice(), self.joined.as_slice(), out)
+        self.state
+            .quiet_into(self.command.as_slice(), self.answer.as_slice(), out)
     }
 }
 
-/// The same of a terminal whose buffers are lent to each call: `held` is the command's, and `joined` the
-/// answer's. They are those of the call before, in size and octets.
-impl TerminalPlaces {
+/// The same of a terminal whose buffers are lent to each call: those of the call before, in size and octets.
+impl LentTerminal {
     /// The first I-block of a command, as `transmit`.
     pub fn transmit_into(
         &mut self,
-        held: &mut [u8],
-        joined: &[u8],
+        command_buffer: &mut [u8],
+        answer_buffer: &[u8],
         command: &[u8],
         out: &mut [u8],
     ) -> Result<EncodedTerminalTurn, TerminalFault>
         requires room { 258 ≤ length out.old }
-        requires fit { AreTerminalPlaces self.old (length held.old) (length joined.now) }
+        requires fit { IsLentTerminal self.old (length command_buffer.old)
+            (length answer_buffer.now) }
         ensures turn { IsTerminalPut
-            (turn_of (terminal_turn (terminal_held self.old held.old joined.now)
+            (turn_of (terminal_turn (terminal_held self.old command_buffer.old answer_buffer.now)
             (transmit command.now))) out.old out.new result }
         ensures fits { IfOk result FitsTerminalPut }
-        ensures fit { AreTerminalPlaces self.new (length held.new) (length joined.now) }
-        ensures state { terminal_held self.new held.new joined.now
-            ≡ state_after (terminal_held self.old held.old joined.now)
-            (terminal_turn (terminal_held self.old held.old joined.now) (transmit command.now)) }
+        ensures fit { IsLentTerminal self.new (length command_buffer.new)
+            (length answer_buffer.now) }
+        ensures state { terminal_held self.new command_buffer.new answer_buffer.now
+            ≡ state_after (terminal_held self.old command_buffer.old answer_buffer.now)
+            (terminal_turn (terminal_held self.old command_buffer.old answer_buffer.now) (transmit command.now)) }
     {
-        let acted = self.transmits(held, joined, command);
-        self.put(held, joined, acted, out)
+        let acted = self.transmits(command_buffer, answer_buffer, command);
+        self.put(command_buffer, answer_buffer, acted, out)
     }
 
     /// The question about a size, as `ask_ifs`.
     pub fn ask_ifs_into(
         &mut self,
-        held: &[u8],
-        joined: &[u8],
+        command_buffer: &[u8],
+        answer_buffer: &[u8],
         size: u8,
         out: &mut [u8],
     ) -> Result<EncodedTerminalTurn, TerminalFault>
         requires room { 258 ≤ length out.old }
-        requires fit { AreTerminalPlaces self.old (length held.now) (length joined.now) }
+        requires fit { IsLentTerminal self.old (length command_buffer.now)
+            (length answer_buffer.now) }
         ensures turn { IsTerminalPut
-            (turn_of (terminal_turn (terminal_held self.old held.now joined.now) (ask_ifs size)))
+            (turn_of (terminal_turn (terminal_held self.old command_buffer.now answer_buffer.now) (ask_ifs size)))
             out.old out.new result }
         ensures fits { IfOk result FitsTerminalPut }
-        ensures fit { AreTerminalPlaces self.new (length held.now) (length joined.now) }
-        ensures state { terminal_held self.new held.now joined.now
-            ≡ state_after (terminal_held self.old held.now joined.now)
-            (terminal_turn (terminal_held self.old held.now joined.now) (ask_ifs size)) }
+        ensures fit { IsLentTerminal self.new (length command_buffer.now)
+            (length answer_buffer.now) }
+        ensures state { terminal_held self.new command_buffer.now answer_buffer.now
+            ≡ state_after (terminal_held self.old command_buffer.now answer_buffer.now)
+            (terminal_turn (terminal_held self.old command_buffer.now answer_buffer.now) (ask_ifs size)) }
     {
-        let acted = self.asks_ifs(held, joined, size);
-        self.put(held, joined, acted, out)
+        let acted = self.asks_ifs(command_buffer, answer_buffer, size);
+        self.put(command_buffer, answer_buffer, acted, out)
     }
 
     /// What is sent for these octets of the line, as `received`.
     pub fn received_into(
         &mut self,
-        held: &[u8],
-        joined: &mut [u8],
+        command_buffer: &[u8],
+        answer_buffer: &mut [u8],
         octets: &[u8],
         out: &mut [u8],
     ) -> Result<EncodedTerminalTurn, TerminalFault>
         requires room { 258 ≤ length out.old }
-        requires fit { AreTerminalPlaces self.old (length held.now) (length joined.old) }
+        requires fit { IsLentTerminal self.old (length command_buffer.now)
+            (length answer_buffer.old) }
         ensures turn { IsTerminalPut
-            (turn_of (terminal_turn (terminal_held self.old held.now joined.old)
-            (takes (class_of (terminal_held self.old held.now joined.old).ifsd octets.now))))
+            (turn_of (terminal_turn (terminal_held self.old command_buffer.now answer_buffer.old)
+            (takes (class_of (terminal_held self.old command_buffer.now answer_buffer.old).ifsd octets.now))))
             out.old out.new result }
         ensures fits { IfOk result FitsTerminalPut }
-        ensures fit { AreTerminalPlaces self.new (length held.now) (length joined.new) }
-        ensures state { terminal_held self.new held.now joined.new
-            ≡ state_after (terminal_held self.old held.now joined.old)
-            (terminal_turn (terminal_held self.old held.now joined.old)
-            (takes (class_of (terminal_held self.old held.now joined.old).ifsd octets.now))) }
+        ensures fit { IsLentTerminal self.new (length command_buffer.now)
+            (length answer_buffer.new) }
+        ensures state { terminal_held self.new command_buffer.now answer_buffer.new
+            ≡ state_after (terminal_held self.old command_buffer.now answer_buffer.old)
+            (terminal_turn (terminal_held self.old command_buffer.now answer_buffer.old)
+            (takes (class_of (terminal_held self.old command_buffer.now answer_buffer.old).ifsd octets.now))) }
     {
-        let acted = self.takes(held, joined, octets);
-        self.put(held, joined, acted, out)
+        let acted = self.takes(command_buffer, answer_buffer, octets);
+        self.put(command_buffer, answer_buffer, acted, out)
     }
 
     /// What is sent where nothing came, as `quiet`.
     pub fn quiet_into(
         &mut self,
-        held: &[u8],
-        joined: &[u8],
+        command_buffer: &[u8],
+        answer_buffer: &[u8],
         out: &mut [u8],
     ) -> Result<EncodedTerminalTurn, TerminalFault>
         requires room { 258 ≤ length out.old }
-        requires fit { AreTerminalPlaces self.old (length held.now) (length joined.now) }
+        requires fit { IsLentTerminal self.old (length command_buffer.now)
+            (length answer_buffer.now) }
         ensures turn { IsTerminalPut
-            (turn_of (terminal_turn (terminal_held self.old held.now joined.now) (takes quiet)))
+            (turn_of (terminal_turn (terminal_held self.old command_buffer.now answer_buffer.now) (takes quiet)))
             out.old out.new result }
         ensures fits { IfOk result FitsTerminalPut }
-        ensures fit { AreTerminalPlaces self.new (length held.now) (length joined.now) }
-        ensures state { terminal_held self.new held.now joined.now
-            ≡ state_after (terminal_held self.old held.now joined.now)
-            (terminal_turn (terminal_held self.old held.now joined.now) (takes quiet)) }
+        ensures fit { IsLentTerminal self.new (length command_buffer.now)
+            (length answer_buffer.now) }
+        ensures state { terminal_held self.new command_buffer.now answer_buffer.now
+            ≡ state_after (terminal_held self.old command_buffer.now answer_buffer.now)
+            (terminal_turn (terminal_held self.old command_buffer.now answer_buffer.now) (takes quiet)) }
     {
-        let acted = self.hears_nothing(held, joined);
-        self.put(held, joined, acted, out)
+        let acted = self.hears_nothing(command_buffer, answer_buffer);
+        self.put(command_buffer, answer_buffer, acted, out)
     }
 
     /// What a call answers, with the octets of the block that is sent in the buffer. Inlined, so that the call's
@@ -189,21 +196,22 @@ impl TerminalPlaces {
     #[inline(always)]
     fn put(
         &self,
-        held: &[u8],
-        joined: &[u8],
+        command_buffer: &[u8],
+        answer_buffer: &[u8],
         acted: Result<TerminalAct, TerminalFault>,
         out: &mut [u8],
     ) -> Result<EncodedTerminalTurn, TerminalFault>
         requires room { 258 ≤ length out.old }
-        requires fit { AreTerminalPlaces self.now (length held.now) (length joined.now) }
+        requires fit { IsLentTerminal self.now (length command_buffer.now)
+            (length answer_buffer.now) }
         ensures put { IsTerminalPut
-            (terminal_answers (terminal_held self.now held.now joined.now) acted) out.old out.new
+            (terminal_answers (terminal_held self.now command_buffer.now answer_buffer.now) acted) out.old out.new
             result }
         ensures fits { IfOk result FitsTerminalPut }
     {
         match acted {
             Ok(TerminalAct::Send(sent)) => {
-                let block = self.lent(held, joined, &sent);
+                let block = self.lent(command_buffer, answer_buffer, &sent);
                 let waiting = granted(block.pcb(), block.inf());
                 let count = block.encode_into(out);
                 Ok(EncodedTerminalTurn::Send { count, waiting })
@@ -219,16 +227,18 @@ impl TerminalPlaces {
     /// What a call answers, with the block that is sent put together.
     pub(super) fn answered(
         &self,
-        held: &[u8],
-        joined: &[u8],
+        command_buffer: &[u8],
+        answer_buffer: &[u8],
         acted: Result<TerminalAct, TerminalFault>,
     ) -> Result<TerminalTurn, TerminalFault>
-        requires fit { AreTerminalPlaces self.now (length held.now) (length joined.now) }
-        ensures { result ≡ terminal_answers (terminal_held self.now held.now joined.now) acted }
+        requires fit { IsLentTerminal self.now (length command_buffer.now)
+            (length answer_buffer.now) }
+        ensures { result ≡ terminal_answers
+            (terminal_held self.now command_buffer.now answer_buffer.now) acted }
     {
         match acted {
             Ok(TerminalAct::Send(sent)) => {
-                Ok(TerminalTurn::Send(self.lent(held, joined, &sent).to_block()))
+                Ok(TerminalTurn::Send(self.lent(command_buffer, answer_buffer, &sent).to_block()))
             }
             Ok(TerminalAct::Answered) => Ok(TerminalTurn::Answered),
             Ok(TerminalAct::IfsSet) => Ok(TerminalTurn::IfsSet),

@@ -5,7 +5,7 @@ ghost use Rattle.std.specs.Prelude.{◌≡◌, ◌≤◌, List, ℕ, length};
 ghost use Rattle.t1_core.specs.Views.{terminal_held, IsSlice};
 ghost use Rattle.t1_core.specs.Awaited.{awaited_by_terminal, terminal_awaits_block, is_dead};
 
-use crate::places::TerminalPlaces;
+use crate::lent::LentTerminal;
 use crate::terminal::Terminal;
 use crate::turns::{TerminalAwaits, TerminalWait};
 use std::fmt;
@@ -15,7 +15,7 @@ impl Terminal {
     pub fn ifsc(&self) -> u8
         ensures { result ≡ self.now.ifsc }
     {
-        self.places.ifsc
+        self.state.ifsc
     }
 
     /// The most octets of an information field that the terminal takes now, 1 to 254: whoever frames the
@@ -25,21 +25,21 @@ impl Terminal {
     pub fn ifsd(&self) -> u8
         ensures { result ≡ self.now.ifsd }
     {
-        self.places.ifsd
+        self.state.ifsd
     }
 
     /// What the terminal waits for.
     pub fn awaits(&self) -> TerminalAwaits
         ensures { result ≡ awaited_by_terminal self.now.waits }
     {
-        self.places.awaits()
+        self.state.awaits()
     }
 
     /// Whether a block is awaited: the next call is `received`, or `quiet` where none comes in time.
     pub fn awaits_block(&self) -> bool
         ensures { result ≡ terminal_awaits_block self.now.waits }
     {
-        self.places.awaits_block()
+        self.state.awaits_block()
     }
 
     /// Failures in a row: blocks that were sent again, or asked for again, since the last step forward.
@@ -47,36 +47,36 @@ impl Terminal {
     pub fn failures(&self) -> u8
         ensures { result ≡ self.now.failures }
     {
-        self.places.failures
+        self.state.failures
     }
 
     /// Whether the card was found dead: only `reset` is of use then.
     pub fn is_dead(&self) -> bool
         ensures { result ≡ is_dead self.now.waits }
     {
-        self.places.is_dead()
+        self.state.is_dead()
     }
 
     /// The most octets of a command that the terminal takes: it has room for these.
     pub fn most_command(&self) -> usize
         ensures { result ≡ self.now.limits.command }
     {
-        self.places.most_command
+        self.state.most_command
     }
 
     /// The most octets of an answer that the terminal takes.
     pub fn most_answer(&self) -> usize
         ensures { result ≡ self.now.limits.answer }
     {
-        self.places.most_answer
+        self.state.most_answer
     }
 }
 
-impl TerminalPlaces {
+impl LentTerminal {
     /// What the terminal waits for.
     pub fn awaits(&self) -> TerminalAwaits
-        ensures { (command joined : List ℕ)
-            → result ≡ awaited_by_terminal (terminal_held self.now command joined).waits }
+        ensures { (command answer_buffer : List ℕ)
+            → result ≡ awaited_by_terminal (terminal_held self.now command answer_buffer).waits }
     {
         match self.wait {
             TerminalWait::Idle => TerminalAwaits::Call,
@@ -91,8 +91,8 @@ impl TerminalPlaces {
 
     /// Whether a block is awaited, as [`Terminal::awaits_block`].
     pub fn awaits_block(&self) -> bool
-        ensures { (command joined : List ℕ)
-            → result ≡ terminal_awaits_block (terminal_held self.now command joined).waits }
+        ensures { (command answer_buffer : List ℕ)
+            → result ≡ terminal_awaits_block (terminal_held self.now command answer_buffer).waits }
     {
         match self.wait {
             TerminalWait::Idle | TerminalWait::Dead => false,
@@ -106,20 +106,20 @@ impl TerminalPlaces {
 
     /// Whether the card was found dead.
     pub fn is_dead(&self) -> bool
-        ensures { (command joined : List ℕ)
-            → result ≡ is_dead (terminal_held self.now command joined).waits }
+        ensures { (command answer_buffer : List ℕ)
+            → result ≡ is_dead (terminal_held self.now command answer_buffer).waits }
     {
         matches!(self.wait, TerminalWait::Dead)
     }
 
     /// The answer, as [`Terminal::answer`], in the answer's buffer.
-    pub fn answer<'a>(&self, joined: &'a [u8]) -> Option<&'a [u8]>
-        requires { self.now.joined_len ≤ length joined.now }
+    pub fn answer<'a>(&self, answer_buffer: &'a [u8]) -> Option<&'a [u8]>
+        requires { self.now.answer_len ≤ length answer_buffer.now }
         ensures { (command : List ℕ)
-            → IsSlice result (terminal_held self.now command joined.now).answered }
+            → IsSlice result (terminal_held self.now command answer_buffer.now).answered }
     {
         if self.is_answered {
-            Some(&joined[..self.joined_len])
+            Some(&answer_buffer[..self.answer_len])
         } else {
             None
         }
@@ -131,16 +131,16 @@ impl fmt::Debug for Terminal {
     fn fmt<W: fmt::Write>(&self, f: &mut fmt::Formatter<W>) -> fmt::Result {
         f.debug_struct("Terminal")
             .field("awaits", &self.awaits())
-            .field("failures", &self.places.failures)
-            .field("number", &self.places.number)
-            .field("expected", &self.places.expected)
-            .field("ifsc", &self.places.ifsc)
-            .field("ifsd", &self.places.ifsd)
-            .field("command_octets", &self.places.command_len)
-            .field("answer_octets", &self.places.joined_len)
-            .field("is_answered", &self.places.is_answered)
-            .field("most_command", &self.places.most_command)
-            .field("most_answer", &self.places.most_answer)
+            .field("failures", &self.state.failures)
+            .field("number", &self.state.number)
+            .field("expected", &self.state.expected)
+            .field("ifsc", &self.state.ifsc)
+            .field("ifsd", &self.state.ifsd)
+            .field("command_octets", &self.state.command_len)
+            .field("answer_octets", &self.state.answer_len)
+            .field("is_answered", &self.state.is_answered)
+            .field("most_command", &self.state.most_command)
+            .field("most_answer", &self.state.most_answer)
             .finish()
     }
 }

@@ -2,59 +2,65 @@
 
 ghost use Rattle.std.specs.Prelude.{◌≡◌, ◌≤◌, ◌+◌, ◌++◌, length, false};
 ghost use Rattle.t1_core.specs.Came.{quiet, ready};
-ghost use Rattle.t1_core.specs.Views.{terminal_held, AreTerminalPlaces, came_of, field_at, rest_at, joined_of, IsJoining, IsInner, IsLast, IsSize};
+ghost use Rattle.t1_core.specs.Views.{terminal_held, IsLentTerminal, came_of, field_at, rest_at, joined_of, IsJoining, IsInner, IsLast, IsSize};
 ghost use Rattle.t1_core.specs.Sending.{terminal_sends, terminal_does};
 ghost use Rattle.t1_core.specs.Terminal.{ack, answer, more, most_resynchs, in_exchange, in_ack, in_answer, in_more, in_ifs, in_resynch, joins, fails, turn_of, state_after};
 
 use crate::buffers::append;
 use crate::class::Arrived;
-use crate::places::TerminalPlaces;
+use crate::lent::LentTerminal;
 use crate::sending::{Sent, Short, TerminalAct};
 use crate::terminal::{FIRST_IFSD, MOST_REPEATS, MOST_RESYNCHS};
 use crate::turns::{Cut, TerminalWait};
 use block_core::{Fault, Number, Pcb, S};
 
-impl TerminalPlaces {
+impl LentTerminal {
     /// An I-block of the command that isn't its last is under way.
     pub(super) fn ack_took(
         &mut self,
-        held: &[u8],
-        joined: &[u8],
+        command_buffer: &[u8],
+        answer_buffer: &[u8],
         cut: Cut,
         arrived: &Arrived,
     ) -> TerminalAct
-        requires fit { AreTerminalPlaces self.old (length held.now) (length joined.now) }
+        requires fit { IsLentTerminal self.old (length command_buffer.now)
+            (length answer_buffer.now) }
         requires inner { IsInner cut self.old.command_len }
-        requires waits { (terminal_held self.old held.now joined.now).waits
-            ≡ ack (field_at cut (terminal_held self.old held.now joined.now).command)
-            (rest_at cut (terminal_held self.old held.now joined.now).command) }
+        requires waits { (terminal_held self.old command_buffer.now answer_buffer.now).waits
+            ≡ ack (field_at cut (terminal_held self.old command_buffer.now answer_buffer.now).command)
+            (rest_at cut (terminal_held self.old command_buffer.now answer_buffer.now).command) }
         requires unanswered { self.old.is_answered ≡ false }
-        ensures fit { AreTerminalPlaces self.new (length held.now) (length joined.now) }
-        ensures turn { turn_of (in_ack (terminal_held self.old held.now joined.now)
-            (field_at cut (terminal_held self.old held.now joined.now).command)
-            (rest_at cut (terminal_held self.old held.now joined.now).command)
+        ensures fit { IsLentTerminal self.new (length command_buffer.now)
+            (length answer_buffer.now) }
+        ensures turn { turn_of (in_ack (terminal_held self.old command_buffer.now answer_buffer.now)
+            (field_at cut (terminal_held self.old command_buffer.now answer_buffer.now).command)
+            (rest_at cut (terminal_held self.old command_buffer.now answer_buffer.now).command)
             (came_of arrived.now))
-            ≡ Ok (terminal_does (terminal_held self.new held.now joined.now) result) }
-        ensures state { terminal_held self.new held.now joined.now
-            ≡ state_after (terminal_held self.old held.now joined.now)
-            (in_ack (terminal_held self.old held.now joined.now)
-            (field_at cut (terminal_held self.old held.now joined.now).command)
-            (rest_at cut (terminal_held self.old held.now joined.now).command)
+            ≡ Ok (terminal_does (terminal_held self.new command_buffer.now answer_buffer.now) result) }
+        ensures state { terminal_held self.new command_buffer.now answer_buffer.now
+            ≡ state_after (terminal_held self.old command_buffer.now answer_buffer.now)
+            (in_ack (terminal_held self.old command_buffer.now answer_buffer.now)
+            (field_at cut (terminal_held self.old command_buffer.now answer_buffer.now).command)
+            (rest_at cut (terminal_held self.old command_buffer.now answer_buffer.now).command)
             (came_of arrived.now)) }
     {
         match arrived {
-            Arrived::Damaged | Arrived::Invalid => self.exchange_took(held, joined, arrived),
+            Arrived::Damaged | Arrived::Invalid => self.exchange_took(
+                command_buffer,
+                answer_buffer,
+                arrived,
+            ),
             Arrived::Whole(block) => match block.pcb() {
                 Pcb::Ready { number, .. } => {
                     if number == self.number {
-                        return self.fails(held, joined, Sent::Inner);
+                        return self.fails(command_buffer, answer_buffer, Sent::Inner);
                     }
                     self.failures = 0;
                     self.number = self.number.other();
-                    self.sends_from(held, joined, cut.place + cut.size as usize)
+                    self.sends_from(command_buffer, answer_buffer, cut.place + cut.size as usize)
                 }
                 Pcb::Info { .. } | Pcb::Request(_) | Pcb::Response(_) => {
-                    self.exchange_took(held, joined, arrived)
+                    self.exchange_took(command_buffer, answer_buffer, arrived)
                 }
             },
         }
@@ -63,45 +69,56 @@ impl TerminalPlaces {
     /// The last I-block of the command is under way.
     pub(super) fn answer_took(
         &mut self,
-        held: &[u8],
-        joined: &mut [u8],
+        command_buffer: &[u8],
+        answer_buffer: &mut [u8],
         cut: Cut,
         arrived: &Arrived,
     ) -> TerminalAct
-        requires fit { AreTerminalPlaces self.old (length held.now) (length joined.old) }
+        requires fit { IsLentTerminal self.old (length command_buffer.now)
+            (length answer_buffer.old) }
         requires last { IsLast cut self.old.command_len }
-        requires waits { (terminal_held self.old held.now joined.old).waits
-            ≡ answer (field_at cut (terminal_held self.old held.now joined.old).command) }
-        ensures fit { AreTerminalPlaces self.new (length held.now) (length joined.new) }
-        ensures turn { turn_of (in_answer (terminal_held self.old held.now joined.old)
-            (field_at cut (terminal_held self.old held.now joined.old).command)
+        requires waits { (terminal_held self.old command_buffer.now answer_buffer.old).waits
+            ≡ answer (field_at cut (terminal_held self.old command_buffer.now answer_buffer.old).command) }
+        ensures fit { IsLentTerminal self.new (length command_buffer.now)
+            (length answer_buffer.new) }
+        ensures turn { turn_of (in_answer
+            (terminal_held self.old command_buffer.now answer_buffer.old)
+            (field_at cut (terminal_held self.old command_buffer.now answer_buffer.old).command)
             (came_of arrived.now))
-            ≡ Ok (terminal_does (terminal_held self.new held.now joined.new) result) }
-        ensures state { terminal_held self.new held.now joined.new
-            ≡ state_after (terminal_held self.old held.now joined.old)
-            (in_answer (terminal_held self.old held.now joined.old)
-            (field_at cut (terminal_held self.old held.now joined.old).command)
+            ≡ Ok (terminal_does (terminal_held self.new command_buffer.now answer_buffer.new) result) }
+        ensures state { terminal_held self.new command_buffer.now answer_buffer.new
+            ≡ state_after (terminal_held self.old command_buffer.now answer_buffer.old)
+            (in_answer (terminal_held self.old command_buffer.now answer_buffer.old)
+            (field_at cut (terminal_held self.old command_buffer.now answer_buffer.old).command)
             (came_of arrived.now)) }
     {
         match arrived {
-            Arrived::Damaged | Arrived::Invalid => self.exchange_took(held, joined, arrived),
+            Arrived::Damaged | Arrived::Invalid => self.exchange_took(
+                command_buffer,
+                answer_buffer,
+                arrived,
+            ),
             Arrived::Whole(block) => match block.pcb() {
                 Pcb::Ready { number, .. } => {
                     if number == self.number {
-                        self.fails(held, joined, Sent::Last)
+                        self.fails(command_buffer, answer_buffer, Sent::Last)
                     } else {
-                        self.fails_with(held, joined, Fault::Free)
+                        self.fails_with(command_buffer, answer_buffer, Fault::Free)
                     }
                 }
                 Pcb::Info { number, more } => {
                     let fits = block.inf().len() <= self.most_answer;
                     if !(number == self.expected && fits) {
-                        return self.exchange_took(held, joined, arrived);
+                        return self.exchange_took(command_buffer, answer_buffer, arrived);
                     }
                     self.number = self.number.other();
-                    self.joins(held, joined, block.inf(), more)
+                    self.joins(command_buffer, answer_buffer, block.inf(), more)
                 }
-                Pcb::Request(_) | Pcb::Response(_) => self.exchange_took(held, joined, arrived),
+                Pcb::Request(_) | Pcb::Response(_) => self.exchange_took(
+                    command_buffer,
+                    answer_buffer,
+                    arrived,
+                ),
             },
         }
     }
@@ -109,35 +126,46 @@ impl TerminalPlaces {
     /// The answer goes on.
     pub(super) fn more_took(
         &mut self,
-        held: &[u8],
-        joined: &mut [u8],
+        command_buffer: &[u8],
+        answer_buffer: &mut [u8],
         arrived: &Arrived,
     ) -> TerminalAct
-        requires fit { AreTerminalPlaces self.old (length held.now) (length joined.old) }
-        requires waits { (terminal_held self.old held.now joined.old).waits
-            ≡ more (joined_of (terminal_held self.old held.now joined.old).waits) }
-        ensures fit { AreTerminalPlaces self.new (length held.now) (length joined.new) }
-        ensures turn { turn_of (in_more (terminal_held self.old held.now joined.old)
-            (joined_of (terminal_held self.old held.now joined.old).waits) (came_of arrived.now))
-            ≡ Ok (terminal_does (terminal_held self.new held.now joined.new) result) }
-        ensures state { terminal_held self.new held.now joined.new
-            ≡ state_after (terminal_held self.old held.now joined.old)
-            (in_more (terminal_held self.old held.now joined.old)
-            (joined_of (terminal_held self.old held.now joined.old).waits) (came_of arrived.now)) }
+        requires fit { IsLentTerminal self.old (length command_buffer.now)
+            (length answer_buffer.old) }
+        requires waits { (terminal_held self.old command_buffer.now answer_buffer.old).waits
+            ≡ more (joined_of (terminal_held self.old command_buffer.now answer_buffer.old).waits) }
+        ensures fit { IsLentTerminal self.new (length command_buffer.now)
+            (length answer_buffer.new) }
+        ensures turn { turn_of (in_more
+            (terminal_held self.old command_buffer.now answer_buffer.old)
+            (joined_of (terminal_held self.old command_buffer.now answer_buffer.old).waits) (came_of arrived.now))
+            ≡ Ok (terminal_does (terminal_held self.new command_buffer.now answer_buffer.new) result) }
+        ensures state { terminal_held self.new command_buffer.now answer_buffer.new
+            ≡ state_after (terminal_held self.old command_buffer.now answer_buffer.old)
+            (in_more (terminal_held self.old command_buffer.now answer_buffer.old)
+            (joined_of (terminal_held self.old command_buffer.now answer_buffer.old).waits) (came_of arrived.now)) }
     {
         match arrived {
-            Arrived::Damaged | Arrived::Invalid => self.exchange_took(held, joined, arrived),
+            Arrived::Damaged | Arrived::Invalid => self.exchange_took(
+                command_buffer,
+                answer_buffer,
+                arrived,
+            ),
             Arrived::Whole(block) => match block.pcb() {
-                Pcb::Ready { .. } => self.fails_with(held, joined, Fault::Free),
+                Pcb::Ready { .. } => self.fails_with(command_buffer, answer_buffer, Fault::Free),
                 Pcb::Info { number, more } => {
-                    let fits = self.joined_len + block.inf().len() <= self.most_answer;
+                    let fits = self.answer_len + block.inf().len() <= self.most_answer;
                     if number == self.expected && fits {
-                        self.joins(held, joined, block.inf(), more)
+                        self.joins(command_buffer, answer_buffer, block.inf(), more)
                     } else {
-                        self.exchange_took(held, joined, arrived)
+                        self.exchange_took(command_buffer, answer_buffer, arrived)
                     }
                 }
-                Pcb::Request(_) | Pcb::Response(_) => self.exchange_took(held, joined, arrived),
+                Pcb::Request(_) | Pcb::Response(_) => self.exchange_took(
+                    command_buffer,
+                    answer_buffer,
+                    arrived,
+                ),
             },
         }
     }
@@ -145,20 +173,23 @@ impl TerminalPlaces {
     /// A size was asked for.
     pub(super) fn ifs_took(
         &mut self,
-        held: &[u8],
-        joined: &[u8],
+        command_buffer: &[u8],
+        answer_buffer: &[u8],
         size: u8,
         arrived: &Arrived,
     ) -> TerminalAct
-        requires fit { AreTerminalPlaces self.old (length held.now) (length joined.now) }
+        requires fit { IsLentTerminal self.old (length command_buffer.now)
+            (length answer_buffer.now) }
         requires size { IsSize size }
-        ensures fit { AreTerminalPlaces self.new (length held.now) (length joined.now) }
-        ensures turn { turn_of (in_ifs (terminal_held self.old held.now joined.now) size
+        ensures fit { IsLentTerminal self.new (length command_buffer.now)
+            (length answer_buffer.now) }
+        ensures turn { turn_of (in_ifs (terminal_held self.old command_buffer.now answer_buffer.now)
+            size
             (came_of arrived.now))
-            ≡ Ok (terminal_does (terminal_held self.new held.now joined.now) result) }
-        ensures state { terminal_held self.new held.now joined.now
-            ≡ state_after (terminal_held self.old held.now joined.now)
-            (in_ifs (terminal_held self.old held.now joined.now) size (came_of arrived.now)) }
+            ≡ Ok (terminal_does (terminal_held self.new command_buffer.now answer_buffer.now) result) }
+        ensures state { terminal_held self.new command_buffer.now answer_buffer.now
+            ≡ state_after (terminal_held self.old command_buffer.now answer_buffer.now)
+            (in_ifs (terminal_held self.old command_buffer.now answer_buffer.now) size (came_of arrived.now)) }
     {
         if arrived.responds_with(size) {
             self.failures = 0;
@@ -166,29 +197,40 @@ impl TerminalPlaces {
             self.wait = TerminalWait::Idle;
             return TerminalAct::IfsSet;
         }
-        self.fails(held, joined, Sent::Other(Short::request(S::Ifs, &[size])))
+        self.fails(
+            command_buffer,
+            answer_buffer,
+            Sent::Other(Short::request(S::Ifs, &[size])),
+        )
     }
 
     /// RESYNCH was asked for.
     pub(super) fn resynch_took(
         &mut self,
-        held: &[u8],
-        joined: &[u8],
+        command_buffer: &[u8],
+        answer_buffer: &[u8],
         asked: u8,
         arrived: &Arrived,
     ) -> TerminalAct
-        requires fit { AreTerminalPlaces self.old (length held.now) (length joined.now) }
+        requires fit { IsLentTerminal self.old (length command_buffer.now)
+            (length answer_buffer.now) }
         requires asked { asked ≤ most_resynchs }
-        ensures fit { AreTerminalPlaces self.new (length held.now) (length joined.now) }
-        ensures turn { turn_of (in_resynch (terminal_held self.old held.now joined.now) asked
+        ensures fit { IsLentTerminal self.new (length command_buffer.now)
+            (length answer_buffer.now) }
+        ensures turn { turn_of (in_resynch
+            (terminal_held self.old command_buffer.now answer_buffer.now) asked
             (came_of arrived.now))
-            ≡ Ok (terminal_does (terminal_held self.new held.now joined.now) result) }
-        ensures state { terminal_held self.new held.now joined.now
-            ≡ state_after (terminal_held self.old held.now joined.now)
-            (in_resynch (terminal_held self.old held.now joined.now) asked (came_of arrived.now)) }
+            ≡ Ok (terminal_does (terminal_held self.new command_buffer.now answer_buffer.now) result) }
+        ensures state { terminal_held self.new command_buffer.now answer_buffer.now
+            ≡ state_after (terminal_held self.old command_buffer.now answer_buffer.now)
+            (in_resynch (terminal_held self.old command_buffer.now answer_buffer.now) asked (came_of arrived.now)) }
     {
         match arrived {
-            Arrived::Damaged | Arrived::Invalid => self.resynch_again(held, joined, asked),
+            Arrived::Damaged | Arrived::Invalid => self.resynch_again(
+                command_buffer,
+                answer_buffer,
+                asked,
+            ),
             Arrived::Whole(block) => match block.pcb() {
                 Pcb::Response(S::Resynch) => {
                     self.number = Number::Zero;
@@ -202,21 +244,29 @@ impl TerminalPlaces {
                 Pcb::Response(S::Ifs | S::Abort | S::Wtx)
                 | Pcb::Info { .. }
                 | Pcb::Ready { .. }
-                | Pcb::Request(_) => self.resynch_again(held, joined, asked),
+                | Pcb::Request(_) => self.resynch_again(command_buffer, answer_buffer, asked),
             },
         }
     }
 
     /// RESYNCH is asked for again, or the card is found dead.
-    pub(super) fn resynch_again(&mut self, held: &[u8], joined: &[u8], asked: u8) -> TerminalAct
-        requires fit { AreTerminalPlaces self.old (length held.now) (length joined.now) }
+    pub(super) fn resynch_again(
+        &mut self,
+        command_buffer: &[u8],
+        answer_buffer: &[u8],
+        asked: u8,
+    ) -> TerminalAct
+        requires fit { IsLentTerminal self.old (length command_buffer.now)
+            (length answer_buffer.now) }
         requires asked { asked ≤ most_resynchs }
-        ensures fit { AreTerminalPlaces self.new (length held.now) (length joined.now) }
-        ensures turn { turn_of (in_resynch (terminal_held self.old held.now joined.now) asked quiet)
-            ≡ Ok (terminal_does (terminal_held self.new held.now joined.now) result) }
-        ensures state { terminal_held self.new held.now joined.now
-            ≡ state_after (terminal_held self.old held.now joined.now)
-            (in_resynch (terminal_held self.old held.now joined.now) asked quiet) }
+        ensures fit { IsLentTerminal self.new (length command_buffer.now)
+            (length answer_buffer.now) }
+        ensures turn { turn_of (in_resynch
+            (terminal_held self.old command_buffer.now answer_buffer.now) asked quiet)
+            ≡ Ok (terminal_does (terminal_held self.new command_buffer.now answer_buffer.now) result) }
+        ensures state { terminal_held self.new command_buffer.now answer_buffer.now
+            ≡ state_after (terminal_held self.old command_buffer.now answer_buffer.now)
+            (in_resynch (terminal_held self.old command_buffer.now answer_buffer.now) asked quiet) }
     {
         if asked < MOST_RESYNCHS {
             self.wait = TerminalWait::Resynch(asked + 1);
@@ -228,21 +278,31 @@ impl TerminalPlaces {
     }
 
     /// An I-block of the answer that fits is joined.
-    fn joins(&mut self, held: &[u8], joined: &mut [u8], inf: &[u8], more: bool) -> TerminalAct
-        requires fit { AreTerminalPlaces self.old (length held.now) (length joined.old) }
-        requires joining { IsJoining (terminal_held self.old held.now joined.old).waits }
-        requires fits { length (joined_of (terminal_held self.old held.now joined.old).waits)
+    fn joins(
+        &mut self,
+        command_buffer: &[u8],
+        answer_buffer: &mut [u8],
+        inf: &[u8],
+        more: bool,
+    ) -> TerminalAct
+        requires fit { IsLentTerminal self.old (length command_buffer.now)
+            (length answer_buffer.old) }
+        requires joining { IsJoining
+            (terminal_held self.old command_buffer.now answer_buffer.old).waits }
+        requires fits { length (joined_of
+            (terminal_held self.old command_buffer.now answer_buffer.old).waits)
             + length inf.now ≤ self.old.most_answer }
-        ensures fit { AreTerminalPlaces self.new (length held.now) (length joined.new) }
-        ensures turn { turn_of (joins (terminal_held self.old held.now joined.old)
-            (joined_of (terminal_held self.old held.now joined.old).waits ++ inf.now) more)
-            ≡ Ok (terminal_does (terminal_held self.new held.now joined.new) result) }
-        ensures state { terminal_held self.new held.now joined.new
-            ≡ state_after (terminal_held self.old held.now joined.old)
-            (joins (terminal_held self.old held.now joined.old)
-            (joined_of (terminal_held self.old held.now joined.old).waits ++ inf.now) more) }
+        ensures fit { IsLentTerminal self.new (length command_buffer.now)
+            (length answer_buffer.new) }
+        ensures turn { turn_of (joins (terminal_held self.old command_buffer.now answer_buffer.old)
+            (joined_of (terminal_held self.old command_buffer.now answer_buffer.old).waits ++ inf.now) more)
+            ≡ Ok (terminal_does (terminal_held self.new command_buffer.now answer_buffer.new) result) }
+        ensures state { terminal_held self.new command_buffer.now answer_buffer.new
+            ≡ state_after (terminal_held self.old command_buffer.now answer_buffer.old)
+            (joins (terminal_held self.old command_buffer.now answer_buffer.old)
+            (joined_of (terminal_held self.old command_buffer.now answer_buffer.old).waits ++ inf.now) more) }
     {
-        self.joined_len = append(joined, self.joined_len, inf);
+        self.answer_len = append(answer_buffer, self.answer_len, inf);
         self.failures = 0;
         self.expected = self.expected.other();
         if more {
@@ -256,16 +316,23 @@ impl TerminalPlaces {
     }
 
     /// A failure: the block is sent, or RESYNCH is asked for.
-    pub(super) fn fails(&mut self, held: &[u8], joined: &[u8], sent: Sent) -> TerminalAct
-        requires fit { AreTerminalPlaces self.old (length held.now) (length joined.now) }
-        ensures fit { AreTerminalPlaces self.new (length held.now) (length joined.now) }
-        ensures turn { turn_of (fails (terminal_held self.old held.now joined.now)
-            (terminal_sends (terminal_held self.old held.now joined.now) sent))
-            ≡ Ok (terminal_does (terminal_held self.new held.now joined.now) result) }
-        ensures state { terminal_held self.new held.now joined.now
-            ≡ state_after (terminal_held self.old held.now joined.now)
-            (fails (terminal_held self.old held.now joined.now)
-            (terminal_sends (terminal_held self.old held.now joined.now) sent)) }
+    pub(super) fn fails(
+        &mut self,
+        command_buffer: &[u8],
+        answer_buffer: &[u8],
+        sent: Sent,
+    ) -> TerminalAct
+        requires fit { IsLentTerminal self.old (length command_buffer.now)
+            (length answer_buffer.now) }
+        ensures fit { IsLentTerminal self.new (length command_buffer.now)
+            (length answer_buffer.now) }
+        ensures turn { turn_of (fails (terminal_held self.old command_buffer.now answer_buffer.now)
+            (terminal_sends (terminal_held self.old command_buffer.now answer_buffer.now) sent))
+            ≡ Ok (terminal_does (terminal_held self.new command_buffer.now answer_buffer.now) result) }
+        ensures state { terminal_held self.new command_buffer.now answer_buffer.now
+            ≡ state_after (terminal_held self.old command_buffer.now answer_buffer.now)
+            (fails (terminal_held self.old command_buffer.now answer_buffer.now)
+            (terminal_sends (terminal_held self.old command_buffer.now answer_buffer.now) sent)) }
     {
         if self.failures < MOST_REPEATS {
             self.failures += 1;
@@ -276,34 +343,49 @@ impl TerminalPlaces {
     }
 
     /// A failure, of which an R-block tells the card.
-    pub(super) fn fails_with(&mut self, held: &[u8], joined: &[u8], fault: Fault) -> TerminalAct
-        requires fit { AreTerminalPlaces self.old (length held.now) (length joined.now) }
-        ensures fit { AreTerminalPlaces self.new (length held.now) (length joined.now) }
-        ensures turn { turn_of (fails (terminal_held self.old held.now joined.now)
-            (ready (terminal_held self.old held.now joined.now).expected fault))
-            ≡ Ok (terminal_does (terminal_held self.new held.now joined.now) result) }
-        ensures state { terminal_held self.new held.now joined.now
-            ≡ state_after (terminal_held self.old held.now joined.now)
-            (fails (terminal_held self.old held.now joined.now)
-            (ready (terminal_held self.old held.now joined.now).expected fault)) }
+    pub(super) fn fails_with(
+        &mut self,
+        command_buffer: &[u8],
+        answer_buffer: &[u8],
+        fault: Fault,
+    ) -> TerminalAct
+        requires fit { IsLentTerminal self.old (length command_buffer.now)
+            (length answer_buffer.now) }
+        ensures fit { IsLentTerminal self.new (length command_buffer.now)
+            (length answer_buffer.now) }
+        ensures turn { turn_of (fails (terminal_held self.old command_buffer.now answer_buffer.now)
+            (ready (terminal_held self.old command_buffer.now answer_buffer.now).expected fault))
+            ≡ Ok (terminal_does (terminal_held self.new command_buffer.now answer_buffer.now) result) }
+        ensures state { terminal_held self.new command_buffer.now answer_buffer.now
+            ≡ state_after (terminal_held self.old command_buffer.now answer_buffer.now)
+            (fails (terminal_held self.old command_buffer.now answer_buffer.now)
+            (ready (terminal_held self.old command_buffer.now answer_buffer.now).expected fault)) }
     {
         self.fails(
-            held,
-            joined,
+            command_buffer,
+            answer_buffer,
             Sent::Other(Short::ready(self.expected, fault)),
         )
     }
 
     /// In an exchange, what is taken alike whatever the terminal waits for.
-    fn exchange_took(&mut self, held: &[u8], joined: &[u8], arrived: &Arrived) -> TerminalAct
-        requires fit { AreTerminalPlaces self.old (length held.now) (length joined.now) }
-        ensures fit { AreTerminalPlaces self.new (length held.now) (length joined.now) }
-        ensures turn { turn_of (in_exchange (terminal_held self.old held.now joined.now)
+    fn exchange_took(
+        &mut self,
+        command_buffer: &[u8],
+        answer_buffer: &[u8],
+        arrived: &Arrived,
+    ) -> TerminalAct
+        requires fit { IsLentTerminal self.old (length command_buffer.now)
+            (length answer_buffer.now) }
+        ensures fit { IsLentTerminal self.new (length command_buffer.now)
+            (length answer_buffer.now) }
+        ensures turn { turn_of (in_exchange
+            (terminal_held self.old command_buffer.now answer_buffer.now)
             (came_of arrived.now))
-            ≡ Ok (terminal_does (terminal_held self.new held.now joined.now) result) }
-        ensures state { terminal_held self.new held.now joined.now
-            ≡ state_after (terminal_held self.old held.now joined.now)
-            (in_exchange (terminal_held self.old held.now joined.now) (came_of arrived.now)) }
+            ≡ Ok (terminal_does (terminal_held self.new command_buffer.now answer_buffer.now) result) }
+        ensures state { terminal_held self.new command_buffer.now answer_buffer.now
+            ≡ state_after (terminal_held self.old command_buffer.now answer_buffer.now)
+            (in_exchange (terminal_held self.old command_buffer.now answer_buffer.now) (came_of arrived.now)) }
     {
         let fault = match arrived {
             Arrived::Damaged => Fault::Redundancy,
@@ -319,6 +401,6 @@ impl TerminalPlaces {
                 _ => Fault::Other,
             },
         };
-        self.fails_with(held, joined, fault)
+        self.fails_with(command_buffer, answer_buffer, fault)
     }
 }

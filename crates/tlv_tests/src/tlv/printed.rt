@@ -7,8 +7,8 @@ use std::fmt::Display;
 use std::process::Abort;
 use testing::{debugs, same, shows};
 use tlv_core::{
-    CheckPlaces, DolReason, FillFault, Forest, ForestCheck, ForestReader, Improper, Known,
-    LARGEST_FOREST, Part, TlvReason,
+    DolReason, FillFault, Forest, ForestCheck, ForestReader, Improper, Known, LARGEST_FOREST,
+    LentCheck, Part, TlvReason,
 };
 
 const REASONS: [(TlvReason, &str); 6] = [
@@ -68,8 +68,8 @@ fn check_under_way(rt: &impl Abort) -> ForestCheck {
 }
 
 /// The places of a check that took five octets of the object.
-fn places_under_way(rt: &impl Abort) -> CheckPlaces {
-    let mut places = CheckPlaces::begin(LARGEST_FOREST);
+fn places_under_way(rt: &impl Abort) -> LentCheck {
+    let mut places = LentCheck::begin(LARGEST_FOREST);
     places.feed(&OBJECTS[..5]).expect(rt, "octets of a forest");
     places
 }
@@ -78,7 +78,7 @@ fn places_under_way(rt: &impl Abort) -> CheckPlaces {
 fn debug_of_a_check_shows_no_octet(rt: HostRuntime) {
     let seen = "ForestCheck { taken: 5, open_objects: 1, value_octets_left: 2, refusal: None }";
     assert!(rt; debugs(rt.alloc(), &check_under_way(&rt), seen));
-    let seen = "CheckPlaces { taken: 5, open_objects: 1, value_octets_left: 2, refused: None }";
+    let seen = "LentCheck { taken: 5, open_objects: 1, value_octets_left: 2, refused: None }";
     assert!(rt; debugs(rt.alloc(), &places_under_way(&rt), seen));
 }
 

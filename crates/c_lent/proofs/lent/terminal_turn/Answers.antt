@@ -9,12 +9,12 @@ use Rattle.c_lent.proofs.lent.terminal_turn.Goals as goal
 
 pub returns : goal.returns
 returns c =
-    let p = c.in-Some.places in
+    let p = c.in-Some.end in
     let before : TerminalState = terminal_held p c.args.command.now c.args.answer.now in
     record {
       room = λ lt. absurd (omega (arith, lt, c.if-out-lt-LONGEST_BLOCK.false));
       none = λ le none. absurd (none before (record {
-        places = p;
+        end = p;
         spelled = c.in-Some.ensures.some.0;
         fit = c.in-Some.ensures.some.1;
         held = refl;
@@ -26,7 +26,7 @@ returns c =
           (sym (held-by c.args.state.now c.args.command.now c.args.answer.now t p c.in-Some.ensures.some.0 is))
           (record {
             state = record {
-              places = c.lend-put.new.end;
+              end = c.lend-put.new.end;
               spelled = c.of-2.ensures;
               fit = c.lend-put.ensures.fit;
               held = sym c.lend-put.ensures.state;

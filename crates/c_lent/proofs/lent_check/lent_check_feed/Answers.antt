@@ -5,7 +5,7 @@ use Rattle.tlv_core.specs.declared.reason.TlvReason.{TlvReason}
 use Rattle.tlv_core.specs.Forest.{IsForest}
 use Rattle.tlv_core.specs.Reasons.{IsReason}
 use Rattle.tlv_core.specs.Check.{Checked, HasChecked}
-use Rattle.tlv_core.specs.Places.{checked_at}
+use Rattle.tlv_core.specs.Lent.{checked_at}
 use Rattle.c_lent.specs.Pieces.{told_checked}
 use Rattle.c_lent.specs.LentCheck.{FeedsCheck}
 use Rattle.c_lent.proofs.Lending.{check-held-by}
@@ -13,14 +13,14 @@ use Rattle.c_lent.proofs.lent_check.lent_check_feed.Goals as goal
 
 pub returns : goal.returns
 returns c =
-    let p = c.in-Some.places in
+    let p = c.in-Some.check in
     let old : Checked = checked_at p in
     let new : Checked = checked_at c.feed-answer.new.self in
     let piece = c.args.piece.now in
     let answer = c.feed-answer.ensures.answer in
     record {
       none = λ none. absurd (none old (record {
-        places = p;
+        check = p;
         spelled = c.in-Some.ensures.some.0;
         fit = c.in-Some.ensures.some.1;
         held = refl;
@@ -31,7 +31,7 @@ returns c =
           (record {
             new = new;
             is = record {
-              places = c.feed-answer.new.self;
+              check = c.feed-answer.new.self;
               spelled = c.of.ensures;
               fit =
                   c.feed-answer.ensures.fit;

@@ -16,7 +16,7 @@ returns-clause-ok c = λ _.
     (λ few. (
       c.ok.ensures,
       λ message room. record {
-        places = c.begin.result;
+        receiver = c.begin.result;
         spelled = c.of.ensures;
         fit = c.begin.ensures.fit (length message) room;
         held = sym (c.begin.ensures.fresh message);

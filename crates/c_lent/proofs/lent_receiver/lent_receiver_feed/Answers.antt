@@ -1,18 +1,18 @@
 use Rattle.std.proofs.Common.{refl, sym, subst}
 use Rattle.chain_core.specs.Taking.{Taking}
-use Rattle.chain_core.specs.Places.{received_at}
+use Rattle.chain_core.specs.Lent.{received_at}
 use Rattle.c_lent.specs.LentReceiver.{FeedsReceiver}
 use Rattle.c_lent.proofs.Lending.{receiver-held-by}
 use Rattle.c_lent.proofs.lent_receiver.lent_receiver_feed.Goals as goal
 
 pub returns : goal.returns
 returns c =
-    let p = c.in-Some.places in
+    let p = c.in-Some.receiver in
     let old : Taking = received_at p c.args.message.now in
     let after = c.feed-answer.new.message in
     record {
       none = λ none. absurd (none old (record {
-        places = p;
+        receiver = p;
         spelled = c.in-Some.ensures.some.0;
         fit = c.in-Some.ensures.some.1;
         held = refl;
@@ -23,7 +23,7 @@ returns c =
           (record {
             new = received_at c.feed-answer.new.self after;
             is = record {
-              places = c.feed-answer.new.self;
+              receiver = c.feed-answer.new.self;
               spelled = c.of.ensures;
               fit =
                   c.feed-answer.ensures.fit;

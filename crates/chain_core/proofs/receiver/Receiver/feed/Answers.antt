@@ -1,7 +1,7 @@
 use Rattle.std.proofs.Common.{subst}
 use Rattle.chain_core.specs.Taking.{Taking}
 use Rattle.chain_core.specs.Receiving.{Fed}
-use Rattle.chain_core.specs.Places.{received_at}
+use Rattle.chain_core.specs.Lent.{received_at}
 use Rattle.chain_core.specs.Wiped.{held_in}
 use Rattle.chain_core.proofs.Feeds.{before-all, fed-answered, fed-taken}
 use Rattle.chain_core.proofs.receiver.Receiver.feed.Goals as goal
@@ -18,7 +18,7 @@ fed c = subst (λ (r : Taking). Fed r (after c) c.args.piece.now c.take-taken.re
 pub invariant_of-self : goal.invariant_of-self
 invariant_of-self c = record {
   stored = c.take-taken.ensures.stored;
-  taken = fed-taken (received_at c.self.inside.places (held_in c.self.inside.message)) (after c) c.args.piece.now
+  taken = fed-taken (received_at c.self.inside.state (held_in c.self.inside.message)) (after c) c.args.piece.now
       c.take-taken.result c.take-taken.ensures.fed c.self.invariant.taken;
 }
 

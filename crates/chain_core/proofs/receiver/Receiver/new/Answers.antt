@@ -5,6 +5,6 @@ use Rattle.chain_core.proofs.receiver.Receiver.new.Goals as goal
 
 pub invariant_of-result : goal.invariant_of-result
 invariant_of-result c =
-    receiver-fresh c.begin-places.result (held_in c.in_ok-message.message) _ c.args.ifs c.args.number c.args.max
-    (c.begin-places.ensures.fit _ (omega (arith, c.in_ok-message.ensures.room))) c.in_ok-message.ensures.none
-    c.begin-places.ensures.fresh
+    receiver-fresh c.begin-state.result (held_in c.in_ok-message.message) _ c.args.ifs c.args.number c.args.max
+    (c.begin-state.ensures.fit _ (omega (arith, c.in_ok-message.ensures.room))) c.in_ok-message.ensures.none
+    c.begin-state.ensures.fresh
