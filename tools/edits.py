@@ -13,6 +13,10 @@ Function = collections.namedtuple("Function", "file name owner first last")
 Edit = collections.namedtuple("Edit", "name pairs functions")
 
 
+# The edits of more-edits that the gate tries.
+FIRST = TOP / "tools/first-edits.txt"
+
+
 class Unusable(Exception):
     """An edit that can't be tried, and why."""
 
@@ -60,8 +64,14 @@ def read_edit(path, folder):
 
 
 def edits_of(folder):
-    """The files of a crate's edits, those that the gate tries and the further ones."""
+    """The files of a crate's edits."""
     return sorted(it for kind in ("must-fail", "more-edits") for it in (folder / kind).glob("*.edit"))
+
+
+def first_edits():
+    """The edits of more-edits that the gate tries, by crate."""
+    rows = [it.split("#")[0].partition(":") for it in FIRST.read_text().splitlines()]
+    return {name.strip(): edits.split() for name, _, edits in rows if edits}
 
 
 def read_edits(name, chosen):
