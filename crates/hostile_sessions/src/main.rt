@@ -1,5 +1,6 @@
 //! Hostile use of sessions: calls and events that are refused, damaged blocks in each state of both ends, blocks that are
-//! lost or changed in turn, sessions drawn by a generator, and files of sessions that were changed.
+//! lost or changed in turn, sessions drawn by a generator, exchanges over a line that harms bursts, and files of sessions
+//! that were changed.
 //!
 //! It writes a line for each list of cases, with how many there were. The first case that goes wrong is printed, and the
 //! program ends with status 1. On the word few it tries a few cases of the long lists.
@@ -14,6 +15,7 @@ mod records;
 mod refusals;
 mod sessions;
 mod states;
+mod timed;
 mod turns;
 mod usable;
 
@@ -74,6 +76,7 @@ fn tell_of(rt: &HostRuntime, files: &[Vec<u8>], sessions: &[Exchange]) -> Result
     tell(rt, deliveries::deliver_each(alloc, share))?;
     tell(rt, pairs::disturb_each(alloc, share))?;
     tell(rt, drawn::draw_each(alloc, share))?;
+    tell(rt, timed::harm_each(alloc, share))?;
     tell(rt, files::spoil_each(alloc, files, share))
 }
 

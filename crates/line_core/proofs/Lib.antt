@@ -1,3 +1,6 @@
+pub mod Heard
+pub mod Harmed
+pub mod Timing
 pub mod Ready
 pub mod Running
 pub mod Answered

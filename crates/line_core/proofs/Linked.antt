@@ -27,7 +27,8 @@ use Rattle.line_core.specs.Line as line
 use Rattle.line_core.specs.Exchange.{Ending, done, given_up, dead as is_dead, line_failed, used_up, refused, sends, ends, next_of, next_after, left_after, Runs}
 use Rattle.line_core.specs.Service.{Doing, hears, says, asks, doing_of}
 use Rattle.line_core.specs.Service as at_card
-use Rattle.line_core.specs.Joined.{IsNoBlock, Passes, Returns, IsSaid, IsAnswered, IsLost, IsTrip, Trip, talks_of, events_of, Call, IsCall, HaveRun, events_in, joined, begun, ended, exchanges_of, is_about_size, answer_unless, services_of, IsLink, TwoEnds, AlwaysLinked, AlwaysMatched, AlwaysInOrder, AlwaysPatientCalls, passing_faults, returning_faults, said_faults, answering_faults, losing_faults, trip_faults, faults_of, faults_before, IsPatientEnd, ArePatient}
+use Rattle.line_core.specs.Bursts.{IsNoBlock}
+use Rattle.line_core.specs.Joined.{Passes, Returns, IsSaid, IsAnswered, IsLost, IsTrip, Trip, talks_of, events_of, Call, IsCall, HaveRun, events_in, joined, begun, ended, exchanges_of, is_about_size, answer_unless, services_of, IsLink, TwoEnds, AlwaysLinked, AlwaysMatched, AlwaysInOrder, AlwaysPatientCalls, passing_faults, returning_faults, said_faults, answering_faults, losing_faults, trip_faults, faults_of, faults_before, IsPatientEnd, ArePatient}
 use Rattle.line_core.proofs.Steps.{IsAbout, IsRest, Keeps, came-kept, transmit-kept, transmit-sends, ask-kept, ask-sends, about-now, dead-rests, IsServing, CardKeeps, card-came-kept, replies-kept}
 use Rattle.line_core.proofs.Acting.{Acts, all-act}
 

@@ -1,29 +1,30 @@
 -- A line with two ends: what its terminal sends comes to its card, and the card's answer comes back, but for what is
 -- lost or damaged. So the calls of both ends are one history.
-use Rattle.std.specs.Prelude.{◌≡◌, ◌≤◌, ◌<◌, ◌⊎◌, ℕ, ◌+◌, Bool, true, false, List, [], ◌∷◌, ◌++◌, Option, Some, None, Ok, Err}
+use Rattle.std.specs.Prelude.{◌≡◌, ◌≤◌, ◌<◌, ◌⊎◌, ℕ, ◌+◌, Bool, true, false, List, [], ◌∷◌, ◌++◌, take, Option, Some, None, Ok, Err}
 use Rattle.std.proofs.Common.{inl, inr}
 use Rattle.octet_core.specs.Octets.{AreOctets}
-use Rattle.t1_core.specs.Came.{Came, got, damaged, invalid, quiet, class_of}
+use Rattle.block_core.specs.Block.{Parts, IsProper, spelling}
+use Rattle.t1_core.specs.Came.{got, damaged, invalid, quiet, class_of}
 use Rattle.t1_core.specs.Terminal.{TerminalState, TerminalStep, TerminalInput, Waits, idle, ack, answer as for_answer, more as for_more, ifs, resynch, dead as found_dead, transmit, ask_ifs, takes, terminal_turn, turn_of, state_after, Limits, terminal_with}
 use Rattle.t1_core.specs.Card.{CardState, card_with}
 use Rattle.t1_core.specs.Link.{Link, Exchange, answered, unanswered, command_of, with_reply, without_answer, tables, run, link_with}
 use Rattle.t1_core.specs.Link as link
 use Rattle.t1_core.specs.Promises.{AllHandOctets, Matches, NoneGivenUp, Serves as InOrder}
+use Rattle.line_core.specs.Bursts.{IsNoBlock, IsHarmed, handed}
 use Rattle.line_core.specs.Line.{Arrival, block, nothing, failure, Talk}
 use Rattle.line_core.specs.Exchange.{Ending, done, given_up, dead, line_failed, used_up, refused, Runs, next_of}
 use Rattle.line_core.specs.Service.{Event, came, asked, sent, unsent, hears, Serves}
 use Rattle.line_core.specs.Service as at_card
 
--- no block, and not quiet either
-abbrev pub IsNoBlock : Came → Type 0
-IsNoBlock (got pcb inf) = ⊥
-IsNoBlock damaged = Unit {0}
-IsNoBlock invalid = Unit {0}
-IsNoBlock quiet = ⊥
-
 -- These octets came where those were sent: the same, or what no end takes for a block, whatever size it holds.
 abbrev pub Passes : List ℕ → List ℕ → Type 0
 Passes octets here = (here ≡ octets) ⊎ ((size : ℕ) → IsNoBlock (class_of size here))
+
+-- A burst that came as it was sent, or with one octet that is another one, octets missing at its end or octets after it,
+-- hands over what passes: the octets, or what no end takes for a block.
+abbrev pub AlwaysPasses : Type 0
+AlwaysPasses = (sent : Parts) → IsProper 254 sent → (burst : List ℕ) → AreOctets burst
+    → (burst ≡ spelling sent) ⊎ IsHarmed (spelling sent) burst → Passes (spelling sent) (take handed burst)
 
 -- This came to the terminal where the card sent those octets: they may be lost, and the terminal's line may fail.
 abbrev pub Returns : List ℕ → Arrival → Type 0

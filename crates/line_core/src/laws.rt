@@ -3,7 +3,8 @@
 //! `specs/Joined.antt` has the statements: calls of `exchange`, `ask_ifs` and `resume` at one end, and of `serve`
 //! at the other, over a line which gives each end what the other one sent, but for what is lost or damaged.
 
-ghost use Rattle.line_core.specs.Joined.{AlwaysLinked, AlwaysMatched, AlwaysInOrder, AlwaysPatientCalls, AlwaysOnce};
+ghost use Rattle.line_core.specs.Bursts.{AlwaysNoBlock};
+ghost use Rattle.line_core.specs.Joined.{AlwaysPasses, AlwaysLinked, AlwaysMatched, AlwaysInOrder, AlwaysPatientCalls, AlwaysOnce};
 
 /// The calls of a new terminal and of a new card are a history of t1_core's link: so what its laws promise of the
 /// link they promise of these calls.
@@ -49,4 +50,18 @@ pub fn once()
     ensures { AlwaysOnce }
 {
     matched();
+}
+
+/// No end takes for a block what is left of a burst, of which one octet is another one, or octets are missing at its
+/// end, or follow it: whatever block it was, and whatever size the end holds (ISO/IEC 7816-3, clauses 11.3 and 11.4.4).
+pub fn no_block()
+    ensures { AlwaysNoBlock }
+{}
+
+/// So such a burst is a damaged block to the other laws: over a line that does nothing else, and loses blocks, each
+/// answered exchange is one that the card's host served, and each command is acted on at most once.
+pub fn harmed_passes()
+    ensures { AlwaysPasses }
+{
+    no_block();
 }

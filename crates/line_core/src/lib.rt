@@ -6,24 +6,31 @@
 //! `specs/Exchange.antt` says what these do: what was on the line is a run of the terminal's table
 //! over what came. [`exchange_command`] makes such a run of a command as a value, and
 //! [`response_of`] reads the answer. [`begin_by_resynch`] begins with a card that can't be reset:
-//! `specs/Resynch.antt`. [`UntimedLine`] is a line over a reader and a writer of octets,
-//! which wait by their own clock. At the other end [`serve`] has a card answer what comes over a [`CardLine`],
+//! `specs/Resynch.antt`. At the other end [`serve`] has a card answer what comes over a [`CardLine`],
 //! with the replies of its [`Host`]: `specs/Service.antt`. What holds of both ends over one line are the [`laws`].
+//!
+//! A [`TimedLine`] is a line of either kind over a [`TimedDevice`], the driver of a serial port: a [`Framer`] cuts
+//! what comes into bursts by silence, and a burst is a block only as a whole: `specs/Bursts.antt` and
+//! `specs/Timed.antt`. An [`UntimedLine`] is a line over a reader and a writer of octets with no clock.
 #![tactic(auto)]
 
 pub mod commanding;
 pub mod exchanging;
 pub mod fault;
+pub mod framing;
 pub mod laws;
 pub mod line;
 pub mod resynching;
 pub mod serving;
 pub mod streaming;
+pub mod timed;
 
 pub use commanding::{exchange_command, response_of};
 pub use exchanging::{LONGEST_ARRIVAL, ask_ifs, exchange, resume};
 pub use fault::TransceiveFault;
+pub use framing::Framer;
 pub use line::{Received, TerminalLine};
 pub use resynching::begin_by_resynch;
 pub use serving::{CardLine, Host, ServeFault, serve};
 pub use streaming::UntimedLine;
+pub use timed::{Silences, TimedDevice, TimedLine};

@@ -14,8 +14,11 @@ use block_core::block_len;
 use octet_core::{Sink, Source, write_octets};
 use std::io::{self, ErrorKind};
 
-/// A line over a reader and a writer, as those of a serial port, that has no clock: a `TerminalLine` for a terminal,
-/// and a `CardLine` for a card.
+/// A line over a reader and a writer that can't see a silence: it ends a block where LEN says, and never looks at what
+/// follows. So one damaged LEN can make another block of it. It is right over packets, pipes and in tests, where octets
+/// come as they were sent; over a serial port use a [`TimedLine`](crate::TimedLine).
+///
+/// It is a `TerminalLine` for a terminal, and a `CardLine` for a card.
 ///
 /// The waiting time of `transceive` isn't handed on: how long a block is waited for is the reader's affair. A reader
 /// that blocks for ever makes a terminal wait for ever where the card is silent. So who uses this line for a terminal

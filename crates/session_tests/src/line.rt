@@ -8,6 +8,7 @@ mod scripted;
 mod serving;
 mod steps;
 mod streams;
+mod timed;
 
 use line_core::TransceiveFault;
 use t1_core::{Terminal, TerminalFault};
