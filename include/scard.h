@@ -21,10 +21,10 @@
  * header is the library's.
  */
 #define SCARD_VERSION_MAJOR 1
-#define SCARD_VERSION_MINOR 0
+#define SCARD_VERSION_MINOR 1
 #define SCARD_VERSION_PATCH 0
 #define SCARD_VERSION (SCARD_VERSION_MAJOR * 1000000 + SCARD_VERSION_MINOR * 1000 + SCARD_VERSION_PATCH)
-#define SCARD_VERSION_TEXT "1.0.0"
+#define SCARD_VERSION_TEXT "1.1.0"
 
 #include <stdbool.h>
 #include <stddef.h>
@@ -41,6 +41,17 @@
 #else
 #define SCARD_MUST_USE
 #endif
+#endif
+
+/* What counts octets in a struct. It has 64 bits on every machine, so the structs are the same on all of them, and is
+ * size_t where that has 64 bits.
+ */
+#if SIZE_MAX > 0xFFFFFFFFu
+typedef size_t scard_size;
+#elif defined(__GNUC__)
+typedef uint64_t scard_size __attribute__((aligned(8)));
+#else
+typedef uint64_t scard_size;
 #endif
 
 #ifdef __cplusplus
@@ -72,7 +83,7 @@ enum scard_status {
 struct scard_verdict {
     uint8_t status; /* enum scard_status */
     uint8_t reason; /* the reason by the codec, below; 0 unless the status is SCARD_AT */
-    size_t place;   /* what the status says: at SCARD_OK the octets that were written or taken, at SCARD_ARGUMENT the
+    scard_size place;   /* what the status says: at SCARD_OK the octets that were written or taken, at SCARD_ARGUMENT the
                        room that is needed, while nothing was written. So look at the status first. */
 };
 
@@ -147,7 +158,7 @@ enum scard_hex_reason {
 /* A text that the library has, and that never changes. */
 struct scard_text {
     const char *text; /* a 0 is after it */
-    size_t size;      /* its octets, with the 0 */
+    scard_size size;      /* its octets, with the 0 */
 };
 
 /* Write where a name is: of a status ("SHORT"), of a turn's kind ("SEND"), of a reason of a codec ("BadTck"). It is ""
@@ -199,9 +210,9 @@ enum scard_noted {
  */
 struct scard_note {
     const char *before;
-    size_t before_size;
+    scard_size before_size;
     const char *after;
-    size_t after_size;
+    scard_size after_size;
     uint32_t number;
     uint8_t has_number;
 };
@@ -388,13 +399,13 @@ struct scard_command {
     uint8_t shape; /* enum scard_shape */
     uint8_t has_le;    /* 1 where there is an Le field, else 0 */
     uint32_t le;       /* the most octets that are expected back; 0 where there is no Le */
-    size_t data_place; /* the data field is data_len octets from this place on of the octets */
-    size_t data_len;
+    scard_size data_place; /* the data field is data_len octets from this place on of the octets */
+    scard_size data_len;
 };
 
 struct scard_response {
     uint8_t sw1, sw2;
-    size_t data_len; /* the data field is the front of the octets */
+    scard_size data_len; /* the data field is the front of the octets */
 };
 
 /* The command, or the response, that all the octets are; it is written to *out at OK. OK, SHORT, AT. */
@@ -460,13 +471,14 @@ struct scard_part {
     uint8_t is_constructed; /* 1 where it is constructed, else 0 */
     uint8_t len_octets;     /* how many octets its length field has, 1 to 5 */
     struct scard_tag tag;
-    size_t place;
-    size_t len;
+    scard_size place;
+    scard_size len;
 };
 
 /* Writes the objects of a forest of at most `max` octets, each before those inside it, without the fillers, to the
  * array `parts`; `place` is how many there are. Room, in parts: what the verdict's place says; half of `count`
- * suffices. OK, SHORT, AT, ARGUMENT: where it isn't OK the array stays as it was. No memory.
+ * suffices. OK, SHORT, AT, ARGUMENT. It writes as it reads: where it isn't OK, what the array holds is unspecified. No
+ * memory.
  */
 SCARD_MUST_USE
 struct scard_verdict scard_tlv_parts(const uint8_t *octets, size_t count, size_t max,
@@ -489,8 +501,8 @@ struct scard_entry {
 };
 
 /* Writes the entries of a data object list, in their order, to the array `entries`; `place` is how many there are.
- * Room, in entries: what the verdict's place says; half of `count` suffices. OK, SHORT, AT, ARGUMENT: where it isn't
- * OK the array stays as it was. No memory.
+ * Room, in entries: what the verdict's place says; half of `count` suffices. OK, SHORT, AT, ARGUMENT. It writes as it
+ * reads: where it isn't OK, what the array holds is unspecified. No memory.
  */
 SCARD_MUST_USE
 struct scard_verdict scard_dol_entries(const uint8_t *octets, size_t count, struct scard_entry *entries, size_t room);
@@ -507,7 +519,7 @@ struct scard_known {
     struct scard_tag tag;
     uint8_t format; /* enum scard_format */
     const uint8_t *value;
-    size_t count;
+    scard_size count;
 };
 
 /* Writes the octets that a data object list asks for: for each entry as many as it says, which are the known value
@@ -560,7 +572,7 @@ struct scard_turn {
     uint8_t wait; /* terminal: how many block waiting times to wait, after SCARD_SEND, for the block that comes: 1, or
                      the multiple that was granted to the card, 1 to 255. 0 where no time is set: at a card, which
                      waits for its terminal without end, and in a turn that sends nothing. */
-    size_t count; /* the octets to be sent; at SCARD_NO_ROOM the room needed; else 0 */
+    scard_size count; /* the octets to be sent; at SCARD_NO_ROOM the room needed; else 0 */
 };
 
 /* Open an end for these parameters of T=1. All the memory of an end is taken here, some 131 KB; what the handle
@@ -640,11 +652,11 @@ struct scard_lent_terminal {
     uint8_t wait;
     uint8_t size;
     uint8_t is_answered;
-    size_t place;
-    size_t most_command;
-    size_t most_answer;
-    size_t command_len;
-    size_t answer_len;
+    scard_size place;
+    scard_size most_command;
+    scard_size most_answer;
+    scard_size command_len;
+    scard_size answer_len;
 };
 
 struct scard_lent_card {
@@ -657,12 +669,12 @@ struct scard_lent_card {
     uint8_t first_ifsc;
     uint8_t wait;
     uint8_t size;
-    size_t saved_place;
-    size_t place;
-    size_t most_command;
-    size_t most_reply;
-    size_t command_len;
-    size_t reply_len;
+    scard_size saved_place;
+    scard_size place;
+    scard_size most_command;
+    scard_size most_reply;
+    scard_size command_len;
+    scard_size reply_len;
 };
 
 /* The first five arguments of these calls, of a state and two arrays: SCARD_LENT(terminal, command, answer). A buffer
@@ -834,7 +846,7 @@ struct scard_verdict scard_lent_check_finish(const struct scard_lent_check *stat
  * answers ARGUMENT and changes nothing. These calls take no memory.
  */
 struct scard_lent_receiver {
-    size_t refused_at;
+    scard_size refused_at;
     uint32_t max;
     uint32_t blocks;
     uint32_t joined;
@@ -875,6 +887,41 @@ SCARD_MUST_USE
 struct scard_verdict scard_lent_receiver_message(const struct scard_lent_receiver *state,
                                                  const uint8_t *message, size_t room);
 
+/* ---- framing ---- */
+
+/* The most octets of a burst that are kept: one more than the longest block has. */
+#define SCARD_BURST_ROOM 259
+
+/* A burst: octets that follow one another without the silence that ends it (ISO/IEC 7816-3, clause 11.4.3). A block is
+ * a whole burst and nothing less: LEN alone doesn't say where a block ends, since LEN may be the octet that is wrong.
+ * The caller keeps the struct, some 270 octets. It reads the fields, and changes them by the calls alone. Whatever a
+ * struct has, a call is safe. These calls take no memory.
+ */
+struct scard_lent_framer {
+    uint64_t count;                    /* octets of the burst so far, also those that aren't kept; it stays at its
+                                          greatest value */
+    uint8_t octets[SCARD_BURST_ROOM];  /* the first of them */
+};
+
+/* Begins a burst, of no octet so far, whatever the struct was. */
+void scard_lent_framer_begin(struct scard_lent_framer *framer);
+
+/* Octets came. */
+void scard_lent_framer_feed(struct scard_lent_framer *framer, const uint8_t *octets, size_t count);
+
+/* Whether the burst so far is a whole block: NAD, PCB, LEN, LEN octets and a check octet, with nothing after it and the
+ * exclusive-or 0.
+ */
+bool scard_lent_framer_is_whole(const struct scard_lent_framer *framer);
+
+/* How long a silence ends the burst now: `first` while no octet came, `after` where it is a whole block, `inside` else.
+ */
+uint64_t scard_lent_framer_wait(const struct scard_lent_framer *framer, uint64_t first, uint64_t inside,
+                                uint64_t after);
+
+/* How many octets at the front of `octets` an end is given once the burst ended: all of them, at most 259. */
+size_t scard_lent_framer_burst(const struct scard_lent_framer *framer);
+
 /* ---- the structs ---- */
 
 /* The structs above, for scard_struct_size. */
@@ -900,7 +947,8 @@ enum scard_struct {
     SCARD_STRUCT_LENT_RECEIVER = 19,
     SCARD_STRUCT_TEXT = 20,
     SCARD_STRUCT_ENTRY = 21,
-    SCARD_STRUCT_NOTE = 22
+    SCARD_STRUCT_NOTE = 22,
+    SCARD_STRUCT_LENT_FRAMER = 23
 };
 
 /* How many octets a struct has in the library, to be compared with its sizeof; 0 for any other number. */

@@ -1,7 +1,7 @@
 -- Data object lists as C sees them.
 use Rattle.std.specs.Prelude.{◌≡◌, ℕ, List, length, map}
 use Rattle.tlv_core.specs.Dol.{IsDol}
-use Rattle.c_lent.specs.Verdict.{put_verdict, put_into, filled}
+use Rattle.c_lent.specs.Verdict.{put_verdict, filled}
 use Rattle.c_lent.specs.Parts.{tag_shown}
 use Rattle.c_lent.specs.declared.verdict.Verdict.{Verdict}
 use Rattle.c_lent.specs.declared.dol.CEntry.{CEntry}
@@ -14,12 +14,13 @@ IsSomeDol octets = (entries : List (List ℕ × ℕ)) × IsDol entries octets
 abbrev pub entry_shown : List ℕ × ℕ → CEntry
 entry_shown entry = record { tag = tag_shown entry.0; len = entry.1 }
 
--- the entries of the list that all the octets are, are put into the array
+-- the entries of the list that all the octets are, are put into the array as
+-- far as it has room
 pub record PutsEntries (octets : List ℕ) (old new : List CEntry) (v : Verdict) : Type 0 where
   pub entries : List (List ℕ × ℕ)
   pub list : IsDol entries octets
   pub verdict : v ≡ put_verdict (map entry_shown entries) old
-  pub array : new ≡ put_into (map entry_shown entries) old
+  pub array : new ≡ filled (map entry_shown entries) old
 
 -- the entries of the list that all the octets are, so many, are put into the array as far as it has room
 pub record ArePut (octets : List ℕ) (old new : List CEntry) (count : ℕ) : Type 0 where

@@ -10,7 +10,7 @@ use Rattle.tlv_core.specs.declared.node.Node.{Node}
 use Rattle.tlv_core.specs.declared.node.Node.TheVariants as node
 use Rattle.tlv_core.specs.declared.part.PlacedPart.{PlacedPart}
 use Rattle.tlv_core.specs.Flat.{placed_of}
-use Rattle.c_lent.specs.Verdict.{put_verdict, put_into, filled}
+use Rattle.c_lent.specs.Verdict.{put_verdict, filled}
 use Rattle.c_lent.specs.declared.verdict.Verdict.{Verdict}
 use Rattle.c_lent.specs.declared.parts.CTag.{CTag}
 use Rattle.c_lent.specs.declared.parts.CPart.{CPart}
@@ -41,12 +41,13 @@ parts_shown t = map part_shown (preorder 1 0 t)
 abbrev pub part_put : PlacedPart → CPart
 part_put part = part_shown (placed_of part)
 
--- the parts of the forest that all the octets are, are put into the array
+-- the parts of the forest that all the octets are, are put into the array as far
+-- as it has room
 pub record PutsParts (max : ℕ) (octets : List ℕ) (old new : List CPart) (v : Verdict) : Type 0 where
   pub tree : Tree
   pub forest : IsForest max tree octets
   pub verdict : v ≡ put_verdict (parts_shown tree) old
-  pub array : new ≡ put_into (parts_shown tree) old
+  pub array : new ≡ filled (parts_shown tree) old
 
 -- the parts of the forest that all the octets are, so many, are put into the array as far as it has room
 pub record ArePut (max : ℕ) (octets : List ℕ) (old new : List CPart) (count : ℕ) : Type 0 where

@@ -35,22 +35,17 @@ pub fn dol_check(octets: &[u8]) -> Verdict
 
 /// Puts the entries of a data object list into an array, in their order.
 ///
-/// It goes over the octets twice: what is refused, or has too little room, leaves the array as it was.
+/// It goes over the octets once, and writes as it goes: where they are refused, what the array holds is open; where the
+/// room is too small, it has the first of the entries.
 pub fn dol_entries(octets: &[u8], out: &mut [CEntry]) -> Verdict
     ensures entries { (IsRefusal result → ⊥) → PutsEntries octets.now out.old out.new result }
     ensures refused { IsRefusal result →
         Tells dol_reason (Refuses whole IsDol IsDolReason octets.now) result }
-    ensures stays { result.status ≢ 0 → out.new ≡ out.old }
 {
-    let count = match put_entries(octets, &mut []) {
-        Ok(count) => count,
-        Err(stop) => return Verdict::stopped(stop),
-    };
-    if count > out.len() {
-        return Verdict::lacking(count);
+    match put_entries(octets, out) {
+        Ok(count) => Verdict::put(count, out.len()),
+        Err(stop) => Verdict::stopped(stop),
     }
-    let _again = put_entries(octets, out);
-    Verdict::ok(count)
 }
 
 /// Puts the entries of a list into an array as far as it has room, and says how many there are.

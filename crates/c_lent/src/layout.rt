@@ -15,6 +15,7 @@ use crate::note::CNote;
 use crate::parts::{CKnown, CPart, CTag};
 use crate::turn::CTurn;
 use crate::verdict::Verdict;
+use line_core::Framer;
 use std::mem::size_of;
 
 /// A handle as C sees it, a pointer and a mark. What it holds is only seen where there is memory.
@@ -51,6 +52,7 @@ pub fn struct_size(number: u8) -> usize
         20 => size_of::<CText>(),
         21 => size_of::<CEntry>(),
         22 => size_of::<CNote>(),
+        23 => size_of::<Framer>(),
         _ => 0,
     }
 }

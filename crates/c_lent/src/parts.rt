@@ -104,27 +104,23 @@ pub fn octets_of(tag: &CTag) -> &[u8]
 /// Puts the parts of a forest of at most `max` octets into an array: its objects in the order of their
 /// headers, each before those inside it, without the fillers.
 ///
-/// It goes over the octets twice: what is refused, or has too little room, leaves the array as it was.
+/// It goes over the octets once, and writes as it goes: where they are refused, what the array holds is open; where the
+/// room is too small, it has the first of the parts.
 pub fn tlv_parts(octets: &[u8], max: usize, out: &mut [CPart]) -> Verdict
     ensures parts { max ≤ largest → (IsRefusal result → ⊥) →
         PutsParts max octets.now out.old out.new result }
     ensures refused { IsRefusal result →
         Tells tlv_reason (Refuses whole (IsForest max) (IsReason max) octets.now) result }
     ensures argument { largest < max → result ≡ wrong_argument 0 }
-    ensures stays { result.status ≢ 0 → out.new ≡ out.old }
+    ensures stays { largest < max → out.new ≡ out.old }
 {
     if max > LARGEST_FOREST {
         return Verdict::argument();
     }
-    let count = match put_parts(octets, max, &mut []) {
-        Ok(count) => count,
-        Err(stop) => return Verdict::stopped(stop),
-    };
-    if count > out.len() {
-        return Verdict::lacking(count);
+    match put_parts(octets, max, out) {
+        Ok(count) => Verdict::put(count, out.len()),
+        Err(stop) => Verdict::stopped(stop),
     }
-    let _again = put_parts(octets, max, out);
-    Verdict::ok(count)
 }
 
 /// Puts the parts of a forest into an array as far as it has room, and says how many there are.

@@ -1,6 +1,6 @@
 //! Verdicts as C sees them.
 
-ghost use Rattle.std.specs.Prelude.{◌≡◌, ℕ};
+ghost use Rattle.std.specs.Prelude.{◌≡◌, ℕ, if◌then◌else◌, nat_le};
 ghost use Rattle.c_lent.specs.Verdict.{ok_at, no_memory, wrong_argument, twice_known, told, told_refused, more_at, told_fed, told_end};
 
 use octet_core::{Refused, Stop};
@@ -128,6 +128,17 @@ impl Verdict {
             status: ARGUMENT,
             reason: 0,
             place: room,
+        }
+    }
+
+    /// So many are to be put where there is this room: whether they fit.
+    pub fn put(count: usize, room: usize) -> Verdict
+        ensures { result ≡ (if nat_le count room then ok_at count else wrong_argument count) }
+    {
+        if count <= room {
+            Verdict::ok(count)
+        } else {
+            Verdict::lacking(count)
         }
     }
 

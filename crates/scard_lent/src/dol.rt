@@ -30,7 +30,6 @@ pub extern "C" fn scard_dol_entries(octets: &[u8], out: &mut [CEntry]) -> Verdic
     ensures entries { (IsRefusal result → ⊥) → PutsEntries octets.now out.old out.new result }
     ensures refused { IsRefusal result →
         Tells dol_reason (Refuses whole IsDol IsDolReason octets.now) result }
-    ensures stays { result.status ≢ 0 → out.new ≡ out.old }
 {
     c_lent::dol::dol_entries(octets, out)
 }

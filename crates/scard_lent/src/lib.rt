@@ -6,6 +6,7 @@ pub mod atr;
 pub mod block;
 pub mod chain;
 pub mod dol;
+pub mod framing;
 pub mod layout;
 pub mod lent;
 pub mod lent_check;

@@ -24,7 +24,7 @@ pub extern "C" fn scard_tlv_parts(octets: &[u8], max: usize, out: &mut [CPart]) 
     ensures refused { IsRefusal result →
         Tells tlv_reason (Refuses whole (IsForest max) (IsReason max) octets.now) result }
     ensures argument { largest < max → result ≡ wrong_argument 0 }
-    ensures stays { result.status ≢ 0 → out.new ≡ out.old }
+    ensures stays { largest < max → out.new ≡ out.old }
 {
     c_lent::parts::tlv_parts(octets, max, out)
 }
