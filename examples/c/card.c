@@ -29,24 +29,23 @@ static struct scard_host_turn echo(void *context, const uint8_t *command, size_t
     return turn;
 }
 
-int card_serve(int *descriptor)
+int card_serve(const struct scard_line *line, uint64_t silence)
 {
     /* T=1 with IFSC 32, BWI 4 and CWI 5. */
     static const uint8_t atr[] = {0x3B, 0x80, 0x81, 0x31, 0x20, 0x45, 0x55};
-    struct scard_setup setup = {.t1 = {32, 4, 5}, .clock = {372, 1, 3571200}};
+    struct scard_setup setup = {.line = *line, .t1 = {32, 4, 5}, .clock = {372, 1, 3571200}, .silence = silence};
     struct card *card = calloc(1, sizeof *card);
     struct scard_host host = {card, echo};
     int result = -1;
     if (card == NULL) {
         return -1;
     }
-    setup.line = line_over(descriptor);
     setup.command = card->command;
     setup.command_room = sizeof card->command;
     setup.answer = card->reply;
     setup.answer_room = sizeof card->reply;
     if (scard_card_session_begin(&card->session, &setup, &host).status == SCARD_OK
-        && setup.line.send(setup.line.context, atr, sizeof atr) == 0
+        && line->send(line->context, atr, sizeof atr) == 0
         && scard_card_session_serve(&card->session).kind == SCARD_SESSION_FAILED) {
         result = 0;
     }

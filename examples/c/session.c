@@ -1,5 +1,5 @@
-/* A terminal and a card at the two ends of a socket pair: each word is a command, each line its answer. The session is
- * begun once, with the power up of the card. Run it as: session HEX.. */
+/* A terminal and a card at the two ends of a pair of sockets, which hand over a whole block or nothing: each word is a
+ * command, each line its answer. The session is begun once, with the power up of the card. Run it as: session HEX.. */
 #include "line.h"
 
 #include <stdio.h>
@@ -10,6 +10,13 @@
 #include <unistd.h>
 
 enum { MOST = 1024 };
+
+/* The card, at its end of the pair. */
+static int be_card(int *descriptor)
+{
+    struct scard_line line = line_over(descriptor);
+    return card_serve(&line, SCARD_SILENCE_NONE) == 0 ? 0 : 1;
+}
 
 /* Sends the command that a word says, and prints the answer. */
 static int exchange(struct terminal *terminal, const char *word)
@@ -39,22 +46,24 @@ static int exchange(struct terminal *terminal, const char *word)
 int main(int count, char **words)
 {
     static struct terminal terminal;
+    struct scard_line line;
     int lines[2], status = 1, failed, at;
     pid_t card;
     if (count < 2) {
         fputs("usage: session HEX..\n", stderr);
         return 2;
     }
-    if (socketpair(AF_UNIX, SOCK_STREAM, 0, lines) != 0 || (card = fork()) < 0) {
+    if (socketpair(AF_UNIX, SOCK_SEQPACKET, 0, lines) != 0 || (card = fork()) < 0) {
         perror("session");
         return 2;
     }
     if (card == 0) {
         close(lines[0]);
-        _exit(card_serve(&lines[1]) == 0 ? 0 : 1);
+        _exit(be_card(&lines[1]));
     }
     close(lines[1]);
-    failed = terminal_begin(&terminal, &lines[0]);
+    line = line_over(&lines[0]);
+    failed = terminal_begin(&terminal, &line, SCARD_SILENCE_NONE);
     for (at = 1; at < count && failed == 0; at++) {
         failed = exchange(&terminal, words[at]);
     }

@@ -4,29 +4,31 @@
 /* A card begins its answer to reset within 40,000 cycles, and each octet follows within 9,600 etu: a second. */
 enum { RESET_TIME = 1000000, LONGEST_ATR = 33 };
 
-/* Takes the answer to reset, octet by octet, since it says itself where it ends. */
+/* Takes the answer to reset, which says itself where it ends. */
 static int take_atr(const struct scard_line *line, struct scard_atr *atr)
 {
     uint8_t octets[LONGEST_ATR];
     size_t count = 0;
     struct scard_verdict verdict = {SCARD_SHORT, 0, 0};
     while (verdict.status == SCARD_SHORT && count < sizeof octets) {
-        if (scard_line_take(line, octets + count, 1, RESET_TIME) != 1) {
+        int got = scard_line_take(line, octets + count, sizeof octets - count, RESET_TIME);
+        if (got <= 0) {
             return -1;
         }
-        verdict = scard_atr_decode(octets, ++count, atr);
+        count += (size_t)got;
+        verdict = scard_atr_decode(octets, count, atr);
     }
-    return verdict.status == SCARD_OK ? 0 : -1;
+    return verdict.status == SCARD_OK && verdict.place == count ? 0 : -1;
 }
 
-int terminal_begin(struct terminal *terminal, int *descriptor)
+int terminal_begin(struct terminal *terminal, const struct scard_line *line, uint64_t silence)
 {
-    struct scard_setup setup = {.command = terminal->command, .command_room = sizeof terminal->command,
+    struct scard_setup setup = {.line = *line,
+                                .command = terminal->command, .command_room = sizeof terminal->command,
                                 .answer = terminal->answer, .answer_room = sizeof terminal->answer,
-                                .clock = {372, 1, 3571200}};
+                                .clock = {372, 1, 3571200}, .silence = silence};
     struct scard_atr atr;
-    setup.line = line_over(descriptor);
-    if (take_atr(&setup.line, &atr) != 0 || scard_atr_t1_params(&atr, &setup.t1) != SCARD_T1_USABLE) {
+    if (take_atr(line, &atr) != 0 || scard_atr_t1_params(&atr, &setup.t1) != SCARD_T1_USABLE) {
         return -1;
     }
     return scard_session_begin(&terminal->session, &setup).status == SCARD_OK ? 0 : -1;

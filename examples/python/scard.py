@@ -106,7 +106,8 @@ def forest(octets):
 
 class Terminal:
     """A terminal over a line, begun at a reset of its card. `line.send(octets)` sends a block, and
-    `line.receive(wait)` returns the octets of the next one, or b"" once `wait` block waiting times have gone by."""
+    `line.receive(wait)` returns all octets that come until the line is silent, also after a whole block, or b"" once
+    `wait` block waiting times have gone by."""
 
     def __init__(self, line, ifsc=32, bwi=4, cwi=13):
         self.line, self.handle, self.block = line, Handle(), ctypes.create_string_buffer(BLOCK_ROOM)

@@ -1,4 +1,6 @@
-/* Counted checks, and octets in heap blocks of exactly their size. */
+/* Counted checks, and octets in heap blocks of exactly their size. Where WITHOUT_HANDLES is defined, tests leave out what
+ * they do with ends and readers in a handle: these take memory, and the file dist/c/scard.c hasn't got them.
+ */
 #ifndef CHECK_H
 #define CHECK_H
 
@@ -63,19 +65,20 @@ static inline const char *line_of(struct scard_verdict v, int codec)
     static char line[80];
     switch (v.status) {
     case SCARD_OK:
-        snprintf(line, sizeof line, "ok %zu octets", v.place);
+        snprintf(line, sizeof line, "ok %zu octets", (size_t)v.place);
         break;
     case SCARD_SHORT:
-        snprintf(line, sizeof line, "short at %zu", v.place);
+        snprintf(line, sizeof line, "short at %zu", (size_t)v.place);
         break;
     case SCARD_AT:
-        snprintf(line, sizeof line, "refused at %zu: %s", v.place, scard_reason_name(codec, v.reason));
+        snprintf(line, sizeof line, "refused at %zu: %s", (size_t)v.place,
+                 scard_reason_name(codec, v.reason));
         break;
     case SCARD_MEMORY:
         snprintf(line, sizeof line, "memory");
         break;
     default:
-        snprintf(line, sizeof line, "argument %zu", v.place);
+        snprintf(line, sizeof line, "argument %zu", (size_t)v.place);
     }
     return line;
 }

@@ -1,13 +1,33 @@
 /* Each call with null and 0, and with every front of octets in a heap block of exactly that size. */
 #include "check.h"
 
+#ifndef WITHOUT_HANDLES
+static void nothing_in_a_handle(void)
+{
+    struct scard_handle handle = SCARD_HANDLE_EMPTY;
+    struct scard_block block;
+    CHECK(scard_reader_feed(&handle, NULL, 0).status == SCARD_ARGUMENT);
+    CHECK(scard_reader_finish(&handle).status == SCARD_ARGUMENT);
+    CHECK(scard_block_reader_value(&handle, &block, NULL, 0).status == SCARD_ARGUMENT);
+    CHECK(scard_terminal_transmit(&handle, NULL, 0, NULL, 0).kind == SCARD_NO_ROOM);
+    CHECK(scard_terminal_received(&handle, NULL, 0, NULL, 0).kind == SCARD_NO_ROOM);
+    CHECK(scard_terminal_quiet(&handle, NULL, 0).kind == SCARD_NO_ROOM);
+    CHECK(scard_terminal_ask_ifs(&handle, 1, NULL, 0).kind == SCARD_NO_ROOM);
+    CHECK(scard_card_received(&handle, NULL, 0, NULL, 0).kind == SCARD_NO_ROOM);
+    CHECK(scard_card_reply(&handle, NULL, 0, NULL, 0).kind == SCARD_NO_ROOM);
+    CHECK(scard_card_more_time(&handle, 1, NULL, 0).kind == SCARD_NO_ROOM);
+    CHECK(scard_card_ask_ifs(&handle, 1, NULL, 0).kind == SCARD_NO_ROOM);
+    CHECK(scard_message(&handle, NULL, 0).status == SCARD_ARGUMENT);
+    scard_close(&handle);
+}
+#endif
+
 static void nothing(void)
 {
     struct scard_atr atr;
     struct scard_block block;
     struct scard_command command;
     struct scard_response response;
-    struct scard_handle handle = SCARD_HANDLE_EMPTY;
     CHECK(scard_lrc(NULL, 0) == 0);
     CHECK(scard_hex_encode(NULL, 0, NULL, 0).status == SCARD_OK);
     CHECK(scard_hex_decode(NULL, 0, NULL, 0).status == SCARD_OK);
@@ -34,19 +54,6 @@ static void nothing(void)
     CHECK(scard_dol_check(NULL, 0).status == SCARD_OK);
     CHECK(scard_dol_entries(NULL, 0, NULL, 0).status == SCARD_OK);
     CHECK(scard_dol_fill(NULL, 0, NULL, 0, NULL, 0).status == SCARD_OK);
-    CHECK(scard_reader_feed(&handle, NULL, 0).status == SCARD_ARGUMENT);
-    CHECK(scard_reader_finish(&handle).status == SCARD_ARGUMENT);
-    CHECK(scard_block_reader_value(&handle, &block, NULL, 0).status == SCARD_ARGUMENT);
-    CHECK(scard_terminal_transmit(&handle, NULL, 0, NULL, 0).kind == SCARD_NO_ROOM);
-    CHECK(scard_terminal_received(&handle, NULL, 0, NULL, 0).kind == SCARD_NO_ROOM);
-    CHECK(scard_terminal_quiet(&handle, NULL, 0).kind == SCARD_NO_ROOM);
-    CHECK(scard_terminal_ask_ifs(&handle, 1, NULL, 0).kind == SCARD_NO_ROOM);
-    CHECK(scard_card_received(&handle, NULL, 0, NULL, 0).kind == SCARD_NO_ROOM);
-    CHECK(scard_card_reply(&handle, NULL, 0, NULL, 0).kind == SCARD_NO_ROOM);
-    CHECK(scard_card_more_time(&handle, 1, NULL, 0).kind == SCARD_NO_ROOM);
-    CHECK(scard_card_ask_ifs(&handle, 1, NULL, 0).kind == SCARD_NO_ROOM);
-    CHECK(scard_message(&handle, NULL, 0).status == SCARD_ARGUMENT);
-    scard_close(&handle);
 }
 
 static void nothing_lent(void)
@@ -67,6 +74,7 @@ static void nothing_lent(void)
     CHECK(scard_lent_card_command(&card, NULL, 0, NULL, 0).status == SCARD_ARGUMENT);
 }
 
+#ifndef WITHOUT_HANDLES
 static int same(struct scard_verdict v, struct scard_verdict w)
 {
     return v.status == w.status && v.reason == w.reason && (v.status == SCARD_OK || v.place == w.place);
@@ -91,6 +99,7 @@ static void in_pieces(const uint8_t *own, size_t count)
     CHECK(scard_reader_finish(&handle).status <= SCARD_AT);
     scard_close(&handle);
 }
+#endif
 
 /* Every call that reads octets, on a front of them: it answers, and the sanitizer sees that it reads no further. */
 static void front(const uint8_t *octets, size_t count)
@@ -117,7 +126,9 @@ static void front(const uint8_t *octets, size_t count)
     CHECK(v.place <= count && v.status <= SCARD_AT);
     v = scard_dol_fill(own, count, &known, 1, filled, count / 2 * 255);
     CHECK(v.status <= SCARD_AT);
+#ifndef WITHOUT_HANDLES
     in_pieces(own, count);
+#endif
     v = scard_atr_decode(own, count, &atr);
     CHECK(v.place <= count && v.status <= SCARD_AT);
     v = scard_block_decode(own, count, 254, &block);
@@ -153,6 +164,9 @@ int main(void)
         "6F108407A0000000041010A505BF0C0250009F02065F2A", "00D6000000000201020000", "3030413461345B"};
     size_t sample, count;
     nothing();
+#ifndef WITHOUT_HANDLES
+    nothing_in_a_handle();
+#endif
     nothing_lent();
     for (sample = 0; sample < sizeof samples / sizeof samples[0]; sample++) {
         struct octets octets = of_hex(samples[sample]);

@@ -30,14 +30,17 @@ static void sizes(void)
     SIZE(SCARD_STRUCT_TEXT, scard_text);
     SIZE(SCARD_STRUCT_ENTRY, scard_entry);
     SIZE(SCARD_STRUCT_NOTE, scard_note);
+    SIZE(SCARD_STRUCT_LENT_FRAMER, scard_lent_framer);
     CHECK(sizeof(struct scard_lent_terminal) < 128 && sizeof(struct scard_lent_card) < 128);
     CHECK(sizeof(struct scard_lent_check) == 92 && sizeof(struct scard_lent_check) < 128);
     CHECK(sizeof(struct scard_lent_receiver) == 32);
-    CHECK(scard_struct_size(0) == 0 && scard_struct_size(23) == 0 && scard_struct_size(255) == 0);
+    CHECK(scard_struct_size(0) == 0 && scard_struct_size(24) == 0 && scard_struct_size(255) == 0);
 }
 
 static void places(void)
 {
+    PLACE(scard_lent_framer, count, 0);
+    PLACE(scard_lent_framer, octets, 8);
     PLACE(scard_verdict, status, 0);
     PLACE(scard_verdict, reason, 1);
     PLACE(scard_verdict, place, 8);

@@ -22,9 +22,22 @@ static void begin(struct both *both, uint8_t ifs, uint8_t ns, size_t max)
 {
     struct scard_verdict v = scard_lent_receiver_begin(&both->state, ifs, ns, max);
     CHECK(v.status == SCARD_OK && v.place == 0);
+#ifndef WITHOUT_HANDLES
     CHECK(scard_receiver_open(&both->handle, ifs, ns, max).status == SCARD_OK);
+#endif
 }
 
+/* Closes the handle. */
+static void leave(struct both *both)
+{
+#ifndef WITHOUT_HANDLES
+    scard_close(&both->handle);
+#else
+    (void)both;
+#endif
+}
+
+#ifndef WITHOUT_HANDLES
 static int same(struct scard_verdict a, struct scard_verdict b)
 {
     return a.status == b.status && a.reason == b.reason && a.place == b.place;
@@ -40,6 +53,7 @@ static void agree(struct both *both)
     CHECK(same(lent, held));
     CHECK(lent.status != SCARD_OK || memcmp(both->message, copied, lent.place) == 0);
 }
+#endif
 
 /* Feeds octets in pieces of this length, each in a block of its own; the last verdict. */
 static struct scard_verdict feed(struct both *both, const uint8_t *octets, size_t count, size_t piece)
@@ -51,11 +65,13 @@ static struct scard_verdict feed(struct both *both, const uint8_t *octets, size_
         uint8_t *own = (uint8_t *)malloc(some);
         memcpy(own, octets + taken, some);
         v = scard_lent_receiver_feed(&both->state, both->message, ROOM, own, some);
-        CHECK(same(v, scard_reader_feed(&both->handle, own, some)));
         CHECK(v.status != SCARD_MORE || v.place == some);
+#ifndef WITHOUT_HANDLES
+        CHECK(same(v, scard_reader_feed(&both->handle, own, some)));
+        agree(both);
+#endif
         taken += some;
         free(own);
-        agree(both);
     }
     return v;
 }
@@ -84,7 +100,7 @@ static void chains(void)
         v = feed(&both, chain.at, chain.count, piece);
         CHECK(strcmp(line_of(v, SCARD_CODEC_CHAIN), "refused at 1: BadSequence") == 0);
     }
-    scard_close(&both.handle);
+    leave(&both);
     free(chain.at);
 }
 
@@ -107,7 +123,7 @@ static void mutated(void)
         }
         chain.at[place] = was;
     }
-    scard_close(&both.handle);
+    leave(&both);
     free(chain.at);
 }
 
@@ -130,7 +146,7 @@ static void longest_fields(void)
         CHECK(scard_lent_receiver_message(&both.state, both.message, ROOM).place == ROOM);
         CHECK(memcmp(both.message, sent, ROOM) == 0);
     }
-    scard_close(&both.handle);
+    leave(&both);
 }
 
 static void argued(void)

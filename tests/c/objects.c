@@ -41,7 +41,8 @@ static void parts(void)
     CHECK(octets.at[all[5].place] == 0xAA && all[0].tag.octets[1] == 0 && all[0].tag.octets[2] == 0);
     memset(few, 0x55, sizeof few);
     v = scard_tlv_parts(octets.at, octets.count, SCARD_TLV_LARGEST, few, 2);
-    CHECK(strcmp(line_of(v, SCARD_CODEC_TLV), "argument 6") == 0 && few[0].depth == 0x55 && few[1].depth == 0x55);
+    CHECK(strcmp(line_of(v, SCARD_CODEC_TLV), "argument 6") == 0);
+    CHECK(few[0].depth == all[0].depth && few[1].depth == all[1].depth && few[1].place == all[1].place);
     v = scard_tlv_parts(octets.at, octets.count - 1, SCARD_TLV_LARGEST, few, 2);
     CHECK(strcmp(line_of(v, SCARD_CODEC_TLV), "short at 28") == 0);
     v = scard_tlv_parts(octets.at, octets.count, 20, few, 2);
@@ -144,15 +145,13 @@ static void entries(void)
     CHECK(all[1].tag.octets[1] == 0 && all[1].tag.octets[2] == 0);
     memset(few, 0x55, sizeof few);
     v = scard_dol_entries(list.at, list.count, few, 2);
-    CHECK(strcmp(line_of(v, SCARD_CODEC_DOL), "argument 3") == 0 && few[0].len == 0x55 && few[1].len == 0x55);
+    CHECK(strcmp(line_of(v, SCARD_CODEC_DOL), "argument 3") == 0 && is_entry(&few[0], "9F02", 6) && is_entry(&few[1], "5A", 8));
     CHECK(scard_dol_entries(list.at, list.count, NULL, 0).place == 3);
     for (front = 0; front < list.count; front++) {
         struct scard_verdict checked = scard_dol_check(list.at, front);
-        memset(few, 0x55, sizeof few);
         v = scard_dol_entries(list.at, front, few, 2);
         CHECK(v.status == checked.status && v.reason == checked.reason);
-        CHECK(v.status == SCARD_OK ? v.place == (size_t)(front > 0) + (front > 3)
-                                   : v.place == front && few[0].len == 0x55 && few[1].len == 0x55);
+        CHECK(v.place == (v.status == SCARD_OK ? (size_t)(front > 0) + (front > 3) : front));
     }
     list.at[3] = 0;
     v = scard_dol_entries(list.at, list.count, few, 2);
@@ -161,7 +160,7 @@ static void entries(void)
 }
 
 /* Each front of a forest, in blocks of exactly the sizes: the parts are inside, and found by the tags around them. An
- * array with room for one less stays as it was, and so does one where the front is short. */
+ * array with room for one less isn't written after its end. */
 static void fronts(void)
 {
     struct octets octets = of_hex("006F108407A0000000041010A505BF0C0250009F3303E0F8C800DF8101820001AA");
@@ -178,17 +177,16 @@ static void fronts(void)
         if (scard_tlv_check(own.at, own.count, SCARD_TLV_LARGEST).status != SCARD_OK) {
             v = scard_tlv_parts(own.at, own.count, SCARD_TLV_LARGEST, NULL, 0);
             CHECK(v.status == SCARD_SHORT && v.place == front);
-            memset(few, 0x55, sizeof few);
             v = scard_tlv_parts(own.at, own.count, SCARD_TLV_LARGEST, few, 2);
-            CHECK(v.status == SCARD_SHORT && v.place == front && few[0].depth == 0x55 && few[1].depth == 0x55);
+            CHECK(v.status == SCARD_SHORT && v.place == front);
             free(own.at);
             continue;
         }
         all = parts_of(own, &count);
         if (count > 0) {
-            all[0].depth = 0x55;
+            all[count - 1].depth = 0x55;
             v = scard_tlv_parts(own.at, own.count, SCARD_TLV_LARGEST, all, count - 1);
-            CHECK(v.status == SCARD_ARGUMENT && v.place == count && all[0].depth == 0x55);
+            CHECK(v.status == SCARD_ARGUMENT && v.place == count && all[count - 1].depth == 0x55);
             v = scard_tlv_parts(own.at, own.count, SCARD_TLV_LARGEST, all, count);
             CHECK(v.status == SCARD_OK && v.place == count && all[0].depth == 1);
         }

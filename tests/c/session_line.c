@@ -1,4 +1,4 @@
-/* How a session takes blocks from its line: pieces, silence, interrupted calls, lengths that lie; and its clocks. */
+/* How a session takes bursts from its line: pieces, silence, interrupted calls, lengths that lie; and its clocks. */
 #include "check.h"
 #include "scard_session.h"
 
@@ -36,9 +36,17 @@ static int receive(void *context, uint8_t *octets, size_t room, uint64_t microse
     return (int)count;
 }
 
+static int send(void *context, const uint8_t *octets, size_t count)
+{
+    (void)context, (void)octets, (void)count;
+    return 0;
+}
+
 static struct script script;
 static struct scard_line line;
-static uint8_t block[SCARD_BLOCK_ROOM + 1];
+static struct scard_wire wire;
+
+enum { FIRST = 1000, CWT = 70, AFTER = 20, BGT = 30, BROKEN = 500 };
 
 static void says(const char *const *words)
 {
@@ -46,73 +54,99 @@ static void says(const char *const *words)
     script.words = words;
     line.context = &script;
     line.receive = receive;
+    memset(&wire, 0, sizeof wire);
+    wire.after = AFTER;
+    wire.bgt = BGT;
+    wire.most = SCARD_LINE_FOREVER;
 }
 
-/* Whether the next block under these sizes and times is these octets. */
-static int gives(uint8_t size, const char *text)
+static int next(void)
 {
-    memset(block, 0xEE, sizeof block);
-    return is_hex(block, (size_t)scard_line_block(&line, block, size, 1000, 7), text);
+    scard_lent_framer_begin(&wire.framer);
+    wire.owed = 0;
+    return scard_wire_burst(&wire, &line, FIRST, CWT, BROKEN);
+}
+
+/* Whether the next burst is these octets; the silence that is owed after it says whether it is a whole block. */
+static int gives(const char *text, uint64_t owed)
+{
+    int count = next();
+    return count >= 0 && wire.owed == owed && is_hex(wire.framer.octets, (size_t)count, text);
 }
 
 static void whole(void)
 {
-    static const char *const words[] = {"00", "00", "05", "00A404", "0000A5", "008000800000029000", "92", NULL};
+    static const char *const words[] = {"00", "00", "05", "00A404", "0000A5", "", "00800080", "", "000002900092", "",
+                                        "000000", "00", "", "", NULL};
     says(words);
-    CHECK(gives(32, "00000500A4040000A5"));
-    CHECK(gives(32, "00800080"));
-    CHECK(gives(32, "000002900092"));
-    CHECK(scard_line_block(&line, block, 32, 1000, 7) == 0 && script.waited == 1000);
+    CHECK(gives("00000500A4040000A5", BGT) && script.waited == AFTER && script.calls == 6);
+    CHECK(gives("00800080", BGT) && gives("000002900092", BGT) && gives("00000000", BGT));
+    CHECK(next() == 0 && script.waited == FIRST && wire.owed == 0);
+    wire.after = BGT;
+    script.words = words;
+    CHECK(gives("00000500A4040000A5", 0) && script.waited == BGT);
 }
 
-/* All that comes until the line is silent belongs to a block whose length may be wrong; the next one is whole. */
+/* All that comes until the line is silent is one burst, whatever LEN says and whether a block is its front. */
 static void lies(void)
 {
-    static const char *const words[] = {"0000FF01020309", "00800080", "", "00800080", "", /* reserved */
-                                        "000021", "0102", "", "00800080",                 /* above the size */
-                                        "0000020102", "0304", "", "00800080",             /* the check octet */
-                                        "0000FF", "", "00800080", NULL};
+    static const char *const words[] = {"0000029000926A82EF", "", "00800080", "", "00800080", "00", "",
+                                        "000002900092", "00800080", "", "0000FF01020309", "00800080", "",
+                                        "000021", "0102", "", "0000FF", "", "00800080", "", NULL};
     says(words);
-    CHECK(gives(32, "0000FF0102030900800080") && script.waited == 7);
-    CHECK(gives(32, "00800080"));
-    CHECK(scard_line_block(&line, block, 32, 1000, 7) == 0);
-    CHECK(gives(32, "0000210102") && gives(32, "00800080"));
-    CHECK(gives(32, "00000201020304") && gives(32, "00800080"));
-    CHECK(gives(254, "0000FF") && gives(254, "00800080"));
+    CHECK(gives("0000029000926A82EF", BROKEN) && script.waited == CWT);
+    CHECK(gives("00800080", BGT));
+    CHECK(gives("0080008000", BROKEN) && script.waited == CWT);
+    CHECK(gives("00000290009200800080", BROKEN));
+    CHECK(gives("0000FF0102030900800080", BROKEN));
+    CHECK(gives("0000210102", BROKEN) && gives("0000FF", BROKEN) && gives("00800080", BGT));
 }
 
 static void stops(void)
 {
-    static const char *const words[] = {"00", "", "0000", "", "000005", "", "00000500A4", "", "00800080", NULL};
+    static const char *const words[] = {"00", "", "0000", "", "000005", "", "00000500A4", "", "00800080", "", NULL};
     says(words);
-    CHECK(gives(32, "00") && script.waited == 7);
-    CHECK(gives(32, "0000") && gives(32, "000005") && gives(32, "00000500A4") && gives(32, "00800080"));
+    CHECK(gives("00", BROKEN) && script.waited == CWT);
+    CHECK(gives("0000", BROKEN) && gives("000005", BROKEN) && gives("00000500A4", BROKEN) && gives("00800080", BGT));
 }
 
-/* An interrupted call is no silence, and nothing that came before a failure is dropped. */
+/* An interrupted call is no silence, and of a burst whose end wasn't seen nothing is looked at. */
 static void interrupted(void)
 {
-    static const char *const words[] = {"?", "?", "0080", "?", "0080", "?", "", "00", "!", "!", "0080", "?", "", "+",
-                                        NULL};
+    static const char *const words[] = {"?", "?", "0080", "?", "0080", "?", "", "", "00", "!", "00800080", "!", "0080",
+                                        "?", "", "+", NULL};
     says(words);
-    CHECK(gives(32, "00800080"));
-    CHECK(scard_line_block(&line, block, 32, 1000, 7) == 0);
-    CHECK(gives(32, "00"));
-    CHECK(scard_line_block(&line, block, 32, 1000, 7) == SCARD_LINE_FAILED);
-    CHECK(gives(32, "0080"));
-    CHECK(scard_line_block(&line, block, 32, 1000, 7) == SCARD_LINE_FAILED);
+    CHECK(gives("00800080", BGT));
+    CHECK(next() == 0);
+    CHECK(next() == SCARD_LINE_FAILED && wire.owed == BROKEN);
+    CHECK(next() == SCARD_LINE_FAILED && wire.owed == BGT);
+    CHECK(gives("0080", BROKEN));
+    CHECK(next() == SCARD_LINE_FAILED && wire.owed == 0);
+}
+
+/* On a line of whole bursts one that is a whole block ends at once, and one that isn't as ever. */
+static void packets(void)
+{
+    static const char *const words[] = {"00800080", "00", "800080", "0000029000926A82EF", "", "00800080", NULL};
+    says(words);
+    wire.after = SCARD_SILENCE_NONE;
+    wire.bgt = 0;
+    CHECK(gives("00800080", 0) && script.calls == 1);
+    CHECK(gives("00800080", 0) && script.calls == 3 && script.waited == CWT);
+    CHECK(gives("0000029000926A82EF", BROKEN) && script.waited == CWT);
+    CHECK(gives("00800080", 0) && script.calls == 6);
 }
 
 /* More octets than any block has: 259 are handed over, and the rest isn't taken for the next block. */
 static void long_ones(void)
 {
     static char text[2 * 300 + 1];
-    const char *words[] = {text, "", "00800080", NULL};
+    const char *words[] = {text, "", "00800080", "", NULL};
     memset(text, '1', 2 * 300);
     says(words);
-    CHECK(scard_line_block(&line, block, 16, 1000, 7) == SCARD_BLOCK_ROOM + 1);
-    CHECK(block[0] == 0x11 && block[SCARD_BLOCK_ROOM] == 0x11);
-    CHECK(gives(32, "00800080"));
+    CHECK(next() == SCARD_BURST_ROOM && wire.framer.count == 300 && wire.owed == BROKEN);
+    CHECK(wire.framer.octets[0] == 0x11 && wire.framer.octets[SCARD_BLOCK_ROOM] == 0x11);
+    CHECK(gives("00800080", BGT));
 }
 
 static int babble(void *context, uint8_t *octets, size_t room, uint64_t microseconds)
@@ -127,53 +161,105 @@ static int babble(void *context, uint8_t *octets, size_t room, uint64_t microsec
 static void babbles(void)
 {
     long said = 0;
+    says(NULL);
     line.context = &said;
     line.receive = babble;
-    CHECK(scard_line_block(&line, block, 32, 1000, 7) == SCARD_BLOCK_ROOM + 1 && said < 70000);
+    CHECK(next() == SCARD_BURST_ROOM && wire.owed == BROKEN && said >= SCARD_BURST_MOST && said < 70000);
     said = 0;
-    scard_line_drop(&line);
-    CHECK(said < 70000);
+    CHECK(scard_wire_settle(&wire, &line) == SCARD_LINE_FAILED && wire.owed == BROKEN && said < 70000);
 }
 
+/* What nobody awaited is dropped, and the line is silent before the next block. */
 static void drops(void)
 {
-    static const char *const words[] = {"00E000E0", "?", "00800080", "", "000002900092", "!", "!", NULL};
+    static const char *const words[] = {"00E000E0", "?", "00800080", "", "", "00", "", "!", "", "00", "01", "", NULL};
     says(words);
-    scard_line_drop(&line);
-    CHECK(script.waited == 0);
-    CHECK(gives(32, "000002900092"));
-    scard_line_drop(&line);
-    CHECK(script.calls < 12);
+    wire.owed = 0;
+    CHECK(scard_wire_settle(&wire, &line) == 0 && script.calls == 0);
+    wire.owed = BGT;
+    CHECK(scard_wire_late(&wire, &line, BGT) == 0 && script.waited == BGT && wire.owed == 0 && script.calls == 4);
+    CHECK(scard_wire_late(&wire, &line, BGT) == 0 && script.waited == 0 && script.calls == 5);
+    wire.owed = BROKEN;
+    CHECK(scard_wire_late(&wire, &line, BGT) == 0 && script.waited == BGT && wire.owed == BROKEN);
+    CHECK(scard_wire_settle(&wire, &line) == SCARD_LINE_FAILED && wire.owed == BROKEN);
+    CHECK(scard_wire_settle(&wire, &line) == 0 && script.waited == BROKEN && wire.owed == 0);
+    CHECK(scard_wire_late(&wire, &line, 0) == 0 && script.waited == 0 && script.calls == 12);
 }
 
-static void clocks(void)
+/* A wait is as long as what is left of the time, and what it took is reckoned. */
+static void times_out(void)
 {
-    static const struct scard_clock first = {372, 1, 3571200}, fast = {512, 8, 4000000}, still = {372, 0, 3571200};
+    static const char *const words[] = {"", "00800080", "", "", NULL};
+    says(words);
+    scard_wire_start(&wire, &line, FIRST + AFTER + 10);
+    CHECK(next() == 0 && wire.spent == FIRST);
+    CHECK(gives("00800080", BGT) && script.waited == AFTER && wire.spent == FIRST + AFTER);
+    CHECK(next() == SCARD_WIRE_USED_UP && script.waited == 10 && scard_wire_left(&wire, &line) == 0);
+    CHECK(next() == SCARD_WIRE_USED_UP && script.waited == 0);
+}
+
+static struct scard_session session;
+
+static struct scard_setup plain(void)
+{
+    static const struct scard_clock clock = {372, 1, 3571200};
     static uint8_t command[5], answer[2];
-    struct scard_session session;
     struct scard_setup setup;
     memset(&setup, 0, sizeof setup);
+    says(NULL);
+    setup.line = line;
+    setup.line.send = send;
     setup.command = command;
     setup.command_room = sizeof command;
     setup.answer = answer;
     setup.answer_room = sizeof answer;
-    setup.clock = first;
+    setup.clock = clock;
     setup.t1.ifsc = 32;
     setup.t1.bwi = 4;
     setup.t1.cwi = 5;
+    return setup;
+}
+
+static void clocks(void)
+{
+    static const struct scard_clock fast = {512, 8, 4000000};
+    struct scard_setup setup = plain();
     CHECK(scard_session_begin(&session, &setup).status == SCARD_OK);
-    CHECK(session.bwt == 1601146 && session.cwt == 4480);
+    CHECK(session.bwt == 1601146 && session.cwt == 4480 && session.wire.bgt == 2292 && session.wire.after == 2292);
     setup.clock = fast;
+    setup.silence = 688;
     CHECK(scard_session_begin(&session, &setup).status == SCARD_OK);
-    CHECK(session.bwt == 1428656 && session.cwt == 688);
+    CHECK(session.bwt == 1428656 && session.cwt == 688 && session.wire.bgt == 352 && session.wire.after == 688);
+    setup.silence = SCARD_SILENCE_NONE;
     setup.t1.bwi = setup.t1.cwi = 15;
-    CHECK(scard_session_begin(&session, &setup).status == SCARD_OK);
+    CHECK(scard_session_begin(&session, &setup).status == SCARD_OK && session.wire.bgt == 0);
     CHECK(session.bwt == 2925527216u && session.cwt == 524464);
-    setup.clock = still;
-    CHECK(scard_session_begin(&session, &setup).status == SCARD_ARGUMENT && session.cwt == 524464);
-    setup.clock = first;
-    setup.t1.ifsc = 255;
-    CHECK(scard_session_begin(&session, &setup).status == SCARD_ARGUMENT && session.cwt == 524464);
+    setup.t1.bwi = 0; /* BWT is shorter than CWT: three quarters of the time that is waited aren't */
+    CHECK(scard_session_begin(&session, &setup).status == SCARD_OK && session.cwt == 524464);
+    CHECK(session.bwt / 4 * 3 >= session.cwt && session.bwt < 700000);
+}
+
+/* A setup of which there is no session: the one before stays. */
+static void refused(void)
+{
+    static const struct scard_clock still[] = {{372, 0, 3571200}, {0, 1, 3571200}, {372, 65, 3571200}, {372, 1, 999}};
+    struct scard_setup setup = plain(), other;
+    size_t at;
+    CHECK(scard_session_begin(&session, &setup).status == SCARD_OK);
+    for (at = 0; at < sizeof still / sizeof *still; at++) {
+        other = setup;
+        other.clock = still[at];
+        CHECK(scard_session_begin(&session, &other).status == SCARD_ARGUMENT);
+    }
+    other = setup;
+    other.t1.ifsc = 255;
+    CHECK(scard_session_begin(&session, &other).status == SCARD_ARGUMENT);
+    other = setup;
+    other.silence = session.cwt + 1;
+    CHECK(scard_session_begin(&session, &other).status == SCARD_ARGUMENT);
+    other.silence--;
+    CHECK(session.wire.after == 2292 && scard_session_begin(&session, &other).status == SCARD_OK);
+    CHECK(session.cwt == 4480 && session.wire.after == 4480);
 }
 
 int main(void)
@@ -182,9 +268,12 @@ int main(void)
     lies();
     stops();
     interrupted();
+    packets();
     long_ones();
     babbles();
     drops();
+    times_out();
     clocks();
+    refused();
     return verdict_of_checks("session_line");
 }

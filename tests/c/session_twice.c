@@ -1,5 +1,5 @@
-/* The example's terminal and card over one line: each command has its own answer, a signal is no silence, and octets
- * after a length that lies aren't left on the line. */
+/* The example's terminal and card over one line, of packets and of octets: each command has its own answer, a signal is
+ * no silence, and octets after a length that lies aren't left on the line. */
 #include "check.h"
 #include "line.h"
 
@@ -42,23 +42,32 @@ static int answers(uint8_t number, size_t count)
     return got == (long)count + 2 && memcmp(terminal.answer, command, count) == 0 && terminal.answer[count] == 0x90;
 }
 
-static void exchanges(void)
+static int be_card(int *descriptor, uint64_t silence)
 {
+    struct scard_line line = line_over(descriptor);
+    return card_serve(&line, silence) == 0 ? 0 : 1;
+}
+
+/* So many long exchanges over a pair of sockets. */
+static void exchanges(int sockets, uint64_t silence, int most)
+{
+    struct scard_line line;
     int lines[2], number, status = 1;
     pid_t card;
-    CHECK(socketpair(AF_UNIX, SOCK_STREAM, 0, lines) == 0);
+    CHECK(socketpair(AF_UNIX, sockets, 0, lines) == 0);
     card = fork();
     if (card == 0) {
         close(lines[0]);
-        _exit(card_serve(&lines[1]) == 0 ? 0 : 1);
+        _exit(be_card(&lines[1], silence));
     }
     close(lines[1]);
-    CHECK(terminal_begin(&terminal, &lines[0]) == 0);
+    line = line_over(&lines[0]);
+    CHECK(terminal_begin(&terminal, &line, silence) == 0);
     for (number = 0; number < 6; number++) {
         CHECK(answers((uint8_t)number, 5));
     }
     signals(1000);
-    for (number = 0; number < 60; number++) {
+    for (number = 0; number < most; number++) {
         CHECK(answers((uint8_t)number, 900));
     }
     signals(0);
@@ -66,36 +75,37 @@ static void exchanges(void)
     CHECK(waitpid(card, &status, 0) == card && status == 0);
 }
 
-static uint64_t microseconds(void)
+static struct scard_wire wire;
+
+/* Whether the next burst is these octets, within 100 milliseconds; each silence of 5 ends one. */
+static int comes(const struct scard_line *line, const uint8_t *octets, size_t count)
 {
-    struct timeval time;
-    gettimeofday(&time, NULL);
-    return (uint64_t)time.tv_sec * 1000000 + (uint64_t)time.tv_usec;
+    memset(&wire, 0, sizeof wire);
+    wire.after = 5000;
+    wire.most = SCARD_LINE_FOREVER;
+    return scard_wire_burst(&wire, line, 100000, 5000, 0) == (int)count && wire.framer.count == count
+        && (count == 0 || memcmp(wire.framer.octets, octets, count) == 0);
 }
 
 /* The line by itself. */
-static void frames(void)
+static void bursts(void)
 {
     static const uint8_t said[] = {0, 0, 0xFF, 1, 2, 3, 9}, good[] = {0, 0x80, 0, 0x80}, part[] = {0, 0, 5, 0, 0xA4};
-    uint8_t block[SCARD_BLOCK_ROOM + 1];
     struct scard_line line;
     uint64_t began;
     int lines[2];
     CHECK(socketpair(AF_UNIX, SOCK_STREAM, 0, lines) == 0);
     line = line_over(&lines[1]);
-    CHECK(write(lines[0], said, sizeof said) == sizeof said);
-    CHECK(scard_line_block(&line, block, 32, 100000, 5000) == sizeof said && memcmp(block, said, sizeof said) == 0);
-    CHECK(write(lines[0], good, sizeof good) == sizeof good);
-    CHECK(scard_line_block(&line, block, 32, 100000, 5000) == sizeof good && memcmp(block, good, sizeof good) == 0);
-    CHECK(write(lines[0], part, sizeof part) == sizeof part);
-    CHECK(scard_line_block(&line, block, 32, 100000, 5000) == sizeof part && memcmp(block, part, sizeof part) == 0);
+    CHECK(write(lines[0], said, sizeof said) == sizeof said && comes(&line, said, sizeof said));
+    CHECK(write(lines[0], good, sizeof good) == sizeof good && comes(&line, good, sizeof good));
+    CHECK(write(lines[0], part, sizeof part) == sizeof part && comes(&line, part, sizeof part));
     signals(1000);
-    began = microseconds();
-    CHECK(scard_line_block(&line, block, 32, 100000, 5000) == 0);
-    CHECK(microseconds() - began >= 100000);
+    began = line.now(line.context);
+    CHECK(comes(&line, NULL, 0));
+    CHECK(line.now(line.context) - began >= 100000);
     signals(0);
     close(lines[0]);
-    CHECK(scard_line_block(&line, block, 32, 100000, 5000) == SCARD_LINE_FAILED);
+    CHECK(scard_wire_burst(&wire, &line, 100000, 5000, 0) == SCARD_LINE_FAILED);
     close(lines[1]);
 }
 
@@ -105,7 +115,8 @@ int main(void)
     memset(&action, 0, sizeof action);
     action.sa_handler = ring; /* without SA_RESTART, so that calls are interrupted */
     sigaction(SIGALRM, &action, NULL);
-    exchanges();
-    frames();
+    exchanges(SOCK_SEQPACKET, SCARD_SILENCE_NONE, 60);
+    exchanges(SOCK_STREAM, 0, 4);
+    bursts();
     return verdict_of_checks("session_twice");
 }

@@ -2,6 +2,7 @@
  * gives. Link it without lazy binding (-Wl,-z,now), which takes 3 KB at the first call of a function. */
 #define _XOPEN_SOURCE 700
 #include "check.h"
+#include "scard_session.h"
 
 #include <ucontext.h>
 
@@ -58,6 +59,7 @@ static struct scard_lent_check check;
 static struct scard_lent_receiver receiver;
 static struct scard_part parts[2048];
 static struct scard_entry entries[2];
+static struct scard_lent_framer framer;
 static struct scard_text text;
 static struct scard_note note;
 static const uint8_t answer_to_reset[] = {0x3B, 0x85, 0x81, 0x31, 0xFE, 0x45, 0x80, 0x73, 0x80, 0x01, 0x40, 0xBC};
@@ -257,6 +259,82 @@ static void readers(void)
     scard_close(&reader);
 }
 
+static void framer_calls(void)
+{
+    scard_lent_framer_begin(&framer);
+    scard_lent_framer_feed(&framer, sent, sizeof sent);
+    count = scard_lent_framer_is_whole(&framer) + (size_t)scard_lent_framer_wait(&framer, 1, 2, 3);
+    count += scard_lent_framer_burst(&framer);
+}
+
+/* ---- sessions, over lines whose functions take next to no stack ---- */
+
+static const uint8_t blocks_of[4][9] = {{0, 0, 5, 0x00, 0xA4, 0x04, 0x00, 0x00, 0xA5}, {0, 0, 2, 0x90, 0x00, 0x92},
+                                        {0, 0xE0, 0, 0xE0}, {0, 0, 5, 0x00, 0xA4}};
+static const uint8_t counts_of[4] = {9, 6, 4, 5};
+/* What comes at each call of a line: a block from 0 on; '-' silence, '!' a failure. */
+static const char *says;
+
+static int says_next(void *context, uint8_t *octets, size_t room, uint64_t microseconds)
+{
+    char said = *says != 0 ? *says++ : '!';
+    (void)context, (void)room, (void)microseconds;
+    if (said == '-' || said == '!') {
+        return said == '-' ? 0 : SCARD_LINE_FAILED;
+    }
+    memcpy(octets, blocks_of[said - '0'], counts_of[said - '0']);
+    return counts_of[said - '0'];
+}
+
+static int hears(void *context, const uint8_t *octets, size_t octets_count)
+{
+    (void)context, (void)octets, (void)octets_count;
+    return 0;
+}
+
+static struct scard_host_turn acts(void *context, const uint8_t *octets, size_t octets_count, size_t granted)
+{
+    struct scard_host_turn said = {SCARD_HOST_REPLY, 0, reply, 2};
+    (void)context, (void)octets, (void)octets_count, (void)granted;
+    return said;
+}
+
+static struct scard_session session;
+static struct scard_card_session card_session;
+static struct scard_setup setup;
+static const struct scard_host application = {NULL, acts};
+
+static void begin_sessions(void)
+{
+    verdict = scard_session_begin(&session, &setup);
+    verdict = scard_card_session_begin(&card_session, &setup, &application);
+}
+
+/* An answer that is broken first, so that all is dropped until the line is silent. */
+static void session_exchange(void)
+{
+    says = "--3-3-1-";
+    turn = scard_session_exchange(&session, command, 5);
+}
+
+static void session_asks(void)
+{
+    says = "-1-!";
+    turn = scard_session_ask_ifs(&session, 254);
+}
+
+static void session_resyncs(void)
+{
+    says = "-2-";
+    turn = scard_session_resync(&session, &setup);
+}
+
+static void session_serves(void)
+{
+    says = "3--0--!";
+    turn = scard_card_session_serve(&card_session);
+}
+
 /* ---- the bounds, of both processors ---- */
 
 static size_t least, ends; /* what it takes to begin a call; the deepest of a session's */
@@ -321,6 +399,35 @@ static void make_forest(void)
     }
 }
 
+static void sessions(void)
+{
+    setup.line.send = hears;
+    setup.line.receive = says_next;
+    setup.command = commands[0];
+    setup.command_room = sizeof commands[0];
+    setup.answer = answers[0];
+    setup.answer_room = sizeof answers[0];
+    setup.t1.ifsc = 254;
+    setup.t1.bwi = 4;
+    setup.t1.cwi = 5;
+    setup.clock.fi = 372;
+    setup.clock.di = 1;
+    setup.clock.hertz = 3571200;
+    bounded("a session: begin", begin_sessions, 2048);
+    CHECK(verdict.status == SCARD_OK);
+    bounded("a session: exchange", session_exchange, 2048);
+    CHECK(turn.kind == SCARD_DONE && turn.count == 2);
+    bounded("a session: ask for a size", session_asks, 2048);
+    CHECK(turn.kind == SCARD_SESSION_FAILED);
+    bounded("a session: resynchronise", session_resyncs, 2048);
+    CHECK(turn.kind == SCARD_GIVEN_UP);
+    setup.command = commands[1];
+    setup.answer = answers[1];
+    begin_sessions();
+    bounded("a session: serve", session_serves, 2048);
+    CHECK(turn.kind == SCARD_SESSION_FAILED && *says == 0);
+}
+
 int main(void)
 {
     int round;
@@ -364,5 +471,7 @@ int main(void)
     CHECK(turn.kind == SCARD_SEND);
     bounded("an end in a handle: close", close_end, 1024);
     bounded("readers in a handle", readers, 4096);
+    bounded("bursts", framer_calls, 1024);
+    sessions();
     return verdict_of_checks("stack");
 }

@@ -63,6 +63,7 @@ static struct scard_verdict chain_of(struct octets octets, int ifs, int number)
     return v.status == SCARD_MORE ? scard_lent_receiver_finish(&receiver, message, sizeof message) : v;
 }
 
+#ifndef WITHOUT_HANDLES
 /* Opens the reader of a codec; ARGUMENT where it has none. */
 static struct scard_verdict open_reader(int codec, const struct row *row, struct scard_handle *reader)
 {
@@ -101,6 +102,7 @@ static void check_reader(int codec, const struct row *row, struct octets octets,
     CHECK(v.status == wanted.status && v.place == wanted.place && v.reason == wanted.reason);
     scard_close(&reader);
 }
+#endif
 
 /* The answer to `check KIND HEX`. */
 static void check_kind(const struct row *row)
@@ -115,7 +117,9 @@ static void check_kind(const struct row *row)
     v = codec == SCARD_CODEC_CHAIN ? chain_of(octets, row->ifs, row->number)
                                    : verdict_of_codec(codec, octets, (uint8_t)row->ifs);
     say_verdict(v, codec);
+#ifndef WITHOUT_HANDLES
     check_reader(codec, row, octets, v);
+#endif
     free(octets.at);
 }
 

@@ -7,6 +7,16 @@
 
 enum { WIRED_ROOM = 1024, MESSAGE_ROOM = 320 };
 
+/* What is done to one block: the one with this number, of both ends, from 1 on. */
+enum harm_kind { HARM_CHANGE, HARM_CUT, HARM_CUT_FRONT, HARM_ADD };
+
+struct harm {
+    unsigned block;
+    int kind;
+    size_t at;      /* the octet that is changed, how many are left, are cut off the front, or are added */
+    uint8_t octet;  /* what it is changed by, or what is added */
+};
+
 /* Octets that are under way. */
 struct way {
     uint8_t octets[WIRED_ROOM];
@@ -21,6 +31,8 @@ struct wired {
     struct way to_card, to_terminal;
     bool is_cut;          /* nothing arrives at the card */
     unsigned rate;        /* of 1,000 blocks so many are lost or damaged */
+    struct harm harm;
+    unsigned blocks;      /* that were sent by both ends */
     uint32_t die;
     uint64_t waited;      /* how long the terminal last waited for a block's first octet */
     unsigned sent;        /* blocks of the terminal */
@@ -36,15 +48,37 @@ static inline uint32_t wired_throw(struct wired *wired)
     return wired->die;
 }
 
+/* Harms a block that is at the end of a way: how many octets it has then. */
+static inline size_t wired_harm(const struct harm *harm, uint8_t *octets, size_t count)
+{
+    switch (harm->kind) {
+    case HARM_CHANGE:
+        octets[harm->at] ^= harm->octet;
+        return count;
+    case HARM_CUT:
+        return harm->at;
+    case HARM_CUT_FRONT:
+        memmove(octets, octets + harm->at, count - harm->at);
+        return count - harm->at;
+    default:
+        memset(octets + count, harm->octet, harm->at);
+        return count + harm->at;
+    }
+}
+
 /* A block goes onto a way, disturbed as the die says. */
 static inline void wired_put(struct wired *wired, struct way *way, const uint8_t *octets, size_t count)
 {
     uint8_t *at = way->octets + way->count;
     uint32_t side = wired_throw(wired) % 1000 < wired->rate ? wired_throw(wired) % 4 : 4;
+    wired->blocks++;
     if (side == 0 || count > WIRED_ROOM - way->count) {
         return;
     }
     memcpy(at, octets, count);
+    if (wired->blocks == wired->harm.block) {
+        count = wired_harm(&wired->harm, at, count);
+    }
     if (side == 1) { /* a wrong octet, which may be LEN */
         at[wired_throw(wired) % count] ^= (uint8_t)(1 + wired_throw(wired) % 255);
     } else if (side == 2) { /* another node address */
@@ -111,6 +145,7 @@ static inline struct scard_setup wired_setup(struct wired *wired, int end)
     static const struct scard_clock clock = {372, 1, 3571200};
     static const struct scard_t1 t1 = {32, 4, 5};
     struct scard_setup setup;
+    memset(&setup, 0, sizeof setup);
     setup.line.context = wired;
     setup.line.send = end == 0 ? wired_terminal_send : wired_card_send;
     setup.line.receive = end == 0 ? wired_terminal_receive : wired_card_receive;
