@@ -92,7 +92,7 @@ int main(int count, char **words)
     static struct simulated card;
     static struct reader reader;
     int listener;
-    card.line = (struct scard_line){&reader, send_block, receive_octets};
+    card.line = (struct scard_line){&reader, send_block, receive_octets, NULL};
     card.tell = tell;
     if (count < 2 || count > 3 || (count == 3 && !simulated_word(&card, words[2]))) {
         fputs("usage: card SOCKET [time=N]\n", stderr);

@@ -56,30 +56,34 @@ bool contact_make(struct contact *contact)
 static int send_block(void *context, const uint8_t *octets, size_t count)
 {
     struct contact *contact = context;
-    uint8_t arrives[SCARD_BLOCK_ROOM];
+    uint8_t arrives[MOST_ARRIVING];
+    size_t arriving;
     memcpy(arrives, octets, count);
     contact->awaits = true;
     contact->place = contact->count = 0;
-    contact->is_lost = plan_next(&contact->plan, arrives, count) == FAULT_LOST;
-    record_block(&contact->record, 't', octets, contact->is_lost || contact->is_host_busy ? NULL : arrives, count);
+    arriving = plan_next(&contact->plan, arrives, count);
+    contact->is_lost = arriving == 0;
+    record_block(&contact->record, 't', octets, count, arrives, contact->is_host_busy ? 0 : arriving);
     if (contact->is_lost) {
         return 0;
     }
-    return wire_send(contact->socket, WIRE_BLOCK, arrives, count) == 0 ? 0 : SCARD_LINE_FAILED;
+    return wire_send(contact->socket, WIRE_BLOCK, arrives, arriving) == 0 ? 0 : SCARD_LINE_FAILED;
 }
 
 /* A block came: it is lost, or nobody awaits it, or it is there to be taken. */
 static void take_block(struct contact *contact, size_t count)
 {
     uint8_t sent[SCARD_BLOCK_ROOM];
+    size_t arriving;
     if (count == 0 || count > sizeof sent) {
         return;
     }
     memcpy(sent, contact->message, count);
-    contact->is_lost = plan_next(&contact->plan, contact->message, count) == FAULT_LOST;
+    arriving = plan_next(&contact->plan, contact->message, count);
+    contact->is_lost = arriving == 0;
     contact->place = 0;
-    contact->count = contact->is_lost || !contact->awaits ? 0 : count;
-    record_block(&contact->record, 'c', sent, contact->count > 0 ? contact->message : NULL, count);
+    contact->count = contact->awaits ? arriving : 0;
+    record_block(&contact->record, 'c', sent, count, contact->message, contact->count);
 }
 
 /* What the card's host does, for the recording. */
@@ -157,7 +161,7 @@ static int receive_octets(void *context, uint8_t *octets, size_t room, uint64_t 
 
 struct scard_line contact_line(struct contact *contact)
 {
-    struct scard_line line = {contact, send_block, receive_octets};
+    struct scard_line line = {contact, send_block, receive_octets, NULL};
     return line;
 }
 

@@ -50,7 +50,8 @@ static bool power_up(struct reader *reader)
     struct scard_setup setup = {.line = contact_line(&reader->contact),
                                 .command = reader->command, .command_room = sizeof reader->command,
                                 .answer = reader->answer, .answer_room = sizeof reader->answer,
-                                .clock = {372, 1, 3571200}};
+                                .clock = {372, 1, 3571200},
+                                .silence = SCARD_SILENCE_NONE}; /* a message is a whole burst */
     struct scard_atr atr;
     bool is_plan = true;
     reader->has_power = reader->has_t1 = reader->is_size_set = false;
@@ -249,6 +250,15 @@ RESPONSECODE IFDHPowerICC(DWORD Lun, DWORD Action, PUCHAR Atr, PDWORD AtrLength)
     return IFD_SUCCESS;
 }
 
+/* What was done to blocks, as words and numbers: how many characters. */
+static int counts_of(const struct plan *plan, char *text, size_t room)
+{
+    const uint32_t *faults = plan->faults;
+    return snprintf(text, room, "blocks %u lost %u damaged %u spoiled %u changed %u cut %u extended %u", plan->blocks,
+                    faults[FAULT_LOST], faults[FAULT_DAMAGED], faults[FAULT_SPOILED], faults[FAULT_CHANGED],
+                    faults[FAULT_CUT], faults[FAULT_EXTENDED]);
+}
+
 RESPONSECODE IFDHControl(DWORD Lun, DWORD dwControlCode, PUCHAR TxBuffer, DWORD TxLength, PUCHAR RxBuffer,
                          DWORD RxLength, LPDWORD pdwBytesReturned)
 {
@@ -267,9 +277,7 @@ RESPONSECODE IFDHControl(DWORD Lun, DWORD dwControlCode, PUCHAR TxBuffer, DWORD 
         text[TxLength] = 0;
         return plan_read(&reader->contact.plan, text) ? IFD_SUCCESS : IFD_COMMUNICATION_ERROR;
     case CONTROL_COUNTS:
-        length = snprintf(text, sizeof text, "blocks %u lost %u damaged %u spoiled %u", reader->contact.plan.blocks,
-                          reader->contact.plan.faults[FAULT_LOST], reader->contact.plan.faults[FAULT_DAMAGED],
-                          reader->contact.plan.faults[FAULT_SPOILED]);
+        length = counts_of(&reader->contact.plan, text, sizeof text);
         if ((DWORD)length > RxLength) {
             return IFD_ERROR_INSUFFICIENT_BUFFER;
         }

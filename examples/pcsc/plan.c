@@ -6,6 +6,8 @@
 
 static const char blanks[] = " \t\r\n";
 
+static const char *const fault_words[FAULTS] = {"", "lose", "damage", "spoil", "change", "cut", "extend"};
+
 static uint32_t throw_die(struct plan *plan)
 {
     plan->die ^= plan->die << 13;
@@ -34,18 +36,15 @@ static bool read_list(struct plan *plan, enum fault fault, char *text)
 static bool read_word(struct plan *plan, char *word)
 {
     char *value = strchr(word, '='), *end = word;
+    int fault;
     if (value == NULL || value[1] == 0) {
         return false;
     }
     *value++ = 0;
-    if (strcmp(word, "lose") == 0) {
-        return read_list(plan, FAULT_LOST, value);
-    }
-    if (strcmp(word, "damage") == 0) {
-        return read_list(plan, FAULT_DAMAGED, value);
-    }
-    if (strcmp(word, "spoil") == 0) {
-        return read_list(plan, FAULT_SPOILED, value);
+    for (fault = FAULT_LOST; fault < FAULTS; fault++) {
+        if (strcmp(word, fault_words[fault]) == 0) {
+            return read_list(plan, (enum fault)fault, value);
+        }
     }
     if (strcmp(word, "rate") == 0) {
         plan->rate = strtod(value, &end);
@@ -100,22 +99,51 @@ static enum fault fault_of(struct plan *plan)
         }
     }
     if (plan->rate > 0 && throw_die(plan) % 100000 < plan->rate * 1000) {
-        return (enum fault)(FAULT_LOST + throw_die(plan) % 3);
+        return (enum fault)(FAULT_LOST + throw_die(plan) % (FAULTS - FAULT_LOST));
     }
     return FAULT_NONE;
 }
 
-enum fault plan_next(struct plan *plan, uint8_t *octets, size_t count)
+/* Octets follow a block, a few or as many as there is room for. */
+static size_t extend(struct plan *plan, uint8_t *octets, size_t count)
+{
+    size_t more = 1 + throw_die(plan) % 16;
+    for (; more > 0 && count < MOST_ARRIVING; more--) {
+        octets[count++] = (uint8_t)throw_die(plan);
+    }
+    return count;
+}
+
+/* A change of the octet at a place: into each other one as often. */
+static void change(struct plan *plan, uint8_t *octet)
+{
+    *octet = (uint8_t)(*octet ^ (1 + throw_die(plan) % 255));
+}
+
+size_t plan_next(struct plan *plan, uint8_t *octets, size_t count)
 {
     enum fault fault;
     plan->blocks++;
     fault = fault_of(plan);
     plan->faults[fault]++;
-    if (fault == FAULT_DAMAGED || fault == FAULT_SPOILED) {
-        octets[count - 1] ^= 0x01;
-    }
-    if (fault == FAULT_SPOILED) {
+    switch (fault) {
+    case FAULT_LOST:
+        return 0;
+    case FAULT_SPOILED:
         octets[0] ^= 0x01;
+        octets[count - 1] ^= 0x01;
+        return count;
+    case FAULT_DAMAGED:
+        change(plan, &octets[count - 1]);
+        return count;
+    case FAULT_CHANGED:
+        change(plan, &octets[throw_die(plan) % count]);
+        return count;
+    case FAULT_CUT:
+        return throw_die(plan) % count;
+    case FAULT_EXTENDED:
+        return extend(plan, octets, count);
+    default:
+        return count;
     }
-    return fault;
 }

@@ -137,18 +137,19 @@ void record_octets(struct record *record, const char *word, const uint8_t *octet
     }
 }
 
-void record_block(struct record *record, char end, const uint8_t *sent, const uint8_t *arrived, size_t count)
+void record_block(struct record *record, char end, const uint8_t *sent, size_t count, const uint8_t *arrived,
+                  size_t arriving)
 {
     FILE *file = line(record, end == 't' ? "t " : "c ");
     if (file == NULL) {
         return;
     }
     put_octets(file, sent, count);
-    if (arrived == NULL) {
+    if (arriving == 0) {
         fputs(" lost", file);
-    } else if (memcmp(sent, arrived, count) != 0) {
+    } else if (arriving != count || memcmp(sent, arrived, count) != 0) {
         fputs(" as ", file);
-        put_octets(file, arrived, count);
+        put_octets(file, arrived, arriving);
     }
     end_line(record, file);
 }

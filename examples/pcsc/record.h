@@ -27,8 +27,9 @@ void record_end(struct record *record);
 void record_word(struct record *record, const char *word);
 void record_octets(struct record *record, const char *word, const uint8_t *octets, size_t count);
 
-/* A block that the end 't' or 'c' sends, and what arrives of it: NULL for nothing. */
-void record_block(struct record *record, char end, const uint8_t *sent, const uint8_t *arrived, size_t count);
+/* A block that the end 't' or 'c' sends, and what arrives of it: no octet where it is lost. */
+void record_block(struct record *record, char end, const uint8_t *sent, size_t count, const uint8_t *arrived,
+                  size_t arriving);
 
 /* Lets time pass on the clock of the recording which nobody waited for. */
 void record_jump(struct record *record, uint64_t microseconds);

@@ -25,7 +25,8 @@ static struct scard_host_turn host(void *context, const uint8_t *command, size_t
 bool simulated_reset(struct simulated *card)
 {
     struct scard_setup setup = {.line = card->line, .command = card->command, .command_room = LONGEST_COMMAND,
-                                .answer = card->reply, .answer_room = LONGEST_REPLY, .clock = {372, 1, 3571200}};
+                                .answer = card->reply, .answer_room = LONGEST_REPLY, .clock = {372, 1, 3571200},
+                                .silence = SCARD_SILENCE_NONE}; /* a message is a whole burst */
     struct scard_host acts = {card, host};
     struct scard_atr atr;
     card->atr_count = application(NULL, 0, card->made);
@@ -40,7 +41,8 @@ bool simulated_reset(struct simulated *card)
 
 void simulated_serve(struct simulated *card)
 {
-    scard_card_session_serve(&card->session);
+    struct scard_turn ended = scard_card_session_serve(&card->session);
+    (void)ended; /* the reader went, or a reset came: its next one begins the session */
 }
 
 bool simulated_word(struct simulated *card, const char *word)

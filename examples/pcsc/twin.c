@@ -72,15 +72,15 @@ static void answer_lost(struct twin *twin)
 static void take_block(struct twin *twin, size_t count)
 {
     uint8_t sent[FRAME_DATA], *block = twin->frames.message + FRAME_HEAD;
-    bool is_lost;
+    size_t arriving;
     memcpy(sent, block, count);
     watch_sent(&twin->watch, sent, count);
-    is_lost = plan_next(&twin->plan, block, count) == FAULT_LOST;
-    record_block(&twin->record, 't', sent, is_lost ? NULL : block, count);
+    arriving = plan_next(&twin->plan, block, count);
+    record_block(&twin->record, 't', sent, count, block, arriving);
     watch_recorded(&twin->watch);
     twin->owes = true; /* for a block that is lost too: it is answered before the next message is taken */
     twin->place = 0;
-    twin->count = is_lost ? 0 : count;
+    twin->count = arriving;
 }
 
 /* Serves the host until it sends a block that arrives, or a power up, or goes. */
@@ -121,18 +121,18 @@ static int send_block(void *context, const uint8_t *octets, size_t count)
 {
     struct twin *twin = context;
     uint8_t *block = twin->frames.message + FRAME_HEAD;
-    bool is_lost;
+    size_t arriving;
     memcpy(block, octets, count);
     twin->place = twin->count = 0;
-    is_lost = plan_next(&twin->plan, block, count) == FAULT_LOST;
-    record_block(&twin->record, 'c', octets, is_lost ? NULL : block, count);
-    if (is_lost) {
+    arriving = plan_next(&twin->plan, block, count);
+    record_block(&twin->record, 'c', octets, count, block, arriving);
+    if (arriving == 0) {
         answer_lost(twin);
         return 0;
     }
-    watch_came(&twin->watch, block, count);
+    watch_came(&twin->watch, block, arriving);
     twin->owes = false;
-    answer(twin, DATA_BLOCK, count, 0);
+    answer(twin, DATA_BLOCK, arriving, 0);
     return 0;
 }
 
@@ -165,7 +165,7 @@ int main(int count, char **words)
     bool is_right = count >= 2;
     int word;
     twin.when_lost = CARD_MUTE;
-    twin.card.line = (struct scard_line){&twin, send_block, receive_octets};
+    twin.card.line = (struct scard_line){&twin, send_block, receive_octets, NULL};
     twin.card.tell = tell;
     for (word = 2; word < count; word++) {
         twin.when_lost = strcmp(words[word], "lost=parity") == 0 ? PARITY_ERROR : twin.when_lost;

@@ -1,14 +1,17 @@
-/* A line in memory with our card at its far end, whose blocks are lost, damaged or made invalid by their number. */
+/* A line in memory with our card at its far end, on which blocks have faults by their number. */
 #ifndef LINE_H
 #define LINE_H
 
 #include "adapter.h"
 
-enum fault { NONE, LOST, DAMAGED, INVALID };
+/* Damaged: the check octet is another one. Invalid: another node address, under an LRC that fits. Changed: any octet is
+ * any other one, LEN too. Cut: octets are missing at the end. Extended: octets follow. */
+enum fault { NONE, LOST, DAMAGED, INVALID, CHANGED, CUT, EXTENDED, FAULTS };
 
 struct event {
     unsigned block; /* the block's number on the line, from 0, both ways counted */
     enum fault fault;
+    uint32_t die;   /* which octet and value, or how many */
 };
 
 struct link {
