@@ -30,7 +30,7 @@ const buttons = [...page.matchAll(/<button type="button"\s+(data-[^>]*)>/g)];
 const examples = buttons.map(([, given]) => Object.fromEntries([...given.matchAll(/data-(\w+)="([^"]*)"/g)]
   .map(([, name, value]) => [name, unescaped(value)])));
 const parts = Object.fromEntries([...page.matchAll(/ id="([^"]+)"/g)].map(([, id]) => [id, new Element()]));
-parts.module.textContent = page.match(/id="module">([^<]*)</)[1];
+for (const id of ["module", "lowered"]) parts[id].textContent = page.match(`id="${id}">([^<]*)<`)[1];
 const [location, handlers] = [{ hash: "" }, {}];
 const world = vm.createContext({ performance, setTimeout, clearTimeout, WebAssembly, atob, URLSearchParams, location,
   history: { replaceState: (_, __, address) => { location.hash = address; } },
@@ -77,4 +77,13 @@ checks.equal("what a forest shows", parts.out.text.endsWith("\n(and 11384 more l
 parts.ifs.value = "0";
 type("block", "00000500A4040000A5");
 await said("a size of 0", "The information size is 1 to 254.");
+checks.equal("which module runs", parts.which.textContent, "");
+// The same where the browser doesn't take the first module.
+if (parts.lowered.textContent) {
+  parts.module.textContent = "";
+  location.hash = "";
+  vm.runInContext(`(() => {${page.match(/<script>([\s\S]*)<\/script>/)[1]}})()`, world);
+  await said("the first example of the second module", SAID[0]);
+  checks.equal("which module runs then", parts.which.textContent.startsWith("This browser has no 64-bit memory"), true);
+}
 checks.end();

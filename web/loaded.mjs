@@ -4,14 +4,20 @@ import vm from "node:vm";
 
 const vectors = new URL("../vectors/", import.meta.url);
 
+// The modules of a page, by the names that they have there.
+export function modules(file) {
+  const page = readFileSync(file, "utf8");
+  return ["module", "lowered"].filter((id) => page.match(`id="${id}">([^<]*)<`)[1] !== "");
+}
+
 // The script of a page without the part that begins it, in a world with nothing but the language, over its own module.
-export async function loaded(file) {
+export async function loaded(file, id = "module") {
   const page = readFileSync(file, "utf8");
   const text = page.match(/<script>([\s\S]*)<\/script>/)[1].split("// The page: what is given in its form")[0];
   const world = vm.createContext({});
   vm.runInContext(`${text}\nglobalThis.given = { Scard, KINDS, aroundLines, finished };`, world);
   const { Scard, ...names } = world.given;
-  const compiled = await WebAssembly.compile(Buffer.from(page.match(/id="module">([^<]*)</)[1], "base64"));
+  const compiled = await WebAssembly.compile(Buffer.from(page.match(`id="${id}">([^<]*)<`)[1], "base64"));
   return { scard: new Scard(await WebAssembly.instantiate(compiled, {})), compiled, ...names };
 }
 

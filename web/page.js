@@ -8,8 +8,11 @@ const WAIT = 150;
 // For how many milliseconds it answers at a time, before what is typed has its turn.
 const PIECE = 10;
 
-const WHERE = "This browser has no WebAssembly with a 64-bit memory (Memory64), which this page needs: Chromium has it"
-  + " from version 133 on, Firefox from version 134 on.";
+const WHERE = "This browser takes no module of this page: one needs WebAssembly with a 64-bit memory (Memory64), which"
+  + " Chromium has from version 133 on and Firefox from version 134 on; the other, which not each page has, needs bulk"
+  + " memory and 64-bit numbers in calls, which Chromium, Firefox and Safari have had since 2021.";
+const LOWERED = "This browser has no 64-bit memory, so the module runs here after the tool wasm-opt has changed it for a"
+  + " 32-bit one. Nobody has proved that tool.";
 const LABELS = { octets: "Octets in hexadecimal", exchange: "Text of a recorded exchange" };
 
 const part = (id) => document.getElementById(id);
@@ -214,8 +217,22 @@ function start(scard) {
   now();
 }
 
-const octets = Uint8Array.from(atob(part("module").textContent.trim()), (character) => character.charCodeAt(0));
-WebAssembly.instantiate(octets, {}).then(
-  ({ instance }) => start(new Scard(instance)),
-  () => show("no", WHERE),
-).catch((fault) => show("no", `This page failed: ${fault.message}`));
+// A module of the page, ready to be called.
+async function instanceOf(id) {
+  const octets = Uint8Array.from(atob(part(id).textContent.trim()), (character) => character.charCodeAt(0));
+  return (await WebAssembly.instantiate(octets, {})).instance;
+}
+
+// The module, or where the browser has no 64-bit memory the one for a 32-bit memory.
+async function instance() {
+  try {
+    return await instanceOf("module");
+  } catch {
+    const other = await instanceOf("lowered");
+    part("which").textContent = LOWERED;
+    return other;
+  }
+}
+
+instance().then((found) => start(new Scard(found)), () => show("no", WHERE))
+  .catch((fault) => show("no", `This page failed: ${fault.message}`));

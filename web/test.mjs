@@ -1,4 +1,4 @@
-// The page's script over its own module, on each line of vectors/ of the kinds that the page has.
+// The page's script over each of its modules, on each line of vectors/ of the kinds that the page has.
 //
 // usage: node [--experimental-wasm-memory64] web/test.mjs PAGE
 //
@@ -9,31 +9,42 @@
 // failed'.
 import { readFileSync, readdirSync } from "node:fs";
 import { Checks } from "./checks.mjs";
-import { cases, loaded } from "./loaded.mjs";
+import { cases, loaded, modules } from "./loaded.mjs";
 import { answered, asked, wanted } from "./requests.mjs";
 
 const examples = new URL("../examples/", import.meta.url);
-const page = await loaded(process.argv[2]);
 const checks = new Checks("page");
 
-checks.equal("what the module imports", WebAssembly.Module.imports(page.compiled).length, 0);
-const seen = {};
-for (const one of cases()) {
-  const request = asked(one, page.KINDS);
-  const said = request && answered(page, request);
-  if (said === null) continue;
-  checks.equal(`${one.at}: ${one.words.join(" ")}`, said, wanted(one, request));
-  for (const what of [request.kind, ...(request.notes ? ["notes"] : [])]) seen[what] = (seen[what] ?? 0) + 1;
+// The lines of the vectors that the page answers, by their kinds.
+function lines(page) {
+  const seen = {};
+  for (const one of cases()) {
+    const request = asked(one, page.KINDS);
+    const said = request && answered(page, request);
+    if (said === null) continue;
+    checks.equal(`${one.at}: ${one.words.join(" ")}`, said, wanted(one, request));
+    for (const what of [request.kind, ...(request.notes ? ["notes"] : [])]) seen[what] = (seen[what] ?? 0) + 1;
+  }
+  for (const kind of [...page.KINDS, "exchange", "notes"]) checks.equal(`lines of ${kind}`, seen[kind] > 100, true);
+  return Object.entries(seen).map(([kind, count]) => `${kind} ${count}`).join(", ");
 }
+
 // The steps of a replay are the lines of its file, and what the ends do between them.
-for (const name of readdirSync(examples).filter((it) => it.endsWith(".exchange"))) {
-  const text = readFileSync(new URL(name, examples), "latin1");
-  const { replay } = page.finished(page.scard.replay(text));
-  const lines = text.split("\n").slice(2, -1).map((line, at) => `${at + 3}  ${line}`);
-  const heads = replay.steps.filter((step) => !step.startsWith("  "));
-  checks.equal(`${name}: its steps`, heads.join("\n"), lines.join("\n"));
-  checks.equal(`${name}: both ends`, replay.ends.map((it) => it.verdict.is).join(" "), "ok ok");
+function steps(page) {
+  for (const name of readdirSync(examples).filter((it) => it.endsWith(".exchange"))) {
+    const text = readFileSync(new URL(name, examples), "latin1");
+    const { replay } = page.finished(page.scard.replay(text));
+    const lines = text.split("\n").slice(2, -1).map((line, at) => `${at + 3}  ${line}`);
+    const heads = replay.steps.filter((step) => !step.startsWith("  "));
+    checks.equal(`${name}: its steps`, heads.join("\n"), lines.join("\n"));
+    checks.equal(`${name}: both ends`, replay.ends.map((it) => it.verdict.is).join(" "), "ok ok");
+  }
 }
-for (const kind of [...page.KINDS, "exchange", "notes"]) checks.equal(`lines of ${kind}`, seen[kind] > 100, true);
-console.log(`page: ${Object.entries(seen).map(([kind, count]) => `${kind} ${count}`).join(", ")} lines`);
+
+for (const id of modules(process.argv[2])) {
+  const page = await loaded(process.argv[2], id);
+  checks.equal("what the module imports", WebAssembly.Module.imports(page.compiled).length, 0);
+  console.log(`page: the ${id === "module" ? "module" : "module for 32-bit memory"}: ${lines(page)} lines`);
+  steps(page);
+}
 checks.end();

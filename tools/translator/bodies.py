@@ -1,0 +1,528 @@
+"""Writes the functions of a module as C.
+
+A value that an instruction leaves is kept as an expression until it is used, or until what it is made of changes; then
+it goes to a variable. A frame is the part of the module's stack that a function takes: its size is in the code, so an
+access to it is known to lie in it, and `at` of machine.h is called once for all of it.
+"""
+
+import dataclasses
+
+from loops import exclusive_or
+from wasm import (BLOCK, BR, BR_IF, BR_TABLE, CALL, DROP, ELSE, END, GLOBAL_GET, GLOBAL_SET, I32, I32_CONST, I64,
+                  I64_CONST, IF, LOCAL_GET, LOCAL_SET, LOCAL_TEE, LOOP, MEMORY_COPY, MEMORY_FILL, NO_RESULT, NOP,
+                  RETURN, SELECT, UNREACHABLE, Unfit)
+
+TYPES = {I32: "u32", I64: "u64"}
+BITS = {I32: 32, I64: 64}
+LONGEST = 90
+
+# the orders, by the place after the first of a type: how they compare, and whether the numbers have a sign
+COMPARED = [("==", 0), ("!=", 0), ("<", 1), ("<", 0), (">", 1), (">", 0), ("<=", 1), ("<=", 0), (">=", 1), (">=", 0)]
+OPPOSITE = {"==": "!=", "!=": "==", "<": ">=", ">": "<=", "<=": ">", ">=": "<"}
+# what two numbers make, by the place after `add` of a type
+MADE = ["{a} + {b}", "{a} - {b}", "{a} * {b}", None, "quotient{n}({a}, {b})", None, "rest{n}({a}, {b})", "{a} & {b}",
+        "{a} | {b}", "{a} ^ {b}", "{a} << {c}", "signed_right{n}({a}, {b})", "{a} >> {c}", "left{n}({a}, {b})",
+        "right{n}({a}, {b})"]
+COUNTED = ["leading{n}({a})", "trailing{n}({a})", "ones{n}({a})"]
+# loads and stores: the type, how many bits are moved, and the bits of a number whose sign is spread
+LOADED = {0x28: (I32, 32, 0), 0x29: (I64, 64, 0), 0x2C: (I32, 8, 8), 0x2D: (I32, 8, 0), 0x2E: (I32, 16, 16),
+          0x2F: (I32, 16, 0), 0x30: (I64, 8, 8), 0x31: (I64, 8, 0), 0x32: (I64, 16, 16), 0x33: (I64, 16, 0),
+          0x34: (I64, 32, 32), 0x35: (I64, 32, 0)}
+STORED = {0x36: 32, 0x37: 64, 0x3A: 8, 0x3B: 16, 0x3C: 8, 0x3D: 16, 0x3E: 32}
+SPREAD = {0xC0: (I32, 8), 0xC1: (I32, 16), 0xC2: (I64, 8), 0xC3: (I64, 16), 0xC4: (I64, 32)}
+
+
+@dataclasses.dataclass
+class Value:
+    """A value on the stack: how C says it, its type, the variables that it is made of, whether memory is read for it;
+    and where it says whether something is so, the words of that and of the opposite."""
+
+    text: str
+    type: int
+    names: frozenset = frozenset()
+    reads: bool = False
+    is_plain: bool = True
+    holds: tuple = None
+
+    def part(self):
+        """The value as a part of an expression."""
+        return self.text if self.is_plain else f"({self.text})"
+
+
+@dataclasses.dataclass
+class Block:
+    """A block that is open: which instruction began it, its label, the values below it, its result, and whether
+    anything jumps to the label or can come here."""
+
+    code: int
+    label: int
+    height: int
+    gives: list
+    is_used: bool = False
+    is_reached: bool = True
+    is_folded: bool = False
+
+
+def constant(number, kind):
+    """A number as C says it."""
+    bits = BITS[kind]
+    number %= 1 << bits
+    end = "u" if bits == 32 else "ull"
+    return f"{number}{end}" if number < 65536 else f"0x{number:X}{end}"
+
+
+def value_of(text, kind, *parts, **more):
+    """A value that is made of others."""
+    names = frozenset().union(*(it.names for it in parts))
+    return Value(text, kind, names, any(it.reads for it in parts), is_plain=False, **more)
+
+
+def frames_of(function):
+    """The variables that are set to the places of frames, the place of the stack less a number, with these numbers."""
+    found, body = {}, function.body
+    for at, (code, said) in enumerate(body[:-3]):
+        if (code, said) == (GLOBAL_GET, 0) and body[at + 1][0] == I64_CONST and body[at + 2][0] == 0x7D:
+            to, name = body[at + 3]
+            if to in (LOCAL_SET, LOCAL_TEE):
+                found[name] = body[at + 1][1]
+    return found
+
+
+def loops_of(body):
+    """Where each loop of a function begins and ends."""
+    found, open_ones = [], []
+    for at, (code, _) in enumerate(body):
+        if code in (BLOCK, LOOP, IF):
+            open_ones.append((code, at))
+        elif code == END:
+            first, begun = open_ones.pop()
+            found += [(begun, at)] if first == LOOP else []
+    return found
+
+
+def own_frame(function):
+    """Gives the place of the frame a variable of its own, where the compiler sets the one for it again later: that is
+    read where no later set can have come before, as one in the same loop."""
+    body, loops = function.body, loops_of(function.body)
+    for name in frames_of(function):
+        sets = [at for at, it in enumerate(body) if it in ((LOCAL_SET, name), (LOCAL_TEE, name))]
+        own = len(function.takes) + len(function.variables)
+        function.variables.append(I64)
+        for at, it in enumerate(body):
+            round_again = [after for after in sets[1:] if any(a <= at <= b and a <= after <= b for a, b in loops)]
+            if it == (LOCAL_GET, name) and sets[0] < at < min(sets[1:], default=len(body)) and not round_again:
+                body[at] = (LOCAL_GET, own)
+        body.insert(sets[0], (LOCAL_TEE, own))
+
+
+def kept(function):
+    """The frames whose variables are set to nothing else, also those that are copies of such a one."""
+    body = function.body
+    sets = [said for code, said in body if code in (LOCAL_SET, LOCAL_TEE)]
+    found = {name: size for name, size in frames_of(function).items() if sets.count(name) == 1}
+    for (code, said), (after, to) in zip(body, body[1:]):
+        if code == LOCAL_GET and said in found and after in (LOCAL_SET, LOCAL_TEE) and sets.count(to) == 1:
+            found[to] = found[said]
+    return found
+
+
+def looks_at_stack(body, at):
+    """Whether the place of the stack is only compared with a number, as where a function sees that there is room; it may
+    be kept in a variable too, from which it is set again."""
+    after = at + 2 if body[at + 1][0] == LOCAL_TEE else at + 1
+    return body[at] == (GLOBAL_GET, 0) and body[after][0] == I64_CONST and 0x51 <= body[after + 1][0] <= 0x5A
+
+
+class Writer:
+    """Writes one function."""
+
+    def __init__(self, module, place, names):
+        self.module, self.function, self.names = module, module.functions[place], names
+        self.place = place
+        self.types = [*self.function.takes, *self.function.variables]
+        self.frames = kept(self.function)
+        self.lines, self.stack, self.blocks, self.used = [], [], [], set()
+        self.labels, self.dead = 0, 0
+        self.spans = []
+
+    # ---- values ----
+
+    def push(self, value):
+        self.stack.append(value)
+        if len(value.text) > LONGEST:
+            self.keep(len(self.stack) - 1)
+
+    def pop(self):
+        return self.stack.pop()
+
+    def keep(self, height):
+        """Puts a value into the variable of its place on the stack."""
+        value = self.stack[height]
+        name = f"{'t' if value.type == I32 else 'w'}{height}"
+        if value.text == name:
+            return
+        self.settle(name, height)
+        self.say(f"{name} = {value.text};")
+        self.used.add((name, value.type))
+        self.stack[height] = Value(name, value.type, frozenset([name]))
+
+    def settle(self, name, but=-1):
+        """Keeps the values that a variable is in, before it changes."""
+        for height, value in enumerate(self.stack):
+            if height != but and name in value.names and value.text != name:
+                self.keep(height)
+            elif height != but and value.text == name and name[0] == "v":
+                self.keep(height)
+
+    def settle_reads(self):
+        """Keeps the values for which memory is read, before it changes."""
+        for height, value in enumerate(self.stack):
+            if value.reads:
+                self.keep(height)
+
+    def settle_all(self):
+        """Keeps all values but numbers, where a block begins."""
+        for height, value in enumerate(self.stack):
+            if value.names or value.reads:
+                self.keep(height)
+
+    def say(self, text):
+        if text:
+            self.lines.append(text)
+
+    # ---- instructions ----
+
+    def write(self):
+        """The lines of the function's body."""
+        self.blocks.append(Block(BLOCK, 0, 0, self.function.gives))
+        for at, (code, said) in enumerate(self.function.body):
+            if self.dead:
+                self.skip(code)
+            else:
+                self.one(code, said, at)
+        if not self.dead and self.function.gives:
+            self.say(f"return {self.pop().text};")
+        return self.lines
+
+    def skip(self, code):
+        """An instruction that nothing reaches."""
+        if code in (BLOCK, LOOP, IF):
+            self.dead += 1
+        elif code == END or (code == ELSE and self.dead == 1):
+            self.dead -= 1
+            if self.dead == 0:
+                self.blocks[-1].is_reached = False
+                self.end() if code == END else self.otherwise()
+
+    def one(self, code, said, at):
+        """An instruction."""
+        if code in (BLOCK, LOOP, IF):
+            self.begin(code, said, at)
+        elif code == END:
+            self.end()
+        elif code == ELSE:
+            self.otherwise()
+        elif code in JUMPS:
+            JUMPS[code](self, said)
+        elif code in LOADED:
+            self.load(code, said)
+        elif code in STORED:
+            self.store(code, said)
+        elif code in PLAIN:
+            PLAIN[code](self, said)
+        else:
+            self.count(code)
+
+    def begin(self, code, gives, at):
+        """A block, a loop or a condition."""
+        if gives not in (NO_RESULT, I32, I64):
+            raise Unfit("a block takes something, or has several results")
+        condition = self.pop() if code == IF else None
+        self.settle_all()
+        self.labels += 1
+        block = Block(code, self.labels, len(self.stack), [] if gives == NO_RESULT else [gives])
+        if code == LOOP:
+            block.is_folded = self.folded(block, at)
+            self.say(f"again{block.label}:;")
+        self.blocks.append(block)
+        if condition:
+            self.say(f"if ({self.holds(condition)[0]}) {{")
+
+    def folded(self, block, at):
+        """Writes what a loop leaves that makes an exclusive-or of octets, where these are in one piece. Whether it is
+        such a loop; then the same loop as it is comes next, in braces."""
+        loop = exclusive_or(self.function.body, at)
+        if not loop:
+            return False
+        count, name = f"n{block.label}", f"q{block.label}"
+        self.spans += [(count, "u64"), (name, "const u8 *")]
+        self.say(f"{count} = {loop.left.text()};")
+        self.say(f"{name} = span(m, {loop.start.text()}, {count}, {loop.by}, {loop.step});")
+        self.say(f"if ({name}) {{")
+        self.say(f"{count} /= {loop.by};" if loop.by > 1 else "")
+        self.say(f"v{loop.makes} ^= exclusive_or({name}, ({count} + 1u) * {loop.step});")
+        for place, value, grown in loop.others:
+            self.say(f"v{place} = {value.text()}{f' + {constant(grown, I64)} * {count}' if grown else ''};")
+        self.say("} else {")
+        return True
+
+    def leave(self, block):
+        """Puts the result of a block into its place."""
+        if block.gives:
+            value = self.pop()
+            del self.stack[block.height :]
+            self.stack.append(value)
+            self.keep(block.height)
+
+    def otherwise(self):
+        """What is done where a condition doesn't hold."""
+        block = self.blocks[-1]
+        if block.is_reached:
+            self.leave(block)
+        del self.stack[block.height :]
+        block.code, block.is_reached = ELSE, True
+        self.say("} else {")
+
+    def end(self):
+        """The end of a block."""
+        block = self.blocks[-1]
+        if block.is_reached:
+            self.leave(block)
+        del self.stack[block.height :]
+        if block.code in (IF, ELSE):
+            self.say("}")
+        self.blocks.pop()
+        if block.is_folded:
+            self.say("}")
+        is_reached = block.is_reached or block.code == IF or (block.is_used and block.code != LOOP)
+        if block.is_used and block.code != LOOP:
+            self.say(f"after{block.label}:;")
+        if not is_reached:
+            self.dead = 1
+            return
+        for kind in block.gives:
+            name = f"{'t' if kind == I32 else 'w'}{block.height}"
+            self.used.add((name, kind))
+            self.stack.append(Value(name, kind, frozenset([name])))
+
+    def way(self, depth):
+        """The words that go to the label of a block that is open, with the result in its place."""
+        if depth == len(self.blocks) - 1:
+            return f"return {self.stack[-1].text};" if self.function.gives else "return;"
+        block = self.blocks[-1 - depth]
+        block.is_used = True
+        if block.code == LOOP:
+            return f"goto again{block.label};"
+        if block.gives and self.stack[-1].text != self.slot(block):
+            raise Unfit("a jump brings a result from another place")
+        return f"goto after{block.label};"
+
+    def slot(self, block):
+        return f"{'t' if block.gives[0] == I32 else 'w'}{block.height}"
+
+    def bring(self, depth):
+        """Puts the result that a jump brings into its place."""
+        block = self.blocks[-1 - depth]
+        if depth == len(self.blocks) - 1 or block.code == LOOP or not block.gives:
+            return
+        value, name = self.stack[-1], self.slot(block)
+        if value.text != name:
+            self.settle(name)
+            value = self.stack[-1]
+            self.say(f"{name} = {value.text};")
+            self.used.add((name, value.type))
+            self.stack[-1] = Value(name, value.type, frozenset([name]))
+
+    def jump(self, depth):
+        self.bring(depth)
+        self.say(self.way(depth))
+        self.dead = 1
+
+    def jump_if(self, depth):
+        condition = self.pop()
+        if depth < len(self.blocks) - 1 and self.blocks[-1 - depth].gives:
+            self.stack.append(condition)
+            self.keep(len(self.stack) - 1)
+            condition = self.pop()
+            self.bring(depth)
+        self.say(f"if ({self.holds(condition)[0]}) {{ {self.way(depth)} }}")
+
+    def jump_by_table(self, ways):
+        choice = self.pop()
+        for depth in ways:
+            if depth < len(self.blocks) - 1 and self.blocks[-1 - depth].gives:
+                raise Unfit("a table of jumps brings a result")
+        self.say(f"switch ({choice.text}) {{")
+        for number, depth in enumerate(ways[:-1]):
+            if depth != ways[-1]:
+                self.say(f"case {number}: {self.way(depth)}")
+        self.say(f"default: {self.way(ways[-1])}")
+        self.say("}")
+        self.dead = 1
+
+    def back(self, _):
+        self.say(f"return {self.pop().text};" if self.function.gives else "return;")
+        self.dead = 1
+
+    def never(self, _):
+        self.say("UNREACHABLE;")
+        self.dead = 1
+
+    def call(self, place):
+        """A call of another function."""
+        called = self.module.functions[place]
+        self.settle_reads()
+        count = len(called.takes)
+        given = [it.text for it in self.stack[len(self.stack) - count :]]
+        del self.stack[len(self.stack) - count :]
+        text = f"{self.names[place]}({', '.join(['m', *given])})"
+        if not called.gives:
+            self.say(f"{text};")
+            return
+        self.stack.append(Value(text, called.gives[0], reads=True, is_plain=True))
+        self.keep(len(self.stack) - 1)
+
+    # ---- variables ----
+
+    def variable(self, place):
+        return f"v{place}"
+
+    def get(self, place):
+        self.push(Value(f"v{place}", self.types[place], frozenset([f"v{place}"])))
+
+    def set(self, place):
+        value = self.pop()
+        self.settle(f"v{place}")
+        self.say(f"v{place} = {value.text};")
+        self.framed(place)
+
+    def tee(self, place):
+        self.set(place)
+        self.get(place)
+
+    def framed(self, place):
+        """Where a variable is the place of a frame, finds the octets of the frame."""
+        if place in self.frames:
+            self.say(f"f{place} = at(m, v{place}, {self.frames[place]});")
+
+    def get_global(self, place):
+        kind, _ = self.module.globals[place]
+        self.push(Value(f"m->g{place}", kind, reads=True))
+
+    def set_global(self, place):
+        value = self.pop()
+        self.settle_reads()
+        self.say(f"m->g{place} = {value.text};")
+
+    # ---- memory ----
+
+    def frame(self, address, offset, octets):
+        """The octets in the frame that an address and an offset lead to, where they do."""
+        place = int(address.text[1:]) if address.text[:1] == "v" and address.text[1:].isdigit() else None
+        if place in self.frames and offset + octets <= self.frames[place]:
+            return f"f{place} + {offset}" if offset else f"f{place}"
+        return None
+
+    def load(self, code, offset):
+        kind, bits, spread = LOADED[code]
+        address = self.pop()
+        near = self.frame(address, offset, bits // 8)
+        text = f"get{bits}({near})" if near else f"load{bits}(m, {address.text}, {offset})"
+        if spread and spread < BITS[kind]:
+            text = f"spread{BITS[kind]}({text}, {spread})"
+        elif kind == I64 and bits < 64:
+            text = f"(u64){text}"
+        self.push(Value(text, kind, address.names, reads=True))
+
+    def store(self, code, offset):
+        value, address = self.pop(), self.pop()
+        self.settle_reads()
+        bits = STORED[code]
+        near = self.frame(address, offset, bits // 8)
+        text = value.text if (value.type == I64) == (bits == 64) else f"(u32){value.part()}"
+        self.say(f"put{bits}({near}, {text});" if near else f"store{bits}(m, {address.text}, {offset}, {text});")
+
+    def copy(self, _):
+        count, source, to = self.pop(), self.pop(), self.pop()
+        self.settle_reads()
+        self.say(f"copy(m, {to.text}, {source.text}, {count.text});")
+
+    def fill(self, _):
+        count, value, to = self.pop(), self.pop(), self.pop()
+        self.settle_reads()
+        self.say(f"fill(m, {to.text}, {value.text}, {count.text});")
+
+    # ---- numbers ----
+
+    def holds(self, value):
+        """How C says that a value isn't 0, and that it is."""
+        return value.holds or (value.text, f"{value.part()} == 0")
+
+    def count(self, code):
+        """An instruction that makes a number of one or two."""
+        for first, kind in ((0x45, I32), (0x50, I64)):
+            if code == first:
+                value = self.pop()
+                return self.truth(*reversed(self.holds(value)), value)
+            if first < code <= first + 10:
+                return self.compare(kind, *COMPARED[code - first - 1])
+        for first, kind in ((0x67, I32), (0x79, I64)):
+            if first <= code < first + 3:
+                value = self.pop()
+                text = COUNTED[code - first].format(n=BITS[kind], a=value.text)
+                return self.push(value_of(text if kind == I32 else f"(u64){text}", kind, value))
+            if first + 3 <= code < first + 18 and MADE[code - first - 3]:
+                return self.make(kind, MADE[code - first - 3])
+        return self.change(code)
+
+    def compare(self, kind, order, is_signed):
+        b, a = self.pop(), self.pop()
+        if is_signed:
+            sign = constant(1 << BITS[kind] - 1, kind)
+            left, right = f"({a.part()} ^ {sign})", f"({b.part()} ^ {sign})"
+        else:
+            left, right = a.part(), b.part()
+        self.truth(f"{left} {order} {right}", f"{left} {OPPOSITE[order]} {right}", a, b)
+
+    def truth(self, so, not_so, *parts):
+        self.push(value_of(f"(u32)({so})", I32, *parts, holds=(so, not_so)))
+
+    def make(self, kind, form):
+        b, a = self.pop(), self.pop()
+        bits = BITS[kind]
+        calls = form[0] != "{"
+        by = f"{int(b.text.rstrip('ul'), 0) % bits}" if not b.names and not b.reads else f"({b.part()} & {bits - 1})"
+        text = form.format(n=bits, c=by, a=a.text if calls else a.part(), b=b.text if calls else b.part())
+        self.push(value_of(text, kind, a, b))
+
+    def change(self, code):
+        """An instruction that makes a number of another type, or spreads a sign."""
+        value = self.pop()
+        if code == 0xA7:
+            self.push(value_of(f"(u32){value.part()}", I32, value))
+        elif code == 0xAC:
+            self.push(value_of(f"spread64({value.text}, 32)", I64, value))
+        elif code == 0xAD:
+            self.push(value_of(f"(u64){value.part()}", I64, value))
+        elif code in SPREAD:
+            kind, bits = SPREAD[code]
+            self.push(value_of(f"spread{BITS[kind]}({value.text}, {bits})", kind, value))
+        else:
+            raise Unfit(f"it has the instruction {code:#x}")
+
+    def choose(self, _):
+        condition, b, a = self.pop(), self.pop(), self.pop()
+        text = f"{self.wrapped(self.holds(condition)[0])} ? {a.part()} : {b.part()}"
+        self.push(value_of(text, a.type, condition, a, b))
+
+    def wrapped(self, text):
+        return text if text.isalnum() else f"({text})"
+
+
+JUMPS = {BR: Writer.jump, BR_IF: Writer.jump_if, BR_TABLE: Writer.jump_by_table, RETURN: Writer.back,
+         UNREACHABLE: Writer.never, CALL: Writer.call}
+PLAIN = {NOP: lambda self, _: None, DROP: lambda self, _: self.pop(), SELECT: Writer.choose,
+         LOCAL_GET: Writer.get, LOCAL_SET: Writer.set, LOCAL_TEE: Writer.tee, GLOBAL_GET: Writer.get_global,
+         GLOBAL_SET: Writer.set_global, MEMORY_COPY: Writer.copy, MEMORY_FILL: Writer.fill,
+         I32_CONST: lambda self, said: self.push(Value(constant(said, I32), I32)),
+         I64_CONST: lambda self, said: self.push(Value(constant(said, I64), I64))}
