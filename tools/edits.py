@@ -1,5 +1,5 @@
-"""What the scripts of this repository know of the edits in crates/*/must-fail and crates/*/more-edits: a line 'file:',
-then pairs of lines 'old:' and 'new:', and the function that each replaced text is in."""
+"""What the scripts of this repository know of the edits in crates/*/more-edits: a line 'file:', then pairs of lines
+'old:' and 'new:', and the function that each replaced text is in."""
 
 import collections
 import re
@@ -13,7 +13,7 @@ Function = collections.namedtuple("Function", "file name owner first last")
 Edit = collections.namedtuple("Edit", "name pairs functions")
 
 
-# The edits of more-edits that the gate tries.
+# The edits that the gate tries.
 FIRST = TOP / "tools/first-edits.txt"
 
 
@@ -65,19 +65,22 @@ def read_edit(path, folder):
 
 def edits_of(folder):
     """The files of a crate's edits."""
-    return sorted(it for kind in ("must-fail", "more-edits") for it in (folder / kind).glob("*.edit"))
+    return sorted((folder / "more-edits").glob("*.edit"))
 
 
 def first_edits():
-    """The edits of more-edits that the gate tries, by crate."""
-    rows = [it.split("#")[0].partition(":") for it in FIRST.read_text().splitlines()]
+    """The edits that the gate tries, by crate. A line that begins with a space goes on with the one before."""
+    rows = [it.split("#")[0].partition(":") for it in FIRST.read_text().replace("\n ", " ").splitlines()]
     return {name.strip(): edits.split() for name, _, edits in rows if edits}
 
 
 def read_edits(name, chosen):
     """The edits of a crate, all or those that are chosen, and a line for each that can't be made."""
-    folder, edits, wrong = TOP / "crates" / name, [], []
-    for path in edits_of(folder):
+    folder, edits = TOP / "crates" / name, []
+    paths = edits_of(folder)
+    lost = [it for it in chosen or () if it not in {path.stem for path in paths}]
+    wrong = [f"{name}/{it}: BAD EDIT: there is no such file" for it in lost]
+    for path in paths:
         try:
             edits += [read_edit(path, folder)] if not chosen or path.stem in chosen else []
         except (Unusable, OSError) as why:

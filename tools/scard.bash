@@ -4,7 +4,7 @@
 # option's value, command, the first of these, and what, the second.
 _scard_before() {
     local at before value=
-    place=1 command= what=
+    place=1 command='' what=
     for ((at = 1; at < COMP_CWORD; at++)); do
         before=${COMP_WORDS[at]}
         case $before in
@@ -47,7 +47,7 @@ _scard_words() {
 
 # An option with its value, as --end=card, is three words in COMP_WORDS, or one where no word breaks at equals signs.
 _scard() {
-    local word=${COMP_WORDS[COMP_CWORD]} option=${COMP_WORDS[COMP_CWORD - 1]} front= place command what words=
+    local word=${COMP_WORDS[COMP_CWORD]} option=${COMP_WORDS[COMP_CWORD - 1]} front='' place command what words=
     case $word in
     =) word= ;;
     --*=*) option=${word%%=*} front=${word%%=*}= word=${word#*=} ;;
@@ -67,6 +67,7 @@ _scard() {
     --stdin:build: | --stdin:build:tidy) words=${words% lines} ;;
     --stdin:*) words= ;;
     esac
+    # shellcheck disable=SC2207 # no word that is given has a space
     COMPREPLY=($(compgen -P "$front" -W "$words" -- "$word"))
 }
 # Where none of these words fits, a file's name may.

@@ -1,6 +1,5 @@
 """A client of PC/SC for the card of examples/pcsc, by pyscard: sessions under a plan, exchanges, and what the answer to
 each command has to be."""
-import random
 from smartcard import scard
 
 

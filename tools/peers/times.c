@@ -324,7 +324,7 @@ int main(int argc, char **argv)
     memcpy(command, "\x00\xD6\x00\x00\x00\xFF\xFF", 7); /* 65,535 octets of data, and Le 65,536 */
     memset(reply, 0x5A, sizeof reply);
     row("an exchange of 64 KiB each way, our card", "libccid", exchange_theirs, exchange_ours, 1);
-    row("the same, both ends in one loop", "libccid", exchange_theirs, both_ours, 1);
+    row("the same, both ends ours", "libccid", exchange_theirs, both_ours, 1);
     row("a command of 64 KiB, in place", "OpenSC", command_theirs, command_ours, 1);
     told_forest("nested", 0);
     told_forest("flat", 1);

@@ -1,0 +1,38 @@
+#!/usr/bin/env python3
+"""Tests that each script of the repository refuses a word that begins with a dash and is none of its options: with its
+usage and status 2, before it does anything. ./scard is left out, which hands its words to the program."""
+
+import pathlib
+import subprocess
+import tempfile
+import unittest
+
+TOP = pathlib.Path(__file__).resolve().parents[2]
+
+
+def scripts():
+    """The scripts that people call: those that are executable at the top and in tools. One with an end to its name is a
+    part of another."""
+    files = [it for place in (".", "tools", "tools/peers", "tools/pcsc") for it in sorted((TOP / place).iterdir())]
+    return [it for it in files if it.is_file() and it.stat().st_mode & 0o100 and not it.suffix and it.name != "scard"]
+
+
+class Options(unittest.TestCase):
+    def refused(self, script, word):
+        """What a script says of a word, which it has to refuse in an empty folder that it leaves empty."""
+        with tempfile.TemporaryDirectory() as room:
+            how = {"stdin": subprocess.DEVNULL, "stdout": subprocess.PIPE, "stderr": subprocess.PIPE, "text": True}
+            ran = subprocess.run([script, word], cwd=room, check=False, timeout=60, **how)
+            self.assertEqual(list(pathlib.Path(room).iterdir()), [])
+        self.assertEqual((ran.returncode, ran.stdout), (2, ""), ran.stderr)
+        return ran.stderr
+
+    def test_each_script_refuses_a_word_that_is_no_option(self):
+        for script in scripts():
+            for word in ("--help", "-x"):
+                with self.subTest(script=str(script.relative_to(TOP)), word=word):
+                    self.assertTrue(self.refused(script, word).startswith("usage: "))
+
+
+if __name__ == "__main__":
+    unittest.main()
