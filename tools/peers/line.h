@@ -5,8 +5,13 @@
 #include "adapter.h"
 
 /* Damaged: the check octet is another one. Invalid: another node address, under an LRC that fits. Changed: any octet is
- * any other one, LEN too. Cut: octets are missing at the end. Extended: octets follow. */
-enum fault { NONE, LOST, DAMAGED, INVALID, CHANGED, CUT, EXTENDED, FAULTS };
+ * any other one, LEN too. Cut: octets are missing at the end. Extended: octets follow. After these come the faults of
+ * which nothing is promised. Headless: octets are missing at the front. Dropped, inserted: one octet is missing, or one
+ * more is there. Twice: two octets are other ones. Swapped: two octets are in each other's place. */
+enum fault {
+    NONE, LOST, DAMAGED, INVALID, CHANGED, CUT, EXTENDED, FAULTS,
+    HEADLESS = FAULTS, DROPPED, INSERTED, TWICE, SWAPPED, ALL_FAULTS
+};
 
 struct event {
     unsigned block; /* the block's number on the line, from 0, both ways counted */
