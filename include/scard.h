@@ -898,7 +898,7 @@ struct scard_verdict scard_lent_receiver_message(const struct scard_lent_receive
  * struct has, a call is safe. These calls take no memory.
  */
 struct scard_lent_framer {
-    uint64_t count;                    /* octets of the burst so far, also those that aren't kept; it stays at its
+    scard_size count;                  /* octets of the burst so far, also those that aren't kept; it stays at its
                                           greatest value */
     uint8_t octets[SCARD_BURST_ROOM];  /* the first of them */
 };

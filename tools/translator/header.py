@@ -86,8 +86,9 @@ def struct_of(name, body, known):
     fields, place, most = [], 0, 1
     for line in filter(None, (it.strip() for it in body.split(";"))):
         for kind, field, count in declared(line):
-            if kind == "size_t":
-                raise Unfit(f"struct {name}: {field} has the type size_t, which differs from machine to machine: take scard_size")
+            if kind in ("size_t", "uint64_t"):
+                raise Unfit(f"struct {name}: {field} has the type {kind}, whose octets or alignment differ from machine to "
+                            "machine: take scard_size")
             if field.startswith("*"):
                 parts, octets, aligned = [("", 0, POINTER, True, kind)], POINTER, POINTER
             else:
