@@ -36,8 +36,8 @@ enum scard_line_said {
 /* The line to the other end. `send` sends all octets: 0, or SCARD_LINE_FAILED. `receive` takes octets that come, at
  * most `room`, as soon as there are any: how many; 0 where none came within so many microseconds; SCARD_LINE_FAILED;
  * or SCARD_LINE_INTERRUPTED, where it is called again with the same time (one that is interrupted often waits for the
- * rest of its time by itself). It may wait for longer than it is told, never for less, and counts from the last octet
- * that was sent or received. `now` is the time in microseconds, of a clock that never goes back; it may be null.
+ * rest of its time by itself). It may wait for longer than that, never for less, and counts from the last octet that
+ * was sent or received. `now` is the time in microseconds, of a clock that never goes back; it may be null.
  */
 struct scard_line {
     void *context;

@@ -1,0 +1,71 @@
+/* The terminal's image: exchanges with the card's over a line that loses and damages octets. An exchange is right where
+ * its answer is that of its command; an answer that is another one is wrong. One that is given up is neither: the
+ * terminal knows that it has no answer. It prints `N right, M given up, 0 wrong`.
+ */
+#include "trial.h"
+
+static struct scard_session session;
+static struct scard_setup setup;
+static struct board_line line;
+static uint8_t kept_command[ROOM], kept_answer[ROOM], command[LONGEST], wanted[LONGEST + 2];
+static uint32_t die = 7;
+
+static size_t make_command(uint32_t number)
+{
+    size_t count = SHORTEST + board_any(&die) % (LONGEST - SHORTEST), place;
+    for (place = 0; place < count; place++) {
+        command[place] = (uint8_t)board_any(&die);
+    }
+    for (place = 0; place < NUMBER; place++) {
+        command[place] = (uint8_t)(number >> 8 * place);
+    }
+    return count;
+}
+
+/* One exchange: 1 where it is right, 0 where it is given up, -1 where it is wrong. */
+static int exchange(uint32_t number)
+{
+    size_t count = make_command(number), answers = trial_answer(command, count, wanted);
+    struct scard_turn turn = scard_session_exchange(&session, command, count);
+    if (turn.kind == SCARD_DONE) {
+        return turn.count == answers && memcmp(kept_answer, wanted, answers) == 0 ? 1 : -1;
+    }
+    if (turn.kind == SCARD_SESSION_NO_STATUS) {
+        return -1;
+    }
+    /* a card that is found dead can't be reset here: it is asked to begin anew until it does */
+    while (turn.kind != SCARD_GIVEN_UP) {
+        turn = scard_session_resync(&session, &setup);
+    }
+    return 0;
+}
+
+int main(void)
+{
+    uint32_t number, right = 0, given_up = 0, wrong = 0;
+    board_begin();
+    line.in_million = IN_MILLION;
+    line.die = 1;
+    setup = trial_setup(&line);
+    setup.command = kept_command;
+    setup.command_room = sizeof kept_command;
+    setup.answer = kept_answer;
+    setup.answer_room = sizeof kept_answer;
+    if (scard_session_begin(&session, &setup).status != SCARD_OK) {
+        board_say("no session\n");
+        return 2;
+    }
+    for (number = 1; number <= EXCHANGES; number++) {
+        int said = exchange(number);
+        right += said > 0;
+        given_up += said == 0;
+        wrong += said < 0;
+    }
+    board_say_number(right);
+    board_say(" right, ");
+    board_say_number(given_up);
+    board_say(" given up, ");
+    board_say_number(wrong);
+    board_say(" wrong\n");
+    return wrong > 0 ? 1 : 0;
+}
