@@ -26,7 +26,7 @@ extern "C" {
 /* ---- the line ---- */
 
 enum scard_line_said {
-    SCARD_LINE_FAILED = -1,     /* the line failed or ended, or the program wants no more of it */
+    SCARD_LINE_FAILED = -1,     /* the line failed or ended, or the program ends it */
     SCARD_LINE_INTERRUPTED = -2 /* the call was interrupted, as by a signal: neither octets nor silence */
 };
 
