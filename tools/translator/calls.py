@@ -64,8 +64,9 @@ class Depths:
 
 
 def octets_of(struct):
-    """Where each octet of a struct of the module lies on a machine, lowest first or last."""
-    lowest, highest = [0] * struct.octets, [0] * struct.octets
+    """Where each octet of a struct of the module lies on a machine, lowest first or last. One that is in no field lies
+    where it is: the module copies whole structs."""
+    lowest, highest = list(range(struct.octets)), list(range(struct.octets))
     for it in struct.fields:
         for place in range(it.octets):
             lowest[it.place + place] = 0xFFF0 + place if it.is_pointer else it.place + place

@@ -406,12 +406,13 @@ INLINE u32 exclusive_or(const u8 *at, u64 count)
 INLINE void copy(const struct call *m, u64 to, u64 from, u64 n)
 {
     u8 *there = n ? piece(m, to, n) : NULL, *here = n ? piece(m, from, n) : NULL;
-    u64 place;
+    u64 turn;
     if (there && here) {
         memmove(there, here, (size_t)n);
         return;
     }
-    for (place = 0; place < n; place++) {
+    for (turn = 0; turn < n; turn++) {
+        u64 place = to > from ? n - 1u - turn : turn;
         store8(m, to + place, 0, load8(m, from + place, 0));
     }
 }
@@ -574,7 +575,7 @@ INLINE void lend_shaped(struct call *m, u32 window, const void *at, u64 count, s
     m->shaped[window] = shape;
 }
 
-#if HIGHEST_FIRST
+#if HIGHEST_FIRST || defined(SCARD_SHAPED)
 #define SHAPED_HERE struct shaped shaped[WINDOWS];
 #define LEND(m, window, at, count, shape) lend_shaped(m, window, at, count, shape)
 #else

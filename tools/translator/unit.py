@@ -19,8 +19,8 @@ HEAD = """/* scard: the calls of scard.h that take no memory, for any machine.
  *
  * It is C99 and C++17. It writes no variable outside its calls, takes no memory, and no function calls itself. It wants
  * memcpy, memmove, memset and, unless SCARD_OWN_TRAP is defined, abort. Words that may be defined: SCARD_OWN_TRAP;
- * SCARD_BY_OCTETS and SCARD_PLAIN, which leave out what is faster on some machines; and HIGHEST_FIRST, 1 or 0, where
- * the compiler doesn't tell the order of octets.
+ * SCARD_BY_OCTETS and SCARD_PLAIN, which leave out what is faster on some machines; SCARD_SHAPED, which reaches structs
+ * as where the highest octet is first, for tests; and HIGHEST_FIRST, 1 or 0, where the compiler doesn't tell the order.
  */
 """
 
