@@ -123,20 +123,6 @@ static void check_kind(const struct row *row)
     free(octets.at);
 }
 
-/* The answer to `build tidy HEX`. */
-static void tidy(const struct row *row)
-{
-    struct octets octets = of_word(row->words[2]);
-    uint8_t out[LONGEST_LINE];
-    struct scard_verdict v = scard_tlv_tidy(octets.at, octets.count, SCARD_TLV_LARGEST, out, sizeof out);
-    if (v.status == SCARD_OK) {
-        say_octets(out, v.place);
-    } else {
-        say_verdict(v, SCARD_CODEC_TLV);
-    }
-    free(octets.at);
-}
-
 /* The answer to `build chain IFS NUMBER HEX`: each block ends after its length, header and LRC. */
 static void cut(const struct row *row)
 {
@@ -150,6 +136,21 @@ static void cut(const struct row *row)
         place += (size_t)out[place + 2] + 4;
     }
     free(message.at);
+}
+
+#ifndef WITHOUT_HANDLES
+/* The answer to `build tidy HEX`. */
+static void tidy(const struct row *row)
+{
+    struct octets octets = of_word(row->words[2]);
+    uint8_t out[LONGEST_LINE];
+    struct scard_verdict v = scard_tlv_tidy(octets.at, octets.count, SCARD_TLV_LARGEST, out, sizeof out);
+    if (v.status == SCARD_OK) {
+        say_octets(out, v.place);
+    } else {
+        say_verdict(v, SCARD_CODEC_TLV);
+    }
+    free(octets.at);
 }
 
 /* A known value of a word F:TAG:VALUE, whose octets are put into `value`. */
@@ -201,6 +202,27 @@ static void fill(const struct row *row)
     free(list.at);
 }
 
+/* The answers of calls that take memory: whether the line is of one. */
+static int with_memory(const struct row *row)
+{
+    if (row->count == 3 && strcmp(row->words[1], "tidy") == 0) {
+        tidy(row);
+        return 1;
+    }
+    if (row->count >= 3 && strcmp(row->words[1], "fill") == 0) {
+        fill(row);
+        return 1;
+    }
+    return 0;
+}
+#else
+static int with_memory(const struct row *row)
+{
+    (void)row;
+    return 0;
+}
+#endif
+
 /* The number after an option, in the same word or the next; 0 where the word is another. */
 static int takes(const char *option, char **word, int *number)
 {
@@ -242,13 +264,9 @@ static int try_line(const char *file, int number, char *line)
     said[0] = 0;
     if (row.count == 3 && strcmp(row.words[0], "check") == 0) {
         check_kind(&row);
-    } else if (row.count == 3 && strcmp(row.words[0], "build") == 0 && strcmp(row.words[1], "tidy") == 0) {
-        tidy(&row);
     } else if (row.count == 5 && strcmp(row.words[0], "build") == 0 && strcmp(row.words[1], "chain") == 0) {
         cut(&row);
-    } else if (row.count >= 3 && strcmp(row.words[0], "build") == 0 && strcmp(row.words[1], "fill") == 0) {
-        fill(&row);
-    } else {
+    } else if (row.count == 0 || strcmp(row.words[0], "build") != 0 || !with_memory(&row)) {
         return 0;
     }
     CHECK(strcmp(said, row.text) == 0);
