@@ -83,8 +83,8 @@ enum scard_status {
 struct scard_verdict {
     uint8_t status; /* enum scard_status */
     uint8_t reason; /* the reason by the codec, below; 0 unless the status is SCARD_AT */
-    scard_size place;   /* what the status says: at SCARD_OK the octets that were written or taken, at SCARD_ARGUMENT the
-                       room that is needed, while nothing was written. So look at the status first. */
+    scard_size place; /* by the status: at SCARD_OK the octets that were written or taken, at SCARD_ARGUMENT the room
+                         that is needed, while nothing was written. So look at the status first. */
 };
 
 /* The codecs, for scard_reason_name. */
@@ -577,8 +577,9 @@ struct scard_turn {
 
 /* Open an end for these parameters of T=1. All the memory of an end is taken here, some 131 KB; what the handle
  * held is freed. Where the handle holds such an end already, that is made a new one in the memory that it has, where
- * what it held is overwritten, and none is taken. Unless it is OK the handle stays as it was. OK, MEMORY, ARGUMENT (`ifsc` is 0 or 255, or an index
- * is above 15). An end measures no time, so it only looks whether the indexes are in range.
+ * what it held is overwritten, and none is taken. Unless it is OK the handle stays as it was. OK, MEMORY, ARGUMENT
+ * (`ifsc` is 0 or 255, or an index is above 15). An end measures no time, so it only looks whether the indexes are in
+ * range.
  *
  * A terminal and a card begin together, at a reset of the card. A terminal that is opened while its card goes on has
  * lost the number of the next block. The card may then take its first command for a repeat of the last one, not hand
@@ -592,11 +593,11 @@ struct scard_verdict scard_card_open(struct scard_handle *handle, uint8_t ifsc, 
 
 /*
  * Frees what the handle holds, and leaves it empty. An empty handle is fine. The buffers of an end, and the message of
- * a receiver of chains, are overwritten before their memory is given back.
+ * a receiver of chains, are overwritten before their memory is freed.
  */
 void scard_close(struct scard_handle *handle);
 
-/* The calls of an end. Each wants a buffer of SCARD_BLOCK_ROOM octets, and writes the octets of a block to it at
+/* The calls of an end. Each takes a buffer of SCARD_BLOCK_ROOM octets, and writes the octets of a block to it at
  * SCARD_SEND alone. `received` takes what the line delivered as one block, whatever it is; `quiet` says that
  * nothing came within the waiting time, `wait` times BWT, which this library doesn't measure. Don't say so earlier: all
  * that is promised of both ends rests on their taking turns.
@@ -898,7 +899,7 @@ struct scard_verdict scard_lent_receiver_message(const struct scard_lent_receive
  * struct has, a call is safe. These calls take no memory.
  */
 struct scard_lent_framer {
-    uint64_t count;                    /* octets of the burst so far, also those that aren't kept; it stays at its
+    scard_size count;                  /* octets of the burst so far, also those that aren't kept; it stays at its
                                           greatest value */
     uint8_t octets[SCARD_BURST_ROOM];  /* the first of them */
 };

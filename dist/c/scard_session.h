@@ -26,7 +26,7 @@ extern "C" {
 /* ---- the line ---- */
 
 enum scard_line_said {
-    SCARD_LINE_FAILED = -1,     /* the line failed or ended, or the program wants no more of it */
+    SCARD_LINE_FAILED = -1,     /* the line failed or ended, or the program ends it */
     SCARD_LINE_INTERRUPTED = -2 /* the call was interrupted, as by a signal: neither octets nor silence */
 };
 
@@ -36,8 +36,8 @@ enum scard_line_said {
 /* The line to the other end. `send` sends all octets: 0, or SCARD_LINE_FAILED. `receive` takes octets that come, at
  * most `room`, as soon as there are any: how many; 0 where none came within so many microseconds; SCARD_LINE_FAILED;
  * or SCARD_LINE_INTERRUPTED, where it is called again with the same time (one that is interrupted often waits for the
- * rest of its time by itself). It may wait for longer than it is told, never for less, and counts from the last octet
- * that was sent or received. `now` is the time in microseconds, of a clock that never goes back; it may be null.
+ * rest of its time by itself). It may wait for longer than that, never for less, and counts from the last octet that
+ * was sent or received. `now` is the time in microseconds, of a clock that never goes back; it may be null.
  */
 struct scard_line {
     void *context;
