@@ -65,20 +65,20 @@ static inline const char *line_of(struct scard_verdict v, int codec)
     static char line[80];
     switch (v.status) {
     case SCARD_OK:
-        snprintf(line, sizeof line, "ok %zu octets", (size_t)v.place);
+        snprintf(line, sizeof line, "ok %lu octets", (unsigned long)v.place);
         break;
     case SCARD_SHORT:
-        snprintf(line, sizeof line, "short at %zu", (size_t)v.place);
+        snprintf(line, sizeof line, "short at %lu", (unsigned long)v.place);
         break;
     case SCARD_AT:
-        snprintf(line, sizeof line, "refused at %zu: %s", (size_t)v.place,
+        snprintf(line, sizeof line, "refused at %lu: %s", (unsigned long)v.place,
                  scard_reason_name(codec, v.reason));
         break;
     case SCARD_MEMORY:
         snprintf(line, sizeof line, "memory");
         break;
     default:
-        snprintf(line, sizeof line, "argument %zu", (size_t)v.place);
+        snprintf(line, sizeof line, "argument %lu", (unsigned long)v.place);
     }
     return line;
 }

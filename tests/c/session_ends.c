@@ -87,8 +87,8 @@ static void sessions(unsigned rate)
     CHECK(right <= acted && acted <= number && wrong == 0);
     CHECK(rate > 0 || (right == number && acted == number));
     CHECK(rate > 50 || right > number / 2);
-    printf("%u of 1,000 blocks disturbed: %u exchanges, %u right, %u given up, %u dead\n", rate, number, right, failed,
-           dead);
+    printf("%lu of 1,000 blocks disturbed: %lu exchanges, %lu right, %lu given up, %lu dead\n", (unsigned long)rate,
+           (unsigned long)number, (unsigned long)right, (unsigned long)failed, (unsigned long)dead);
 }
 
 /* The terminal waits as many waiting times as it granted, and one after that. */
