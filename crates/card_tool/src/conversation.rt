@@ -1,4 +1,4 @@
-//! What hears octets and tells texts, in turn.
+//! What reads octets and writes texts, in turn.
 
 ghost use Rattle.std.specs.Prelude.{◌<◌, List, [], ◌∷◌, length, IfErr};
 ghost use Rattle.std.specs.Io.{ReadsAtMost};
@@ -7,7 +7,7 @@ ghost use Rattle.card_tool.specs.Conversations.{AreSame, Event, Happens, HaveMov
 use octet_core::{Sink, Source, WriteFault, write_octets};
 use std::io;
 
-/// One who hears octets and is told texts, as a user at a terminal or a program at the other ends of two pipes.
+/// One who sends octets and reads texts, as a user at a terminal or a program at the other ends of two pipes.
 ///
 /// Contracts see what was heard and told since it was another conversation, in order. So who is proved over any
 /// conversation tells what its clauses say before it hears more. A conversation of which nothing is known has for
@@ -29,7 +29,7 @@ pub trait Conversation {
         ensures said { Happens (said self.old) (said self.new) (telling text.now result ∷ []) };
 }
 
-/// The conversation of a reader and a writer: what is heard is read by one call, and what is told is written
+/// The conversation of a reader and a writer: what is heard is read by one call, and each text is written
 /// before the call returns.
 #[derive(Drop)]
 pub struct Streams<'a, R, W> {

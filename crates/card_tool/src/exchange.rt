@@ -24,7 +24,7 @@ use exchange_core::{
 use octet_core::Octets;
 use std::alloc::{AllocError, Global};
 
-/// What is told of the file, or its fault.
+/// The text of the file, or its fault.
 pub(crate) fn told(alloc: Global, file: Octets, task: FileTask) -> Result<Answer, AllocError>
     ensures { IfOk result (λ answer. TellsFile task file answer.text answer.status) }
 {
@@ -34,7 +34,7 @@ pub(crate) fn told(alloc: Global, file: Octets, task: FileTask) -> Result<Answer
     }
 }
 
-/// What is told of an exchange.
+/// The text of an exchange.
 fn told_of(alloc: Global, exchange: Exchange, task: FileTask) -> Result<Answer, AllocError>
     ensures { IfOk result (λ answer. IsToldSo task exchange answer.text answer.status) }
 {
@@ -60,7 +60,7 @@ pub(crate) fn told_with_note(
     }
 }
 
-/// What is told of an exchange, with a note where it is replayed.
+/// The text of an exchange, with a note where it is replayed.
 fn told_of_with_note(
     alloc: Global,
     file: &[u8],

@@ -45,7 +45,7 @@ pub(crate) fn joined(
     Ok(note)
 }
 
-/// What is told of octets.
+/// The text of octets.
 pub(crate) fn answer_about(alloc: Global, task: Task, octets: &[u8]) -> Result<Answer, AllocError>
     requires least { 1 ≤ task.expected.ifs }
     requires most { task.expected.ifs ≤ 254 }

@@ -31,7 +31,7 @@ pub fn one_answer()
         → (plain_text asked text ≡ plain_text asked other) × (ended ≡ different) }
 {}
 
-/// What is told with notes is told without them, where each line of its text is cut at its first note: with the same
+/// A text with notes is the one without them, where each line of its text is cut at its first note: with the same
 /// status, of lines too.
 pub fn notes_cut()
     ensures { (asked : AnyAsked) (file : Result (List ℕ) AnyFault) (text : List ℕ)

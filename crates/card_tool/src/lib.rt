@@ -1,7 +1,7 @@
 //! The program `scard` as a function of its words and of a reader: all that the program does. `serve` takes
 //! the words from the system.
 //!
-//! card_words reads what a command line asks for: one text, by a `Request`, or what is told of each line of standard
+//! card_words reads what a command line asks for: one text, by a `Request`, or the text of each line of standard
 //! input, which `answer_lines` answers. `answer_to` makes the text and the status that a request has, by card_kinds for
 //! octets, and by a module for files of recorded exchanges, which `read_whole` reads, and one for simulated sessions,
 //! and `run` writes that text. What the text is, is said by definitions: `IsAnswer` in `specs/Answers.antt`, over

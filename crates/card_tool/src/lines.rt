@@ -38,7 +38,7 @@ struct LineSession {
 /// Answers each line that is heard by what the task tells of it: a line that `\n` ends before more is heard, and a last
 /// one, where it has octets, at the end of the input. The answer of a check is one line, and that of a value its lines
 /// and an empty one. Where explanations are asked for, one comes after the lines of the answer, each of its lines after
-/// two blanks. Nothing else is told, but for the line of a fault as the last: `fault: read` where a call to hear more
+/// two blanks. Nothing else is written, but for the line of a fault as the last: `fault: read` where a call to hear more
 /// failed, `fault: memory` where a growth of memory was refused, and `fault: too large` after 2<sup>64</sup> - 1
 /// octets.
 ///
@@ -245,7 +245,7 @@ fn line_answer(alloc: Global, telling: Telling, line: &[u8]) -> Result<Answer, A
     Ok(Answer { text, status })
 }
 
-/// How a line is answered by what is told of it: an empty line comes after a value, which has several lines, and none
+/// How a line is answered by its text: an empty line comes after a value, which has several lines, and none
 /// after an object of JSON.
 fn line_text(alloc: Global, aim: Aim, told: Octets) -> Result<Octets, AllocError>
     ensures { IfOk result (λ text. text ≡ line_text aim told) }
@@ -261,7 +261,7 @@ fn line_text(alloc: Global, aim: Aim, told: Octets) -> Result<Octets, AllocError
     }
 }
 
-/// What is told of a line of octets.
+/// The text of a line of octets.
 pub(crate) fn line_told(alloc: Global, task: Task, line: &[u8]) -> Result<Answer, AllocError>
     requires least { 1 ≤ task.expected.ifs }
     requires most { task.expected.ifs ≤ 254 }

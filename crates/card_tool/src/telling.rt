@@ -18,16 +18,16 @@ use explainer::{digits_note, large_note};
 use octet_core::Octets;
 use std::alloc::{AllocError, Global};
 
-/// What is told of each line.
+/// What the text of each line says.
 #[derive(Clone, Copy, Debug)]
 pub struct Telling {
-    /// What is told of its octets.
+    /// What it says of its octets.
     pub task: Task,
     /// Whether an explanation comes after the answer.
     pub explains: bool,
 }
 
-/// What is told of a line of octets, and after it an explanation where one is asked for.
+/// The text of a line of octets, and after it an explanation where one is asked for.
 pub(crate) fn line_explained(
     alloc: Global,
     telling: Telling,
@@ -45,7 +45,7 @@ pub(crate) fn line_explained(
     Ok(with_indented(alloc, answer, note))
 }
 
-/// What is told of a line of octets, with a note.
+/// The text of a line of octets, with a note.
 fn line_with_note(alloc: Global, task: Task, line: &[u8]) -> Result<WithNote, AllocError>
     requires least { 1 ≤ task.expected.ifs }
     requires most { task.expected.ifs ≤ 254 }

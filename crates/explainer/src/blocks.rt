@@ -10,7 +10,7 @@ use std::alloc::{AllocError, Global};
 /// How many characters the numbers of blocks take, at most, before the rest is left out.
 const SHOWN: usize = 60;
 
-/// What a person wants to know of a session in which so many blocks were sent: for each list that names blocks above
+/// The explanation of a session in which so many blocks were sent: for each list that names blocks above
 /// that number, which these are; nothing where none does.
 pub fn unsent_note(alloc: Global, session: &Session, sent: usize) -> Result<String, AllocError>
     ensures { IfOk result (λ note. AreUnsentNotes session.now sent (string_bytes note)) }

@@ -1,4 +1,4 @@
-//! What a person wants to know of a fault or a refusal: which word is wrong, or which octet, and what was expected
+//! The explanation of a fault or a refusal: which word is wrong, or which octet, and what was expected
 //! there.
 //!
 //! `verdict_note` says it of octets by the verdict on them, which the caller has, `words_note` of words that are no

@@ -11,7 +11,7 @@ use octet_core::Stop;
 use std::alloc::{AllocError, Global};
 use tlv_core::{EntryWalk, Tag};
 
-/// What a person wants to know of octets, by the verdict on them: where they are refused and why, how many are
+/// The explanation of octets, by the verdict on them: where they are refused and why, how many are
 /// wanting, or how many are left after the value, which takes so many; else nothing. `least` is how many octets must
 /// still come at least, where that is known of octets that are short.
 pub fn verdict_note<R: Explained>(

@@ -7,7 +7,7 @@ use crate::mark::stop_note;
 use atr_core::{Atr, ParamFault, t1_params};
 use std::alloc::{AllocError, Global};
 
-/// What a person wants to know of an answer to reset from which no session begins: where it is refused, how many
+/// The explanation of an answer to reset from which no session begins: where it is refused, how many
 /// octets come after it, or what it lacks; nothing of one from which a session begins.
 pub fn session_note(alloc: Global, atr: &[u8]) -> Result<String, AllocError>
     ensures { IfOk result (λ note. IsSessionNote atr.now (string_bytes note)) }

@@ -34,7 +34,7 @@ enum Wrong {
     Third,
 }
 
-/// What a person wants to know of a text that isn't in its form: the first place that is wrong, by its line and column,
+/// The explanation of a text that isn't in its form: the first place that is wrong, by its line and column,
 /// counted from 1, with its line and a mark under it; what the form is; and the option for another form that takes the
 /// text, where one does.
 pub fn text_note(alloc: Global, form: Form, text: &[u8]) -> Result<String, AllocError> {
@@ -83,7 +83,7 @@ fn hexadecimal_note(alloc: Global, text: &[u8]) -> Result<String, AllocError> {
     }
 }
 
-/// What a person wants to know of a line that isn't in hexadecimal: the column of the first place that is wrong,
+/// The explanation of a line that isn't in hexadecimal: the column of the first place that is wrong,
 /// counted from 1.
 pub fn digits_note(alloc: Global, line: &[u8]) -> Result<String, AllocError> {
     let found = match stray_octet(line) {
@@ -101,7 +101,7 @@ fn column_said(alloc: Global, column: usize, wrong: Wrong) -> Result<String, All
     format!(in alloc; "column {column}: {what}\n")
 }
 
-/// What a person wants to know of a text in hexadecimal that is a dump of some octets too: that its offsets are taken
+/// The explanation of a text in hexadecimal that is a dump of some octets too: that its offsets are taken
 /// for octets. Nothing of any other.
 pub fn offsets_note(alloc: Global, text: Octets) -> Result<String, AllocError>
     ensures { IfOk result (λ note. string_bytes note ≡ offsets_note text) }
@@ -113,7 +113,7 @@ pub fn offsets_note(alloc: Global, text: Octets) -> Result<String, AllocError>
     }
 }
 
-/// What a person wants to know of a text whose lines are to be pairs of a session, and one isn't: the first place that
+/// The explanation of a text whose lines are to be pairs of a session, and one isn't: the first place that
 /// is wrong, by its line and column, counted from 1, with its line and a mark under it, and what a line is.
 pub fn pairs_note(alloc: Global, text: &[u8]) -> Result<String, AllocError> {
     let mut note = match wrong_line(text) {

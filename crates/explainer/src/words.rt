@@ -8,7 +8,7 @@ use command_line::parser_message;
 use octet_core::is_blank;
 use std::alloc::{AllocError, Global};
 
-/// What a person wants to know of words, of which the first is the program's name: what the parser of command lines
+/// The explanation of words, of which the first is the program's name: what the parser of command lines
 /// says where it refuses them, with the form that it takes, and else the first word that is wrong, by its number, and
 /// what it should be. The subcommand is word 1, or word 2 after `--explain`. A control character of a word is shown as
 /// a question mark.
