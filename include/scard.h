@@ -21,10 +21,10 @@
  * header is the library's.
  */
 #define SCARD_VERSION_MAJOR 1
-#define SCARD_VERSION_MINOR 1
+#define SCARD_VERSION_MINOR 2
 #define SCARD_VERSION_PATCH 0
 #define SCARD_VERSION (SCARD_VERSION_MAJOR * 1000000 + SCARD_VERSION_MINOR * 1000 + SCARD_VERSION_PATCH)
-#define SCARD_VERSION_TEXT "1.1.0"
+#define SCARD_VERSION_TEXT "1.2.0"
 
 #include <stdbool.h>
 #include <stddef.h>
@@ -231,12 +231,12 @@ bool scard_is_text(const uint8_t *octets, size_t count);
 uint8_t scard_lrc(const uint8_t *octets, size_t count);
 
 /* Writes octets as hexadecimal text in upper case, two digits each, with no 0 after it. Room: 2 * count.
- * OK, MEMORY, ARGUMENT. */
+ * OK, ARGUMENT. */
 SCARD_MUST_USE
 struct scard_verdict scard_hex_encode(const uint8_t *octets, size_t count, char *text, size_t room);
 
 /* Writes the octets of a hexadecimal text in either case. Room: length / 2. The first octet that is no digit is
- * refused; a text of an odd length is refused at its end. OK, AT (enum scard_hex_reason), MEMORY, ARGUMENT.
+ * refused; a text of an odd length is refused at its end. OK, AT (enum scard_hex_reason), ARGUMENT.
  */
 SCARD_MUST_USE
 struct scard_verdict scard_hex_decode(const char *text, size_t length, uint8_t *out, size_t room);
@@ -416,13 +416,13 @@ struct scard_verdict scard_response_decode(const uint8_t *octets, size_t count, 
 
 /* Writes the command with the header, shape and Le of a struct, and this data field; the struct's other fields
  * aren't looked at. Give an Le of 0 and no data field to a shape that hasn't them. Room: at most the data field
- * and 9. ARGUMENT with place 0: its length fields can't tell them. OK, MEMORY, ARGUMENT.
+ * and 9. ARGUMENT with place 0: its length fields can't tell them. OK, ARGUMENT.
  */
 SCARD_MUST_USE
 struct scard_verdict scard_command_encode(const struct scard_command *command, const uint8_t *data, size_t count,
                                           uint8_t *out, size_t room);
 
-/* Writes a response. Room: the data field, at most 65,536 octets, and 2. OK, MEMORY, ARGUMENT. */
+/* Writes a response. Room: the data field, at most 65,536 octets, and 2. OK, ARGUMENT. */
 SCARD_MUST_USE
 struct scard_verdict scard_response_encode(const uint8_t *data, size_t count, uint8_t sw1, uint8_t sw2,
                                            uint8_t *out, size_t room);
@@ -526,8 +526,9 @@ struct scard_known {
  * of its tag, cut or padded; or 00, where the tag is that of a constructed object or has no known value. Room: the
  * sum of the lengths in the list, at most 255 for each two octets of it. `known_count` counts structs. The refusal
  * of the list has the reasons of enum scard_dol_reason. DUPLICATE: two known values have one tag, also where the
- * list doesn't name it. ARGUMENT with place 0: a known tag is none, or a format is above 2.
- * OK, SHORT, AT, MEMORY, ARGUMENT, DUPLICATE.
+ * list doesn't name it. ARGUMENT with place 0: a known tag is none, a format is above 2, or the list has more than 2^48
+ * octets. All pairs of known values are compared, and for each entry the known values one by one. No memory.
+ * OK, SHORT, AT, ARGUMENT, DUPLICATE.
  */
 SCARD_MUST_USE
 struct scard_verdict scard_dol_fill(const uint8_t *list, size_t count, const struct scard_known *known,

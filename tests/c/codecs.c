@@ -155,6 +155,22 @@ static void chains(void)
     free(message.at);
 }
 
+/* A command whose buffer has too little room says how much is needed, and leaves the buffer. */
+static void less_room(const struct scard_command *command, struct octets octets)
+{
+    size_t room, at;
+    for (room = 0; room < octets.count; room++) {
+        uint8_t out[64];
+        struct scard_verdict v;
+        memset(out, 0x55, sizeof out);
+        v = scard_command_encode(command, octets.at + command->data_place, command->data_len, out, room);
+        CHECK(v.status == SCARD_ARGUMENT && v.place == octets.count);
+        for (at = 0; at < sizeof out; at++) {
+            CHECK(out[at] == 0x55);
+        }
+    }
+}
+
 static void commands(void)
 {
     static const struct {
@@ -181,6 +197,7 @@ static void commands(void)
         CHECK(c.data_place == rows[row].place && c.data_len == rows[row].len);
         v = scard_command_encode(&c, octets.at + c.data_place, c.data_len, out, sizeof out);
         CHECK(v.status == SCARD_OK && is_hex(out, v.place, rows[row].octets));
+        less_room(&c, octets);
         c.shape = 8;
         CHECK(scard_command_encode(&c, NULL, 0, out, sizeof out).status == SCARD_ARGUMENT);
         free(octets.at);
@@ -192,6 +209,18 @@ static void commands(void)
     CHECK(reads(SCARD_CODEC_COMMAND, 0, "00D60000000002010200", "short at 10"));
     CHECK(reads(SCARD_CODEC_COMMAND, 0, "00D600000000020102000000", "refused at 11: Trailing"));
     CHECK(reads(SCARD_CODEC_COMMAND, 0, "00D60000000000AA", "refused at 7: Trailing"));
+}
+
+/* A response whose buffer has too little room says how much is needed, and leaves the buffer. */
+static void cut_responses(void)
+{
+    static const uint8_t field[] = {0xAA, 0xBB};
+    size_t room;
+    for (room = 0; room < 4; room++) {
+        uint8_t out[4] = {0x55, 0x55, 0x55, 0x55};
+        struct scard_verdict v = scard_response_encode(field, sizeof field, 0x90, 0, out, room);
+        CHECK(v.status == SCARD_ARGUMENT && v.place == 4 && is_hex(out, 4, "55555555"));
+    }
 }
 
 static void responses(void)
@@ -279,6 +308,11 @@ static void texts(void)
     CHECK(strcmp(line_of(scard_hex_decode("", 0, NULL, 0), SCARD_CODEC_HEX), "ok 0 octets") == 0);
     v = scard_hex_encode(octets, 2, text, sizeof text);
     CHECK(v.status == SCARD_OK && v.place == 4 && memcmp(text, "00A4", 4) == 0);
+    CHECK(strcmp(line_of(scard_hex_encode(octets + 1, 1, text, 1), SCARD_CODEC_HEX), "argument 2") == 0);
+    CHECK(memcmp(text, "00A4", 4) == 0);
+    CHECK(strcmp(line_of(scard_hex_decode("FFxF", 4, out, sizeof out), SCARD_CODEC_HEX), "refused at 2: Digit") == 0);
+    CHECK(strcmp(line_of(scard_hex_decode("FF/:@G`g", 8, out, 0), SCARD_CODEC_HEX), "refused at 2: Digit") == 0);
+    CHECK(is_hex(out, 2, "00A4"));
     CHECK(strcmp(scard_reason_name(SCARD_CODEC_CHAIN, SCARD_CHAIN_TOO_MANY_BLOCKS), "TooManyBlocks") == 0);
     CHECK(strcmp(scard_reason_name(SCARD_CODEC_DOL, 4), "") == 0);
     CHECK(strcmp(scard_reason_name(9, 1), "") == 0 && strcmp(scard_reason_name(1, 10), "") == 0);
@@ -292,6 +326,7 @@ int main(void)
     chains();
     commands();
     responses();
+    cut_responses();
     objects();
     texts();
     return verdict_of_checks("codecs");

@@ -1,6 +1,6 @@
 /* A program that has no functions for memory: it is linked with `-lscard` and no flag, and tools/test-c looks at what
- * it wants. A session of both ends over lent buffers, a check and the parts of a forest, the entries of a list, a
- * receiver of a chain, and the LRC.
+ * it wants. A session of both ends over lent buffers, a check and the parts of a forest, a list that is read and filled,
+ * a receiver of a chain, a command and a response, hexadecimal text, and the LRC.
  */
 #include "scard.h"
 
@@ -64,12 +64,15 @@ static int objects(void)
     static const uint8_t octets[] = {0x6F, 0x03, 0x84, 0x01, 0xAA}, list[] = {0x9F, 0x02, 0x06, 0x95, 0x05};
     struct scard_part parts[2];
     struct scard_entry entries[2];
+    struct scard_known known = {{{0x9F, 0x02, 0x00}, 2}, SCARD_NUMERIC, done, sizeof done};
     return scard_tlv_parts(octets, sizeof octets, sizeof octets, parts, 2).status == SCARD_OK
         && parts[1].place == 4 && parts[1].len == 1
         && scard_tlv_first(parts, 2, &parts[0].tag, 1) == 0
         && scard_dol_check(list, sizeof list).status == SCARD_OK
         && scard_dol_entries(list, sizeof list, entries, 2).status == SCARD_OK
-        && entries[1].tag.octets[0] == 0x95 && entries[1].len == 5;
+        && entries[1].tag.octets[0] == 0x95 && entries[1].len == 5
+        && scard_dol_fill(list, sizeof list, &known, 1, block, sizeof block).place == 11
+        && memcmp(block, "\0\0\0\0\x90\0\0\0\0\0\0", 11) == 0;
 }
 
 /* Whether a chain of one block is received. */
@@ -83,7 +86,20 @@ static int chain(void)
         && scard_lent_receiver_message(&receiver, answers[0], ROOM).place == sizeof done;
 }
 
+/* Whether a command and a response are written, and come back from hexadecimal text. */
+static int written(void)
+{
+    struct scard_command command = {0x00, 0xA4, 0x04, 0x00, SCARD_CASE_4_SHORT, 1, 256, 0, 0};
+    char text[16];
+    struct scard_verdict verdict = scard_command_encode(&command, done, sizeof done, block, sizeof block);
+    return verdict.status == SCARD_OK && verdict.place == 8 && memcmp(block, select_it, sizeof select_it) == 0
+        && scard_hex_encode(block, verdict.place, text, sizeof text).status == SCARD_OK
+        && memcmp(text, "00A4040002900000", sizeof text) == 0
+        && scard_response_encode(NULL, 0, 0x90, 0x00, block, sizeof block).place == 2
+        && scard_hex_decode("9000", 4, block + 2, 2).place == 2 && memcmp(block, block + 2, 2) == 0;
+}
+
 int main(void)
 {
-    return session() && forest() && objects() && chain() ? 0 : 1;
+    return written() && session() && forest() && objects() && chain() ? 0 : 1;
 }

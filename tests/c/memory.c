@@ -54,71 +54,11 @@ void __wrap_free(void *block)
 /* ---- calls that write to a buffer ---- */
 
 static const uint8_t amount[] = {0x9F, 0x02};
-static const uint8_t dol[] = {0x9F, 0x02, 0x03, 0x5A, 0x02};
 static const uint8_t forest[] = {0x00, 0x6F, 0x81, 0x06, 0xA5, 0x04, 0x00, 0x84, 0x01, 0xAA};
-
-static struct scard_verdict hex_encode(uint8_t *out, size_t room)
-{
-    char text[ROOM];
-    struct scard_verdict v;
-    memset(text, 0x55, sizeof text);
-    v = scard_hex_encode(amount, sizeof amount, text, room);
-    memcpy(out, text, room);
-    return v;
-}
-
-static struct scard_verdict hex_decode(uint8_t *out, size_t room)
-{
-    return scard_hex_decode("9f02Aa", 6, out, room);
-}
-
-/* A command of this shape, with the data field `amount` where the shape has one. */
-static struct scard_verdict command(uint8_t shape, uint32_t le, size_t count, uint8_t *out, size_t room)
-{
-    struct scard_command made;
-    memset(&made, 0, sizeof made);
-    made.ins = 0xA4;
-    made.shape = shape;
-    made.le = le;
-    return scard_command_encode(&made, amount, count, out, room);
-}
-
-static struct scard_verdict no_field(uint8_t *out, size_t room)
-{
-    return command(SCARD_CASE_1, 0, 0, out, room);
-}
-
-static struct scard_verdict short_field(uint8_t *out, size_t room)
-{
-    return command(SCARD_CASE_4_SHORT, 256, 2, out, room);
-}
-
-static struct scard_verdict long_field(uint8_t *out, size_t room)
-{
-    return command(SCARD_CASE_3_LONG, 0, 2, out, room);
-}
-
-static struct scard_verdict response(uint8_t *out, size_t room)
-{
-    return scard_response_encode(amount, sizeof amount, 0x90, 0x00, out, room);
-}
 
 static struct scard_verdict tidy(uint8_t *out, size_t room)
 {
     return scard_tlv_tidy(forest, sizeof forest, SCARD_TLV_LARGEST, out, room);
-}
-
-static struct scard_verdict fill(uint8_t *out, size_t room)
-{
-    static const uint8_t value[] = {0x12, 0x34};
-    struct scard_known known[1];
-    memset(known, 0, sizeof known);
-    memcpy(known[0].tag.octets, amount, 2);
-    known[0].tag.count = 2;
-    known[0].format = SCARD_NUMERIC;
-    known[0].value = value;
-    known[0].count = sizeof value;
-    return scard_dol_fill(dol, sizeof dol, known, 1, out, room);
 }
 
 struct task {
@@ -128,14 +68,7 @@ struct task {
 };
 
 static const struct task tasks[] = {
-    {hex_encode, "39463032", 4},
-    {hex_decode, "9F02AA", 3},
-    {no_field, "00A40000", 4},
-    {short_field, "00A40000029F0200", 8},
-    {long_field, "00A400000000029F02", 9},
-    {response, "9F029000", 4},
     {tidy, "6F05A5038401AA", 7},
-    {fill, "0012340000", 5},
 };
 
 static int is_untouched(const uint8_t *octets, size_t count)

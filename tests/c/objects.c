@@ -105,6 +105,9 @@ static void fills(void)
     CHECK(v.status == SCARD_OK && is_hex(out, v.place, "0000000012344761FFFF41414200000000000000"));
     v = scard_dol_fill(list.at, list.count, known, 5, out, 19);
     CHECK(strcmp(line_of(v, SCARD_CODEC_DOL), "argument 20") == 0);
+    CHECK(is_hex(out, 20, "0000000012344761FFFF41414200000000000000"));
+    v = scard_dol_fill(list.at, list.count, known, 5, NULL, 0);
+    CHECK(strcmp(line_of(v, SCARD_CODEC_DOL), "argument 20") == 0);
     v = scard_dol_fill(list.at, list.count, NULL, 0, out, 20);
     CHECK(v.status == SCARD_OK && is_hex(out, v.place, "0000000000000000000000000000000000000000"));
     v = scard_dol_fill(list.at, 1, known, 5, out, 20);

@@ -1,9 +1,6 @@
 //! Command APDUs as values.
 
-ghost use Rattle.std.specs.Prelude.{◌↔◌, IsTrue, length};
-ghost use Rattle.octet_core.specs.Octets.{AreOctets};
-ghost use Rattle.apdu_core.specs.Command.{IsCount};
-
+use crate::command_ref::{BodyRef, CommandRef};
 use octet_core::Octets;
 use std::fmt::{self, Debug, Formatter, Write};
 use std::marker::Model;
@@ -70,7 +67,7 @@ impl Model for Command {
 }
 
 impl Command {
-    ghost use Rattle.std.specs.Prelude.{◌≡◌, ◌≤◌, OnErr, IfOk, IfErr};
+    ghost use Rattle.std.specs.Prelude.{◌≡◌, ◌≤◌, OnErr, IfOk, IfErr, length};
     ghost use Rattle.apdu_core.specs.Command.{FitsFields, HasSpelling, IsProper, spelling};
     ghost use Rattle.chain_core.specs.Longest.{longest_command};
 
@@ -82,7 +79,7 @@ impl Command {
         ensures back { IfErr result (λ back. back ≡ body) }
         ensures unfit { OnErr result (FitsFields body → ⊥) }
     {
-        if body.fits() {
+        if body.lent().fits() {
             Ok(Command { header, body })
         } else {
             Err(body)
@@ -109,7 +106,14 @@ impl Command {
         ensures len { result ≡ length (spelling self.now) }
         ensures most { result ≤ longest_command }
     {
-        4 + self.body.encoded_len()
+        self.lent().encoded_len()
+    }
+
+    /// The command, with its data field lent from this one.
+    pub fn lent(&self) -> CommandRef<'_>
+        ensures { result ≡ self.now }
+    {
+        CommandRef::of_parts(self.header, self.body.lent())
     }
 
     /// What follows the header.
@@ -122,40 +126,28 @@ impl Command {
 }
 
 impl Body {
-    ghost use Rattle.std.specs.Prelude.{◌≡◌, ◌≤◌};
-    ghost use Rattle.octet_core.specs.Octets.{AreOctets};
-    ghost use Rattle.apdu_core.specs.Command.{FitsFields, part_of, body_octets};
+    ghost use Rattle.std.specs.Prelude.{◌≡◌};
+    ghost use Rattle.apdu_core.specs.Command.{part_of};
+    ghost use Rattle.apdu_core.specs.Borrowed.{body_of};
 
-    /// Whether the length fields can tell the numbers of the body.
-    fn fits(&self) -> bool
-        ensures fits { IsTrue result ↔ FitsFields self.now }
-        ensures octets { AreOctets (part_of self.now) }
+    /// The body, with its data field lent from this one.
+    pub(crate) fn lent(&self) -> BodyRef<'_>
+        ensures { body_of result ≡ self.now }
     {
         match self {
-            Body::Empty => true,
-            Body::ShortLe { le } => is_count(*le, 256),
-            Body::ShortPart { part } => is_part(part.get(), 255),
-            Body::ShortBoth { part, le } => is_part(part.get(), 255) && is_count(*le, 256),
-            Body::LongLe { le } => is_count(*le, 65_536),
-            Body::LongPart { part } => is_part(part.get(), 65_535),
-            Body::LongBoth { part, le } => is_part(part.get(), 65_535) && is_count(*le, 65_536),
-        }
-    }
-
-    /// How many octets spell the body.
-    fn encoded_len(&self) -> usize
-        requires { FitsFields self.now }
-        ensures len { result ≡ length (body_octets self.now) }
-        ensures most { result ≤ 65540 }
-    {
-        match self {
-            Body::Empty => 0,
-            Body::ShortLe { .. } => 1,
-            Body::ShortPart { part } => 1 + part.get().len(),
-            Body::ShortBoth { part, .. } => 2 + part.get().len(),
-            Body::LongLe { .. } => 3,
-            Body::LongPart { part } => 3 + part.get().len(),
-            Body::LongBoth { part, .. } => 5 + part.get().len(),
+            Body::Empty => BodyRef::Empty,
+            Body::ShortLe { le } => BodyRef::ShortLe { le: *le },
+            Body::ShortPart { part } => BodyRef::ShortPart { part: part.get() },
+            Body::ShortBoth { part, le } => BodyRef::ShortBoth {
+                part: part.get(),
+                le: *le,
+            },
+            Body::LongLe { le } => BodyRef::LongLe { le: *le },
+            Body::LongPart { part } => BodyRef::LongPart { part: part.get() },
+            Body::LongBoth { part, le } => BodyRef::LongBoth {
+                part: part.get(),
+                le: *le,
+            },
         }
     }
 
@@ -171,21 +163,6 @@ impl Body {
             | Body::LongBoth { part, .. } => part.get(),
         }
     }
-}
-
-/// Whether a length field that tells at most `most` can tell this number.
-fn is_count(number: u32, most: u32) -> bool
-    ensures { IsTrue result ↔ IsCount number most }
-{
-    (1..=most).contains(&number)
-}
-
-/// Whether a length field that tells at most `most` can tell the length of this data field.
-fn is_part(part: &[u8], most: usize) -> bool
-    ensures count { IsTrue result ↔ IsCount (length part.now) most }
-    ensures octets { AreOctets part.now }
-{
-    (1..=most).contains(&part.len())
 }
 
 /// The shape, how many octets the data field has, and Le. A command may carry a PIN, so no octet of it is shown.

@@ -1,31 +1,40 @@
 //! Commands read where their octets stand.
 
-ghost use Rattle.std.specs.Prelude.{◌≡◌, ◌≢◌, ◌≤◌, ◌<◌, ◌∷◌, [], IfOk, IfErr, length, slice_index};
+ghost use Rattle.std.specs.Prelude.{◌≡◌, ◌≢◌, ◌≤◌, ◌<◌, ◌↔◌, ◌∷◌, [], IfOk, IfErr, IfSome, IsTrue, SomeIff, length, slice_index, take};
+ghost use Rattle.octet_core.specs.Octets.{AreOctets};
 ghost use Rattle.octet_core.specs.declared.stop.Stop.TheVariants.{At, Short};
 ghost use Rattle.octet_core.specs.Grammar.{whole, Accepts, Refuses};
 ghost use Rattle.apdu_core.specs.Command.{IsCommand, IsReason, IsCount, short_of, long_of};
 ghost use Rattle.apdu_core.specs.declared.reason.CommandReason.TheVariants.{Trailing};
 
 use crate::command::{Body, Command, Shape};
+use crate::encoding::{put, put_body};
 use crate::reason::CommandReason;
 use octet_core::{Octets, Stop};
 use std::alloc::{AllocError, Global};
 use std::fmt::{self, Debug, Formatter, Write};
 use std::marker::Model;
 
-/// The body of a command, with its data field in the octets that were read.
+/// The body of a command, with its data field lent: the shapes and numbers are those of a [`Body`].
 #[derive(Clone, Copy, PartialEq, Eq)]
-pub(crate) enum BodyRef<'a> {
+pub enum BodyRef<'a> {
+    /// Case 1: nothing.
     Empty,
+    /// Case 2 short.
     ShortLe { le: u32 },
+    /// Case 3 short.
     ShortPart { part: &'a [u8] },
+    /// Case 4 short.
     ShortBoth { part: &'a [u8], le: u32 },
+    /// Case 2 extended.
     LongLe { le: u32 },
+    /// Case 3 extended.
     LongPart { part: &'a [u8] },
+    /// Case 4 extended.
     LongBoth { part: &'a [u8], le: u32 },
 }
 
-/// A command whose data field lies in the octets from which it was read (ISO/IEC 7816-3, clause 12).
+/// A command whose data field is lent, as from the octets that were read (ISO/IEC 7816-3, clause 12).
 #[derive(Drop)]
 pub struct CommandRef<'a> {
     header: [u8; 4],
@@ -45,7 +54,10 @@ impl<'a> Model for CommandRef<'a> {
 }
 
 impl<'a> CommandRef<'a> {
-    ghost use Rattle.apdu_core.specs.Command.{shape_of, part_of, le_of, IsPlaced};
+    ghost use Rattle.apdu_core.specs.Command.{FitsFields, HasSpelling, IsPlaced, shape_of, part_of, le_of, spelling};
+    ghost use Rattle.apdu_core.specs.Borrowed.{body_of};
+    ghost use Rattle.apdu_core.specs.Put.{IsPutAt};
+    ghost use Rattle.chain_core.specs.Longest.{longest_command};
 
     /// The command that all these octets are. It takes no memory, and time that doesn't grow with them:
     /// only the length, the header and the length fields are looked at.
@@ -66,6 +78,28 @@ impl<'a> CommandRef<'a> {
             header: *header,
             body,
         })
+    }
+
+    /// The command of this header, CLA, INS, P1 and P2, and this body, exactly where it has a spelling: `None`
+    /// where its data field or its `le` has none of the lengths or numbers of its shape.
+    pub fn new(header: [u8; 4], body: BodyRef<'a>) -> Option<CommandRef<'a>>
+        ensures value { SomeIff result (FitsFields (body_of body.entry))
+            (record { header = header; body = body_of body.entry }) }
+        ensures spelled { IfSome result HasSpelling }
+    {
+        if body.fits() {
+            Some(CommandRef { header, body })
+        } else {
+            None
+        }
+    }
+
+    /// The command of these parts, which have a spelling.
+    pub(crate) fn of_parts(header: [u8; 4], body: BodyRef<'a>) -> CommandRef<'a>
+        requires { FitsFields (body_of body) }
+        ensures { result ≡ record { header = header; body = body_of body.entry } }
+    {
+        CommandRef { header, body }
     }
 
     /// CLA, INS, P1 and P2.
@@ -118,6 +152,25 @@ impl<'a> CommandRef<'a> {
         }
     }
 
+    /// How many octets spell the command, 4 to 65,544.
+    pub fn encoded_len(&self) -> usize
+        ensures len { result ≡ length (spelling self.now) }
+        ensures most { result ≤ longest_command }
+    {
+        4 + self.body.encoded_len()
+    }
+
+    /// Puts the octets that spell the command to the front of the buffer, and says how many they are, as
+    /// [`CommandRef::encoded_len`] does; the rest of the buffer stays.
+    pub fn encode_into(&self, out: &mut [u8]) -> usize
+        requires room { length (spelling self.now) ≤ length out.old }
+        ensures command { IsCommand self.now (take result out.new) }
+        ensures put { IsPutAt 0 (spelling self.now) out.old out.new result }
+    {
+        let end = put(out, 0, &self.header);
+        put_body(out, end, self.body)
+    }
+
     /// The command with a copy of its data field.
     pub(crate) fn copied(&self, alloc: Global) -> Result<Command, AllocError>
         ensures { IfOk result (λ c. c ≡ self.now) }
@@ -128,7 +181,41 @@ impl<'a> CommandRef<'a> {
 }
 
 impl<'a> BodyRef<'a> {
+    ghost use Rattle.apdu_core.specs.Command.{FitsFields, body_octets, part_of};
     ghost use Rattle.apdu_core.specs.Borrowed.{IsBodyOf, body_of};
+
+    /// Whether the length fields can tell the numbers of the body.
+    pub(crate) fn fits(&self) -> bool
+        ensures fits { IsTrue result ↔ FitsFields (body_of self.now) }
+        ensures octets { AreOctets (part_of (body_of self.now)) }
+    {
+        match *self {
+            BodyRef::Empty => true,
+            BodyRef::ShortLe { le } => is_count(le, 256),
+            BodyRef::ShortPart { part } => is_part(part, 255),
+            BodyRef::ShortBoth { part, le } => is_part(part, 255) && is_count(le, 256),
+            BodyRef::LongLe { le } => is_count(le, 65_536),
+            BodyRef::LongPart { part } => is_part(part, 65_535),
+            BodyRef::LongBoth { part, le } => is_part(part, 65_535) && is_count(le, 65_536),
+        }
+    }
+
+    /// How many octets spell the body.
+    fn encoded_len(&self) -> usize
+        requires { FitsFields (body_of self.now) }
+        ensures len { result ≡ length (body_octets (body_of self.now)) }
+        ensures most { result ≤ 65540 }
+    {
+        match *self {
+            BodyRef::Empty => 0,
+            BodyRef::ShortLe { .. } => 1,
+            BodyRef::ShortPart { part } => 1 + part.len(),
+            BodyRef::ShortBoth { part, .. } => 2 + part.len(),
+            BodyRef::LongLe { .. } => 3,
+            BodyRef::LongPart { part } => 3 + part.len(),
+            BodyRef::LongBoth { part, .. } => 5 + part.len(),
+        }
+    }
 
     /// The body after the header of a command.
     fn read(octets: &'a [u8]) -> Result<BodyRef<'a>, Stop<CommandReason>>
@@ -225,6 +312,21 @@ impl<'a> BodyRef<'a> {
             }),
         }
     }
+}
+
+/// Whether a length field that tells at most `most` can tell this number.
+fn is_count(number: u32, most: u32) -> bool
+    ensures { IsTrue result ↔ IsCount number most }
+{
+    (1..=most).contains(&number)
+}
+
+/// Whether a length field that tells at most `most` can tell the length of this data field.
+fn is_part(part: &[u8], most: usize) -> bool
+    ensures count { IsTrue result ↔ IsCount (length part.now) most }
+    ensures octets { AreOctets part.now }
+{
+    (1..=most).contains(&part.len())
 }
 
 /// A copy of these octets.

@@ -2,10 +2,12 @@
 
 ghost use Rattle.std.specs.Prelude.{◌≡◌, ◌≤◌, ◌+◌, ◌++◌, ◌∷◌, IfOk, length, take};
 ghost use Rattle.apdu_core.specs.Command.{IsCommand, FitsFields, IsCount, spelling, body_octets, long_of, short_of};
+ghost use Rattle.apdu_core.specs.Borrowed.{body_of};
 ghost use Rattle.apdu_core.specs.Put.{IsPutAt};
 ghost use Rattle.apdu_core.specs.Response.{IsResponse};
 
-use crate::command::{Body, Command};
+use crate::command::Command;
+use crate::command_ref::BodyRef;
 use crate::response::Response;
 use std::alloc::{AllocError, Global};
 
@@ -25,41 +27,38 @@ pub fn encode_command_into(command: &Command, out: &mut [u8]) -> usize
     ensures command { IsCommand command.now (take result out.new) }
     ensures put { IsPutAt 0 (spelling command.now) out.old out.new result }
 {
-    let body = command.body();
-    let end = put(out, 0, &command.header());
-    put_body(out, end, body)
+    command.lent().encode_into(out)
 }
 
 /// The octets that spell a response (ISO/IEC 7816-3, clause 12): its data field, SW1 and SW2.
 pub fn encode_response(alloc: Global, response: &Response) -> Result<Vec<u8>, AllocError>
     ensures { IfOk result (λ octets. IsResponse response.now octets.items) }
 {
-    let part = response.part();
-    let mut octets = Vec::with_capacity(alloc, part.len() + 2)?;
-    octets.extend_from_slice(part)?;
-    octets.extend_from_slice(&[response.sw1(), response.sw2()])?;
+    let response = response.lent();
+    let mut octets = vec![in alloc; 0; response.encoded_len()]?;
+    let _count = response.encode_into(octets.as_mut_slice());
     Ok(octets)
 }
 
 /// Puts what follows the header of a command, from this place on: the place where it ends.
-fn put_body(out: &mut [u8], start: usize, body: &Body) -> usize
-    requires fits { FitsFields body.now }
-    requires room { start + length (body_octets body.now) ≤ length out.old }
-    ensures { IsPutAt start (body_octets body.now) out.old out.new result }
+pub(crate) fn put_body(out: &mut [u8], start: usize, body: BodyRef<'_>) -> usize
+    requires fits { FitsFields (body_of body) }
+    requires room { start + length (body_octets (body_of body)) ≤ length out.old }
+    ensures { IsPutAt start (body_octets (body_of body.entry)) out.old out.new result }
 {
     match body {
-        Body::Empty => start,
-        Body::ShortLe { le } => put(out, start, &short(*le as usize)),
-        Body::ShortPart { part } => put_short_part(out, start, part.get()),
-        Body::ShortBoth { part, le } => {
-            let end = put_short_part(out, start, part.get());
-            put(out, end, &short(*le as usize))
+        BodyRef::Empty => start,
+        BodyRef::ShortLe { le } => put(out, start, &short(le as usize)),
+        BodyRef::ShortPart { part } => put_short_part(out, start, part),
+        BodyRef::ShortBoth { part, le } => {
+            let end = put_short_part(out, start, part);
+            put(out, end, &short(le as usize))
         }
-        Body::LongLe { le } => put_long(out, start, *le as usize),
-        Body::LongPart { part } => put_long_part(out, start, part.get()),
-        Body::LongBoth { part, le } => {
-            let end = put_long_part(out, start, part.get());
-            put(out, end, &long(*le as usize))
+        BodyRef::LongLe { le } => put_long(out, start, le as usize),
+        BodyRef::LongPart { part } => put_long_part(out, start, part),
+        BodyRef::LongBoth { part, le } => {
+            let end = put_long_part(out, start, part);
+            put(out, end, &long(le as usize))
         }
     }
 }
@@ -93,7 +92,7 @@ fn put_long(out: &mut [u8], start: usize, number: usize) -> usize
 }
 
 /// Puts octets from this place on: the place where they end.
-fn put(out: &mut [u8], start: usize, octets: &[u8]) -> usize
+pub(crate) fn put(out: &mut [u8], start: usize, octets: &[u8]) -> usize
     requires { start + length octets.now ≤ length out.old }
     ensures { IsPutAt start octets.now out.old out.new result }
 {

@@ -24,7 +24,7 @@ pub mod status;
 
 pub use chain_core::{LONGEST_COMMAND, LONGEST_RESPONSE};
 pub use command::{Body, Command, Shape};
-pub use command_ref::CommandRef;
+pub use command_ref::{BodyRef, CommandRef};
 pub use decoding::{decode_command, decode_response};
 pub use encoding::{encode_command, encode_command_into, encode_response};
 pub use reason::{CommandReason, ResponseReason};

@@ -3,6 +3,7 @@
 ghost use Rattle.std.specs.Prelude.{◌↔◌, ◌≤◌, IsTrue, length};
 ghost use Rattle.octet_core.specs.Octets.{AreOctets};
 
+use crate::response_ref::ResponseRef;
 use crate::status::status_class;
 use octet_core::Octets;
 use std::fmt::{self, Debug, Formatter, Write};
@@ -67,6 +68,13 @@ impl Response {
         self.part.get()
     }
 
+    /// The response, with its data field lent from this one.
+    pub fn lent(&self) -> ResponseRef<'_>
+        ensures { result ≡ self.now }
+    {
+        ResponseRef::of_parts(self.part.get(), self.sw1, self.sw2)
+    }
+
     /// The first status byte.
     pub fn sw1(&self) -> u8
         ensures { result ≡ self.now.sw1 }
@@ -83,7 +91,7 @@ impl Response {
 }
 
 /// Whether a response can have this data field.
-fn is_part(part: &[u8]) -> bool
+pub(crate) fn is_part(part: &[u8]) -> bool
     ensures fits { IsTrue result ↔ (length part.now ≤ 65536) }
     ensures octets { AreOctets part.now }
 {

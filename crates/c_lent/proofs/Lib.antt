@@ -1,3 +1,5 @@
+pub mod Encoded
+pub mod FilledLists
 pub mod Firsts
 pub mod Lending
 pub mod Puts

@@ -1,5 +1,5 @@
 -- Commands and responses as C sees them.
-use Rattle.std.specs.Prelude.{Bool, ◌≡◌, ℕ, List, length, slice_index, is_some, unwrap_or, if◌then◌else◌}
+use Rattle.std.specs.Prelude.{Bool, ◌≡◌, ℕ, ◌==◌, ◌&&◌, List, [], ◌∷◌, length, slice_index, Option, None, Some, is_some, unwrap_or, if◌then◌else◌}
 use Rattle.octet_core.specs.Grammar.{whole, Accepts}
 use Rattle.apdu_core.specs.declared.command.Shape.{Shape}
 use Rattle.apdu_core.specs.declared.command.Shape.TheVariants.{Empty, ShortLe, ShortPart, ShortBoth, LongLe, LongPart, LongBoth}
@@ -9,7 +9,9 @@ use Rattle.apdu_core.specs.declared.reason.ResponseReason.{ResponseReason}
 use Rattle.apdu_core.specs.declared.reason.ResponseReason.TheVariants.{TooLong}
 use Rattle.apdu_core.specs.declared.status.StatusClass.{StatusClass}
 use Rattle.apdu_core.specs.declared.status.StatusClass.TheVariants.{Normal, Warning, Execution, Checking, Proprietary, Invalid}
-use Rattle.apdu_core.specs.Command.{CommandParts, IsCommand, shape_of, part_of, le_of}
+use Rattle.apdu_core.specs.declared.command.Body.{Body}
+use Rattle.apdu_core.specs.declared.command.Body.TheVariants as body
+use Rattle.apdu_core.specs.Command.{CommandParts, FitsFields, IsCommand, shape_of, part_of, le_of}
 use Rattle.apdu_core.specs.Response.{ResponseParts, IsResponse}
 use Rattle.c_lent.specs.declared.apdu.CCommand.{CCommand}
 use Rattle.c_lent.specs.declared.apdu.CResponse.{CResponse}
@@ -75,3 +77,24 @@ class_number Execution = 3
 class_number Checking = 4
 class_number Proprietary = 5
 class_number Invalid = 6
+
+-- the body of this shape with this data field and Le, where it has no data field or Le that its shape hasn't
+abbrev pub body_with : ℕ → ℕ → List ℕ → Option Body
+body_with shape le field =
+    if (shape == 1) && ((le == 0) && (length field == 0)) then Some body.Empty
+    else if (shape == 2) && (length field == 0) then Some (body.ShortLe le)
+    else if (shape == 3) && (le == 0) then Some (body.ShortPart field)
+    else if shape == 4 then Some (body.ShortBoth field le)
+    else if (shape == 5) && (length field == 0) then Some (body.LongLe le)
+    else if (shape == 6) && (le == 0) then Some (body.LongPart field)
+    else if shape == 7 then Some (body.LongBoth field le)
+    else None
+
+-- the command of a struct's header with this body
+abbrev pub command_with : CCommand → Body → CommandParts
+command_with c body = record { header = c.cla ∷ c.ins ∷ c.p1 ∷ c.p2 ∷ []; body = body }
+
+-- the body that a caller gives is one that the length fields can tell
+abbrev pub HasBody : Option Body → Type 0
+HasBody None = ⊥
+HasBody (Some body) = FitsFields body

@@ -8,6 +8,7 @@ pub mod Chain
 pub mod Tlv
 pub mod Parts
 pub mod Dol
+pub mod Fill
 pub mod Turns
 pub mod Calls
 pub mod Pieces

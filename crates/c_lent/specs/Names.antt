@@ -18,8 +18,8 @@ use Rattle.c_lent.specs.Chain.{chain_reason}
 use Rattle.c_lent.specs.Apdu.{command_reason, response_reason}
 use Rattle.c_lent.specs.Tlv.{tlv_reason, dol_reason}
 use Rattle.c_lent.specs.Hex.{hex_reason}
-use Rattle.c_lent.specs.declared.octets.HexReason.{HexReason}
-use Rattle.c_lent.specs.declared.octets.HexReason.TheVariants as hex
+use Rattle.c_lent.specs.declared.hexadecimal.HexReason.{HexReason}
+use Rattle.c_lent.specs.declared.hexadecimal.HexReason.TheVariants as hex
 
 -- a text as C has it: a 0 is after it
 abbrev pub ended : List ℕ → List ℕ

@@ -1,16 +1,19 @@
 //! Commands and responses (ISO/IEC 7816-3, clause 12; ISO/IEC 7816-4, clause 5.1).
 
-ghost use Rattle.std.specs.Prelude.{◌≡◌, ◌≢◌, ◌<◌, length};
+ghost use Rattle.std.specs.Prelude.{◌≡◌, ◌≢◌, ◌≤◌, ◌<◌, length, IfSome, IfNone, None, Some};
 ghost use Rattle.octet_core.specs.Grammar.{whole, Refuses};
-ghost use Rattle.apdu_core.specs.Command.{IsCommand, IsReason};
-ghost use Rattle.apdu_core.specs.Response.{IsResponse, IsReason as IsResponseReason};
+ghost use Rattle.apdu_core.specs.Command.{IsCommand, IsReason, HasSpelling};
+ghost use Rattle.apdu_core.specs.Borrowed.{body_of};
+ghost use Rattle.apdu_core.specs.Response.{IsResponse, IsReason as IsResponseReason, HasSpelling as IsSpelled};
 ghost use Rattle.apdu_core.specs.Status.{IsOfClass};
 ghost use Rattle.apdu_core.specs.declared.status.StatusClass.{StatusClass as AnyClass};
-ghost use Rattle.c_lent.specs.Verdict.{Tells, ok_at};
-ghost use Rattle.c_lent.specs.Apdu.{command_reason, response_reason, shape_number, data_place, class_number, response_seen, IsSeen, IsDecoded, IsDecodedResponse};
+ghost use Rattle.c_lent.specs.Verdict.{Tells, Puts, ok_at, wrong_argument};
+ghost use Rattle.c_lent.specs.Apdu.{command_reason, response_reason, shape_number, data_place, class_number, response_seen, body_with, command_with, HasBody, IsSeen, IsDecoded, IsDecodedResponse};
 
 use crate::verdict::{Numbered, Verdict};
-use apdu_core::{CommandReason, CommandRef, ResponseReason, ResponseRef, Shape, StatusClass};
+use apdu_core::{
+    BodyRef, CommandReason, CommandRef, ResponseReason, ResponseRef, Shape, StatusClass,
+};
 
 /// A command as it was decoded. Its data field is `data_len` octets from place `data_place` on of the octets.
 #[repr(C)]
@@ -74,6 +77,38 @@ pub fn response_decode(octets: &[u8], out: &mut CResponse) -> Verdict
     }
 }
 
+/// Writes a command with the header, the shape and Le of a struct and this data field.
+pub fn command_encode(command: &CCommand, field: &[u8], out: &mut [u8]) -> Verdict
+    ensures written { IfSome (body_with command.now.shape command.now.le field.now)
+        (λ body. HasBody (Some body) →
+        Puts (IsCommand (command_with command.now body)) out.old out.new result) }
+    ensures unfit { (HasBody (body_with command.now.shape command.now.le field.now) → ⊥) →
+        result ≡ wrong_argument 0 }
+    ensures stays { result.status ≢ 0 → out.new ≡ out.old }
+{
+    let Some(body) = body_with(command.shape, command.le, field) else {
+        return Verdict::argument();
+    };
+    let header = [command.cla, command.ins, command.p1, command.p2];
+    match CommandRef::new(header, body) {
+        Some(command) => put_command(&command, out),
+        None => Verdict::argument(),
+    }
+}
+
+/// Writes a response with this data field and these status bytes.
+pub fn response_encode(field: &[u8], sw1: u8, sw2: u8, out: &mut [u8]) -> Verdict
+    ensures written { length field.now ≤ 65536 →
+        Puts (IsResponse (record { part = field.now; sw1 = sw1; sw2 = sw2 })) out.old out.new result }
+    ensures long { 65536 < length field.now → result ≡ wrong_argument 0 }
+    ensures stays { result.status ≢ 0 → out.new ≡ out.old }
+{
+    match ResponseRef::new(field, sw1, sw2) {
+        Some(response) => put_response(&response, out),
+        None => Verdict::argument(),
+    }
+}
+
 /// The class of two status bytes: 1 normal, 2 warning, 3 execution error, 4 checking error, 5
 /// proprietary, 6 invalid.
 pub fn status_class(sw1: u8, sw2: u8) -> u8
@@ -116,6 +151,49 @@ fn response_seen(response: &ResponseRef<'_>) -> CResponse
         sw2: response.sw2(),
         data_len: response.part().len(),
     }
+}
+
+/// The body of this shape with this data field and Le, if there is one.
+fn body_with(shape: u8, le: u32, field: &[u8]) -> Option<BodyRef<'_>>
+    ensures found { IfSome result (λ body. body_with shape le field.now ≡ Some (body_of body)) }
+    ensures none { IfNone result (body_with shape le field.now ≡ None) }
+{
+    match shape {
+        1 if le == 0 && field.is_empty() => Some(BodyRef::Empty),
+        2 if field.is_empty() => Some(BodyRef::ShortLe { le }),
+        3 if le == 0 => Some(BodyRef::ShortPart { part: field }),
+        4 => Some(BodyRef::ShortBoth { part: field, le }),
+        5 if field.is_empty() => Some(BodyRef::LongLe { le }),
+        6 if le == 0 => Some(BodyRef::LongPart { part: field }),
+        7 => Some(BodyRef::LongBoth { part: field, le }),
+        _ => None,
+    }
+}
+
+/// Puts a command into a buffer.
+fn put_command(command: &CommandRef<'_>, out: &mut [u8]) -> Verdict
+    requires { HasSpelling command.now }
+    ensures written { Puts (IsCommand command.now) out.old out.new result }
+    ensures stays { result.status ≢ 0 → out.new ≡ out.old }
+{
+    let count = command.encoded_len();
+    if count > out.len() {
+        return Verdict::lacking(count);
+    }
+    Verdict::ok(command.encode_into(out))
+}
+
+/// Puts a response into a buffer.
+fn put_response(response: &ResponseRef<'_>, out: &mut [u8]) -> Verdict
+    requires { IsSpelled response.now }
+    ensures written { Puts (IsResponse response.now) out.old out.new result }
+    ensures stays { result.status ≢ 0 → out.new ≡ out.old }
+{
+    let count = response.encoded_len();
+    if count > out.len() {
+        return Verdict::lacking(count);
+    }
+    Verdict::ok(response.encode_into(out))
 }
 
 fn shape_number(shape: Shape) -> u8

@@ -10,6 +10,8 @@ pub mod block;
 pub mod call;
 pub mod chain;
 pub mod dol;
+pub mod filling;
+pub mod hexadecimal;
 pub mod kept;
 pub mod kept_check;
 pub mod kept_receiver;

@@ -1,7 +1,4 @@
-pub mod Hex
-pub mod Apdu
 pub mod Tlv
-pub mod Fill
 pub mod Held
 pub mod Ends
 pub mod Calls

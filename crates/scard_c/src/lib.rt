@@ -1,9 +1,6 @@
 //! The calls of the library for C that take memory, a static library: exports over c_owned, which has their code.
 #![tactic(auto)]
 
-pub mod apdu;
 pub mod ends;
-pub mod filling;
-pub mod hexadecimal;
 pub mod readers;
 pub mod tlv;

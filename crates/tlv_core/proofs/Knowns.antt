@@ -131,7 +131,8 @@ never_twice known n le once (i, j, less, inside, k, l, gk, gl, same) =
 
 -- ---- filling
 
-filled_append : (known : List Known) (es : List Entry) (e : Entry) → filled known (es ++ e ∷ []) ≡ filled known es
+-- the part of an entry more is put after those of the others
+pub filled_append : (known : List Known) (es : List Entry) (e : Entry) → filled known (es ++ e ∷ []) ≡ filled known es
     ++ entry_part known e
 filled_append known [] e = append-nil (entry_part known e)
 filled_append known (f ∷ es) e = ap (λ (l : List ℕ). entry_part known f ++ l) (filled_append known es e)

@@ -6,6 +6,7 @@ ghost use Rattle.tlv_core.specs.Fill.{fitted, known_for, entry_part, filled, Has
 ghost use Rattle.tlv_core.specs.ByTag.{HasAll};
 
 use crate::dol::Dol;
+use crate::fitting::put_fitted;
 use crate::known::Known;
 use crate::tag::Tag;
 use octet_core::Format;
@@ -155,22 +156,10 @@ fn append_fitted(
 ) -> Result<(), AllocError>
     ensures { OnOk result (out.new.items ≡ out.old.items ++ fitted format length value.now) }
 {
-    let kept = value.len().min(length);
-    let missing = length - kept;
-    match format {
-        Format::Numeric => {
-            append_copies(out, 0, missing)?;
-            out.extend_from_slice(&value[value.len() - kept..])
-        }
-        Format::CompressedNumeric => {
-            out.extend_from_slice(&value[..kept])?;
-            append_copies(out, 0xFF, missing)
-        }
-        Format::Other => {
-            out.extend_from_slice(&value[..kept])?;
-            append_copies(out, 0, missing)
-        }
-    }
+    let start = out.len();
+    append_copies(out, 0, length)?;
+    put_fitted(&mut out.as_mut_slice()[start..], format, value);
+    Ok(())
 }
 
 /// Adds so many of one octet.

@@ -1,0 +1,47 @@
+//! Values that are cut and padded to the length that a list asks for.
+
+ghost use Rattle.std.specs.Prelude.{◌≡◌, ◌-◌, ◌++◌, length, take, drop, replicate};
+ghost use Rattle.tlv_core.specs.Fill.{fitted};
+
+use octet_core::Format;
+
+/// Fills these octets with a value, cut and padded by its format (EMV 4.3 Book 3, clause 5.4): a numeric value loses
+/// its leftmost octets or gets leading 00; a compressed numeric one loses its rightmost or gets trailing FF; any other
+/// loses its rightmost or gets trailing 00.
+pub fn put_fitted(part: &mut [u8], format: Format, value: &[u8])
+    ensures { part.new ≡ fitted format (length part.old) value.now }
+{
+    match format {
+        Format::Numeric => put_last(part, value),
+        Format::CompressedNumeric => put_first(part, value, 0xFF),
+        Format::Other => put_first(part, value, 0),
+    }
+}
+
+/// Fills octets with the last of a value, and 00 before them where it has fewer.
+fn put_last(part: &mut [u8], value: &[u8])
+    ensures { part.new ≡ replicate (length part.old - length value.now) 0
+        ++ drop (length value.now - length part.old) value.now }
+{
+    let kept = value.len().min(part.len());
+    let missing = part.len() - kept;
+    put_copies(&mut part[..missing], 0);
+    part[missing..].copy_from_slice(&value[value.len() - kept..]);
+}
+
+/// Fills octets with the first of a value, and this octet after them where it has fewer.
+fn put_first(part: &mut [u8], value: &[u8], octet: u8)
+    ensures { part.new ≡ take (length part.old) value.now
+        ++ replicate (length part.old - length value.now) octet }
+{
+    let kept = value.len().min(part.len());
+    part[..kept].copy_from_slice(&value[..kept]);
+    put_copies(&mut part[kept..], octet);
+}
+
+/// Fills octets with copies of one.
+pub fn put_copies(part: &mut [u8], octet: u8)
+    ensures { part.new ≡ replicate (length part.old) octet }
+{
+    part.fill(octet);
+}
