@@ -889,6 +889,59 @@ SCARD_MUST_USE
 struct scard_verdict scard_lent_receiver_message(const struct scard_lent_receiver *state,
                                                  const uint8_t *message, size_t room);
 
+/* ---- a block and an answer to reset in pieces, without an allocator ---- */
+
+/* The most octets of an answer to reset: TS and 32 more (ISO/IEC 7816-3, clause 8.2.1). */
+#define SCARD_ATR_ROOM 33
+
+/* Readers of one block and of one answer to reset that the caller keeps, 264 and 40 octets. The caller reads the
+ * fields, and changes them by the calls alone. Each call decides again what the octets taken are, so whatever octets a
+ * state has, a call is safe, and reads no more than `octets`. These calls take no memory.
+ */
+struct scard_lent_block_reader {
+    uint32_t count;                     /* octets taken, with a refusal those up to and with the refused one */
+    uint8_t ifs;                        /* the information size */
+    uint8_t octets[SCARD_BLOCK_ROOM];   /* at its front those that were taken */
+};
+
+struct scard_lent_atr_reader {
+    uint32_t count;                     /* octets taken, with a refusal those up to and with the refused one */
+    uint8_t octets[SCARD_ATR_ROOM];     /* at its front those that were taken */
+};
+
+/* Begin a reader, whatever the state was: of one block, where I-blocks have at most `ifs` octets, 1 to 254; of one
+ * answer to reset. For a block: OK with place 0, ARGUMENT: then nothing changes.
+ */
+SCARD_MUST_USE
+struct scard_verdict scard_lent_block_reader_begin(struct scard_lent_block_reader *state, uint8_t ifs);
+void scard_lent_atr_reader_begin(struct scard_lent_atr_reader *state);
+
+/* Gives the next octets to a reader, and says what there is to say of all that it took, as scard_reader_feed and
+ * scard_reader_finish of a reader in a handle. The octets may not be in the state. `feed`: OK, MORE, AT. `finish`: OK
+ * with place 0, SHORT, AT. For a block also ARGUMENT (with place 0): `ifs` of the state is 0 or 255, and nothing
+ * changes.
+ */
+SCARD_MUST_USE
+struct scard_verdict scard_lent_block_reader_feed(struct scard_lent_block_reader *state,
+                                                  const uint8_t *octets, size_t count);
+SCARD_MUST_USE
+struct scard_verdict scard_lent_block_reader_finish(const struct scard_lent_block_reader *state);
+SCARD_MUST_USE
+struct scard_verdict scard_lent_atr_reader_feed(struct scard_lent_atr_reader *state,
+                                                const uint8_t *octets, size_t count);
+SCARD_MUST_USE
+struct scard_verdict scard_lent_atr_reader_finish(const struct scard_lent_atr_reader *state);
+
+/* The block, or the answer to reset, that a reader has, once it is whole: it is written to *out at OK. The place says
+ * how many octets it has: they are the first of `octets` of the state, and *out says where a block's information field
+ * is in them. OK, ARGUMENT (with place 0: it isn't whole).
+ */
+SCARD_MUST_USE
+struct scard_verdict scard_lent_block_reader_value(const struct scard_lent_block_reader *state,
+                                                   struct scard_block *out);
+SCARD_MUST_USE
+struct scard_verdict scard_lent_atr_reader_value(const struct scard_lent_atr_reader *state, struct scard_atr *out);
+
 /* ---- framing ---- */
 
 /* The most octets of a burst that are kept: one more than the longest block has. */
@@ -950,7 +1003,9 @@ enum scard_struct {
     SCARD_STRUCT_TEXT = 20,
     SCARD_STRUCT_ENTRY = 21,
     SCARD_STRUCT_NOTE = 22,
-    SCARD_STRUCT_LENT_FRAMER = 23
+    SCARD_STRUCT_LENT_FRAMER = 23,
+    SCARD_STRUCT_LENT_BLOCK_READER = 24,
+    SCARD_STRUCT_LENT_ATR_READER = 25
 };
 
 /* How many octets a struct has in the library, to be compared with its sizeof; 0 for any other number. */

@@ -1,6 +1,6 @@
 /* A program that has no functions for memory: it is linked with `-lscard` and no flag, and tools/test-c looks at what
  * it wants. A session of both ends over lent buffers, a check and the parts of a forest, a list that is read and filled,
- * a receiver of a chain, a command and a response, hexadecimal text, and the LRC.
+ * a receiver of a chain, a reader of a block, a command and a response, hexadecimal text, and the LRC.
  */
 #include "scard.h"
 
@@ -75,15 +75,19 @@ static int objects(void)
         && memcmp(block, "\0\0\0\0\x90\0\0\0\0\0\0", 11) == 0;
 }
 
-/* Whether a chain of one block is received. */
+/* Whether a chain of one block is received, and the block is read in two pieces. */
 static int chain(void)
 {
     struct scard_lent_receiver receiver;
+    struct scard_lent_block_reader reader;
     struct scard_verdict verdict = scard_block_i(0, 0, false, done, sizeof done, block, sizeof block);
     return verdict.status == SCARD_OK
         && scard_lent_receiver_begin(&receiver, SIZE, 0, ROOM).status == SCARD_OK
         && scard_lent_receiver_feed(&receiver, answers[0], ROOM, block, verdict.place).status == SCARD_OK
-        && scard_lent_receiver_message(&receiver, answers[0], ROOM).place == sizeof done;
+        && scard_lent_receiver_message(&receiver, answers[0], ROOM).place == sizeof done
+        && scard_lent_block_reader_begin(&reader, SIZE).status == SCARD_OK
+        && scard_lent_block_reader_feed(&reader, block, 3).status == SCARD_MORE
+        && scard_lent_block_reader_feed(&reader, block + 3, verdict.place - 3).status == SCARD_OK;
 }
 
 /* Whether a command and a response are written, and come back from hexadecimal text. */

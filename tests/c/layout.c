@@ -31,16 +31,24 @@ static void sizes(void)
     SIZE(SCARD_STRUCT_ENTRY, scard_entry);
     SIZE(SCARD_STRUCT_NOTE, scard_note);
     SIZE(SCARD_STRUCT_LENT_FRAMER, scard_lent_framer);
+    SIZE(SCARD_STRUCT_LENT_BLOCK_READER, scard_lent_block_reader);
+    SIZE(SCARD_STRUCT_LENT_ATR_READER, scard_lent_atr_reader);
     CHECK(sizeof(struct scard_lent_terminal) < 128 && sizeof(struct scard_lent_card) < 128);
     CHECK(sizeof(struct scard_lent_check) == 92 && sizeof(struct scard_lent_check) < 128);
     CHECK(sizeof(struct scard_lent_receiver) == 32);
-    CHECK(scard_struct_size(0) == 0 && scard_struct_size(24) == 0 && scard_struct_size(255) == 0);
+    CHECK(sizeof(struct scard_lent_block_reader) == 264 && sizeof(struct scard_lent_atr_reader) == 40);
+    CHECK(scard_struct_size(0) == 0 && scard_struct_size(26) == 0 && scard_struct_size(255) == 0);
 }
 
 static void places(void)
 {
     PLACE(scard_lent_framer, count, 0);
     PLACE(scard_lent_framer, octets, 8);
+    PLACE(scard_lent_block_reader, count, 0);
+    PLACE(scard_lent_block_reader, ifs, 4);
+    PLACE(scard_lent_block_reader, octets, 5);
+    PLACE(scard_lent_atr_reader, count, 0);
+    PLACE(scard_lent_atr_reader, octets, 4);
     PLACE(scard_verdict, status, 0);
     PLACE(scard_verdict, reason, 1);
     PLACE(scard_verdict, place, 8);

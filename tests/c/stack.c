@@ -57,6 +57,8 @@ static struct scard_response response;
 static struct scard_block block;
 static struct scard_lent_check check;
 static struct scard_lent_receiver receiver;
+static struct scard_lent_block_reader block_reader;
+static struct scard_lent_atr_reader atr_reader;
 static struct scard_part parts[2048];
 static struct scard_entry entries[2];
 static struct scard_lent_framer framer;
@@ -194,6 +196,18 @@ static void lent_receiver(void)
     verdict = scard_lent_receiver_begin(&receiver, 254, 0, sizeof out);
     verdict = scard_lent_receiver_feed(&receiver, out, sizeof out, sent, sizeof sent);
     verdict = scard_lent_receiver_finish(&receiver, out, sizeof out);
+}
+
+static void lent_readers(void)
+{
+    scard_lent_atr_reader_begin(&atr_reader);
+    verdict = scard_lent_atr_reader_feed(&atr_reader, answer_to_reset, sizeof answer_to_reset);
+    verdict = scard_lent_atr_reader_finish(&atr_reader);
+    verdict = scard_lent_atr_reader_value(&atr_reader, &atr);
+    verdict = scard_lent_block_reader_begin(&block_reader, 254);
+    verdict = scard_lent_block_reader_feed(&block_reader, sent, sizeof sent);
+    verdict = scard_lent_block_reader_finish(&block_reader);
+    verdict = scard_lent_block_reader_value(&block_reader, &block);
 }
 
 static void tlv_check(void)
@@ -457,6 +471,7 @@ int main(void)
     CHECK(verdict.status == SCARD_OK);
     bounded("forests: check that the caller keeps", lent_check, 2048);
     bounded("chains: receiver that the caller keeps", lent_receiver, 1024);
+    bounded("blocks and answers to reset: readers that the caller keeps", lent_readers, 4096);
     bounded("forests: check", tlv_check, 1024);
     bounded("forests: parts", tlv_parts, 2048);
     CHECK(verdict.status == SCARD_OK && parts[verdict.place - 1].depth == 16);

@@ -1,6 +1,6 @@
 /* The conformance vectors of the folder `vectors`, of which docs/VECTORS.md has the format: each line of `check`, and
- * of `build` but those from standard input, through the header, and where there is a reader also octet by octet. The
- * folder is the first word, or ./vectors.
+ * of `build` but those from standard input, through the header, and where there is a reader also octet by octet; those
+ * of blocks and answers to reset also in each two pieces. The folder is the first word, or ./vectors.
  */
 #include "check.h"
 
@@ -104,6 +104,47 @@ static void check_reader(int codec, const struct row *row, struct octets octets,
 }
 #endif
 
+/* Looks whether a reader of a block or of an answer to reset that is kept here says the same of octets that come in
+ * pieces of this length, the first of another one. */
+static void check_pieces(int codec, const struct row *row, struct octets octets, size_t first, size_t length,
+                         struct scard_verdict wanted)
+{
+    struct scard_lent_block_reader block;
+    struct scard_lent_atr_reader atr;
+    struct scard_verdict v = {SCARD_OK, 0, 0};
+    size_t place = 0, piece = first;
+    scard_lent_atr_reader_begin(&atr);
+    if (codec == SCARD_CODEC_BLOCK) {
+        v = scard_lent_block_reader_begin(&block, (uint8_t)row->ifs);
+    }
+    v.status = v.status == SCARD_OK ? SCARD_MORE : v.status;
+    while (v.status == SCARD_MORE && place < octets.count) {
+        piece = piece < octets.count - place ? piece : octets.count - place;
+        v = codec == SCARD_CODEC_BLOCK ? scard_lent_block_reader_feed(&block, octets.at + place, piece)
+                                       : scard_lent_atr_reader_feed(&atr, octets.at + place, piece);
+        v.place += v.status == SCARD_OK ? place : 0;
+        place += piece;
+        piece = length;
+    }
+    if (v.status == SCARD_MORE) {
+        v = codec == SCARD_CODEC_BLOCK ? scard_lent_block_reader_finish(&block) : scard_lent_atr_reader_finish(&atr);
+    }
+    CHECK(v.status == wanted.status && v.place == wanted.place && v.reason == wanted.reason);
+}
+
+/* The same octet by octet, and in each two pieces. */
+static void check_kept(int codec, const struct row *row, struct octets octets, struct scard_verdict wanted)
+{
+    size_t first;
+    if (codec != SCARD_CODEC_ATR && codec != SCARD_CODEC_BLOCK) {
+        return;
+    }
+    check_pieces(codec, row, octets, 1, 1, wanted);
+    for (first = 0; first <= octets.count; first++) {
+        check_pieces(codec, row, octets, first, octets.count, wanted);
+    }
+}
+
 /* The answer to `check KIND HEX`. */
 static void check_kind(const struct row *row)
 {
@@ -117,6 +158,7 @@ static void check_kind(const struct row *row)
     v = codec == SCARD_CODEC_CHAIN ? chain_of(octets, row->ifs, row->number)
                                    : verdict_of_codec(codec, octets, (uint8_t)row->ifs);
     say_verdict(v, codec);
+    check_kept(codec, row, octets, v);
 #ifndef WITHOUT_HANDLES
     check_reader(codec, row, octets, v);
 #endif

@@ -19,6 +19,7 @@ pub mod KeptCheck
 pub mod LentCheck
 pub mod KeptReceiver
 pub mod LentReceiver
+pub mod LentReaders
 pub mod Names
 pub mod Notes
 pub mod Version

@@ -10,6 +10,7 @@ use crate::dol::CEntry;
 use crate::kept::{CCard, CTerminal};
 use crate::kept_check::{CCheck, CHeader};
 use crate::kept_receiver::CReceiver;
+use crate::lent_readers::{CAtrReader, CBlockReader};
 use crate::names::CText;
 use crate::note::CNote;
 use crate::parts::{CKnown, CPart, CTag};
@@ -53,6 +54,8 @@ pub fn struct_size(number: u8) -> usize
         21 => size_of::<CEntry>(),
         22 => size_of::<CNote>(),
         23 => size_of::<Framer>(),
+        24 => size_of::<CBlockReader>(),
+        25 => size_of::<CAtrReader>(),
         _ => 0,
     }
 }
