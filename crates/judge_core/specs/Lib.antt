@@ -1,0 +1,10 @@
+-- to be believed: what the standard permits
+pub mod Ends
+pub mod Sends
+pub mod Courses
+pub mod Followed
+pub mod Watched
+pub mod Monitored
+pub mod Rules
+-- what code makes of octets
+pub mod Classes

@@ -1,0 +1,272 @@
+-- What a monitor keeps of a trace, and what it says of each block: as the block was on the line, and as it reached the
+-- other end where the trace says so. The clauses are those of ISO/IEC 7816-3:2006.
+use Rattle.std.specs.Prelude.{◌≡◌, ◌≢◌, ◌⊎◌, ℕ, ◌+◌, ◌*◌, ◌/◌, ◌%◌, ◌==◌, min, List, [], length, Bool, true, false, Option, Some, None}
+use Rattle.octet_core.specs.Grammar.{self_ended, Accepts, Refuses}
+use Rattle.octet_core.specs.declared.stop.Stop.{Stop}
+use Rattle.octet_core.specs.declared.stop.Stop.TheVariants.{At, Short}
+use Rattle.block_core.specs.Block.{Parts, IsBlock, IsReason}
+use Rattle.block_core.specs.declared.reason.BlockReason.{BlockReason}
+use Rattle.block_core.specs.declared.reason.BlockReason.TheVariants.{BadPcb, BadLen, OverIfs, BadIfs, BadLrc}
+use Rattle.line_core.specs.Bursts.{is_whole, most_counted}
+use Rattle.t1_core.specs.Came.{carried}
+use Rattle.t1_core.specs.Terminal.{first_ifsd}
+use Rattle.judge_core.specs.declared.end.Side.{Side}
+use Rattle.judge_core.specs.declared.end.Side.TheVariants.{Terminal, Card}
+use Rattle.judge_core.specs.declared.end.End.{End}
+use Rattle.judge_core.specs.declared.end.After.{After}
+use Rattle.judge_core.specs.declared.end.Owed.TheVariants.{AnyBlock}
+use Rattle.judge_core.specs.declared.rule.Rule.{Rule}
+use Rattle.judge_core.specs.declared.rule.Rule.TheVariants.{NodeAddress, ControlOctet, Length, ReservedSize}
+use Rattle.judge_core.specs.declared.courses.Heard.{Heard}
+use Rattle.judge_core.specs.declared.courses.Heard.TheVariants.{Beginning, Whole, Perhaps, Broken, Nothing}
+use Rattle.judge_core.specs.declared.courses.Verdict.TheVariants.{Deviates}
+use Rattle.judge_core.specs.declared.monitor.Watched.{Watched}
+use Rattle.judge_core.specs.declared.monitor.Monitor.{Monitor}
+use Rattle.judge_core.specs.declared.monitor.Silence.{Silence}
+use Rattle.judge_core.specs.declared.monitor.Silence.TheVariants.{No, Possible, Certain}
+use Rattle.judge_core.specs.declared.monitor.Arrival.{Arrival}
+use Rattle.judge_core.specs.declared.monitor.Arrival.TheVariants.{Unsaid, Lost, Came}
+use Rattle.judge_core.specs.declared.monitor.Said.{Said}
+use Rattle.judge_core.specs.declared.monitor.Said.TheVariants.{Damage, Block}
+use Rattle.judge_core.specs.declared.monitor.Report.{Report}
+use Rattle.judge_core.specs.Ends.{hears_unknown, new_end}
+use Rattle.judge_core.specs.Followed.{last_after}
+use Rattle.judge_core.specs.Courses.{got_whole, got_none, first_course, judges}
+
+-- ---- octets on the line
+
+-- What octets on the line are: a block; octets of a block's form with a right check octet that no block has; or damage.
+pub data Seen : Type 0 where
+  whole : (block : Parts) → Seen
+  malformed : (broken : Rule) → Seen
+  damage : Seen
+
+-- the rule that such octets break (11.3.2.2, 11.3.2.3, 11.4.2); a wrong check octet breaks none
+abbrev pub rule_of : BlockReason → Option Rule
+rule_of BadPcb = Some ControlOctet
+rule_of BadLen = Some Length
+rule_of OverIfs = Some Length
+rule_of BadIfs = Some ReservedSize
+rule_of BadLrc = None
+
+abbrev pub rule_at : Stop BlockReason → Option Rule
+rule_at (Short place) = None
+rule_at (At place reason) = rule_of reason
+
+-- octets that are no block break a rule only where their length and their check octet are right, and else are damage
+abbrev pub refused_as : Bool → Option Rule → Seen
+refused_as true (Some broken) = malformed broken
+refused_as true None = damage
+refused_as false broken = damage
+
+abbrev pub IsSeen : List ℕ → Seen → Type 0
+IsSeen octets (whole block) = Accepts self_ended (IsBlock 254) octets block (length octets)
+IsSeen octets seen =
+    ((block : Parts) × (n : ℕ) × Accepts self_ended (IsBlock 254) octets block n × (n ≢ length octets)
+    × (seen ≡ damage))
+    ⊎ ((stop : Stop BlockReason) × Refuses self_ended (IsBlock 254) (IsReason 254) octets stop
+    × (seen ≡ refused_as (is_whole octets) (rule_at stop)))
+
+-- ---- node addresses
+
+-- the halves of the octet swapped: an answer goes back to where the block came from (11.3.2.1)
+abbrev pub swapped : ℕ → ℕ
+swapped nad = (nad % 16) * 16 + nad / 16
+
+-- the node address of the terminal's blocks, by one of this end's
+abbrev pub nad_of : Side → ℕ → ℕ
+nad_of Terminal nad = nad
+nad_of Card nad = swapped nad
+
+abbrev pub is_addressed : Option ℕ → ℕ → Bool
+is_addressed None nad = true
+is_addressed (Some first) nad = nad == first
+
+-- ---- what reached the other end
+
+-- What the trace says of it: nothing, that the block was lost, or which octets came.
+pub data Reaching : Type 0 where
+  unsaid : Reaching
+  lost : Reaching
+  came : (seen : Seen) → Reaching
+
+-- after silence a terminal may send again, and a card may not
+abbrev pub after_silence : Side → Heard
+after_silence Terminal = Broken
+after_silence Card = Nothing
+
+abbrev pub perhaps_heard : Bool → Seen → Heard
+perhaps_heard true (whole block) = Perhaps block.pcb (carried block.inf)
+perhaps_heard true (malformed broken) = Broken
+perhaps_heard true damage = Broken
+perhaps_heard false seen = Broken
+
+abbrev pub surely_heard : Bool → Seen → Heard
+surely_heard true (whole block) = Whole block.pcb (carried block.inf)
+surely_heard true (malformed broken) = Broken
+surely_heard true damage = Broken
+surely_heard false seen = Broken
+
+-- what this end has then heard of a block of the other end, where the block, or what came of it, has the right node
+-- address or not
+abbrev pub heard_of : Side → Bool → Bool → Seen → Reaching → Heard
+heard_of side addressed came_addressed seen unsaid = perhaps_heard addressed seen
+heard_of side addressed came_addressed seen lost = after_silence side
+heard_of side addressed came_addressed seen (came arrived) = surely_heard came_addressed arrived
+
+-- ---- the monitor
+
+abbrev pub new_watched : Side → ℕ → Heard → Watched
+new_watched side room heard = record {
+  «end» = new_end side room;
+  heard = heard;
+  last = record { items = [] };
+  number = 0;
+}
+
+-- At a reset of a card that takes fields of so many octets: the terminal sends first (rule 1 of 11.6.2.3).
+abbrev pub new_monitor : ℕ → Monitor
+new_monitor ifsc = record {
+  terminal = new_watched Terminal ifsc Beginning;
+  card = new_watched Card first_ifsd Nothing;
+  nad = None;
+  blocks = 0;
+}
+
+-- what an end owes, on the first course there is
+abbrev pub due : Watched → After
+due w = first_course w.«end» (got_whole w.«end» w.heard) (got_none w.«end» w.heard)
+
+-- What is said of octets of this end: damage is nobody's deviation.
+abbrev pub said_of : Watched → Bool → Seen → Said
+said_of w addressed damage = Damage
+said_of w addressed (malformed broken) = Block (Deviates broken (due w))
+said_of w true (whole block) = Block (judges w.«end» w.heard w.last.items block.pcb block.inf).verdict
+said_of w false (whole block) = Block (Deviates NodeAddress (due w))
+
+-- an end that sends an I-block next has taken the one that it heard
+abbrev pub presumed : End → Heard → End
+presumed e Beginning = e
+presumed e (Whole pcb octet) = (hears_unknown e pcb).«end»
+presumed e (Perhaps pcb octet) = (hears_unknown e pcb).«end»
+presumed e Broken = e
+presumed e Nothing = e
+
+-- an end whose block nobody knows: it was damaged, or no block, or for another address
+abbrev pub unknown_after : Watched → ℕ → Watched
+unknown_after w number = record w {
+  «end» = record (presumed w.«end» w.heard) { known = false; before = AnyBlock };
+  heard = after_silence w.«end».side;
+  number = number;
+}
+
+abbrev pub known_after : Watched → Parts → ℕ → Watched
+known_after w block number = record w {
+  «end» = (judges w.«end» w.heard w.last.items block.pcb block.inf).«end»;
+  heard = after_silence w.«end».side;
+  last = record { items = last_after w.last.items block.pcb block.inf };
+  number = number;
+}
+
+abbrev pub sender_after : Watched → Bool → Seen → ℕ → Watched
+sender_after w addressed damage number = unknown_after w number
+sender_after w addressed (malformed broken) number = unknown_after w number
+sender_after w true (whole block) number = known_after w block number
+sender_after w false (whole block) number = unknown_after w number
+
+abbrev pub listens : Watched → Heard → Watched
+listens w heard = record w { heard = heard }
+
+-- a card that heard a block, or may have, and sent none
+abbrev pub silence_of : Heard → ℕ → Silence
+silence_of Beginning number = No
+silence_of (Whole pcb octet) number = Certain number
+silence_of (Perhaps pcb octet) number = Possible number
+silence_of Broken number = No
+silence_of Nothing number = No
+
+-- the first whole block sets the addresses
+abbrev pub addressed_by : Side → Option ℕ → Seen → Bool
+addressed_by from nad (whole block) = is_addressed nad (nad_of from block.nad)
+addressed_by from nad (malformed broken) = true
+addressed_by from nad damage = true
+
+abbrev pub nad_set : Option ℕ → ℕ → Option ℕ
+nad_set None nad = Some nad
+nad_set (Some first) nad = Some first
+
+abbrev pub nad_after : Side → Option ℕ → Seen → Option ℕ
+nad_after from nad (whole block) = nad_set nad (nad_of from block.nad)
+nad_after from nad (malformed broken) = nad
+nad_after from nad damage = nad
+
+abbrev pub came_by : Side → Option ℕ → Reaching → Bool
+came_by from nad unsaid = true
+came_by from nad lost = true
+came_by from nad (came seen) = addressed_by from nad seen
+
+-- blocks are counted from 1, and the count stays at its greatest value
+abbrev pub number_after : ℕ → ℕ
+number_after blocks = min (blocks + 1) most_counted
+
+abbrev pub monitor_after : Monitor → Side → Seen → Reaching → Monitor
+monitor_after m Terminal seen reaching = record {
+  terminal = sender_after m.terminal (addressed_by Terminal m.nad seen) seen (number_after m.blocks);
+  card = listens m.card (heard_of Card (addressed_by Terminal m.nad seen)
+      (came_by Terminal (nad_after Terminal m.nad seen) reaching) seen reaching);
+  nad = nad_after Terminal m.nad seen;
+  blocks = number_after m.blocks;
+}
+monitor_after m Card seen reaching = record {
+  terminal = listens m.terminal (heard_of Terminal (addressed_by Card m.nad seen)
+      (came_by Card (nad_after Card m.nad seen) reaching) seen reaching);
+  card = sender_after m.card (addressed_by Card m.nad seen) seen (number_after m.blocks);
+  nad = nad_after Card m.nad seen;
+  blocks = number_after m.blocks;
+}
+
+-- What is said of a block, and of a card that sent none before it; with the number of the other end's last block.
+abbrev pub report_of : Monitor → Side → Seen → Report
+report_of m Terminal seen = record {
+  silence = silence_of m.card.heard m.terminal.number;
+  said = said_of m.terminal (addressed_by Terminal m.nad seen) seen;
+  before = m.card.number;
+}
+report_of m Card seen = record {
+  silence = No;
+  said = said_of m.card (addressed_by Card m.nad seen) seen;
+  before = m.terminal.number;
+}
+
+abbrev pub IsReaching : Arrival → Reaching → Type 0
+IsReaching Unsaid reaching = reaching ≡ unsaid
+IsReaching Lost reaching = reaching ≡ lost
+IsReaching (Came octets) reaching = (seen : Seen) × IsSeen octets.now seen × (reaching ≡ came seen)
+
+-- The monitor takes these octets of an end.
+pub record Takes (m : Monitor) (from : Side) (octets : List ℕ) (arrival : Arrival) (m' : Monitor) (report : Report)
+    : Type 0 where
+  pub seen : Seen
+  pub is_seen : IsSeen octets seen
+  pub reaching : Reaching
+  pub is_reaching : IsReaching arrival reaching
+  pub after : m' ≡ monitor_after m from seen reaching
+  pub reports : report ≡ report_of m from seen
+
+-- The terminal's waiting time ended: it heard nothing, whatever the card sent, and a card that owed a block sent none.
+abbrev pub heard_in_time : Heard → Heard
+heard_in_time Beginning = Beginning
+heard_in_time (Whole pcb octet) = Broken
+heard_in_time (Perhaps pcb octet) = Broken
+heard_in_time Broken = Broken
+heard_in_time Nothing = Broken
+
+abbrev pub quiet_after : Monitor → Monitor
+quiet_after m = record m {
+  terminal = listens m.terminal (heard_in_time m.terminal.heard);
+  card = listens m.card Nothing;
+}
+
+-- The card is reset: both ends begin again, and blocks are counted on.
+abbrev pub reset_after : Monitor → ℕ → Monitor
+reset_after m ifsc = record (new_monitor ifsc) { blocks = m.blocks }

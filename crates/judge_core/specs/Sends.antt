@@ -1,0 +1,303 @@
+-- What an end of T=1 may send that owes this (ISO/IEC 7816-3:2006, clause 11.6), and the rule that another block breaks.
+use Rattle.std.specs.Prelude.{ℕ, ◌+◌, ◌==◌, nat_lt, nat_le, List, length, bytes_eq, Bool, true, false, if◌then◌else◌, Option, Some, None, Result, Ok, Err}
+use Rattle.block_core.specs.Block.{other}
+use Rattle.block_core.specs.declared.pcb.Number.{Number}
+use Rattle.block_core.specs.declared.pcb.Fault.{Fault}
+use Rattle.block_core.specs.declared.pcb.Fault.TheVariants.{Free, Redundancy, Other}
+use Rattle.block_core.specs.declared.pcb.S.{S}
+use Rattle.block_core.specs.declared.pcb.S.TheVariants.{Resynch, Ifs, Abort, Wtx}
+use Rattle.block_core.specs.declared.pcb.Pcb.{Pcb}
+use Rattle.block_core.specs.declared.pcb.Pcb.TheVariants.{Info, Ready, Request, Response}
+use Rattle.t1_core.specs.Came.{same, carried}
+use Rattle.t1_core.specs.Terminal.{most_repeats, most_resynchs}
+use Rattle.judge_core.specs.declared.end.Side.{Side}
+use Rattle.judge_core.specs.declared.end.Side.TheVariants.{Terminal, Card}
+use Rattle.judge_core.specs.declared.end.Pending.{Pending}
+use Rattle.judge_core.specs.declared.end.Pending.TheVariants.{Settled, Chain, Last}
+use Rattle.judge_core.specs.declared.end.Asked.{Asked}
+use Rattle.judge_core.specs.declared.end.Asked.TheVariants.{Size, Time, Stop, Anew}
+use Rattle.judge_core.specs.declared.end.Owed.{Owed}
+use Rattle.judge_core.specs.declared.end.Owed.TheVariants.{NewMessage, NextBlock, Acknowledgment, SameBlock, Correction, Refusal, SameRequest, Answer, EitherBlock, AnyBlock}
+use Rattle.judge_core.specs.declared.end.End.{End}
+use Rattle.judge_core.specs.declared.rule.Rule.{Rule}
+use Rattle.judge_core.specs.declared.rule.Rule.TheVariants as rule
+use Rattle.judge_core.specs.Ends.{begun}
+
+-- the end after a block that it may send, or the rule that the block breaks
+abbrev pub Sent : Type 0
+Sent = Result End Rule
+
+-- ---- what may be repeated, and how often
+
+-- A terminal repeats so many times before it asks for RESYNCH (rule 7.4, where the reading that permits more is taken), and
+-- asks for that so many times; a card has no limit. RESYNCH may come after two repeats.
+abbrev pub least_repeats : ℕ
+least_repeats = 2
+
+abbrev pub again_as : Side → End → Sent
+again_as Terminal e =
+    if nat_lt e.tries most_repeats then Ok (record e { tries = e.tries + 1 }) else Err rule.TooManyRepeats
+again_as Card e = Ok e
+
+abbrev pub again : End → Sent
+again e = again_as e.side e
+
+-- ---- requests
+
+-- only the terminal asks for RESYNCH (rule 6.1) and only the card for time (rule 3)
+abbrev pub is_foreign : Side → Pcb → Bool
+is_foreign Card (Request Resynch) = true
+is_foreign Terminal (Request Wtx) = true
+is_foreign side pcb = false
+
+-- a request counts its first sending too, at a terminal
+abbrev pub first_tries : Side → ℕ
+first_tries Terminal = 1
+first_tries Card = 0
+
+-- The end after its request, which owes as before when the response came. After RESYNCH all begins again, whatever it owed.
+abbrev pub asking : End → Owed → S → ℕ → End
+asking e owed Resynch n = record (begun e) { asked = Some Anew; tries = first_tries e.side }
+asking e owed Ifs n = record e { asked = Some (Size n); before = owed; tries = first_tries e.side; known = true }
+asking e owed Abort n = record e { asked = Some Stop; before = owed; tries = first_tries e.side; known = true }
+asking e owed Wtx n = record e { asked = Some (Time n); before = owed; tries = first_tries e.side; known = true }
+
+-- between messages a terminal may begin again
+abbrev pub is_between : Owed → Bool
+is_between NewMessage = true
+is_between EitherBlock = true
+is_between owed = false
+
+-- within a chain either end may abort it (rule 9)
+abbrev pub is_within : Owed → Bool
+is_within NextBlock = true
+is_within Acknowledgment = true
+is_within owed = false
+
+-- A request in place of what is owed: about a size or time at any time (rules 3 and 4).
+abbrev pub asks : End → Owed → S → ℕ → Sent
+asks e owed Resynch n = if is_between owed then Ok (asking e owed Resynch n) else Err rule.EarlyResynch
+asks e owed Ifs n = Ok (asking e owed Ifs n)
+asks e owed Abort n = if is_within owed then Ok (asking e owed Abort n) else Err rule.NoChain
+asks e owed Wtx n = Ok (asking e owed Wtx n)
+
+-- RESYNCH in place of a repeat, once enough repeats failed (rules 6.1 and 7.4); no other request is
+abbrev pub resynchs : End → S → Rule → Sent
+resynchs e Resynch broken =
+    if nat_le least_repeats e.tries then Ok (asking e NewMessage Resynch 0) else Err rule.EarlyResynch
+resynchs e Ifs broken = Err broken
+resynchs e Abort broken = Err broken
+resynchs e Wtx broken = Err broken
+
+-- whether it is the request that was sent before
+abbrev pub is_asked : Option Asked → S → ℕ → Bool
+is_asked (Some (Size n)) Ifs octet = octet == n
+is_asked (Some (Time n)) Wtx octet = octet == n
+is_asked (Some Stop) Abort octet = true
+is_asked (Some Anew) Resynch octet = true
+is_asked asked s octet = false
+
+-- how often a terminal may send a request in a row
+abbrev pub most_asked : S → ℕ
+most_asked Resynch = most_resynchs
+most_asked Ifs = most_repeats + 1
+most_asked Abort = most_repeats + 1
+most_asked Wtx = most_repeats + 1
+
+abbrev pub is_waiting : Option Asked → Bool
+is_waiting None = false
+is_waiting (Some asked) = true
+
+-- the request of this end goes out once more
+abbrev pub asked_again : Side → End → S → ℕ → Sent
+asked_again Terminal e s octet =
+    if nat_lt e.tries (most_asked s)
+    then Ok (record (asking e e.before s octet) { tries = e.tries + 1 })
+    else Err rule.TooManyRepeats
+asked_again Card e s octet = Ok (asking e e.before s octet)
+
+-- RESYNCH in place of a request may come at any time, since nobody sees how often the request failed.
+abbrev pub resynchs_asking : End → S → Rule → Sent
+resynchs_asking e Resynch broken = Ok (asking e NewMessage Resynch 0)
+resynchs_asking e Ifs broken = Err broken
+resynchs_asking e Abort broken = Err broken
+resynchs_asking e Wtx broken = Err broken
+
+-- The same request once more (rule 7.3), or RESYNCH.
+abbrev pub repeats_request : End → S → ℕ → Rule → Sent
+repeats_request e s octet broken =
+    if is_asked e.asked s octet then asked_again e.side e s octet
+    else (if is_waiting e.asked then resynchs_asking e s broken else resynchs e s broken)
+
+-- ---- messages
+
+abbrev pub pending_of : Bool → Pending
+pending_of true = Chain
+pending_of false = Last
+
+-- a new I-block was sent
+abbrev pub informed : End → Number → Bool → End
+informed e number more = record e {
+  next = other number;
+  pending = pending_of more;
+  asked = None;
+  tries = 0;
+  known = true;
+  aborted = false;
+}
+
+-- A new I-block has the next number (rule 2.1) and at most so many octets as the other end takes (11.4.2).
+abbrev pub sends_info : End → Number → Bool → List ℕ → Sent
+sends_info e number more inf =
+    if same number e.next
+    then (if nat_le (length inf) e.room then Ok (informed e number more) else Err rule.FieldSize)
+    else Err rule.SequenceNumber
+
+-- A message begins or goes on (rules 2.1, 2.2 and 5).
+abbrev pub messages : End → Owed → Pcb → List ℕ → Sent
+messages e owed (Info number more) inf = sends_info e number more inf
+messages e owed (Ready number fault) inf = Err rule.BlockDue
+messages e owed (Request s) inf = asks e owed s (carried inf)
+messages e owed (Response s) inf = Err rule.Unasked
+
+-- ---- R-blocks
+
+-- An R-block with the number of the I-block that its sender expects (rule 7.1).
+abbrev pub sends_ready : End → Number → Sent
+sends_ready e number = if same number e.expects then again e else Err rule.SequenceNumber
+
+-- An acknowledgment is free of errors (rule 2.2).
+abbrev pub acknowledged : End → Number → Fault → Sent
+acknowledged e number Free =
+    if same number e.expects then Ok (record e { tries = 0 }) else Err rule.SequenceNumber
+acknowledged e number Redundancy = Err rule.ErrorCode
+acknowledged e number Other = Err rule.ErrorCode
+
+abbrev pub acknowledges : End → Pcb → List ℕ → Sent
+acknowledges e (Info number more) inf = Err rule.AcknowledgmentDue
+acknowledges e (Ready number fault) inf = acknowledged e number fault
+acknowledges e (Request s) inf = asks e Acknowledgment s (carried inf)
+acknowledges e (Response s) inf = Err rule.Unasked
+
+-- An R-block after an error, with any error code (rules 7.1 and 7.2).
+abbrev pub corrects : End → Pcb → Sent
+corrects e (Info number more) = Err rule.CorrectionDue
+corrects e (Ready number fault) = sends_ready e number
+corrects e (Request s) = resynchs e s rule.CorrectionDue
+corrects e (Response s) = Err rule.Unasked
+
+-- An end that has no room for an I-block refuses it as another error (11.3.2.2).
+abbrev pub refuses_with : End → Number → Fault → Sent
+refuses_with e number Free = Err rule.CorrectionDue
+refuses_with e number Redundancy = Err rule.CorrectionDue
+refuses_with e number Other = sends_ready e number
+
+abbrev pub refuses : End → Pcb → List ℕ → Sent
+refuses e (Info number more) inf = Err rule.CorrectionDue
+refuses e (Ready number fault) inf = refuses_with e number fault
+refuses e (Request s) inf = repeats_request e s (carried inf) rule.CorrectionDue
+refuses e (Response s) inf = Err rule.CorrectionDue
+
+-- ---- repeats and answers
+
+abbrev pub is_pending : Pending → Bool → Bool
+is_pending Settled more = false
+is_pending Chain more = more
+is_pending Last true = false
+is_pending Last false = true
+
+-- The last I-block once more, with the octets that it had (rule 7.1).
+abbrev pub repeats_info : End → List ℕ → Number → Bool → List ℕ → Sent
+repeats_info e last number more inf =
+    if same number e.next then Err rule.SequenceNumber
+    else (if is_pending e.pending more
+    then (if bytes_eq inf last then again e else Err rule.RepeatedOctets)
+    else Err rule.RepeatedOctets)
+
+abbrev pub repeats : End → List ℕ → Pcb → List ℕ → Sent
+repeats e last (Info number more) inf = repeats_info e last number more inf
+repeats e last (Ready number fault) inf = Err rule.RepeatDue
+repeats e last (Request s) inf = resynchs e s rule.RepeatDue
+repeats e last (Response s) inf = Err rule.Unasked
+
+-- The same request once more (rule 7.3).
+abbrev pub asks_again : End → Pcb → List ℕ → Sent
+asks_again e (Info number more) inf = Err rule.RequestDue
+asks_again e (Ready number fault) inf = Err rule.RequestDue
+asks_again e (Request s) inf = repeats_request e s (carried inf) rule.RequestDue
+asks_again e (Response s) inf = Err rule.RequestDue
+
+-- An end that answered: a size holds from then on (rule 4), a chain is over (rule 9), or all begins again (rule 6).
+abbrev pub responded : End → S → ℕ → End
+responded e Resynch n = begun e
+responded e Ifs n = record e { room = n }
+responded e Abort n = record e { pending = Settled; aborted = true }
+responded e Wtx n = e
+
+abbrev pub same_subject : S → S → Bool
+same_subject Resynch Resynch = true
+same_subject Ifs Ifs = true
+same_subject Abort Abort = true
+same_subject Wtx Wtx = true
+same_subject s t = false
+
+-- The response to a request, with the octet of the request (rules 3, 4, 6 and 9).
+abbrev pub responds : End → S → ℕ → Pcb → List ℕ → Sent
+responds e s n (Info number more) inf = Err rule.ResponseDue
+responds e s n (Ready number fault) inf = Err rule.ResponseDue
+responds e s n (Request t) inf = Err rule.ResponseDue
+responds e s n (Response t) inf =
+    if same_subject s t
+    then (if carried inf == n then Ok (responded e s n) else Err rule.ResponseOctet)
+    else Err rule.ResponseDue
+
+-- After ABORT a message, or an R-block that hands over the right to send (rule 9).
+abbrev pub either : End → Pcb → List ℕ → Sent
+either e (Info number more) inf = sends_info e number more inf
+either e (Ready number fault) inf = acknowledged e number fault
+either e (Request s) inf = asks e EitherBlock s (carried inf)
+either e (Response s) inf = Err rule.Unasked
+
+-- ---- going on
+
+-- The end that its own block suggests, where nothing is known of it or the block broke a rule.
+abbrev pub suggested : End → Pcb → ℕ → End
+suggested e (Info number more) n = informed (record e { before = NewMessage }) number more
+suggested e (Ready number fault) n = record e { expects = number; asked = None; before = NewMessage; known = true }
+suggested e (Request s) n =
+    if is_foreign e.side (Request s) then record e { known = false } else asking e NewMessage s n
+suggested e (Response s) n = responded (record e { asked = None; before = NewMessage; known = true }) s n
+
+-- Whether an end that the line hid is known again: it sent an I-block since, and this is the next one.
+abbrev pub is_next : Owed → Bool → Bool
+is_next AnyBlock next = false
+is_next owed next = next
+
+-- Any block of an end of which nobody knows what it sent last. It is known again by a second I-block, or by RESYNCH.
+abbrev pub any_block : End → Pcb → List ℕ → Sent
+any_block e (Info number more) inf =
+    if nat_le (length inf) e.room
+    then Ok (record (informed e number more) { known = is_next e.before (same number e.next); before = NewMessage })
+    else Err rule.FieldSize
+any_block e (Ready number fault) inf = Ok (record e { expects = number; asked = None; known = false })
+any_block e (Request s) inf = Ok (asking e AnyBlock s (carried inf))
+any_block e (Response s) inf = Ok (responded (record e { asked = None; known = false }) s (carried inf))
+
+-- ---- all of them
+
+abbrev pub sends_owed : End → Owed → List ℕ → Pcb → List ℕ → Sent
+sends_owed e NewMessage last pcb inf = messages e NewMessage pcb inf
+sends_owed e NextBlock last pcb inf = messages e NextBlock pcb inf
+sends_owed e Acknowledgment last pcb inf = acknowledges e pcb inf
+sends_owed e SameBlock last pcb inf = repeats e last pcb inf
+sends_owed e Correction last pcb inf = corrects e pcb
+sends_owed e Refusal last pcb inf = refuses e pcb inf
+sends_owed e SameRequest last pcb inf = asks_again e pcb inf
+sends_owed e (Answer s n) last pcb inf = responds e s n pcb inf
+sends_owed e EitherBlock last pcb inf = either e pcb inf
+sends_owed e AnyBlock last pcb inf = any_block e pcb inf
+
+-- What an end may send that owes this: its last I-block had the field last, and the block has the field inf.
+abbrev pub sends : End → Owed → List ℕ → Pcb → List ℕ → Sent
+sends e owed last pcb inf =
+    if is_foreign e.side pcb then Err rule.ForeignRequest else sends_owed e owed last pcb inf

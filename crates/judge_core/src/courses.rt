@@ -1,0 +1,164 @@
+//! What an end may have heard, and what is permitted by some course of it.
+
+ghost use Rattle.std.specs.Prelude.{◌≡◌};
+ghost use Rattle.judge_core.specs.Courses.{attempted, by_damage, chosen, first_course, got_none, got_whole, judgment, judges, perhaps_answers, uncounted, untaken};
+
+use crate::end::{After, End, Owed};
+use crate::hearing::answers;
+use crate::rule::Rule;
+use crate::sending::carried;
+use block_core::Pcb;
+
+/// What an end may have heard since its last block.
+#[derive(Clone, Copy, Debug)]
+pub enum Heard {
+    /// The session begins: a terminal may send its first block.
+    Beginning,
+    /// This block, which certainly came whole, with the octet that it carries about a size or time, or 0.
+    Whole(Pcb, u8),
+    /// This block, if it came whole; else octets that are no block, or nothing.
+    Perhaps(Pcb, u8),
+    /// Octets that are no block, or, at a terminal, nothing within the waiting time.
+    Broken,
+    /// Nothing: it isn't its turn.
+    Nothing,
+}
+
+/// What the judge says of a block.
+#[derive(Clone, Copy, Debug)]
+pub enum Verdict {
+    /// The standard permits it.
+    Permitted,
+    /// It does so only if the other end's last block was damaged or lost unseen.
+    Unseen,
+    /// It breaks this rule: by the first course this end owed this.
+    Deviates(Rule, After),
+}
+
+/// The verdict, and the end that the judge goes on from.
+#[derive(Clone, Copy, Debug)]
+pub struct Judged {
+    pub verdict: Verdict,
+    pub end: End,
+}
+
+/// What comes of a block on a course, where there is one.
+type Attempt = Option<Result<End, Rule>>;
+
+impl End {
+    /// What the judge says of a block with this field, where the end's last I-block had the field `last`.
+    pub(crate) fn judges(self, heard: Heard, last: &[u8], pcb: Pcb, inf: &[u8]) -> Judged
+        ensures { result ≡ judges self heard last.now pcb inf.now }
+    {
+        let whole = self.got_whole(heard);
+        let none = self.got_none(heard);
+        let first = first_course(self, whole, none);
+        let by_whole = attempted(whole, last, pcb, inf);
+        let by_none = attempted(none, last, pcb, inf);
+        chosen(heard, first, pcb, carried(inf), by_whole, by_none)
+    }
+
+    /// What it owes on the course on which it got the last block whole.
+    pub(crate) fn got_whole(self, heard: Heard) -> Option<After>
+        ensures { result ≡ got_whole self heard }
+    {
+        match heard {
+            Heard::Beginning => Some(self.owes(Owed::NewMessage)),
+            Heard::Whole(pcb, octet) | Heard::Perhaps(pcb, octet) => Some(self.hears(pcb, octet)),
+            Heard::Broken | Heard::Nothing => None,
+        }
+    }
+
+    /// What it owes on the course on which it got it damaged, or nothing.
+    pub(crate) fn got_none(self, heard: Heard) -> Option<After>
+        ensures { result ≡ got_none self heard }
+    {
+        match heard {
+            Heard::Whole(Pcb::Info { number, more }, _) => {
+                Some(self.untaken(Pcb::Info { number, more }, self.owes(Owed::Refusal)))
+            }
+            Heard::Perhaps(pcb, octet) => {
+                let due = self.uncounted(pcb, octet).owes(self.missed());
+                Some(self.untaken(pcb, due))
+            }
+            Heard::Broken => Some(self.owes(self.missed())),
+            Heard::Beginning | Heard::Whole(..) | Heard::Nothing => None,
+        }
+    }
+
+    /// What it owes where it didn't take the block, and would owe `due` if its last block is known.
+    fn untaken(self, pcb: Pcb, due: After) -> After
+        ensures { result ≡ untaken self pcb due }
+    {
+        if self.known {
+            due
+        } else {
+            self.hears_unknown(pcb)
+        }
+    }
+
+    /// Where the block may have answered its request, the next such request counts as a first one.
+    fn uncounted(self, pcb: Pcb, octet: u8) -> End
+        ensures { result ≡ uncounted self pcb octet }
+    {
+        if self.perhaps_answered(pcb, octet) {
+            End { tries: 0, ..self }
+        } else {
+            self
+        }
+    }
+
+    fn perhaps_answered(self, pcb: Pcb, octet: u8) -> bool
+        ensures { result ≡ perhaps_answers self.asked pcb octet }
+    {
+        match self.asked {
+            None => false,
+            Some(asked) => answers(asked, pcb, octet),
+        }
+    }
+}
+
+fn attempted(due: Option<After>, last: &[u8], pcb: Pcb, inf: &[u8]) -> Attempt
+    ensures { result ≡ attempted due last.now pcb inf.now }
+{
+    due.map(|due| due.end.sends(due.owed, last, pcb, inf))
+}
+
+/// What a block is that only damage permits.
+fn by_damage(heard: Heard) -> Verdict
+    ensures { result ≡ by_damage heard }
+{
+    match heard {
+        Heard::Perhaps(..) => Verdict::Unseen,
+        Heard::Beginning | Heard::Whole(..) | Heard::Broken | Heard::Nothing => Verdict::Permitted,
+    }
+}
+
+pub(crate) fn first_course(end: End, whole: Option<After>, none: Option<After>) -> After
+    ensures { result ≡ first_course end whole none }
+{
+    match (whole, none) {
+        (Some(due), _) | (None, Some(due)) => due,
+        (None, None) => end.owes(Owed::NewMessage),
+    }
+}
+
+/// The verdict of both courses.
+fn chosen(heard: Heard, due: After, pcb: Pcb, octet: u8, whole: Attempt, none: Attempt) -> Judged
+    ensures { result ≡ chosen heard due pcb octet whole none }
+{
+    let broken = match (whole, none) {
+        (Some(Ok(end)), _) => return judgment(Verdict::Permitted, end),
+        (_, Some(Ok(end))) => return judgment(by_damage(heard), end),
+        (Some(Err(broken)), _) | (None, Some(Err(broken))) => broken,
+        (None, None) => Rule::Turn,
+    };
+    let verdict = Verdict::Deviates(broken, due);
+    judgment(verdict, due.end.suggested(pcb, octet))
+}
+
+fn judgment(verdict: Verdict, end: End) -> Judged
+    ensures { result ≡ judgment verdict end }
+{
+    Judged { verdict, end }
+}

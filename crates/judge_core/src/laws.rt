@@ -1,0 +1,42 @@
+//! What holds of the judge's decision, and of the ends of `t1_core` before it, as contracts.
+
+ghost use Rattle.std.specs.Prelude.{◌≡◌, ◌↔◌, ℕ, List, Some};
+ghost use Rattle.block_core.specs.declared.pcb.Pcb.{Pcb};
+ghost use Rattle.judge_core.specs.declared.end.End.{End};
+ghost use Rattle.judge_core.specs.declared.courses.Heard.{Heard};
+ghost use Rattle.judge_core.specs.declared.courses.Verdict.TheVariants.{Permitted};
+ghost use Rattle.judge_core.specs.Courses.{Permits, judges, judgment};
+ghost use Rattle.t1_core.specs.Link.{tables};
+ghost use Rattle.judge_core.specs.Watched.{EndsArePermitted, NobodyIsAccused};
+ghost use Rattle.judge_core.specs.Followed.{Follows, PermitsSurely, Sending, followed, permitted};
+
+/// The decision is exact: a block is no deviation where some course permits it, and only there. All
+/// such courses lead to one end, which the judge goes on from. The verdict is [`Permitted`] where no
+/// damage is needed that nobody saw, and only there.
+///
+/// [`Permitted`]: crate::Verdict::Permitted
+pub fn decides()
+    ensures passed { (e e1 : End) (heard : Heard) (last : List ℕ) (pcb : Pcb) (inf : List ℕ)
+        → Permits e heard last pcb inf e1 ↔ (permitted (judges e heard last pcb inf) ≡ Some e1) }
+    ensures surely { (e e1 : End) (heard : Heard) (last : List ℕ) (pcb : Pcb) (inf : List ℕ)
+        → PermitsSurely e heard last pcb inf e1
+        ↔ (judges e heard last pcb inf ≡ judgment Permitted e1) }
+{}
+
+/// A deviation is found at the first block after which no course is left, and nowhere else.
+pub fn follows()
+    ensures { (blocks : List Sending) (e e1 : End) (last : List ℕ)
+        → Follows blocks e last e1 ↔ (followed blocks e last ≡ Some e1) }
+{}
+
+/// Whatever is lost or damaged between a terminal and a card of `t1_core`, the standard permits each
+/// block that they send.
+pub fn ends_are_permitted()
+    ensures { EndsArePermitted tables }
+{}
+
+/// A judge that sees the blocks of both ends, and not which of them came whole, accuses neither of
+/// them, whatever is lost or damaged on the way.
+pub fn nobody_is_accused()
+    ensures { NobodyIsAccused tables }
+{}

@@ -1,0 +1,21 @@
+//! Who broke the T=1 protocol, where, and by which clause (ISO/IEC 7816-3:2006, clause 11).
+//!
+//! A [`Monitor`] takes each block of a trace in its order, as it was on the line, and says whether the standard permits
+//! it. Nobody sees on the line whether the other end got a block whole, so a block is permitted where some course of what
+//! its sender may have heard permits it. `specs/Ends.antt` has what an end owes after what it heard, `specs/Sends.antt`
+//! what it may send then, rule by rule, and `specs/Courses.antt` the courses. Nothing here allocates.
+#![tactic(auto)]
+
+mod class;
+pub mod courses;
+pub mod end;
+mod hearing;
+pub mod laws;
+pub mod monitor;
+pub mod rule;
+mod sending;
+
+pub use courses::{Heard, Verdict};
+pub use end::{After, Asked, End, Owed, Pending, Side};
+pub use monitor::{Arrival, Monitor, Report, Said, Silence, Watched};
+pub use rule::Rule;

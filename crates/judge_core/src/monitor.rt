@@ -1,0 +1,384 @@
+//! Each block of a trace, judged as it comes.
+
+ghost use Rattle.std.specs.Prelude.{◌≡◌, true};
+ghost use Rattle.block_core.specs.Block.{Parts};
+ghost use Rattle.judge_core.specs.Classes.{reaching_of, seen_of};
+ghost use Rattle.judge_core.specs.Followed.{last_after};
+ghost use Rattle.judge_core.specs.Monitored as seen;
+ghost use Rattle.judge_core.specs.Monitored.{addressed_by, after_silence, came_by, due, heard_in_time, heard_of, is_addressed, known_after, listens, monitor_after, nad_after, nad_of, nad_set, new_monitor, new_watched, number_after, perhaps_heard, presumed, quiet_after, report_of, reset_after, said_of, sender_after, silence_of, surely_heard, unknown_after, IsReaching, Takes};
+
+use crate::class::{Class, class_of};
+use crate::courses::{Heard, Verdict, first_course};
+use crate::end::{After, End, Owed, Side};
+use crate::rule::Rule;
+use crate::sending::carried;
+use arrayvec::ArrayVec;
+use block_core::{BlockRef, LONGEST_INF, Pcb};
+use t1_core::FIRST_IFSD;
+
+/// An end of the line that is watched.
+#[derive(Drop)]
+pub struct Watched {
+    pub end: End,
+    pub heard: Heard,
+    /// The field of its last I-block.
+    pub last: ArrayVec<u8, LONGEST_INF>,
+    /// The number of its last block, from 1, or 0 before its first.
+    pub number: u64,
+}
+
+/// Judges each block of a trace as it comes. It takes no memory, and keeps of each end what decides what that may send.
+#[derive(Drop)]
+pub struct Monitor {
+    pub terminal: Watched,
+    pub card: Watched,
+    /// The node address of the terminal's blocks, once one was seen.
+    pub nad: Option<u8>,
+    /// How many blocks were seen; it stays at its greatest value.
+    pub blocks: u64,
+}
+
+/// What a trace says of how a block reached the other end.
+#[derive(Clone, Copy, Debug)]
+pub enum Arrival<'a> {
+    /// Nothing.
+    Unsaid,
+    /// It didn't reach the other end.
+    Lost,
+    /// These octets did.
+    Came(&'a [u8]),
+}
+
+/// A card that sent no block before the terminal's next one, or before the terminal's waiting time ended.
+#[derive(Clone, Copy, Debug, PartialEq, Eq)]
+pub enum Silence {
+    /// It owed none.
+    No,
+    /// It owed one in answer to the block with this number, unless that was lost or damaged unseen.
+    Possible(u64),
+    /// It owed one in answer to the block with this number, which it got whole.
+    Certain(u64),
+}
+
+/// What is said of octets.
+#[derive(Clone, Copy, Debug)]
+pub enum Said {
+    /// They are no block, by the check octet or the length: damage, and nobody's deviation.
+    Damage,
+    /// They are meant for a block.
+    Block(Verdict),
+}
+
+/// What is said of a block, and of a card that sent none before it.
+#[derive(Clone, Copy, Debug)]
+pub struct Report {
+    pub silence: Silence,
+    pub said: Said,
+    /// The number of the other end's last block, or 0.
+    pub before: u64,
+}
+
+/// How a block reached the other end.
+#[derive(Debug, Drop)]
+pub(crate) enum Reached<'a> {
+    Unsaid,
+    Lost,
+    Came(Class<'a>),
+}
+
+impl Watched {
+    fn new(side: Side, room: u8, heard: Heard) -> Watched
+        ensures { result ≡ new_watched side room heard }
+    {
+        Watched {
+            end: End::new(side, room),
+            heard,
+            last: ArrayVec::new(),
+            number: 0,
+        }
+    }
+
+    /// What the end owes, on the first course there is.
+    fn due(&self) -> After
+        ensures { result ≡ due self.now }
+    {
+        let whole = self.end.got_whole(self.heard);
+        let none = self.end.got_none(self.heard);
+        first_course(self.end, whole, none)
+    }
+
+    /// The end sent octets; blocks are judged.
+    fn sent(&mut self, addressed: bool, class: &Class<'_>, number: u64) -> Said
+        ensures said { result ≡ said_of self.old addressed (seen_of class.now) }
+        ensures after { self.new ≡ sender_after self.old addressed (seen_of class.now) number }
+    {
+        match class {
+            Class::Whole(block) if addressed => self.sent_block(block, number),
+            Class::Whole(_) => self.sent_other(Rule::NodeAddress, number),
+            Class::Malformed(broken) => self.sent_other(*broken, number),
+            Class::Damage => {
+                self.sent_unknown(number);
+                Said::Damage
+            }
+        }
+    }
+
+    fn sent_block(&mut self, block: &BlockRef<'_>, number: u64) -> Said
+        ensures said { result ≡ said_of self.old true (seen.whole block.now) }
+        ensures after { self.new ≡ known_after self.old block.now number }
+    {
+        let judged = self
+            .end
+            .judges(self.heard, self.last.as_slice(), block.pcb(), block.inf());
+        self.heard = after_silence(self.end.side);
+        self.end = judged.end;
+        self.number = number;
+        self.keep(block);
+        Said::Block(judged.verdict)
+    }
+
+    /// Keeps the field of an I-block.
+    fn keep(&mut self, block: &BlockRef<'_>)
+        ensures { self.new ≡ record self.old {
+          last = record { items = last_after self.old.last.items block.now.pcb block.now.inf };
+        } }
+    {
+        if let Pcb::Info { .. } = block.pcb() {
+            self.last.clear();
+            self.last.try_extend_from_slice(block.inf()).unwrap();
+        }
+    }
+
+    fn sent_other(&mut self, broken: Rule, number: u64) -> Said
+        ensures said { result ≡ said_of self.old true (seen.malformed broken) }
+        ensures after { self.new ≡ unknown_after self.old number }
+    {
+        let due = self.due();
+        self.sent_unknown(number);
+        Said::Block(Verdict::Deviates(broken, due))
+    }
+
+    fn sent_unknown(&mut self, number: u64)
+        ensures { self.new ≡ unknown_after self.old number }
+    {
+        self.end = End {
+            known: false,
+            before: Owed::AnyBlock,
+            ..presumed(self.end, self.heard)
+        };
+        self.heard = after_silence(self.end.side);
+        self.number = number;
+    }
+}
+
+impl Monitor {
+    /// A monitor at a reset of a card that takes fields of up to `ifsc` octets, as its answer to reset says (11.4.2).
+    pub fn new(ifsc: u8) -> Monitor
+        ensures { result ≡ new_monitor ifsc }
+    {
+        Monitor {
+            terminal: Watched::new(Side::Terminal, ifsc, Heard::Beginning),
+            card: Watched::new(Side::Card, FIRST_IFSD, Heard::Nothing),
+            nad: None,
+            blocks: 0,
+        }
+    }
+
+    /// Takes the octets that were on the line as one block of an end, and says whether the standard permits them.
+    pub fn block(&mut self, from: Side, octets: &[u8], arrival: Arrival<'_>) -> Report
+        ensures { Takes self.old from octets.now arrival.entry self.new result }
+    {
+        let class = class_of(octets);
+        let reached = reached_by(arrival);
+        self.saw(from, &class, &reached)
+    }
+
+    fn saw(&mut self, from: Side, class: &Class<'_>, reached: &Reached<'_>) -> Report
+        ensures after { self.new ≡ monitor_after self.old from (seen_of class.now)
+            (reaching_of reached.now) }
+        ensures report { result ≡ report_of self.old from (seen_of class.now) }
+    {
+        let addressed = addressed_by(from, self.nad, class);
+        self.blocks = self.blocks.saturating_add(1);
+        self.nad = nad_after(from, self.nad, class);
+        let came_addressed = came_by(from, self.nad, reached);
+        match from {
+            Side::Terminal => {
+                let silence = silence_of(self.card.heard, self.terminal.number);
+                self.card.heard = heard_of(Side::Card, addressed, came_addressed, class, reached);
+                let said = self.terminal.sent(addressed, class, self.blocks);
+                Report {
+                    silence,
+                    said,
+                    before: self.card.number,
+                }
+            }
+            Side::Card => {
+                self.terminal.heard = heard_of(
+                    Side::Terminal,
+                    addressed,
+                    came_addressed,
+                    class,
+                    reached,
+                );
+                let said = self.card.sent(addressed, class, self.blocks);
+                Report {
+                    silence: Silence::No,
+                    said,
+                    before: self.terminal.number,
+                }
+            }
+        }
+    }
+
+    /// The terminal's waiting time ended.
+    pub fn quiet(&mut self) -> Silence
+        ensures after { self.new ≡ quiet_after self.old }
+        ensures silence { result ≡ silence_of self.old.card.heard self.old.terminal.number }
+    {
+        let silence = self.silence();
+        self.terminal.heard = heard_in_time(self.terminal.heard);
+        self.card.heard = Heard::Nothing;
+        silence
+    }
+
+    /// The card is reset: both ends begin again, with this IFSC, and blocks are counted on.
+    pub fn reset(&mut self, ifsc: u8)
+        ensures { self.new ≡ reset_after self.old ifsc }
+    {
+        *self = Monitor {
+            blocks: self.blocks,
+            ..Monitor::new(ifsc)
+        };
+    }
+
+    /// Whether the card owes a block now, as at the end of a trace.
+    pub fn silence(&self) -> Silence
+        ensures { result ≡ silence_of self.now.card.heard self.now.terminal.number }
+    {
+        silence_of(self.card.heard, self.terminal.number)
+    }
+}
+
+fn reached_by(arrival: Arrival<'_>) -> Reached<'_>
+    ensures { IsReaching arrival.entry (reaching_of result) }
+{
+    match arrival {
+        Arrival::Unsaid => Reached::Unsaid,
+        Arrival::Lost => Reached::Lost,
+        Arrival::Came(octets) => Reached::Came(class_of(octets)),
+    }
+}
+
+/// An end that sends an I-block next, and has taken the one that it heard.
+fn presumed(end: End, heard: Heard) -> End
+    ensures { result ≡ presumed end heard }
+{
+    match heard {
+        Heard::Whole(pcb, _) | Heard::Perhaps(pcb, _) => end.hears_unknown(pcb).end,
+        Heard::Beginning | Heard::Broken | Heard::Nothing => end,
+    }
+}
+
+/// What an end has heard of a block of the other end.
+fn heard_of(
+    side: Side,
+    addressed: bool,
+    came_addressed: bool,
+    class: &Class<'_>,
+    reached: &Reached<'_>,
+) -> Heard
+    ensures { result ≡ heard_of side addressed came_addressed (seen_of class.now)
+        (reaching_of reached.now) }
+{
+    match reached {
+        Reached::Unsaid => perhaps_heard(addressed, class),
+        Reached::Lost => after_silence(side),
+        Reached::Came(came) => surely_heard(came_addressed, came),
+    }
+}
+
+/// Whether what came has the node address that the first block set.
+fn came_by(from: Side, nad: Option<u8>, reached: &Reached<'_>) -> bool
+    ensures { result ≡ came_by from nad (reaching_of reached.now) }
+{
+    match reached {
+        Reached::Unsaid | Reached::Lost => true,
+        Reached::Came(came) => addressed_by(from, nad, came),
+    }
+}
+
+fn perhaps_heard(addressed: bool, class: &Class<'_>) -> Heard
+    ensures { result ≡ perhaps_heard addressed (seen_of class.now) }
+{
+    match class {
+        Class::Whole(block) if addressed => Heard::Perhaps(block.pcb(), carried(block.inf())),
+        Class::Whole(_) | Class::Malformed(_) | Class::Damage => Heard::Broken,
+    }
+}
+
+fn surely_heard(addressed: bool, class: &Class<'_>) -> Heard
+    ensures { result ≡ surely_heard addressed (seen_of class.now) }
+{
+    match class {
+        Class::Whole(block) if addressed => Heard::Whole(block.pcb(), carried(block.inf())),
+        Class::Whole(_) | Class::Malformed(_) | Class::Damage => Heard::Broken,
+    }
+}
+
+fn after_silence(side: Side) -> Heard
+    ensures { result ≡ after_silence side }
+{
+    match side {
+        Side::Terminal => Heard::Broken,
+        Side::Card => Heard::Nothing,
+    }
+}
+
+fn heard_in_time(heard: Heard) -> Heard
+    ensures { result ≡ heard_in_time heard }
+{
+    match heard {
+        Heard::Beginning => Heard::Beginning,
+        Heard::Whole(..) | Heard::Perhaps(..) | Heard::Broken | Heard::Nothing => Heard::Broken,
+    }
+}
+
+fn silence_of(heard: Heard, number: u64) -> Silence
+    ensures { result ≡ silence_of heard number }
+{
+    match heard {
+        Heard::Whole(..) => Silence::Certain(number),
+        Heard::Perhaps(..) => Silence::Possible(number),
+        Heard::Beginning | Heard::Broken | Heard::Nothing => Silence::No,
+    }
+}
+
+/// Whether a block has the node address that the first one set.
+fn addressed_by(from: Side, nad: Option<u8>, class: &Class<'_>) -> bool
+    ensures { result ≡ addressed_by from nad (seen_of class.now) }
+{
+    match (class, nad) {
+        (Class::Whole(block), Some(first)) => nad_of(from, block.nad()) == first,
+        _ => true,
+    }
+}
+
+fn nad_after(from: Side, nad: Option<u8>, class: &Class<'_>) -> Option<u8>
+    ensures { result ≡ nad_after from nad (seen_of class.now) }
+{
+    match (class, nad) {
+        (Class::Whole(block), None) => Some(nad_of(from, block.nad())),
+        _ => nad,
+    }
+}
+
+/// The node address of the terminal's blocks, by one of this end's: an answer has its halves swapped (11.3.2.1).
+fn nad_of(from: Side, nad: u8) -> u8
+    ensures { result ≡ nad_of from nad }
+{
+    match from {
+        Side::Terminal => nad,
+        Side::Card => (nad % 16) * 16 + nad / 16,
+    }
+}

@@ -1,0 +1,334 @@
+-- That a trace has one judgment, or one fault.
+use Rattle.std.proofs.Common.{◌≡◌, ◌≢◌, ◌<◌, ◌≤◌, ◌⊎◌, ◌∙◌, ◌||◌, ◌&&◌, ◌+◌, ◌++◌, ◌==◌, inl, inr, not, ℕ, List, [], ◌∷◌, codes, Bool, true, false, Option, Some, None, Result, Ok, Err, MatchResult, if◌then◌else◌, ap, arith, refl, subst, sym}
+use Rattle.std.specs.Str.{bytes_eq}
+use Rattle.std.specs.List.{slice_split}
+use Rattle.std.proofs.lemmas.Bool.{cases_lt}
+use Rattle.hex.specs.Hex.{decode_of}
+use Rattle.hex.specs.declared.error.FromHexError.{FromHexError}
+use Rattle.hex.proofs.HexLemmas.{decode_of-ok}
+use Rattle.octet_core.specs.Octets.{AreOctets}
+use Rattle.octet_core.specs.Decimal.{decimal_number}
+use Rattle.exchange_text.specs.Names.{name_text}
+use Rattle.exchange_text.specs.declared.name.Name.TheVariants as name
+use Rattle.exchange_text.specs.declared.fault.ExchangeFault.{ExchangeFault}
+use Rattle.exchange_text.specs.declared.fault.ExchangeFault.TheVariants.{Falls, Memory, Word}
+use Rattle.judge_core.specs.declared.end.Side.{Side}
+use Rattle.judge_core.specs.declared.end.Side.TheVariants as side
+use Rattle.judge_core.specs.declared.monitor.Monitor.{Monitor}
+use Rattle.judge_core.specs.declared.monitor.Report.{Report}
+use Rattle.judge_core.specs.Monitored.{monitor_after, report_of}
+use Rattle.trace_judge.specs.declared.entry.Entry.{Entry}
+use Rattle.trace_judge.specs.declared.entry.Entry.TheVariants.{Nothing, Block, Quiet, Reset, Moment}
+use Rattle.trace_judge.specs.declared.entry.Reach.{Reach}
+use Rattle.trace_judge.specs.declared.entry.Reach.TheVariants.{Unsaid, Lost, Came}
+use Rattle.trace_judge.specs.declared.standing.Judgment.{Judgment}
+use Rattle.trace_judge.specs.Reading.{◌>>=◌, block_said, entry_said, hex_said, is_empty, moment_by, named_said, octets_by, reach_said, words_of, Words}
+use Rattle.trace_judge.specs.Judging.{deviations, ended, is_before, is_line_end, start, summary, told_before, told_report, Concludes, Fails, IsBlockTold, IsEntered, IsFalling, IsTold, Judges, JudgesLine, JudgesLines, Standing}
+use Rattle.trace_judge.proofs.SeenOnce.{one-taking, some-arrival, some-seen, IsOfOctets}
+
+-- ---- what a line says
+
+-- what was read is so, or the line is at fault, and memory isn't wanting
+abbrev IsRead : {A : Type 0} → (A → Type 0) → Result A ExchangeFault → Type 0
+IsRead Holds read = MatchResult read Holds (λ fault. fault ≢ Memory)
+
+-- what an entry has for octets are octets
+abbrev HasOctets : Entry → Type 0
+HasOctets (Block from octets reach) = AreOctets octets × IsOfOctets reach
+HasOctets Nothing = Unit {0}
+HasOctets Quiet = Unit {0}
+HasOctets Reset = Unit {0}
+HasOctets (Moment moment) = Unit {0}
+
+either : {A : Type 0} (Holds : A → Type 0) (b : Bool) (x y : Result A ExchangeFault) → IsRead Holds x → IsRead Holds y
+    → IsRead Holds (if b then x else y)
+either Holds true x y h g = h
+either Holds false x y h g = g
+
+then-read : {A B : Type 0} (Holds : A → Type 0) (Also : B → Type 0) (r : Result A ExchangeFault)
+    (f : A → Result B ExchangeFault) → IsRead Holds r → ((a : A) → Holds a → IsRead Also (f a)) → IsRead Also (r >>= f)
+then-read Holds Also (Ok a) f h g = g a h
+then-read Holds Also (Err fault) f h g = h
+
+hex-read : (number : ℕ) (word : List ℕ) → IsRead AreOctets (hex_said number word)
+hex-read number word = go (decode_of word) refl
+  where
+    go : (r : Result (List ℕ) FromHexError) → decode_of word ≡ r → IsRead AreOctets (octets_by number r)
+    go (Ok octets) e = (decode_of-ok word octets e).3
+    go (Err fault) e = λ same. cc same
+
+reach-read : (number : ℕ) (w : Words) → IsRead IsOfOctets (reach_said number w)
+reach-read number w =
+    either IsOfOctets (is_empty w.second || not (is_empty w.more)) (Err (Word number)) _ (λ same. cc same)
+    (either IsOfOctets (is_empty w.third) (Ok Unsaid) _ tt
+    (either IsOfOctets (bytes_eq w.third (codes "lost") && is_empty w.fourth) (Ok Lost) _ tt
+    (either IsOfOctets (bytes_eq w.third (codes "as") && not (is_empty w.fourth)) _ (Err (Word number))
+    (then-read AreOctets IsOfOctets (hex_said number w.fourth) _ (hex-read number w.fourth) (λ octets h. h))
+    (λ same. cc same))))
+
+block-read : (number : ℕ) (from : Side) (w : Words) → IsRead HasOctets (block_said number from w)
+block-read number from w =
+    then-read IsOfOctets HasOctets (reach_said number w) _ (reach-read number w) (λ reach came.
+    then-read AreOctets HasOctets (hex_said number w.second) _ (hex-read number w.second) (λ octets h. (h, came)))
+
+moment-read : (number : ℕ) (alone : Bool) (moment : Option ℕ) → IsRead HasOctets (moment_by number alone moment)
+moment-read number true (Some moment) = tt
+moment-read number false (Some moment) = λ same. cc same
+moment-read number alone None = λ same. cc same
+
+named-read : (number : ℕ) (w : Words) → IsRead HasOctets (named_said number w)
+named-read number w =
+    either HasOctets (bytes_eq w.first (name_text name.FromTerminal)) _ _ (block-read number side.Terminal w)
+    (either HasOctets (bytes_eq w.first (name_text name.FromCard)) _ _ (block-read number side.Card w)
+    (either HasOctets (bytes_eq w.first (name_text name.Quiet) && is_empty w.second) (Ok Quiet) _ tt
+    (either HasOctets (bytes_eq w.first (codes "reset") && is_empty w.second) (Ok Reset) _ tt
+    (either HasOctets (bytes_eq w.first (name_text name.Moment)) _ (Err (Word number))
+    (moment-read number (is_empty w.third) (decimal_number w.second)) (λ same. cc same)))))
+
+entry-read : (number : ℕ) (w : Words) → IsRead HasOctets (entry_said number w)
+entry-read number w = either HasOctets _ (Ok Nothing) (named_said number w) tt (named-read number w)
+
+-- ---- a line
+
+one-told : (s : Standing) (from : Side) (b : List ℕ) → AreOctets b → (reach : Reach) → IsOfOctets reach
+    → (t u : Standing) → IsTold s from b reach t → IsTold s from b reach u → t ≡ u
+one-told s from b octets reach came t u h g =
+    let both = one-taking s.monitor from b octets reach came h.arrival g.arrival h.monitor g.monitor h.report g.report
+    h.is_arrival g.is_arrival h.takes g.takes in
+    h.told
+    ∙ ap (λ (m : Monitor). told_report (record s { monitor = m; begun = true }) from h.report) both.0
+    ∙ ap (λ (r : Report). told_report (record s { monitor = g.monitor; begun = true }) from r) both.1
+    ∙ sym g.told
+
+one-block : (before : Bool) (s : Standing) (from : Side) (b : List ℕ) → AreOctets b → (reach : Reach)
+    → IsOfOctets reach → (t u : Standing) → IsBlockTold before s from b reach t → IsBlockTold before s from b reach u
+    → t ≡ u
+one-block true s from b octets reach came t u h g = h ∙ sym g
+one-block false s from b octets reach came t u h g = one-told s from b octets reach came t u h g
+
+one-entered : (s : Standing) (entry : Entry) → HasOctets entry → (t u : Standing) → IsEntered s entry t
+    → IsEntered s entry u → t ≡ u
+one-entered s Nothing octets t u h g = h ∙ sym g
+one-entered s Quiet octets t u h g = h ∙ sym g
+one-entered s Reset octets t u h g = h ∙ sym g
+one-entered s (Moment moment) octets t u h g = h.1 ∙ sym g.1
+one-entered s (Block from b reach) octets t u h g =
+    one-block (is_before s b) s from b octets.0 reach octets.1 t u h g
+
+some-block : (before : Bool) (s : Standing) (from : Side) (b : List ℕ) → AreOctets b → (reach : Reach)
+    → IsOfOctets reach → (t : Standing) × IsBlockTold before s from b reach t
+some-block true s from b octets reach came = (told_before s from b, refl)
+some-block false s from b octets reach came =
+    let seen = some-seen b octets in
+    let arrival = some-arrival reach came in
+    let after = monitor_after s.monitor from seen.0 arrival.2 in
+    let says = report_of s.monitor from seen.0 in (
+      told_report (record s { monitor = after; begun = true }) from says,
+      record {
+        arrival = arrival.0;
+        is_arrival = arrival.1;
+        monitor = after;
+        report = says;
+        takes = record {
+          seen = seen.0;
+          is_seen = seen.1;
+          reaching = arrival.2;
+          is_reaching = arrival.3;
+          after = refl;
+          reports = refl;
+        };
+        told = refl;
+      },
+    )
+
+-- it is taken, or a moment falls
+some-moment : (s : Standing) (moment : ℕ) → (moment < s.least) ⊎ (s.least ≤ moment)
+    → ((t : Standing) × IsEntered s (Moment moment) t) ⊎ IsFalling s (Moment moment)
+some-moment s moment (inl falls) = inr falls
+some-moment s moment (inr holds) = inl (record s { least = moment }, (holds, refl))
+
+some-entered : (s : Standing) (entry : Entry) → HasOctets entry → ((t : Standing) × IsEntered s entry t)
+    ⊎ IsFalling s entry
+some-entered s Nothing octets = inl (_, refl)
+some-entered s Quiet octets = inl (_, refl)
+some-entered s Reset octets = inl (_, refl)
+some-entered s (Moment moment) octets = some-moment s moment (cases_lt moment s.least)
+some-entered s (Block from b reach) octets = inl (some-block (is_before s b) s from b octets.0 reach octets.1)
+
+not-both : (s : Standing) (entry : Entry) (t : Standing) → IsEntered s entry t → IsFalling s entry → ⊥
+not-both s Nothing t h g = absurd g
+not-both s Quiet t h g = absurd g
+not-both s Reset t h g = absurd g
+not-both s (Moment moment) t h g = omega (arith, h.0, g)
+not-both s (Block from b reach) t h g = absurd g
+
+module _ (s : Standing) (line : List ℕ) where
+  abbrev Taken : Result Entry ExchangeFault → Standing → Type 0
+  Taken said t = MatchResult said (λ entry. (m : Standing) × IsEntered s entry m
+      × (t ≡ record m { number = s.number + 1 }))
+      (λ fault. ⊥)
+
+  abbrev Faulty : Result Entry ExchangeFault → ExchangeFault → Type 0
+  Faulty said fault = MatchResult said
+      (λ entry. IsFalling s entry × (fault ≡ Falls s.number))
+      (λ wrong. fault ≡ wrong)
+
+  one-taken : (said : Result Entry ExchangeFault) → IsRead HasOctets said → (t u : Standing) → Taken said t
+      → Taken said u → t ≡ u
+  one-taken (Ok entry) octets t u (m, h, e) (k, g, f) =
+      e ∙ ap (λ (x : Standing). record x { number = s.number + 1 }) (one-entered s entry octets m k h g) ∙ sym f
+  one-taken (Err fault) octets t u h g = absurd h
+
+  one-line : (t u : Standing) → JudgesLine s line t → JudgesLine s line u → t ≡ u
+  one-line t u h g = one-taken (entry_said s.number (words_of line)) (entry-read s.number (words_of line)) t u h g
+
+  taken-or-faulty : (said : Result Entry ExchangeFault) (t : Standing) (fault : ExchangeFault) → Taken said t
+      → Faulty said fault → ⊥
+  taken-or-faulty (Ok entry) t fault (m, h, e) g = not-both s entry m h g.0
+  taken-or-faulty (Err wrong) t fault h g = absurd h
+
+  line-or-fault : (t : Standing) (fault : ExchangeFault) → JudgesLine s line t → Fails s line fault → ⊥
+  line-or-fault t fault h g = taken-or-faulty (entry_said s.number (words_of line)) t fault h g
+
+  one-wrong : (said : Result Entry ExchangeFault) (x y : ExchangeFault) → Faulty said x → Faulty said y → x ≡ y
+  one-wrong (Ok entry) x y h g = h.1 ∙ sym g.1
+  one-wrong (Err wrong) x y h g = h ∙ sym g
+
+  one-fault : (x y : ExchangeFault) → Fails s line x → Fails s line y → x ≡ y
+  one-fault x y h g = one-wrong (entry_said s.number (words_of line)) x y h g
+
+  no-memory : (said : Result Entry ExchangeFault) → IsRead HasOctets said → (fault : ExchangeFault)
+      → Faulty said fault → fault ≢ Memory
+  no-memory (Ok entry) octets fault h = λ same. cc (h.1, same)
+  no-memory (Err wrong) other fault h = λ same. other (sym h ∙ same)
+
+  fault-known : (fault : ExchangeFault) → Fails s line fault → fault ≢ Memory
+  fault-known fault h =
+      no-memory (entry_said s.number (words_of line)) (entry-read s.number (words_of line)) fault h
+
+  some-said : (said : Result Entry ExchangeFault) → IsRead HasOctets said
+      → ((t : Standing) × Taken said t) ⊎ ((fault : ExchangeFault) × Faulty said fault)
+  some-said (Ok entry) octets =
+      elim (some-entered s entry octets) [
+        | inl one ↦ inl (record one.0 { number = s.number + 1 }, (one.0, one.1, refl))
+        | inr falls ↦ inr (_, (falls, refl))
+      ]
+  some-said (Err wrong) octets = inr (wrong, refl)
+
+  some-line : ((t : Standing) × JudgesLine s line t) ⊎ ((fault : ExchangeFault) × Fails s line fault)
+  some-line = some-said (entry_said s.number (words_of line)) (entry-read s.number (words_of line))
+
+-- ---- lines
+
+abbrev failed : ExchangeFault → Result Standing ExchangeFault
+failed fault = Err fault
+
+one-of-lines : (lines : List (List ℕ)) (s : Standing) (r q : Result Standing ExchangeFault) → JudgesLines s lines r
+    → JudgesLines s lines q → r ≡ q
+one-of-lines [] s r q h g = h ∙ sym g
+one-of-lines (line ∷ lines) s r q (inl (m, one, more)) (inl (k, other, rest)) =
+    one-of-lines lines m r q more
+    (subst (λ (x : Standing). JudgesLines x lines q) (sym (one-line s line m k one other)) rest)
+one-of-lines (line ∷ lines) s r q (inl (m, one, more)) (inr (fault, fails, e)) =
+    absurd (line-or-fault s line m fault one fails)
+one-of-lines (line ∷ lines) s r q (inr (fault, fails, e)) (inl (m, one, more)) =
+    absurd (line-or-fault s line m fault one fails)
+one-of-lines (line ∷ lines) s r q (inr (fault, fails, e)) (inr (other, also, d)) =
+    e ∙ ap failed (one-fault s line fault other fails also) ∙ sym d
+
+some-of-lines : (lines : List (List ℕ)) (s : Standing) → (r : Result Standing ExchangeFault) × JudgesLines s lines r
+some-of-lines [] s = (Ok s, refl)
+some-of-lines (line ∷ lines) s =
+    elim (some-line s line) [
+      | inl one ↦ let more = some-of-lines lines one.0 in (more.0, inl (one.0, one.1, more.1))
+      | inr fails ↦ (Err fails.0, inr (fails.0, fails.1, refl))
+    ]
+
+fault-of-lines : (lines : List (List ℕ)) (s : Standing) (fault : ExchangeFault) → JudgesLines s lines (Err fault)
+    → fault ≢ Memory
+fault-of-lines [] s fault h = cc h
+fault-of-lines (line ∷ lines) s fault (inl (m, one, more)) = fault-of-lines lines m fault more
+fault-of-lines (line ∷ lines) s fault (inr (other, fails, e)) = λ same. fault-known s line other fails (cc (e, same))
+
+-- ---- a text
+
+same-end : (all : Result Standing ExchangeFault) (a b : Judgment) → Concludes all (Ok a) → Concludes all (Ok b)
+    → (a.text ≡ b.text) × (a.deviates ≡ b.deviates)
+same-end (Ok s) a b h g = (h.text ∙ sym g.text, h.deviates ∙ sym g.deviates)
+same-end (Err fault) a b h g = absurd (cc h)
+
+same-fault : (all : Result Standing ExchangeFault) (x y : ExchangeFault) → Concludes all (Err x)
+    → Concludes all (Err y) → x ≡ y
+same-fault (Ok s) x y h g = absurd h
+same-fault (Err fault) x y h g = cc (h, g)
+
+end-or-fault : (all : Result Standing ExchangeFault) (a : Judgment) (x : ExchangeFault) → Concludes all (Ok a)
+    → Concludes all (Err x) → ⊥
+end-or-fault (Ok s) a x h g = absurd g
+end-or-fault (Err fault) a x h g = cc h
+
+module _ (ifsc : ℕ) (only : Option Side) (text : List ℕ) where
+  abbrev Comes : Result Standing ExchangeFault → Type 0
+  Comes all = JudgesLines (start ifsc only) (slice_split is_line_end text) all
+
+  same-lines : (all other : Result Standing ExchangeFault) → Comes all → Comes other → all ≡ other
+  same-lines all other h g = one-of-lines (slice_split is_line_end text) (start ifsc only) all other h g
+
+  judged-lines : (a : Judgment) → Judges ifsc only text (Ok a)
+      → (all : Result Standing ExchangeFault) × Comes all × Concludes all (Ok a)
+  judged-lines a (inl memory) = absurd (cc memory)
+  judged-lines a (inr all) = all
+
+  faulty-lines : (x : ExchangeFault) → x ≢ Memory → Judges ifsc only text (Err x)
+      → (all : Result Standing ExchangeFault) × Comes all × Concludes all (Err x)
+  faulty-lines x other (inl memory) = absurd (other (cc memory))
+  faulty-lines x other (inr all) = all
+
+  -- it has one judgment
+  pub one-judgment : (a b : Judgment) → Judges ifsc only text (Ok a) → Judges ifsc only text (Ok b)
+      → (a.text ≡ b.text) × (a.deviates ≡ b.deviates)
+  one-judgment a b h g =
+      let first = judged-lines a h in
+      let second = judged-lines b g in
+      same-end second.0 a b (subst (λ (r : Result Standing ExchangeFault). Concludes r (Ok a))
+      (same-lines first.0 second.0 first.1 second.1) first.2) second.2
+
+  -- or one fault
+  pub one-text-fault : (x y : ExchangeFault) → x ≢ Memory → y ≢ Memory → Judges ifsc only text (Err x)
+      → Judges ifsc only text (Err y) → x ≡ y
+  one-text-fault x y known also h g =
+      let first = faulty-lines x known h in
+      let second = faulty-lines y also g in
+      same-fault second.0 x y (subst (λ (r : Result Standing ExchangeFault). Concludes r (Err x))
+      (same-lines first.0 second.0 first.1 second.1) first.2) second.2
+
+  -- and not both
+  pub judgment-or-fault : (a : Judgment) (x : ExchangeFault) → x ≢ Memory → Judges ifsc only text (Ok a)
+      → Judges ifsc only text (Err x) → ⊥
+  judgment-or-fault a x known h g =
+      let first = judged-lines a h in
+      let second = faulty-lines x known g in
+      end-or-fault second.0 a x (subst (λ (r : Result Standing ExchangeFault). Concludes r (Ok a))
+      (same-lines first.0 second.0 first.1 second.1) first.2) second.2
+
+  some-concluded : (all : Result Standing ExchangeFault) → Comes all
+      → ((a : Judgment) × Judges ifsc only text (Ok a))
+      ⊎ ((x : ExchangeFault) × (x ≢ Memory) × Judges ifsc only text (Err x))
+  some-concluded (Ok s) h =
+      let judgment : Judgment = record {
+        text = (ended s).text ++ summary (ended s).monitor.blocks (ended s).tally;
+        deviates = not (deviations (ended s).tally == 0);
+      } in
+      inl (judgment, inr (Ok s, h, record { text = refl; deviates = refl }))
+  some-concluded (Err fault) h = inr (
+    fault,
+    fault-of-lines (slice_split is_line_end text) (start ifsc only) fault h,
+    inr (Err fault, h, refl),
+  )
+
+  -- but one of them
+  pub some-judgment : ((a : Judgment) × Judges ifsc only text (Ok a))
+      ⊎ ((x : ExchangeFault) × (x ≢ Memory) × Judges ifsc only text (Err x))
+  some-judgment =
+      let all = some-of-lines (slice_split is_line_end text) (start ifsc only) in
+      some-concluded all.0 all.1

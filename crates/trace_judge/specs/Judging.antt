@@ -1,0 +1,243 @@
+-- What is said of a whole trace: line by line, and at its end.
+use Rattle.std.specs.Prelude.{◌≡◌, ◌⊎◌, ◌+◌, ◌/◌, ◌%◌, ◌<◌, ◌≤◌, ◌==◌, ◌&&◌, not, min, ℕ, List, [], ◌∷◌, ◌++◌, length, slice_index, slice_index_or, codes, decimal, Bool, true, false, Option, Some, None, Result, Ok, Err, if◌then◌else◌, bit_and, count_ones, MatchResult}
+use Rattle.std.specs.List.{slice_split}
+use Rattle.octet_core.specs.Octets.{xor_of}
+use Rattle.line_core.specs.Bursts.{most_counted}
+use Rattle.atr_core.specs.Rates.{baud_rates, clock_rates}
+use Rattle.exchange_text.specs.declared.fault.ExchangeFault.{ExchangeFault}
+use Rattle.exchange_text.specs.declared.fault.ExchangeFault.TheVariants.{Falls, Memory}
+use Rattle.judge_core.specs.declared.end.Side.{Side}
+use Rattle.judge_core.specs.declared.end.Side.TheVariants.{Terminal, Card}
+use Rattle.judge_core.specs.declared.courses.Verdict.{Verdict}
+use Rattle.judge_core.specs.declared.courses.Verdict.TheVariants.{Permitted, Unseen, Deviates}
+use Rattle.judge_core.specs.declared.monitor.Monitor.{Monitor}
+use Rattle.judge_core.specs.declared.monitor.Report.{Report}
+use Rattle.judge_core.specs.declared.monitor.Said.{Said}
+use Rattle.judge_core.specs.declared.monitor.Said.TheVariants.{Damage, Block as Judged}
+use Rattle.judge_core.specs.declared.monitor.Silence.{Silence}
+use Rattle.judge_core.specs.declared.monitor.Silence.TheVariants.{No, Possible, Certain}
+use Rattle.judge_core.specs.declared.monitor.Arrival.{Arrival}
+use Rattle.judge_core.specs.declared.monitor.Arrival.TheVariants as arrived
+use Rattle.judge_core.specs.Monitored.{Takes, new_monitor, number_after, quiet_after, reset_after, silence_of}
+use Rattle.trace_judge.specs.declared.entry.Entry.{Entry}
+use Rattle.trace_judge.specs.declared.entry.Entry.TheVariants.{Nothing, Block, Quiet, Reset, Moment}
+use Rattle.trace_judge.specs.declared.entry.Reach.{Reach}
+use Rattle.trace_judge.specs.declared.entry.Reach.TheVariants.{Unsaid, Lost, Came}
+use denote.Ref.{Bor}
+use Rattle.trace_judge.specs.declared.standing.Tally.{Tally}
+use Rattle.trace_judge.specs.declared.standing.Judgment.{Judgment}
+use Rattle.trace_judge.specs.Reading.{entry_said, words_of}
+use Rattle.trace_judge.specs.Saying.{certain_text, deviation_text, neither_text, possible_text, unseen_text}
+
+-- What was judged so far.
+pub record Standing : Type 0 where
+  pub monitor : Monitor
+  -- the size that the card takes after a reset
+  pub ifsc : ℕ
+  -- the end that is judged, or both
+  pub only : Option Side
+  -- whether blocks began
+  pub begun : Bool
+  -- the last moment, and the number of the next line
+  pub least : ℕ
+  pub number : ℕ
+  pub tally : Tally
+  pub text : List ℕ
+
+abbrev pub nothing_told : Tally
+nothing_told = record { terminal = 0; card = 0; unseen = 0 }
+
+abbrev pub start : ℕ → Option Side → Standing
+start ifsc only = record {
+  monitor = new_monitor ifsc;
+  ifsc = ifsc;
+  only = only;
+  begun = false;
+  least = 0;
+  number = 1;
+  tally = nothing_told;
+  text = [];
+}
+
+-- ---- what is told
+
+abbrev pub same_side : Side → Side → Bool
+same_side Terminal Terminal = true
+same_side Terminal Card = false
+same_side Card Terminal = false
+same_side Card Card = true
+
+-- whether this end is judged
+abbrev pub is_judged : Option Side → Side → Bool
+is_judged None side = true
+is_judged (Some only) side = same_side only side
+
+-- one deviation more of an end
+abbrev pub deviation_of : Side → Tally → Tally
+deviation_of Terminal tally = record tally { terminal = number_after tally.terminal }
+deviation_of Card tally = record tally { card = number_after tally.card }
+
+abbrev pub unseen_in : Tally → Tally
+unseen_in tally = record tally { unseen = number_after tally.unseen }
+
+-- a line more, with what it counts, where this end is judged
+abbrev pub tells : Standing → Side → Tally → List ℕ → Standing
+tells s side tally line =
+    if is_judged s.only side then record s { tally = tally; text = s.text ++ line } else s
+
+-- a card that sent no block
+abbrev pub told_silence : Standing → Silence → Standing
+told_silence s No = s
+told_silence s (Possible number) = tells s Card (unseen_in s.tally) (possible_text number)
+told_silence s (Certain number) = tells s Card (deviation_of Card s.tally) (certain_text number)
+
+-- a block of an end
+abbrev pub told_verdict : Standing → Side → ℕ → Verdict → Standing
+told_verdict s from before Permitted = s
+told_verdict s from before Unseen =
+    tells s from (unseen_in s.tally) (unseen_text s.monitor.blocks from before)
+told_verdict s from before (Deviates broken due) =
+    tells s from (deviation_of from s.tally) (deviation_text s.monitor.blocks from broken due)
+
+abbrev pub told_said : Standing → Side → ℕ → Said → Standing
+told_said s from before Damage = s
+told_said s from before (Judged verdict) = told_verdict s from before verdict
+
+abbrev pub told_report : Standing → Side → Report → Standing
+told_report s from report = told_said (told_silence s report.silence) from report.before report.said
+
+-- ---- before the first block: PPS (ISO/IEC 7816-3:2006, clause 9)
+
+-- PPSS, PPS0, an octet for each of three bits of it, and PCK, by which the exclusive-or of all is 00
+abbrev pub is_pps : List ℕ → Bool
+is_pps octets = (length octets == 3 + count_ones (bit_and (slice_index octets 1) 112)) && (xor_of octets == 0)
+
+-- PPS1, which has the indexes of F and D as TA1 has them; those in use else
+abbrev pub pps1_of : List ℕ → ℕ
+pps1_of octets = if bit_and (slice_index octets 1) 16 == 0 then 0x11 else slice_index octets 2
+
+abbrev pub rate_text : Option ℕ → List ℕ
+rate_text None = codes "reserved"
+rate_text (Some rate) = decimal rate
+
+-- F and D by the tables of TA1
+abbrev pub rates_at : ℕ → Option ℕ × Option ℕ
+rates_at pps1 = (slice_index_or clock_rates (pps1 / 16) None, slice_index_or baud_rates (pps1 % 16) None)
+
+abbrev pub pps_text : ℕ → List ℕ
+pps_text pps1 = codes "pps F " ++ (rate_text (rates_at pps1).0
+    ++ (codes " D " ++ (rate_text (rates_at pps1).1 ++ codes "\n")))
+
+-- octets with FF in place of a node address, before the first block
+abbrev pub is_before : Standing → List ℕ → Bool
+is_before s octets = not s.begun && (slice_index octets 0 == 255)
+
+-- What the card answers holds.
+abbrev pub pps_said : Side → List ℕ → List ℕ
+pps_said Terminal octets = []
+pps_said Card octets = pps_text (pps1_of octets)
+
+abbrev pub told_before : Standing → Side → List ℕ → Standing
+told_before s from octets = record s {
+  text = s.text ++ (if is_pps octets then pps_said from octets else neither_text s.number);
+}
+
+-- ---- lines
+
+abbrev pub IsArrival : Reach → Arrival → Type 0
+IsArrival Unsaid arrival = arrival ≡ arrived.Unsaid
+IsArrival Lost arrival = arrival ≡ arrived.Lost
+IsArrival (Came octets) arrival = (slice : Bor (List ℕ)) × (slice.now ≡ octets) × (arrival ≡ arrived.Came slice)
+
+-- The monitor takes octets of an end, and what it says is told.
+pub record IsTold (s : Standing) (from : Side) (octets : List ℕ) (reach : Reach) (s' : Standing) : Type 0 where
+  pub arrival : Arrival
+  pub is_arrival : IsArrival reach arrival
+  pub monitor : Monitor
+  pub report : Report
+  pub takes : Takes s.monitor from octets arrival monitor report
+  pub told : s' ≡ told_report (record s { monitor = monitor; begun = true }) from report
+
+abbrev pub IsBlockTold : Bool → Standing → Side → List ℕ → Reach → Standing → Type 0
+IsBlockTold true s from octets reach s' = s' ≡ told_before s from octets
+IsBlockTold false s from octets reach s' = IsTold s from octets reach s'
+
+abbrev pub quietened : Standing → Standing
+quietened s = told_silence (record s { monitor = quiet_after s.monitor })
+    (silence_of s.monitor.card.heard s.monitor.terminal.number)
+
+abbrev pub IsEntered : Standing → Entry → Standing → Type 0
+IsEntered s Nothing s' = s' ≡ s
+IsEntered s Quiet s' = s' ≡ quietened s
+IsEntered s Reset s' = s' ≡ record s { monitor = reset_after s.monitor s.ifsc; begun = false }
+IsEntered s (Moment moment) s' = (s.least ≤ moment) × (s' ≡ record s { least = moment })
+IsEntered s (Block from octets reach) s' = IsBlockTold (is_before s octets) s from octets reach s'
+
+abbrev pub IsFalling : Standing → Entry → Type 0
+IsFalling s Nothing = ⊥
+IsFalling s Quiet = ⊥
+IsFalling s Reset = ⊥
+IsFalling s (Moment moment) = moment < s.least
+IsFalling s (Block from octets reach) = ⊥
+
+-- A line is taken, or is at fault.
+abbrev pub JudgesLine : Standing → List ℕ → Standing → Type 0
+JudgesLine s line s' = MatchResult (entry_said s.number (words_of line))
+    (λ entry. (m : Standing) × IsEntered s entry m × (s' ≡ record m { number = s.number + 1 }))
+    (λ fault. ⊥)
+
+abbrev pub Fails : Standing → List ℕ → ExchangeFault → Type 0
+Fails s line fault = MatchResult (entry_said s.number (words_of line))
+    (λ entry. IsFalling s entry × (fault ≡ Falls s.number))
+    (λ wrong. fault ≡ wrong)
+
+abbrev pub JudgesLines : Standing → List (List ℕ) → Result Standing ExchangeFault → Type 0
+JudgesLines s [] result = result ≡ Ok s
+JudgesLines s (line ∷ lines) result =
+    ((m : Standing) × JudgesLine s line m × JudgesLines m lines result)
+    ⊎ ((fault : ExchangeFault) × Fails s line fault × (result ≡ Err fault))
+
+-- ---- the end
+
+abbrev pub deviations : Tally → ℕ
+deviations tally = min (tally.terminal + tally.card) most_counted
+
+abbrev pub unseen_part : ℕ → List ℕ
+unseen_part unseen = codes ", unseen " ++ decimal unseen
+
+abbrev pub ok_text : ℕ → ℕ → List ℕ
+ok_text blocks unseen = codes "ok " ++ (decimal blocks ++ (codes " blocks"
+    ++ ((if unseen == 0 then [] else unseen_part unseen) ++ codes "\n")))
+
+abbrev pub ends_text : Tally → List ℕ
+ends_text tally = decimal tally.terminal ++ (codes ", card " ++ (decimal tally.card
+    ++ (unseen_part tally.unseen ++ codes "\n")))
+
+abbrev pub deviations_text : ℕ → Tally → List ℕ
+deviations_text blocks tally = decimal blocks ++ (codes " blocks, " ++ (decimal (deviations tally)
+    ++ (codes " deviations: terminal " ++ ends_text tally)))
+
+abbrev pub summary : ℕ → Tally → List ℕ
+summary blocks tally =
+    if deviations tally == 0 then ok_text blocks tally.unseen else deviations_text blocks tally
+
+-- a card that owes a block at the end of the trace
+abbrev pub ended : Standing → Standing
+ended s = told_silence s (silence_of s.monitor.card.heard s.monitor.terminal.number)
+
+pub record IsConcluded (s : Standing) (judgment : Judgment) : Type 0 where
+  pub text : judgment.text ≡ (ended s).text ++ summary (ended s).monitor.blocks (ended s).tally
+  pub deviates : judgment.deviates ≡ not (deviations (ended s).tally == 0)
+
+abbrev pub Concludes : Result Standing ExchangeFault → Result Judgment ExchangeFault → Type 0
+Concludes (Ok s) result = MatchResult result (IsConcluded s) (λ fault. ⊥)
+Concludes (Err fault) result = result ≡ Err fault
+
+abbrev pub is_line_end : ℕ → Bool
+is_line_end x = x == 10
+
+-- What a text comes to, for a card that takes fields of so many octets: its lines, or the first fault; or out of memory.
+abbrev pub Judges : ℕ → Option Side → List ℕ → Result Judgment ExchangeFault → Type 0
+Judges ifsc only text result = (result ≡ Err Memory)
+    ⊎ ((all : Result Standing ExchangeFault)
+    × JudgesLines (start ifsc only) (slice_split is_line_end text) all × Concludes all result)

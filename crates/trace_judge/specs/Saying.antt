@@ -1,0 +1,84 @@
+-- What is said of the blocks of a trace: the words of a rule, of what was due, and of what can't be seen.
+use Rattle.std.specs.Prelude.{ℕ, List, ◌++◌, codes, decimal, Option, Some, None}
+use Rattle.block_core.specs.Block.{other}
+use Rattle.block_core.specs.declared.pcb.Number.{Number}
+use Rattle.block_core.specs.declared.pcb.Number.TheVariants.{Zero, One}
+use Rattle.block_core.specs.declared.pcb.S.{S}
+use Rattle.block_core.specs.declared.pcb.S.TheVariants.{Resynch, Ifs, Abort, Wtx}
+use Rattle.judge_core.specs.declared.end.Side.{Side}
+use Rattle.judge_core.specs.declared.end.Side.TheVariants.{Terminal, Card}
+use Rattle.judge_core.specs.declared.end.Asked.{Asked}
+use Rattle.judge_core.specs.declared.end.Asked.TheVariants.{Size, Time, Stop, Anew}
+use Rattle.judge_core.specs.declared.end.Owed.{Owed}
+use Rattle.judge_core.specs.declared.end.Owed.TheVariants.{NewMessage, NextBlock, Acknowledgment, SameBlock, Correction, Refusal, SameRequest, Answer, EitherBlock, AnyBlock}
+use Rattle.judge_core.specs.declared.end.End.{End}
+use Rattle.judge_core.specs.declared.end.After.{After}
+use Rattle.judge_core.specs.declared.rule.Rule.{Rule}
+use Rattle.judge_core.specs.declared.rule.Rule.TheVariants.{Silence}
+use Rattle.judge_core.specs.Rules.{rule_clause, rule_name}
+
+abbrev pub side_text : Side → List ℕ
+side_text Terminal = codes "terminal"
+side_text Card = codes "card"
+
+abbrev pub digit_text : Number → List ℕ
+digit_text Zero = codes "0"
+digit_text One = codes "1"
+
+abbrev pub subject_text : S → List ℕ
+subject_text Resynch = codes "RESYNCH"
+subject_text Ifs = codes "IFS"
+subject_text Abort = codes "ABORT"
+subject_text Wtx = codes "WTX"
+
+abbrev pub asked_text : Option Asked → List ℕ
+asked_text None = codes "its"
+asked_text (Some (Size n)) = codes "IFS"
+asked_text (Some (Time n)) = codes "WTX"
+asked_text (Some Stop) = codes "ABORT"
+asked_text (Some Anew) = codes "RESYNCH"
+
+-- an end and what is due from it
+abbrev pub due_text : End → Owed → List ℕ
+due_text e NewMessage = codes "I-block " ++ digit_text e.next
+due_text e NextBlock = codes "I-block " ++ digit_text e.next
+due_text e Acknowledgment = codes "R-block " ++ digit_text e.expects
+due_text e SameBlock = codes "I-block " ++ (digit_text (other e.next) ++ codes " again")
+due_text e Correction = codes "R-block " ++ digit_text e.expects
+due_text e Refusal = codes "R-block " ++ digit_text e.expects
+due_text e SameRequest = asked_text e.asked ++ codes " request again"
+due_text e (Answer s n) = subject_text s ++ codes " response"
+due_text e EitherBlock = codes "I-block " ++ (digit_text e.next ++ (codes " or R-block " ++ digit_text e.expects))
+due_text e AnyBlock = codes "any block"
+
+-- a block with its number
+abbrev pub block_text : ℕ → Side → List ℕ
+block_text number side = codes "block " ++ (decimal number ++ (codes " " ++ side_text side))
+
+abbrev pub clause_text : Rule → List ℕ
+clause_text broken = codes "  (" ++ (rule_clause broken ++ codes ")\n")
+
+-- a block that breaks a rule: `block 12 card: sequence number, due I-block 0  (CLAUSE)`
+abbrev pub deviation_text : ℕ → Side → Rule → After → List ℕ
+deviation_text number side broken due = block_text number side ++ (codes ": " ++ (rule_name broken
+    ++ (codes ", due " ++ (due_text due.«end» due.owed ++ clause_text broken))))
+
+-- a block that is permitted only after unseen damage
+abbrev pub condition_text : ℕ → List ℕ
+condition_text before = codes ": permitted if block " ++ (decimal before ++ codes " was damaged or lost unseen\n")
+
+abbrev pub unseen_text : ℕ → Side → ℕ → List ℕ
+unseen_text number side before = block_text number side ++ condition_text before
+
+-- a card that sent nothing
+abbrev pub possible_text : ℕ → List ℕ
+possible_text number =
+    codes "card: no answer to block " ++ (decimal number ++ codes ", permitted if that was lost unseen\n")
+
+abbrev pub certain_text : ℕ → List ℕ
+certain_text number =
+    codes "card: no answer to block " ++ (decimal number ++ (codes ", which it got" ++ clause_text Silence))
+
+-- octets before the first block that are neither, by the line of the trace
+abbrev pub neither_text : ℕ → List ℕ
+neither_text number = codes "line " ++ (decimal number ++ codes ": neither PPS nor a block\n")

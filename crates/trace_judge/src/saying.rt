@@ -1,0 +1,215 @@
+//! What is said of the blocks of a trace, as lines of a text.
+
+ghost use Rattle.std.specs.Prelude.{◌≡◌, ◌++◌, OnOk, codes, decimal, string_bytes};
+ghost use Rattle.judge_core.specs.Rules.{rule_name};
+ghost use Rattle.trace_judge.specs.Saying.{asked_text, block_text, certain_text, clause_text, condition_text, deviation_text, digit_text, due_text, neither_text, possible_text, side_text, subject_text, unseen_text};
+
+use block_core::{Number, S};
+use judge_core::{After, Asked, End, Owed, Rule, Side};
+use octet_core::Named;
+use std::alloc::{AllocError, Global};
+
+/// How the line of a card begins that sent nothing.
+const NO_ANSWER: &str = "card: no answer to block ";
+
+/// Adds the line of a block that breaks a rule.
+pub(crate) fn push_deviation(
+    alloc: Global,
+    text: &mut String,
+    number: u64,
+    side: Side,
+    broken: Rule,
+    due: &After,
+) -> Result<(), AllocError>
+    ensures { OnOk result (string_bytes text.new
+        ≡ string_bytes text.old ++ deviation_text number side broken due.now) }
+{
+    push_block(alloc, text, number, side)?;
+    text.push_str(": ")?;
+    text.push_str(broken.name())?;
+    text.push_str(", due ")?;
+    push_due(text, &due.end, due.owed)?;
+    push_clause(text, broken)
+}
+
+/// Adds the line of a block that is permitted only after unseen damage.
+pub(crate) fn push_unseen(
+    alloc: Global,
+    text: &mut String,
+    number: u64,
+    side: Side,
+    before: u64,
+) -> Result<(), AllocError>
+    ensures { OnOk result (string_bytes text.new
+        ≡ string_bytes text.old ++ unseen_text number side before) }
+{
+    push_block(alloc, text, number, side)?;
+    push_condition(alloc, text, before)
+}
+
+/// Adds the condition on which a block is permitted.
+fn push_condition(alloc: Global, text: &mut String, before: u64) -> Result<(), AllocError>
+    ensures { OnOk result (string_bytes text.new ≡ string_bytes text.old ++ condition_text before) }
+{
+    push_around(
+        alloc,
+        text,
+        ": permitted if block ",
+        before,
+        " was damaged or lost unseen\n",
+    )
+}
+
+/// Adds the line of octets before the first block that are neither PPS nor a block.
+pub(crate) fn push_neither(alloc: Global, text: &mut String, number: u64) -> Result<(), AllocError>
+    ensures { OnOk result (string_bytes text.new ≡ string_bytes text.old ++ neither_text number) }
+{
+    push_around(alloc, text, "line ", number, ": neither PPS nor a block\n")
+}
+
+/// Adds the line of a card that sent no block, unless the terminal's was lost.
+pub(crate) fn push_possible(alloc: Global, text: &mut String, number: u64) -> Result<(), AllocError>
+    ensures { OnOk result (string_bytes text.new ≡ string_bytes text.old ++ possible_text number) }
+{
+    push_around(
+        alloc,
+        text,
+        NO_ANSWER,
+        number,
+        ", permitted if that was lost unseen\n",
+    )
+}
+
+/// Adds the line of a card that sent no block in answer to one that it got.
+pub(crate) fn push_certain(alloc: Global, text: &mut String, number: u64) -> Result<(), AllocError>
+    ensures { OnOk result (string_bytes text.new ≡ string_bytes text.old ++ certain_text number) }
+{
+    push_around(alloc, text, NO_ANSWER, number, ", which it got")?;
+    push_clause(text, Rule::Silence)
+}
+
+/// Adds a block with its number.
+fn push_block(alloc: Global, text: &mut String, number: u64, side: Side) -> Result<(), AllocError>
+    ensures { OnOk result (string_bytes text.new ≡ string_bytes text.old
+        ++ block_text number side) }
+{
+    text.push_str("block ")?;
+    push_number(alloc, text, number)?;
+    text.push_str(" ")?;
+    text.push_str(side_word(side))
+}
+
+/// Adds the clause of a rule, and the end of the line.
+fn push_clause(text: &mut String, broken: Rule) -> Result<(), AllocError>
+    ensures { OnOk result (string_bytes text.new ≡ string_bytes text.old ++ clause_text broken) }
+{
+    text.push_str("  (")?;
+    text.push_str(broken.clause())?;
+    text.push_str(")\n")
+}
+
+/// Adds what is due from an end.
+fn push_due(text: &mut String, end: &End, owed: Owed) -> Result<(), AllocError>
+    ensures { OnOk result (string_bytes text.new ≡ string_bytes text.old ++ due_text end.now owed) }
+{
+    match owed {
+        Owed::NewMessage | Owed::NextBlock => push_numbered(text, "I-block ", end.next),
+        Owed::Acknowledgment | Owed::Correction | Owed::Refusal => {
+            push_numbered(text, "R-block ", end.expects)
+        }
+        Owed::SameBlock => {
+            push_numbered(text, "I-block ", end.next.other())?;
+            text.push_str(" again")
+        }
+        Owed::SameRequest => push_words(text, asked_word(end.asked), " request again"),
+        Owed::Answer(about, _) => push_words(text, subject_word(about), " response"),
+        Owed::EitherBlock => {
+            push_numbered(text, "I-block ", end.next)?;
+            push_numbered(text, " or R-block ", end.expects)
+        }
+        Owed::AnyBlock => text.push_str("any block"),
+    }
+}
+
+/// Adds a word, and the number of a block.
+fn push_numbered(text: &mut String, word: &str, number: Number) -> Result<(), AllocError>
+    ensures { OnOk result (string_bytes text.new
+        ≡ string_bytes text.old ++ (word.now ++ digit_text number)) }
+{
+    text.push_str(word)?;
+    text.push_str(digit(number))
+}
+
+/// Adds a number between two words.
+fn push_around(
+    alloc: Global,
+    text: &mut String,
+    before: &str,
+    number: u64,
+    after: &str,
+) -> Result<(), AllocError>
+    ensures { OnOk result (string_bytes text.new
+        ≡ string_bytes text.old ++ (before.now ++ (decimal number ++ after.now))) }
+{
+    text.push_str(before)?;
+    push_number(alloc, text, number)?;
+    text.push_str(after)
+}
+
+/// Adds two words.
+fn push_words(text: &mut String, word: &str, after: &str) -> Result<(), AllocError>
+    ensures { OnOk result (string_bytes text.new ≡ string_bytes text.old
+        ++ (word.now ++ after.now)) }
+{
+    text.push_str(word)?;
+    text.push_str(after)
+}
+
+/// Adds a number in decimal digits.
+pub(crate) fn push_number(alloc: Global, text: &mut String, number: u64) -> Result<(), AllocError>
+    ensures { OnOk result (string_bytes text.new ≡ string_bytes text.old ++ decimal number) }
+{
+    text.push_str(format!(in alloc; "{number}")?.as_str())
+}
+
+/// The word for an end.
+fn side_word(side: Side) -> &'static str
+    ensures { result.now ≡ side_text side }
+{
+    match side {
+        Side::Terminal => "terminal",
+        Side::Card => "card",
+    }
+}
+
+fn digit(number: Number) -> &'static str
+    ensures { result.now ≡ digit_text number }
+{
+    match number {
+        Number::Zero => "0",
+        Number::One => "1",
+    }
+}
+
+fn subject_word(about: S) -> &'static str
+    ensures { result.now ≡ subject_text about }
+{
+    match about {
+        S::Resynch => "RESYNCH",
+        S::Ifs => "IFS",
+        S::Abort => "ABORT",
+        S::Wtx => "WTX",
+    }
+}
+
+fn asked_word(asked: Option<Asked>) -> &'static str
+    ensures { result.now ≡ asked_text asked }
+{
+    match asked {
+        None => "its",
+        Some(Asked::Size(_)) => "IFS",
+        Some(Asked::Time(_)) => "WTX",
+        Some(Asked::Stop) => "ABORT",
+        Some(Asked::Anew) => "RESYNCH",
+    }
+}
