@@ -12,6 +12,7 @@ mod buffers;
 mod chains;
 mod exchanges;
 mod forests;
+mod judging;
 mod lines;
 mod pieces;
 mod session;
@@ -35,6 +36,7 @@ fn do_each(rt: &HostRuntime, timed: bool) -> io::Result<()> {
     answers::decode_each(rt, timed)?;
     blocks::decode_each(rt, timed)?;
     chains::carry_each(rt, timed)?;
+    judging::judge_exchanges(rt, timed)?;
     apdus::decode_each(rt, timed)?;
     forests::judge_each(rt, timed)?;
     exchange_longest(rt, timed)
