@@ -34,14 +34,15 @@ _scard_words() {
     apdus) words='--json --explain --help' ;;
     draw) words='--svg --explain --help' ;;
     record) words='--explain --help' ;;
+    judge) words='--end --explain --help' ;;
     simulate) words='--stdin --ifsd --lose --damage --spoil --explain --help' ;;
     esac
     [ "$command $what" != 'build tidy' ] || words="$words --stdin"
     case $place:$command in
-    1:*) words='check show build replay migrate apdus draw record simulate help --explain --version --help' ;;
+    1:*) words='check show build replay migrate apdus draw record judge simulate help --explain --version --help' ;;
     2:check | 2:show) words="$words atr block chain command response tlv dol" ;;
     2:build) words="$words chain tidy fill" ;;
-    2:help) words='check show build replay migrate apdus draw record simulate' ;;
+    2:help) words='check show build replay migrate apdus draw record judge simulate' ;;
     esac
 }
 
@@ -64,6 +65,7 @@ _scard() {
     case $option:$command:$what in
     --stdin:check:* | --stdin:show:*) ;;
     --stdin:simulate:*) words=lines ;;
+    --end:judge:*) words=${words% both} ;;
     --stdin:build: | --stdin:build:tidy) words=${words% lines} ;;
     --stdin:*) words= ;;
     esac

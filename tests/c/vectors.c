@@ -117,7 +117,9 @@ static void check_pieces(int codec, const struct row *row, struct octets octets,
     if (codec == SCARD_CODEC_BLOCK) {
         v = scard_lent_block_reader_begin(&block, (uint8_t)row->ifs);
     }
-    v.status = v.status == SCARD_OK ? SCARD_MORE : v.status;
+    if (v.status == SCARD_OK) {
+        v.status = SCARD_MORE;
+    }
     while (v.status == SCARD_MORE && place < octets.count) {
         piece = piece < octets.count - place ? piece : octets.count - place;
         v = codec == SCARD_CODEC_BLOCK ? scard_lent_block_reader_feed(&block, octets.at + place, piece)

@@ -1,5 +1,6 @@
 //! What the library for C does without memory: the codecs, the objects of a forest and the entries of a list, both ends
-//! of T=1, a check of a forest and a receiver of a chain over what the caller lends, and the names of all that it tells.
+//! of T=1, a check of a forest, a receiver of a chain and readers of a block and of an answer to reset over what the
+//! caller lends, and the names of all that it tells.
 //!
 //! scard_lent exports each call that C makes, under its name after `scard_`, and says of it what a caller has to know.
 #![tactic(auto)]

@@ -15,4 +15,5 @@ pub mod Answering
 pub mod Explaining
 pub mod InJson
 pub mod Records
+pub mod Judgments
 pub mod ExchangeNotes

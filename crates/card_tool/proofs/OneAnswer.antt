@@ -6,6 +6,8 @@ use Rattle.card_tool.specs.RecordTexts.{Records}
 use Rattle.card_kinds.proofs.OneOf.{OneText, ended-by, plain}
 use Rattle.card_tool.proofs.Exchanges.{file-once}
 use Rattle.card_tool.proofs.Records.{recorded-once}
+use Rattle.card_tool.specs.JudgeTexts.{JudgesTrace}
+use Rattle.card_tool.proofs.Judgments.{judged-once}
 use Rattle.card_tool.proofs.Simulations.{simulated-once, lines-once}
 use Rattle.card_tool.specs.SimulationTexts.{SimulatesLines}
 use Rattle.card_tool.specs.Answers.{line_text, plain_aim, plain_asked, plain_request, plain_task, plain_text, plain_told, AreLinesTold, IsAnswerAsked, IsAnswerTo, IsLineTold, IsTold, IsToldOf, Tells}
@@ -35,7 +37,7 @@ use Rattle.card_words.specs.declared.request.Asked.{Asked}
 use Rattle.card_words.specs.declared.request.Asked.TheVariants.{Once, Lines}
 use Rattle.card_words.specs.declared.request.Expected.{Expected}
 use Rattle.card_words.specs.declared.request.Request.{Request}
-use Rattle.card_words.specs.declared.request.Request.TheVariants.{BuildChain, BuildTidy, BuildFill, Tell, File, Record, Simulate, SimulateLines, Help, Version}
+use Rattle.card_words.specs.declared.request.Request.TheVariants.{BuildChain, BuildTidy, BuildFill, Tell, File, Record, Judge, Simulate, SimulateLines, Help, Version}
 use Rattle.card_words.specs.declared.request.Task.{Task}
 use Rattle.card_kinds.specs.declared.status.Status.{Status}
 use Rattle.card_kinds.specs.declared.status.Status.TheVariants as status
@@ -138,6 +140,8 @@ one-answer (BuildTidy given) file sized octets as_read =
 one-answer (BuildFill list known) file sized octets as_read = filled-once list known octets
 one-answer (File task) file sized octets as_read = told-of (TellsFile task) (file-once task) file
 one-answer (Record atr) file sized octets as_read = told-of (Records atr) (recorded-once atr octets) file
+one-answer (Judge atr ends) file sized octets as_read =
+    told-of (JudgesTrace atr ends) (judged-once atr octets ends) file
 one-answer (Simulate session) file sized octets as_read = simulated-once session octets.0
 one-answer (SimulateLines session) file sized octets as_read =
     told-of (SimulatesLines session) (lines-once session octets.0) file
@@ -205,6 +209,7 @@ asked-too (Once (BuildTidy given)) file text ended h = h
 asked-too (Once (BuildFill list known)) file text ended h = h
 asked-too (Once (File task)) file text ended h = h
 asked-too (Once (Record atr)) file text ended h = h
+asked-too (Once (Judge atr ends)) file text ended h = h
 asked-too (Once (Simulate session)) file text ended h = h
 asked-too (Once (SimulateLines session)) file text ended h = h
 asked-too (Once (Help help)) file text ended h = h
@@ -290,6 +295,7 @@ notes-cut (Once (BuildTidy given)) file text ended h = h
 notes-cut (Once (BuildFill list known)) file text ended h = h
 notes-cut (Once (File task)) file text ended h = h
 notes-cut (Once (Record atr)) file text ended h = h
+notes-cut (Once (Judge atr ends)) file text ended h = h
 notes-cut (Once (Simulate session)) file text ended h = h
 notes-cut (Once (SimulateLines session)) file text ended h = h
 notes-cut (Once (Help help)) file text ended h = h

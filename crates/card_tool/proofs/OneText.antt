@@ -20,7 +20,7 @@ use Rattle.card_words.specs.declared.request.Asked.{Asked}
 use Rattle.card_words.specs.declared.request.Asked.TheVariants.{Once, Lines}
 use Rattle.card_words.specs.declared.request.Aim.{Aim}
 use Rattle.card_words.specs.declared.request.Aim.TheVariants.{Check, Show, Note, CheckJson, ShowJson}
-use Rattle.card_words.specs.declared.request.Request.TheVariants.{BuildChain, BuildTidy, BuildFill, Tell, File, Record, Simulate, SimulateLines, Help, Version}
+use Rattle.card_words.specs.declared.request.Request.TheVariants.{BuildChain, BuildTidy, BuildFill, Tell, File, Record, Judge, Simulate, SimulateLines, Help, Version}
 use Rattle.card_tool.specs.Answers.{plain_text, plain_told, AsksForNotes, AskForNotes, IsAnswer, IsAnswerAsked, IsSameText}
 use Rattle.notes.specs.Noted.{without_notes}
 use Rattle.card_tool.specs.Files.{file_of, largest_file, ReadsWhole}
@@ -53,6 +53,7 @@ same-or-noted (Once (BuildTidy given)) text other h = inl h
 same-or-noted (Once (BuildFill list known)) text other h = inl h
 same-or-noted (Once (File task)) text other h = inl h
 same-or-noted (Once (Record atr)) text other h = inl h
+same-or-noted (Once (Judge atr ends)) text other h = inl h
 same-or-noted (Once (Simulate session)) text other h = inl h
 same-or-noted (Once (SimulateLines session)) text other h = inl h
 same-or-noted (Once (Help help)) text other h = inl h

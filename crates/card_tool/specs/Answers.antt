@@ -10,6 +10,7 @@ use Rattle.chain_core.specs.Cut.{cut_of}
 use Rattle.card_tool.specs.ExchangeTexts.{TellsFile}
 use Rattle.card_tool.specs.SimulationTexts.{Simulates, SimulatesLines}
 use Rattle.card_tool.specs.RecordTexts.{Records}
+use Rattle.card_tool.specs.JudgeTexts.{JudgesTrace}
 use Rattle.json_lines.specs.Answers.{json_text}
 use Rattle.card_tool.specs.Files.{ReadsWhole}
 use Rattle.card_tool.specs.Lines.{all_lines, line_octets, AreTold}
@@ -31,7 +32,7 @@ use Rattle.card_words.specs.declared.request.Expected.{Expected}
 use Rattle.card_words.specs.declared.request.Kind.{Kind}
 use Rattle.notes.specs.Noted.{IsNoted, without_notes}
 use Rattle.card_words.specs.declared.request.Request.{Request}
-use Rattle.card_words.specs.declared.request.Request.TheVariants.{BuildChain, BuildTidy, BuildFill, Tell, File, Record, Simulate, SimulateLines, Help, Version}
+use Rattle.card_words.specs.declared.request.Request.TheVariants.{BuildChain, BuildTidy, BuildFill, Tell, File, Record, Judge, Simulate, SimulateLines, Help, Version}
 use Rattle.card_words.specs.declared.request.Task.{Task}
 
 -- what octets come to, or the fault for which there are none
@@ -86,6 +87,7 @@ IsAnswerTo (BuildTidy given) file text ended = IsToldOf Tidies (octets_given giv
 IsAnswerTo (BuildFill list known) file text ended = IsFilled list known text ended
 IsAnswerTo (File task) file text ended = IsToldOf (TellsFile task) file text ended
 IsAnswerTo (Record atr) file text ended = IsToldOf (Records atr) file text ended
+IsAnswerTo (Judge atr ends) file text ended = IsToldOf (JudgesTrace atr ends) file text ended
 IsAnswerTo (Simulate session) file text ended = Simulates session text ended
 IsAnswerTo (SimulateLines session) file text ended = IsToldOf (SimulatesLines session) file text ended
 IsAnswerTo (Help help) file text ended = (text ≡ help) × (ended ≡ status.Accepted)

@@ -20,7 +20,7 @@ use Rattle.card_words.specs.declared.request.Ends.TheVariants as end
 use Rattle.card_words.specs.declared.request.FileTask.{FileTask}
 use Rattle.card_words.specs.declared.request.FileTask.TheVariants.{Replay}
 use Rattle.card_words.specs.declared.request.Request.{Request}
-use Rattle.card_words.specs.declared.request.Request.TheVariants.{BuildTidy, BuildFill, Tell, File, Record, Simulate, SimulateLines}
+use Rattle.card_words.specs.declared.request.Request.TheVariants.{BuildTidy, BuildFill, Tell, File, Record, Judge, Simulate, SimulateLines}
 use Rattle.card_kinds.specs.ForestTexts.{forest_codec}
 use Rattle.card_kinds.specs.ListTexts.{list_codec}
 use Rattle.card_kinds.specs.declared.answer.Answer.{Answer}
@@ -40,6 +40,7 @@ use Rattle.card_tool.specs.Judged.{IsKindNote, IsNoteBy}
 use Rattle.card_tool.specs.declared.explained.Taken.{Taken}
 use Rattle.card_tool.specs.FileNotes.{line_of, IsLineNote}
 use Rattle.card_tool.specs.RecordTexts.{IsRecordNote}
+use Rattle.card_tool.specs.JudgeTexts.{IsJudgeNote}
 use Rattle.card_tool.specs.SimulationTexts.{IsLinesNote, IsSimulationNote}
 
 -- ---- notes on files
@@ -103,6 +104,7 @@ IsNoteTo (BuildTidy given) file note = IsNoteOn given file (IsNoteBy forest_code
 IsNoteTo (BuildFill list known) file note = IsFillNote list known note
 IsNoteTo (File task) file note = IsOkAnd file (λ text. IsFileNote task text note)
 IsNoteTo (Record atr) file note = IsOkAnd file (λ text. IsRecordNote atr text note)
+IsNoteTo (Judge atr ends) file note = IsOkAnd file (λ text. IsJudgeNote atr ends text note)
 IsNoteTo (Simulate session) file note = IsSimulationNote session note
 IsNoteTo (SimulateLines session) file note = IsOkAnd file (λ text. IsLinesNote session text note)
 IsNoteTo _ file note = ⊥

@@ -4,6 +4,7 @@ pub mod ExchangeTexts
 pub mod SimulationTexts
 pub mod FileNotes
 pub mod RecordTexts
+pub mod JudgeTexts
 pub mod Conversations
 pub mod Answers
 pub mod LineAnswers

@@ -16,9 +16,9 @@ ghost use Rattle.command_line.specs.Form.{texts};
 use crate::file::{LARGEST_FILE, read_whole};
 use crate::judged::{answer_with_note, filled, joined, tidied};
 use crate::program::answer_to;
-use crate::{exchange, recording, simulation};
+use crate::{exchange, judging, recording, simulation};
 use card_kinds::Answer;
-use card_words::{Fault, Form, OctetSource, Request, Session};
+use card_words::{Ends, Fault, Form, OctetSource, Request, Session};
 use explainer::{large_note, offsets_note, text_note, words_note};
 use octet_core::{Octets, Source};
 use std::alloc::{AllocError, Global};
@@ -182,6 +182,7 @@ fn exchange_explained<R: Source>(
             Ok(noted(judged.answer, judged.note))
         }
         Request::Record(atr) => record_explained(alloc, atr, reader),
+        Request::Judge { atr, ends } => judge_explained(alloc, atr, ends, reader),
         Request::Simulate(session) => {
             let judged = simulation::simulated_with_note(alloc, &session)?;
             Ok(noted(judged.answer, judged.note))
@@ -199,6 +200,22 @@ fn record_explained<R: Source>(alloc: Global, atr: Octets, reader: &mut R) -> Re
 {
     let text = read_whole(alloc, reader)?;
     let judged = recording::recorded_with_note(alloc, atr.get(), text.get())?;
+    Ok(noted(judged.answer, judged.note))
+}
+
+/// What of the blocks of standard input isn't permitted to these ends, with what is to be said of the text.
+fn judge_explained<R: Source>(
+    alloc: Global,
+    atr: Octets,
+    ends: Ends,
+    reader: &mut R,
+) -> Result<Answer, Fault>
+    ensures told { AnswersExplainedTo (AnyRequest.Judge atr ends) (R.remaining reader.old)
+        (R.remaining reader.new) (R.failures reader.old) (R.failures reader.new) result }
+    ensures few { IsBegun (R.remaining reader.old) (R.remaining reader.new) 4194305 }
+{
+    let text = read_whole(alloc, reader)?;
+    let judged = judging::judged_with_note(alloc, atr.get(), ends, text.get())?;
     Ok(noted(judged.answer, judged.note))
 }
 

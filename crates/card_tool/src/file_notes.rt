@@ -49,20 +49,19 @@ pub(crate) fn fault_note(
     }
 }
 
-/// The line with the first fault of a text that has blocks which were seen, and what is expected there.
+/// The line with the first fault of a text that has blocks which were seen, and what is expected there, of words as the
+/// caller says.
 pub(crate) fn trace_note(
     alloc: Global,
     text: &[u8],
     fault: ExchangeFault,
+    expected: &str,
 ) -> Result<String, AllocError>
     ensures line { IfOk result (λ note. IsLineNote (line_of fault) (string_bytes note)) }
     ensures other { IfOk result (λ _. fault ≢ Memory) }
 {
     match fault {
-        ExchangeFault::Word { line } => {
-            let what = "expected: t HEX or c HEX, with lost after it or not, quiet, or at N";
-            noted(alloc, text, line, what)
-        }
+        ExchangeFault::Word { line } => noted(alloc, text, line, expected),
         ExchangeFault::Hex { line } => {
             let what = "expected: an even number of hexadecimal digits";
             noted(alloc, text, line, what)

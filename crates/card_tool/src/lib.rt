@@ -3,10 +3,9 @@
 //!
 //! card_words reads what a command line asks for: one text, by a `Request`, or the text of each line of standard
 //! input, which `answer_lines` answers. `answer_to` makes the text and the status that a request has, by card_kinds for
-//! octets, and by a module for files of recorded exchanges, which `read_whole` reads, and one for simulated sessions,
-//! and `run` writes that text. What the text is, is said by definitions: `IsAnswer` in `specs/Answers.antt`, over
-//! card_words' `IsRead`. What exchange_core gives stands
-//! at the root too.
+//! octets, and by a module each for files of recorded exchanges, which `read_whole` reads, for traces that are recorded or
+//! judged, and for simulated sessions, and `run` writes that text. What the text is, is said by definitions: `IsAnswer`
+//! in `specs/Answers.antt`, over card_words' `IsRead`. What exchange_core gives stands at the root too.
 #![tactic(auto)]
 
 mod annotated;
@@ -18,6 +17,7 @@ mod file_notes;
 pub mod host;
 mod json;
 mod judged;
+mod judging;
 pub mod laws;
 pub mod lines;
 pub mod program;

@@ -21,7 +21,7 @@ use crate::json::in_json;
 use crate::judged::answer_about;
 use crate::lines::tell_lines;
 use crate::telling::Telling;
-use crate::{exchange, recording, simulation};
+use crate::{exchange, judging, recording, simulation};
 use card_kinds::{Answer, Status, blocks, fill, tidy};
 use card_words::{Asked, Fault, Request, Session};
 use command_line::{VERSION_LINE, asks_for_json, asks_to_explain};
@@ -261,6 +261,10 @@ pub(crate) fn answer_to<R: Source>(
         Request::Record(atr) => {
             let text = read_whole(alloc, reader)?;
             Ok(recording::recorded(alloc, atr.get(), text.get())?)
+        }
+        Request::Judge { atr, ends } => {
+            let text = read_whole(alloc, reader)?;
+            Ok(judging::judged(alloc, atr.get(), ends, text.get())?)
         }
         Request::Simulate(session) => Ok(simulation::simulated(alloc, &session)?),
         Request::SimulateLines(session) => lines_answer(alloc, session, reader),

@@ -18,6 +18,9 @@ use octet_core::Named;
 use std::alloc::{AllocError, Global};
 use traces::{RecordFault, Trace, read_trace, record_trace};
 
+/// What is expected in a line of a trace.
+const EXPECTED: &str = "expected: t HEX or c HEX, with lost after it or not, quiet, or at N";
+
 /// The file of the exchange in which the blocks that a text has were seen, or the text's fault.
 pub(crate) fn recorded(alloc: Global, atr: &[u8], text: &[u8]) -> Result<Answer, AllocError>
     ensures { IfOk result (λ answer. Records atr.now text.now answer.text answer.status) }
@@ -56,7 +59,7 @@ pub(crate) fn recorded_with_note(
         }
         Err(fault) => {
             let answer = refused(alloc, fault)?;
-            let note = trace_note(alloc, text, fault);
+            let note = trace_note(alloc, text, fault, EXPECTED);
             Ok(WithNote { answer, note })
         }
     }

@@ -12,7 +12,7 @@ use Rattle.card_words.specs.Given.{asks_for_lines, form_of, given_of, GivesOctet
 use Rattle.card_words.specs.PairLines.{are_lines}
 use Rattle.card_words.specs.Session.{blocks_of, pair_of, pairs_of, AreOctetPairs, IsSize}
 use Rattle.card_words.specs.Value.{◌>>=◌, hex_octets, octets_of_word, parted, UnlessMemory}
-use Rattle.card_words.specs.Words.{byte_or, size_of, number_of, number_of_word, needed, kind_of, expected_of, short_message, told_by, told_of, chain_by, chain_of, tidy_of, fill_of, build_words, build_of, end_of_word, record_of, replay_of, all_or_none, asked_size, session_of, drawing_of, request_by, check_aim, show_aim, asked_by, asked_of, HasOctets, HaveOctets, IsRead, AreSized, IsSized, IsTaskSized, called_for_version, taken, called_for_help, not_taken, session_by, simulate_by, simulate_of}
+use Rattle.card_words.specs.Words.{byte_or, size_of, number_of, number_of_word, needed, kind_of, expected_of, short_message, told_by, told_of, chain_by, chain_of, tidy_of, fill_of, build_words, build_of, end_of_word, atr_of, judge_of, judged_ends, record_of, replay_of, all_or_none, asked_size, session_of, drawing_of, request_by, check_aim, show_aim, asked_by, asked_of, HasOctets, HaveOctets, IsRead, AreSized, IsSized, IsTaskSized, called_for_version, taken, called_for_help, not_taken, session_by, simulate_by, simulate_of}
 use Rattle.command_line.specs.Form.{scard}
 use Rattle.card_words.specs.declared.fault.Fault.{Fault}
 use Rattle.card_words.specs.declared.fault.Fault.TheVariants.{Words}
@@ -25,7 +25,7 @@ use Rattle.card_words.specs.declared.request.Task.{Task}
 use Rattle.card_words.specs.declared.request.Asked.{Asked}
 use Rattle.card_words.specs.declared.request.Asked.TheVariants.{Once, Lines}
 use Rattle.card_words.specs.declared.request.Request.{Request}
-use Rattle.card_words.specs.declared.request.Request.TheVariants.{BuildTidy, File, Record, Help, Version}
+use Rattle.card_words.specs.declared.request.Request.TheVariants.{BuildTidy, File, Record, Judge, Help, Version}
 use Rattle.card_words.specs.declared.request.FileTask.TheVariants.{Migrate, Apdus, Draw}
 
 -- where two steps come to a value, the first comes to one, and from that the second to this
@@ -212,6 +212,11 @@ pairs-octets (word ∷ words) pairs h =
     let one = pair-octets word pair.0 pair.1 in
     subst AreOctetPairs (same _ pairs more.2) (one.0, one.1, pairs-octets words more.0 more.1)
 
+atr-octets : (rows : List Row) (atr : List ℕ) → atr_of rows ≡ Ok atr → AreOctets atr
+atr-octets rows atr h =
+    let word = both-steps (needed (first_of (codes "atr") rows)) _ atr h in
+    word-octets word.0 atr word.2
+
 session-proper : (words : List (List ℕ)) (rows : List Row) (session : Session) → session_of words rows ≡ Ok session
     → IsSize session.ifsd × AreOctets session.atr × AreOctetPairs session.pairs
 session-proper words rows session h =
@@ -219,12 +224,11 @@ session-proper words rows session h =
     let lost = both-steps (blocks_of (first_of (codes "lose") rows)) _ session ifsd.2 in
     let damaged = both-steps (blocks_of (first_of (codes "damage") rows)) _ session lost.2 in
     let spoilt = both-steps (blocks_of (first_of (codes "spoil") rows)) _ session damaged.2 in
-    let atr_word = both-steps (needed (first_of (codes "atr") rows)) _ session spoilt.2 in
-    let atr = both-steps (octets_of_word atr_word.0) _ session atr_word.2 in
+    let atr = both-steps (atr_of rows) _ session spoilt.2 in
     let pairs = both-steps (pairs_of words) _ session atr.2 in
     subst (λ (s : Session). IsSize s.ifsd × AreOctets s.atr × AreOctetPairs s.pairs) (same _ session pairs.2) (
       size-asked (first_of (codes "ifsd") rows) ifsd.0 ifsd.1,
-      word-octets atr_word.0 atr.0 atr.1,
+      atr-octets rows atr.0 atr.1,
       pairs-octets words pairs.0 pairs.1,
     )
 
@@ -243,28 +247,44 @@ simulate-proper form words rows request h =
 
 record-proper : (rows : List Row) (request : Request) → record_of rows ≡ Ok request → IsProper request
 record-proper rows request h =
-    let word = both-steps (needed (first_of (codes "atr") rows)) _ request h in
-    let atr = both-steps (octets_of_word word.0) _ request word.2 in
-    subst IsProper (same (Record atr.0) request atr.2) (tt, word-octets word.0 atr.0 atr.1)
+    let atr = both-steps (atr_of rows) _ request h in
+    subst IsProper (same (Record atr.0) request atr.2) (tt, atr-octets rows atr.0 atr.1)
+
+judge-proper : (rows : List Row) (request : Request) → judge_of rows ≡ Ok request → IsProper request
+judge-proper rows request h =
+    let ends = both-steps (judged_ends (first_of (codes "end") rows)) _ request h in
+    let atr = both-steps (atr_of rows) _ request ends.2 in
+    subst IsProper (same (Judge atr.0 ends.0) request atr.2) (tt, atr-octets rows atr.0 atr.1)
+
+seen-proper : (name : List ℕ) (rows : List Row) (request : Request)
+    → (if bytes_eq name (codes "judge") then judge_of rows
+    else (if bytes_eq name (codes "simulate") then simulate_of rows
+    else Err Words)) ≡ Ok request → IsProper request
+seen-proper name rows request h =
+    elim (one-of (bytes_eq name (codes "judge")) (judge_of rows) _ request h) [
+      | inl judge ↦ judge-proper rows request judge
+      | inr both ↦
+          elim (one-of (bytes_eq name (codes "simulate")) _ (Err Words) request both) [
+            | inl simulate ↦
+                simulate-proper (first_of (codes "stdin") rows) (all_or_none (all_of (codes "pairs") rows)) rows request
+                simulate
+            | inr none ↦ cc none
+          ]
+    ]
 
 drawn-proper : (name : List ℕ) (rows : List Row) (request : Request)
     → (if bytes_eq name (codes "draw") then Ok (File (Draw (drawing_of rows)))
     else (if bytes_eq name (codes "record") then record_of rows
+    else (if bytes_eq name (codes "judge") then judge_of rows
     else (if bytes_eq name (codes "simulate") then simulate_of rows
-    else Err Words))) ≡ Ok request → IsProper request
+    else Err Words)))) ≡ Ok request → IsProper request
 drawn-proper name rows request h =
     elim (one-of (bytes_eq name (codes "draw")) (Ok (File (Draw (drawing_of rows)))) _ request h) [
       | inl draw ↦ subst IsProper (same (File (Draw (drawing_of rows))) request draw) (tt, tt)
       | inr made ↦
           elim (one-of (bytes_eq name (codes "record")) (record_of rows) _ request made) [
-            | inl seen ↦ record-proper rows request seen
-            | inr both ↦
-                elim (one-of (bytes_eq name (codes "simulate")) _ (Err Words) request both) [
-                  | inl simulate ↦
-                      simulate-proper (first_of (codes "stdin") rows)
-                      (all_or_none (all_of (codes "pairs") rows)) rows request simulate
-                  | inr none ↦ cc none
-                ]
+            | inl recorded ↦ record-proper rows request recorded
+            | inr seen ↦ seen-proper name rows request seen
           ]
     ]
 

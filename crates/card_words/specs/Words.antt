@@ -33,7 +33,7 @@ use Rattle.card_words.specs.declared.request.Asked.{Asked}
 use Rattle.card_words.specs.declared.request.Asked.TheVariants.{Once, Lines}
 use Rattle.card_words.specs.declared.request.Request.{Request}
 use Rattle.card_words.specs.declared.session.Session.{Session}
-use Rattle.card_words.specs.declared.request.Request.TheVariants.{BuildChain, BuildTidy, BuildFill, Tell, File, Record, Simulate, SimulateLines, Help, Version}
+use Rattle.card_words.specs.declared.request.Request.TheVariants.{BuildChain, BuildTidy, BuildFill, Tell, File, Record, Judge, Simulate, SimulateLines, Help, Version}
 use Rattle.block_core.specs.declared.pcb.Number.{Number}
 use Rattle.block_core.specs.declared.pcb.Number.TheVariants.{Zero, One}
 
@@ -164,13 +164,16 @@ build_of rows = do
   what ← needed (first_of (codes "what") rows)
   build_by what (all_or_none (all_of (codes "words") rows)) (first_of (codes "stdin") rows)
 
--- an end as a word, or both
-abbrev pub end_of_word : List ℕ → Result Ends Fault
-end_of_word word =
+-- an end as a word
+abbrev pub one_end : List ℕ → Result Ends Fault
+one_end word =
     if bytes_eq word (codes "terminal") then Ok end.Terminal
     else (if bytes_eq word (codes "card") then Ok end.Card
-    else (if bytes_eq word (codes "both") then Ok end.Both
-    else Err Words))
+    else Err Words)
+
+-- an end, or both
+abbrev pub end_of_word : List ℕ → Result Ends Fault
+end_of_word word = if bytes_eq word (codes "both") then Ok end.Both else one_end word
 
 abbrev pub replay_of : List Row → Result Request Fault
 replay_of rows = do
@@ -182,12 +185,25 @@ replay_of rows = do
 abbrev pub drawing_of : List Row → Drawing
 drawing_of rows = if has_flag (codes "svg") rows then Picture else Ladder
 
--- the answer to reset with which an exchange is made of blocks
+-- the answer to reset of a card
+abbrev pub atr_of : List Row → Result (List ℕ) Fault
+atr_of rows = needed (first_of (codes "atr") rows) >>= octets_of_word
+
+-- the one with which an exchange is made of blocks
 abbrev pub record_of : List Row → Result Request Fault
-record_of rows = do
-  atr_word ← needed (first_of (codes "atr") rows)
-  atr ← octets_of_word atr_word
-  Ok (Record atr)
+record_of rows = atr_of rows >>= (λ atr. Ok (Record atr))
+
+-- the ends that are judged: both, where there is no word for one
+abbrev pub judged_ends : Option (List ℕ) → Result Ends Fault
+judged_ends None = Ok end.Both
+judged_ends (Some word) = one_end word
+
+-- these come first, and then the answer to reset of the card on whose line the blocks were seen
+abbrev pub judge_of : List Row → Result Request Fault
+judge_of rows = do
+  ends ← judged_ends (first_of (codes "end") rows)
+  atr ← atr_of rows
+  Ok (Judge atr ends)
 
 -- an information size that is asked for, where there is a word
 abbrev pub asked_size : Option (List ℕ) → Result (Option ℕ) Fault
@@ -201,8 +217,7 @@ session_of words rows = do
   lost ← blocks_of (first_of (codes "lose") rows)
   damaged ← blocks_of (first_of (codes "damage") rows)
   spoilt ← blocks_of (first_of (codes "spoil") rows)
-  atr_word ← needed (first_of (codes "atr") rows)
-  atr ← octets_of_word atr_word
+  atr ← atr_of rows
   pairs ← pairs_of words
   Ok (record { atr = atr; ifsd = ifsd; pairs = pairs; lost = lost; damaged = damaged; spoilt = spoilt })
 
@@ -228,8 +243,9 @@ request_by name rows =
     else (if bytes_eq name (codes "apdus") then Ok (File Apdus)
     else (if bytes_eq name (codes "draw") then Ok (File (Draw (drawing_of rows)))
     else (if bytes_eq name (codes "record") then record_of rows
+    else (if bytes_eq name (codes "judge") then judge_of rows
     else (if bytes_eq name (codes "simulate") then simulate_of rows
-    else Err Words))))))
+    else Err Words)))))))
 
 -- a request that was read, as what is asked for
 abbrev pub once_of : Result Request Fault → Result Asked Fault
@@ -256,6 +272,7 @@ IsSized (BuildTidy given) = Unit {0}
 IsSized (BuildFill list known) = Unit {0}
 IsSized (File task) = Unit {0}
 IsSized (Record atr) = Unit {0}
+IsSized (Judge atr ends) = Unit {0}
 IsSized (Simulate session) = IsSize session.ifsd
 IsSized (SimulateLines session) = IsSize session.ifsd
 IsSized (Help help) = Unit {0}
@@ -273,6 +290,7 @@ HasOctets (BuildTidy given) = GivesOctets given
 HasOctets (BuildFill list known) = AreOctets list
 HasOctets (File task) = Unit {0}
 HasOctets (Record atr) = AreOctets atr
+HasOctets (Judge atr ends) = AreOctets atr
 HasOctets (Simulate session) = AreOctets session.atr × AreOctetPairs session.pairs
 HasOctets (SimulateLines session) = AreOctets session.atr × AreOctetPairs session.pairs
 HasOctets (Help help) = Unit {0}
@@ -288,6 +306,7 @@ NeedsFile (Tell task given) = IsFromReader given
 NeedsFile (BuildTidy given) = IsFromReader given
 NeedsFile (File task) = Unit {0}
 NeedsFile (Record atr) = Unit {0}
+NeedsFile (Judge atr ends) = Unit {0}
 NeedsFile (SimulateLines session) = Unit {0}
 NeedsFile _ = ⊥
 

@@ -10,6 +10,7 @@ pub mod fault;
 pub mod given;
 mod known;
 pub mod loose;
+mod numerals;
 pub mod pair_lines;
 pub mod request;
 pub mod session;

@@ -132,6 +132,11 @@ pub enum Request {
     File(FileTask),
     /// The exchange of a card with this answer to reset in which the blocks of standard input were seen.
     Record(Octets),
+    /// What of the blocks of standard input isn't permitted to these ends, at a card with this answer to reset.
+    Judge {
+        atr: Octets,
+        ends: Ends,
+    },
     /// The exchange that a recorder of both ends writes of this session.
     Simulate(Session),
     /// The same of this session with the pairs that the lines of standard input say.

@@ -4,7 +4,7 @@ ghost use Rattle.std.specs.Prelude.{◌≡◌, ◌⊎◌, ◌≤◌, [], Err, If
 ghost use Rattle.clap.specs.Words.{all_of, fault_of, first_of, found_of, rows_of, subcommand_of, subcommand_rows_of};
 ghost use Rattle.clap.specs.Kinds.{HasKind};
 ghost use Rattle.clap.specs.Values.{kind_of as error_kind};
-ghost use Rattle.card_words.specs.Words.{asked_of, build_of, build_words, chain_of, check_aim, end_of_word, asked_size, drawing_of, expected_of, session_of, has_flag, kind_of, number_of, number_of_word, record_of, replay_of, show_aim, request_by, size_of, tidy_of, told_of, fill_of, HaveOctets, IsHelpOrFault, IsRead, AreSized, IsSized, simulate_of};
+ghost use Rattle.card_words.specs.Words.{asked_of, atr_of, build_of, build_words, chain_of, check_aim, end_of_word, drawing_of, expected_of, session_of, has_flag, judge_of, judged_ends, kind_of, one_end, record_of, replay_of, show_aim, request_by, tidy_of, told_of, fill_of, HaveOctets, IsHelpOrFault, IsRead, AreSized, IsSized, simulate_of};
 ghost use Rattle.command_line.specs.Form.{scard, texts};
 ghost use Rattle.card_words.specs.Session.{IsSize};
 ghost use Rattle.card_words.specs.Value.{UnlessMemory};
@@ -12,16 +12,16 @@ ghost use Rattle.card_words.specs.Value.{UnlessMemory};
 use crate::fault::Fault;
 use crate::given::{asks_for_lines, read_given};
 use crate::known::knowns;
+use crate::numerals::{asked_size, number, number_or_zero, size};
 use crate::pair_lines::are_lines;
 use crate::request::{Aim, Asked, Drawing, Ends, Expected, FileTask, Kind, Request, Task};
 use crate::session::{Session, read_blocks, read_pairs};
 use crate::value::octets;
-use block_core::Number;
 use chain_core::LONGEST_MESSAGE;
 use clap::error::ErrorKind;
 use clap::{ArgMatches, Error};
 use command_line::{asks_for_version, matches_of};
-use octet_core::Text;
+use octet_core::{Octets, Text};
 use std::alloc::Global;
 
 /// What the words ask for, of which the first is the program's name.
@@ -66,6 +66,7 @@ fn request(alloc: Global, name: &str, matches: &ArgMatches) -> Result<Request, F
         "apdus" => Ok(Request::File(FileTask::Apdus)),
         "draw" => Ok(Request::File(FileTask::Draw(drawing(matches)))),
         "record" => record(alloc, matches),
+        "judge" => judge(alloc, matches),
         "simulate" => simulate(alloc, matches),
         _ => Err(Fault::Words),
     }
@@ -192,8 +193,24 @@ fn record(alloc: Global, matches: &ArgMatches) -> Result<Request, Fault>
     ensures read { UnlessMemory result (record_of (rows_of (found_of matches.now))) }
     ensures sized { IfOk result IsSized }
 {
-    let atr = octets(alloc, word(matches, "atr").ok_or(Fault::Words)?)?;
-    Ok(Request::Record(atr))
+    Ok(Request::Record(atr(alloc, matches)?))
+}
+
+/// The answer to reset of the card on whose line blocks were seen, and the ends that are judged.
+fn judge(alloc: Global, matches: &ArgMatches) -> Result<Request, Fault>
+    ensures read { UnlessMemory result (judge_of (rows_of (found_of matches.now))) }
+    ensures sized { IfOk result IsSized }
+{
+    let ends = judged_ends(word(matches, "end"))?;
+    let atr = atr(alloc, matches)?;
+    Ok(Request::Judge { atr, ends })
+}
+
+/// The answer to reset of a card.
+fn atr(alloc: Global, matches: &ArgMatches) -> Result<Octets, Fault>
+    ensures { UnlessMemory result (atr_of (rows_of (found_of matches.now))) }
+{
+    octets(alloc, word(matches, "atr").ok_or(Fault::Words)?)
 }
 
 /// A session of both ends, whose pairs are words, or the lines of standard input.
@@ -220,7 +237,7 @@ fn session(alloc: Global, matches: &ArgMatches, words: &[&str]) -> Result<Sessio
     let lost = read_blocks(alloc, word(matches, "lose"))?;
     let damaged = read_blocks(alloc, word(matches, "damage"))?;
     let spoilt = read_blocks(alloc, word(matches, "spoil"))?;
-    let atr = octets(alloc, word(matches, "atr").ok_or(Fault::Words)?)?;
+    let atr = atr(alloc, matches)?;
     let pairs = read_pairs(alloc, words)?;
     Ok(Session {
         atr,
@@ -319,59 +336,29 @@ fn end(word: &str) -> Result<Ends, Fault>
     ensures { result ≡ end_of_word word.now }
 {
     match word {
+        "both" => Ok(Ends::Both),
+        _ => one_end(word),
+    }
+}
+
+/// The ends that are judged: both, where there is no word for one.
+fn judged_ends(word: Option<&str>) -> Result<Ends, Fault>
+    ensures { result ≡ judged_ends (option_map (λ word. word.now) word.entry) }
+{
+    match word {
+        Some(word) => one_end(word),
+        None => Ok(Ends::Both),
+    }
+}
+
+/// One end of a line.
+fn one_end(word: &str) -> Result<Ends, Fault>
+    ensures { result ≡ one_end word.now }
+{
+    match word {
         "terminal" => Ok(Ends::Terminal),
         "card" => Ok(Ends::Card),
-        "both" => Ok(Ends::Both),
         _ => Err(Fault::Words),
-    }
-}
-
-/// An information size, 254 where there is no word. `clap` has refused a word out of range.
-fn size(word: Option<&str>) -> Result<u8, Fault>
-    ensures { result ≡ size_of (option_map (λ word. word.now) word.entry) }
-{
-    let Some(word) = word else {
-        return Ok(254);
-    };
-    let ifs = word.parse().unwrap_or(0);
-    if 1 <= ifs && ifs <= 254 {
-        Ok(ifs)
-    } else {
-        Err(Fault::Words)
-    }
-}
-
-/// The information size that is asked for, where there is a word.
-fn asked_size(word: Option<&str>) -> Result<Option<u8>, Fault>
-    ensures read { result ≡ asked_size (option_map (λ word. word.now) word.entry) }
-    ensures sized { IfOk result IsSize }
-{
-    match word {
-        Some(word) => Ok(Some(size(Some(word))?)),
-        None => Ok(None),
-    }
-}
-
-/// The number of a block, zero where there is no word. `clap` has refused another one.
-fn number_or_zero(word: Option<&str>) -> Result<Number, Fault>
-    ensures { result ≡ number_of (option_map (λ word. word.now) word.entry) }
-{
-    match word {
-        Some(word) => number(word),
-        None => Ok(Number::Zero),
-    }
-}
-
-fn number(word: &str) -> Result<Number, Fault>
-    ensures { result ≡ number_of_word word.now }
-{
-    let value: u8 = word.parse().unwrap_or(2);
-    if value == 0 {
-        Ok(Number::Zero)
-    } else if value == 1 {
-        Ok(Number::One)
-    } else {
-        Err(Fault::Words)
     }
 }
 

@@ -100,6 +100,14 @@ atr_rule = required_rule (codes "atr")
 abbrev pub record_app : App
 record_app = with_rule (begun_app (codes "record")) atr_rule
 
+-- the option that names the end that is judged alone
+abbrev pub judged_rule : Rule
+judged_rule = option_rule (codes "end")
+
+-- the subcommand that judges the blocks that were seen on a line
+abbrev pub judge_app : App
+judge_app = with_rule (with_rule (begun_app (codes "judge")) atr_rule) judged_rule
+
 abbrev pub pairs_rule : Rule
 pairs_rule = record (new_rule (codes "pairs")) { value_names = 1; action = Some Append }
 
@@ -129,8 +137,12 @@ exchanges_app = with_subcommand (with_subcommand
     (with_subcommand (with_subcommand octets_app replay_app.top) migrate_app.top) apdus_app.top)
     draw_app.top
 
+-- and with what it makes and says of traces of a line
+abbrev pub traces_app : App
+traces_app = with_subcommand (with_subcommand exchanges_app record_app.top) judge_app.top
+
 unfoldable pub scard : App
-scard = with_subcommand (with_subcommand exchanges_app record_app.top) simulate_app.top
+scard = with_subcommand traces_app simulate_app.top
 
 abbrev pub texts : List (String Global) → List (List ℕ)
 texts words = map string_bytes words

@@ -243,7 +243,33 @@ Exit status:
   2  a fault, as fault: words, fault: hex or fault: line 3: Word
 
 Examples:
-  printf 't 00000500A4040000A5\nc 000002900092\n' | scard record 3B808131204555",
+  printf 't 00000500A4040000A5\\nc 000002900092\\n' | scard record 3B808131204555",
+};
+
+/// The page of `judge`.
+pub(crate) const JUDGE: Page<'static> = Page {
+    about: "Say which blocks that were seen on a line the standard doesn't permit, and of which end",
+    usage: "scard judge <ATR> [--end <END>]",
+    after: "Standard input has a line for each block, in the order of time:
+  t HEX         the terminal sends a block, in hexadecimal, in either case
+  c HEX         the card sends one
+  t HEX lost    it doesn't arrive; c HEX lost in the same way
+  t HEX as HEX  it arrives as these octets; c HEX as HEX in the same way
+  quiet         the terminal's waiting time ended
+  reset         the card was reset
+  at N          so many microseconds after some start
+  # REMARK      says nothing
+Each block is judged by ISO/IEC 7816-3:2006, clause 11, and by what its sender may have heard before. A line comes for
+each deviation: the block, its sender, what it breaks, what was due, and the clause. An exchange of PPS may come first.
+
+Exit status:
+  0  ok N blocks: the standard permits all of them
+  1  lines of deviations, and how many; refused: NAME: the answer to reset can't be used
+  2  a fault, as fault: words, fault: hex or fault: line 3: Word
+
+Examples:
+  printf 't 00000500A4040000A5\\nc 000002900092\\n' | scard judge 3B808131204555
+  printf 't 00400500A4040000E5\\nc 00820082\\n' | scard judge 3B808131204555 --end card",
 };
 
 /// The page of `simulate`.

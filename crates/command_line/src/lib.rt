@@ -4,6 +4,7 @@
 //! others have where, follows from it by `clap`'s own definitions.
 #![tactic(auto)]
 
+mod arguments;
 pub mod asked;
 pub mod explain;
 mod forms;

@@ -17,7 +17,7 @@ use std::{fs, io};
 use tried::{Fault, tried};
 
 /// The files, which lie where the program runs.
-const NAMES: [&str; 26] = [
+const NAMES: [&str; 28] = [
     "atr",
     "atr.changes",
     "block",
@@ -37,6 +37,8 @@ const NAMES: [&str; 26] = [
     "exchange",
     "draw",
     "record",
+    "judge",
+    "judge.changes",
     "hex",
     "dumps",
     "lines",

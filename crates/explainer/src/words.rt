@@ -22,23 +22,18 @@ pub fn words_note(alloc: Global, words: &[String]) -> Result<String, AllocError>
 
 /// The first word that is wrong, of words that the parser takes.
 fn word_note(alloc: Global, words: &[String]) -> Result<String, AllocError> {
-    let subcommand = word_at(words, subcommand_place(words));
-    if subcommand == "check" || subcommand == "show" {
-        return input_note(alloc, words);
+    match word_at(words, subcommand_place(words)) {
+        "check" | "show" => input_note(alloc, words),
+        "build" => build_note(alloc, words),
+        "replay" => option_note(alloc, words, "--end", "an end is terminal, card or both"),
+        "record" => atr_note(alloc, words),
+        "judge" => judge_note(alloc, words),
+        "simulate" => session_note(alloc, words),
+        _ => String::from_str(
+            alloc,
+            "there is no subcommand: check, show, build, replay, migrate, apdus, draw, record, judge or simulate\n",
+        ),
     }
-    if subcommand == "build" {
-        return build_note(alloc, words);
-    }
-    if subcommand == "replay" {
-        return option_note(alloc, words, "--end", "an end is terminal, card or both");
-    }
-    if subcommand == "simulate" {
-        return session_note(alloc, words);
-    }
-    String::from_str(
-        alloc,
-        "there is no subcommand: check, show, build, replay, migrate, apdus, draw, record or simulate\n",
-    )
 }
 
 /// A kind, and octets.
@@ -196,6 +191,27 @@ fn list_word_note(alloc: Global, words: &[String]) -> Result<String, AllocError>
     )
 }
 
+/// The end that is judged, and an answer to reset.
+fn judge_note(alloc: Global, words: &[String]) -> Result<String, AllocError> {
+    let name = "--end";
+    let is_given = option_place(words, name) < words.len();
+    if is_given && !matches!(option_value(words, name), "terminal" | "card") {
+        return option_note(
+            alloc,
+            words,
+            name,
+            "the end that is judged is terminal or card",
+        );
+    }
+    atr_note(alloc, words)
+}
+
+/// An answer to reset.
+fn atr_note(alloc: Global, words: &[String]) -> Result<String, AllocError> {
+    let atr = place_of(words, 0);
+    hex_note(alloc, atr, word_at(words, atr))
+}
+
 /// A session: where its pairs are, its other options, its answer to reset and its pairs.
 fn session_note(alloc: Global, words: &[String]) -> Result<String, AllocError> {
     let form = option_place(words, "--stdin");
@@ -221,8 +237,7 @@ fn session_words_note(alloc: Global, words: &[String]) -> Result<String, AllocEr
             );
         }
     }
-    let atr = place_of(words, 0);
-    let note = hex_note(alloc, atr, word_at(words, atr))?;
+    let note = atr_note(alloc, words)?;
     if !note.is_empty() {
         return Ok(note);
     }

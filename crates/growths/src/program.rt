@@ -60,7 +60,7 @@ const ROWS: [(&str, &str); 17] = [
 ];
 
 /// Words that ask for octets of standard input, what it has, and the text that the program writes.
-const READ_ROWS: [(&str, &str, &str); 4] = [
+const READ_ROWS: [(&str, &str, &str); 5] = [
     ("check atr --stdin hex", "3B 80 80\n01 01", "ok 5 octets\n"),
     (
         "show tlv --stdin hex",
@@ -72,6 +72,12 @@ const READ_ROWS: [(&str, &str, &str); 4] = [
         "record 3B808131204555",
         "t 00000500A4040000A5\nc 000002900092\n",
         FILE,
+    ),
+    (
+        "judge 3B808131204555",
+        "t FF11947A\nc FF11947A\nt 00000500A4040000A5\nc 00810081\nt 00000500A4040000A5\nc 000002900092\n",
+        "pps F 512 D 8\nblock 2 card: permitted if block 1 was damaged or lost unseen\n\
+        ok 4 blocks, unseen 1\n",
     ),
 ];
 

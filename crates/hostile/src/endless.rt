@@ -47,12 +47,13 @@ fn line_of(alloc: Global, given: u64, most: u64, pieces: usize) -> Result<String
 }
 
 /// The command lines that read a file.
-const LINES: [&str; 5] = [
+const LINES: [&str; 6] = [
     "replay --end terminal",
     "replay --end card",
     "migrate",
     "apdus",
     "record 3B808131204555",
+    "judge 3B808131204555",
 ];
 
 /// A file that begins so is too large for each of them: how many octets were read at most.

@@ -12,7 +12,7 @@ pub(crate) const FILE: &str =
 asked 00A4040000\nreply 9000\nc 000002900092\nanswer 9000\n";
 
 /// Words of each subcommand and kind, of those that are refused too, and of faults.
-const LINES: [&str; 38] = [
+const LINES: [&str; 39] = [
     "check atr 3B808131204555",
     "check atr 3A",
     "check block 00000500A4040000A5",
@@ -42,6 +42,7 @@ const LINES: [&str; 38] = [
     "migrate",
     "show response AABB9000 --json",
     "record 3B808131204555",
+    "judge 3B808131204555",
     "simulate 3B808131204555 00A4040000:9000",
     "simulate 3B808131204555 00A4040000:9000 --lose 1,2 --damage 3 --ifsd 2",
     "simulate 3B00 00A4040000:9000",

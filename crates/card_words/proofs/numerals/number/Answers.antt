@@ -1,7 +1,7 @@
 use Rattle.std.proofs.Common.{◌≡◌, ◌∙◌}
 use Rattle.card_words.specs.Words.{byte_or}
 use Rattle.card_words.proofs.Reading.{byte-read, number-zero, number-one, number-none}
-use Rattle.card_words.proofs.words.number.Goals as goal
+use Rattle.card_words.proofs.numerals.number.Goals as goal
 
 pub returns-then-value-eq0 : goal.returns-then-value-eq0
 returns-then-value-eq0 c =

@@ -1,8 +1,8 @@
 use Rattle.std.proofs.Common.{◌∙◌, ◌≡◌, inl, inr, arith}
 use Rattle.card_words.specs.Words.{byte_or}
 use Rattle.card_words.proofs.Reading.{byte-read, size-in, size-out}
-use Rattle.card_words.proofs.words.size.Goals as goal
-use Rattle.card_words.proofs.words.size.Goals.{else-ifs-ge1-via-then-ifs-ge1+else-ifs-le254, else-ifs-ge1-via-else-ifs-ge1}
+use Rattle.card_words.proofs.numerals.size.Goals as goal
+use Rattle.card_words.proofs.numerals.size.Goals.{else-ifs-ge1-via-then-ifs-ge1+else-ifs-le254, else-ifs-ge1-via-else-ifs-ge1}
 
 pub returns-then-ifs-le254 : goal.returns-then-ifs-le254
 returns-then-ifs-le254 c =

@@ -1,0 +1,234 @@
+//! The words that commands take, as arguments of `clap`: the name of each value, and what help says of it.
+
+ghost use Rattle.std.specs.Prelude.{◌≡◌, false};
+ghost use Rattle.clap.specs.Words.{rule_of};
+ghost use Rattle.command_line.specs.Form.{atr_rule, end_rule, explain_rule, flag_rule, hex_rule, ifs_rule, ifsd_rule, judged_rule, json_rule, kind_rule, notes_rule, number_rule, option_rule, pairs_rule, required_rule, stdin_rule, svg_rule, what_rule, words_rule};
+
+use clap::{Arg, ArgAction, value_parser};
+use std::alloc::Global;
+
+pub(crate) fn explain_arg<'a>(alloc: Global) -> Arg<'a>
+    ensures rule { rule_of result ≡ explain_rule }
+    ensures local { result.global ≡ false }
+{
+    flag_arg(
+        alloc,
+        "explain",
+        "Say after the line of a fault or a refusal what is wrong, and where",
+    )
+}
+
+/// An option without a value.
+fn flag_arg<'a>(alloc: Global, name: &'a str, help: &'a str) -> Arg<'a>
+    ensures rule { rule_of result ≡ flag_rule name.now }
+    ensures local { result.global ≡ false }
+{
+    Arg::new(alloc, name)
+        .long(name)
+        .action(ArgAction::SetTrue)
+        .help(help)
+}
+
+pub(crate) fn kind_arg<'a>(alloc: Global) -> Arg<'a>
+    ensures rule { rule_of result ≡ kind_rule }
+    ensures local { result.global ≡ false }
+{
+    required_arg(
+        alloc,
+        "kind",
+        "KIND",
+        "What the octets are taken for: atr, block, chain, command, response, tlv or dol",
+    )
+}
+
+pub(crate) fn hex_arg<'a>(alloc: Global) -> Arg<'a>
+    ensures rule { rule_of result ≡ hex_rule }
+    ensures local { result.global ≡ false }
+{
+    Arg::new(alloc, "hex").value_name("HEX").help(
+        "The octets, two hexadecimal digits each, or none where there are none",
+    )
+}
+
+pub(crate) fn stdin_arg<'a>(alloc: Global) -> Arg<'a>
+    ensures rule { rule_of result ≡ stdin_rule }
+    ensures local { result.global ≡ false }
+{
+    option_arg(
+        alloc,
+        "stdin",
+        "FORM",
+        "In place of HEX: read octets from standard input, as FORM says: hex, octets, dump, source, or for check and show lines",
+    )
+}
+
+pub(crate) fn ifs_arg<'a>(alloc: Global) -> Arg<'a>
+    ensures rule { rule_of result ≡ ifs_rule }
+    ensures local { result.global ≡ false }
+{
+    Arg::new(alloc, "ifs")
+        .long("ifs")
+        .value_parser(value_parser!(u8).range(1..=254))
+        .value_name("N")
+        .help("The information size, 1 to 254 [default: 254]")
+}
+
+pub(crate) fn number_arg<'a>(alloc: Global) -> Arg<'a>
+    ensures rule { rule_of result ≡ number_rule }
+    ensures local { result.global ≡ false }
+{
+    Arg::new(alloc, "number")
+        .long("number")
+        .value_parser(value_parser!(u8).range(0..=1))
+        .value_name("N")
+        .help("The number of the first block of a chain, 0 or 1 [default: 0]")
+}
+
+pub(crate) fn json_arg<'a>(alloc: Global) -> Arg<'a>
+    ensures rule { rule_of result ≡ json_rule }
+    ensures local { result.global ≡ false }
+{
+    flag_arg(
+        alloc,
+        "json",
+        "Answer by an object of JSON in place of lines",
+    )
+}
+
+pub(crate) fn notes_arg<'a>(alloc: Global) -> Arg<'a>
+    ensures rule { rule_of result ≡ notes_rule }
+    ensures local { result.global ≡ false }
+{
+    flag_arg(
+        alloc,
+        "notes",
+        "Say after the lines of the value, behind a number sign, what they mean",
+    )
+}
+
+pub(crate) fn what_arg<'a>(alloc: Global) -> Arg<'a>
+    ensures rule { rule_of result ≡ what_rule }
+    ensures local { result.global ≡ false }
+{
+    required_arg(alloc, "what", "WHAT", "What is built: chain, tidy or fill")
+}
+
+pub(crate) fn words_arg<'a>(alloc: Global) -> Arg<'a>
+    ensures rule { rule_of result ≡ words_rule }
+    ensures local { result.global ≡ false }
+{
+    Arg::new(alloc, "words")
+        .action(ArgAction::Append)
+        .value_name("WORD")
+        .help("The words that it is built of")
+}
+
+pub(crate) fn end_arg<'a>(alloc: Global) -> Arg<'a>
+    ensures rule { rule_of result ≡ end_rule }
+    ensures local { result.global ≡ false }
+{
+    Arg::new(alloc, "end")
+        .long("end")
+        .required(true)
+        .value_name("END")
+        .help("The end that is replayed: terminal, card or both")
+}
+
+pub(crate) fn svg_arg<'a>(alloc: Global) -> Arg<'a>
+    ensures rule { rule_of result ≡ svg_rule }
+    ensures local { result.global ≡ false }
+{
+    flag_arg(
+        alloc,
+        "svg",
+        "Draw a picture that any browser shows, in place of lines of text",
+    )
+}
+
+pub(crate) fn atr_arg<'a>(alloc: Global) -> Arg<'a>
+    ensures rule { rule_of result ≡ atr_rule }
+    ensures local { result.global ≡ false }
+{
+    required_arg(
+        alloc,
+        "atr",
+        "ATR",
+        "The card's answer to reset, in hexadecimal",
+    )
+}
+
+pub(crate) fn judged_arg<'a>(alloc: Global) -> Arg<'a>
+    ensures rule { rule_of result ≡ judged_rule }
+    ensures local { result.global ≡ false }
+{
+    option_arg(
+        alloc,
+        "end",
+        "END",
+        "The end of which deviations are told, terminal or card, in place of both",
+    )
+}
+
+pub(crate) fn pairs_arg<'a>(alloc: Global) -> Arg<'a>
+    ensures rule { rule_of result ≡ pairs_rule }
+    ensures local { result.global ≡ false }
+{
+    Arg::new(alloc, "pairs")
+        .action(ArgAction::Append)
+        .value_name("COMMAND:REPLY")
+        .help("Commands and the replies to them, in hexadecimal or none")
+}
+
+pub(crate) fn ifsd_arg<'a>(alloc: Global) -> Arg<'a>
+    ensures rule { rule_of result ≡ ifsd_rule }
+    ensures local { result.global ≡ false }
+{
+    Arg::new(alloc, "ifsd")
+        .long("ifsd")
+        .value_parser(value_parser!(u8).range(1..=254))
+        .value_name("N")
+        .help("The information size that the terminal asks for first, 1 to 254")
+}
+
+/// The option by which the pairs of a session come from standard input.
+pub(crate) fn lines_arg<'a>(alloc: Global) -> Arg<'a>
+    ensures rule { rule_of result ≡ stdin_rule }
+    ensures local { result.global ≡ false }
+{
+    option_arg(
+        alloc,
+        "stdin",
+        "FORM",
+        "In place of COMMAND:REPLY: read the pairs from standard input; FORM is lines, and a line is COMMAND REPLY",
+    )
+}
+
+/// An option that takes a list of blocks.
+pub(crate) fn list_arg<'a>(alloc: Global, name: &'a str, help: &'a str) -> Arg<'a>
+    ensures rule { rule_of result ≡ option_rule name.now }
+    ensures local { result.global ≡ false }
+{
+    option_arg(alloc, name, "LIST", help)
+}
+
+/// A word that has to be there, which help calls `value`.
+fn required_arg<'a>(alloc: Global, name: &'a str, value: &'a str, help: &'a str) -> Arg<'a>
+    ensures rule { rule_of result ≡ required_rule name.now }
+    ensures local { result.global ≡ false }
+{
+    Arg::new(alloc, name)
+        .required(true)
+        .value_name(value)
+        .help(help)
+}
+
+/// An option that takes any word, which help calls `value`.
+fn option_arg<'a>(alloc: Global, name: &'a str, value: &'a str, help: &'a str) -> Arg<'a>
+    ensures rule { rule_of result ≡ option_rule name.now }
+    ensures local { result.global ≡ false }
+{
+    Arg::new(alloc, name)
+        .long(name)
+        .value_name(value)
+        .help(help)
+}
