@@ -33,11 +33,17 @@ static void sizes(void)
     SIZE(SCARD_STRUCT_LENT_FRAMER, scard_lent_framer);
     SIZE(SCARD_STRUCT_LENT_BLOCK_READER, scard_lent_block_reader);
     SIZE(SCARD_STRUCT_LENT_ATR_READER, scard_lent_atr_reader);
+    SIZE(SCARD_STRUCT_LENT_SENDER, scard_lent_sender);
+    SIZE(SCARD_STRUCT_LENT_HEARD, scard_lent_heard);
+    SIZE(SCARD_STRUCT_LENT_WATCHED, scard_lent_watched);
+    SIZE(SCARD_STRUCT_LENT_JUDGE, scard_lent_judge);
+    SIZE(SCARD_STRUCT_DUE, scard_due);
+    SIZE(SCARD_STRUCT_JUDGMENT, scard_judgment);
     CHECK(sizeof(struct scard_lent_terminal) < 128 && sizeof(struct scard_lent_card) < 128);
     CHECK(sizeof(struct scard_lent_check) == 92 && sizeof(struct scard_lent_check) < 128);
-    CHECK(sizeof(struct scard_lent_receiver) == 32);
+    CHECK(sizeof(struct scard_lent_receiver) == 32 && sizeof(struct scard_lent_judge) == 592);
     CHECK(sizeof(struct scard_lent_block_reader) == 264 && sizeof(struct scard_lent_atr_reader) == 40);
-    CHECK(scard_struct_size(0) == 0 && scard_struct_size(26) == 0 && scard_struct_size(255) == 0);
+    CHECK(scard_struct_size(0) == 0 && scard_struct_size(32) == 0 && scard_struct_size(255) == 0);
 }
 
 static void places(void)
@@ -117,6 +123,20 @@ static void places(void)
     PLACE(scard_note, after_size, 24);
     PLACE(scard_note, number, 32);
     PLACE(scard_note, has_number, 36);
+    PLACE(scard_lent_sender, aborted, 12);
+    PLACE(scard_lent_heard, octet, 4);
+    PLACE(scard_lent_watched, sender, 8);
+    PLACE(scard_lent_watched, heard, 21);
+    PLACE(scard_lent_watched, last_len, 26);
+    PLACE(scard_lent_watched, last, 27);
+    PLACE(scard_lent_judge, card, 288);
+    PLACE(scard_lent_judge, blocks, 576);
+    PLACE(scard_lent_judge, nad, 585);
+    PLACE(scard_due, asked, 4);
+    PLACE(scard_judgment, unanswered, 16);
+    PLACE(scard_judgment, verdict, 24);
+    PLACE(scard_judgment, silence, 26);
+    PLACE(scard_judgment, due, 27);
 }
 
 /* ---- what the library writes into the fields ---- */

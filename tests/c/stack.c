@@ -59,6 +59,8 @@ static struct scard_lent_check check;
 static struct scard_lent_receiver receiver;
 static struct scard_lent_block_reader block_reader;
 static struct scard_lent_atr_reader atr_reader;
+static struct scard_lent_judge judge;
+static struct scard_judgment judgment;
 static struct scard_part parts[2048];
 static struct scard_entry entries[2];
 static struct scard_lent_framer framer;
@@ -208,6 +210,18 @@ static void lent_readers(void)
     verdict = scard_lent_block_reader_feed(&block_reader, sent, sizeof sent);
     verdict = scard_lent_block_reader_finish(&block_reader);
     verdict = scard_lent_block_reader_value(&block_reader, &block);
+}
+
+static void lent_judge(void)
+{
+    static const uint8_t asked[] = {0x00, 0x81, 0x00, 0x81};
+    verdict = scard_lent_judge_begin(&judge, 254);
+    verdict = scard_lent_judge_block(&judge, SCARD_END_CARD, asked, sizeof asked, SCARD_ARRIVAL_CAME, sent, sizeof sent,
+                                     &judgment);
+    scard_lent_judge_quiet(&judge, &judgment);
+    scard_lent_judge_finish(&judge, &judgment);
+    scard_judge_rule_text(1, &text);
+    scard_judge_clause_text(1, &text);
 }
 
 static void tlv_check(void)
@@ -471,6 +485,8 @@ int main(void)
     CHECK(verdict.status == SCARD_OK);
     bounded("forests: check that the caller keeps", lent_check, 2048);
     bounded("chains: receiver that the caller keeps", lent_receiver, 1024);
+    bounded("a judge that the caller keeps", lent_judge, 4096);
+    CHECK(verdict.status == SCARD_OK);
     bounded("blocks and answers to reset: readers that the caller keeps", lent_readers, 4096);
     bounded("forests: check", tlv_check, 1024);
     bounded("forests: parts", tlv_parts, 2048);

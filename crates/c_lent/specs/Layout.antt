@@ -1,9 +1,41 @@
 -- The sizes of the structs that C and the library share.
-use Rattle.std.specs.Prelude.{ℕ, List, [], ◌∷◌}
+use Rattle.std.specs.Prelude.{ℕ, ◌==◌, if◌then◌else◌}
 
 -- in octets, by the number of the struct: verdict, interface, indicated, ATR, T=1 parameters, rates, block, command,
 -- response, turn, tag, part, known value, handle, state of a terminal, of a card, of a header under way, of a check,
--- of a receiver, text, entry of a list, note, framer, reader of a block, and of an answer to reset; 0 for no struct
-abbrev pub sizes : List ℕ
-sizes = 0 ∷ 16 ∷ 6 ∷ 7 ∷ 243 ∷ 3 ∷ 4 ∷ 4 ∷ 32 ∷ 16 ∷ 16 ∷ 4 ∷ 24 ∷ 24 ∷ 16 ∷ 56 ∷ 64 ∷ 12 ∷ 92 ∷ 32 ∷ 16 ∷ 5 ∷ 40 ∷ 272
-    ∷ 264 ∷ 40 ∷ []
+-- of a receiver, text, entry of a list, note, framer, reader of a block, and of an answer to reset; what decides what an
+-- end may send, what it has heard, an end that is watched, state of a judge, what was due, and judgment; 0 for no struct
+abbrev pub size_of_struct : ℕ → ℕ
+size_of_struct number =
+    if number == 1 then 16
+    else if number == 2 then 6
+    else if number == 3 then 7
+    else if number == 4 then 243
+    else if number == 5 then 3
+    else if number == 6 then 4
+    else if number == 7 then 4
+    else if number == 8 then 32
+    else if number == 9 then 16
+    else if number == 10 then 16
+    else if number == 11 then 4
+    else if number == 12 then 24
+    else if number == 13 then 24
+    else if number == 14 then 16
+    else if number == 15 then 56
+    else if number == 16 then 64
+    else if number == 17 then 12
+    else if number == 18 then 92
+    else if number == 19 then 32
+    else if number == 20 then 16
+    else if number == 21 then 5
+    else if number == 22 then 40
+    else if number == 23 then 272
+    else if number == 24 then 264
+    else if number == 25 then 40
+    else if number == 26 then 13
+    else if number == 27 then 5
+    else if number == 28 then 288
+    else if number == 29 then 592
+    else if number == 30 then 5
+    else if number == 31 then 32
+    else 0

@@ -17,6 +17,8 @@ pub mod Layout
 pub mod Lent
 pub mod KeptCheck
 pub mod LentCheck
+pub mod KeptJudge
+pub mod LentJudge
 pub mod KeptReceiver
 pub mod LentReceiver
 pub mod LentReaders

@@ -1,7 +1,7 @@
 //! The sizes of the structs that C and the library share.
 
-ghost use Rattle.std.specs.Prelude.{◌≡◌, slice_index};
-ghost use Rattle.c_lent.specs.Layout.{sizes};
+ghost use Rattle.std.specs.Prelude.{◌≡◌};
+ghost use Rattle.c_lent.specs.Layout.{size_of_struct};
 
 use crate::apdu::{CCommand, CResponse};
 use crate::atr::{CAtr, CIndicated, CInterface, CRates, CT1};
@@ -9,7 +9,9 @@ use crate::block::CBlock;
 use crate::dol::CEntry;
 use crate::kept::{CCard, CTerminal};
 use crate::kept_check::{CCheck, CHeader};
+use crate::kept_judge::{CEnd, CHeard, CJudge, CWatched};
 use crate::kept_receiver::CReceiver;
+use crate::lent_judge::{CDue, CJudgment};
 use crate::lent_readers::{CAtrReader, CBlockReader};
 use crate::names::CText;
 use crate::note::CNote;
@@ -28,7 +30,7 @@ pub struct CHandle {
 
 /// How many octets a struct has in the library, by its number in the header; 0 for any other number.
 pub fn struct_size(number: u8) -> usize
-    ensures { result ≡ slice_index sizes number }
+    ensures { result ≡ size_of_struct number }
 {
     match number {
         1 => size_of::<Verdict>(),
@@ -56,6 +58,12 @@ pub fn struct_size(number: u8) -> usize
         23 => size_of::<Framer>(),
         24 => size_of::<CBlockReader>(),
         25 => size_of::<CAtrReader>(),
+        26 => size_of::<CEnd>(),
+        27 => size_of::<CHeard>(),
+        28 => size_of::<CWatched>(),
+        29 => size_of::<CJudge>(),
+        30 => size_of::<CDue>(),
+        31 => size_of::<CJudgment>(),
         _ => 0,
     }
 }

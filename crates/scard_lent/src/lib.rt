@@ -12,6 +12,7 @@ pub mod hexadecimal;
 pub mod layout;
 pub mod lent;
 pub mod lent_check;
+pub mod lent_judge;
 pub mod lent_readers;
 pub mod lent_receiver;
 pub mod names;
