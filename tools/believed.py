@@ -13,8 +13,8 @@ HEAD = """\
 # What has to be believed
 
 The checker proves that the code does what definitions say. That the definitions say what the standards say, no proof
-checks: somebody has to read them. This page lists them in reading order, the lowest crate first. `tools/reference` makes
-it from the sources.
+checks: somebody has to read them. This page lists them in reading order, the lowest crate first. `tools/reference`
+makes it from the sources.
 
 A row has a file of `crates/CRATE/specs`, its lines without remarks, the clauses that it cites (of ISO/IEC 7816-3:2006
 but in tlv_core and apdu_core, whose are of EMV Book 3 and ISO/IEC 7816-4), and its first sentence. This shows a file:

@@ -1,4 +1,4 @@
--- What is written where something is told of each line of standard input.
+-- What is written for each line of standard input.
 --
 -- held and left are the octets that the reader held before and after, where they are known; before and
 -- after are the counts of its calls that failed.
