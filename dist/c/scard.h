@@ -21,10 +21,10 @@
  * header is the library's.
  */
 #define SCARD_VERSION_MAJOR 1
-#define SCARD_VERSION_MINOR 1
+#define SCARD_VERSION_MINOR 2
 #define SCARD_VERSION_PATCH 0
 #define SCARD_VERSION (SCARD_VERSION_MAJOR * 1000000 + SCARD_VERSION_MINOR * 1000 + SCARD_VERSION_PATCH)
-#define SCARD_VERSION_TEXT "1.1.0"
+#define SCARD_VERSION_TEXT "1.2.0"
 
 #include <stdbool.h>
 #include <stddef.h>
@@ -231,12 +231,12 @@ bool scard_is_text(const uint8_t *octets, size_t count);
 uint8_t scard_lrc(const uint8_t *octets, size_t count);
 
 /* Writes octets as hexadecimal text in upper case, two digits each, with no 0 after it. Room: 2 * count.
- * OK, MEMORY, ARGUMENT. */
+ * OK, ARGUMENT. */
 SCARD_MUST_USE
 struct scard_verdict scard_hex_encode(const uint8_t *octets, size_t count, char *text, size_t room);
 
 /* Writes the octets of a hexadecimal text in either case. Room: length / 2. The first octet that is no digit is
- * refused; a text of an odd length is refused at its end. OK, AT (enum scard_hex_reason), MEMORY, ARGUMENT.
+ * refused; a text of an odd length is refused at its end. OK, AT (enum scard_hex_reason), ARGUMENT.
  */
 SCARD_MUST_USE
 struct scard_verdict scard_hex_decode(const char *text, size_t length, uint8_t *out, size_t room);
@@ -416,13 +416,13 @@ struct scard_verdict scard_response_decode(const uint8_t *octets, size_t count, 
 
 /* Writes the command with the header, shape and Le of a struct, and this data field; the struct's other fields
  * aren't looked at. Give an Le of 0 and no data field to a shape that hasn't them. Room: at most the data field
- * and 9. ARGUMENT with place 0: its length fields can't tell them. OK, MEMORY, ARGUMENT.
+ * and 9. ARGUMENT with place 0: its length fields can't tell them. OK, ARGUMENT.
  */
 SCARD_MUST_USE
 struct scard_verdict scard_command_encode(const struct scard_command *command, const uint8_t *data, size_t count,
                                           uint8_t *out, size_t room);
 
-/* Writes a response. Room: the data field, at most 65,536 octets, and 2. OK, MEMORY, ARGUMENT. */
+/* Writes a response. Room: the data field, at most 65,536 octets, and 2. OK, ARGUMENT. */
 SCARD_MUST_USE
 struct scard_verdict scard_response_encode(const uint8_t *data, size_t count, uint8_t sw1, uint8_t sw2,
                                            uint8_t *out, size_t room);
@@ -526,8 +526,9 @@ struct scard_known {
  * of its tag, cut or padded; or 00, where the tag is that of a constructed object or has no known value. Room: the
  * sum of the lengths in the list, at most 255 for each two octets of it. `known_count` counts structs. The refusal
  * of the list has the reasons of enum scard_dol_reason. DUPLICATE: two known values have one tag, also where the
- * list doesn't name it. ARGUMENT with place 0: a known tag is none, or a format is above 2.
- * OK, SHORT, AT, MEMORY, ARGUMENT, DUPLICATE.
+ * list doesn't name it. ARGUMENT with place 0: a known tag is none, a format is above 2, or the list has more than 2^48
+ * octets. All pairs of known values are compared, and for each entry the known values one by one. No memory.
+ * OK, SHORT, AT, ARGUMENT, DUPLICATE.
  */
 SCARD_MUST_USE
 struct scard_verdict scard_dol_fill(const uint8_t *list, size_t count, const struct scard_known *known,
@@ -888,6 +889,59 @@ SCARD_MUST_USE
 struct scard_verdict scard_lent_receiver_message(const struct scard_lent_receiver *state,
                                                  const uint8_t *message, size_t room);
 
+/* ---- a block and an answer to reset in pieces, without an allocator ---- */
+
+/* The most octets of an answer to reset: TS and 32 more (ISO/IEC 7816-3, clause 8.2.1). */
+#define SCARD_ATR_ROOM 33
+
+/* Readers of one block and of one answer to reset that the caller keeps, 264 and 40 octets. The caller reads the
+ * fields, and changes them by the calls alone. Each call decides again what the octets taken are, so whatever octets a
+ * state has, a call is safe, and reads no more than `octets`. These calls take no memory.
+ */
+struct scard_lent_block_reader {
+    uint32_t count;                     /* octets taken, with a refusal those up to and with the refused one */
+    uint8_t ifs;                        /* the information size */
+    uint8_t octets[SCARD_BLOCK_ROOM];   /* at its front those that were taken */
+};
+
+struct scard_lent_atr_reader {
+    uint32_t count;                     /* octets taken, with a refusal those up to and with the refused one */
+    uint8_t octets[SCARD_ATR_ROOM];     /* at its front those that were taken */
+};
+
+/* Begin a reader, whatever the state was: of one block, where I-blocks have at most `ifs` octets, 1 to 254; of one
+ * answer to reset. For a block: OK with place 0, ARGUMENT: then nothing changes.
+ */
+SCARD_MUST_USE
+struct scard_verdict scard_lent_block_reader_begin(struct scard_lent_block_reader *state, uint8_t ifs);
+void scard_lent_atr_reader_begin(struct scard_lent_atr_reader *state);
+
+/* Gives the next octets to a reader, and says what there is to say of all that it took, as scard_reader_feed and
+ * scard_reader_finish of a reader in a handle. The octets may not be in the state. `feed`: OK, MORE, AT. `finish`: OK
+ * with place 0, SHORT, AT. For a block also ARGUMENT (with place 0): `ifs` of the state is 0 or 255, and nothing
+ * changes.
+ */
+SCARD_MUST_USE
+struct scard_verdict scard_lent_block_reader_feed(struct scard_lent_block_reader *state,
+                                                  const uint8_t *octets, size_t count);
+SCARD_MUST_USE
+struct scard_verdict scard_lent_block_reader_finish(const struct scard_lent_block_reader *state);
+SCARD_MUST_USE
+struct scard_verdict scard_lent_atr_reader_feed(struct scard_lent_atr_reader *state,
+                                                const uint8_t *octets, size_t count);
+SCARD_MUST_USE
+struct scard_verdict scard_lent_atr_reader_finish(const struct scard_lent_atr_reader *state);
+
+/* The block, or the answer to reset, that a reader has, once it is whole: it is written to *out at OK. The place says
+ * how many octets it has: they are the first of `octets` of the state, and *out says where a block's information field
+ * is in them. OK, ARGUMENT (with place 0: it isn't whole).
+ */
+SCARD_MUST_USE
+struct scard_verdict scard_lent_block_reader_value(const struct scard_lent_block_reader *state,
+                                                   struct scard_block *out);
+SCARD_MUST_USE
+struct scard_verdict scard_lent_atr_reader_value(const struct scard_lent_atr_reader *state, struct scard_atr *out);
+
 /* ---- framing ---- */
 
 /* The most octets of a burst that are kept: one more than the longest block has. */
@@ -923,6 +977,183 @@ uint64_t scard_lent_framer_wait(const struct scard_lent_framer *framer, uint64_t
 /* How many octets at the front of `octets` an end is given once the burst ended: all of them, at most 259. */
 size_t scard_lent_framer_burst(const struct scard_lent_framer *framer);
 
+/* ---- a judge of the blocks on a line, without an allocator ---- */
+
+/* Judges each block that a line had: which end broke T=1, which rule, and what was due. A block is permitted where some
+ * course of what its sender may have heard permits it, since nobody sees on the line whether the other end got a block
+ * whole. docs/JUDGE.md has the rules.
+ */
+
+/* An end of the line. */
+enum scard_end {
+    SCARD_END_TERMINAL = 0,
+    SCARD_END_CARD = 1
+};
+
+/* How octets reached the other end. */
+enum scard_arrival {
+    SCARD_ARRIVAL_UNSAID = 0, /* nobody knows, as at a tap on the line */
+    SCARD_ARRIVAL_LOST = 1,   /* they didn't */
+    SCARD_ARRIVAL_CAME = 2    /* as the octets `came` */
+};
+
+enum scard_judged {
+    SCARD_JUDGED_PERMITTED = 0,
+    SCARD_JUDGED_DAMAGE = 1,   /* the octets are no block, by the check octet or the length: no end broke a rule */
+    SCARD_JUDGED_UNSEEN = 2,   /* permitted only if the block `before` was damaged or lost unseen */
+    SCARD_JUDGED_DEVIATION = 3 /* it breaks `rule`, and `due` was due */
+};
+
+/* Whether a card that owed a block sent none, in answer to the block `unanswered`. */
+enum scard_silence {
+    SCARD_SILENCE_NO = 0,
+    SCARD_SILENCE_POSSIBLE = 1, /* it sent none, and may not have got that block whole */
+    SCARD_SILENCE_CERTAIN = 2   /* it sent none, and got that block whole: it breaks SCARD_RULE_SILENCE */
+};
+
+/* The rules. The clauses are those of ISO/IEC 7816-3:2006. */
+enum scard_rule {
+    SCARD_RULE_NODE_ADDRESS = 1,        /* another node address than the first block set, or not swapped in an answer */
+    SCARD_RULE_CONTROL_OCTET = 2,       /* no block has this control octet */
+    SCARD_RULE_LENGTH = 3,              /* no block of its kind has a field of this length */
+    SCARD_RULE_RESERVED_SIZE = 4,       /* a size of 0 or 255 octets */
+    SCARD_RULE_FIELD_SIZE = 5,          /* a field with more octets than the other end takes */
+    SCARD_RULE_TURN = 6,                /* it is the other end's turn to send */
+    SCARD_RULE_FOREIGN_REQUEST = 7,     /* a card asks for RESYNCH, or a terminal for time */
+    SCARD_RULE_SEQUENCE_NUMBER = 8,     /* the wrong number */
+    SCARD_RULE_BLOCK_DUE = 9,           /* an I-block, or a request, is due */
+    SCARD_RULE_ACKNOWLEDGMENT_DUE = 10, /* the R-block that acknowledges a block of a chain is due */
+    SCARD_RULE_ERROR_CODE = 11,         /* an acknowledgment that reports an error */
+    SCARD_RULE_REPEAT_DUE = 12,         /* the last I-block is due once more */
+    SCARD_RULE_REPEATED_OCTETS = 13,    /* a repeated I-block has other octets */
+    SCARD_RULE_CORRECTION_DUE = 14,     /* an R-block after an error is due */
+    SCARD_RULE_REQUEST_DUE = 15,        /* the same request is due once more */
+    SCARD_RULE_RESPONSE_DUE = 16,       /* the response to a request is due */
+    SCARD_RULE_RESPONSE_OCTET = 17,     /* a response carries another size or multiple than its request */
+    SCARD_RULE_UNASKED = 18,            /* a response to no request */
+    SCARD_RULE_NO_CHAIN = 19,           /* ABORT outside a chain */
+    SCARD_RULE_EARLY_RESYNCH = 20,      /* RESYNCH before a block was repeated twice */
+    SCARD_RULE_TOO_MANY_REPEATS = 21,   /* a block was repeated as often as the standard permits already */
+    SCARD_RULE_SILENCE = 22             /* no block where one is owed */
+};
+
+/* What an end owed. */
+enum scard_owed {
+    SCARD_OWED_NOTHING_SAID = 0,      /* the block is no deviation */
+    SCARD_OWED_NEW_MESSAGE = 1,       /* the first I-block of a message, with the number `next` */
+    SCARD_OWED_NEXT_BLOCK = 2,        /* the next I-block of its chain, with the number `next` */
+    SCARD_OWED_ACKNOWLEDGMENT = 3,    /* the R-block with the number `expects` after a block of a chain */
+    SCARD_OWED_SAME_BLOCK = 4,        /* its last I-block once more, whose number is the other than `next` */
+    SCARD_OWED_CORRECTION = 5,        /* an R-block with the number `expects` after an error */
+    SCARD_OWED_REFUSAL = 6,           /* the same, to refuse an I-block that came whole */
+    SCARD_OWED_SAME_REQUEST = 7,      /* its request `asked` once more */
+    SCARD_OWED_RESYNCH_RESPONSE = 8,  /* the response to a request; `octet` is what that carried, else 0 */
+    SCARD_OWED_IFS_RESPONSE = 9,
+    SCARD_OWED_ABORT_RESPONSE = 10,
+    SCARD_OWED_WTX_RESPONSE = 11,
+    SCARD_OWED_EITHER_BLOCK = 12,     /* the first I-block of a message, or an R-block: after ABORT */
+    SCARD_OWED_ANY_BLOCK = 13         /* nobody knows, since the line damaged its last block */
+};
+
+/* A request of an end that waits for its response. */
+enum scard_asked {
+    SCARD_ASKED_NOTHING = 0,
+    SCARD_ASKED_IFS = 1,
+    SCARD_ASKED_WTX = 2,
+    SCARD_ASKED_ABORT = 3,
+    SCARD_ASKED_RESYNCH = 4
+};
+
+struct scard_due {
+    uint8_t owed;    /* enum scard_owed */
+    uint8_t octet;   /* the size or multiple that a response carries, else 0 */
+    uint8_t next;    /* the number of the end's next new I-block, 0 or 1 */
+    uint8_t expects; /* the number of the I-block that it expects, 0 or 1 */
+    uint8_t asked;   /* enum scard_asked */
+};
+
+/* What is said of a block, and of a card that sent none before it. Blocks are numbered from 1 over both ends. */
+struct scard_judgment {
+    scard_size number;     /* the number of this block */
+    scard_size before;     /* the number of the other end's last block, 0 before its first */
+    scard_size unanswered; /* the number of the block that the card didn't answer, or 0 */
+    uint8_t verdict;       /* enum scard_judged */
+    uint8_t rule;          /* enum scard_rule at a deviation, else 0 */
+    uint8_t silence;       /* enum scard_silence */
+    struct scard_due due;  /* all 0 unless it is a deviation */
+};
+
+/* The state of a judge that the caller keeps, 592 octets. Its fields are the library's own: `begin` writes them, and
+ * each call. Whatever octets a state has, a call is safe, and goes on from some state of a judge. These calls take no
+ * memory.
+ */
+struct scard_lent_sender {
+    uint8_t side;
+    uint8_t next;
+    uint8_t expects;
+    uint8_t pending;
+    uint8_t asked;
+    uint8_t asked_octet;
+    uint8_t before;
+    uint8_t before_octet;
+    uint8_t tries;
+    uint8_t room;
+    uint8_t first_room;
+    uint8_t known;
+    uint8_t aborted;
+};
+
+struct scard_lent_heard {
+    uint8_t kind;
+    uint8_t block;
+    uint8_t about;
+    uint8_t detail;
+    uint8_t octet;
+};
+
+struct scard_lent_watched {
+    scard_size number;
+    struct scard_lent_sender sender;
+    struct scard_lent_heard heard;
+    uint8_t last_len;
+    uint8_t last[254];
+};
+
+struct scard_lent_judge {
+    struct scard_lent_watched terminal;
+    struct scard_lent_watched card;
+    scard_size blocks;
+    uint8_t has_nad;
+    uint8_t nad;
+};
+
+/* Begins a judge at a reset of a card that takes fields of up to `ifsc` octets, 1 to 254, whatever the state was. OK
+ * with place 0, ARGUMENT (`ifsc` is 0 or 255): then nothing changes.
+ */
+SCARD_MUST_USE
+struct scard_verdict scard_lent_judge_begin(struct scard_lent_judge *state, uint8_t ifsc);
+
+/* Judges the octets that were on the line as one block of an end, enum scard_end. `arrival`, enum scard_arrival, says
+ * how they reached the other end; `came` is read at SCARD_ARRIVAL_CAME alone. OK with place 0, ARGUMENT (another end or
+ * arrival): then nothing changes.
+ */
+SCARD_MUST_USE
+struct scard_verdict scard_lent_judge_block(struct scard_lent_judge *state, uint8_t from,
+                                            const uint8_t *octets, size_t count, uint8_t arrival,
+                                            const uint8_t *came, size_t came_count, struct scard_judgment *out);
+
+/* The terminal's waiting time ended: the silence of the card, where it owed a block. The rest of *out is 0. */
+void scard_lent_judge_quiet(struct scard_lent_judge *state, struct scard_judgment *out);
+
+/* Whether the card owes a block now, as at the end of a recording. The rest of *out is 0, and nothing changes. */
+void scard_lent_judge_finish(const struct scard_lent_judge *state, struct scard_judgment *out);
+
+/* Write where a text is: what breaks a rule ("sequence number"), and its clause in ISO/IEC 7816-3:2006
+ * ("11.6.2.3 rule 2.2"). It is "" where no rule has this number.
+ */
+void scard_judge_rule_text(uint8_t rule, struct scard_text *out);
+void scard_judge_clause_text(uint8_t rule, struct scard_text *out);
+
 /* ---- the structs ---- */
 
 /* The structs above, for scard_struct_size. */
@@ -949,7 +1180,15 @@ enum scard_struct {
     SCARD_STRUCT_TEXT = 20,
     SCARD_STRUCT_ENTRY = 21,
     SCARD_STRUCT_NOTE = 22,
-    SCARD_STRUCT_LENT_FRAMER = 23
+    SCARD_STRUCT_LENT_FRAMER = 23,
+    SCARD_STRUCT_LENT_BLOCK_READER = 24,
+    SCARD_STRUCT_LENT_ATR_READER = 25,
+    SCARD_STRUCT_LENT_SENDER = 26,
+    SCARD_STRUCT_LENT_HEARD = 27,
+    SCARD_STRUCT_LENT_WATCHED = 28,
+    SCARD_STRUCT_LENT_JUDGE = 29,
+    SCARD_STRUCT_DUE = 30,
+    SCARD_STRUCT_JUDGMENT = 31
 };
 
 /* How many octets a struct has in the library, to be compared with its sizeof; 0 for any other number. */
