@@ -40,7 +40,8 @@ fn needs_file(request: &Request) -> bool
 {
     match request {
         Request::Tell(_, given) | Request::BuildTidy(given) => is_read(given),
-        Request::File(_) | Request::Record(_) | Request::SimulateLines(_) => true,
+        Request::File(_) | Request::Record(_) | Request::Judge { .. } | Request::SimulateLines(_) =>
+            true,
         _ => false,
     }
 }
