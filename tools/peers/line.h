@@ -35,6 +35,13 @@ struct host {
 /* A new card with this information size and this host. */
 void new_card(uint8_t ifsc, struct host host);
 
+/* Hears each block on the line beside the ends: whose it is (enum scard_end), its octets, and those that came of them,
+ * 0 where nothing came. */
+typedef void tap(int from, const uint8_t *sent, size_t count, const uint8_t *came, size_t came_count);
+
+/* From now on this one hears the line. */
+void tap_line(tap *hears);
+
 /* libccid's terminal; a block that doesn't come is told to it as a card that is mute, or as an error of parity. */
 extern struct terminal libccid_mute, libccid_parity;
 
