@@ -8,7 +8,7 @@ from stack import TOP, folder_of
 PAGE = TOP / "docs/BELIEVE.md"
 MARK = "-- to be believed"
 EMV = "EMV 4.3 Book 3"
-CLAUSE = re.compile(r"\b\d{1,2}(?:\.\d{1,2})+\b|(?<=clause )\d+\b")
+CLAUSE = re.compile(r"\b[1-9]\d?(?:\.[1-9]\d?)+\b(?!\.\d)|(?<=clause )\d+\b")
 HEAD = """\
 # What has to be believed
 
