@@ -1,6 +1,6 @@
 /* A program that has no functions for memory: it is linked with `-lscard` and no flag, and tools/test-c looks at what
- * it wants. A session of both ends over lent buffers, a check and the parts of a forest, a list that is read and filled,
- * a receiver of a chain, a reader of a block, a command and a response, hexadecimal text, and the LRC.
+ * it wants. A session of both ends over lent buffers, a check, the parts and the tidy form of a forest, a list that is
+ * read and filled, a receiver of a chain, a reader of a block, a command and a response, hexadecimal text, and the LRC.
  */
 #include "scard.h"
 
@@ -58,16 +58,19 @@ static int forest(void)
         && scard_lent_check_finish(&check).status == SCARD_OK;
 }
 
-/* Whether the parts of a forest and the entries of a list are found. */
+/* Whether the parts of a forest and the entries of a list are found, and both are written. */
 static int objects(void)
 {
     static const uint8_t octets[] = {0x6F, 0x03, 0x84, 0x01, 0xAA}, list[] = {0x9F, 0x02, 0x06, 0x95, 0x05};
+    static const uint8_t loose[] = {0x00, 0x6F, 0x82, 0x00, 0x05, 0x00, 0x84, 0x81, 0x01, 0xAA};
     struct scard_part parts[2];
     struct scard_entry entries[2];
     struct scard_known known = {{{0x9F, 0x02, 0x00}, 2}, SCARD_NUMERIC, done, sizeof done};
     return scard_tlv_parts(octets, sizeof octets, sizeof octets, parts, 2).status == SCARD_OK
         && parts[1].place == 4 && parts[1].len == 1
         && scard_tlv_first(parts, 2, &parts[0].tag, 1) == 0
+        && scard_tlv_tidy(loose, sizeof loose, sizeof loose, block, sizeof block).place == sizeof octets
+        && memcmp(block, octets, sizeof octets) == 0
         && scard_dol_check(list, sizeof list).status == SCARD_OK
         && scard_dol_entries(list, sizeof list, entries, 2).status == SCARD_OK
         && entries[1].tag.octets[0] == 0x95 && entries[1].len == 5

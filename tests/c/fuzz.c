@@ -100,8 +100,7 @@ static int again(const uint8_t *octets, size_t count)
     return good;
 }
 
-#ifndef WITHOUT_HANDLES
-/* The same of the calls that take memory: an encoder gives the octets that were decoded, and tidy twice is once. */
+/* The same of the calls that write: an encoder gives the octets that were decoded, and tidy twice is once. */
 static int encodes(const uint8_t *octets, size_t count)
 {
     uint8_t out[MOST], twice[MOST];
@@ -126,7 +125,6 @@ static int encodes(const uint8_t *octets, size_t count)
     }
     return good;
 }
-#endif
 
 /* What a receiver says of a chain in two pieces; the message is in the buffer. */
 static struct scard_verdict received(struct scard_lent_receiver *receiver, uint8_t *message, size_t room,
@@ -196,9 +194,7 @@ int main(void)
     for (input = 0; input < INPUTS; input++) {
         size_t count = make(octets, samples, sample_count);
         CHECK(again(octets, count));
-#ifndef WITHOUT_HANDLES
         CHECK(encodes(octets, count));
-#endif
         CHECK(joins(octets, count));
     }
     for (input = 0; input < sample_count; input++) {

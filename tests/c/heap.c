@@ -52,20 +52,19 @@ void rattle_dealloc(void *at)
 /* All the calls that take memory work with so much of it, or say that it isn't enough, and give back what they took. */
 static unsigned with(size_t room)
 {
-    static uint8_t block[SCARD_BLOCK_ROOM], octets[64], forest[] = {0x6F, 0x04, 0x84, 0x02, 0x00, 0x01, 0x50, 0x00};
+    static uint8_t block[SCARD_BLOCK_ROOM], octets[64];
     struct scard_handle end = SCARD_HANDLE_EMPTY, reader = SCARD_HANDLE_EMPTY;
-    struct scard_verdict verdicts[3];
+    struct scard_verdict verdicts[2];
     unsigned good = 0, at;
     limit = room;
-    verdicts[0] = scard_tlv_tidy(forest, sizeof forest, 100, octets, sizeof octets);
-    verdicts[1] = scard_receiver_open(&reader, 254, 0, 300);
-    verdicts[2] = scard_terminal_open(&end, 32, 4, 5);
-    for (at = 0; at < 3; at++) {
+    verdicts[0] = scard_receiver_open(&reader, 254, 0, 300);
+    verdicts[1] = scard_terminal_open(&end, 32, 4, 5);
+    for (at = 0; at < 2; at++) {
         CHECK(verdicts[at].status == SCARD_OK || verdicts[at].status == SCARD_MEMORY);
         good += verdicts[at].status == SCARD_OK;
     }
     CHECK(scard_terminal_transmit(&end, octets, 5, block, sizeof block).kind
-          == (verdicts[2].status == SCARD_OK ? SCARD_SEND : SCARD_NO_END));
+          == (verdicts[1].status == SCARD_OK ? SCARD_SEND : SCARD_NO_END));
     scard_close(&reader);
     scard_close(&end);
     CHECK(held == 0 && used == 0 && wrong == 0);
@@ -82,6 +81,6 @@ int main(void)
         CHECK(good >= before);
         before = good;
     }
-    CHECK(before == 3);
+    CHECK(before == 2);
     return verdict_of_checks("heap");
 }

@@ -3,8 +3,6 @@
  */
 #include "check.h"
 
-enum { ROOM = 64 };
-
 #ifdef __cplusplus
 extern "C" {
 #endif
@@ -51,74 +49,12 @@ void __wrap_free(void *block)
     __real_free(block);
 }
 
-/* ---- calls that write to a buffer ---- */
-
 static const uint8_t amount[] = {0x9F, 0x02};
 static const uint8_t forest[] = {0x00, 0x6F, 0x81, 0x06, 0xA5, 0x04, 0x00, 0x84, 0x01, 0xAA};
-
-static struct scard_verdict tidy(uint8_t *out, size_t room)
-{
-    return scard_tlv_tidy(forest, sizeof forest, SCARD_TLV_LARGEST, out, room);
-}
-
-struct task {
-    struct scard_verdict (*make)(uint8_t *out, size_t room);
-    const char *wanted; /* what the buffer begins with once it is done */
-    size_t place;
-};
-
-static const struct task tasks[] = {
-    {tidy, "6F05A5038401AA", 7},
-};
-
-static int is_untouched(const uint8_t *octets, size_t count)
-{
-    size_t place;
-    for (place = 0; place < count; place++) {
-        if (octets[place] != 0x55) {
-            return 0;
-        }
-    }
-    return 1;
-}
-
-/* Makes the call with its allocation `turn` refused, 0 for none. */
-static struct scard_verdict with_refusal(const struct task *task, long turn, uint8_t *out)
-{
-    struct scard_verdict v;
-    memset(out, 0x55, ROOM);
-    refused = 0;
-    to_go = turn;
-    v = task->make(out, ROOM);
-    to_go = 0;
-    return v;
-}
-
-static int is_done(const struct task *task, struct scard_verdict v, const uint8_t *out)
-{
-    size_t count = strlen(task->wanted) / 2;
-    return v.status == SCARD_OK && v.place == task->place && is_hex(out, count, task->wanted)
-           && is_untouched(out + count, ROOM - count);
-}
 
 static int is_memory(struct scard_verdict v)
 {
     return v.status == SCARD_MEMORY && v.reason == 0 && v.place == 0;
-}
-
-static void try_task(const struct task *task)
-{
-    uint8_t out[ROOM];
-    struct scard_verdict v;
-    long turn = 1, before = held;
-    while (v = with_refusal(task, turn, out), refused) {
-        CHECK(is_memory(v) && is_untouched(out, ROOM) && held == before);
-        v = with_refusal(task, 0, out);
-        CHECK(is_done(task, v, out) && held == before);
-        turn++;
-    }
-    CHECK(is_done(task, v, out) && held == before);
-    CHECK(turn > 1);
 }
 
 /* ---- calls that open a handle ---- */
@@ -224,6 +160,7 @@ static void take_none(void)
     CHECK(scard_reader_feed(&terminal, forest, sizeof forest).status == SCARD_MORE);
     CHECK(scard_reader_finish(&terminal).status == SCARD_OK);
     CHECK(scard_tlv_check(forest, sizeof forest, SCARD_TLV_LARGEST).status == SCARD_OK);
+    CHECK(scard_tlv_tidy(forest, sizeof forest, SCARD_TLV_LARGEST, sent, sizeof sent).place == 7);
     CHECK(!refused);
     to_go = 0;
     scard_close(&terminal);
@@ -233,11 +170,7 @@ static void take_none(void)
 
 int main(void)
 {
-    size_t task;
     int open;
-    for (task = 0; task < sizeof tasks / sizeof tasks[0]; task++) {
-        try_task(&tasks[task]);
-    }
     for (open = 0; open < OPENINGS; open++) {
         try_opening(openings[open], 0);
         try_opening(openings[open], 1);

@@ -492,7 +492,7 @@ int main(void)
     bounded("forests: parts", tlv_parts, 2048);
     CHECK(verdict.status == SCARD_OK && parts[verdict.place - 1].depth == 16);
     bounded("forests: first", tlv_first, 1024);
-    bounded("forests: tidy", tlv_tidy, 8192);
+    bounded("forests: tidy", tlv_tidy, 2048);
     bounded("data object lists", lists, 2048);
     CHECK(verdict.status == SCARD_OK);
     bounded("hexadecimal text", hexadecimal, 1024);

@@ -182,7 +182,6 @@ static void cut(const struct row *row)
     free(message.at);
 }
 
-#ifndef WITHOUT_HANDLES
 /* The answer to `build tidy HEX`. */
 static void tidy(const struct row *row)
 {
@@ -246,8 +245,8 @@ static void fill(const struct row *row)
     free(list.at);
 }
 
-/* The answers of calls that take memory: whether the line is of one. */
-static int with_memory(const struct row *row)
+/* The answers of calls that write tidy forms and filled lists: whether the line is of one. */
+static int with_objects(const struct row *row)
 {
     if (row->count == 3 && strcmp(row->words[1], "tidy") == 0) {
         tidy(row);
@@ -259,13 +258,6 @@ static int with_memory(const struct row *row)
     }
     return 0;
 }
-#else
-static int with_memory(const struct row *row)
-{
-    (void)row;
-    return 0;
-}
-#endif
 
 /* The number after an option, in the same word or the next; 0 where the word is another. */
 static int takes(const char *option, char **word, int *number)
@@ -310,7 +302,7 @@ static int try_line(const char *file, int number, char *line)
         check_kind(&row);
     } else if (row.count == 5 && strcmp(row.words[0], "build") == 0 && strcmp(row.words[1], "chain") == 0) {
         cut(&row);
-    } else if (row.count == 0 || strcmp(row.words[0], "build") != 0 || !with_memory(&row)) {
+    } else if (row.count == 0 || strcmp(row.words[0], "build") != 0 || !with_objects(&row)) {
         return 0;
     }
     CHECK(strcmp(said, row.text) == 0);

@@ -51,9 +51,11 @@ pub record SaysAtr (c : CAtr) : Type 0 where
   pub historical : c.historical_count ≤ 15
   pub proper : IsProper (atr_of c)
 
--- the octets begin with the answer that the struct says
+-- the octets begin with the answer that the struct says, whose counts fit into its arrays
 pub record IsDecoded (octets : List ℕ) (v : Verdict) (out : CAtr) : Type 0 where
   pub accepts : Accepts self_ended IsAtr octets (atr_of out) v.place
+  pub indicated : out.indicated_count ≤ 31
+  pub historical : out.historical_count ≤ 15
   pub tck_is : byte_of out.has_tck out.tck ≡ tck_of (atr_of out)
 
 -- the parameters of T=1 that the struct says

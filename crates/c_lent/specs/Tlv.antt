@@ -1,7 +1,10 @@
 -- Data objects as C sees them.
 use Rattle.std.specs.Prelude.{ℕ, List}
 use Rattle.tlv_core.specs.Tree.{Tree}
-use Rattle.tlv_core.specs.Forest.{IsForest}
+use Rattle.tlv_core.specs.Forest.{IsForest, largest}
+use Rattle.tlv_core.specs.Tidy.{tidy}
+use Rattle.c_lent.specs.Verdict.{Puts}
+use Rattle.c_lent.specs.declared.verdict.Verdict.{Verdict}
 use Rattle.tlv_core.specs.declared.reason.TlvReason.{TlvReason}
 use Rattle.tlv_core.specs.declared.reason.TlvReason.TheVariants.{TooDeep, TagSecond, TagLong, LengthForm, Overrun, TooLong}
 use Rattle.tlv_core.specs.declared.reason.DolReason.{DolReason}
@@ -23,3 +26,7 @@ dol_reason dol.TagLong = 3
 -- all the octets are a forest
 abbrev pub IsSomeForest : ℕ → List ℕ → Type 0
 IsSomeForest max octets = (t : Tree) × IsForest max t octets
+
+-- the tidy form of the forest that all the octets are is put into the buffer
+abbrev pub IsTidied : ℕ → List ℕ → List ℕ → List ℕ → Verdict → Type 0
+IsTidied max octets old new v = (t : Tree) × IsForest max t octets × Puts (IsForest largest (tidy t)) old new v

@@ -2,8 +2,6 @@
 use Rattle.std.specs.Prelude.{◌≡◌, ℕ, ◌≤◌, List, [], ◌∷◌, ◌++◌, length, drop, nat_le, if◌then◌else◌, Bool, true, false, Result, Ok, Err}
 use Rattle.octet_core.specs.declared.stop.Stop.{Stop}
 use Rattle.octet_core.specs.declared.stop.Stop.TheVariants.{Short, At}
-use Rattle.octet_core.specs.declared.stop.Refused.{Refused}
-use Rattle.octet_core.specs.declared.stop.Refused.TheVariants as refusal
 use Rattle.c_lent.specs.declared.verdict.Verdict.{Verdict}
 
 -- accepted, or written: so many octets
@@ -26,11 +24,6 @@ twice_known = record { status = 5; reason = 0; place = 0 }
 abbrev pub told : {R : Type 0} → (R → ℕ) → Stop R → Verdict
 told number (Short place) = record { status = 1; reason = 0; place = place }
 told number (At place reason) = record { status = 2; reason = number reason; place = place }
-
--- what C is told of a refusal by a call that may be out of memory
-abbrev pub told_refused : {R : Type 0} → (R → ℕ) → Refused R → Verdict
-told_refused number (refusal.Stop stop) = told number stop
-told_refused number refusal.Memory = no_memory
 
 -- all octets of the piece were taken, and more must come
 abbrev pub more_at : ℕ → Verdict

@@ -222,6 +222,8 @@ fn listed(given: &[CIndicated]) -> ArrayVec<Indicated, 31>
 pub fn seen(atr: &Atr) -> CAtr
     ensures atr { atr_of result ≡ atr.now }
     ensures tck { byte_of result.has_tck result.tck ≡ tck_of atr.now }
+    ensures indicated { result.indicated_count ≤ 31 }
+    ensures historical { result.historical_count ≤ 15 }
 {
     let listed = listed_seen(atr.indicated());
     let mut indicated = [CIndicated::default(); 31];

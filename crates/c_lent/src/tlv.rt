@@ -4,11 +4,11 @@ ghost use Rattle.std.specs.Prelude.{◌≡◌, ◌≢◌, ◌≤◌, ◌<◌, le
 ghost use Rattle.octet_core.specs.Grammar.{whole, Refuses};
 ghost use Rattle.tlv_core.specs.Forest.{IsForest, largest};
 ghost use Rattle.tlv_core.specs.Reasons.{IsReason};
-ghost use Rattle.c_lent.specs.Verdict.{Tells, ok_at, wrong_argument};
-ghost use Rattle.c_lent.specs.Tlv.{tlv_reason, dol_reason, IsSomeForest};
+ghost use Rattle.c_lent.specs.Verdict.{IsRefusal, Tells, ok_at, wrong_argument};
+ghost use Rattle.c_lent.specs.Tlv.{tlv_reason, dol_reason, IsSomeForest, IsTidied};
 
 use crate::verdict::{Numbered, Verdict};
-use tlv_core::{DolReason, ForestCheck, LARGEST_FOREST, TlvReason};
+use tlv_core::{DolReason, ForestCheck, LARGEST_FOREST, TlvReason, put_tidy};
 
 /// The verdict on octets as a forest of data objects, at most `max` octets.
 pub fn tlv_check(octets: &[u8], max: usize) -> Verdict
@@ -27,6 +27,27 @@ pub fn tlv_check(octets: &[u8], max: usize) -> Verdict
     }
     match check.finish() {
         Ok(()) => Verdict::ok(octets.len()),
+        Err(stop) => Verdict::stopped(stop),
+    }
+}
+
+/// Writes the tidy form of a forest of at most `max` octets: the same objects without fillers, each
+/// length in its shortest form.
+///
+/// It goes over the octets twice, and moves those of an object once for each object that it is in.
+pub fn tlv_tidy(octets: &[u8], max: usize, out: &mut [u8]) -> Verdict
+    ensures tidied { max ≤ largest → (IsRefusal result → ⊥) →
+        IsTidied max octets.now out.old out.new result }
+    ensures refused { IsRefusal result →
+        Tells tlv_reason (Refuses whole (IsForest max) (IsReason max) octets.now) result }
+    ensures argument { largest < max → result ≡ wrong_argument 0 }
+    ensures stays { result.status ≢ 0 → out.new ≡ out.old }
+{
+    if max > LARGEST_FOREST {
+        return Verdict::argument();
+    }
+    match put_tidy(octets, max, out) {
+        Ok(count) => Verdict::put(count, out.len()),
         Err(stop) => Verdict::stopped(stop),
     }
 }

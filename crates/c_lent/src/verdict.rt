@@ -1,9 +1,9 @@
 //! Verdicts as C sees them.
 
 ghost use Rattle.std.specs.Prelude.{◌≡◌, ℕ, if◌then◌else◌, nat_le};
-ghost use Rattle.c_lent.specs.Verdict.{ok_at, no_memory, wrong_argument, twice_known, told, told_refused, more_at, told_fed, told_end};
+ghost use Rattle.c_lent.specs.Verdict.{ok_at, no_memory, wrong_argument, twice_known, told, more_at, told_fed, told_end};
 
-use octet_core::{Refused, Stop};
+use octet_core::Stop;
 
 /// The octets are a spelling of `place` octets, or so many were written.
 pub const OK: u8 = 0;
@@ -157,16 +157,6 @@ impl Verdict {
                 reason: reason.number(),
                 place,
             },
-        }
-    }
-
-    /// A refusal, or out of memory.
-    pub fn refused<R: Numbered + Drop>(refused: Refused<R>) -> Verdict
-        ensures { result ≡ told_refused R.number refused }
-    {
-        match refused {
-            Refused::Stop(stop) => Verdict::stopped(stop),
-            Refused::Memory => Verdict::memory(),
         }
     }
 }

@@ -1,4 +1,3 @@
-pub mod Tlv
 pub mod Held
 pub mod Ends
 pub mod Calls

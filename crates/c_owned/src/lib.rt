@@ -1,5 +1,4 @@
-//! What the library for C does with memory of the program: what it makes tidy, and the ends and readers that handles
-//! hold.
+//! What the library for C does with memory of the program: the ends and readers that handles hold.
 //!
 //! scard_c exports each call that C makes, under its name after `scard_`, and says of it what a caller has to know.
 #![tactic(auto)]
@@ -11,4 +10,3 @@ pub mod handle;
 mod loose;
 pub mod reader;
 pub mod readers;
-pub mod tlv;

@@ -3,4 +3,3 @@
 
 pub mod ends;
 pub mod readers;
-pub mod tlv;

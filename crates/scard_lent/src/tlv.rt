@@ -4,8 +4,8 @@ ghost use Rattle.std.specs.Prelude.{◌≡◌, ◌≢◌, ◌≤◌, ◌<◌, le
 ghost use Rattle.octet_core.specs.Grammar.{whole, Refuses};
 ghost use Rattle.tlv_core.specs.Forest.{IsForest, largest};
 ghost use Rattle.tlv_core.specs.Reasons.{IsReason};
-ghost use Rattle.c_lent.specs.Verdict.{Tells, ok_at, wrong_argument};
-ghost use Rattle.c_lent.specs.Tlv.{tlv_reason, IsSomeForest};
+ghost use Rattle.c_lent.specs.Verdict.{IsRefusal, Tells, ok_at, wrong_argument};
+ghost use Rattle.c_lent.specs.Tlv.{tlv_reason, IsSomeForest, IsTidied};
 
 use c_lent::verdict::Verdict;
 
@@ -21,4 +21,21 @@ pub extern "C" fn scard_tlv_check(octets: &[u8], max: usize) -> Verdict
     ensures argument { largest < max → result ≡ wrong_argument 0 }
 {
     c_lent::tlv::tlv_check(octets, max)
+}
+
+/// Writes the tidy form of a forest of at most `max` octets: the same objects without fillers, each length
+/// in its shortest form. No forest that says the same has fewer octets, so the room of the octets suffices. It takes no
+/// memory.
+///
+/// `ARGUMENT` with place 0 where `max` is above 1,048,576.
+#[unsafe(no_mangle)]
+pub extern "C" fn scard_tlv_tidy(octets: &[u8], max: usize, out: &mut [u8]) -> Verdict
+    ensures tidied { max ≤ largest → (IsRefusal result → ⊥) →
+        IsTidied max octets.now out.old out.new result }
+    ensures refused { IsRefusal result →
+        Tells tlv_reason (Refuses whole (IsForest max) (IsReason max) octets.now) result }
+    ensures argument { largest < max → result ≡ wrong_argument 0 }
+    ensures stays { result.status ≢ 0 → out.new ≡ out.old }
+{
+    c_lent::tlv::tlv_tidy(octets, max, out)
 }

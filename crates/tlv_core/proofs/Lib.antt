@@ -30,6 +30,8 @@ pub mod Grows
 pub mod Placing
 pub mod Flattening
 pub mod Valued
+pub mod TidyForms
+pub mod TidyKept
 pub mod Walked
 pub mod Entering
 pub mod AtOnce

@@ -3,7 +3,7 @@ use Rattle.std.proofs.Common.{◌≡◌, ℕ, ◌+◌, ◌<◌, ◌≤◌, List,
 use Rattle.tlv_core.specs.Tag.{length_field, header_of}
 use Rattle.tlv_core.specs.Form.{shortest, capacity, further}
 use Rattle.tlv_core.specs.Tree.{Tree, End, Filler, Primitive, Constructed}
-use Rattle.tlv_core.specs.Forest.{spelling, IsProper}
+use Rattle.tlv_core.specs.Forest.{spelling, IsProper, HasSpelling}
 use Rattle.tlv_core.specs.Tidy.{tidy, Said, said, TidyLaws}
 use Rattle.tlv_core.specs.declared.form.Form.{Form}
 use Rattle.tlv_core.proofs.Forms.{length-field, best}
@@ -73,6 +73,11 @@ shorter d (Constructed tag form nodes rest) h =
         size tag form (length (spelling nodes)) (spelling nodes) (spelling rest),
       ),
     )
+
+-- so the tidy form of a forest is one
+pub tidy_spelling : (max : ℕ) (t : Tree) → HasSpelling max t → HasSpelling max (tidy t)
+tidy_spelling max t h = let s = shorter 1 t h.proper in
+    record { proper = s.0; is = refl; size = omega (arith, s.1, h.size) }
 
 -- ---- what is said makes the tidy form
 

@@ -29,6 +29,7 @@ pub mod Checking
 pub mod Lent
 pub mod Led
 pub mod Grown
+pub mod TidyForm
 pub mod Read
 pub mod Same
 pub mod Names

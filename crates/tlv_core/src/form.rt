@@ -1,6 +1,6 @@
 //! The forms of a length field.
 
-ghost use Rattle.std.specs.Prelude.{◌≡◌, ℕ, ◌+◌, ◌<◌, ◌≤◌, length, MatchOption};
+ghost use Rattle.std.specs.Prelude.{◌≡◌, ℕ, ◌+◌, ◌^◌, ◌<◌, ◌≤◌, length, MatchOption};
 ghost use Rattle.tlv_core.specs.Reasons.{BeginsLength};
 
 use arrayvec::ArrayVec;
@@ -96,6 +96,14 @@ impl Form {
         };
         all.unwrap();
         octets
+    }
+
+    /// The shortest length field that says `len`: one to five octets.
+    pub(crate) fn shortest_field(len: usize) -> ArrayVec<u8, 5>
+        requires { len < 2 ^ 32 }
+        ensures { result.items ≡ length_field (shortest len) len }
+    {
+        Form::shortest(len).field(len)
     }
 
     /// The form of fewest octets that can say the length.

@@ -35,6 +35,7 @@ pub mod spelling;
 mod survey;
 pub mod tag;
 mod tag_part;
+pub mod tidy_form;
 pub mod tidying;
 mod walk;
 
@@ -58,4 +59,5 @@ pub use reader::ForestReader;
 pub use reason::{DolReason, TlvReason};
 pub use spelling::encode;
 pub use tag::Tag;
+pub use tidy_form::put_tidy;
 pub use tidying::tidy;

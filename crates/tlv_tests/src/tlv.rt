@@ -19,6 +19,7 @@ mod lent;
 mod parts;
 mod pieces;
 mod printed;
+mod tidied;
 
 /// Octets that are no tag.
 const NO_TAGS: [&[u8]; 6] = [
