@@ -11,6 +11,7 @@ HEAD = re.compile(rf"""(?P<shown>pub(?:\(\w+\))? )?"""
                   rf"""(?:(?:const |unsafe |extern "C" )*(?P<fn>fn) |(?P<kind>{KINDS})\b)""")
 NAME = re.compile(r"(?:fn|struct|enum|trait|const|static|type|mod) (\w+)")
 IMPL = re.compile(r"impl(?:<.*?>)? (?:(?P<trait>[\w:]+(?:<.*>)?) for )?&?(?P<type>\w+)")
+STRING = re.compile(r'"(?:\\.|[^"\\])*"', re.S)
 CLAUSE = re.compile(r" *(?:ensures|requires)\*?(?: (\w+))? \{")
 CITED = re.compile(r"ghost use Rattle\.(\w+)\.specs\.((?!declared)[\w.]+?)(?:\.\{(.*)\})?(?: as .*)?;")
 
@@ -158,8 +159,8 @@ def function_span(lines, at, indent):
 
 
 def opened(lines):
-    """For each kind of bracket how many are open after some lines."""
-    text = "\n".join(lines)
+    """For each kind of bracket how many are open after some lines, but for those in strings."""
+    text = STRING.sub("", "\n".join(lines))
     return [text.count(a) - text.count(b) for a, b in ("()", "{}", "[]")]
 
 

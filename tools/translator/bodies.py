@@ -7,7 +7,8 @@ access to it is known to lie in it, and `at` of machine.h is called once for all
 
 import dataclasses
 
-from loops import exclusive_or
+from loops import ALL, Sum, exclusive_or
+from near import Near
 from wasm import (BLOCK, BR, BR_IF, BR_TABLE, CALL, DROP, ELSE, END, GLOBAL_GET, GLOBAL_SET, I32, I32_CONST, I64,
                   I64_CONST, IF, LOCAL_GET, LOCAL_SET, LOCAL_TEE, LOOP, MEMORY_COPY, MEMORY_FILL, NO_RESULT, NOP,
                   RETURN, SELECT, UNREACHABLE, Unfit)
@@ -15,6 +16,8 @@ from wasm import (BLOCK, BR, BR_IF, BR_TABLE, CALL, DROP, ELSE, END, GLOBAL_GET,
 TYPES = {I32: "u32", I64: "u64"}
 BITS = {I32: 32, I64: 64}
 LONGEST = 90
+# what is never so
+NEVER = "0u"
 
 # the orders, by the place after the first of a type: how they compare, and whether the numbers have a sign
 COMPARED = [("==", 0), ("!=", 0), ("<", 1), ("<", 0), (">", 1), (">", 0), ("<=", 1), ("<=", 0), (">=", 1), (">=", 0)]
@@ -23,6 +26,8 @@ OPPOSITE = {"==": "!=", "!=": "==", "<": ">=", ">": "<=", "<=": ">", ">=": "<"}
 MADE = ["{a} + {b}", "{a} - {b}", "{a} * {b}", None, "quotient{n}({a}, {b})", None, "rest{n}({a}, {b})", "{a} & {b}",
         "{a} | {b}", "{a} ^ {b}", "{a} << {c}", "signed_right{n}({a}, {b})", "{a} >> {c}", "left{n}({a}, {b})",
         "right{n}({a}, {b})"]
+# those that make a sum
+ADDED = {MADE[0]: 1, MADE[1]: -1}
 COUNTED = ["leading{n}({a})", "trailing{n}({a})", "ones{n}({a})"]
 # loads and stores: the type, how many bits are moved, and the bits of a number whose sign is spread
 LOADED = {0x28: (I32, 32, 0), 0x29: (I64, 64, 0), 0x2C: (I32, 8, 8), 0x2D: (I32, 8, 0), 0x2E: (I32, 16, 16),
@@ -35,7 +40,8 @@ SPREAD = {0xC0: (I32, 8), 0xC1: (I32, 16), 0xC2: (I64, 8), 0xC3: (I64, 16), 0xC4
 @dataclasses.dataclass
 class Value:
     """A value on the stack: how C says it, its type, the variables that it is made of, whether memory is read for it;
-    and where it says whether something is so, the words of that and of the opposite."""
+    where it says whether something is so, the words of that and of the opposite; and where it is a sum of variables and
+    a number, that."""
 
     text: str
     type: int
@@ -43,6 +49,7 @@ class Value:
     reads: bool = False
     is_plain: bool = True
     holds: tuple = None
+    sum: Sum = None
 
     def part(self):
         """The value as a part of an expression."""
@@ -52,7 +59,7 @@ class Value:
 @dataclasses.dataclass
 class Block:
     """A block that is open: which instruction began it, its label, the values below it, its result, and whether
-    anything jumps to the label or can come here."""
+    anything jumps to the label or can come here; and what is known of places on each way that leads to its end."""
 
     code: int
     label: int
@@ -61,6 +68,7 @@ class Block:
     is_used: bool = False
     is_reached: bool = True
     is_folded: bool = False
+    known: list = dataclasses.field(default_factory=list)
 
 
 def constant(number, kind):
@@ -100,6 +108,12 @@ def loops_of(body):
     return found
 
 
+def set_in_loop(body, at):
+    """The variables that the loop which begins at an instruction sets."""
+    end = dict(loops_of(body))[at]
+    return {said for code, said in body[at:end] if code in (LOCAL_SET, LOCAL_TEE)}
+
+
 def own_frame(function):
     """Gives the place of the frame a variable of its own, where the compiler sets the one for it again later: that is
     read where no later set can have come before, as one in the same loop."""
@@ -136,9 +150,9 @@ def looks_at_stack(body, at):
 class Writer:
     """Writes one function."""
 
-    def __init__(self, module, place, names):
+    def __init__(self, module, place, names, plan=None):
         self.module, self.function, self.names = module, module.functions[place], names
-        self.place = place
+        self.place, self.near, self.at = place, Near(plan), 0
         self.types = [*self.function.takes, *self.function.variables]
         self.frames = kept(self.function)
         self.lines, self.stack, self.blocks, self.used = [], [], [], set()
@@ -195,11 +209,11 @@ class Writer:
     def write(self):
         """The lines of the function's body."""
         self.blocks.append(Block(BLOCK, 0, 0, self.function.gives))
-        for at, (code, said) in enumerate(self.function.body):
+        for self.at, (code, said) in enumerate(self.function.body):
             if self.dead:
                 self.skip(code)
             else:
-                self.one(code, said, at)
+                self.one(code, said)
         if not self.dead and self.function.gives:
             self.say(f"return {self.pop().text};")
         return self.lines
@@ -214,10 +228,12 @@ class Writer:
                 self.blocks[-1].is_reached = False
                 self.end() if code == END else self.otherwise()
 
-    def one(self, code, said, at):
+    def one(self, code, said):
         """An instruction."""
+        if code in RUN_ENDS:
+            self.near.ended()
         if code in (BLOCK, LOOP, IF):
-            self.begin(code, said, at)
+            self.begin(code, said)
         elif code == END:
             self.end()
         elif code == ELSE:
@@ -233,7 +249,7 @@ class Writer:
         else:
             self.count(code)
 
-    def begin(self, code, gives, at):
+    def begin(self, code, gives):
         """A block, a loop or a condition."""
         if gives not in (NO_RESULT, I32, I64):
             raise Unfit("a block takes something, or has several results")
@@ -242,16 +258,20 @@ class Writer:
         self.labels += 1
         block = Block(code, self.labels, len(self.stack), [] if gives == NO_RESULT else [gives])
         if code == LOOP:
-            block.is_folded = self.folded(block, at)
+            for name in set_in_loop(self.function.body, self.at):
+                self.near.changed(name)
+            block.is_folded = self.folded(block)
             self.say(f"again{block.label}:;")
         self.blocks.append(block)
+        if condition or block.is_folded:
+            block.known.append(self.near.known)
         if condition:
             self.say(f"if ({self.holds(condition)[0]}) {{")
 
-    def folded(self, block, at):
+    def folded(self, block):
         """Writes what a loop leaves that makes an exclusive-or of octets, where these are in one piece. Whether it is
         such a loop; then the same loop as it is comes next, in braces."""
-        loop = exclusive_or(self.function.body, at)
+        loop = exclusive_or(self.function.body, self.at)
         if not loop:
             return False
         count, name = f"n{block.label}", f"q{block.label}"
@@ -277,8 +297,11 @@ class Writer:
     def otherwise(self):
         """What is done where a condition doesn't hold."""
         block = self.blocks[-1]
+        otherwise = block.known.pop(0)
         if block.is_reached:
             self.leave(block)
+            block.known.append(self.near.known)
+        self.near.known = otherwise
         del self.stack[block.height :]
         block.code, block.is_reached = ELSE, True
         self.say("} else {")
@@ -288,6 +311,8 @@ class Writer:
         block = self.blocks[-1]
         if block.is_reached:
             self.leave(block)
+            block.known.append(self.near.known)
+        self.near.known = frozenset.intersection(*block.known) if block.known else frozenset()
         del self.stack[block.height :]
         if block.code in (IF, ELSE):
             self.say("}")
@@ -313,6 +338,7 @@ class Writer:
         block.is_used = True
         if block.code == LOOP:
             return f"goto again{block.label};"
+        block.known.append(self.near.known)
         if block.gives and self.stack[-1].text != self.slot(block):
             raise Unfit("a jump brings a result from another place")
         return f"goto after{block.label};"
@@ -340,6 +366,8 @@ class Writer:
 
     def jump_if(self, depth):
         condition = self.pop()
+        if condition.text == NEVER:
+            return
         if depth < len(self.blocks) - 1 and self.blocks[-1 - depth].gives:
             self.stack.append(condition)
             self.keep(len(self.stack) - 1)
@@ -388,12 +416,13 @@ class Writer:
         return f"v{place}"
 
     def get(self, place):
-        self.push(Value(f"v{place}", self.types[place], frozenset([f"v{place}"])))
+        self.push(Value(f"v{place}", self.types[place], frozenset([f"v{place}"]), sum=Sum({place: 1})))
 
     def set(self, place):
         value = self.pop()
         self.settle(f"v{place}")
         self.say(f"v{place} = {value.text};")
+        self.near.changed(place)
         self.framed(place)
 
     def tee(self, place):
@@ -418,16 +447,35 @@ class Writer:
 
     def frame(self, address, offset, octets):
         """The octets in the frame that an address and an offset lead to, where they do."""
-        place = int(address.text[1:]) if address.text[:1] == "v" and address.text[1:].isdigit() else None
-        if place in self.frames and offset + octets <= self.frames[place]:
-            return f"f{place} + {offset}" if offset else f"f{place}"
+        place = next(iter(address.sum.parts), None) if address.sum and list(address.sum.parts.values()) == [1] else None
+        first = address.sum.number + offset if address.sum else 0
+        if place in self.frames and first + octets <= self.frames[place]:
+            return f"f{place} + {first}" if first else f"f{place}"
         return None
+
+    def held(self, address, offset, octets):
+        """The words for octets that are in what is held, where they are: what is held, the number of octets before
+        them, and its address."""
+        if not address.sum:
+            return None
+        first, found = self.near.accessed(self.at, address.sum, offset, octets)
+        if first:
+            start = Sum(address.sum.parts, first.first % ALL).text()
+            self.say(f"{first.name} = held(m, {start}, {first.end - first.first});")
+        if not found:
+            return None
+        before = (address.sum.number + offset - found.first) % ALL
+        return f"{found.name}, {before}, m, {Sum(address.sum.parts, found.first % ALL).text()}"
 
     def load(self, code, offset):
         kind, bits, spread = LOADED[code]
         address = self.pop()
         near = self.frame(address, offset, bits // 8)
-        text = f"get{bits}({near})" if near else f"load{bits}(m, {address.text}, {offset})"
+        held = None if near else self.held(address, offset, bits // 8)
+        if near or held:
+            text = f"get{bits}({near})" if near else f"held{bits}({held})"
+        else:
+            text = f"load{bits}(m, {address.text}, {offset})"
         if spread and spread < BITS[kind]:
             text = f"spread{BITS[kind]}({text}, {spread})"
         elif kind == I64 and bits < 64:
@@ -439,8 +487,14 @@ class Writer:
         self.settle_reads()
         bits = STORED[code]
         near = self.frame(address, offset, bits // 8)
+        held = None if near else self.held(address, offset, bits // 8)
         text = value.text if (value.type == I64) == (bits == 64) else f"(u32){value.part()}"
-        self.say(f"put{bits}({near}, {text});" if near else f"store{bits}(m, {address.text}, {offset}, {text});")
+        if near:
+            self.say(f"put{bits}({near}, {text});")
+        elif held:
+            self.say(f"put_held{bits}({held}, {text});")
+        else:
+            self.say(f"store{bits}(m, {address.text}, {offset}, {text});")
 
     def copy(self, _):
         count, source, to = self.pop(), self.pop(), self.pop()
@@ -450,7 +504,11 @@ class Writer:
     def fill(self, _):
         count, value, to = self.pop(), self.pop(), self.pop()
         self.settle_reads()
-        self.say(f"fill(m, {to.text}, {value.text}, {count.text});")
+        near = self.frame(to, 0, count.sum.number) if count.sum and not count.sum.parts else None
+        if near:
+            self.say(f"memset({near}, (int)({value.text} & 255u), {count.sum.number});")
+        else:
+            self.say(f"fill(m, {to.text}, {value.text}, {count.text});")
 
     # ---- numbers ----
 
@@ -477,12 +535,19 @@ class Writer:
 
     def compare(self, kind, order, is_signed):
         b, a = self.pop(), self.pop()
+        if (order, is_signed) == ("<", 1) and self.is_stack(a) and b.text == constant(16, I64):
+            return self.push(Value(NEVER, I32))
         if is_signed:
             sign = constant(1 << BITS[kind] - 1, kind)
             left, right = f"({a.part()} ^ {sign})", f"({b.part()} ^ {sign})"
         else:
             left, right = a.part(), b.part()
-        self.truth(f"{left} {order} {right}", f"{left} {OPPOSITE[order]} {right}", a, b)
+        return self.truth(f"{left} {order} {right}", f"{left} {OPPOSITE[order]} {right}", a, b)
+
+    def is_stack(self, value):
+        """Whether a value is the place of the stack or of a frame, which never is as low as a function asks: it is in a
+        window, and a frame is held to it."""
+        return value.text == "m->g0" or value.text in (f"v{place}" for place in self.frames)
 
     def truth(self, so, not_so, *parts):
         self.push(value_of(f"(u32)({so})", I32, *parts, holds=(so, not_so)))
@@ -491,9 +556,11 @@ class Writer:
         b, a = self.pop(), self.pop()
         bits = BITS[kind]
         calls = form[0] != "{"
-        by = f"{int(b.text.rstrip('ul'), 0) % bits}" if not b.names and not b.reads else f"({b.part()} & {bits - 1})"
+        is_number = b.is_plain and not b.names and not b.reads
+        by = f"{int(b.text.rstrip('ul'), 0) % bits}" if is_number else f"({b.part()} & {bits - 1})"
         text = form.format(n=bits, c=by, a=a.text if calls else a.part(), b=b.text if calls else b.part())
-        self.push(value_of(text, kind, a, b))
+        total = a.sum.plus(b.sum, ADDED[form]) if kind == I64 and form in ADDED and a.sum and b.sum else None
+        self.push(value_of(text, kind, a, b, sum=total))
 
     def change(self, code):
         """An instruction that makes a number of another type, or spreads a sign."""
@@ -525,4 +592,5 @@ PLAIN = {NOP: lambda self, _: None, DROP: lambda self, _: self.pop(), SELECT: Wr
          LOCAL_GET: Writer.get, LOCAL_SET: Writer.set, LOCAL_TEE: Writer.tee, GLOBAL_GET: Writer.get_global,
          GLOBAL_SET: Writer.set_global, MEMORY_COPY: Writer.copy, MEMORY_FILL: Writer.fill,
          I32_CONST: lambda self, said: self.push(Value(constant(said, I32), I32)),
-         I64_CONST: lambda self, said: self.push(Value(constant(said, I64), I64))}
+         I64_CONST: lambda self, said: self.push(Value(constant(said, I64), I64, sum=Sum({}, said % ALL)))}
+RUN_ENDS = {LOOP, IF, ELSE, END, *JUMPS} - {CALL}

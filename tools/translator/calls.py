@@ -5,13 +5,12 @@ import re
 import textwrap
 
 from bodies import TYPES, Writer, frames_of, looks_at_stack, own_frame
-from header import NUMBERS
+from header import COUNT, NUMBERS
 from wasm import CALL, GLOBAL_GET, I32, I64, Unfit
 
 # the windows of machine.h: the first that a pointer of the caller's gets, and how many there are
 FIRST_GIVEN, WINDOWS = 2, 8
-# the names that a number of elements has, after the pointer to them; `max` is the limit of a message or forest
-COUNT = re.compile(r"(.*_)?(count|room|length|size|tags)$")
+# the limit of a message or forest, which is no number of elements
 LIMIT = "max"
 KINDS = {"size_t": I64, "uint64_t": I64, "uint8_t": I32, "bool": I32, "uint16_t": I32, "uint32_t": I32}
 
@@ -44,8 +43,8 @@ def counted(call, place):
 class Depths:
     """How many octets of the module's stack each function takes, with all that it calls."""
 
-    def __init__(self, module, writers):
-        self.module, self.writers, self.known, self.open = module, writers, {}, []
+    def __init__(self, module):
+        self.module, self.known, self.open = module, {}, []
 
     def of(self, place):
         if place in self.open:
@@ -147,8 +146,8 @@ class Calls:
         self.names = self.named()
         for function in module.functions:
             own_frame(function)
-        self.writers = [Writer(module, place, self.names) for place in range(len(module.functions))]
-        self.depths = Depths(module, self.writers)
+        self.depths = Depths(module)
+        self.shaped = self.reached({module.exports[it.name] for it in self.calls if self.is_shaped(it)})
 
     def named(self):
         """The names of the functions in C: what the module calls them, or `module_` and the name of a call."""
@@ -156,6 +155,29 @@ class Calls:
         names = [exported.get(at) or re.sub(r"\W+", "_", it.name).strip("_") or f"function_{at}"
                  for at, it in enumerate(self.module.functions)]
         return [it if names.count(it) == 1 else f"{it}_{at}" for at, it in enumerate(names)]
+
+    def is_shaped(self, call):
+        """Whether a call is lent structs with pointers, whose octets lie otherwise on every machine."""
+        lent = [self.structs[it.type.removeprefix("struct ")] for it in call.takes
+                if it.is_pointer and it.is_const and it.type.startswith("struct ")]
+        return any(it.has_pointers() for it in lent)
+
+    def reached(self, places):
+        """Functions, with all that they call."""
+        found, new = set(), set(places)
+        while new:
+            found |= new
+            new = {said for place in new for code, said in self.module.functions[place].body if code == CALL} - found
+        return found
+
+    def writer(self, place):
+        """What writes a function; where no octets that it reaches lie otherwise on every machine, it holds accesses to
+        their windows together."""
+        first = Writer(self.module, place, self.names)
+        if place in self.shaped:
+            return first
+        first.write()
+        return Writer(self.module, place, self.names, first.near.planned())
 
     def head(self, place):
         """The head of a function of the module."""
@@ -166,7 +188,8 @@ class Calls:
 
     def function(self, place):
         """A function of the module."""
-        writer, function = self.writers[place], self.module.functions[place]
+        function = self.module.functions[place]
+        writer = self.writer(place)
         lines = writer.write()
         idle = [name for name in writer.frames if sum(f"f{name}" in re.findall(r"\w+", it) for it in lines) == 1]
         lines = [it for it in lines if not any(it.startswith(f"f{name} = ") for name in idle)]
@@ -175,6 +198,8 @@ class Calls:
         names = sorted(names, key=lambda it: it[1]) + sorted(writer.used)
         own = [f"    {TYPES[kind]} {name} = 0;" for name, kind in names if re.search(rf"\b{name}\b", text)]
         own += [f"    u8 *f{name} = NULL;" for name in writer.frames if name not in idle]
+        held = sorted({int(it) for it in re.findall(r"\bp(\d+)\b", text)})
+        own += [f"    u8 *p{at} = NULL;" for at in held]
         own += [f"    {kind}{'' if kind.endswith('*') else ' '}{name};" for name, kind in writer.spans]
         own += ["    (void)m;"] if not re.search(r"\bm\b", text) else []
         own += [f"    (void)v{at};" for at in range(len(function.takes)) if not re.search(rf"\bv{at}\b", text)]

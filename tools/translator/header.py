@@ -13,6 +13,8 @@ CALL = re.compile(r"^((?:struct \w+|u?int\d+_t|bool|void|size_t)) (scard_\w+)\((
 NUMBERS = {"uint8_t": 1, "bool": 1, "char": 1, "uint16_t": 2, "uint32_t": 4, "uint64_t": 8, "size_t": 8,
            "scard_size": 8}
 POINTER = 8
+# the names that a number of elements has, after the pointer to them
+COUNT = re.compile(r"(.*_)?(count|room|length|size|tags)$")
 
 
 @dataclasses.dataclass
@@ -28,12 +30,14 @@ class Field:
 
 @dataclasses.dataclass
 class Struct:
-    """A struct: its numbers and pointers, those of structs and arrays in it too; and its octets and alignment."""
+    """A struct: its numbers and pointers, those of structs and arrays in it too; its octets and alignment; and the types
+    and names that it is declared with."""
 
     name: str
     fields: list
     octets: int
     aligned: int
+    said: list
 
     def has_pointers(self):
         return any(it.is_pointer for it in self.fields)
@@ -83,9 +87,12 @@ def placed(kind, path, known):
 
 def struct_of(name, body, known):
     """A struct by its declaration."""
-    fields, place, most = [], 0, 1
+    fields, place, most, said = [], 0, 1, []
     for line in filter(None, (it.strip() for it in body.split(";"))):
+        constant = "const " if line.startswith("const ") else ""
         for kind, field, count in declared(line):
+            star = " *" if field.startswith("*") else ""
+            said.append((f"{constant}{kind}{star}", field.lstrip("*") + (f"[{count}]" if count else "")))
             if kind in ("size_t", "uint64_t"):
                 raise Unfit(f"struct {name}: {field} has the type {kind}, whose octets or alignment differ from machine to "
                             "machine: take scard_size")
@@ -99,7 +106,7 @@ def struct_of(name, body, known):
                 fields += [Field(path + (f".{it[0]}" if it[0] else ""), place + it[1], *it[2:]) for it in parts]
                 place += octets
             most = max(most, aligned)
-    return Struct(name, fields, -(-place // most) * most, most)
+    return Struct(name, fields, -(-place // most) * most, most, said)
 
 
 def taken(text):

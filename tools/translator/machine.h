@@ -50,11 +50,20 @@ static void scard_trap(void)
 #define INLINE static inline
 #endif
 
+/* What makes one access, which gcc may call instead where there are many, though that takes longer. */
+#if defined(__GNUC__) && defined(__OPTIMIZE__) && !defined(__OPTIMIZE_SIZE__)
+#define ACCESS __attribute__((unused, always_inline)) static inline
+#else
+#define ACCESS INLINE
+#endif
+
 /* Where numbers of several octets lie with the lowest octet first, as in the module, they are read and written as they
- * are; elsewhere, and where SCARD_BY_OCTETS is defined, octet by octet.
+ * are; elsewhere, and where SCARD_BY_OCTETS is defined, octet by octet. So they are on an ARM that reads no number from
+ * any place, as Cortex-M0, where memcpy would be called for each.
  */
-#if !defined(SCARD_BY_OCTETS) && ((defined(__BYTE_ORDER__) && __BYTE_ORDER__ == __ORDER_LITTLE_ENDIAN__) || \
-                                  defined(_M_IX86) || defined(_M_X64) || defined(_M_ARM64))
+#if !defined(SCARD_BY_OCTETS) && !(defined(__arm__) && !defined(__ARM_FEATURE_UNALIGNED)) && \
+    ((defined(__BYTE_ORDER__) && __BYTE_ORDER__ == __ORDER_LITTLE_ENDIAN__) || defined(_M_IX86) || defined(_M_X64) || \
+     defined(_M_ARM64))
 #define LOWEST_FIRST 1
 #else
 #define LOWEST_FIRST 0
@@ -68,17 +77,24 @@ static void scard_trap(void)
 #define HIGHEST_FIRST 0
 #endif
 
-INLINE u32 get8(const u8 *at)
+/* Whether structs that are only numbers may lie otherwise here than in the module. */
+#if HIGHEST_FIRST || defined(SCARD_SHAPED)
+#define MAY_LIE_OTHERWISE 1
+#else
+#define MAY_LIE_OTHERWISE 0
+#endif
+
+ACCESS u32 get8(const u8 *at)
 {
     return *at;
 }
 
-INLINE u32 get16(const u8 *at)
+ACCESS u32 get16(const u8 *at)
 {
     return at[0] | (u32)at[1] << 8;
 }
 
-INLINE u32 get32(const u8 *at)
+ACCESS u32 get32(const u8 *at)
 {
 #if LOWEST_FIRST
     u32 number;
@@ -89,7 +105,7 @@ INLINE u32 get32(const u8 *at)
 #endif
 }
 
-INLINE u64 get64(const u8 *at)
+ACCESS u64 get64(const u8 *at)
 {
 #if LOWEST_FIRST
     u64 number;
@@ -100,18 +116,18 @@ INLINE u64 get64(const u8 *at)
 #endif
 }
 
-INLINE void put8(u8 *at, u32 number)
+ACCESS void put8(u8 *at, u32 number)
 {
     *at = (u8)number;
 }
 
-INLINE void put16(u8 *at, u32 number)
+ACCESS void put16(u8 *at, u32 number)
 {
     at[0] = (u8)number;
     at[1] = (u8)(number >> 8);
 }
 
-INLINE void put32(u8 *at, u32 number)
+ACCESS void put32(u8 *at, u32 number)
 {
 #if LOWEST_FIRST
     memcpy(at, &number, sizeof number);
@@ -121,7 +137,7 @@ INLINE void put32(u8 *at, u32 number)
 #endif
 }
 
-INLINE void put64(u8 *at, u64 number)
+ACCESS void put64(u8 *at, u64 number)
 {
 #if LOWEST_FIRST
     memcpy(at, &number, sizeof number);
@@ -284,31 +300,31 @@ APART void apart_store(const struct call *m, u64 t, u32 n, u64 number)
 
 /* ---- what the functions of the module use ---- */
 
-INLINE u32 load8(const struct call *m, u64 a, u64 offset)
+ACCESS u32 load8(const struct call *m, u64 a, u64 offset)
 {
     u64 t = a + (offset - FIRST);
     return SELDOM(LEAVES(m, t, 1u)) ? (u32)apart_load(m, t, 1) : get8(PLACE(m, t));
 }
 
-INLINE u32 load16(const struct call *m, u64 a, u64 offset)
+ACCESS u32 load16(const struct call *m, u64 a, u64 offset)
 {
     u64 t = a + (offset - FIRST);
     return SELDOM(LEAVES(m, t, 2u)) ? (u32)apart_load(m, t, 2) : get16(PLACE(m, t));
 }
 
-INLINE u32 load32(const struct call *m, u64 a, u64 offset)
+ACCESS u32 load32(const struct call *m, u64 a, u64 offset)
 {
     u64 t = a + (offset - FIRST);
     return SELDOM(LEAVES(m, t, 4u)) ? (u32)apart_load(m, t, 4) : get32(PLACE(m, t));
 }
 
-INLINE u64 load64(const struct call *m, u64 a, u64 offset)
+ACCESS u64 load64(const struct call *m, u64 a, u64 offset)
 {
     u64 t = a + (offset - FIRST);
     return SELDOM(LEAVES(m, t, 8u)) ? apart_load(m, t, 8) : get64(PLACE(m, t));
 }
 
-INLINE void store8(const struct call *m, u64 a, u64 offset, u32 number)
+ACCESS void store8(const struct call *m, u64 a, u64 offset, u32 number)
 {
     u64 t = a + (offset - FIRST);
     if (SELDOM(LEAVES(m, t, 1u))) {
@@ -318,7 +334,7 @@ INLINE void store8(const struct call *m, u64 a, u64 offset, u32 number)
     }
 }
 
-INLINE void store16(const struct call *m, u64 a, u64 offset, u32 number)
+ACCESS void store16(const struct call *m, u64 a, u64 offset, u32 number)
 {
     u64 t = a + (offset - FIRST);
     if (SELDOM(LEAVES(m, t, 2u))) {
@@ -328,7 +344,7 @@ INLINE void store16(const struct call *m, u64 a, u64 offset, u32 number)
     }
 }
 
-INLINE void store32(const struct call *m, u64 a, u64 offset, u32 number)
+ACCESS void store32(const struct call *m, u64 a, u64 offset, u32 number)
 {
     u64 t = a + (offset - FIRST);
     if (SELDOM(LEAVES(m, t, 4u))) {
@@ -338,7 +354,7 @@ INLINE void store32(const struct call *m, u64 a, u64 offset, u32 number)
     }
 }
 
-INLINE void store64(const struct call *m, u64 a, u64 offset, u64 number)
+ACCESS void store64(const struct call *m, u64 a, u64 offset, u64 number)
 {
     u64 t = a + (offset - FIRST);
     if (SELDOM(LEAVES(m, t, 8u))) {
@@ -358,14 +374,70 @@ INLINE u8 *piece(const struct call *m, u64 a, u64 n)
     return SELDOM(LEAVES(m, t, n)) ? element_at(m, t, n) : PLACE(m, t);
 }
 
-/* The same, where they are in one piece. */
-INLINE u8 *at(const struct call *m, u64 a, u64 n)
+/* The same for a number of octets below 2^31, where they are in one piece. */
+APART u8 *element_only(const struct call *m, u64 t, u64 n)
 {
-    u8 *found = piece(m, a, n);
-    if (SELDOM(!found)) {
+    u8 *found = element_at(m, t, n);
+    if (!found) {
         UNREACHABLE;
     }
     return found;
+}
+
+ACCESS u8 *at(const struct call *m, u64 a, u32 n)
+{
+    u64 t = a - FIRST;
+    return SELDOM(LEAVES(m, t, n)) ? element_only(m, t, n) : PLACE(m, t);
+}
+
+/* Where `n` octets from an address on are that several accesses are in, which all are made or none: they are held to
+ * their window here, once. On a machine where structs lie otherwise it may be null; then each access is to such a struct.
+ */
+ACCESS u8 *held(const struct call *m, u64 a, u32 n)
+{
+    return MAY_LIE_OTHERWISE ? piece(m, a, n) : at(m, a, n);
+}
+
+#define IS_HELD(p) (!MAY_LIE_OTHERWISE || (p))
+
+ACCESS u32 held8(const u8 *p, u32 place, const struct call *m, u64 a)
+{
+    return IS_HELD(p) ? get8(p + place) : (u32)apart_load(m, a + place - FIRST, 1);
+}
+
+ACCESS u32 held16(const u8 *p, u32 place, const struct call *m, u64 a)
+{
+    return IS_HELD(p) ? get16(p + place) : (u32)apart_load(m, a + place - FIRST, 2);
+}
+
+ACCESS u32 held32(const u8 *p, u32 place, const struct call *m, u64 a)
+{
+    return IS_HELD(p) ? get32(p + place) : (u32)apart_load(m, a + place - FIRST, 4);
+}
+
+ACCESS u64 held64(const u8 *p, u32 place, const struct call *m, u64 a)
+{
+    return IS_HELD(p) ? get64(p + place) : apart_load(m, a + place - FIRST, 8);
+}
+
+ACCESS void put_held8(u8 *p, u32 place, const struct call *m, u64 a, u32 number)
+{
+    IS_HELD(p) ? put8(p + place, number) : apart_store(m, a + place - FIRST, 1, number);
+}
+
+ACCESS void put_held16(u8 *p, u32 place, const struct call *m, u64 a, u32 number)
+{
+    IS_HELD(p) ? put16(p + place, number) : apart_store(m, a + place - FIRST, 2, number);
+}
+
+ACCESS void put_held32(u8 *p, u32 place, const struct call *m, u64 a, u32 number)
+{
+    IS_HELD(p) ? put32(p + place, number) : apart_store(m, a + place - FIRST, 4, number);
+}
+
+ACCESS void put_held64(u8 *p, u32 place, const struct call *m, u64 a, u64 number)
+{
+    IS_HELD(p) ? put64(p + place, number) : apart_store(m, a + place - FIRST, 8, number);
 }
 
 /* Where a loop reads that goes on `turns` / `by` times after its first turn, `step` octets from an address on and then
@@ -405,8 +477,13 @@ INLINE u32 exclusive_or(const u8 *at, u64 count)
 
 INLINE void copy(const struct call *m, u64 to, u64 from, u64 n)
 {
-    u8 *there = n ? piece(m, to, n) : NULL, *here = n ? piece(m, from, n) : NULL;
+    u8 *there, *here;
     u64 turn;
+    if (!n) {
+        return;
+    }
+    there = piece(m, to, n);
+    here = piece(m, from, n);
     if (there && here) {
         memmove(there, here, (size_t)n);
         return;
@@ -575,7 +652,7 @@ INLINE void lend_shaped(struct call *m, u32 window, const void *at, u64 count, s
     m->shaped[window] = shape;
 }
 
-#if HIGHEST_FIRST || defined(SCARD_SHAPED)
+#if MAY_LIE_OTHERWISE
 #define SHAPED_HERE struct shaped shaped[WINDOWS];
 #define LEND(m, window, at, count, shape) lend_shaped(m, window, at, count, shape)
 #else

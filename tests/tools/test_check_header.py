@@ -1,0 +1,127 @@
+#!/usr/bin/env python3
+"""Tests tools/check-header: what differs between a header and the sources is told, as two arguments or fields that are
+swapped."""
+
+import importlib.machinery
+import importlib.util
+import pathlib
+import sys
+import unittest
+import unittest.mock
+
+sys.dont_write_bytecode = True
+TOP = pathlib.Path(__file__).resolve().parents[2]
+sys.path[:0] = [str(TOP / "tools"), str(TOP / "tools/translator")]
+loader = importlib.machinery.SourceFileLoader("check_header", str(TOP / "tools/check-header"))
+tool = importlib.util.module_from_spec(importlib.util.spec_from_loader("check_header", loader))
+loader.exec_module(tool)
+import header
+
+HEADER = """struct scard_verdict {
+    uint8_t status;
+    scard_size place;
+};
+struct scard_lent_end {
+    uint16_t count;
+    uint8_t first, second;
+    uint8_t kept[9];
+    const char *text;
+    scard_size size;
+};
+struct scard_verdict scard_cut(const uint8_t *octets, size_t count, size_t max, uint8_t *out, size_t room);
+bool scard_is(const struct scard_lent_end *end, uint8_t first, uint8_t second);
+void scard_opened(struct scard_lent_end *end);
+"""
+SOURCES = """
+#[repr(C)]
+#[derive(Clone, Copy)]
+pub struct Verdict {
+    pub status: u8,
+    /// Where.
+    pub place: usize,
+}
+
+pub const LONGEST: usize = 9;
+
+#[repr(C)]
+pub struct CEnd<'a> {
+    count: u16,
+    pub first: u8,
+    pub second: u8,
+    pub kept: [u8; LONGEST],
+    pub octets: &'a [u8],
+    alloc: Global,
+    pub ghost engine: { Option AnyEngine },
+}
+
+pub extern "C" fn scard_cut(octets: &[u8], max: usize, out: &mut [u8]) -> Verdict
+    ensures ok { result.status ≡ 0 }
+{
+}
+
+pub extern "C" fn scard_is(end: &CEnd<'_>, first: u8, second: u8) -> bool
+{
+}
+
+pub extern "C" fn scard_opened(
+    alloc: Global,
+    end: &mut CEnd,
+)
+    ensures { }
+{
+}
+"""
+
+
+class Differences(unittest.TestCase):
+    def differ(self, changed=("", ""), sources=SOURCES):
+        """What differs where the header has other words."""
+        self.assertIn(changed[0], HEADER)
+        structs, calls = header.read(HEADER.replace(*changed, 1))
+        with unittest.mock.patch.object(tool, "OTHERS", {"octets": ["text"]}):
+            known, numbers = tool.structs_of(sources)
+            found = tool.calls_differ(calls, tool.exports_of(sources), numbers)
+            return found + tool.structs_differ(structs, known, numbers)
+
+    def test_nothing(self):
+        self.assertEqual(self.differ(), [])
+
+    def test_each_change_is_told(self):
+        for changed in (("first, uint8_t second", "second, uint8_t first"), ("first, second", "second, first"),
+                        ("size_t count, size_t max", "size_t max, size_t count"), ("uint16_t count", "uint32_t count"),
+                        ("const uint8_t *octets", "uint8_t *octets"), ("kept[9]", "kept[8]"), ("bool ", "uint8_t "),
+                        ("scard_cut", "scard_cuts"), ("struct scard_lent_end *end", "struct scard_verdict *end"),
+                        ("    uint8_t status;\n", ""), ("scard_size size", "scard_size second"),
+                        ("const char *text", "char *text"), ("uint8_t *out", "uint8_t *octets")):
+            with self.subTest(changed):
+                self.assertTrue(self.differ(changed))
+
+    def test_an_export_without_a_prototype_is_told(self):
+        more = SOURCES + 'pub extern "C" fn scard_more() -> u32\n{\n}\n'
+        self.assertEqual(self.differ(sources=more), ["scard_more: the header has no prototype"])
+
+
+def swapped(row):
+    """A row with two neighbours swapped, for each two."""
+    return [[*row[:at], row[at + 1], row[at], *row[at + 2 :]] for at in range(len(row) - 1)]
+
+
+class Header(unittest.TestCase):
+    def test_swapped_arguments_and_fields_of_the_header_are_told(self):
+        """Any two arguments or fields that stand side by side in the header, when they are swapped."""
+        structs, calls = header.read((TOP / "include/scard.h").read_text())
+        exports, (known, numbers) = tool.sources()
+        for call in calls:
+            one = {call.name: exports[call.name]}
+            self.assertEqual(tool.calls_differ([call], one, numbers), [])
+            for call.takes in swapped(call.takes):
+                self.assertTrue(tool.calls_differ([call], one, numbers), call)
+        for struct in structs.values():
+            one = {struct.name: struct}
+            self.assertEqual(tool.structs_differ(one, known, numbers), [])
+            for struct.said in swapped(struct.said):
+                self.assertTrue(tool.structs_differ(one, known, numbers), struct)
+
+
+if __name__ == "__main__":
+    unittest.main()

@@ -1,0 +1,119 @@
+#!/usr/bin/env python3
+"""Tests that tools/dist leaves dist/ as it was, and nothing beside it, where it can't make it anew, and says why: in a
+repository of its own, with a toolchain that proves nothing."""
+
+import os
+import pathlib
+import resource
+import shutil
+import subprocess
+import tempfile
+import unittest
+
+TOP = pathlib.Path(__file__).resolve().parents[2]
+# a module without functions
+MODULE = b"\0asm\1\0\0\0" + b"".join(bytes((kind, 1, 0)) for kind in (1, 3, 6, 7, 10))
+COMMANDS = ("sh", "cat", "cp", "env", "git", "python3", "sleep")
+
+
+class Dist(unittest.TestCase):
+    def setUp(self):
+        work = tempfile.TemporaryDirectory()
+        self.addCleanup(work.cleanup)
+        self.top, self.bin, kit = (pathlib.Path(work.name) / it for it in ("top", "bin", "kit"))
+        for folder in (self.top / "tools", self.top / "include", self.top / "web", self.top / "dist", self.top / "crates",
+                       self.bin, kit / "bin"):
+            folder.mkdir(parents=True)
+        for name in ("dist", "stack.py", "words.py", "translator"):
+            (shutil.copytree if name == "translator" else shutil.copy)(TOP / "tools" / name, self.top / "tools" / name)
+        for name in ("scard.h", "scard_session.h"):
+            (self.top / "include" / name).write_text("/* no call */\n")
+        (self.top / "crates.txt").write_text("scard_lent staticlib:\n")
+        (self.top / "module").write_bytes(MODULE)
+        (self.top / "dist/README.md").write_text("the old one\n")
+        (kit / "KIT-ID").write_text("a toolchain\n")
+        self.script(self.top / "tools/wasm", 'cat "${0%/*}/../module" >"$1"')
+        self.script(self.top / "web/make", 'cat "$2" >"$1"')
+        self.script(kit / "bin/rt", "exit 9")
+        self.script(self.bin / "wasm-opt", "echo wasm-opt version 0")
+        (self.bin / "rt").symlink_to(kit / "bin/rt")
+        for name in COMMANDS:
+            (self.bin / name).symlink_to(shutil.which(name))
+        self.git("init", "-q")
+        self.commit()
+
+    def script(self, file, line):
+        file.write_text(f"#!/bin/sh\n{line}\n")
+        file.chmod(0o755)
+
+    def git(self, *words):
+        who = ["-c", "user.name=a", "-c", "user.email=a@b", "-c", "init.defaultBranch=main"]
+        subprocess.run(["git", *who, *words], cwd=self.top, check=True, stdout=subprocess.DEVNULL)
+
+    def commit(self):
+        self.git("add", "-A")
+        self.git("commit", "-q", "-m", "All")
+
+    def made(self, **how):
+        words = [self.top / "tools/dist"]
+        how |= {"env": {"PATH": str(self.bin), "HOME": "/nowhere"}, "stderr": subprocess.PIPE, "stdout": subprocess.PIPE}
+        return subprocess.run(words, check=False, text=True, timeout=60, **how)
+
+    def left(self):
+        """The files of dist/, and what begins as its folder for work does."""
+        return sorted(it.name for it in (self.top / "dist").rglob("*") if it.is_file()), [*self.top.glob(".dist*")]
+
+    def refused(self, words, **how):
+        done = self.made(**how)
+        self.assertEqual((done.returncode, self.left()), (1, (["README.md"], [])), done.stderr)
+        self.assertEqual((self.top / "dist/README.md").read_text(), "the old one\n")
+        self.assertRegex(done.stderr.splitlines()[-1], f"^(tools/dist: |[ MA?]).*{words}")
+        self.assertNotIn("Traceback", done.stderr)
+
+    def test_dist_is_made(self):
+        done = self.made()
+        self.assertEqual((done.returncode, done.stderr), (0, ""))
+        self.assertEqual(self.left(), (["README.md", "SHA256SUMS", "scard.c", "scard.h", "scard.html", "scard_session.h"], []))
+        self.assertIn("a toolchain", (self.top / "dist/README.md").read_text())
+
+    def test_no_toolchain(self):
+        (self.bin / "rt").unlink()
+        self.refused("no command rt is on the PATH")
+
+    def test_no_binaryen_and_nothing_that_installs_it(self):
+        (self.bin / "wasm-opt").unlink()
+        self.refused("binaryen has to be installed by hand")
+
+    def test_binaryen_that_is_not_installed(self):
+        (self.bin / "wasm-opt").unlink()
+        self.script(self.bin / "apt-get", "echo no network >&2; exit 100")
+        self.refused("binaryen can't be installed: apt-get failed: no network")
+
+    def test_sources_that_are_not_committed(self):
+        (self.top / "include/scard.h").write_text("/* another */\n")
+        self.refused("include/scard.h")
+
+    def test_a_step_that_fails(self):
+        for file, words in (("tools/wasm", "wasm failed: no"), ("web/make", "make failed: no")):
+            text = (self.top / file).read_text()
+            self.script(self.top / file, "echo no >&2; exit 1")
+            self.commit()
+            self.refused(words)
+            (self.top / file).write_text(text)
+
+    def test_a_module_that_is_none(self):
+        (self.top / "module").write_text("none")
+        self.refused("it is no module")
+
+    def test_a_disk_without_room(self):
+        self.refused("File too large", preexec_fn=lambda: resource.setrlimit(resource.RLIMIT_FSIZE, (4096, 4096)))
+
+    def test_an_end_from_outside(self):
+        self.script(self.top / "web/make", f"kill -TERM $PPID; sleep 1; echo {os.getpid()}")
+        self.commit()
+        done = self.made()
+        self.assertEqual((done.returncode, self.left()), (1, (["README.md"], [])), done.stderr)
+
+
+if __name__ == "__main__":
+    unittest.main()
