@@ -34,7 +34,7 @@ _scard_words() {
     apdus) words='--json --explain --help' ;;
     draw) words='--svg --explain --help' ;;
     record) words='--explain --help' ;;
-    judge) words='--end --explain --help' ;;
+    judge) words='--end --clock --json --explain --help' ;;
     simulate) words='--stdin --ifsd --lose --damage --spoil --explain --help' ;;
     esac
     [ "$command $what" != 'build tidy' ] || words="$words --stdin"
@@ -59,7 +59,7 @@ _scard() {
     --stdin) words='hex octets dump source lines' ;;
     --end) words='terminal card both' ;;
     --number) words='0 1' ;;
-    --ifs | --ifsd | --lose | --damage | --spoil) ;;
+    --ifs | --ifsd | --lose | --damage | --spoil | --clock) ;;
     *) _scard_words ;;
     esac
     case $option:$command:$what in

@@ -12,7 +12,7 @@ use Rattle.card_words.specs.Given.{asks_for_lines, form_of, given_of, GivesOctet
 use Rattle.card_words.specs.PairLines.{are_lines}
 use Rattle.card_words.specs.Session.{blocks_of, pair_of, pairs_of, AreOctetPairs, IsSize}
 use Rattle.card_words.specs.Value.{◌>>=◌, hex_octets, octets_of_word, parted, UnlessMemory}
-use Rattle.card_words.specs.Words.{byte_or, size_of, number_of, number_of_word, needed, kind_of, expected_of, short_message, told_by, told_of, chain_by, chain_of, tidy_of, fill_of, build_words, build_of, end_of_word, atr_of, judge_of, judged_ends, record_of, replay_of, all_or_none, asked_size, session_of, drawing_of, request_by, check_aim, show_aim, asked_by, asked_of, HasOctets, HaveOctets, IsRead, AreSized, IsSized, IsTaskSized, called_for_version, taken, called_for_help, not_taken, session_by, simulate_by, simulate_of}
+use Rattle.card_words.specs.Words.{byte_or, size_of, number_of, number_of_word, needed, kind_of, expected_of, short_message, told_by, told_of, chain_by, chain_of, tidy_of, fill_of, build_words, build_of, end_of_word, atr_of, clock_of, judge_of, judged_ends, record_of, replay_of, all_or_none, asked_size, session_of, drawing_of, request_by, check_aim, show_aim, asked_by, asked_of, HasOctets, HaveOctets, IsRead, AreSized, IsSized, IsTaskSized, called_for_version, taken, called_for_help, not_taken, session_by, simulate_by, simulate_of}
 use Rattle.command_line.specs.Form.{scard}
 use Rattle.card_words.specs.declared.fault.Fault.{Fault}
 use Rattle.card_words.specs.declared.fault.Fault.TheVariants.{Words}
@@ -253,8 +253,10 @@ record-proper rows request h =
 judge-proper : (rows : List Row) (request : Request) → judge_of rows ≡ Ok request → IsProper request
 judge-proper rows request h =
     let ends = both-steps (judged_ends (first_of (codes "end") rows)) _ request h in
-    let atr = both-steps (atr_of rows) _ request ends.2 in
-    subst IsProper (same (Judge atr.0 ends.0) request atr.2) (tt, atr-octets rows atr.0 atr.1)
+    let clock = both-steps (clock_of (first_of (codes "clock") rows)) _ request ends.2 in
+    let atr = both-steps (atr_of rows) _ request clock.2 in
+    subst IsProper (same (Judge atr.0 (record { ends = ends.0; clock = clock.0 })) request atr.2)
+    (tt, atr-octets rows atr.0 atr.1)
 
 seen-proper : (name : List ℕ) (rows : List Row) (request : Request)
     → (if bytes_eq name (codes "judge") then judge_of rows

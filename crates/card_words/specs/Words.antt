@@ -7,6 +7,7 @@ use Rattle.clap.specs.Kinds.{IsAmong, Kinds}
 use Rattle.clap.specs.Words.{Row, all_of, fault_of, first_of, subcommand_of}
 use Rattle.clap.specs.declared.error.kind.ErrorKind.{ErrorKind}
 use Rattle.clap.specs.declared.error.kind.ErrorKind.TheVariants.{DisplayHelp, OutOfMemory}
+use Rattle.octet_core.specs.Decimal.{decimal_number}
 use Rattle.octet_core.specs.Octets.{AreOctets}
 use Rattle.chain_core.specs.Chain.{longest_message}
 use Rattle.command_line.specs.Form.{scard}
@@ -198,12 +199,22 @@ abbrev pub judged_ends : Option (List ℕ) → Result Ends Fault
 judged_ends None = Ok end.Both
 judged_ends (Some word) = one_end word
 
+-- a clock of 1 to 1,000,000,000 hertz
+abbrev pub hertz_of : Option ℕ → Result (Option ℕ) Fault
+hertz_of None = Err Words
+hertz_of (Some number) = if nat_le 1 number && nat_le number 1000000000 then Ok (Some number) else Err Words
+
+abbrev pub clock_of : Option (List ℕ) → Result (Option ℕ) Fault
+clock_of None = Ok None
+clock_of (Some word) = hertz_of (decimal_number word)
+
 -- these come first, and then the answer to reset of the card on whose line the blocks were seen
 abbrev pub judge_of : List Row → Result Request Fault
 judge_of rows = do
   ends ← judged_ends (first_of (codes "end") rows)
+  clock ← clock_of (first_of (codes "clock") rows)
   atr ← atr_of rows
-  Ok (Judge atr ends)
+  Ok (Judge atr (record { ends = ends; clock = clock }))
 
 -- an information size that is asked for, where there is a word
 abbrev pub asked_size : Option (List ℕ) → Result (Option ℕ) Fault
@@ -272,7 +283,7 @@ IsSized (BuildTidy given) = Unit {0}
 IsSized (BuildFill list known) = Unit {0}
 IsSized (File task) = Unit {0}
 IsSized (Record atr) = Unit {0}
-IsSized (Judge atr ends) = Unit {0}
+IsSized (Judge atr judging) = Unit {0}
 IsSized (Simulate session) = IsSize session.ifsd
 IsSized (SimulateLines session) = IsSize session.ifsd
 IsSized (Help help) = Unit {0}
@@ -290,7 +301,7 @@ HasOctets (BuildTidy given) = GivesOctets given
 HasOctets (BuildFill list known) = AreOctets list
 HasOctets (File task) = Unit {0}
 HasOctets (Record atr) = AreOctets atr
-HasOctets (Judge atr ends) = AreOctets atr
+HasOctets (Judge atr judging) = AreOctets atr
 HasOctets (Simulate session) = AreOctets session.atr × AreOctetPairs session.pairs
 HasOctets (SimulateLines session) = AreOctets session.atr × AreOctetPairs session.pairs
 HasOctets (Help help) = Unit {0}
@@ -306,7 +317,7 @@ NeedsFile (Tell task given) = IsFromReader given
 NeedsFile (BuildTidy given) = IsFromReader given
 NeedsFile (File task) = Unit {0}
 NeedsFile (Record atr) = Unit {0}
-NeedsFile (Judge atr ends) = Unit {0}
+NeedsFile (Judge atr judging) = Unit {0}
 NeedsFile (SimulateLines session) = Unit {0}
 NeedsFile _ = ⊥
 

@@ -39,6 +39,14 @@ pub enum Ends {
     Both,
 }
 
+/// What of a trace is judged.
+#[derive(Clone, Copy, Debug, PartialEq, Eq)]
+pub struct Judging {
+    pub ends: Ends,
+    /// The frequency of the card's clock in hertz, 1 to 1,000,000,000, where the times of its blocks are judged.
+    pub clock: Option<u64>,
+}
+
 /// What octets are taken for.
 #[derive(Clone, Copy, Debug, PartialEq, Eq)]
 pub struct Expected {
@@ -132,10 +140,10 @@ pub enum Request {
     File(FileTask),
     /// The exchange of a card with this answer to reset in which the blocks of standard input were seen.
     Record(Octets),
-    /// What of the blocks of standard input isn't permitted to these ends, at a card with this answer to reset.
+    /// What of the blocks of standard input isn't permitted, at a card with this answer to reset.
     Judge {
         atr: Octets,
-        ends: Ends,
+        judging: Judging,
     },
     /// The exchange that a recorder of both ends writes of this session.
     Simulate(Session),

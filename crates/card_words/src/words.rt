@@ -4,7 +4,7 @@ ghost use Rattle.std.specs.Prelude.{◌≡◌, ◌⊎◌, ◌≤◌, [], Err, If
 ghost use Rattle.clap.specs.Words.{all_of, fault_of, first_of, found_of, rows_of, subcommand_of, subcommand_rows_of};
 ghost use Rattle.clap.specs.Kinds.{HasKind};
 ghost use Rattle.clap.specs.Values.{kind_of as error_kind};
-ghost use Rattle.card_words.specs.Words.{asked_of, atr_of, build_of, build_words, chain_of, check_aim, end_of_word, drawing_of, expected_of, session_of, has_flag, judge_of, judged_ends, kind_of, one_end, record_of, replay_of, show_aim, request_by, tidy_of, told_of, fill_of, HaveOctets, IsHelpOrFault, IsRead, AreSized, IsSized, simulate_of};
+ghost use Rattle.card_words.specs.Words.{asked_of, atr_of, build_of, build_words, chain_of, check_aim, clock_of, end_of_word, drawing_of, expected_of, session_of, has_flag, hertz_of, judge_of, judged_ends, kind_of, one_end, record_of, replay_of, show_aim, request_by, tidy_of, told_of, fill_of, HaveOctets, IsHelpOrFault, IsRead, AreSized, IsSized, simulate_of};
 ghost use Rattle.command_line.specs.Form.{scard, texts};
 ghost use Rattle.card_words.specs.Session.{IsSize};
 ghost use Rattle.card_words.specs.Value.{UnlessMemory};
@@ -14,15 +14,18 @@ use crate::given::{asks_for_lines, read_given};
 use crate::known::knowns;
 use crate::numerals::{asked_size, number, number_or_zero, size};
 use crate::pair_lines::are_lines;
-use crate::request::{Aim, Asked, Drawing, Ends, Expected, FileTask, Kind, Request, Task};
+use crate::request::{Aim, Asked, Drawing, Ends, Expected, FileTask, Judging, Kind, Request, Task};
 use crate::session::{Session, read_blocks, read_pairs};
 use crate::value::octets;
 use chain_core::LONGEST_MESSAGE;
 use clap::error::ErrorKind;
 use clap::{ArgMatches, Error};
 use command_line::{asks_for_version, matches_of};
-use octet_core::{Octets, Text};
+use octet_core::{Octets, Text, decimal_of};
 use std::alloc::Global;
+
+/// The highest frequency of a clock, in hertz.
+const FASTEST_CLOCK: u64 = 1_000_000_000;
 
 /// What the words ask for, of which the first is the program's name.
 pub fn read(alloc: Global, words: &[String]) -> Result<Asked, Fault>
@@ -196,14 +199,16 @@ fn record(alloc: Global, matches: &ArgMatches) -> Result<Request, Fault>
     Ok(Request::Record(atr(alloc, matches)?))
 }
 
-/// The answer to reset of the card on whose line blocks were seen, and the ends that are judged.
+/// The answer to reset of the card on whose line blocks were seen, and what is judged.
 fn judge(alloc: Global, matches: &ArgMatches) -> Result<Request, Fault>
     ensures read { UnlessMemory result (judge_of (rows_of (found_of matches.now))) }
     ensures sized { IfOk result IsSized }
 {
     let ends = judged_ends(word(matches, "end"))?;
+    let clock = clock(word(matches, "clock"))?;
     let atr = atr(alloc, matches)?;
-    Ok(Request::Judge { atr, ends })
+    let judging = Judging { ends, clock };
+    Ok(Request::Judge { atr, judging })
 }
 
 /// The answer to reset of a card.
@@ -348,6 +353,26 @@ fn judged_ends(word: Option<&str>) -> Result<Ends, Fault>
     match word {
         Some(word) => one_end(word),
         None => Ok(Ends::Both),
+    }
+}
+
+/// The frequency of a clock, where there is a word for one.
+fn clock(word: Option<&str>) -> Result<Option<u64>, Fault>
+    ensures { result ≡ clock_of (option_map (λ word. word.now) word.entry) }
+{
+    match word {
+        Some(word) => hertz(decimal_of(word.as_bytes())),
+        None => Ok(None),
+    }
+}
+
+/// A number of hertz that a clock may have.
+fn hertz(number: Option<u64>) -> Result<Option<u64>, Fault>
+    ensures { result ≡ hertz_of number }
+{
+    match number {
+        Some(number) if number >= 1 && number <= FASTEST_CLOCK => Ok(Some(number)),
+        Some(_) | None => Err(Fault::Words),
     }
 }
 

@@ -2,7 +2,7 @@
 
 ghost use Rattle.std.specs.Prelude.{◌≡◌, false};
 ghost use Rattle.clap.specs.Words.{rule_of};
-ghost use Rattle.command_line.specs.Form.{atr_rule, end_rule, explain_rule, flag_rule, hex_rule, ifs_rule, ifsd_rule, judged_rule, json_rule, kind_rule, notes_rule, number_rule, option_rule, pairs_rule, required_rule, stdin_rule, svg_rule, what_rule, words_rule};
+ghost use Rattle.command_line.specs.Form.{atr_rule, clock_rule, end_rule, explain_rule, flag_rule, hex_rule, ifs_rule, ifsd_rule, judged_rule, json_rule, kind_rule, notes_rule, number_rule, option_rule, pairs_rule, required_rule, stdin_rule, svg_rule, what_rule, words_rule};
 
 use clap::{Arg, ArgAction, value_parser};
 use std::alloc::Global;
@@ -166,6 +166,18 @@ pub(crate) fn judged_arg<'a>(alloc: Global) -> Arg<'a>
         "end",
         "END",
         "The end of which deviations are told, terminal or card, in place of both",
+    )
+}
+
+pub(crate) fn clock_arg<'a>(alloc: Global) -> Arg<'a>
+    ensures rule { rule_of result ≡ clock_rule }
+    ensures local { result.global ≡ false }
+{
+    option_arg(
+        alloc,
+        "clock",
+        "HZ",
+        "Judge also when a card's block comes, at a card with this clock, 1 to 1000000000 hertz",
     )
 }
 

@@ -1,11 +1,12 @@
 //! The form of the words, as a command of `clap`.
 
 ghost use Rattle.command_line.specs.Building.{AddsSubcommandTo, AddsTo, HasForm, IsLocal, StaysLocal};
-ghost use Rattle.command_line.specs.Form.{apdus_app, begun_app, build_app, draw_app, exchanges_app, expected_app, input_app, judge_app, migrate_app, octets_app, record_app, replay_app, scard, session_app, show_app, simulate_app, traces_app};
+ghost use Rattle.command_line.specs.Form.{apdus_app, begun_app, build_app, draw_app, exchanges_app, expected_app, input_app, judge_app, judged_app, migrate_app, octets_app, record_app, replay_app, scard, session_app, show_app, simulate_app, traces_app};
 
 use crate::arguments::{
-    atr_arg, end_arg, explain_arg, hex_arg, ifs_arg, ifsd_arg, json_arg, judged_arg, kind_arg,
-    lines_arg, list_arg, notes_arg, number_arg, pairs_arg, stdin_arg, svg_arg, what_arg, words_arg,
+    atr_arg, clock_arg, end_arg, explain_arg, hex_arg, ifs_arg, ifsd_arg, json_arg, judged_arg,
+    kind_arg, lines_arg, list_arg, notes_arg, number_arg, pairs_arg, stdin_arg, svg_arg, what_arg,
+    words_arg,
 };
 use crate::help::{
     APDUS, BUILD, CHECK, DRAW, JUDGE, MIGRATE, PROGRAM, Page, RECORD, REPLAY, SHOW, SIMULATE,
@@ -159,6 +160,16 @@ fn record_command<'a>(alloc: Global) -> Built<'a>
 /// The subcommand that judges the blocks of a trace.
 fn judge_command<'a>(alloc: Global) -> Built<'a>
     ensures form { HasForm judge_app result }
+    ensures local { IsLocal result }
+{
+    let judged = judged_command(alloc);
+    let clock = asking(judged, clock_arg(alloc));
+    asking(clock, json_arg(alloc))
+}
+
+/// The same with the answer to reset and the end alone.
+fn judged_command<'a>(alloc: Global) -> Built<'a>
+    ensures form { HasForm judged_app result }
     ensures local { IsLocal result }
 {
     let atr = asking(begun_command(alloc, "judge", &JUDGE), atr_arg(alloc));

@@ -249,7 +249,7 @@ Examples:
 /// The page of `judge`.
 pub(crate) const JUDGE: Page<'static> = Page {
     about: "Say which blocks that were seen on a line the standard doesn't permit, and of which end",
-    usage: "scard judge <ATR> [--end <END>]",
+    usage: "scard judge <ATR> [--end <END>] [--clock <HZ>] [--json]",
     after: "Standard input has a line for each block, in the order of time:
   t HEX         the terminal sends a block, in hexadecimal, in either case
   c HEX         the card sends one
@@ -257,10 +257,12 @@ pub(crate) const JUDGE: Page<'static> = Page {
   t HEX as HEX  it arrives as these octets; c HEX as HEX in the same way
   quiet         the terminal's waiting time ended
   reset         the card was reset
-  at N          so many microseconds after some start
+  at N          so many microseconds after some start; before a block, when it began
   # REMARK      says nothing
 Each block is judged by ISO/IEC 7816-3:2006, clause 11, and by what its sender may have heard before. A line comes for
 each deviation: the block, its sender, what it breaks, what was due, and the clause. An exchange of PPS may come first.
+With --clock a block of the card is late where it began after the block waiting time that the answer to reset and the
+last request for time give. With --json an object of JSON comes in place of the lines.
 
 Exit status:
   0  ok N blocks: the standard permits all of them
@@ -269,7 +271,8 @@ Exit status:
 
 Examples:
   printf 't 00000500A4040000A5\\nc 000002900092\\n' | scard judge 3B808131204555
-  printf 't 00400500A4040000E5\\nc 00820082\\n' | scard judge 3B808131204555 --end card",
+  printf 't 00400500A4040000E5\\nc 00820082\\n' | scard judge 3B808131204555 --end card
+  printf 'at 0\\nt 00C000C0\\nat 1600000\\nc 00E000E0\\n' | scard judge 3B808131204555 --clock 3571200",
 };
 
 /// The page of `simulate`.

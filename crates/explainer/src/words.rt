@@ -5,7 +5,7 @@ use crate::place::{option_place, option_value, place_of, subcommand_place, word_
 use crate::word::{hex_note, said};
 use card_words::{Fault, Form, read_blocks};
 use command_line::parser_message;
-use octet_core::is_blank;
+use octet_core::{decimal_of, is_blank};
 use std::alloc::{AllocError, Global};
 
 /// The explanation of words, of which the first is the program's name: what the parser of command lines
@@ -191,7 +191,7 @@ fn list_word_note(alloc: Global, words: &[String]) -> Result<String, AllocError>
     )
 }
 
-/// The end that is judged, and an answer to reset.
+/// The end that is judged, the clock, and an answer to reset.
 fn judge_note(alloc: Global, words: &[String]) -> Result<String, AllocError> {
     let name = "--end";
     let is_given = option_place(words, name) < words.len();
@@ -203,7 +203,21 @@ fn judge_note(alloc: Global, words: &[String]) -> Result<String, AllocError> {
             "the end that is judged is terminal or card",
         );
     }
+    let is_timed = option_place(words, "--clock") < words.len();
+    if is_timed && !is_frequency(option_value(words, "--clock")) {
+        return option_note(
+            alloc,
+            words,
+            "--clock",
+            "a clock is 1 to 1000000000 hertz, as decimal digits without a leading 0",
+        );
+    }
     atr_note(alloc, words)
+}
+
+/// Whether it is the frequency of a clock, in hertz.
+fn is_frequency(word: &str) -> bool {
+    matches!(decimal_of(word.as_bytes()), Some(1..=1_000_000_000))
 }
 
 /// An answer to reset.

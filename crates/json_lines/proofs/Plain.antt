@@ -1,5 +1,5 @@
 -- No object of an answer has a float in it.
-use Rattle.std.proofs.Common.{◌≡◌, ◌==◌, ◌++◌, ◌||◌, ◌%◌, ℕ, List, [], ◌∷◌, Bool, true, false, Option, Some, None, IfSome, Ordering, Less, Equal, Greater, option_map, option_and_then, codes, refl, if◌then◌else◌}
+use Rattle.std.proofs.Common.{◌≡◌, ◌==◌, ◌++◌, ◌||◌, ◌%◌, ℕ, List, [], ◌∷◌, Bool, true, false, Option, Some, None, IfSome, Ordering, Less, Equal, Greater, option_map, option_and_then, codes, refl, encode_utf8, is_some, if◌then◌else◌}
 use Rattle.std.specs.Ordering.{match_ordering, nat_cmp}
 use Rattle.std.specs.Cmp.Lexicographic.{slice_cmp}
 use Rattle.std.specs.List.{slice_split}
@@ -8,13 +8,13 @@ use Rattle.serde_json.specs.View.{items_of}
 use Rattle.serde_json.specs.Written.{has_float, items_have_float, members_have_float}
 use Rattle.octet_core.specs.Decimal.{decimal_number}
 use Rattle.json_lines.specs.Named.{Named, put_all, object_of, shares}
-use Rattle.json_lines.specs.Words.{after, blanks_from, characters, parted, word_and_rest}
-use Rattle.json_lines.specs.Forms.{Read, Said, array_name, at_parts, at_piece, at_place, at_word, by_form, by_pieces, by_row, by_rows, data_said, depth_said, inner_name, is_none, may_stand, named_by, number_of, number_said, numbers_from, numbers_said, or_else, or_nothing, past, text_said, unless_none, whole, with_rest, word_said}
-use Rattle.json_lines.specs.Answers.{Kept, array_of, begun_array, begun_by, ended, json_data, line_array, nothing_kept, owned, with_item, with_line, with_line_itself, with_lines, with_named, with_one, with_owned, with_said}
+use Rattle.json_lines.specs.Words.{after, blanks_from, characters, number_and_rest, parted, word_and_rest}
+use Rattle.json_lines.specs.Forms.{Read, Said, array_name, at_number, at_parts, at_piece, at_place, at_word, by_form, by_pieces, by_row, by_rows, data_said, depth_said, inner_name, is_none, may_stand, named_by, number_of, number_said, numbers_from, numbers_said, or_else, or_nothing, past, text_said, unless_none, up_to, whole, with_rest, word_said}
+use Rattle.json_lines.specs.Answers.{Kept, array_of, begun_array, begun_by, ended, json_data, line_array, nothing_kept, owned, with_item, with_line, with_formed, with_line_itself, with_lines, with_named, with_one, with_owned, with_said, with_unowned}
 use Rattle.json_lines.specs.declared.forms.TheConstants.{ROWS}
 use Rattle.json_lines.specs.declared.forms.Array.{Array}
 use Rattle.json_lines.specs.declared.forms.Place.{Place}
-use Rattle.json_lines.specs.declared.forms.Place.TheVariants.{Members as ToMembers, Under, Begins, Item, FirstItem}
+use Rattle.json_lines.specs.declared.forms.Place.TheVariants.{Members as ToMembers, Under, Begins, Closes, Item, FirstItem}
 
 -- ---- tests and options
 
@@ -151,11 +151,10 @@ none-plain none other word h k = if-some IsPlain (is_none word) (Some none) othe
 
 word-plain : (mark : ℕ) (word : List ℕ) → IfSome (word_said mark word) IsPlain
 word-plain mark word =
-    if-some IsPlain (mark == 35) _ _ (number-plain word)
-    (if-some IsPlain (mark == 63) _ _ (none-plain null _ word refl (number-plain word))
+    if-some IsPlain (mark == 63) _ _ (none-plain null _ word refl (number-plain word))
     (if-some IsPlain (mark == 42) _ _ (none-plain (array (items_of [])) _ word refl (list-plain word))
     (if-some IsPlain (mark == 37) _ _ (none-plain (string []) _ word refl (text-plain word))
-    (if-some IsPlain (mark == 36) _ _ (text-plain word) tt))))
+    (if-some IsPlain (mark == 36) _ _ (text-plain word) tt)))
 
 -- ---- places
 
@@ -170,6 +169,16 @@ at-word-plain mark line =
     let w = word_and_rest line in
     mapped IsPlain IsPlainRead (with_rest w.1) (word_said mark w.0) (λ d h. h) (word-plain mark w.0)
 
+at-number-plain : (line : List ℕ) → IfSome (at_number line) IsPlainRead
+at-number-plain line =
+    let w = number_and_rest line in
+    mapped IsPlain IsPlainRead (with_rest w.1) (number_said w.0) (λ d h. h) (number-plain w.0)
+
+up-to-plain : (text said line : List ℕ) → IfSome (up_to text said line) IsPlainRead
+up-to-plain text said [] = tt
+up-to-plain text said (x ∷ line) =
+    if-some IsPlainRead (is_some (after text (x ∷ line))) _ _ refl (up-to-plain text (said ++ encode_utf8 x) line)
+
 data-plain : (mark : ℕ) (text line : List ℕ) → IfSome (data_said mark text line) IsPlainRead
 data-plain mark text line =
     if-some IsPlainRead (mark == 61) _ _ (all-mapped IsPlainRead _ (after text line) (λ rest. refl))
@@ -177,7 +186,9 @@ data-plain mark text line =
     (if-some IsPlainRead (mark == 33) _ _ (all-mapped IsPlainRead _ (after text line) (λ rest. refl))
     (if-some IsPlainRead (mark == 43) _ _ refl
     (if-some IsPlainRead (mark == 38) _ _ refl
-    (if-some IsPlainRead (mark == 62) _ _ (depth-plain (blanks_from 0 line)) (at-word-plain mark line))))))
+    (if-some IsPlainRead (mark == 62) _ _ (depth-plain (blanks_from 0 line))
+    (if-some IsPlainRead (mark == 64) _ _ (up-to-plain text [] line)
+    (if-some IsPlainRead (mark == 35) _ _ (at-number-plain line) (at-word-plain mark line))))))))
 
 -- ---- forms
 
@@ -268,6 +279,7 @@ said-plain k line (Some (Under inner, named)) h s =
     more-named k line k.begun ((inner_name inner, object_of named) ∷ []) h
     (one-named (inner_name inner) (object_of named) (put_all-plain named s))
 said-plain k line (Some (Begins a, named)) h s = more-named k line (Some a) named h s
+said-plain k line (Some (Closes a, named)) h s = more-named k line (Some a) named h s
 said-plain k line (Some (Item a, named)) h s = more-items k k.begun named h s
 said-plain k line (Some (FirstItem a, named)) h s = more-items k (Some a) named h s
 
@@ -295,18 +307,32 @@ ended-plain k h = put_all-plain (k.named ++ begun_array k.begun k.items ++ line_
     (named-append k.named (begun_array k.begun k.items) h.named (begun-plain k.begun k.items h.items))
     (lines-plain k.lines h.lines))
 
+unowned-plain : (k : Kept) (line : List ℕ) → IsPlainKept k → IsPlainKept (with_unowned k line)
+unowned-plain k [] h = h
+unowned-plain k (x ∷ line) h = line-plain k (x ∷ line) h
+
 owned-plain : (k : Kept) (line : List ℕ) (o : Option (List ℕ × List ℕ)) → IsPlainKept k
     → IsPlainKept (with_owned k line o)
-owned-plain k line None h = one-line-plain k line h
+owned-plain k line None h = unowned-plain k line h
 owned-plain k line (Some (end, said)) h =
     more-named k line k.begun ((end, ended (with_one (nothing_kept None) said)) ∷ []) h
     (one-named end (ended (with_one (nothing_kept None) said))
     (ended-plain (with_one (nothing_kept None) said)
     (one-line-plain (nothing_kept None) said (nothing-plain None))))
 
+formed-plain : (k : Kept) (line : List ℕ) (said : Option (Place × Named)) → IsPlainKept k
+    → IfSome said IsPlainPlaced → IsPlainKept (with_formed k line said)
+formed-plain k line (Some said) h s = said-plain k line (Some said) h s
+formed-plain k line None h s = owned-plain k line (owned line) h
+
+each-plain : (k : Kept) (line : List ℕ) → IsPlainKept k → IsPlainKept (with_line k line)
+unfolding with_line
+each-plain k line h =
+    formed-plain k line _ h (rows-plain (λ row. row.0) (λ row. row.1.now) k.begun ROWS line)
+
 all-plain : (k : Kept) (lines : List (List ℕ)) → IsPlainKept k → IsPlainKept (with_lines k lines)
 all-plain k [] h = h
-all-plain k (line ∷ lines) h = all-plain (with_line k line) lines (owned-plain k line (owned line) h)
+all-plain k (line ∷ lines) h = all-plain (with_line k line) lines (each-plain k line h)
 
 -- the object of an answer has no float
 pub answer-plain : (text : List ℕ) → has_float (json_data text) ≡ false

@@ -3,7 +3,7 @@ use Rattle.std.proofs.Common.{◌≡◌, ◌∙◌, ◌≤◌, ℕ, List, [], �
 use Rattle.serde_json.specs.Data.{Data}
 use Rattle.serde_json.specs.Written.{compact_text, has_float}
 use Rattle.json_lines.specs.Forms.{by_rows}
-use Rattle.json_lines.specs.Answers.{Kept, json_data, with_one, with_said}
+use Rattle.json_lines.specs.Answers.{Kept, json_data, with_formed, with_line, with_one, with_said}
 use Rattle.json_lines.specs.declared.forms.TheConstants.{ROWS}
 use Rattle.json_lines.proofs.Plain.{answer-plain}
 
@@ -11,6 +11,12 @@ use Rattle.json_lines.proofs.Plain.{answer-plain}
 pub text-of : (text s : List ℕ) (d : Data) → d ≡ json_data text → (has_float d ≡ false → s ≡ compact_text d)
     → s ≡ compact_text (json_data text)
 text-of text s d is written = written (ap has_float is ∙ answer-plain text) ∙ ap compact_text is
+
+-- a line, by the forms of all lines
+pub by-forms : (k : Kept) (line : List ℕ)
+    → with_line k line ≡ with_formed k line (by_rows (λ row. row.0) (λ row. row.1.now) k.begun ROWS line)
+unfolding with_line
+by-forms k line = refl
 
 -- a line that isn't empty
 pub some-line : (k : Kept) (line : List ℕ) → 1 ≤ length line

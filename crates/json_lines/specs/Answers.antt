@@ -12,7 +12,7 @@ use Rattle.json_lines.specs.declared.answer.Answer.{Answer}
 use Rattle.json_lines.specs.declared.forms.Array.{Array}
 use Rattle.json_lines.specs.declared.forms.Array.TheVariants.{Exchanges}
 use Rattle.json_lines.specs.declared.forms.Place.{Place}
-use Rattle.json_lines.specs.declared.forms.Place.TheVariants.{Members, Under, Begins, Item, FirstItem}
+use Rattle.json_lines.specs.declared.forms.Place.TheVariants.{Members, Under, Begins, Closes, Item, FirstItem}
 
 -- what the lines so far said: members of the object, the array that has begun with its items, and lines of no form
 pub record Kept : Type 0 where
@@ -59,6 +59,7 @@ with_said k line (Some (Members, named)) = with_named k line k.begun named
 with_said k line (Some (Under inner, named)) =
     with_named k line k.begun ((inner_name inner, object_of named) ∷ [])
 with_said k line (Some (Begins a, named)) = with_named k line (Some a) named
+with_said k line (Some (Closes a, named)) = with_named k line (Some a) named
 with_said k line (Some (Item a, named)) = with_item k k.begun named
 with_said k line (Some (FirstItem a, named)) = with_item k (Some a) named
 
@@ -92,14 +93,24 @@ owned line = or_else
     (option_map (λ rest. (codes "terminal", rest)) (after (codes "terminal: ") line))
     (option_map (λ rest. (codes "card", rest)) (after (codes "card: ") line))
 
+-- a line of no form that is said of no end; an empty one says nothing
+abbrev pub with_unowned : Kept → List ℕ → Kept
+with_unowned k [] = k
+with_unowned k (x ∷ line) = with_line_itself k (x ∷ line)
+
 -- an end has the object of its line
 abbrev pub with_owned : Kept → List ℕ → Option (List ℕ × List ℕ) → Kept
-with_owned k line None = with_one k line
+with_owned k line None = with_unowned k line
 with_owned k line (Some (end, said)) =
     with_named k line k.begun ((end, ended (with_one (nothing_kept None) said)) ∷ [])
 
-abbrev pub with_line : Kept → List ℕ → Kept
-with_line k line = with_owned k line (owned line)
+-- a form of the whole line comes first
+abbrev pub with_formed : Kept → List ℕ → Option (Place × Named) → Kept
+with_formed k line (Some said) = with_said k line (Some said)
+with_formed k line None = with_owned k line (owned line)
+
+unfoldable pub with_line : Kept → List ℕ → Kept
+with_line k line = with_formed k line (by_rows (λ row. row.0) (λ row. row.1.now) k.begun ROWS line)
 
 abbrev pub with_lines : Kept → List (List ℕ) → Kept
 with_lines k [] = k

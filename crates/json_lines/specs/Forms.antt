@@ -1,17 +1,17 @@
 -- What a line says by a form, and by the first that it has.
-use Rattle.std.specs.Prelude.{ℕ, ◌||◌, ◌+◌, ◌/◌, ◌%◌, ◌==◌, List, [], ◌∷◌, ◌++◌, codes, Bool, true, false, Option, Some, None, option_map, option_and_then, bytes_eq, if◌then◌else◌}
+use Rattle.std.specs.Prelude.{ℕ, ◌||◌, ◌+◌, ◌/◌, ◌%◌, ◌==◌, List, [], ◌∷◌, ◌++◌, codes, Bool, true, false, Option, Some, None, option_map, option_and_then, bytes_eq, if◌then◌else◌, encode_utf8, is_some}
 use Rattle.std.specs.List.{slice_split}
 use Rattle.serde_json.specs.Data.{Data, array, boolean, null, number, string, unsigned}
 use Rattle.serde_json.specs.View.{items_of}
 use Rattle.octet_core.specs.Decimal.{decimal_number}
 use Rattle.json_lines.specs.Named.{Named}
-use Rattle.json_lines.specs.Words.{after, characters, blanks_from, parted, word_and_rest}
+use Rattle.json_lines.specs.Words.{after, characters, blanks_from, number_and_rest, parted, word_and_rest}
 use Rattle.json_lines.specs.declared.forms.Array.{Array}
-use Rattle.json_lines.specs.declared.forms.Array.TheVariants.{Interface, Objects, Entries, Exchanges}
+use Rattle.json_lines.specs.declared.forms.Array.TheVariants.{Interface, Objects, Entries, Exchanges, Told}
 use Rattle.json_lines.specs.declared.forms.Inner.{Inner}
 use Rattle.json_lines.specs.declared.forms.Inner.TheVariants.{T1, Pcb}
 use Rattle.json_lines.specs.declared.forms.Place.{Place}
-use Rattle.json_lines.specs.declared.forms.Place.TheVariants.{Members, Under, Begins, Item, FirstItem}
+use Rattle.json_lines.specs.declared.forms.Place.TheVariants.{Members, Under, Begins, Closes, Item, FirstItem}
 
 -- ---- words
 
@@ -47,8 +47,7 @@ unless_none none other word = if is_none word then Some none else other
 -- what a word says at a place with this mark
 abbrev pub word_said : ℕ → List ℕ → Option Data
 word_said mark word =
-    if mark == 35 then number_said word
-    else if mark == 63 then unless_none null (number_said word) word
+    if mark == 63 then unless_none null (number_said word) word
     else if mark == 42 then unless_none (array (items_of [])) (numbers_said word) word
     else if mark == 37 then unless_none (string []) (text_said word) word
     else if mark == 36 then text_said word
@@ -74,6 +73,16 @@ depth_said (blanks, rest) = if blanks % 2 == 0 then Some (number_of (1 + blanks 
 abbrev pub at_word : ℕ → List ℕ → Option Read
 at_word mark line = let w = word_and_rest line in option_map (with_rest w.1) (word_said mark w.0)
 
+-- what the number at the front of a line says
+abbrev pub at_number : List ℕ → Option Read
+at_number line = let w = number_and_rest line in option_map (with_rest w.1) (number_said w.0)
+
+-- a text after some characters: what comes before the first place at which the line goes on with another
+abbrev pub up_to : List ℕ → List ℕ → List ℕ → Option Read
+up_to text said [] = None
+up_to text said (x ∷ line) = if is_some (after text (x ∷ line)) then Some (string said, x ∷ line)
+    else up_to text (said ++ encode_utf8 x) line
+
 -- what a line says at a place with this mark and this text
 abbrev pub data_said : ℕ → List ℕ → List ℕ → Option Read
 data_said mark text line =
@@ -83,6 +92,8 @@ data_said mark text line =
     else if mark == 43 then Some (with_data (string (characters text)) line)
     else if mark == 38 then Some (with_data (string (characters line)) [])
     else if mark == 62 then depth_said (blanks_from 0 line)
+    else if mark == 64 then up_to text [] line
+    else if mark == 35 then at_number line
     else at_word mark line
 
 -- ---- forms
@@ -137,6 +148,7 @@ array_name Interface = codes "interface"
 array_name Objects = codes "objects"
 array_name Entries = codes "entries"
 array_name Exchanges = codes "exchanges"
+array_name Told = codes "told"
 
 abbrev pub inner_name : Inner → List ℕ
 inner_name T1 = codes "t1"
@@ -147,6 +159,7 @@ is_same Interface Interface = true
 is_same Objects Objects = true
 is_same Entries Entries = true
 is_same Exchanges Exchanges = true
+is_same Told Told = true
 is_same _ _ = false
 
 abbrev pub is_nothing : Option Array → Bool
@@ -163,6 +176,7 @@ abbrev pub may_stand : Place → Option Array → Bool
 may_stand Members begun = true
 may_stand (Under inner) begun = true
 may_stand (Begins a) begun = is_nothing begun
+may_stand (Closes a) begun = is_nothing begun || has_begun a begun
 may_stand (Item a) begun = has_begun a begun
 may_stand (FirstItem a) begun = is_nothing begun || has_begun a begun
 

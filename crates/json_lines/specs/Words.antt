@@ -39,6 +39,14 @@ up_to line (Some place) = (take place line, drop place line)
 abbrev pub word_and_rest : List ℕ → List ℕ × List ℕ
 word_and_rest line = up_to line (position_from ends_word 0 line)
 
+-- a number ends before a comma too
+abbrev pub ends_number : ℕ → Bool
+ends_number x = ends_word x || x == 44
+
+-- the number at the front of a line, and what is after it
+abbrev pub number_and_rest : List ℕ → List ℕ × List ℕ
+number_and_rest line = up_to line (position_from ends_number 0 line)
+
 -- the blanks at the front of a line after so many, and what is after them
 abbrev pub blanks_from : ℕ → List ℕ → ℕ × List ℕ
 blanks_from count [] = (count, [])

@@ -3,7 +3,7 @@
 ghost use Rattle.std.specs.Prelude.{◌≡◌, ◌∷◌, ◌++◌, [], map, option_map, string_bytes, IfOk, OnOk};
 ghost use Rattle.serde_json.specs.Data.{put};
 ghost use Rattle.serde_json.specs.View.{members_view, view};
-ghost use Rattle.json_lines.specs.Answers.{array_of, ended, kept, nothing_kept, owned, with_item, with_line, with_line_itself, with_named, with_one, with_said};
+ghost use Rattle.json_lines.specs.Answers.{array_of, ended, kept, nothing_kept, owned, with_item, with_line, with_line_itself, with_named, with_one, with_said, with_owned, with_unowned};
 ghost use Rattle.json_lines.specs.Forms.{by_rows};
 ghost use Rattle.json_lines.specs.Named.{has_name, named_view, object_of, shares};
 
@@ -47,12 +47,33 @@ impl Answer {
     pub(crate) fn take(&mut self, alloc: Global, line: &[u8]) -> Result<(), AllocError>
         ensures { OnOk result (kept self.new ≡ with_line (kept self.old) line.now) }
     {
+        match said_by(alloc, self.begun, line)? {
+            Some(said) => self.take_said(alloc, line, Some(said)),
+            None => self.take_owned(alloc, line),
+        }
+    }
+
+    /// Takes a line of no form: it may be said of an end.
+    fn take_owned(&mut self, alloc: Global, line: &[u8]) -> Result<(), AllocError>
+        ensures { OnOk result (kept self.new
+            ≡ with_owned (kept self.old) line.now (owned line.now)) }
+    {
         match owned(line) {
-            None => self.take_one(alloc, line),
+            None => self.take_unowned(alloc, line),
             Some((end, said)) => {
                 let data = object_of_one(alloc, said)?;
                 self.put(alloc, line, end, data)
             }
+        }
+    }
+
+    /// Takes a line of no form that is said of no end. An empty one says nothing.
+    fn take_unowned(&mut self, alloc: Global, line: &[u8]) -> Result<(), AllocError>
+        ensures { OnOk result (kept self.new ≡ with_unowned (kept self.old) line.now) }
+    {
+        match line {
+            [] => Ok(()),
+            _ => self.put_line(alloc, line),
         }
     }
 
@@ -88,7 +109,9 @@ impl Answer {
                 let data = object_of(alloc, named)?;
                 self.put(alloc, line, inner.name(), data)
             }
-            Place::Begins(array) => self.put_all(alloc, line, Some(array), named),
+            Place::Begins(array) | Place::Closes(array) => {
+                self.put_all(alloc, line, Some(array), named)
+            }
             Place::Item(_) => self.put_item(alloc, named),
             Place::FirstItem(array) => {
                 self.begun = Some(array);

@@ -4,10 +4,10 @@ ghost use Rattle.std.specs.Prelude.{◌≡◌, ◌==◌, ◌∷◌, ◌++◌, []
 ghost use Rattle.std.specs.List.{slice_split};
 ghost use Rattle.serde_json.specs.View.{view};
 ghost use Rattle.serde_json.specs.Data.{null, string};
-ghost use Rattle.json_lines.specs.Forms.{at_word, data_said, depth_said, is_none, numbers_from, number_said, numbers_said, text_said, unless_none, with_data, with_rest, word_said};
+ghost use Rattle.json_lines.specs.Forms.{at_number, at_word, data_said, depth_said, is_none, numbers_from, number_said, numbers_said, text_said, unless_none, up_to, with_data, with_rest, word_said};
 ghost use Rattle.json_lines.specs.Words.{after, characters, blanks_from};
 
-use crate::words::{after, blanks, characters, parted, word};
+use crate::words::{after, blanks, characters, number, parted, word};
 use octet_core::decimal_of;
 use serde_json::Value;
 use std::alloc::{AllocError, Global};
@@ -35,6 +35,8 @@ pub(crate) fn data_said<'a>(
         b'+' => Ok(Some((string(alloc, text)?, line))),
         b'&' => Ok(Some((string(alloc, line)?, &[]))),
         b'>' => Ok(depth(line)),
+        b'@' => up_to(alloc, text, line),
+        b'#' => Ok(at_number(line)),
         _ => at_word(alloc, mark, line),
     }
 }
@@ -61,6 +63,23 @@ fn past<'a>(value: Value, text: &[u8], line: &'a [u8]) -> Read<'a>
     }
 }
 
+/// What comes before the first place at which a line goes on with this text.
+fn up_to<'a>(alloc: Global, text: &[u8], line: &'a [u8]) -> Result<Read<'a>, AllocError>
+    ensures { IfOk result (λ read. option_map (λ r. (view r.0, r.1.now)) read
+        ≡ up_to text.now [] line.now) }
+{
+    let mut said = String::new(alloc);
+    let mut rest = line;
+    while let [x, more @ ..] = rest {
+        if after(text, rest).is_some() {
+            return Ok(Some((Value::String(said), rest)));
+        }
+        said.push(char::from(*x))?;
+        rest = more;
+    }
+    Ok(None)
+}
+
 /// The depth that blanks say, two for each above 1.
 fn depth(line: &[u8]) -> Read<'_>
     ensures { option_map (λ r. (view r.0, r.1.now)) result ≡ depth_said (blanks_from 0 line.now) }
@@ -70,6 +89,17 @@ fn depth(line: &[u8]) -> Read<'_>
         Some((Value::from(1 + blanks / 2), rest))
     } else {
         None
+    }
+}
+
+/// What the number at the front of a line says.
+fn at_number(line: &[u8]) -> Read<'_>
+    ensures { option_map (λ r. (view r.0, r.1.now)) result ≡ at_number line.now }
+{
+    let (word, rest) = number(line);
+    match number_said(word) {
+        Some(value) => Some((value, rest)),
+        None => None,
     }
 }
 
@@ -90,7 +120,6 @@ fn word_said(alloc: Global, mark: u8, word: &[u8]) -> Result<Option<Value>, Allo
     ensures { IfOk result (λ value. option_map view value ≡ word_said mark word.now) }
 {
     match mark {
-        b'#' => Ok(number_said(word)),
         b'?' if is_none(word) => Ok(Some(Value::Null)),
         b'?' => Ok(number_said(word)),
         b'*' if is_none(word) => Ok(Some(Value::Array(Vec::new(alloc)))),

@@ -3,9 +3,9 @@
 ghost use Rattle.std.specs.Prelude.{◌≡◌};
 ghost use Rattle.json_lines.specs.Forms.{array_name, has_begun, inner_name, may_stand};
 
-use Array::{Entries, Exchanges, Interface, Objects};
+use Array::{Entries, Exchanges, Interface, Objects, Told};
 use Inner::{Pcb, T1};
-use Place::{Begins, FirstItem, Item, Members, Under};
+use Place::{Begins, Closes, FirstItem, Item, Members, Under};
 
 /// An array in the object of an answer.
 #[derive(Clone, Copy, PartialEq)]
@@ -18,6 +18,8 @@ pub(crate) enum Array {
     Entries,
     /// The exchanges of a recorded exchange.
     Exchanges,
+    /// What a judged trace comes to.
+    Told,
 }
 
 impl Array {
@@ -30,6 +32,7 @@ impl Array {
             Array::Objects => "objects",
             Array::Entries => "entries",
             Array::Exchanges => "exchanges",
+            Array::Told => "told",
         }
     }
 
@@ -74,6 +77,8 @@ pub(crate) enum Place {
     Under(Inner),
     /// Into the object of the answer, where no array has begun. This array begins.
     Begins(Array),
+    /// Into the object of the answer, where this array has begun, or none. Then this one begins.
+    Closes(Array),
     /// Into an object of its own at the end of the array, where that has begun.
     Item(Array),
     /// The same, also where no array has begun. Then this one begins.
@@ -89,7 +94,9 @@ impl Place {
             Place::Members | Place::Under(_) => true,
             Place::Begins(_) => begun.is_none(),
             Place::Item(array) => array.has_begun(begun),
-            Place::FirstItem(array) => begun.is_none() || array.has_begun(begun),
+            Place::FirstItem(array) | Place::Closes(array) => {
+                begun.is_none() || array.has_begun(begun)
+            }
         }
     }
 }
@@ -105,6 +112,7 @@ impl Place {
 /// - `{%inf}` a word, or `none` for the empty text;
 /// - `{$reason}` a word;
 /// - `{&gives}` the rest of the line;
+/// - `{@rule:, due }` what comes before the first `, due `;
 /// - `{>depth}` two blanks for each depth above 1, for the depth;
 /// - `{=verdict:ok}` the word `ok`, as text;
 /// - `{~tck:absent}` the word `absent`, for null;
@@ -113,7 +121,7 @@ impl Place {
 pub(crate) type Row = (Place, &'static str);
 
 /// The forms of all lines. The first that a line has counts; those of which an answer may have many come first.
-pub(crate) const ROWS: [Row; 40] = [
+pub(crate) const ROWS: [Row; 62] = [
     (
         Item(Objects),
         "{>depth}{$tag} {$length} {!constructed:constructed}",
@@ -124,6 +132,91 @@ pub(crate) const ROWS: [Row; 40] = [
         FirstItem(Exchanges),
         "exchange {#exchange} command {%command} answer {%answer} blocks {#blocks} \
             lost {*lost} damaged {*damaged} time {?time}",
+    ),
+    (
+        FirstItem(Told),
+        "block {#block} {$end}: late, {#after} microseconds after block {#before}, \
+            permitted {#permitted}  ({@clause:)}){+kind:late}",
+    ),
+    (
+        FirstItem(Told),
+        "block {#block} {$end}: permitted if block {#before} was damaged or lost unseen\
+            {+kind:unseen}",
+    ),
+    (
+        FirstItem(Told),
+        "block {#block} {$end}: {@rule:, due }, due {@due:  (}  ({@clause:)}){+kind:deviation}",
+    ),
+    (
+        FirstItem(Told),
+        "{=end:card}: no answer to block {#before}, permitted if that was lost unseen\
+            {+kind:unseen}",
+    ),
+    (
+        FirstItem(Told),
+        "{=end:card}: no answer to block {#before}, which it got  ({@clause:)})\
+            {+rule:no block}{+kind:deviation}",
+    ),
+    (FirstItem(Told), "{=kind:pps} F {#F} D {#D}"),
+    (FirstItem(Told), "{=kind:pps} F {#F} D {~D:reserved}"),
+    (FirstItem(Told), "{=kind:pps} F {~F:reserved} D {#D}"),
+    (
+        FirstItem(Told),
+        "{=kind:pps} F {~F:reserved} D {~D:reserved}",
+    ),
+    (
+        FirstItem(Told),
+        "line {#line}: neither PPS nor a block{+kind:neither}",
+    ),
+    (Closes(Told), "{=verdict:ok} {#blocks} block"),
+    (Closes(Told), "{=verdict:ok} {#blocks} blocks"),
+    (
+        Closes(Told),
+        "{=verdict:ok} {#blocks} block, unseen {#unseen}",
+    ),
+    (
+        Closes(Told),
+        "{=verdict:ok} {#blocks} blocks, unseen {#unseen}",
+    ),
+    (
+        Closes(Told),
+        "{#blocks} block, {#deviations} deviation: terminal {#terminal}, card {#card}, \
+            unseen {#unseen}{+verdict:deviates}",
+    ),
+    (
+        Closes(Told),
+        "{#blocks} block, {#deviations} deviations: terminal {#terminal}, card {#card}, \
+            unseen {#unseen}{+verdict:deviates}",
+    ),
+    (
+        Closes(Told),
+        "{#blocks} blocks, {#deviations} deviation: terminal {#terminal}, card {#card}, \
+            unseen {#unseen}{+verdict:deviates}",
+    ),
+    (
+        Closes(Told),
+        "{#blocks} blocks, {#deviations} deviations: terminal {#terminal}, card {#card}, \
+            unseen {#unseen}{+verdict:deviates}",
+    ),
+    (
+        Closes(Told),
+        "{#blocks} block, {#deviations} deviation: terminal {#terminal}, card {#card}, \
+            unseen {#unseen}, late {#late}{+verdict:deviates}",
+    ),
+    (
+        Closes(Told),
+        "{#blocks} block, {#deviations} deviations: terminal {#terminal}, card {#card}, \
+            unseen {#unseen}, late {#late}{+verdict:deviates}",
+    ),
+    (
+        Closes(Told),
+        "{#blocks} blocks, {#deviations} deviation: terminal {#terminal}, card {#card}, \
+            unseen {#unseen}, late {#late}{+verdict:deviates}",
+    ),
+    (
+        Closes(Told),
+        "{#blocks} blocks, {#deviations} deviations: terminal {#terminal}, card {#card}, \
+            unseen {#unseen}, late {#late}{+verdict:deviates}",
     ),
     (Members, "{=verdict:ok} {#octets} octets"),
     (Members, "{=verdict:ok} {#lines} lines"),

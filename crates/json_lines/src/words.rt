@@ -2,7 +2,7 @@
 
 ghost use Rattle.std.specs.Prelude.{◌≡◌, ◌==◌, ◌∷◌, ◌<◌, length, option_map, string_bytes, IfOk, IfSome};
 ghost use Rattle.std.specs.List.{position_from, slice_split};
-ghost use Rattle.json_lines.specs.Words.{after, after_mark, characters, blanks_from, ends_word, lent, parted, word_and_rest};
+ghost use Rattle.json_lines.specs.Words.{after, after_mark, characters, blanks_from, ends_number, ends_word, lent, number_and_rest, parted, word_and_rest};
 
 use std::alloc::{AllocError, Global};
 
@@ -51,6 +51,31 @@ pub(crate) fn word(line: &[u8]) -> (&[u8], &[u8])
         Some(place) => (&line[..place], &line[place..]),
         None => (line, &[]),
     }
+}
+
+/// The number at the front of a line, up to a blank, a colon or a comma, and what is after it.
+pub(crate) fn number(line: &[u8]) -> (&[u8], &[u8])
+    ensures { (result.0.now, result.1.now) ≡ number_and_rest line.now }
+{
+    match end_of_number(line) {
+        Some(place) => (&line[..place], &line[place..]),
+        None => (line, &[]),
+    }
+}
+
+/// The place before which the number at the front of a line ends.
+fn end_of_number(line: &[u8]) -> Option<usize>
+    ensures place { result ≡ position_from ends_number 0 line.now }
+    ensures inside { IfSome result (λ place. place < length line.now) }
+{
+    line.iter().position(|&x| ends_number(x))
+}
+
+/// Whether a number ends before it.
+fn ends_number(x: u8) -> bool
+    ensures { result ≡ ends_number x }
+{
+    ends_word(x) || x == b','
 }
 
 /// The place before which the word at the front of a line ends.

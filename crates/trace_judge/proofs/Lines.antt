@@ -1,11 +1,12 @@
 -- How the lines of a trace are judged, one after another.
-use Rattle.std.proofs.Common.{◌≡◌, ◌<◌, ◌⊎◌, ◌∙◌, inl, inr, ℕ, List, [], ◌∷◌, Option, Result, Ok, Err, refl, ap, sym, ◌+◌, arith, length, get_or, drop, subst, MatchResult}
+use Rattle.std.proofs.Common.{◌≡◌, ◌<◌, ◌⊎◌, ◌∙◌, inl, inr, ℕ, List, [], ◌∷◌, Result, Ok, Err, refl, ap, sym, ◌+◌, arith, length, get_or, drop, subst, MatchResult}
 use Rattle.std.specs.List.{slice_split}
 use Rattle.std.proofs.lemmas.List.{drop_more, drop_all}
 use Rattle.exchange_text.specs.declared.fault.ExchangeFault.{ExchangeFault}
 use Rattle.exchange_text.specs.declared.fault.ExchangeFault.TheVariants.{Memory}
-use Rattle.judge_core.specs.declared.end.Side.{Side}
 use Rattle.trace_judge.specs.declared.standing.Judgment.{Judgment}
+use Rattle.trace_judge.specs.declared.standing.Scope.{Scope}
+use Rattle.trace_judge.specs.Waiting.{Offered}
 use Rattle.trace_judge.specs.Judging.{is_line_end, start, Fails, IsConcluded, Judges, JudgesLine, JudgesLines, Standing}
 
 -- whatever the lines that are left come to is what all lines come to, and each line was counted
@@ -47,26 +48,29 @@ no-more s begun lines i e kept =
     kept.same (Ok s) (subst P none refl)
 
 -- a fault of the lines is that of the text
-pub faulted : (ifsc : ℕ) (only : Option Side) (text : List ℕ) (fault : ExchangeFault)
-    → JudgesLines (start ifsc only) (slice_split is_line_end text) (Err fault) → Judges ifsc only text (Err fault)
-faulted ifsc only text fault all = inr (Err fault, all, refl)
+pub faulted : (offered : Offered) (scope : Scope) (text : List ℕ) (fault : ExchangeFault)
+    → JudgesLines (start offered scope) (slice_split is_line_end text) (Err fault)
+    → Judges offered scope text (Err fault)
+faulted offered scope text fault all = inr (Err fault, all, refl)
 
-pub out-of-memory : (ifsc : ℕ) (only : Option Side) (text : List ℕ) (fault : ExchangeFault) → fault ≡ Memory
-    → Judges ifsc only text (Err fault)
-out-of-memory ifsc only text fault e = inl (ap Err e)
+pub out-of-memory : (offered : Offered) (scope : Scope) (text : List ℕ) (fault : ExchangeFault) → fault ≡ Memory
+    → Judges offered scope text (Err fault)
+out-of-memory offered scope text fault e = inl (ap Err e)
 
 -- and the text is concluded
-pub concluded : (ifsc : ℕ) (only : Option Side) (text : List ℕ) (s : Standing) (result : Result Judgment ExchangeFault)
-    → JudgesLines (start ifsc only) (slice_split is_line_end text) (Ok s)
-    → MatchResult result (IsConcluded s) (λ fault. fault ≡ Memory) → Judges ifsc only text result
-concluded ifsc only text s (Ok judgment) all is = inr (Ok s, all, is)
-concluded ifsc only text s (Err fault) all is = inl (ap Err is)
+pub concluded : (offered : Offered) (scope : Scope) (text : List ℕ) (s : Standing)
+    (result : Result Judgment ExchangeFault)
+    → JudgesLines (start offered scope) (slice_split is_line_end text) (Ok s)
+    → MatchResult result (IsConcluded s) (λ fault. fault ≡ Memory) → Judges offered scope text result
+concluded offered scope text s (Ok judgment) all is = inr (Ok s, all, is)
+concluded offered scope text s (Err fault) all is = inl (ap Err is)
 
 -- a line that isn't taken
-pub stopped : (ifsc : ℕ) (only : Option Side) (text line : List ℕ) (before : Standing) (i : ℕ) (fault : ExchangeFault)
+pub stopped : (offered : Offered) (scope : Scope) (text line : List ℕ) (before : Standing) (i : ℕ)
+    (fault : ExchangeFault)
     → (i < length (slice_split is_line_end text)) × (line ≡ get_or (slice_split is_line_end text) i line)
     → (fault ≡ Memory) ⊎ Fails before line fault
-    → IsOnTheWay before (slice_split is_line_end text) i (start ifsc only) → Judges ifsc only text (Err fault)
-stopped ifsc only text line before i fault at (inl memory) kept = out-of-memory ifsc only text fault memory
-stopped ifsc only text line before i fault at (inr fails) kept = faulted ifsc only text fault
-    (next-fault before (start ifsc only) line (slice_split is_line_end text) i fault at fails kept)
+    → IsOnTheWay before (slice_split is_line_end text) i (start offered scope) → Judges offered scope text (Err fault)
+stopped offered scope text line before i fault at (inl memory) kept = out-of-memory offered scope text fault memory
+stopped offered scope text line before i fault at (inr fails) kept = faulted offered scope text fault
+    (next-fault before (start offered scope) line (slice_split is_line_end text) i fault at fails kept)

@@ -1,5 +1,5 @@
 -- That a trace has one judgment, or one fault.
-use Rattle.std.proofs.Common.{◌≡◌, ◌≢◌, ◌<◌, ◌≤◌, ◌⊎◌, ◌∙◌, ◌||◌, ◌&&◌, ◌+◌, ◌++◌, ◌==◌, inl, inr, not, ℕ, List, [], ◌∷◌, codes, Bool, true, false, Option, Some, None, Result, Ok, Err, MatchResult, if◌then◌else◌, ap, arith, refl, subst, sym}
+use Rattle.std.proofs.Common.{◌≡◌, ◌≢◌, ◌<◌, ◌≤◌, ◌⊎◌, ◌∙◌, ◌||◌, ◌&&◌, ◌+◌, ◌++◌, ◌==◌, inl, inr, not, ℕ, List, [], ◌∷◌, codes, length, Bool, true, false, Option, Some, None, Result, Ok, Err, MatchResult, if◌then◌else◌, ap, arith, refl, subst, sym}
 use Rattle.std.specs.Str.{bytes_eq}
 use Rattle.std.specs.List.{slice_split}
 use Rattle.std.proofs.lemmas.Bool.{cases_lt}
@@ -20,10 +20,12 @@ use Rattle.judge_core.specs.Monitored.{monitor_after, report_of}
 use Rattle.trace_judge.specs.declared.entry.Entry.{Entry}
 use Rattle.trace_judge.specs.declared.entry.Entry.TheVariants.{Nothing, Block, Quiet, Reset, Moment}
 use Rattle.trace_judge.specs.declared.entry.Reach.{Reach}
-use Rattle.trace_judge.specs.declared.entry.Reach.TheVariants.{Unsaid, Lost, Came}
+use Rattle.trace_judge.specs.declared.entry.Reach.TheVariants.{Unsaid, Lost}
 use Rattle.trace_judge.specs.declared.standing.Judgment.{Judgment}
+use Rattle.trace_judge.specs.declared.standing.Scope.{Scope}
+use Rattle.trace_judge.specs.Waiting.{Offered}
 use Rattle.trace_judge.specs.Reading.{◌>>=◌, block_said, entry_said, hex_said, is_empty, moment_by, named_said, octets_by, reach_said, words_of, Words}
-use Rattle.trace_judge.specs.Judging.{deviations, ended, is_before, is_line_end, start, summary, told_before, told_report, Concludes, Fails, IsBlockTold, IsEntered, IsFalling, IsTold, Judges, JudgesLine, JudgesLines, Standing}
+use Rattle.trace_judge.specs.Judging.{at_moment, deviations, ended, is_before, is_line_end, start, summary, told_before, told_block, Concludes, Fails, IsBlockTold, IsEntered, IsFalling, IsTold, Judges, JudgesLine, JudgesLines, Standing}
 use Rattle.trace_judge.proofs.SeenOnce.{one-taking, some-arrival, some-seen, IsOfOctets}
 
 -- ---- what a line says
@@ -96,8 +98,8 @@ one-told s from b octets reach came t u h g =
     let both = one-taking s.monitor from b octets reach came h.arrival g.arrival h.monitor g.monitor h.report g.report
     h.is_arrival g.is_arrival h.takes g.takes in
     h.told
-    ∙ ap (λ (m : Monitor). told_report (record s { monitor = m; begun = true }) from h.report) both.0
-    ∙ ap (λ (r : Report). told_report (record s { monitor = g.monitor; begun = true }) from r) both.1
+    ∙ ap (λ (m : Monitor). told_block s m from (length b) h.report) both.0
+    ∙ ap (λ (r : Report). told_block s g.monitor from (length b) r) both.1
     ∙ sym g.told
 
 one-block : (before : Bool) (s : Standing) (from : Side) (b : List ℕ) → AreOctets b → (reach : Reach)
@@ -123,7 +125,7 @@ some-block false s from b octets reach came =
     let arrival = some-arrival reach came in
     let after = monitor_after s.monitor from seen.0 arrival.2 in
     let says = report_of s.monitor from seen.0 in (
-      told_report (record s { monitor = after; begun = true }) from says,
+      told_block s after from (length b) says,
       record {
         arrival = arrival.0;
         is_arrival = arrival.1;
@@ -145,7 +147,7 @@ some-block false s from b octets reach came =
 some-moment : (s : Standing) (moment : ℕ) → (moment < s.least) ⊎ (s.least ≤ moment)
     → ((t : Standing) × IsEntered s (Moment moment) t) ⊎ IsFalling s (Moment moment)
 some-moment s moment (inl falls) = inr falls
-some-moment s moment (inr holds) = inl (record s { least = moment }, (holds, refl))
+some-moment s moment (inr holds) = inl (at_moment s moment, (holds, refl))
 
 some-entered : (s : Standing) (entry : Entry) → HasOctets entry → ((t : Standing) × IsEntered s entry t)
     ⊎ IsFalling s entry
@@ -267,25 +269,25 @@ end-or-fault : (all : Result Standing ExchangeFault) (a : Judgment) (x : Exchang
 end-or-fault (Ok s) a x h g = absurd g
 end-or-fault (Err fault) a x h g = cc h
 
-module _ (ifsc : ℕ) (only : Option Side) (text : List ℕ) where
+module _ (offered : Offered) (scope : Scope) (text : List ℕ) where
   abbrev Comes : Result Standing ExchangeFault → Type 0
-  Comes all = JudgesLines (start ifsc only) (slice_split is_line_end text) all
+  Comes all = JudgesLines (start offered scope) (slice_split is_line_end text) all
 
   same-lines : (all other : Result Standing ExchangeFault) → Comes all → Comes other → all ≡ other
-  same-lines all other h g = one-of-lines (slice_split is_line_end text) (start ifsc only) all other h g
+  same-lines all other h g = one-of-lines (slice_split is_line_end text) (start offered scope) all other h g
 
-  judged-lines : (a : Judgment) → Judges ifsc only text (Ok a)
+  judged-lines : (a : Judgment) → Judges offered scope text (Ok a)
       → (all : Result Standing ExchangeFault) × Comes all × Concludes all (Ok a)
   judged-lines a (inl memory) = absurd (cc memory)
   judged-lines a (inr all) = all
 
-  faulty-lines : (x : ExchangeFault) → x ≢ Memory → Judges ifsc only text (Err x)
+  faulty-lines : (x : ExchangeFault) → x ≢ Memory → Judges offered scope text (Err x)
       → (all : Result Standing ExchangeFault) × Comes all × Concludes all (Err x)
   faulty-lines x other (inl memory) = absurd (other (cc memory))
   faulty-lines x other (inr all) = all
 
   -- it has one judgment
-  pub one-judgment : (a b : Judgment) → Judges ifsc only text (Ok a) → Judges ifsc only text (Ok b)
+  pub one-judgment : (a b : Judgment) → Judges offered scope text (Ok a) → Judges offered scope text (Ok b)
       → (a.text ≡ b.text) × (a.deviates ≡ b.deviates)
   one-judgment a b h g =
       let first = judged-lines a h in
@@ -294,8 +296,8 @@ module _ (ifsc : ℕ) (only : Option Side) (text : List ℕ) where
       (same-lines first.0 second.0 first.1 second.1) first.2) second.2
 
   -- or one fault
-  pub one-text-fault : (x y : ExchangeFault) → x ≢ Memory → y ≢ Memory → Judges ifsc only text (Err x)
-      → Judges ifsc only text (Err y) → x ≡ y
+  pub one-text-fault : (x y : ExchangeFault) → x ≢ Memory → y ≢ Memory → Judges offered scope text (Err x)
+      → Judges offered scope text (Err y) → x ≡ y
   one-text-fault x y known also h g =
       let first = faulty-lines x known h in
       let second = faulty-lines y also g in
@@ -303,8 +305,8 @@ module _ (ifsc : ℕ) (only : Option Side) (text : List ℕ) where
       (same-lines first.0 second.0 first.1 second.1) first.2) second.2
 
   -- and not both
-  pub judgment-or-fault : (a : Judgment) (x : ExchangeFault) → x ≢ Memory → Judges ifsc only text (Ok a)
-      → Judges ifsc only text (Err x) → ⊥
+  pub judgment-or-fault : (a : Judgment) (x : ExchangeFault) → x ≢ Memory → Judges offered scope text (Ok a)
+      → Judges offered scope text (Err x) → ⊥
   judgment-or-fault a x known h g =
       let first = judged-lines a h in
       let second = faulty-lines x known g in
@@ -312,8 +314,8 @@ module _ (ifsc : ℕ) (only : Option Side) (text : List ℕ) where
       (same-lines first.0 second.0 first.1 second.1) first.2) second.2
 
   some-concluded : (all : Result Standing ExchangeFault) → Comes all
-      → ((a : Judgment) × Judges ifsc only text (Ok a))
-      ⊎ ((x : ExchangeFault) × (x ≢ Memory) × Judges ifsc only text (Err x))
+      → ((a : Judgment) × Judges offered scope text (Ok a))
+      ⊎ ((x : ExchangeFault) × (x ≢ Memory) × Judges offered scope text (Err x))
   some-concluded (Ok s) h =
       let judgment : Judgment = record {
         text = (ended s).text ++ summary (ended s).monitor.blocks (ended s).tally;
@@ -322,13 +324,13 @@ module _ (ifsc : ℕ) (only : Option Side) (text : List ℕ) where
       inl (judgment, inr (Ok s, h, record { text = refl; deviates = refl }))
   some-concluded (Err fault) h = inr (
     fault,
-    fault-of-lines (slice_split is_line_end text) (start ifsc only) fault h,
+    fault-of-lines (slice_split is_line_end text) (start offered scope) fault h,
     inr (Err fault, h, refl),
   )
 
   -- but one of them
-  pub some-judgment : ((a : Judgment) × Judges ifsc only text (Ok a))
-      ⊎ ((x : ExchangeFault) × (x ≢ Memory) × Judges ifsc only text (Err x))
+  pub some-judgment : ((a : Judgment) × Judges offered scope text (Ok a))
+      ⊎ ((x : ExchangeFault) × (x ≢ Memory) × Judges offered scope text (Err x))
   some-judgment =
-      let all = some-of-lines (slice_split is_line_end text) (start ifsc only) in
+      let all = some-of-lines (slice_split is_line_end text) (start offered scope) in
       some-concluded all.0 all.1

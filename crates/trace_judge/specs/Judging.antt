@@ -24,37 +24,44 @@ use Rattle.trace_judge.specs.declared.entry.Entry.TheVariants.{Nothing, Block, Q
 use Rattle.trace_judge.specs.declared.entry.Reach.{Reach}
 use Rattle.trace_judge.specs.declared.entry.Reach.TheVariants.{Unsaid, Lost, Came}
 use denote.Ref.{Bor}
-use Rattle.trace_judge.specs.declared.standing.Tally.{Tally}
+use Rattle.trace_judge.specs.declared.tally.Tally.{Tally}
+use Rattle.trace_judge.specs.declared.standing.Scope.{Scope}
+use Rattle.trace_judge.specs.declared.timing.Late.{Late}
+use Rattle.trace_judge.specs.declared.timing.Timing.{Timing}
 use Rattle.trace_judge.specs.declared.standing.Judgment.{Judgment}
 use Rattle.trace_judge.specs.Reading.{entry_said, words_of}
-use Rattle.trace_judge.specs.Saying.{certain_text, deviation_text, neither_text, possible_text, unseen_text}
+use Rattle.trace_judge.specs.Saying.{certain_text, deviation_text, late_text, neither_text, possible_text, unseen_text}
+use Rattle.trace_judge.specs.Waiting.{lateness, new_timing, past, timed, Offered, Rates}
 
 -- What was judged so far.
 pub record Standing : Type 0 where
   pub monitor : Monitor
-  -- the size that the card takes after a reset
-  pub ifsc : ℕ
-  -- the end that is judged, or both
-  pub only : Option Side
+  -- what the card offers after a reset
+  pub offered : Offered
+  -- what is judged
+  pub scope : Scope
   -- whether blocks began
   pub begun : Bool
   -- the last moment, and the number of the next line
   pub least : ℕ
   pub number : ℕ
+  -- what is known of the time on the line
+  pub timing : Timing
   pub tally : Tally
   pub text : List ℕ
 
 abbrev pub nothing_told : Tally
-nothing_told = record { terminal = 0; card = 0; unseen = 0 }
+nothing_told = record { terminal = 0; card = 0; unseen = 0; late = 0 }
 
-abbrev pub start : ℕ → Option Side → Standing
-start ifsc only = record {
-  monitor = new_monitor ifsc;
-  ifsc = ifsc;
-  only = only;
+abbrev pub start : Offered → Scope → Standing
+start offered scope = record {
+  monitor = new_monitor offered.values.ifsc;
+  offered = offered;
+  scope = scope;
   begun = false;
   least = 0;
   number = 1;
+  timing = new_timing offered.rates;
   tally = nothing_told;
   text = [];
 }
@@ -80,10 +87,13 @@ deviation_of Card tally = record tally { card = number_after tally.card }
 abbrev pub unseen_in : Tally → Tally
 unseen_in tally = record tally { unseen = number_after tally.unseen }
 
+abbrev pub late_in : Tally → Tally
+late_in tally = record tally { late = number_after tally.late }
+
 -- a line more, with what it counts, where this end is judged
 abbrev pub tells : Standing → Side → Tally → List ℕ → Standing
 tells s side tally line =
-    if is_judged s.only side then record s { tally = tally; text = s.text ++ line } else s
+    if is_judged s.scope.only side then record s { tally = tally; text = s.text ++ line } else s
 
 -- a card that sent no block
 abbrev pub told_silence : Standing → Silence → Standing
@@ -106,6 +116,15 @@ told_said s from before (Judged verdict) = told_verdict s from before verdict
 abbrev pub told_report : Standing → Side → Report → Standing
 told_report s from report = told_said (told_silence s report.silence) from report.before report.said
 
+-- A card's block, perhaps late: by what was known before it.
+abbrev pub late_from : Standing → Side → Option Late
+late_from s Terminal = None
+late_from s Card = lateness s.offered.values s.scope.clock s.timing s.monitor.card.heard
+
+abbrev pub told_late : Standing → ℕ → Option Late → Standing
+told_late s before None = s
+told_late s before (Some late) = tells s Card (late_in s.tally) (late_text s.monitor.blocks before late)
+
 -- ---- before the first block: PPS (ISO/IEC 7816-3:2006, clause 9)
 
 -- PPSS, PPS0, an octet for each of three bits of it, and PCK, by which the exclusive-or of all is 00
@@ -121,7 +140,7 @@ rate_text None = codes "reserved"
 rate_text (Some rate) = decimal rate
 
 -- F and D by the tables of TA1
-abbrev pub rates_at : ℕ → Option ℕ × Option ℕ
+abbrev pub rates_at : ℕ → Rates
 rates_at pps1 = (slice_index_or clock_rates (pps1 / 16) None, slice_index_or baud_rates (pps1 % 16) None)
 
 abbrev pub pps_text : ℕ → List ℕ
@@ -137,8 +156,13 @@ abbrev pub pps_said : Side → List ℕ → List ℕ
 pps_said Terminal octets = []
 pps_said Card octets = pps_text (pps1_of octets)
 
+abbrev pub pps_timed : Timing → Side → List ℕ → Timing
+pps_timed timing Terminal octets = past timing
+pps_timed timing Card octets = record timing { rates = rates_at (pps1_of octets); now = None }
+
 abbrev pub told_before : Standing → Side → List ℕ → Standing
 told_before s from octets = record s {
+  timing = if is_pps octets then pps_timed s.timing from octets else past s.timing;
   text = s.text ++ (if is_pps octets then pps_said from octets else neither_text s.number);
 }
 
@@ -149,6 +173,12 @@ IsArrival Unsaid arrival = arrival ≡ arrived.Unsaid
 IsArrival Lost arrival = arrival ≡ arrived.Lost
 IsArrival (Came octets) arrival = (slice : Bor (List ℕ)) × (slice.now ≡ octets) × (arrival ≡ arrived.Came slice)
 
+-- What the monitor says is told, and then whether it was late.
+abbrev pub told_block : Standing → Monitor → Side → ℕ → Report → Standing
+told_block s monitor from octets report = told_late
+    (told_report (record s { monitor = monitor; begun = true; timing = timed s.timing from octets }) from report)
+    s.monitor.terminal.number (late_from s from)
+
 -- The monitor takes octets of an end, and what it says is told.
 pub record IsTold (s : Standing) (from : Side) (octets : List ℕ) (reach : Reach) (s' : Standing) : Type 0 where
   pub arrival : Arrival
@@ -156,21 +186,31 @@ pub record IsTold (s : Standing) (from : Side) (octets : List ℕ) (reach : Reac
   pub monitor : Monitor
   pub report : Report
   pub takes : Takes s.monitor from octets arrival monitor report
-  pub told : s' ≡ told_report (record s { monitor = monitor; begun = true }) from report
+  pub told : s' ≡ told_block s monitor from (length octets) report
 
 abbrev pub IsBlockTold : Bool → Standing → Side → List ℕ → Reach → Standing → Type 0
 IsBlockTold true s from octets reach s' = s' ≡ told_before s from octets
 IsBlockTold false s from octets reach s' = IsTold s from octets reach s'
 
 abbrev pub quietened : Standing → Standing
-quietened s = told_silence (record s { monitor = quiet_after s.monitor })
+quietened s = told_silence (record s { monitor = quiet_after s.monitor; timing = past s.timing })
     (silence_of s.monitor.card.heard s.monitor.terminal.number)
+
+abbrev pub renewed : Standing → Standing
+renewed s = record s {
+  monitor = reset_after s.monitor s.offered.values.ifsc;
+  begun = false;
+  timing = new_timing s.offered.rates;
+}
+
+abbrev pub at_moment : Standing → ℕ → Standing
+at_moment s moment = record s { least = moment; timing = record s.timing { now = Some moment } }
 
 abbrev pub IsEntered : Standing → Entry → Standing → Type 0
 IsEntered s Nothing s' = s' ≡ s
 IsEntered s Quiet s' = s' ≡ quietened s
-IsEntered s Reset s' = s' ≡ record s { monitor = reset_after s.monitor s.ifsc; begun = false }
-IsEntered s (Moment moment) s' = (s.least ≤ moment) × (s' ≡ record s { least = moment })
+IsEntered s Reset s' = s' ≡ renewed s
+IsEntered s (Moment moment) s' = (s.least ≤ moment) × (s' ≡ at_moment s moment)
 IsEntered s (Block from octets reach) s' = IsBlockTold (is_before s octets) s from octets reach s'
 
 abbrev pub IsFalling : Standing → Entry → Type 0
@@ -200,22 +240,29 @@ JudgesLines s (line ∷ lines) result =
 -- ---- the end
 
 abbrev pub deviations : Tally → ℕ
-deviations tally = min (tally.terminal + tally.card) most_counted
+deviations tally = min (tally.terminal + tally.card + tally.late) most_counted
 
 abbrev pub unseen_part : ℕ → List ℕ
 unseen_part unseen = codes ", unseen " ++ decimal unseen
 
+abbrev pub late_part : ℕ → List ℕ
+late_part late = if late == 0 then [] else codes ", late " ++ decimal late
+
+-- a number of things with this name
+abbrev pub counted : ℕ → List ℕ → List ℕ
+counted number name = decimal number ++ (name ++ (if number == 1 then [] else codes "s"))
+
 abbrev pub ok_text : ℕ → ℕ → List ℕ
-ok_text blocks unseen = codes "ok " ++ (decimal blocks ++ (codes " blocks"
-    ++ ((if unseen == 0 then [] else unseen_part unseen) ++ codes "\n")))
+ok_text blocks unseen = codes "ok " ++ (counted blocks (codes " block")
+    ++ ((if unseen == 0 then [] else unseen_part unseen) ++ codes "\n"))
 
 abbrev pub ends_text : Tally → List ℕ
 ends_text tally = decimal tally.terminal ++ (codes ", card " ++ (decimal tally.card
-    ++ (unseen_part tally.unseen ++ codes "\n")))
+    ++ (unseen_part tally.unseen ++ (late_part tally.late ++ codes "\n"))))
 
 abbrev pub deviations_text : ℕ → Tally → List ℕ
-deviations_text blocks tally = decimal blocks ++ (codes " blocks, " ++ (decimal (deviations tally)
-    ++ (codes " deviations: terminal " ++ ends_text tally)))
+deviations_text blocks tally = counted blocks (codes " block") ++ (codes ", "
+    ++ (counted (deviations tally) (codes " deviation") ++ (codes ": terminal " ++ ends_text tally)))
 
 abbrev pub summary : ℕ → Tally → List ℕ
 summary blocks tally =
@@ -236,8 +283,8 @@ Concludes (Err fault) result = result ≡ Err fault
 abbrev pub is_line_end : ℕ → Bool
 is_line_end x = x == 10
 
--- What a text comes to, for a card that takes fields of so many octets: its lines, or the first fault; or out of memory.
-abbrev pub Judges : ℕ → Option Side → List ℕ → Result Judgment ExchangeFault → Type 0
-Judges ifsc only text result = (result ≡ Err Memory)
+-- What a text comes to, for a card that offers this: its lines, or the first fault; or out of memory.
+abbrev pub Judges : Offered → Scope → List ℕ → Result Judgment ExchangeFault → Type 0
+Judges offered scope text result = (result ≡ Err Memory)
     ⊎ ((all : Result Standing ExchangeFault)
-    × JudgesLines (start ifsc only) (slice_split is_line_end text) all × Concludes all result)
+    × JudgesLines (start offered scope) (slice_split is_line_end text) all × Concludes all result)

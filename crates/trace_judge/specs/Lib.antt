@@ -1,4 +1,5 @@
 -- to be believed: what a text says, and what is said of it
 pub mod Reading
 pub mod Saying
+pub mod Waiting
 pub mod Judging

@@ -16,6 +16,7 @@ use Rattle.judge_core.specs.declared.end.After.{After}
 use Rattle.judge_core.specs.declared.rule.Rule.{Rule}
 use Rattle.judge_core.specs.declared.rule.Rule.TheVariants.{Silence}
 use Rattle.judge_core.specs.Rules.{rule_clause, rule_name}
+use Rattle.trace_judge.specs.declared.timing.Late.{Late}
 
 abbrev pub side_text : Side → List ℕ
 side_text Terminal = codes "terminal"
@@ -78,6 +79,20 @@ possible_text number =
 abbrev pub certain_text : ℕ → List ℕ
 certain_text number =
     codes "card: no answer to block " ++ (decimal number ++ (codes ", which it got" ++ clause_text Silence))
+
+abbrev pub elapsed_text : ℕ → List ℕ
+elapsed_text elapsed = codes ": late, " ++ (decimal elapsed ++ codes " microseconds")
+
+abbrev pub after_text : ℕ → List ℕ
+after_text before = codes " after block " ++ (decimal before ++ codes ", ")
+
+abbrev pub permitted_text : ℕ → List ℕ
+permitted_text permitted = codes "permitted " ++ (decimal permitted ++ codes "  (11.4.3)\n")
+
+-- a card's block that came too late after a terminal's
+abbrev pub late_text : ℕ → ℕ → Late → List ℕ
+late_text number before late =
+    block_text number Card ++ (elapsed_text late.elapsed ++ (after_text before ++ permitted_text late.permitted))
 
 -- octets before the first block that are neither, by the line of the trace
 abbrev pub neither_text : ℕ → List ℕ

@@ -10,5 +10,8 @@ mod line_words;
 mod pps;
 mod saying;
 pub mod standing;
+mod tally;
+pub mod timing;
 
-pub use standing::{Judgment, judge_trace};
+pub use standing::{Judgment, Scope, judge_trace};
+pub use timing::{Offer, Rates, rates_before};

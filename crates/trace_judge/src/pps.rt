@@ -1,11 +1,13 @@
 //! The exchange of PPS, which may come before the first block (ISO/IEC 7816-3:2006, clause 9).
 
 ghost use Rattle.std.specs.Prelude.{◌≡◌, ◌++◌, OnOk, string_bytes, slice_index};
-ghost use Rattle.trace_judge.specs.Judging.{is_pps, pps1_of, pps_text, rate_text, rates_at};
+ghost use Rattle.trace_judge.specs.Judging.{is_pps, pps1_of, pps_text, pps_timed, rate_text, rates_at};
 
 use crate::saying::push_number;
+use crate::timing::{Rates, Timing};
 use arrayvec::ArrayVec;
 use atr_core::{Atr, Convention, Interface, rates};
+use judge_core::Side;
 use octet_core::lrc;
 use std::alloc::{AllocError, Global};
 
@@ -48,8 +50,25 @@ pub(crate) fn push_pps(alloc: Global, text: &mut String, pps1: u8) -> Result<(),
     text.push_str("\n")
 }
 
+/// What is known of the time after a PPS request or its answer: that has F and D from now on.
+pub(crate) fn pps_timed(timing: Timing, from: Side, octets: &[u8]) -> Timing
+    ensures { result ≡ pps_timed timing from octets.now }
+{
+    match from {
+        Side::Terminal => Timing {
+            now: None,
+            ..timing
+        },
+        Side::Card => Timing {
+            rates: rates_of(pps1_of(octets)),
+            now: None,
+            ..timing
+        },
+    }
+}
+
 /// F and D by the tables of TA1, whose form PPS1 has.
-fn rates_of(pps1: u8) -> (Option<u16>, Option<u16>)
+fn rates_of(pps1: u8) -> Rates
     ensures { result ≡ rates_at pps1 }
 {
     let first = Interface {

@@ -2,8 +2,9 @@
 
 ghost use Rattle.std.specs.Prelude.{◌≡◌, ◌++◌, OnOk, codes, decimal, string_bytes};
 ghost use Rattle.judge_core.specs.Rules.{rule_name};
-ghost use Rattle.trace_judge.specs.Saying.{asked_text, block_text, certain_text, clause_text, condition_text, deviation_text, digit_text, due_text, neither_text, possible_text, side_text, subject_text, unseen_text};
+ghost use Rattle.trace_judge.specs.Saying.{after_text, asked_text, block_text, certain_text, clause_text, condition_text, deviation_text, digit_text, due_text, elapsed_text, late_text, neither_text, permitted_text, possible_text, side_text, subject_text, unseen_text};
 
+use crate::timing::Late;
 use block_core::{Number, S};
 use judge_core::{After, Asked, End, Owed, Rule, Side};
 use octet_core::Named;
@@ -86,6 +87,45 @@ pub(crate) fn push_certain(alloc: Global, text: &mut String, number: u64) -> Res
 {
     push_around(alloc, text, NO_ANSWER, number, ", which it got")?;
     push_clause(text, Rule::Silence)
+}
+
+/// Adds the line of a card's block that came too late after the terminal's block with the number `before`.
+pub(crate) fn push_late(
+    alloc: Global,
+    text: &mut String,
+    number: u64,
+    before: u64,
+    late: Late,
+) -> Result<(), AllocError>
+    ensures { OnOk result (string_bytes text.new
+        ≡ string_bytes text.old ++ late_text number before late) }
+{
+    push_block(alloc, text, number, Side::Card)?;
+    push_elapsed(alloc, text, late.elapsed)?;
+    push_after(alloc, text, before)?;
+    push_permitted(alloc, text, late.permitted)
+}
+
+/// Adds how many microseconds after the terminal's block it came.
+fn push_elapsed(alloc: Global, text: &mut String, elapsed: u64) -> Result<(), AllocError>
+    ensures { OnOk result (string_bytes text.new ≡ string_bytes text.old ++ elapsed_text elapsed) }
+{
+    push_around(alloc, text, ": late, ", elapsed, " microseconds")
+}
+
+/// Adds the number of the terminal's block.
+fn push_after(alloc: Global, text: &mut String, before: u64) -> Result<(), AllocError>
+    ensures { OnOk result (string_bytes text.new ≡ string_bytes text.old ++ after_text before) }
+{
+    push_around(alloc, text, " after block ", before, ", ")
+}
+
+/// Adds how many are permitted.
+fn push_permitted(alloc: Global, text: &mut String, permitted: u64) -> Result<(), AllocError>
+    ensures { OnOk result (string_bytes text.new
+        ≡ string_bytes text.old ++ permitted_text permitted) }
+{
+    push_around(alloc, text, "permitted ", permitted, "  (11.4.3)\n")
 }
 
 /// Adds a block with its number.

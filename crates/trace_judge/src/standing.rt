@@ -3,26 +3,29 @@
 ghost use Rattle.std.specs.Prelude.{◌≡◌, ◌⊎◌, ◌++◌, ◌+◌, ◌<◌, ◌^◌, IfErr, MatchResult, OnOk, string_bytes};
 ghost use Rattle.exchange_text.specs.declared.fault.ExchangeFault.TheVariants.{Falls, Memory};
 ghost use Rattle.trace_judge.specs.declared.entry.Entry.TheVariants.{Moment};
-ghost use Rattle.trace_judge.specs.Judging.{deviation_of, deviations, deviations_text, is_before, ends_text, is_judged, ok_text, pps_said, quietened, same_side, start, summary, told_before, told_report, told_silence, told_verdict, unseen_part, Fails, IsArrival, IsBlockTold, IsConcluded, IsEntered, IsFalling, IsTold, JudgesLine, Judges};
+ghost use Rattle.trace_judge.specs.Judging.{is_before, is_judged, late_from, pps_said, pps_timed, quietened, renewed, same_side, start, told_before, told_late, told_report, told_silence, told_verdict, Fails, IsArrival, IsBlockTold, IsConcluded, IsEntered, IsFalling, IsTold, JudgesLine, Judges};
 
 use crate::entry::{Entry, Reach, entry_said};
 use crate::line_words::LineWords;
-use crate::pps::{is_pps, octet_at, pps1_of, push_pps};
+use crate::pps::{is_pps, octet_at, pps_timed, pps1_of, push_pps};
 use crate::saying::{
-    push_certain, push_deviation, push_neither, push_number, push_possible, push_unseen,
+    push_certain, push_deviation, push_late, push_neither, push_possible, push_unseen,
 };
+use crate::tally::Tally;
+use crate::timing::{Late, Offer, Timing, lateness};
 use exchange_text::ExchangeFault;
 use judge_core::{Arrival, Monitor, Report, Said, Side, Silence, Verdict};
 use octet_core::{Octets, Text};
 use std::alloc::{AllocError, Global};
 use std::marker::Model;
 
-/// How many deviations there were of each end, and how many blocks have to have been damaged or lost unseen.
+/// What of a trace is judged.
 #[derive(Clone, Copy, Debug)]
-pub struct Tally {
-    pub terminal: u64,
-    pub card: u64,
-    pub unseen: u64,
+pub struct Scope {
+    /// The end that is judged, or both.
+    pub only: Option<Side>,
+    /// The frequency of the card's clock in hertz, where the times of its blocks are judged.
+    pub clock: Option<u64>,
 }
 
 /// What is said of a trace.
@@ -34,7 +37,7 @@ pub struct Judgment {
     pub deviates: bool,
 }
 
-/// What a trace comes to at a card that takes fields of up to `ifsc` octets: what both ends did, or one alone.
+/// What a trace comes to at a card that offers this: what both ends did, or one alone.
 ///
 /// LF ends a line, and the last one needs no end; spaces, tabs and CR part words. A line is `t HEX` or `c HEX`, octets of
 /// the terminal or of the card in hexadecimal of either case, perhaps with `lost` or `as HEX` after it, how they reached
@@ -42,17 +45,20 @@ pub struct Judgment {
 /// microseconds with 1 to 15 digits that never fall. A line without a word, or whose first one begins with a number sign,
 /// says nothing.
 ///
+/// With a clock a card's block is late where the moments directly before it and before the terminal's last block say so.
+/// Each is taken for the moment at which the block began (ISO/IEC 7816-3:2006, 11.4.3).
+///
 /// Of the first line that is wrong, counted from 1, `Word` where its words are none of these, then `Hex`, then `Falls` for
 /// a moment below an earlier one. `Memory` may be answered in place of any other answer.
 pub fn judge_trace(
     alloc: Global,
-    ifsc: u8,
-    only: Option<Side>,
+    offer: Offer,
+    scope: Scope,
     text: &[u8],
 ) -> Result<Judgment, ExchangeFault>
-    ensures { Judges ifsc only text.now result }
+    ensures { Judges offer scope text.now result }
 {
-    let mut standing = Standing::new(alloc, ifsc, only);
+    let mut standing = Standing::new(alloc, offer, scope);
     for line in text.split(|octet| *octet == b'\n') {
         standing.take(alloc, line)?;
     }
@@ -63,13 +69,14 @@ pub fn judge_trace(
 #[derive(Drop)]
 struct Standing {
     monitor: Monitor,
-    ifsc: u8,
-    only: Option<Side>,
+    offer: Offer,
+    scope: Scope,
     begun: bool,
     /// The last moment.
     least: u64,
     /// The number of the next line.
     number: usize,
+    timing: Timing,
     tally: Tally,
     text: String,
 }
@@ -82,32 +89,32 @@ impl Model for Standing {
 
     ghost view = { λ s. record {
       monitor = s.monitor;
-      ifsc = s.ifsc;
-      only = s.only;
+      offered = s.offer;
+      scope = s.scope;
       begun = s.begun;
       least = s.least;
       number = s.number;
+      timing = s.timing;
       tally = s.tally;
       text = string_bytes s.text;
     } };
 }
 
 impl Standing {
-    fn new(alloc: Global, ifsc: u8, only: Option<Side>) -> Standing
-        ensures { result ≡ start ifsc only }
+    fn new(alloc: Global, offer: Offer, scope: Scope) -> Standing
+        ensures { result ≡ start offer scope }
     {
+        let monitor = Monitor::new(offer.params.ifsc());
+        let timing = Timing::new(offer.rates);
         Standing {
-            monitor: Monitor::new(ifsc),
-            ifsc,
-            only,
+            monitor,
+            offer,
+            scope,
             begun: false,
             least: 0,
             number: 1,
-            tally: Tally {
-                terminal: 0,
-                card: 0,
-                unseen: 0,
-            },
+            timing,
+            tally: Tally::new(),
             text: String::new(alloc),
         }
     }
@@ -136,8 +143,7 @@ impl Standing {
             Entry::Nothing => Ok(()),
             Entry::Quiet => Ok(self.quiet(alloc)?),
             Entry::Reset => {
-                self.monitor.reset(self.ifsc);
-                self.begun = false;
+                self.reset();
                 Ok(())
             }
             Entry::Moment(moment) => self.moment(moment),
@@ -147,6 +153,15 @@ impl Standing {
                 reach,
             } => Ok(self.octets(alloc, from, octets.get(), &reach)?),
         }
+    }
+
+    /// The card was reset.
+    fn reset(&mut self)
+        ensures { self.new ≡ renewed self.old }
+    {
+        self.monitor.reset(self.offer.params.ifsc());
+        self.begun = false;
+        self.timing = Timing::new(self.offer.rates);
     }
 
     fn moment(&mut self, moment: u64) -> Result<(), ExchangeFault>
@@ -159,6 +174,7 @@ impl Standing {
             return Err(ExchangeFault::Falls { line: self.number });
         }
         self.least = moment;
+        self.timing.now = Some(moment);
         Ok(())
     }
 
@@ -168,6 +184,7 @@ impl Standing {
         ensures number { OnOk result (self.new.number ≡ self.old.number) }
     {
         let silence = self.monitor.quiet();
+        self.timing.now = None;
         self.silence(alloc, silence)
     }
 
@@ -202,9 +219,13 @@ impl Standing {
         ensures number { OnOk result (self.new.number ≡ self.old.number) }
     {
         let arrival = reach.arrival();
+        let late = self.late_from(from);
+        let before = self.monitor.terminal.number;
         let report = self.monitor.block(from, octets, arrival);
         self.begun = true;
+        self.timing = self.timing.timed(from, octets.len());
         self.report(alloc, from, report)?;
+        self.late(alloc, before, late)?;
         Ok(())
     }
 
@@ -214,8 +235,10 @@ impl Standing {
         ensures number { OnOk result (self.new.number ≡ self.old.number) }
     {
         if is_pps(octets) {
+            self.timing = pps_timed(self.timing, from, octets);
             push_answered_pps(alloc, &mut self.text, from, octets)
         } else {
+            self.timing.now = None;
             push_neither(alloc, &mut self.text, self.number as u64)
         }
     }
@@ -238,7 +261,7 @@ impl Standing {
     {
         match silence {
             Silence::Possible(number) if self.is_judged(Side::Card) => {
-                self.tally.unseen = self.tally.unseen.saturating_add(1);
+                self.tally.unseen_in();
                 push_possible(alloc, &mut self.text, number)
             }
             Silence::Certain(number) if self.is_judged(Side::Card) => {
@@ -262,7 +285,7 @@ impl Standing {
         let number = self.monitor.blocks;
         match verdict {
             Verdict::Unseen if self.is_judged(from) => {
-                self.tally.unseen = self.tally.unseen.saturating_add(1);
+                self.tally.unseen_in();
                 push_unseen(alloc, &mut self.text, number, from, before)
             }
             Verdict::Deviates(broken, due) if self.is_judged(from) => {
@@ -273,10 +296,39 @@ impl Standing {
         }
     }
 
-    fn is_judged(&self, side: Side) -> bool
-        ensures { result ≡ is_judged self.now.only side }
+    /// Whether a block of this end is late, and by how much.
+    fn late_from(&self, from: Side) -> Option<Late>
+        ensures { result ≡ late_from self.now from }
     {
-        match self.only {
+        match from {
+            Side::Terminal => None,
+            Side::Card => lateness(
+                self.offer.params,
+                self.scope.clock,
+                self.timing,
+                self.monitor.card.heard,
+            ),
+        }
+    }
+
+    /// A card's block that came too late, after the terminal's block with this number.
+    fn late(&mut self, alloc: Global, before: u64, late: Option<Late>) -> Result<(), AllocError>
+        ensures said { OnOk result (self.new ≡ told_late self.old before late) }
+        ensures number { OnOk result (self.new.number ≡ self.old.number) }
+    {
+        match late {
+            Some(late) if self.is_judged(Side::Card) => {
+                self.tally.late_in();
+                push_late(alloc, &mut self.text, self.monitor.blocks, before, late)
+            }
+            Some(_) | None => Ok(()),
+        }
+    }
+
+    fn is_judged(&self, side: Side) -> bool
+        ensures { result ≡ is_judged self.now.scope.only side }
+    {
+        match self.scope.only {
             None => true,
             Some(only) => same_side(only, side),
         }
@@ -306,85 +358,6 @@ impl Reach {
             Reach::Lost => Arrival::Lost,
             Reach::Came(octets) => Arrival::Came(octets.get()),
         }
-    }
-}
-
-impl Tally {
-    /// One deviation more of this end.
-    fn deviation_of(&mut self, side: Side)
-        ensures { self.new ≡ deviation_of side self.old }
-    {
-        match side {
-            Side::Terminal => self.terminal = self.terminal.saturating_add(1),
-            Side::Card => self.card = self.card.saturating_add(1),
-        }
-    }
-
-    /// The deviations of both ends.
-    fn deviations(&self) -> u64
-        ensures { result ≡ deviations self.now }
-    {
-        self.terminal.saturating_add(self.card)
-    }
-
-    /// Adds the last line.
-    fn push_summary(&self, alloc: Global, text: &mut String, blocks: u64) -> Result<(), AllocError>
-        ensures { OnOk result (string_bytes text.new ≡ string_bytes text.old
-            ++ summary blocks self.now) }
-    {
-        if self.deviations() == 0 {
-            self.push_ok(alloc, text, blocks)
-        } else {
-            self.push_deviations(alloc, text, blocks)
-        }
-    }
-
-    fn push_ok(&self, alloc: Global, text: &mut String, blocks: u64) -> Result<(), AllocError>
-        ensures { OnOk result (string_bytes text.new
-            ≡ string_bytes text.old ++ ok_text blocks self.now.unseen) }
-    {
-        text.push_str("ok ")?;
-        push_number(alloc, text, blocks)?;
-        text.push_str(" blocks")?;
-        if self.unseen > 0 {
-            self.push_unseen_part(alloc, text)?;
-        }
-        text.push_str("\n")
-    }
-
-    fn push_deviations(
-        &self,
-        alloc: Global,
-        text: &mut String,
-        blocks: u64,
-    ) -> Result<(), AllocError>
-        ensures { OnOk result (string_bytes text.new
-            ≡ string_bytes text.old ++ deviations_text blocks self.now) }
-    {
-        push_number(alloc, text, blocks)?;
-        text.push_str(" blocks, ")?;
-        push_number(alloc, text, self.deviations())?;
-        text.push_str(" deviations: terminal ")?;
-        self.push_ends(alloc, text)
-    }
-
-    fn push_ends(&self, alloc: Global, text: &mut String) -> Result<(), AllocError>
-        ensures { OnOk result (string_bytes text.new ≡ string_bytes text.old
-            ++ ends_text self.now) }
-    {
-        push_number(alloc, text, self.terminal)?;
-        text.push_str(", card ")?;
-        push_number(alloc, text, self.card)?;
-        self.push_unseen_part(alloc, text)?;
-        text.push_str("\n")
-    }
-
-    fn push_unseen_part(&self, alloc: Global, text: &mut String) -> Result<(), AllocError>
-        ensures { OnOk result (string_bytes text.new
-            ≡ string_bytes text.old ++ unseen_part self.now.unseen) }
-    {
-        text.push_str(", unseen ")?;
-        push_number(alloc, text, self.unseen)
     }
 }
 

@@ -2,6 +2,6 @@ use Rattle.command_line.proofs.forms.judge_command.Goals as goal
 
 pub returns-clause-form : goal.returns-clause-form
 returns-clause-form c =
-    let atr-is = c.asking-atr.ensures.form _ _ c.begun_command.ensures.form c.atr_arg.ensures.rule
-    c.atr_arg.ensures.local in
-    c.asking.ensures.form _ _ atr-is c.judged_arg.ensures.rule c.judged_arg.ensures.local
+    let clock-is = c.asking-clock.ensures.form _ _ c.judged_command-judged.ensures.form c.clock_arg.ensures.rule
+    c.clock_arg.ensures.local in
+    c.asking.ensures.form _ _ clock-is c.json_arg.ensures.rule c.json_arg.ensures.local

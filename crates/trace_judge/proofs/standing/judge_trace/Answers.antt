@@ -1,4 +1,4 @@
-use Rattle.std.proofs.Common.{rules, tests, arith, length, ◌≡◌, sym, subst}
+use Rattle.std.proofs.Common.{rules, tests, arith, length, sym, subst}
 use Rattle.std.proofs.lemmas.Iterator.Consumers.{YieldsList-at, YieldsList-turn, YieldsList-end}
 use Rattle.std.proofs.lemmas.Iterator.Splits.{YieldsList-from_slice_split}
 use Rattle.std.proofs.lemmas.List.{length_push}
@@ -13,7 +13,7 @@ use Rattle.trace_judge.proofs.standing.judge_trace.Goals as goal
 pub loop-line-init : goal.loop-line-init
 loop-line-init c =
     let P : Standing → Type 0 = λ s. IsOnTheWay s (slice_split is_line_end c.args.text.now) 0
-    (start c.args.ifsc c.args.only) in
+    (start c.args.offer c.args.scope) in
     subst P (sym c.new-standing.ensures) (record { same = λ all left. left; number = omega arith })
 
 pub take-requires : goal.take-requires
@@ -35,7 +35,7 @@ loop-line-preserved c =
     c.split-line-items.ensures.done c.split-line-items.ensures.closure (λ x r q k. search (rules, tests))))
     c.loop-line.yielded _ c.loop-line.yielded_by _ _ c.in-Some.line c.in-Some.is c.next.ensures.steps in
     rw (length_push c.loop-line.yielded c.in-Some.line)
-    (next-line c.loop-line.standing c.take.new.self (start c.args.ifsc c.args.only) c.in-Some.line.now
+    (next-line c.loop-line.standing c.take.new.self (start c.args.offer c.args.scope) c.in-Some.line.now
     (slice_split is_line_end c.args.text.now) (length c.loop-line.yielded) at c.in_ok-take.ensures.said
     c.in_ok-take.ensures.number c.loop-line.invariant)
 
@@ -46,7 +46,7 @@ returns-in_err-take c =
     c.split-line-items.ensures.done c.split-line-items.ensures.closure (λ x r q k. search (rules, tests))))
     c.loop-line.yielded _ c.loop-line.yielded_by _ _ c.in-Some.line c.in-Some.is c.next.ensures.steps in
     let fault = err_from_is_err_and c.from_residual.result c.from_residual.ensures.1 in
-    rw (fault.1, fault.2) (stopped c.args.ifsc c.args.only c.args.text.now c.in-Some.line.now c.loop-line.standing
+    rw (fault.1, fault.2) (stopped c.args.offer c.args.scope c.args.text.now c.in-Some.line.now c.loop-line.standing
     (length c.loop-line.yielded) c.in_err-take.field-0.0 at c.in_err-take.ensures.fault c.loop-line.invariant)
 
 pub returns : goal.returns
@@ -55,6 +55,6 @@ returns c =
     (YieldsList-from_slice_split _ is_line_end c.args.text.now c.split-line-items.ensures.rest
     c.split-line-items.ensures.done c.split-line-items.ensures.closure (λ x r q k. search (rules, tests))))
     c.loop-line.yielded _ c.loop-line.yielded_by _ _ c.in-None.is c.next.ensures.steps in
-    concluded c.args.ifsc c.args.only c.args.text.now c.loop-line.standing c.conclude.result
-    (no-more c.loop-line.standing (start c.args.ifsc c.args.only) (slice_split is_line_end c.args.text.now)
+    concluded c.args.offer c.args.scope c.args.text.now c.loop-line.standing c.conclude.result
+    (no-more c.loop-line.standing (start c.args.offer c.args.scope) (slice_split is_line_end c.args.text.now)
     (length c.loop-line.yielded) end.1 c.loop-line.invariant) c.conclude.ensures

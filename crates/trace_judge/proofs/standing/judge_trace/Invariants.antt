@@ -6,4 +6,4 @@ use Rattle.trace_judge.proofs.standing.judge_trace.Given as goal
 
 abbrev pub invariant-loop-line : goal.invariant-loop-line
 invariant-loop-line l =
-    IsOnTheWay l.standing (slice_split is_line_end l.text) (length l.yielded) (start l.ifsc l.fn.only)
+    IsOnTheWay l.standing (slice_split is_line_end l.text) (length l.yielded) (start l.fn.offer l.fn.scope)

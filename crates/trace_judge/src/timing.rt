@@ -1,0 +1,259 @@
+//! When a card's block comes too late (ISO/IEC 7816-3:2006, 11.4.3).
+
+ghost use Rattle.std.specs.Prelude.{◌≡◌, ◌<◌, ◌^◌};
+ghost use Rattle.trace_judge.specs.Waiting.{etu_of, granted, late_after, late_by, lateness, multiple_of, new_timing, permitted_parts, permitted_time, rates_before, rates_by, sent_by, timed, waited, waited_by};
+
+use atr_core::{Atr, T1Params, rates};
+use block_core::{Pcb, S};
+use judge_core::{Heard, Side};
+use std::marker::Model;
+
+/// F and D by the tables of TA1, each where it is known.
+pub type Rates = (Option<u16>, Option<u16>);
+
+/// F and D where nothing says others.
+const DEFAULT_RATES: Rates = (Some(372), Some(1));
+
+/// The bit of TA2 by which the interface bytes don't say F and D.
+const IMPLICIT: u8 = 0x10;
+
+/// What a card's answer to reset offers.
+#[derive(Debug, Drop)]
+pub struct Offer {
+    /// The parameters of T=1.
+    pub params: T1Params,
+    /// F and D from the reset until an exchange of PPS.
+    pub rates: Rates,
+}
+
+impl Model for Offer {
+    ghost use Rattle.trace_judge.specs.Waiting.{Offered};
+
+    ghost Value = { Offered };
+
+    ghost view = { λ offer. record {
+      values = record {
+        ifsc = offer.params.ifsc;
+        bwi = offer.params.bwi;
+        cwi = offer.params.cwi;
+      };
+      rates = offer.rates;
+    } };
+}
+
+/// An elementary time unit: F / D cycles of the card's clock.
+#[derive(Clone, Copy, Debug)]
+pub(crate) struct Etu {
+    pub(crate) fi: u16,
+    pub(crate) di: u16,
+}
+
+/// A terminal's block, whose moment is known.
+#[derive(Clone, Copy, Debug)]
+pub(crate) struct Sent {
+    /// When it began, in microseconds.
+    pub(crate) moment: u64,
+    /// How many octets it had.
+    pub(crate) octets: usize,
+}
+
+/// What is known of the time on the line.
+#[derive(Clone, Copy, Debug)]
+pub(crate) struct Timing {
+    /// F and D in force.
+    pub(crate) rates: Rates,
+    /// The moment directly before the next block.
+    pub(crate) now: Option<u64>,
+    /// The terminal's last block.
+    pub(crate) sent: Option<Sent>,
+}
+
+impl Timing {
+    /// At a reset of a card that offers these.
+    pub(crate) fn new(rates: Rates) -> Timing
+        ensures { result ≡ new_timing rates }
+    {
+        Timing {
+            rates,
+            now: None,
+            sent: None,
+        }
+    }
+
+    /// After a block of so many octets.
+    pub(crate) fn timed(self, from: Side, octets: usize) -> Timing
+        ensures { result ≡ timed self from octets }
+    {
+        match from {
+            Side::Terminal => Timing {
+                now: None,
+                sent: sent_by(self.now, octets),
+                ..self
+            },
+            Side::Card => Timing { now: None, ..self },
+        }
+    }
+}
+
+/// A block of so many octets that began at this moment.
+fn sent_by(now: Option<u64>, octets: usize) -> Option<Sent>
+    ensures { result ≡ sent_by now octets }
+{
+    match now {
+        Some(moment) => Some(Sent { moment, octets }),
+        None => None,
+    }
+}
+
+/// What was between a terminal's block and the card's.
+#[derive(Clone, Copy, Debug)]
+pub(crate) struct Interval {
+    /// Microseconds from the beginning of one to that of the other.
+    pub(crate) elapsed: u64,
+    /// How many octets the terminal's block had.
+    pub(crate) octets: usize,
+}
+
+/// A card's block that came too late.
+#[derive(Clone, Copy, Debug)]
+pub(crate) struct Late {
+    /// Microseconds after the beginning of the terminal's block.
+    pub(crate) elapsed: u64,
+    /// How many the standard permits.
+    pub(crate) permitted: u64,
+}
+
+/// F and D from a reset until an exchange of PPS: those of TA1 where TA2 says that they hold at once, 372 and 1 where
+/// there is no TA2; none where bit 5 of TA2 says that the interface bytes don't tell them (ISO/IEC 7816-3:2006, 8.3).
+pub fn rates_before(atr: &Atr) -> Rates
+    ensures { result ≡ rates_before atr.now }
+{
+    match atr.indicated() {
+        [second, ..] => rates_by(second.bytes.ta, rates(atr)),
+        [] => DEFAULT_RATES,
+    }
+}
+
+/// The same by TA2.
+fn rates_by(ta2: Option<u8>, offered: Rates) -> Rates
+    ensures { result ≡ rates_by ta2 offered }
+{
+    match ta2 {
+        None => DEFAULT_RATES,
+        Some(ta2) if ta2 & IMPLICIT == 0 => offered,
+        Some(_) => (None, None),
+    }
+}
+
+/// How much too late a card's block comes now, at a clock of so many hertz, after what it heard.
+pub(crate) fn lateness(
+    params: T1Params,
+    clock: Option<u64>,
+    timing: Timing,
+    heard: Heard,
+) -> Option<Late>
+    ensures { result ≡ lateness params clock timing heard }
+{
+    late_by(
+        params,
+        clock,
+        granted(heard),
+        etu_of(timing.rates),
+        waited(timing),
+    )
+}
+
+/// The same, where all that has to be known is.
+fn late_by(
+    params: T1Params,
+    clock: Option<u64>,
+    multiple: Option<u8>,
+    etu: Option<Etu>,
+    waited: Option<Interval>,
+) -> Option<Late>
+    ensures { result ≡ late_by params clock multiple etu waited }
+{
+    match (clock, multiple, etu, waited) {
+        (Some(clock), Some(multiple), Some(etu), Some(waited)) => late_after(
+            permitted_time(params, clock, multiple, waited.octets, etu),
+            waited.elapsed,
+        ),
+        _ => None,
+    }
+}
+
+/// A block that came later than is permitted.
+fn late_after(permitted: u128, elapsed: u64) -> Option<Late>
+    ensures { result ≡ late_after permitted elapsed }
+{
+    if permitted < elapsed as u128 {
+        Some(Late {
+            elapsed,
+            permitted: permitted as u64,
+        })
+    } else {
+        None
+    }
+}
+
+/// How many microseconds are permitted from the beginning of a terminal's block of so many octets to that of the card's.
+fn permitted_time(params: T1Params, clock: u64, multiple: u8, octets: usize, etu: Etu) -> u128
+    ensures { result ≡ permitted_time params clock multiple octets etu }
+{
+    let parts = permitted_parts(params, multiple, octets, etu);
+    let per_second = (etu.di as u128 * clock as u128).max(1);
+    (parts * 1_000_000).div_ceil(per_second)
+}
+
+/// The same in parts, `fi` of which are an elementary time unit.
+fn permitted_parts(params: T1Params, multiple: u8, octets: usize, etu: Etu) -> u128
+    ensures parts { result ≡ permitted_parts params multiple octets etu }
+    ensures most { result < 2 ^ 100 }
+{
+    let block = params.bwt(etu.fi, etu.di);
+    let character = params.cwt_etu() as u64 * etu.fi as u64;
+    multiple as u128 * block as u128 + octets.saturating_sub(1) as u128 * character as u128
+}
+
+/// The multiple of the block waiting time that the card has after what it heard, where that is a block.
+fn granted(heard: Heard) -> Option<u8>
+    ensures { result ≡ granted heard }
+{
+    match heard {
+        Heard::Whole(pcb, octet) | Heard::Perhaps(pcb, octet) => Some(multiple_of(pcb, octet)),
+        Heard::Beginning | Heard::Broken | Heard::Nothing => None,
+    }
+}
+
+/// The multiple that a block grants.
+fn multiple_of(pcb: Pcb, octet: u8) -> u8
+    ensures { result ≡ multiple_of pcb octet }
+{
+    match pcb {
+        Pcb::Response(S::Wtx) => octet.max(1),
+        Pcb::Info { .. } | Pcb::Ready { .. } | Pcb::Request(_) | Pcb::Response(_) => 1,
+    }
+}
+
+/// F and D, where both are known.
+fn etu_of(rates: Rates) -> Option<Etu>
+    ensures { result ≡ etu_of rates }
+{
+    match rates {
+        (Some(fi), Some(di)) => Some(Etu { fi, di }),
+        _ => None,
+    }
+}
+
+/// What was between the terminal's last block and now, where both moments are known.
+fn waited(timing: Timing) -> Option<Interval>
+    ensures { result ≡ waited timing }
+{
+    match (timing.now, timing.sent) {
+        (Some(now), Some(sent)) => Some(Interval {
+            elapsed: now.saturating_sub(sent.moment),
+            octets: sent.octets,
+        }),
+        _ => None,
+    }
+}
