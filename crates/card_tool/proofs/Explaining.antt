@@ -15,7 +15,7 @@ use Rattle.card_words.specs.declared.request.Asked.TheVariants.{Once}
 use Rattle.card_words.specs.declared.request.Request.{Request}
 use Rattle.card_tool.specs.Answers.{AnswersTo, Gives, IsAnswerTo, IsRight, IsRightTo, IsToldOf}
 use Rattle.card_tool.specs.Explained.{differs, form_note, octets_of, text_note, Fits, GivesExplained, IsAdded, IsExplained, IsDifferenceNote, IsFaulted, IsFaultNote, IsFillNote, IsNoted, IsNotedTo, IsNoteOn, IsNoteTo, IsRightWith, IsTakenWith, on_fault, silent}
-use Rattle.card_tool.specs.FileNotes.{IsLineNote}
+use Rattle.card_tool.specs.FileNotes.{IsLineNote, Shows}
 use Rattle.card_tool.specs.Files.{ReadsWhole}
 use Rattle.card_tool.specs.declared.explained.Taken.{Taken}
 use Rattle.card_tool.specs.ExchangeTexts.{IsOutcome}
@@ -45,12 +45,18 @@ pub wanting : (request : Request) (held : Option (List ℕ)) (count : ℕ)
     → IsRightTo request held held count count (fault_text Memory) status.Fault
 wanting request held count = inr (refl, refl, refl)
 
--- a text that shows a line is the note on it
-pub on-line : {E : Type 0} (r : Result (String Global) E) (number : ℕ) (line what : List ℕ)
+-- a text that shows a line and says something of it
+pub says-line : {E : Type 0} (r : Result (String Global) E) (number : ℕ) (line what : List ℕ)
     → IfOk r (λ text. string_bytes text ≡ line_note number line what)
-    → IfOk r (λ text. IsLineNote number (string_bytes text))
-on-line (Ok text) number line what h = (line, what, h)
-on-line (Err e) number line what h = tt
+    → IfOk r (λ text. Shows number what (string_bytes text))
+says-line (Ok text) number line what h = (line, h)
+says-line (Err e) number line what h = tt
+
+-- is the note on it
+pub shows-line : {E : Type 0} (r : Result (String Global) E) (number : ℕ) (what : List ℕ)
+    → IfOk r (λ text. Shows number what (string_bytes text)) → IfOk r (λ text. IsLineNote number (string_bytes text))
+shows-line (Ok text) number what h = (h.0, what, h.1)
+shows-line (Err e) number what h = tt
 
 -- and where an end does the line otherwise, it is the note on the exchange
 pub on-difference : {E : Type 0} (r : Result (String Global) E) (e : ExchangeParts) (which : Side)

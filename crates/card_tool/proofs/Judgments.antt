@@ -1,68 +1,102 @@
 -- That a trace comes to one text.
-use Rattle.std.proofs.Common.{◌≡◌, ◌≢◌, ◌⊎◌, ◌∙◌, inl, inr, ℕ, List, Result, Ok, Err, IfOk, ap, refl, subst, sym}
+use Rattle.std.proofs.Common.{◌≡◌, ◌≢◌, ◌∙◌, inl, inr, ℕ, List, length, Result, Ok, Err, IfOk, ap, refl, subst, sym}
 use Rattle.atr_core.proofs.Goes as atr_goes
 use Rattle.atr_core.proofs.Unique.{one-accepted}
 use Rattle.octet_core.specs.Octets.{AreOctets}
-use Rattle.exchange_core.specs.Replay.{IsFound}
-use Rattle.exchange_core.proofs.Found.{verdict-found}
+use Rattle.exchange_core.specs.Replay.{size_of, IsFound}
+use Rattle.exchange_core.proofs.Found.{accepted-whole, verdict-found}
 use Rattle.exchange_text.specs.declared.fault.ExchangeFault.{ExchangeFault}
 use Rattle.exchange_text.specs.declared.fault.ExchangeFault.TheVariants.{Memory}
-use Rattle.trace_judge.specs.declared.standing.Judgment.{Judgment}
 use Rattle.trace_judge.specs.Judging.{Judges}
+use Rattle.trace_judge.specs.Waiting.{rates_before, Offered, Rates}
+use Rattle.atr_core.specs.Atr.{AtrParts, IsAtr}
+use Rattle.atr_core.specs.T1.{t1_params_of, T1Values}
+use Rattle.atr_core.specs.declared.params.ParamFault.{ParamFault}
 use Rattle.trace_judge.proofs.Once.{judgment-or-fault, one-judgment, one-text-fault, some-judgment}
 use Rattle.card_kinds.specs.Texts.{refused_as_text}
 use Rattle.card_kinds.specs.declared.answer.Answer.{Answer}
 use Rattle.card_kinds.specs.declared.status.Status.{Status}
 use Rattle.card_kinds.specs.declared.status.Status.TheVariants as status
 use Rattle.card_kinds.proofs.OneOf.{OneText}
-use Rattle.card_words.specs.declared.request.Ends.{Ends}
+use Rattle.card_words.specs.declared.request.Judging.{Judging}
 use Rattle.card_tool.specs.ExchangeTexts.{file_fault_text}
 use Rattle.card_tool.specs.FileNotes.{line_of, IsLineNote}
 use Rattle.card_tool.specs.Judged.{AreOf}
-use Rattle.card_tool.specs.JudgeTexts.{at_line, faulty, judged, judged_status, on_text, only_of, refused, used, IsJudgeNote, IsTextNote, JudgesText, JudgesTrace}
+use Rattle.card_tool.specs.JudgeTexts.{at_line, faulty, judged, judged_status, on_text, refused, scope_of, used, IsJudgeNote, IsOffer, IsTextNote, JudgesText, JudgesTrace}
 use Rattle.card_tool.specs.declared.judged.WithNote.{WithNote}
-use Rattle.card_tool.proofs.Simulations.{apart, if-ok, same-name, same-size}
+use Rattle.card_tool.proofs.Simulations.{apart, if-ok, same-name}
+
+-- ---- an answer to reset
+
+-- what it offers has a size
+found-by : (atr : List ℕ) (offered : Offered) → IsOffer atr offered → IsFound atr (Ok offered.values.ifsc)
+found-by atr offered h = inl (h.parts, h.is, sym (ap size_of h.values))
+
+abbrev offering : T1Values → Rates → Offered
+offering v r = record { values = v; rates = r }
+
+-- it offers one thing
+one-offer : (atr : List ℕ) (a b : Offered) → IsOffer atr a → IsOffer atr b → a ≡ b
+one-offer atr a b h g =
+    let parts : h.parts ≡ g.parts = (one-accepted atr h.parts g.parts (length atr) (length atr)
+    (accepted-whole atr h.parts h.is) (accepted-whole atr g.parts g.is)).0 in
+    let values : a.values ≡ b.values = cc (h.values, g.values, ap t1_params_of parts) in
+    let rates : a.rates ≡ b.rates = h.rates ∙ ap rates_before parts ∙ sym g.rates in
+    ap (λ (v : T1Values). offering v a.rates) values ∙ ap (λ (r : Rates). offering b.values r) rates
+
+offer-by : (atr : List ℕ) (parts : AtrParts) → IsAtr parts atr → (found : Result T1Values ParamFault)
+    → t1_params_of parts ≡ found → (ifsc : ℕ) → Ok ifsc ≡ size_of found → (offered : Offered) × IsOffer atr offered
+offer-by atr parts is (Ok values) e ifsc f = (
+  record { values = values; rates = rates_before parts },
+  record { parts = parts; is = is; values = e; rates = refl },
+)
+offer-by atr parts is (Err fault) e ifsc f = absurd (cc f)
+
+-- and something, where it has a size
+some-offer : (atr : List ℕ) (ifsc : ℕ) → IsFound atr (Ok ifsc) → (offered : Offered) × IsOffer atr offered
+some-offer atr ifsc (inl (parts, is, e)) = offer-by atr parts is (t1_params_of parts) refl ifsc e
+some-offer atr ifsc (inr (none, e)) = absurd (cc e)
 
 -- ---- a text
 
-module _ (ifsc : ℕ) (ends : Ends) (file : List ℕ) where
-  one-judged : (t u : List ℕ) (p q : Status) → JudgesText ifsc ends file t p → JudgesText ifsc ends file u q
+module _ (offered : Offered) (judging : Judging) (file : List ℕ) where
+  one-judged : (t u : List ℕ) (p q : Status) → JudgesText offered judging file t p → JudgesText offered judging file u q
       → (t ≡ u) × (p ≡ q)
   one-judged t u p q (judged a h text stops) (judged b g other differs) =
-      let same = one-judgment ifsc (only_of ends) file a b h g in
+      let same = one-judgment offered (scope_of judging) file a b h g in
       (text ∙ same.0 ∙ sym other, stops ∙ ap judged_status same.1 ∙ sym differs)
   one-judged t u p q (judged a h text stops) (faulty x g known other differs) =
-      absurd (judgment-or-fault ifsc (only_of ends) file a x known h g)
+      absurd (judgment-or-fault offered (scope_of judging) file a x known h g)
   one-judged t u p q (faulty x g known other differs) (judged a h text stops) =
-      absurd (judgment-or-fault ifsc (only_of ends) file a x known h g)
+      absurd (judgment-or-fault offered (scope_of judging) file a x known h g)
   one-judged t u p q (faulty x h known text stops) (faulty y g also other differs) =
-      let same = one-text-fault ifsc (only_of ends) file x y known also h g in
+      let same = one-text-fault offered (scope_of judging) file x y known also h g in
       (text ∙ ap file_fault_text same ∙ sym other, stops ∙ sym differs)
 
-  some-judged : (t : List ℕ) × (p : Status) × JudgesText ifsc ends file t p
+  some-judged : (t : List ℕ) × (p : Status) × JudgesText offered judging file t p
   some-judged =
-      elim (some-judgment ifsc (only_of ends) file) [
+      elim (some-judgment offered (scope_of judging) file) [
         | inl one ↦ (one.0.text, judged_status one.0.deviates, judged one.0 one.1 refl refl)
         | inr fault ↦ (file_fault_text fault.0, status.Fault, faulty fault.0 fault.2 fault.1 refl refl)
       ]
 
 -- ---- what calls answer
 
-module _ (ifsc : ℕ) (ends : Ends) (file : List ℕ) (fault : ExchangeFault) where
+module _ (offered : Offered) (judging : Judging) (file : List ℕ) (fault : ExchangeFault) where
   -- the line of a text's fault
-  pub faulty-text : {E : Type 0} (r : Result Answer E) → Judges ifsc (only_of ends) file (Err fault)
+  pub faulty-text : {E : Type 0} (r : Result Answer E) → Judges offered (scope_of judging) file (Err fault)
       → IfOk r (λ _. fault ≢ Memory) → IfOk r (λ answer. answer.text ≡ file_fault_text fault)
       → IfOk r (λ answer. answer.status ≡ status.Fault)
-      → IfOk r (λ answer. JudgesText ifsc ends file answer.text answer.status)
+      → IfOk r (λ answer. JudgesText offered judging file answer.text answer.status)
   faulty-text (Ok answer) told known text stops = faulty fault told known text stops
   faulty-text (Err e) told known text stops = tt
 
   -- and the note on it
-  pub faulty-noted : {E : Type 0} (r : Result WithNote E) → Judges ifsc (only_of ends) file (Err fault)
+  pub faulty-noted : {E : Type 0} (r : Result WithNote E) → Judges offered (scope_of judging) file (Err fault)
       → IfOk r (λ _. fault ≢ Memory)
       → IfOk r (AreOf (λ text stops. (text ≡ file_fault_text fault) × (stops ≡ status.Fault))
       (IsLineNote (line_of fault)))
-      → IfOk r (AreOf (JudgesText ifsc ends file) (IsTextNote ifsc ends file))
+      → IfOk r (AreOf (JudgesText offered judging file) (IsTextNote offered judging file))
   faulty-noted (Ok made) told known h = (
     faulty fault told known h.0.0 h.0.1,
     if-ok made.note (λ note on. at_line fault told known on) h.1,
@@ -70,34 +104,41 @@ module _ (ifsc : ℕ) (ends : Ends) (file : List ℕ) (fault : ExchangeFault) wh
   faulty-noted (Err e) told known h = tt
 
 -- a text with its note, where the answer to reset says so
-pub used-noted : {E : Type 0} (atr : List ℕ) (ifsc : ℕ) (ends : Ends) (file : List ℕ) (r : Result WithNote E)
-    → IsFound atr (Ok ifsc) → IfOk r (AreOf (JudgesText ifsc ends file) (IsTextNote ifsc ends file))
-    → IfOk r (AreOf (JudgesTrace atr ends file) (IsJudgeNote atr ends file))
-used-noted atr ifsc ends file (Ok made) found h =
-    (used ifsc found h.0, if-ok made.note (λ note on. on_text ifsc found on) h.1)
-used-noted atr ifsc ends file (Err e) found h = tt
+pub used-noted : {E : Type 0} (atr : List ℕ) (offered : Offered) (judging : Judging) (file : List ℕ)
+    (r : Result WithNote E)
+    → IsOffer atr offered → IfOk r (AreOf (JudgesText offered judging file) (IsTextNote offered judging file))
+    → IfOk r (AreOf (JudgesTrace atr judging file) (IsJudgeNote atr judging file))
+used-noted atr offered judging file (Ok made) found h =
+    (used offered found h.0, if-ok made.note (λ note on. on_text offered found on) h.1)
+used-noted atr offered judging file (Err e) found h = tt
 
 -- ---- with an answer to reset
 
-module _ (atr : List ℕ) (ends : Ends) (file : List ℕ) where
-  one-traced : (t u : List ℕ) (p q : Status) → JudgesTrace atr ends file t p → JudgesTrace atr ends file u q
+module _ (atr : List ℕ) (judging : Judging) (file : List ℕ) where
+  one-traced : (t u : List ℕ) (p q : Status) → JudgesTrace atr judging file t p → JudgesTrace atr judging file u q
       → (t ≡ u) × (p ≡ q)
   one-traced t u p q (refused a f text stops) (refused b g other differs) =
       (text ∙ ap refused_as_text (same-name atr a b f g) ∙ sym other, stops ∙ sym differs)
-  one-traced t u p q (refused a f text stops) (used b g told) = absurd (apart atr b a g f)
-  one-traced t u p q (used a f told) (refused b g other differs) = absurd (apart atr a b f g)
-  one-traced t u p q (used a f told) (used b g also) = one-judged b ends file t u p q
-      (subst (λ (ifsc : ℕ). JudgesText ifsc ends file t p) (same-size atr a b f g) told) also
+  one-traced t u p q (refused a f text stops) (used b g told) =
+      absurd (apart atr b.values.ifsc a (found-by atr b g) f)
+  one-traced t u p q (used a f told) (refused b g other differs) =
+      absurd (apart atr a.values.ifsc b (found-by atr a f) g)
+  one-traced t u p q (used a f told) (used b g also) = one-judged b judging file t u p q
+      (subst (λ (offered : Offered). JudgesText offered judging file t p) (one-offer atr a b f g) told) also
 
   some-traced : (found : Result ℕ (List ℕ)) → IsFound atr found → (t : List ℕ) × (p : Status)
-      × JudgesTrace atr ends file t p
-  some-traced (Ok ifsc) f = let told = some-judged ifsc ends file in (told.0, told.1, used ifsc f told.2)
+      × JudgesTrace atr judging file t p
+  some-traced (Ok ifsc) f =
+      let offer = some-offer atr ifsc f in
+      let told = some-judged offer.0 judging file in
+      (told.0, told.1, used offer.0 offer.1 told.2)
   some-traced (Err name) f = (refused_as_text name, status.Refused, refused name f refl refl)
 
 -- a text comes to one text with one status, where the answer to reset is octets
-pub judged-once : (atr : List ℕ) → AreOctets atr → (ends : Ends) (file : List ℕ) → OneText (JudgesTrace atr ends file)
-judged-once atr octets ends file = record {
-  one = one-traced atr ends file;
+pub judged-once : (atr : List ℕ) → AreOctets atr → (judging : Judging) (file : List ℕ)
+    → OneText (JudgesTrace atr judging file)
+judged-once atr octets judging file = record {
+  one = one-traced atr judging file;
   some = let found = verdict-found one-accepted atr ((atr_goes.one-verdict atr octets).some) in
-      some-traced atr ends file found.0 found.1;
+      some-traced atr judging file found.0 found.1;
 }

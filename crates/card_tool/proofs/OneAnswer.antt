@@ -140,8 +140,8 @@ one-answer (BuildTidy given) file sized octets as_read =
 one-answer (BuildFill list known) file sized octets as_read = filled-once list known octets
 one-answer (File task) file sized octets as_read = told-of (TellsFile task) (file-once task) file
 one-answer (Record atr) file sized octets as_read = told-of (Records atr) (recorded-once atr octets) file
-one-answer (Judge atr ends) file sized octets as_read =
-    told-of (JudgesTrace atr ends) (judged-once atr octets ends) file
+one-answer (Judge atr judging) file sized octets as_read =
+    told-of (JudgesTrace atr judging) (judged-once atr octets judging) file
 one-answer (Simulate session) file sized octets as_read = simulated-once session octets.0
 one-answer (SimulateLines session) file sized octets as_read =
     told-of (SimulatesLines session) (lines-once session octets.0) file
@@ -209,7 +209,7 @@ asked-too (Once (BuildTidy given)) file text ended h = h
 asked-too (Once (BuildFill list known)) file text ended h = h
 asked-too (Once (File task)) file text ended h = h
 asked-too (Once (Record atr)) file text ended h = h
-asked-too (Once (Judge atr ends)) file text ended h = h
+asked-too (Once (Judge atr judging)) file text ended h = h
 asked-too (Once (Simulate session)) file text ended h = h
 asked-too (Once (SimulateLines session)) file text ended h = h
 asked-too (Once (Help help)) file text ended h = h
@@ -295,7 +295,7 @@ notes-cut (Once (BuildTidy given)) file text ended h = h
 notes-cut (Once (BuildFill list known)) file text ended h = h
 notes-cut (Once (File task)) file text ended h = h
 notes-cut (Once (Record atr)) file text ended h = h
-notes-cut (Once (Judge atr ends)) file text ended h = h
+notes-cut (Once (Judge atr judging)) file text ended h = h
 notes-cut (Once (Simulate session)) file text ended h = h
 notes-cut (Once (SimulateLines session)) file text ended h = h
 notes-cut (Once (Help help)) file text ended h = h

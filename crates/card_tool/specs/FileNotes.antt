@@ -13,6 +13,10 @@ line_of (Hex line) = line
 line_of (Falls line) = line
 line_of Memory = 0
 
+-- A note that shows the line with this number and says this of it. What of the line's text is shown is open.
+abbrev pub Shows : ℕ → List ℕ → List ℕ → Type 0
+Shows number what note = (shown : List ℕ) × (note ≡ line_note number shown what)
+
 -- A note that shows the line with this number. What of its text is shown, and what is said of it, is open.
 abbrev pub IsLineNote : ℕ → List ℕ → Type 0
 IsLineNote number note = (shown : List ℕ) × (what : List ℕ) × (note ≡ line_note number shown what)

@@ -5,6 +5,9 @@ use Rattle.card_kinds.specs.declared.status.Status.{Status}
 use Rattle.card_kinds.specs.declared.status.Status.TheVariants as status
 use Rattle.card_words.specs.declared.request.Ends.{Ends}
 use Rattle.card_words.specs.declared.request.Ends.TheVariants as end
+use Rattle.card_words.specs.declared.request.Judging.{Judging}
+use Rattle.atr_core.specs.Atr.{AtrParts, IsAtr}
+use Rattle.atr_core.specs.T1.{t1_params_of}
 use Rattle.exchange_core.specs.Replay.{IsFound}
 use Rattle.exchange_text.specs.declared.fault.ExchangeFault.{ExchangeFault}
 use Rattle.exchange_text.specs.declared.fault.ExchangeFault.TheVariants.{Memory}
@@ -12,6 +15,8 @@ use Rattle.judge_core.specs.declared.end.Side.{Side}
 use Rattle.judge_core.specs.declared.end.Side.TheVariants as side
 use Rattle.trace_judge.specs.Judging.{Judges}
 use Rattle.trace_judge.specs.declared.standing.Judgment.{Judgment}
+use Rattle.trace_judge.specs.declared.standing.Scope.{Scope}
+use Rattle.trace_judge.specs.Waiting.{rates_before, Offered}
 use Rattle.explainer.specs.Notes.{IsSessionNote}
 use Rattle.card_tool.specs.FileNotes.{line_of, IsLineNote}
 use Rattle.card_tool.specs.ExchangeTexts.{file_fault_text}
@@ -22,34 +27,46 @@ only_of end.Terminal = Some side.Terminal
 only_of end.Card = Some side.Card
 only_of end.Both = None
 
+-- what is judged of a trace
+abbrev pub scope_of : Judging → Scope
+scope_of judging = record { only = only_of judging.ends; clock = judging.clock }
+
+-- Octets that are one whole answer to reset, with parameters of T=1, offer these, and F and D.
+pub record IsOffer (atr : List ℕ) (offered : Offered) : Type 0 where
+  pub parts : AtrParts
+  pub is : IsAtr parts atr
+  pub values : t1_params_of parts ≡ Ok offered.values
+  pub rates : offered.rates ≡ rates_before parts
+
 abbrev pub judged_status : Bool → Status
 judged_status true = status.Refused
 judged_status false = status.Accepted
 
--- What a text comes to at a card that takes fields of so many octets: its judgment, or its first fault.
-pub data JudgesText (ifsc : ℕ) (ends : Ends) (file text : List ℕ) (ended : Status) : Type 0 where
-  judged : (judgment : Judgment) → Judges ifsc (only_of ends) file (Ok judgment) → text ≡ judgment.text
-      → ended ≡ judged_status judgment.deviates → JudgesText ifsc ends file text ended
-  faulty : (fault : ExchangeFault) → Judges ifsc (only_of ends) file (Err fault) → fault ≢ Memory
-      → text ≡ file_fault_text fault → ended ≡ status.Fault → JudgesText ifsc ends file text ended
+-- What a text comes to at a card that offers this: its judgment, or its first fault.
+pub data JudgesText (offered : Offered) (judging : Judging) (file text : List ℕ) (ended : Status) : Type 0 where
+  judged : (judgment : Judgment) → Judges offered (scope_of judging) file (Ok judgment) → text ≡ judgment.text
+      → ended ≡ judged_status judgment.deviates → JudgesText offered judging file text ended
+  faulty : (fault : ExchangeFault) → Judges offered (scope_of judging) file (Err fault) → fault ≢ Memory
+      → text ≡ file_fault_text fault → ended ≡ status.Fault → JudgesText offered judging file text ended
 
 -- What it comes to with an answer to reset, which may be none that can be used.
-pub data JudgesTrace (atr : List ℕ) (ends : Ends) (file text : List ℕ) (ended : Status) : Type 0 where
+pub data JudgesTrace (atr : List ℕ) (judging : Judging) (file text : List ℕ) (ended : Status) : Type 0 where
   refused : (name : List ℕ) → IsFound atr (Err name) → text ≡ refused_as_text name → ended ≡ status.Refused
-      → JudgesTrace atr ends file text ended
-  used : (ifsc : ℕ) → IsFound atr (Ok ifsc) → JudgesText ifsc ends file text ended
-      → JudgesTrace atr ends file text ended
+      → JudgesTrace atr judging file text ended
+  used : (offered : Offered) → IsOffer atr offered → JudgesText offered judging file text ended
+      → JudgesTrace atr judging file text ended
 
 -- ---- notes
 
 -- The note on a text: none on its judgment, or that on the line with its first fault.
-pub data IsTextNote (ifsc : ℕ) (ends : Ends) (file note : List ℕ) : Type 0 where
-  silent : (judgment : Judgment) → Judges ifsc (only_of ends) file (Ok judgment) → note ≡ []
-      → IsTextNote ifsc ends file note
-  at_line : (fault : ExchangeFault) → Judges ifsc (only_of ends) file (Err fault) → fault ≢ Memory
-      → IsLineNote (line_of fault) note → IsTextNote ifsc ends file note
+pub data IsTextNote (offered : Offered) (judging : Judging) (file note : List ℕ) : Type 0 where
+  silent : (judgment : Judgment) → Judges offered (scope_of judging) file (Ok judgment) → note ≡ []
+      → IsTextNote offered judging file note
+  at_line : (fault : ExchangeFault) → Judges offered (scope_of judging) file (Err fault) → fault ≢ Memory
+      → IsLineNote (line_of fault) note → IsTextNote offered judging file note
 
 -- The note on a trace: on an answer to reset that can't be used, or on its text.
-pub data IsJudgeNote (atr : List ℕ) (ends : Ends) (file note : List ℕ) : Type 0 where
-  unusable : (name : List ℕ) → IsFound atr (Err name) → IsSessionNote atr note → IsJudgeNote atr ends file note
-  on_text : (ifsc : ℕ) → IsFound atr (Ok ifsc) → IsTextNote ifsc ends file note → IsJudgeNote atr ends file note
+pub data IsJudgeNote (atr : List ℕ) (judging : Judging) (file note : List ℕ) : Type 0 where
+  unusable : (name : List ℕ) → IsFound atr (Err name) → IsSessionNote atr note → IsJudgeNote atr judging file note
+  on_text : (offered : Offered) → IsOffer atr offered → IsTextNote offered judging file note
+      → IsJudgeNote atr judging file note

@@ -1,39 +1,76 @@
 -- What the program says of the blocks that were seen on a line.
-use Rattle.std.specs.Prelude.{◌≡◌, ℕ, List, [], Ok, Err, MatchResult}
+use Rattle.std.specs.Prelude.{◌≡◌, ◌<◌, ◌≤◌, ℕ, List, [], ◌++◌, codes, decimal, length, Some, None, Ok, Err, MatchResult}
+use Rattle.std.specs.List.{slice_split}
 use Rattle.card_kinds.specs.Texts.{refused_as_text}
 use Rattle.card_kinds.specs.declared.status.Status.{Status}
 use Rattle.card_kinds.specs.declared.status.Status.TheVariants as status
+use Rattle.exchange_text.specs.Exchange.{ExchangeParts}
+use Rattle.exchange_text.specs.Text.{exchange_text}
 use Rattle.exchange_core.specs.Replay.{IsFound}
-use Rattle.traces.specs.Reading.{trace_of}
+use Rattle.traces.specs.Faults.{unfit_name}
+use Rattle.traces.specs.Reading.{is_line_end, trace_of}
 use Rattle.traces.specs.Recorded.{exchange_of}
+use Rattle.traces.specs.Unfit.{item_line, unfit_in}
 use Rattle.traces.specs.declared.trace.Item.{Item}
+use Rattle.traces.specs.declared.unfit.Unfit.{Unfit}
+use Rattle.traces.specs.declared.unfit.Unfit.TheVariants.{Pps, NodeAddress, Silence}
 use Rattle.explainer.specs.Notes.{IsSessionNote, large_note}
-use Rattle.card_tool.specs.FileNotes.{line_of, IsLineNote}
+use Rattle.card_tool.specs.FileNotes.{line_of, IsLineNote, Shows}
 use Rattle.card_tool.specs.ExchangeTexts.{file_fault_text}
 use Rattle.card_tool.specs.Files.{largest_file}
 use Rattle.card_tool.specs.SimulationTexts.{IsFile}
 
--- What the items that were seen come to with an answer to reset: it can't be used, or the text of their exchange.
-pub data RecordsItems (atr : List ℕ) (items : List Item) (text : List ℕ) (ended : Status) : Type 0 where
+-- the line of a text that says an item
+abbrev pub line_with : List ℕ → ℕ → ℕ
+line_with file place = item_line 1 place (slice_split is_line_end file)
+
+-- a line of the text can't be recorded, by this name
+abbrev pub unfit_text : ℕ → List ℕ → List ℕ
+unfit_text line name = codes "refused at line " ++ (decimal line ++ (codes ": " ++ (name ++ codes "\n")))
+
+-- What the items of a text come to with an answer to reset: it can't be used, a line can't be recorded, or the text of
+-- their exchange.
+pub data RecordsItems (atr file : List ℕ) (items : List Item) (text : List ℕ) (ended : Status) : Type 0 where
   refused : (name : List ℕ) → IsFound atr (Err name) → text ≡ refused_as_text name → ended ≡ status.Refused
-      → RecordsItems atr items text ended
-  whole : (ifsc : ℕ) → IsFound atr (Ok ifsc) → IsFile (exchange_of ifsc atr items) text ended
-      → RecordsItems atr items text ended
+      → RecordsItems atr file items text ended
+  unfit : (ifsc place : ℕ) (why : Unfit) → IsFound atr (Ok ifsc) → unfit_in items ≡ Some (place, why)
+      → text ≡ unfit_text (line_with file place) (unfit_name why) → ended ≡ status.Refused
+      → RecordsItems atr file items text ended
+  whole : (ifsc : ℕ) → IsFound atr (Ok ifsc) → unfit_in items ≡ None → IsFile (exchange_of ifsc atr items) text ended
+      → RecordsItems atr file items text ended
 
 -- what a text comes to: its items, or its first fault
 abbrev pub Records : List ℕ → List ℕ → List ℕ → Status → Type 0
-Records atr file text ended = MatchResult (trace_of file) (λ items. RecordsItems atr items text ended)
+Records atr file text ended = MatchResult (trace_of file) (λ items. RecordsItems atr file items text ended)
     (λ fault. (text ≡ file_fault_text fault) × (ended ≡ status.Fault))
 
 -- ---- notes
 
--- The note on items that were seen: on an answer to reset that can't be used, or how large a text may be.
-pub data IsItemsNote (atr note : List ℕ) : Type 0 where
-  silent : note ≡ [] → IsItemsNote atr note
-  unusable : IsSessionNote atr note → IsItemsNote atr note
-  too_large : note ≡ large_note largest_file → IsItemsNote atr note
+-- what is said of a line that can't be recorded
+abbrev pub unfit_words : Unfit → List ℕ
+unfit_words Pps = codes "this is PPS, and a session begins after it: leave it out"
+unfit_words NodeAddress = codes "both ends use a node address other than 00, which record doesn't follow: judge does"
+unfit_words Silence =
+    codes "the terminal sends again after its own block: write quiet before this line where nothing came in between"
+
+abbrev pub IsUnfitNote : ℕ → Unfit → List ℕ → Type 0
+IsUnfitNote line why note = Shows line (unfit_words why) note
+
+-- the note on the text of an exchange: none where it fits a file, else how large that may be
+pub data IsSizeNote (e : ExchangeParts) (note : List ℕ) : Type 0 where
+  fits : length (exchange_text e) ≤ largest_file → note ≡ [] → IsSizeNote e note
+  over : largest_file < length (exchange_text e) → note ≡ large_note largest_file → IsSizeNote e note
+
+-- The note on the items of a text: on an answer to reset that can't be used, on the line that can't be recorded, or on
+-- the text of their exchange.
+pub data IsItemsNote (atr file : List ℕ) (items : List Item) (note : List ℕ) : Type 0 where
+  unusable : (name : List ℕ) → IsFound atr (Err name) → IsSessionNote atr note → IsItemsNote atr file items note
+  unfit_line : (place : ℕ) (why : Unfit) → unfit_in items ≡ Some (place, why)
+      → IsUnfitNote (line_with file place) why note → IsItemsNote atr file items note
+  of_text : (ifsc : ℕ) → IsFound atr (Ok ifsc) → unfit_in items ≡ None
+      → IsSizeNote (exchange_of ifsc atr items) note → IsItemsNote atr file items note
 
 -- the note on a text: that on its items, or on the line with its first fault
 abbrev pub IsRecordNote : List ℕ → List ℕ → List ℕ → Type 0
-IsRecordNote atr file note = MatchResult (trace_of file) (λ items. IsItemsNote atr note)
+IsRecordNote atr file note = MatchResult (trace_of file) (λ items. IsItemsNote atr file items note)
     (λ fault. IsLineNote (line_of fault) note)

@@ -18,7 +18,7 @@ use crate::judged::{answer_with_note, filled, joined, tidied};
 use crate::program::answer_to;
 use crate::{exchange, judging, recording, simulation};
 use card_kinds::Answer;
-use card_words::{Ends, Fault, Form, OctetSource, Request, Session};
+use card_words::{Fault, Form, Judging, OctetSource, Request, Session};
 use explainer::{large_note, offsets_note, text_note, words_note};
 use octet_core::{Octets, Source};
 use std::alloc::{AllocError, Global};
@@ -182,7 +182,7 @@ fn exchange_explained<R: Source>(
             Ok(noted(judged.answer, judged.note))
         }
         Request::Record(atr) => record_explained(alloc, atr, reader),
-        Request::Judge { atr, ends } => judge_explained(alloc, atr, ends, reader),
+        Request::Judge { atr, judging } => judge_explained(alloc, atr, judging, reader),
         Request::Simulate(session) => {
             let judged = simulation::simulated_with_note(alloc, &session)?;
             Ok(noted(judged.answer, judged.note))
@@ -203,19 +203,19 @@ fn record_explained<R: Source>(alloc: Global, atr: Octets, reader: &mut R) -> Re
     Ok(noted(judged.answer, judged.note))
 }
 
-/// What of the blocks of standard input isn't permitted to these ends, with what is to be said of the text.
+/// What of the blocks of standard input isn't permitted, with what is to be said of the text.
 fn judge_explained<R: Source>(
     alloc: Global,
     atr: Octets,
-    ends: Ends,
+    judging: Judging,
     reader: &mut R,
 ) -> Result<Answer, Fault>
-    ensures told { AnswersExplainedTo (AnyRequest.Judge atr ends) (R.remaining reader.old)
+    ensures told { AnswersExplainedTo (AnyRequest.Judge atr judging) (R.remaining reader.old)
         (R.remaining reader.new) (R.failures reader.old) (R.failures reader.new) result }
     ensures few { IsBegun (R.remaining reader.old) (R.remaining reader.new) 4194305 }
 {
     let text = read_whole(alloc, reader)?;
-    let judged = judging::judged_with_note(alloc, atr.get(), ends, text.get())?;
+    let judged = judging::judged_with_note(alloc, atr.get(), judging, text.get())?;
     Ok(noted(judged.answer, judged.note))
 }
 

@@ -3,7 +3,7 @@
 ghost use Rattle.std.specs.Prelude.{◌≡◌, ◌≢◌, IfOk, string_bytes};
 ghost use Rattle.card_tool.specs.ExchangeTexts.{IsOutcome};
 ghost use Rattle.card_tool.specs.Explained.{IsDifferenceNote};
-ghost use Rattle.card_tool.specs.FileNotes.{line_of, IsLineNote};
+ghost use Rattle.card_tool.specs.FileNotes.{line_of, IsLineNote, Shows};
 ghost use Rattle.exchange_text.specs.declared.fault.ExchangeFault.TheVariants.{Memory};
 ghost use Rattle.explainer.specs.Notes.{line_note};
 
@@ -112,6 +112,18 @@ fn reason(gives: &str, is_past: bool) -> &'static str {
 /// A line of a text, and what is to be said of it.
 fn noted(alloc: Global, text: &[u8], number: usize, what: &str) -> Result<String, AllocError>
     ensures { IfOk result (λ note. IsLineNote number (string_bytes note)) }
+{
+    shown_at(alloc, text, number, what)
+}
+
+/// A line of a text, as far as it is shown, and what is to be said of it.
+pub(crate) fn shown_at(
+    alloc: Global,
+    text: &[u8],
+    number: usize,
+    what: &str,
+) -> Result<String, AllocError>
+    ensures { IfOk result (λ note. Shows number what.now (string_bytes note)) }
 {
     let line = shown(alloc, line_at(text, number))?;
     line_said(alloc, number, line.as_str(), what)

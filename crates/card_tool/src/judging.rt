@@ -1,52 +1,87 @@
 //! Traces of a line, of which the standard says what each end may send.
 
-ghost use Rattle.std.specs.Prelude.{◌≡◌, ◌≢◌, IfOk};
+ghost use Rattle.std.specs.Prelude.{◌≡◌, ◌≢◌, Err, IfErr, IfOk};
+ghost use Rattle.exchange_core.specs.Faults.{atr_fault_name};
+ghost use Rattle.exchange_core.specs.Replay.{IsFound};
 ghost use Rattle.exchange_text.specs.declared.fault.ExchangeFault.TheVariants.{Memory};
 ghost use Rattle.card_tool.specs.ExchangeTexts.{file_fault_text};
 ghost use Rattle.card_tool.specs.FileNotes.{line_of, IsLineNote};
 ghost use Rattle.card_kinds.specs.declared.status.Status.TheVariants as ended;
 ghost use Rattle.card_tool.specs.Judged.{AreOf};
-ghost use Rattle.card_tool.specs.JudgeTexts.{judged_status, only_of, IsJudgeNote, IsTextNote, JudgesText, JudgesTrace};
+ghost use Rattle.card_tool.specs.JudgeTexts.{judged_status, only_of, scope_of, IsJudgeNote, IsOffer, IsTextNote, JudgesText, JudgesTrace};
 
 use crate::exchange::refused;
 use crate::file_notes::trace_note;
 use crate::judged::WithNote;
+use atr_core::{decode, t1_params};
 use card_kinds::{Answer, Status};
-use card_words::Ends;
-use exchange_core::{ExchangeFault, params_of};
+use card_words::{Ends, Judging};
+use exchange_core::{AtrFault, ExchangeFault};
 use explainer::session_note;
 use judge_core::Side;
 use octet_core::Named;
 use std::alloc::{AllocError, Global};
-use trace_judge::{Judgment, judge_trace};
+use trace_judge::{Judgment, Offer, Scope, judge_trace, rates_before};
 
 /// What is expected in a line of a trace.
 const EXPECTED: &str =
     "expected: t HEX or c HEX, with lost or as HEX after it or not, quiet, reset, or at N";
 
-/// What of the blocks that a text has isn't permitted to these ends, or the text's fault.
+/// What of the blocks that a text has isn't permitted, or the text's fault.
 pub(crate) fn judged(
     alloc: Global,
     atr: &[u8],
-    ends: Ends,
+    judging: Judging,
     text: &[u8],
 ) -> Result<Answer, AllocError>
     ensures { IfOk result (λ answer.
-        JudgesTrace atr.now ends text.now answer.text answer.status) }
+        JudgesTrace atr.now judging text.now answer.text answer.status) }
 {
-    match params_of(atr) {
-        Ok(params) => text_judged(alloc, params.ifsc(), ends, text),
+    match offer_of(atr) {
+        Ok(offer) => text_judged(alloc, offer, judging, text),
         Err(fault) => Answer::refused_as(alloc, fault.name()),
     }
 }
 
-/// The same at a card that takes fields of so many octets.
-fn text_judged(alloc: Global, ifsc: u8, ends: Ends, text: &[u8]) -> Result<Answer, AllocError>
-    ensures { IfOk result (λ answer. JudgesText ifsc ends text.now answer.text answer.status) }
+/// The same at a card that offers this.
+fn text_judged(
+    alloc: Global,
+    offer: Offer,
+    judging: Judging,
+    text: &[u8],
+) -> Result<Answer, AllocError>
+    ensures { IfOk result (λ answer. JudgesText offer judging text.now answer.text answer.status) }
 {
-    match judge_trace(alloc, ifsc, only_of(ends), text) {
+    match judge_trace(alloc, offer, scope_of(judging), text) {
         Ok(judgment) => Ok(answer_of(judgment)),
         Err(fault) => refused(alloc, fault),
+    }
+}
+
+/// What octets offer that are one whole answer to reset with parameters of T=1.
+fn offer_of(octets: &[u8]) -> Result<Offer, AtrFault>
+    ensures found { IfOk result (IsOffer octets.now) }
+    ensures refused { IfErr result (λ fault. IsFound octets.now (Err (atr_fault_name fault))) }
+{
+    match decode(octets) {
+        Ok((atr, taken)) if taken == octets.len() => match t1_params(&atr) {
+            Ok(params) => Ok(Offer {
+                params,
+                rates: rates_before(&atr),
+            }),
+            Err(fault) => Err(AtrFault::Params(fault)),
+        },
+        _ => Err(AtrFault::BadAtr),
+    }
+}
+
+/// What is judged of a trace.
+fn scope_of(judging: Judging) -> Scope
+    ensures { result ≡ scope_of judging }
+{
+    Scope {
+        only: only_of(judging.ends),
+        clock: judging.clock,
     }
 }
 
@@ -78,14 +113,14 @@ fn answer_of(judgment: Judgment) -> Answer
 pub(crate) fn judged_with_note(
     alloc: Global,
     atr: &[u8],
-    ends: Ends,
+    judging: Judging,
     text: &[u8],
 ) -> Result<WithNote, AllocError>
     ensures { IfOk result
-        (AreOf (JudgesTrace atr.now ends text.now) (IsJudgeNote atr.now ends text.now)) }
+        (AreOf (JudgesTrace atr.now judging text.now) (IsJudgeNote atr.now judging text.now)) }
 {
-    match params_of(atr) {
-        Ok(params) => text_with_note(alloc, params.ifsc(), ends, text),
+    match offer_of(atr) {
+        Ok(offer) => text_with_note(alloc, offer, judging, text),
         Err(fault) => {
             let answer = Answer::refused_as(alloc, fault.name())?;
             let note = session_note(alloc, atr);
@@ -94,11 +129,17 @@ pub(crate) fn judged_with_note(
     }
 }
 
-/// The same at a card that takes fields of so many octets.
-fn text_with_note(alloc: Global, ifsc: u8, ends: Ends, text: &[u8]) -> Result<WithNote, AllocError>
-    ensures { IfOk result (AreOf (JudgesText ifsc ends text.now) (IsTextNote ifsc ends text.now)) }
+/// The same at a card that offers this.
+fn text_with_note(
+    alloc: Global,
+    offer: Offer,
+    judging: Judging,
+    text: &[u8],
+) -> Result<WithNote, AllocError>
+    ensures { IfOk result (AreOf (JudgesText offer judging text.now)
+        (IsTextNote offer judging text.now)) }
 {
-    match judge_trace(alloc, ifsc, only_of(ends), text) {
+    match judge_trace(alloc, offer, scope_of(judging), text) {
         Ok(judgment) => Ok(WithNote {
             answer: answer_of(judgment),
             note: Ok(String::new(alloc)),

@@ -262,9 +262,9 @@ pub(crate) fn answer_to<R: Source>(
             let text = read_whole(alloc, reader)?;
             Ok(recording::recorded(alloc, atr.get(), text.get())?)
         }
-        Request::Judge { atr, ends } => {
+        Request::Judge { atr, judging } => {
             let text = read_whole(alloc, reader)?;
-            Ok(judging::judged(alloc, atr.get(), ends, text.get())?)
+            Ok(judging::judged(alloc, atr.get(), judging, text.get())?)
         }
         Request::Simulate(session) => Ok(simulation::simulated(alloc, &session)?),
         Request::SimulateLines(session) => lines_answer(alloc, session, reader),

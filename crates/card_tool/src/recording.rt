@@ -1,22 +1,26 @@
 //! Exchanges that are made of the blocks which were seen on a line.
 
-ghost use Rattle.std.specs.Prelude.{◌≡◌, ◌≢◌, IfOk, string_bytes};
+ghost use Rattle.std.specs.Prelude.{◌≡◌, ◌≢◌, ◌<◌, ◌≤◌, length, IfOk, string_bytes};
+ghost use Rattle.exchange_text.specs.Text.{exchange_text};
 ghost use Rattle.exchange_text.specs.declared.fault.ExchangeFault.TheVariants.{Memory};
 ghost use Rattle.card_tool.specs.FileNotes.{line_of, IsLineNote};
+ghost use Rattle.card_tool.specs.Files.{largest_file};
 ghost use Rattle.card_tool.specs.Judged.{AreOf};
-ghost use Rattle.card_tool.specs.RecordTexts.{IsItemsNote, IsRecordNote, Records, RecordsItems};
+ghost use Rattle.card_tool.specs.RecordTexts as texts;
+ghost use Rattle.card_tool.specs.RecordTexts.{IsItemsNote, IsRecordNote, IsSizeNote, IsUnfitNote, Records, RecordsItems, unfit_text};
 ghost use Rattle.card_kinds.specs.declared.status.Status.TheVariants as ended;
 
 use crate::exchange::refused;
 use crate::file::LARGEST_FILE;
-use crate::file_notes::trace_note;
+use crate::file_notes::{shown_at, trace_note};
 use crate::judged::WithNote;
 use crate::simulation::file;
 use card_kinds::{Answer, Status};
+use exchange_core::Exchange;
 use explainer::{large_note, session_note};
 use octet_core::Named;
 use std::alloc::{AllocError, Global};
-use traces::{RecordFault, Trace, read_trace, record_trace};
+use traces::{RecordFault, Trace, Unfit, line_of_item, read_trace, record_trace};
 
 /// What is expected in a line of a trace.
 const EXPECTED: &str = "expected: t HEX or c HEX, with lost after it or not, quiet, or at N";
@@ -26,21 +30,38 @@ pub(crate) fn recorded(alloc: Global, atr: &[u8], text: &[u8]) -> Result<Answer,
     ensures { IfOk result (λ answer. Records atr.now text.now answer.text answer.status) }
 {
     match read_trace(alloc, text) {
-        Ok(trace) => recorded_items(alloc, atr, &trace),
+        Ok(trace) => recorded_items(alloc, atr, text, &trace),
         Err(fault) => refused(alloc, fault),
     }
 }
 
-/// The file of the exchange in which these blocks were seen, or why there is none.
-fn recorded_items(alloc: Global, atr: &[u8], trace: &Trace) -> Result<Answer, AllocError>
+/// The file of the exchange in which the blocks of a text were seen, or why there is none.
+fn recorded_items(
+    alloc: Global,
+    atr: &[u8],
+    text: &[u8],
+    trace: &Trace,
+) -> Result<Answer, AllocError>
     ensures { IfOk result (λ answer.
-        RecordsItems atr.now trace.now answer.text answer.status) }
+        RecordsItems atr.now text.now trace.now answer.text answer.status) }
 {
     match record_trace(alloc, atr, trace) {
         Ok(exchange) => file(alloc, &exchange),
         Err(RecordFault::Refused(fault)) => Answer::refused_as(alloc, fault.name()),
+        Err(RecordFault::Unfit { place, why }) => {
+            refused_line(alloc, line_of_item(text, place), why.name())
+        }
         Err(RecordFault::Memory) => Err(AllocError),
     }
+}
+
+/// A line of a text can't be recorded, by this name.
+fn refused_line(alloc: Global, line: usize, name: &str) -> Result<Answer, AllocError>
+    ensures text { IfOk result (λ answer. answer.text ≡ unfit_text line name.now) }
+    ensures status { IfOk result (λ answer. answer.status ≡ ended.Refused) }
+{
+    let text = format!(in alloc; "refused at line {line}: {name}\n")?;
+    Ok(Answer::of(text, Status::Refused))
 }
 
 /// The same of a text, with a note.
@@ -52,11 +73,7 @@ pub(crate) fn recorded_with_note(
     ensures { IfOk result (AreOf (Records atr.now text.now) (IsRecordNote atr.now text.now)) }
 {
     match read_trace(alloc, text) {
-        Ok(trace) => {
-            let answer = recorded_items(alloc, atr, &trace)?;
-            let note = items_note(alloc, atr, answer.status);
-            Ok(WithNote { answer, note })
-        }
+        Ok(trace) => items_with_note(alloc, atr, text, &trace),
         Err(fault) => {
             let answer = refused(alloc, fault)?;
             let note = trace_note(alloc, text, fault, EXPECTED);
@@ -65,13 +82,68 @@ pub(crate) fn recorded_with_note(
     }
 }
 
-/// What is to be said of blocks, by how the program ends with the text of their exchange.
-fn items_note(alloc: Global, atr: &[u8], status: Status) -> Result<String, AllocError>
-    ensures { IfOk result (λ note. IsItemsNote atr.now (string_bytes note)) }
+/// The file of the blocks of a text, or why there is none, with a note.
+fn items_with_note(
+    alloc: Global,
+    atr: &[u8],
+    text: &[u8],
+    trace: &Trace,
+) -> Result<WithNote, AllocError>
+    ensures { IfOk result (AreOf (RecordsItems atr.now text.now trace.now)
+        (IsItemsNote atr.now text.now trace.now)) }
+{
+    match record_trace(alloc, atr, trace) {
+        Ok(exchange) => {
+            let answer = file(alloc, &exchange)?;
+            let note = size_note(alloc, &exchange, answer.status);
+            Ok(WithNote { answer, note })
+        }
+        Err(RecordFault::Refused(fault)) => {
+            let answer = Answer::refused_as(alloc, fault.name())?;
+            let note = session_note(alloc, atr);
+            Ok(WithNote { answer, note })
+        }
+        Err(RecordFault::Unfit { place, why }) => {
+            let line = line_of_item(text, place);
+            let answer = refused_line(alloc, line, why.name())?;
+            let note = unfit_note(alloc, text, line, why);
+            Ok(WithNote { answer, note })
+        }
+        Err(RecordFault::Memory) => Err(AllocError),
+    }
+}
+
+/// What is to be said of the text of an exchange, by how the program ends with it.
+fn size_note(alloc: Global, _exchange: &Exchange, status: Status) -> Result<String, AllocError>
+    requires past { status ≡ ended.Fault → largest_file < length (exchange_text _exchange.now) }
+    requires inside { (status ≡ ended.Fault → ⊥)
+        → length (exchange_text _exchange.now) ≤ largest_file }
+    ensures { IfOk result (λ note. IsSizeNote _exchange.now (string_bytes note)) }
 {
     match status {
-        Status::Accepted => Ok(String::new(alloc)),
-        Status::Refused => session_note(alloc, atr),
         Status::Fault => large_note(alloc, LARGEST_FILE),
+        Status::Accepted | Status::Refused => Ok(String::new(alloc)),
+    }
+}
+
+/// The line of a text that can't be recorded, and what is to be said of it.
+fn unfit_note(alloc: Global, text: &[u8], line: usize, why: Unfit) -> Result<String, AllocError>
+    ensures { IfOk result (λ note. IsUnfitNote line why (string_bytes note)) }
+{
+    shown_at(alloc, text, line, unfit_words(why))
+}
+
+/// What is said of a line that can't be recorded.
+fn unfit_words(why: Unfit) -> &'static str
+    ensures { result.now ≡ texts.unfit_words why }
+{
+    match why {
+        Unfit::Pps => "this is PPS, and a session begins after it: leave it out",
+        Unfit::NodeAddress => {
+            "both ends use a node address other than 00, which record doesn't follow: judge does"
+        }
+        Unfit::Silence => {
+            "the terminal sends again after its own block: write quiet before this line where nothing came in between"
+        }
     }
 }

@@ -1,15 +1,34 @@
 -- The drawing as lines of text, a line a row, of at most 100 columns.
-use Rattle.std.specs.Prelude.{ℕ, ◌-◌, List, [], ◌∷◌, ◌++◌, Bool, true, false, codes, decimal, length}
+use Rattle.std.specs.Prelude.{ℕ, ◌-◌, List, [], ◌∷◌, ◌++◌, codes, decimal, length}
 use Rattle.std.specs.List.{repeat}
 use Rattle.exchange_text.specs.Exchange.{ExchangeParts}
 use Rattle.exchange_text.specs.declared.exchange.Version.{Version}
 use Rattle.exchange_text.specs.declared.exchange.Version.TheVariants.{One, Two}
 use Rattle.drawings.specs.Rows.{rows_of}
-use Rattle.drawings.specs.declared.ladder.TheConstants.{MARGIN, WIDTH, MIDDLE, AROUND, HALF}
+use Rattle.drawings.specs.declared.row.Course.{Course}
+use Rattle.drawings.specs.declared.row.Course.TheVariants.{Arrives, Lost, Added}
 use Rattle.drawings.specs.declared.row.Row.{Row}
 use Rattle.drawings.specs.declared.row.Row.TheVariants.{Said, Between, Block}
 use Rattle.drawings.specs.declared.row.Side.{Side}
 use Rattle.drawings.specs.declared.row.Side.TheVariants.{Terminal, Card}
+
+-- the columns of a number and the blank after it, those from the terminal to the card, those before a text in the middle
+abbrev pub margin : ℕ
+margin = 7
+
+abbrev pub width : ℕ
+width = 93
+
+abbrev pub middle : ℕ
+middle = 27
+
+-- the characters of an arrow beside its label and its dashes
+abbrev pub around : ℕ
+around = 8
+
+-- the blanks on each side of the version
+abbrev pub half : ℕ
+half = 36
 
 abbrev pub blanks : ℕ → List ℕ
 blanks count = repeat count (codes " ")
@@ -20,36 +39,47 @@ after count label = blanks count ++ label
 
 -- what is said at a side, at its edge
 abbrev pub said_text : Side → List ℕ → List ℕ
-said_text Terminal label = blanks MARGIN ++ label
-said_text Card label = blanks MARGIN ++ after (WIDTH - length label) label
+said_text Terminal label = blanks margin ++ label
+said_text Card label = blanks margin ++ after (width - length label) label
 
 -- the number of a block, at the end of its columns, and a blank
 abbrev pub number_text : ℕ → List ℕ
-number_text number = blanks (MARGIN - 1 - length (decimal number)) ++ (decimal number ++ codes " ")
+number_text number = blanks (margin - 1 - length (decimal number)) ++ (decimal number ++ codes " ")
 
 -- a text so many times, and others before and after
 abbrev pub trail : List ℕ → List ℕ → ℕ → List ℕ → List ℕ
 trail before fill count after = before ++ (repeat count fill ++ after)
 
--- what is between a label of so many characters and the card: an arrow to it, or one that ends before
-abbrev pub to_card : Bool → ℕ → List ℕ
-to_card false len = trail (codes " ") (codes "-") (WIDTH - AROUND - len) (codes "->|")
-to_card true len = trail (codes " -x") (codes " ") (WIDTH - AROUND - len) (codes "|")
+-- what is between a label of so many characters and the card: an arrow to it, or one that ends before; dots where nobody
+-- saw the block
+abbrev pub to_card : Course → ℕ → List ℕ
+to_card Arrives len = trail (codes " ") (codes "-") (width - around - len) (codes "->|")
+to_card Lost len = trail (codes " -x") (codes " ") (width - around - len) (codes "|")
+to_card Added len = trail (codes " .x") (codes " ") (width - around - len) (codes "|")
 
 -- what is between the terminal and a label
-abbrev pub to_terminal : Bool → ℕ → List ℕ
-to_terminal false len = trail (codes "|<-") (codes "-") (WIDTH - AROUND - len) (codes " ")
-to_terminal true len = trail (codes "|") (codes " ") (WIDTH - AROUND - len) (codes "x- ")
+abbrev pub to_terminal : Course → ℕ → List ℕ
+to_terminal Arrives len = trail (codes "|<-") (codes "-") (width - around - len) (codes " ")
+to_terminal Lost len = trail (codes "|") (codes " ") (width - around - len) (codes "x- ")
+to_terminal Added len = trail (codes "|") (codes " ") (width - around - len) (codes "x. ")
 
--- an arrow with a label, from a side; whether the block is lost
-abbrev pub arrow_text : Side → Bool → List ℕ → List ℕ
-arrow_text Terminal lost label = codes "|-- " ++ (label ++ to_card lost (length label))
-arrow_text Card lost label = to_terminal lost (length label) ++ (label ++ codes " --|")
+-- where an arrow begins
+abbrev pub shaft : Course → List ℕ
+shaft Arrives = codes "--"
+shaft Lost = codes "--"
+shaft Added = codes ".."
+
+-- an arrow with a label, from a side
+abbrev pub arrow_text : Side → Course → List ℕ → List ℕ
+arrow_text Terminal course label =
+    codes "|" ++ (shaft course ++ (codes " " ++ (label ++ to_card course (length label))))
+arrow_text Card course label =
+    to_terminal course (length label) ++ (label ++ (codes " " ++ (shaft course ++ codes "|")))
 
 abbrev pub row_text : Row → List ℕ
 row_text (Said side label) = said_text side label
-row_text (Between label) = after MIDDLE label
-row_text (Block number from lost label) = number_text number ++ arrow_text from lost label
+row_text (Between label) = after middle label
+row_text (Block number from course label) = number_text number ++ arrow_text from course label
 
 abbrev pub rows_text : List Row → List ℕ
 rows_text [] = []
@@ -66,7 +96,7 @@ sides_text between count = codes "terminal" ++ (blanks count ++ (between ++ (bla
 
 -- the first line: both sides, and the version of the file between them
 abbrev pub head_text : Version → List ℕ
-head_text version = blanks MARGIN ++ sides_text (version_words version) HALF
+head_text version = blanks margin ++ sides_text (version_words version) half
 
 abbrev pub ladder_text : ExchangeParts → List ℕ
 ladder_text e = head_text e.version ++ rows_text (rows_of e)

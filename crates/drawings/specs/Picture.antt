@@ -1,10 +1,12 @@
 -- The drawing as a picture in SVG, with the same rows.
-use Rattle.std.specs.Prelude.{ℕ, ◌+◌, ◌*◌, ◌==◌, List, [], ◌∷◌, ◌++◌, Bool, true, false, codes, decimal, length, if◌then◌else◌}
+use Rattle.std.specs.Prelude.{ℕ, ◌+◌, ◌*◌, ◌==◌, List, [], ◌∷◌, ◌++◌, codes, decimal, length, if◌then◌else◌}
 use Rattle.exchange_text.specs.Exchange.{ExchangeParts}
 use Rattle.exchange_text.specs.declared.exchange.Version.{Version}
 use Rattle.drawings.specs.Ladder.{version_words}
 use Rattle.drawings.specs.Rows.{rows_of}
-use Rattle.drawings.specs.declared.picture.TheConstants.{ROW, TOP, OPEN, STYLE, LINES, CARD_LINE, LINES_END, ROW_OPEN, ROW_AT, ROW_END, NUMBER_OPEN, TEXT_END, AT_TERMINAL, AT_CARD, IN_MIDDLE, TO_CARD, LOST_TO_CARD, TO_TERMINAL, LOST_TO_TERMINAL, CLOSE}
+use Rattle.drawings.specs.declared.picture.TheConstants.{ROW, TOP, OPEN, STYLE, LINES, CARD_LINE, LINES_END, ROW_OPEN, ROW_AT, ROW_END, NUMBER_OPEN, TEXT_END, CLOSE}
+use Rattle.drawings.specs.declared.row.Course.{Course}
+use Rattle.drawings.specs.declared.row.Course.TheVariants.{Arrives, Lost, Added}
 use Rattle.drawings.specs.declared.row.Row.{Row}
 use Rattle.drawings.specs.declared.row.Row.TheVariants.{Said, Between, Block}
 use Rattle.drawings.specs.declared.row.Side.{Side}
@@ -31,22 +33,24 @@ abbrev pub label_text : List ℕ → List ℕ → List ℕ
 label_text before label = before ++ (escaped label ++ TEXT_END.now)
 
 abbrev pub at_side : Side → List ℕ
-at_side Terminal = AT_TERMINAL.now
-at_side Card = AT_CARD.now
+at_side Terminal = codes "<text x=\"92\" y=\"14\">"
+at_side Card = codes "<text class=\"card\" x=\"768\" y=\"14\">"
 
--- the arrow of a block from a side; whether it is lost
-abbrev pub arrow : Side → Bool → List ℕ
-arrow Terminal true = LOST_TO_CARD.now
-arrow Terminal false = TO_CARD.now
-arrow Card true = LOST_TO_TERMINAL.now
-arrow Card false = TO_TERMINAL.now
+-- the arrow of a block from a side
+abbrev pub arrow : Side → Course → List ℕ
+arrow Terminal Arrives = codes "<path d=\"M80 19H780m-7-4 7 4-7 4\"/>"
+arrow Terminal Lost = codes "<path class=\"lost\" d=\"M80 19H640m-5-5 10 10m0-10-10 10\"/>"
+arrow Terminal Added = codes "<path class=\"lost\" stroke-dasharray=\"2 4\" d=\"M80 19H640m-5-5 10 10m0-10-10 10\"/>"
+arrow Card Arrives = codes "<path d=\"M780 19H80m7-4-7 4 7 4\"/>"
+arrow Card Lost = codes "<path class=\"lost\" d=\"M780 19H220m-5-5 10 10m0-10-10 10\"/>"
+arrow Card Added = codes "<path class=\"lost\" stroke-dasharray=\"2 4\" d=\"M780 19H220m-5-5 10 10m0-10-10 10\"/>"
 
 -- what a row has
 abbrev pub parts_text : Row → List ℕ
 parts_text (Said side label) = label_text (at_side side) label
-parts_text (Between label) = label_text IN_MIDDLE.now label
-parts_text (Block number from lost label) = enclosed NUMBER_OPEN.now number TEXT_END.now
-    ++ (arrow from lost ++ label_text (at_side from) label)
+parts_text (Between label) = label_text (codes "<text class=\"middle\" x=\"430\" y=\"14\">") label
+parts_text (Block number from course label) = enclosed NUMBER_OPEN.now number TEXT_END.now
+    ++ (arrow from course ++ label_text (at_side from) label)
 
 -- a row that begins here
 abbrev pub row_text : ℕ → Row → List ℕ

@@ -1,6 +1,6 @@
 -- The rows of a drawing: what each line of a recorded exchange brings, one after another.
 use Rattle.std.specs.Prelude.{ℕ, ◌+◌, ◌-◌, ◌==◌, nat_le, nat_lt, List, [], ◌∷◌, ◌++◌, Bool, true, false, codes, decimal, length, slice_index, take, Option, Some, None, if◌then◌else◌}
-use Rattle.exchange_text.specs.Exchange.{ExchangeParts}
+use Rattle.exchange_text.specs.Exchange.{ExchangeParts, is_added}
 use Rattle.exchange_text.specs.Names.{name_text}
 use Rattle.exchange_text.specs.Text.{octets_text}
 use Rattle.exchange_text.specs.declared.line.Arrival.{Arrival}
@@ -10,7 +10,9 @@ use Rattle.exchange_text.specs.declared.line.Line.TheVariants as line
 use Rattle.exchange_text.specs.declared.name.Name.{Name}
 use Rattle.exchange_text.specs.declared.name.Name.TheVariants as name
 use Rattle.notes.specs.Says.{NoteText, pcb_says}
-use Rattle.drawings.specs.declared.labels.TheConstants.{WIDE, NARROW, FEWER, LONGEST_NOTE, FEWER_OF_NOTE}
+use Rattle.drawings.specs.declared.row.Course.{Course}
+use Rattle.drawings.specs.declared.row.Course.TheVariants.{Arrives, Added}
+use Rattle.drawings.specs.declared.row.Course.TheVariants as course
 use Rattle.drawings.specs.declared.row.Row.{Row}
 use Rattle.drawings.specs.declared.row.Row.TheVariants.{Said, Between, Block}
 use Rattle.drawings.specs.declared.row.Side.{Side}
@@ -22,6 +24,23 @@ other Card = Terminal
 
 -- ---- labels
 
+-- the most octets of a row of a side, and of a block; of more, so many fewer are shown
+abbrev pub wide : ℕ
+wide = 40
+
+abbrev pub narrow : ℕ
+narrow = 15
+
+abbrev pub fewer : ℕ
+fewer = 8
+
+-- the most characters of a remark; of more, so many fewer are shown
+abbrev pub longest_note : ℕ
+longest_note = 68
+
+abbrev pub fewer_of_note : ℕ
+fewer_of_note = 18
+
 -- that not all is shown, and how many there are of what
 abbrev pub rest_text : ℕ → List ℕ → List ℕ
 rest_text count what = codes ".. " ++ (decimal count ++ what)
@@ -30,11 +49,11 @@ rest_text count what = codes ".. " ++ (decimal count ++ what)
 abbrev pub shown_octets : ℕ → List ℕ → List ℕ
 shown_octets most octets =
     if nat_le (length octets) most then octets_text octets
-    else octets_text (take (most - FEWER) octets) ++ rest_text (length octets) (codes " octets")
+    else octets_text (take (most - fewer) octets) ++ rest_text (length octets) (codes " octets")
 
 -- a word, and octets after it
 abbrev pub message_label : List ℕ → List ℕ → List ℕ
-message_label word octets = word ++ (codes " " ++ shown_octets WIDE octets)
+message_label word octets = word ++ (codes " " ++ shown_octets wide octets)
 
 abbrev pub moment_label : ℕ → List ℕ
 moment_label moment = codes "at " ++ decimal moment
@@ -43,10 +62,10 @@ moment_label moment = codes "at " ++ decimal moment
 abbrev pub cut_text : ℕ → List ℕ → List ℕ
 cut_text most text =
     if nat_le (length text) most then text
-    else take (most - FEWER_OF_NOTE) text ++ rest_text (length text) (codes " characters")
+    else take (most - fewer_of_note) text ++ rest_text (length text) (codes " characters")
 
 abbrev pub note_label : List ℕ → List ℕ
-note_label text = codes "note " ++ cut_text LONGEST_NOTE text
+note_label text = codes "note " ++ cut_text longest_note text
 
 abbrev pub number_text : Option ℕ → List ℕ
 number_text None = []
@@ -75,7 +94,7 @@ fate Lost = codes "  lost"
 fate (Changed octets) = codes "  damaged"
 
 abbrev pub block_label : List ℕ → Arrival → List ℕ
-block_label sent arrival = block_words sent ++ (codes "  " ++ (shown_octets NARROW sent ++ fate arrival))
+block_label sent arrival = block_words sent ++ (codes "  " ++ (shown_octets narrow sent ++ fate arrival))
 
 -- ---- rows
 
@@ -85,10 +104,12 @@ word_rows side name = Said side (name_text name) ∷ []
 abbrev pub message_rows : Side → List ℕ → List ℕ → List Row
 message_rows side word octets = Said side (message_label word octets) ∷ []
 
-abbrev pub is_lost : Arrival → Bool
-is_lost Whole = false
-is_lost Lost = true
-is_lost (Changed octets) = false
+-- what became of a block, and whether a line `note added` comes before it
+abbrev pub course_of : Bool → Arrival → Course
+course_of added Whole = Arrives
+course_of true Lost = Added
+course_of false Lost = course.Lost
+course_of added (Changed octets) = Arrives
 
 -- what arrived in place of a block that was damaged
 abbrev pub arrived_rows : Side → Arrival → List Row
@@ -96,9 +117,9 @@ arrived_rows side Whole = []
 arrived_rows side Lost = []
 arrived_rows side (Changed octets) = message_rows side (codes "arrives") octets
 
-abbrev pub block_rows : ℕ → Side → List ℕ → Arrival → List Row
-block_rows number from sent arrival =
-    Block number from (is_lost arrival) (block_label sent arrival) ∷ arrived_rows (other from) arrival
+abbrev pub block_rows : ℕ → Bool → Side → List ℕ → Arrival → List Row
+block_rows number added from sent arrival =
+    Block number from (course_of added arrival) (block_label sent arrival) ∷ arrived_rows (other from) arrival
 
 -- what the terminal's application says or hears
 abbrev pub terminal_rows : Line → List Row
@@ -119,17 +140,17 @@ card_rows (line.Ifsc size) = message_rows Card (codes "ifsc") (size ∷ [])
 card_rows (line.Asked octets) = message_rows Card (codes "asked") octets
 card_rows _ = []
 
--- the rows of a line, with the number that it has if it is a block
-abbrev pub line_rows : ℕ → Line → List Row
-line_rows number (line.FromTerminal sent arrival) = block_rows number Terminal sent arrival
-line_rows number (line.FromCard sent arrival) = block_rows number Card sent arrival
-line_rows number (line.Moment moment) = Between (moment_label moment) ∷ []
-line_rows number (line.Note text) = Between (note_label text) ∷ []
-line_rows number (line.Reply octets) = card_rows (line.Reply octets)
-line_rows number (line.Time multiple) = card_rows (line.Time multiple)
-line_rows number (line.Ifsc size) = card_rows (line.Ifsc size)
-line_rows number (line.Asked octets) = card_rows (line.Asked octets)
-line_rows number said = terminal_rows said
+-- the rows of a line, with the number that it has if it is a block, and whether a line `note added` comes before it
+abbrev pub line_rows : ℕ → Bool → Line → List Row
+line_rows number added (line.FromTerminal sent arrival) = block_rows number added Terminal sent arrival
+line_rows number added (line.FromCard sent arrival) = block_rows number added Card sent arrival
+line_rows number added (line.Moment moment) = Between (moment_label moment) ∷ []
+line_rows number added (line.Note text) = Between (note_label text) ∷ []
+line_rows number added (line.Reply octets) = card_rows (line.Reply octets)
+line_rows number added (line.Time multiple) = card_rows (line.Time multiple)
+line_rows number added (line.Ifsc size) = card_rows (line.Ifsc size)
+line_rows number added (line.Asked octets) = card_rows (line.Asked octets)
+line_rows number added said = terminal_rows said
 
 -- how many blocks were sent after a line
 abbrev pub sent_after : ℕ → Line → ℕ
@@ -137,11 +158,12 @@ sent_after sent (line.FromTerminal octets arrival) = sent + 1
 sent_after sent (line.FromCard octets arrival) = sent + 1
 sent_after sent _ = sent
 
--- the rows of lines after so many blocks
-abbrev pub rows_from : ℕ → List Line → List Row
-rows_from sent [] = []
-rows_from sent (line ∷ lines) = line_rows (sent + 1) line ++ rows_from (sent_after sent line) lines
+-- the rows of lines after so many blocks, and after a line `note added` or not
+abbrev pub rows_from : ℕ → Bool → List Line → List Row
+rows_from sent added [] = []
+rows_from sent added (line ∷ lines) =
+    line_rows (sent + 1) added line ++ rows_from (sent_after sent line) (is_added line) lines
 
 -- those of an exchange, first the answer to reset, which the card sends
 abbrev pub rows_of : ExchangeParts → List Row
-rows_of e = message_rows Card (codes "atr") e.atr ++ rows_from 0 e.lines
+rows_of e = message_rows Card (codes "atr") e.atr ++ rows_from 0 false e.lines

@@ -6,7 +6,7 @@ ghost use Rattle.drawings.specs.Ladder as ladder;
 ghost use Rattle.drawings.specs.Ladder.{ladder_text};
 
 use crate::labels::{extend, push};
-use crate::row::{Row, Side};
+use crate::row::{Course, Row, Side};
 use crate::rows::rows;
 use exchange_text::{Exchange, Version};
 use std::alloc::{AllocError, Global};
@@ -97,11 +97,11 @@ fn push_row(alloc: Global, text: &mut Vec<u8>, row: &Row) -> Result<(), AllocErr
         Row::Block {
             number,
             from,
-            is_lost,
+            course,
             label,
         } => {
             push_number(alloc, text, *number)?;
-            push_arrow(alloc, text, *from, *is_lost, label.get())
+            push_arrow(alloc, text, *from, *course, label.get())
         }
     }
 }
@@ -145,23 +145,37 @@ fn push_arrow(
     alloc: Global,
     text: &mut Vec<u8>,
     from: Side,
-    is_lost: bool,
+    course: Course,
     label: &[u8],
 ) -> Result<(), AllocError>
     ensures { OnOk result (text.new.items
-        ≡ text.old.items ++ ladder.arrow_text from is_lost label.now) }
+        ≡ text.old.items ++ ladder.arrow_text from course label.now) }
 {
     match from {
         Side::Terminal => {
-            push(text, "|-- ")?;
+            push(text, "|")?;
+            push(text, shaft(course))?;
+            push(text, " ")?;
             extend(text, label)?;
-            push_to_card(alloc, text, is_lost, label.len())
+            push_to_card(alloc, text, course, label.len())
         }
         Side::Card => {
-            push_to_terminal(alloc, text, is_lost, label.len())?;
+            push_to_terminal(alloc, text, course, label.len())?;
             extend(text, label)?;
-            push(text, " --|")
+            push(text, " ")?;
+            push(text, shaft(course))?;
+            push(text, "|")
         }
+    }
+}
+
+/// Where an arrow begins: of dots where nobody saw the block.
+fn shaft(course: Course) -> &'static str
+    ensures { result.now ≡ ladder.shaft course }
+{
+    match course {
+        Course::Arrives | Course::Lost => "--",
+        Course::Added => "..",
     }
 }
 
@@ -169,16 +183,16 @@ fn push_arrow(
 fn push_to_card(
     alloc: Global,
     text: &mut Vec<u8>,
-    is_lost: bool,
+    course: Course,
     len: usize,
 ) -> Result<(), AllocError>
-    ensures { OnOk result (text.new.items ≡ text.old.items ++ ladder.to_card is_lost len) }
+    ensures { OnOk result (text.new.items ≡ text.old.items ++ ladder.to_card course len) }
 {
     let left = (WIDTH - AROUND).saturating_sub(len);
-    if is_lost {
-        push_trail(alloc, text, " -x", " ", left, "|")
-    } else {
-        push_trail(alloc, text, " ", "-", left, "->|")
+    match course {
+        Course::Arrives => push_trail(alloc, text, " ", "-", left, "->|"),
+        Course::Lost => push_trail(alloc, text, " -x", " ", left, "|"),
+        Course::Added => push_trail(alloc, text, " .x", " ", left, "|"),
     }
 }
 
@@ -186,16 +200,16 @@ fn push_to_card(
 fn push_to_terminal(
     alloc: Global,
     text: &mut Vec<u8>,
-    is_lost: bool,
+    course: Course,
     len: usize,
 ) -> Result<(), AllocError>
-    ensures { OnOk result (text.new.items ≡ text.old.items ++ ladder.to_terminal is_lost len) }
+    ensures { OnOk result (text.new.items ≡ text.old.items ++ ladder.to_terminal course len) }
 {
     let left = (WIDTH - AROUND).saturating_sub(len);
-    if is_lost {
-        push_trail(alloc, text, "|", " ", left, "x- ")
-    } else {
-        push_trail(alloc, text, "|<-", "-", left, " ")
+    match course {
+        Course::Arrives => push_trail(alloc, text, "|<-", "-", left, " "),
+        Course::Lost => push_trail(alloc, text, "|", " ", left, "x- "),
+        Course::Added => push_trail(alloc, text, "|", " ", left, "x. "),
     }
 }
 

@@ -6,7 +6,7 @@ ghost use Rattle.drawings.specs.Picture.{picture_text};
 
 use crate::labels::{push, push_decimal};
 use crate::ladder::version_words;
-use crate::row::{Row, Side};
+use crate::row::{Course, Row, Side};
 use crate::rows::rows;
 use exchange_text::{Exchange, Version};
 use std::alloc::{AllocError, Global};
@@ -70,9 +70,16 @@ const TO_CARD: &str = r#"<path d="M80 19H780m-7-4 7 4-7 4"/>"#;
 
 const LOST_TO_CARD: &str = r#"<path class="lost" d="M80 19H640m-5-5 10 10m0-10-10 10"/>"#;
 
+/// The same of a block that nobody saw.
+const ADDED_TO_CARD: &str =
+    r#"<path class="lost" stroke-dasharray="2 4" d="M80 19H640m-5-5 10 10m0-10-10 10"/>"#;
+
 const TO_TERMINAL: &str = r#"<path d="M780 19H80m7-4-7 4 7 4"/>"#;
 
 const LOST_TO_TERMINAL: &str = r#"<path class="lost" d="M780 19H220m-5-5 10 10m0-10-10 10"/>"#;
+
+const ADDED_TO_TERMINAL: &str =
+    r#"<path class="lost" stroke-dasharray="2 4" d="M780 19H220m-5-5 10 10m0-10-10 10"/>"#;
 
 /// The end of the picture.
 const CLOSE: &str = "</svg>\n";
@@ -182,11 +189,11 @@ fn push_parts(alloc: Global, text: &mut Vec<u8>, row: &Row) -> Result<(), AllocE
         Row::Block {
             number,
             from,
-            is_lost,
+            course,
             label,
         } => {
             push_enclosed(alloc, text, NUMBER_OPEN, *number, TEXT_END)?;
-            push(text, arrow(*from, *is_lost))?;
+            push(text, arrow(*from, *course))?;
             push_label(text, at_side(*from), label.get())
         }
     }
@@ -203,14 +210,16 @@ fn at_side(side: Side) -> &'static str
 }
 
 /// The arrow of a block from a side.
-fn arrow(from: Side, is_lost: bool) -> &'static str
-    ensures { result.now ≡ picture.arrow from is_lost }
+fn arrow(from: Side, course: Course) -> &'static str
+    ensures { result.now ≡ picture.arrow from course }
 {
-    match from {
-        Side::Terminal if is_lost => LOST_TO_CARD,
-        Side::Terminal => TO_CARD,
-        Side::Card if is_lost => LOST_TO_TERMINAL,
-        Side::Card => TO_TERMINAL,
+    match (from, course) {
+        (Side::Terminal, Course::Arrives) => TO_CARD,
+        (Side::Terminal, Course::Lost) => LOST_TO_CARD,
+        (Side::Terminal, Course::Added) => ADDED_TO_CARD,
+        (Side::Card, Course::Arrives) => TO_TERMINAL,
+        (Side::Card, Course::Lost) => LOST_TO_TERMINAL,
+        (Side::Card, Course::Added) => ADDED_TO_TERMINAL,
     }
 }
 

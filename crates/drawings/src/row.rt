@@ -24,6 +24,17 @@ impl Side {
     }
 }
 
+/// What became of a block, as its arrow says it.
+#[derive(Clone, Copy)]
+pub(crate) enum Course {
+    /// It arrives, as it was sent or as other octets.
+    Arrives,
+    /// It is lost.
+    Lost,
+    /// It counts as lost, and nobody saw it: `note added` comes before it.
+    Added,
+}
+
 /// A row of a drawing. A label is text in ASCII.
 #[derive(Drop)]
 pub(crate) enum Row {
@@ -36,11 +47,11 @@ pub(crate) enum Row {
     Between {
         label: Octets,
     },
-    /// A block with its number, from 1, which doesn't arrive where it is lost.
+    /// A block with its number, from 1.
     Block {
         number: usize,
         from: Side,
-        is_lost: bool,
+        course: Course,
         label: Octets,
     },
 }

@@ -1,12 +1,12 @@
 //! The rows of a drawing, line by line.
 
-ghost use Rattle.std.specs.Prelude.{◌≡◌, ◌+◌, ◌<◌, ◌^◌, ◌++◌, ◌∷◌, [], IfOk, OnOk};
+ghost use Rattle.std.specs.Prelude.{◌≡◌, ◌+◌, ◌<◌, ◌^◌, ◌++◌, ◌∷◌, [], false, IfOk, OnOk};
 ghost use Rattle.exchange_text.specs.Names.{name_text};
 ghost use Rattle.drawings.specs.Rows as drawing;
 ghost use Rattle.drawings.specs.declared.row.Side.{Side as AnySide};
 
 use crate::labels::{block_label, message_label, moment_label, note_label, word_label};
-use crate::row::{Row, Side};
+use crate::row::{Course, Row, Side};
 use exchange_text::{Arrival, Exchange, Line, Name};
 use std::alloc::{AllocError, Global};
 
@@ -22,12 +22,14 @@ pub(crate) fn rows(alloc: Global, exchange: &Exchange) -> Result<Vec<Row>, Alloc
 
 /// Adds the rows of lines.
 fn push_lines(alloc: Global, rows: &mut Vec<Row>, lines: &[Line]) -> Result<(), AllocError>
-    ensures { OnOk result (rows.new.items ≡ rows.old.items ++ drawing.rows_from 0 lines.now) }
+    ensures { OnOk result (rows.new.items ≡ rows.old.items ++ drawing.rows_from 0 false lines.now) }
 {
     let mut sent = 0;
+    let mut is_added = false;
     for line in lines {
-        push_line(alloc, rows, sent + 1, line)?;
+        push_line(alloc, rows, sent + 1, is_added, line)?;
         sent = sent_after(sent, line);
+        is_added = line.is_added();
     }
     Ok(())
 }
@@ -43,21 +45,39 @@ fn sent_after(sent: usize, line: &Line) -> usize
     }
 }
 
-/// Adds the rows of a line, with the number that it has if it is a block.
+/// Adds the rows of a line, with the number that it has if it is a block, and whether `note added` comes before it.
 fn push_line(
     alloc: Global,
     rows: &mut Vec<Row>,
     number: usize,
+    is_added: bool,
     line: &Line,
 ) -> Result<(), AllocError>
-    ensures { OnOk result (rows.new.items ≡ rows.old.items ++ drawing.line_rows number line.now) }
+    ensures { OnOk result (rows.new.items
+        ≡ rows.old.items ++ drawing.line_rows number is_added line.now) }
 {
     match line {
         Line::FromTerminal { sent, arrival } => {
-            push_block(alloc, rows, number, Side::Terminal, sent.get(), arrival)
+            push_block(
+                alloc,
+                rows,
+                number,
+                is_added,
+                Side::Terminal,
+                sent.get(),
+                arrival,
+            )
         }
         Line::FromCard { sent, arrival } => {
-            push_block(alloc, rows, number, Side::Card, sent.get(), arrival)
+            push_block(
+                alloc,
+                rows,
+                number,
+                is_added,
+                Side::Card,
+                sent.get(),
+                arrival,
+            )
         }
         Line::Moment(moment) => push_row(
             rows,
@@ -151,33 +171,36 @@ fn push_block(
     alloc: Global,
     rows: &mut Vec<Row>,
     number: usize,
+    is_added: bool,
     from: Side,
     sent: &[u8],
     arrival: &Arrival,
 ) -> Result<(), AllocError>
     ensures { OnOk result (rows.new.items
-        ≡ rows.old.items ++ drawing.block_rows number from sent.now arrival.now) }
+        ≡ rows.old.items ++ drawing.block_rows number is_added from sent.now arrival.now) }
 {
     let label = block_label(alloc, sent, arrival)?;
-    let is_lost = is_lost(arrival);
+    let course = course_of(is_added, arrival);
     push_row(
         rows,
         Row::Block {
             number,
             from,
-            is_lost,
+            course,
             label,
         },
     )?;
     push_arrived(alloc, rows, from.other(), arrival)
 }
 
-fn is_lost(arrival: &Arrival) -> bool
-    ensures { result ≡ drawing.is_lost arrival.now }
+/// What became of a block, and whether `note added` comes before it.
+fn course_of(is_added: bool, arrival: &Arrival) -> Course
+    ensures { result ≡ drawing.course_of is_added arrival.now }
 {
     match arrival {
-        Arrival::Lost => true,
-        Arrival::Whole | Arrival::Changed(_) => false,
+        Arrival::Lost if is_added => Course::Added,
+        Arrival::Lost => Course::Lost,
+        Arrival::Whole | Arrival::Changed(_) => Course::Arrives,
     }
 }
 

@@ -1,5 +1,6 @@
 -- An exchange as a value, and which lines one may have.
-use Rattle.std.specs.Prelude.{◌≡◌, ◌&&◌, ◌<◌, ℕ, nat_le, List, [], ◌∷◌, length, Bool, true, false}
+use Rattle.std.specs.Prelude.{◌≡◌, ◌&&◌, ◌<◌, ℕ, nat_le, List, [], ◌∷◌, codes, length, Bool, true, false}
+use Rattle.std.specs.Str.{bytes_eq}
 use Rattle.std.specs.List.{list_all}
 use Rattle.octet_core.specs.Octets.{AreOctets}
 use Rattle.exchange_text.specs.declared.exchange.Version.{Version}
@@ -21,6 +22,17 @@ is_printable c = nat_le 0x20 c && nat_le c 0x7E
 
 abbrev pub is_note : List ℕ → Bool
 is_note text = nat_le 1 (length text) && nat_le (length text) 200 && list_all is_printable text
+
+-- the note before a line that tells what nobody saw
+abbrev pub added_text : List ℕ
+added_text = codes "added"
+
+abbrev pub added_note : Line
+added_note = Note added_text
+
+abbrev pub is_added : Line → Bool
+is_added (Note text) = bytes_eq text added_text
+is_added line = false
 
 -- in microseconds
 abbrev pub latest_moment : ℕ

@@ -21,5 +21,6 @@ pub use exchange::{Exchange, Version, migrate};
 pub use fault::ExchangeFault;
 pub use line::{Arrival, Line, Lines};
 pub use name::Name;
+pub use proper::LATEST_MOMENT;
 pub use reading::read_exchange;
 pub use writing::{push_message, write_exchange};

@@ -1,9 +1,14 @@
 //! The lines of an exchange.
 
-ghost use Rattle.std.specs.Prelude.{◌≡◌};
-ghost use Rattle.exchange_text.specs.Exchange.{arrived};
+ghost use Rattle.std.specs.Prelude.{◌≡◌, IfOk};
+ghost use Rattle.exchange_text.specs.Exchange as exchange;
+ghost use Rattle.exchange_text.specs.Exchange.{added_note, arrived};
 
 use octet_core::{Listed, Octets, Text};
+use std::alloc::{AllocError, Global};
+
+/// The text of the note before a line that tells what nobody saw.
+const ADDED: &str = "added";
 
 /// What became of a block on its way.
 #[derive(Debug, PartialEq, Eq, Drop)]
@@ -62,6 +67,25 @@ pub enum Line {
     Moment(u64),
     /// A remark, 1 to 200 characters 20 to 7E; in version 2 alone.
     Note(Text),
+}
+
+impl Line {
+    /// The line `note added`, which comes before a line that tells what nobody saw.
+    pub fn added(alloc: Global) -> Result<Line, AllocError>
+        ensures { IfOk result (λ line. line ≡ added_note) }
+    {
+        Ok(Line::Note(Text::of(String::from_str(alloc, ADDED)?)))
+    }
+
+    /// Whether it is the line `note added`.
+    pub fn is_added(&self) -> bool
+        ensures { result ≡ exchange.is_added self.now }
+    {
+        match self {
+            Line::Note(text) => text.get() == ADDED,
+            _ => false,
+        }
+    }
 }
 
 /// Lines in their order, which contracts see as a list.

@@ -9,7 +9,7 @@ use crate::exchange::Version;
 use crate::line::Line;
 
 /// The latest moment that an exchange may name, in microseconds.
-pub(crate) const LATEST_MOMENT: u64 = 999_999_999_999_999;
+pub const LATEST_MOMENT: u64 = 999_999_999_999_999;
 
 /// The most characters of a note.
 pub(crate) const LONGEST_NOTE: usize = 200;

@@ -16,14 +16,15 @@ use Rattle.exchange_text.specs.declared.line.Arrival.TheVariants.{Whole, Lost, C
 use Rattle.exchange_text.specs.declared.line.Line.{Line}
 use Rattle.exchange_text.specs.declared.line.Line.TheVariants as line
 use Rattle.exchange_core.specs.Recording.{runs, terminal_input, card_input}
-use Rattle.exchange_core.specs.Replay.{card_end, card_line, terminal_end, terminal_line}
+use Rattle.exchange_core.specs.Replay.{card_end, card_line, replay_from, terminal_end, terminal_line}
+use Rattle.exchange_core.specs.declared.replaying.Side.{Side}
 use Rattle.exchange_core.specs.declared.replaying.Side.TheVariants as side
 use Rattle.exchange_core.proofs.Folds.{meets as octets-met, replays-none, runs-on}
 use Rattle.traces.specs.declared.standing.Standing.{Standing}
 use Rattle.traces.specs.declared.standing.Standing.TheVariants.{Left, Waits, Sends}
 use Rattle.traces.specs.declared.trace.Item.{Item}
 use Rattle.traces.specs.declared.trace.Item.TheVariants.{Block, Quiet, Moment}
-use Rattle.traces.specs.Followed.{FollowedReplays, is_followed}
+use Rattle.traces.specs.Followed.{is_followed, standing_of}
 use Rattle.traces.specs.Recorded.{lines_of}
 use Rattle.traces.specs.Said.{application_line, host_line}
 use Rattle.traces.specs.Following.{Following, after_begins, after_host, after_item, after_items, after_moves, after_quiet, arrival, begun, card_did, card_hears, card_settled, from_card, from_terminal, is_spelled, is_waiting, meets, misses, reaches_card, reaches_terminal, released, released_by, sent_as, settled_card, settled_terminal, standing_after, terminal_did, terminal_hears, terminal_settled, whole, writes}
@@ -564,7 +565,9 @@ module _ (ifsc : ℕ) (items : List Item) where
       ∙ ap (λ (p : Option CardTurn). Ok ((released last).card, p)) (quiet-card-pend (released last).card_is quiet)
 
 -- an end that is followed to the end of what was seen replays the recording
-pub followed-replays : FollowedReplays
+pub followed-replays : (side : Side) (ifsc : ℕ) (items : List Item)
+    → is_followed (standing_of side (after_items (begun ifsc) items)) ≡ true
+    → replay_from (Ok ifsc) (lines_of ifsc items) side ≡ None
 unfolding lines_of
 followed-replays side.Terminal ifsc items e =
     let d = released (last ifsc items) in

@@ -10,3 +10,4 @@ pub mod Changing
 pub mod Stepping
 pub mod Continuing
 pub mod Again
+pub mod Noted

@@ -1,9 +1,10 @@
 -- How the lines of a text are taken, one after another.
-use Rattle.std.proofs.Common.{◌≡◌, ◌<◌, ◌∙◌, inl, inr, ℕ, List, [], ◌∷◌, Result, Ok, Err, refl, ap, sym, ◌+◌, arith, length, get_or, drop}
+use Rattle.std.proofs.Common.{◌≡◌, ◌<◌, ◌∙◌, inl, inr, ℕ, List, [], ◌∷◌, true, false, Result, Ok, Err, refl, ap, sym, ◌+◌, arith, length, get_or, drop}
 use Rattle.std.specs.List.{slice_split}
 use Rattle.std.proofs.lemmas.List.{drop_more, drop_all}
 use Rattle.exchange_text.specs.declared.fault.ExchangeFault.{ExchangeFault}
 use Rattle.traces.specs.declared.trace.Item.{Item}
+use Rattle.traces.specs.Unfit.{is_said, item_line, left_after}
 use Rattle.traces.specs.Reading.{◌>>=◌, is_line_end, nothing_taken, trace_of, with_line, with_lines, Taken, UnlessMemory}
 
 -- what the lines so far said, with the lines that are left, is what all lines say, and each line was counted
@@ -57,3 +58,33 @@ fault-of-text fault text (inr said) = inr (ap items said)
 pub whole-text : (taken : Taken) (text : List ℕ)
     → Ok taken ≡ with_lines nothing_taken (slice_split is_line_end text) → Ok taken.items ≡ trace_of text
 whole-text taken text e = ap items e
+
+-- ---- the line of an item
+
+-- the line at a place doesn't say it
+pub not-said : (number left : ℕ) (line : List ℕ) (lines : List (List ℕ)) (i all : ℕ)
+    → (i < length lines) × (line ≡ get_or lines i line) → item_line number left (drop i lines) ≡ all
+    → is_said line left ≡ false → item_line (number + 1) (left_after line left) (drop (i + 1) lines) ≡ all
+not-said number left line lines i all at h e =
+    let next : drop i lines ≡ line ∷ drop (i + 1) lines =
+    drop_more lines i line at.0 ∙ ap (λ (l : List ℕ). l ∷ drop (i + 1) lines) (sym at.1) in
+    let one : item_line number left (line ∷ drop (i + 1) lines)
+    ≡ item_line (number + 1) (left_after line left) (drop (i + 1) lines) = rw e refl in
+    sym one ∙ ap (item_line number left) (sym next) ∙ h
+
+-- or it does
+pub is-said : (number left : ℕ) (line : List ℕ) (lines : List (List ℕ)) (i all : ℕ)
+    → (i < length lines) × (line ≡ get_or lines i line) → item_line number left (drop i lines) ≡ all
+    → is_said line left ≡ true → number ≡ all
+is-said number left line lines i all at h e =
+    let next : drop i lines ≡ line ∷ drop (i + 1) lines =
+    drop_more lines i line at.0 ∙ ap (λ (l : List ℕ). l ∷ drop (i + 1) lines) (sym at.1) in
+    let one : item_line number left (line ∷ drop (i + 1) lines) ≡ number = rw e refl in
+    sym one ∙ ap (item_line number left) (sym next) ∙ h
+
+-- or no line is left
+pub none-said : (number left : ℕ) (lines : List (List ℕ)) (i all : ℕ) → i ≡ length lines
+    → item_line number left (drop i lines) ≡ all → number ≡ all
+none-said number left lines i all e h =
+    let none : drop i lines ≡ [] = rw e (drop_all (length lines) lines (omega arith)) in
+    ap (item_line number left) (sym none) ∙ h

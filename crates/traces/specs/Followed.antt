@@ -7,7 +7,7 @@ use Rattle.traces.specs.declared.standing.Standing.{Standing}
 use Rattle.traces.specs.declared.standing.Standing.TheVariants.{Left, Waits, Sends}
 use Rattle.traces.specs.declared.trace.Item.{Item}
 use Rattle.traces.specs.Following.{Following, after_items, begun}
-use Rattle.traces.specs.Recorded.{lines_of}
+use Rattle.traces.specs.Recorded.{noted_lines}
 
 abbrev pub is_followed : Standing → Bool
 is_followed Left = false
@@ -22,4 +22,4 @@ standing_of Card f = f.card_is
 abbrev pub FollowedReplays : Type 0
 FollowedReplays = (side : Side) (ifsc : ℕ) (items : List Item)
     → is_followed (standing_of side (after_items (begun ifsc) items)) ≡ true
-    → replay_from (Ok ifsc) (lines_of ifsc items) side ≡ None
+    → replay_from (Ok ifsc) (noted_lines ifsc items) side ≡ None

@@ -4,7 +4,12 @@ pub mod Reading
 pub mod Seen
 pub mod Said
 pub mod Following
+pub mod Unseen
+pub mod Marked
+pub mod Unfit
 pub mod Recorded
 pub mod Arrived
 pub mod Followed
 pub mod Again
+-- what is printed
+pub mod Faults

@@ -1,5 +1,5 @@
 -- The exchange that is recorded of what was seen on a line.
-use Rattle.std.specs.Prelude.{◌≡◌, ℕ, List, [], ◌∷◌, Result, Ok, Err}
+use Rattle.std.specs.Prelude.{◌≡◌, ℕ, List, [], ◌∷◌, Option, Some, None, Result, Ok, Err}
 use Rattle.exchange_text.specs.Exchange.{ExchangeParts}
 use Rattle.exchange_text.specs.declared.exchange.Version.{Version}
 use Rattle.exchange_text.specs.declared.exchange.Version.TheVariants.{One, Two}
@@ -7,10 +7,13 @@ use Rattle.exchange_text.specs.declared.line.Line.{Line}
 use Rattle.exchange_core.specs.Faults.{atr_fault_name}
 use Rattle.exchange_core.specs.Replay.{IsFound}
 use Rattle.traces.specs.declared.recording.RecordFault.{RecordFault}
-use Rattle.traces.specs.declared.recording.RecordFault.TheVariants.{Refused, Memory}
+use Rattle.traces.specs.declared.recording.RecordFault.TheVariants.{Refused, Unfit, Memory}
 use Rattle.traces.specs.declared.trace.Item.{Item}
 use Rattle.traces.specs.declared.trace.Item.TheVariants.{Moment}
 use Rattle.traces.specs.Following.{after_items, begun, ended}
+use Rattle.traces.specs.Marked.{marked}
+use Rattle.traces.specs.Unfit.{unfit_in}
+use Rattle.traces.specs.Unseen.{unseen_in}
 
 -- version 2 where there is a moment
 abbrev pub version_of : List Item → Version
@@ -18,15 +21,31 @@ version_of [] = One
 version_of (Moment moment ∷ items) = Two
 version_of (item ∷ items) = version_of items
 
--- the lines of what was seen, where the card takes fields of at most so many octets at first
+-- the lines of what was seen, where the card takes fields of at most so many octets at first; no note is among them
 unfoldable pub lines_of : ℕ → List Item → List Line
 lines_of ifsc items = (ended (after_items (begun ifsc) items)).lines
 
+-- the same, with a note before each that tells what nobody saw
+abbrev pub noted_lines : ℕ → List Item → List Line
+noted_lines ifsc items = marked 0 (unseen_in ifsc items) (lines_of ifsc items)
+
+-- version 2 where there is a note
+abbrev pub version_with : List ℕ → Version → Version
+version_with [] version = version
+version_with (place ∷ places) version = Two
+
 abbrev pub exchange_of : ℕ → List ℕ → List Item → ExchangeParts
-exchange_of ifsc atr items = record { version = version_of items; atr = atr; lines = lines_of ifsc items }
+exchange_of ifsc atr items = record {
+  version = version_with (unseen_in ifsc items) (version_of items);
+  atr = atr;
+  lines = noted_lines ifsc items;
+}
 
 -- What is recorded: the exchange, or why there is none.
 abbrev pub IsRecorded : List ℕ → List Item → Result ExchangeParts RecordFault → Type 0
-IsRecorded atr items (Ok e) = (ifsc : ℕ) × IsFound atr (Ok ifsc) × (e ≡ exchange_of ifsc atr items)
+IsRecorded atr items (Ok e) =
+    (ifsc : ℕ) × IsFound atr (Ok ifsc) × (unfit_in items ≡ None) × (e ≡ exchange_of ifsc atr items)
 IsRecorded atr items (Err (Refused fault)) = IsFound atr (Err (atr_fault_name fault))
+IsRecorded atr items (Err (Unfit place why)) =
+    (ifsc : ℕ) × IsFound atr (Ok ifsc) × (unfit_in items ≡ Some (place, why))
 IsRecorded atr items (Err Memory) = Unit {0}

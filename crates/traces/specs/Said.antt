@@ -132,6 +132,18 @@ said_from (item ∷ items) s = unless_ended (λ next. said_from items next) (tak
 abbrev pub message : Side → Numbers → List Item → List ℕ
 message from n items = said_from items (begun from n)
 
+abbrev pub cut_unless_ended : (Said → Bool) → Said × Bool → Bool
+cut_unless_ended rest (s, true) = s.more_comes
+cut_unless_ended rest (s, false) = rest s
+
+abbrev pub cut_from : List Item → Said → Bool
+cut_from [] s = s.more_comes
+cut_from (item ∷ items) s = cut_unless_ended (λ next. cut_from items next) (takes s item)
+
+-- whether more was to come of that, so that its last octet stands for what nobody saw
+abbrev pub is_cut : Side → Numbers → List Item → Bool
+is_cut from n items = cut_from items (begun from n)
+
 -- ---- calls
 
 abbrev pub first_by : Side → Number → Option Parts → Option (Side × Parts) → Option Parts
@@ -170,3 +182,28 @@ application_by n items (Some block) = application_says n items block.inf block.p
 -- command that the terminal's I-blocks say.
 abbrev pub application_line : Numbers → List Item → Line
 application_line n items = application_by n items (first_block Terminal n.card items)
+
+-- ---- calls of which nobody saw the end
+
+abbrev pub host_cut : Numbers → List Item → Pcb → Bool
+host_cut n items (Request Ifs) = false
+host_cut n items (Request Wtx) = false
+host_cut n items pcb = is_cut Card n items
+
+abbrev pub host_cut_by : Numbers → List Item → Option Parts → Bool
+host_cut_by n items None = is_cut Card n items
+host_cut_by n items (Some block) = host_cut n items block.pcb
+
+abbrev pub host_is_cut : Numbers → List Item → Bool
+host_is_cut n items = host_cut_by n items (first_block Card n.terminal items)
+
+abbrev pub application_cut : Numbers → List Item → Pcb → Bool
+application_cut n items (Request Ifs) = false
+application_cut n items pcb = is_cut Terminal n items
+
+abbrev pub application_cut_by : Numbers → List Item → Option Parts → Bool
+application_cut_by n items None = is_cut Terminal n items
+application_cut_by n items (Some block) = application_cut n items block.pcb
+
+abbrev pub application_is_cut : Numbers → List Item → Bool
+application_is_cut n items = application_cut_by n items (first_block Terminal n.card items)

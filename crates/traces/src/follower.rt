@@ -4,11 +4,12 @@ ghost use Rattle.std.specs.Prelude.{◌≡◌, ◌++◌, [], ◌∷◌, None, On
 ghost use Rattle.exchange_core.specs.Recording.{as_list};
 ghost use Rattle.traces.specs.Following as following;
 ghost use Rattle.traces.specs.Following.{begun, card_did, card_hears, ended, released, settled_card, settled_terminal, terminal_did, terminal_hears, writes};
+ghost use Rattle.traces.specs.Unseen.{ending, noted, settling_card, settling_terminal};
 
 use crate::said::Numbers;
 use crate::standing::Standing;
 use atr_core::T1Params;
-use exchange_core::{Arrival, LastTurn, Line, Lines, card_called, spelled, terminal_called, told};
+use exchange_core::{Arrival, LastTurn, Line, card_called, spelled, terminal_called, told};
 use std::alloc::{AllocError, Global};
 use std::marker::Model;
 use t1_core::{Card, CardFault, CardTurn, Terminal, TerminalFault, TerminalTurn};
@@ -160,11 +161,25 @@ impl Follower {
         }
     }
 
+    /// Notes the place of the next line, where nobody saw what it tells.
+    pub(crate) fn note_if(&self, is_unseen: bool, unseen: &mut Vec<usize>) -> Result<(), AllocError>
+        ensures { OnOk result
+            (unseen.new.items ≡ noted is_unseen self.now unseen.old.items) }
+    {
+        if is_unseen {
+            unseen.push(self.lines.len())?;
+        }
+        Ok(())
+    }
+
     /// A block of the terminal that wasn't seen is lost.
     #[tactic(auto, unfolding(crate::specs::Following::settled_terminal))]
-    pub(crate) fn settle_terminal(&mut self) -> Result<(), AllocError>
-        ensures { OnOk result (self.new ≡ settled_terminal self.old) }
+    pub(crate) fn settle_terminal(&mut self, unseen: &mut Vec<usize>) -> Result<(), AllocError>
+        ensures follows { OnOk result (self.new ≡ settled_terminal self.old) }
+        ensures unseen { OnOk result
+            (unseen.new.items ≡ settling_terminal self.old unseen.old.items) }
     {
+        self.note_if(self.terminal_is.is_sending(), unseen)?;
         if let Standing::Sends(block) = &self.terminal_is {
             let sent = spelled(self.alloc, block)?;
             let arrival = Arrival::Lost;
@@ -176,9 +191,12 @@ impl Follower {
 
     /// A block of the card that wasn't seen is lost.
     #[tactic(auto, unfolding(crate::specs::Following::settled_card))]
-    pub(crate) fn settle_card(&mut self) -> Result<(), AllocError>
-        ensures { OnOk result (self.new ≡ settled_card self.old) }
+    pub(crate) fn settle_card(&mut self, unseen: &mut Vec<usize>) -> Result<(), AllocError>
+        ensures follows { OnOk result (self.new ≡ settled_card self.old) }
+        ensures unseen { OnOk result
+            (unseen.new.items ≡ settling_card self.old unseen.old.items) }
     {
+        self.note_if(self.card_is.is_sending(), unseen)?;
         if let Standing::Sends(block) = &self.card_is {
             let sent = spelled(self.alloc, block)?;
             let arrival = Arrival::Lost;
@@ -189,18 +207,19 @@ impl Follower {
     }
 
     /// What was seen ends: blocks that weren't seen are lost.
-    pub(crate) fn end(&mut self) -> Result<(), AllocError>
-        ensures { OnOk result (self.new ≡ ended self.old) }
+    pub(crate) fn end(&mut self, unseen: &mut Vec<usize>) -> Result<(), AllocError>
+        ensures follows { OnOk result (self.new ≡ ended self.old) }
+        ensures unseen { OnOk result (unseen.new.items ≡ ending self.old unseen.old.items) }
     {
-        self.settle_terminal()?;
-        self.settle_card()?;
+        self.settle_terminal(unseen)?;
+        self.settle_card(unseen)?;
         self.release()
     }
 
     /// The lines.
-    pub(crate) fn lines(self) -> Lines
-        ensures { result ≡ self.lines }
+    pub(crate) fn lines(self) -> Vec<Line>
+        ensures { result.items ≡ self.lines }
     {
-        Lines::of(self.lines)
+        self.lines
     }
 }

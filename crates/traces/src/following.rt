@@ -1,49 +1,61 @@
 //! What each item adds.
 
 ghost use Rattle.std.specs.Prelude.{◌≡◌, ◌∷◌, OnOk};
+ghost use Rattle.traces.specs.Unseen.{asking_host, before_card, before_item, before_quiet, before_terminal, beginning, ending, moving, over_items};
 ghost use Rattle.traces.specs.Following.{after_begins, after_host, after_item, after_items, after_moves, after_quiet, ended, from_card, from_terminal, reaches_card, reaches_terminal};
 
 use crate::follower::Follower;
-use crate::said::{application_line, host_line};
+use crate::said::{Call, application_call, host_call};
 use crate::trace::Item;
 use exchange_core::{Line, Side};
 use std::alloc::AllocError;
 
 impl Follower {
-    /// Follows both ends over these items, to the end.
-    pub(crate) fn run(&mut self, items: &[Item]) -> Result<(), AllocError>
-        ensures { OnOk result (self.new ≡ ended (after_items self.old items.now)) }
+    /// Follows both ends over these items, to the end. The places of the lines that tell what nobody saw are added.
+    pub(crate) fn run(&mut self, items: &[Item], unseen: &mut Vec<usize>) -> Result<(), AllocError>
+        ensures follows { OnOk result (self.new ≡ ended (after_items self.old items.now)) }
+        ensures unseen { OnOk result (unseen.new.items
+            ≡ ending (after_items self.old items.now) (over_items self.old items.now unseen.old.items)) }
     {
-        self.follow(items)?;
-        self.end()
+        self.follow(items, unseen)?;
+        self.end(unseen)
     }
 
     /// Follows both ends over these items.
-    fn follow(&mut self, items: &[Item]) -> Result<(), AllocError>
-        ensures { OnOk result (self.new ≡ after_items self.old items.now) }
+    fn follow(&mut self, items: &[Item], unseen: &mut Vec<usize>) -> Result<(), AllocError>
+        ensures follows { OnOk result (self.new ≡ after_items self.old items.now) }
+        ensures unseen { OnOk result
+            (unseen.new.items ≡ over_items self.old items.now unseen.old.items) }
     {
         let mut rest = items;
         while let [item, after @ ..] = rest {
-            self.see(item, rest)?;
+            self.see(item, rest, unseen)?;
             rest = after;
         }
         Ok(())
     }
 
     /// Follows both ends over an item, with which these items begin.
-    fn see(&mut self, item: &Item, items: &[Item]) -> Result<(), AllocError>
-        ensures { OnOk result (self.new ≡ after_item self.old items.now item.now) }
+    fn see(
+        &mut self,
+        item: &Item,
+        items: &[Item],
+        unseen: &mut Vec<usize>,
+    ) -> Result<(), AllocError>
+        ensures follows { OnOk result (self.new ≡ after_item self.old items.now item.now) }
+        ensures unseen { OnOk result
+            (unseen.new.items ≡ before_item self.old items.now item.now unseen.old.items) }
     {
         match item {
             Item::Block { from, octets, lost } => {
                 match from {
-                    Side::Terminal => self.see_terminal(octets.get(), *lost, items)?,
-                    Side::Card => self.see_card(octets.get(), *lost, items)?,
+                    Side::Terminal => self.see_terminal(octets.get(), *lost, items, unseen)?,
+                    Side::Card => self.see_card(octets.get(), *lost, items, unseen)?,
                 }
                 self.numbers = self.numbers.after(item);
                 Ok(())
             }
-            Item::Quiet => self.hear_nothing(items),
+            Item::Quiet => self.hear_nothing(items, unseen),
             Item::Moment(moment) => {
                 self.release()?;
                 self.held = Some(*moment);
@@ -54,12 +66,21 @@ impl Follower {
 
     /// A block of the terminal was seen.
     #[tactic(auto, unfolding(crate::specs::Following::from_terminal))]
-    fn see_terminal(&mut self, octets: &[u8], lost: bool, items: &[Item]) -> Result<(), AllocError>
-        ensures { OnOk result (self.new ≡ from_terminal self.old octets.now lost items.now) }
+    fn see_terminal(
+        &mut self,
+        octets: &[u8],
+        lost: bool,
+        items: &[Item],
+        unseen: &mut Vec<usize>,
+    ) -> Result<(), AllocError>
+        ensures follows { OnOk result
+            (self.new ≡ from_terminal self.old octets.now lost items.now) }
+        ensures unseen { OnOk result (unseen.new.items
+            ≡ before_terminal self.old octets.now items.now unseen.old.items) }
     {
-        self.ask_host(items)?;
-        self.settle_card()?;
-        self.move_terminal(octets, items)?;
+        self.ask_host(items, unseen)?;
+        self.settle_card(unseen)?;
+        self.move_terminal(octets, items, unseen)?;
         self.release()?;
         let (sent, arrival) = self.terminal_is.sent_as(self.alloc, octets, lost)?;
         self.terminal_is.pass(octets);
@@ -68,11 +89,19 @@ impl Follower {
 
     /// A block of the card was seen.
     #[tactic(auto, unfolding(crate::specs::Following::from_card))]
-    fn see_card(&mut self, octets: &[u8], lost: bool, items: &[Item]) -> Result<(), AllocError>
-        ensures { OnOk result (self.new ≡ from_card self.old octets.now lost items.now) }
+    fn see_card(
+        &mut self,
+        octets: &[u8],
+        lost: bool,
+        items: &[Item],
+        unseen: &mut Vec<usize>,
+    ) -> Result<(), AllocError>
+        ensures follows { OnOk result (self.new ≡ from_card self.old octets.now lost items.now) }
+        ensures unseen { OnOk result
+            (unseen.new.items ≡ before_card self.old items.now unseen.old.items) }
     {
-        self.settle_terminal()?;
-        self.ask_host(items)?;
+        self.settle_terminal(unseen)?;
+        self.ask_host(items, unseen)?;
         self.release()?;
         let (sent, arrival) = self.card_is.sent_as(self.alloc, octets, lost)?;
         self.card_is.pass(octets);
@@ -81,23 +110,28 @@ impl Follower {
 
     /// The terminal's waiting time ended.
     #[tactic(auto, unfolding(crate::specs::Following::after_quiet))]
-    fn hear_nothing(&mut self, items: &[Item]) -> Result<(), AllocError>
-        ensures { OnOk result (self.new ≡ after_quiet self.old items.now) }
+    fn hear_nothing(&mut self, items: &[Item], unseen: &mut Vec<usize>) -> Result<(), AllocError>
+        ensures follows { OnOk result (self.new ≡ after_quiet self.old items.now) }
+        ensures unseen { OnOk result
+            (unseen.new.items ≡ before_quiet self.old items.now unseen.old.items) }
     {
-        self.ask_host(items)?;
-        self.settle_card()?;
-        self.settle_terminal()?;
+        self.ask_host(items, unseen)?;
+        self.settle_card(unseen)?;
+        self.settle_terminal(unseen)?;
         self.release()?;
         self.reach_terminal(Line::Quiet, false)
     }
 
     /// Where the card's host owes the card a call, it calls it.
     #[tactic(auto, unfolding(crate::specs::Following::after_host))]
-    fn ask_host(&mut self, items: &[Item]) -> Result<(), AllocError>
-        ensures { OnOk result (self.new ≡ after_host self.old items.now) }
+    fn ask_host(&mut self, items: &[Item], unseen: &mut Vec<usize>) -> Result<(), AllocError>
+        ensures follows { OnOk result (self.new ≡ after_host self.old items.now) }
+        ensures unseen { OnOk result
+            (unseen.new.items ≡ asking_host self.old items.now unseen.old.items) }
     {
         if self.card_is.is_waiting() && !self.card.awaits_block() {
-            let line = host_line(self.alloc, self.numbers, items)?;
+            let Call { line, is_cut } = host_call(self.alloc, self.numbers, items)?;
+            self.note_if(is_cut, unseen)?;
             self.card_hears(line)?;
         }
         Ok(())
@@ -105,13 +139,21 @@ impl Follower {
 
     /// The terminal comes to send a block, by its application or after its waiting time.
     #[tactic(auto, unfolding(crate::specs::Following::after_moves))]
-    fn move_terminal(&mut self, octets: &[u8], items: &[Item]) -> Result<(), AllocError>
-        ensures { OnOk result (self.new ≡ after_moves self.old octets.now items.now) }
+    fn move_terminal(
+        &mut self,
+        octets: &[u8],
+        items: &[Item],
+        unseen: &mut Vec<usize>,
+    ) -> Result<(), AllocError>
+        ensures follows { OnOk result (self.new ≡ after_moves self.old octets.now items.now) }
+        ensures unseen { OnOk result
+            (unseen.new.items ≡ moving self.old octets.now items.now unseen.old.items) }
     {
         let has_waited = self.terminal_is.is_waiting() && self.terminal.awaits_block();
-        self.begin_terminal(items)?;
+        self.begin_terminal(items, unseen)?;
         if !has_waited && self.terminal_is.misses(octets) {
-            self.settle_terminal()?;
+            self.settle_terminal(unseen)?;
+            self.note_if(true, unseen)?;
             self.terminal_hears(Line::Quiet)?;
         }
         Ok(())
@@ -119,16 +161,20 @@ impl Follower {
 
     /// Where the terminal has no block to send, its waiting time ends, or its application asks for something.
     #[tactic(auto, unfolding(crate::specs::Following::after_begins))]
-    fn begin_terminal(&mut self, items: &[Item]) -> Result<(), AllocError>
-        ensures { OnOk result (self.new ≡ after_begins self.old items.now) }
+    fn begin_terminal(&mut self, items: &[Item], unseen: &mut Vec<usize>) -> Result<(), AllocError>
+        ensures follows { OnOk result (self.new ≡ after_begins self.old items.now) }
+        ensures unseen { OnOk result
+            (unseen.new.items ≡ beginning self.old items.now unseen.old.items) }
     {
         if !self.terminal_is.is_waiting() {
             return Ok(());
         }
         if self.terminal.awaits_block() {
+            self.note_if(true, unseen)?;
             return self.terminal_hears(Line::Quiet);
         }
-        let line = application_line(self.alloc, self.numbers, items)?;
+        let Call { line, is_cut } = application_call(self.alloc, self.numbers, items)?;
+        self.note_if(is_cut, unseen)?;
         self.terminal_hears(line)
     }
 

@@ -4,14 +4,14 @@ ghost use Rattle.std.specs.Prelude.{◌≡◌, ℕ, List};
 ghost use Rattle.traces.specs.Again.{MadeAgain};
 ghost use Rattle.traces.specs.Arrived.{arrived_in, arrived_of};
 ghost use Rattle.traces.specs.Followed.{FollowedReplays};
-ghost use Rattle.traces.specs.Recorded.{lines_of};
+ghost use Rattle.traces.specs.Recorded.{noted_lines};
 ghost use Rattle.traces.specs.declared.trace.Item.{Item as AnyItem};
 
 /// The blocks that arrive in the exchange of a trace are, in their order, those of the trace that weren't lost,
 /// octet by octet, whatever both ends did.
 pub fn seen_blocks_arrive()
     ensures { (ifsc : ℕ) (items : List AnyItem)
-        → arrived_of (lines_of ifsc items) ≡ arrived_in items }
+        → arrived_of (noted_lines ifsc items) ≡ arrived_in items }
 {}
 
 /// An end that did as it should, to the last block of a trace, replays the exchange of the trace: it is followed to the
@@ -22,7 +22,7 @@ pub fn followed_end_replays()
 
 /// What a [`Recorder`](exchange_core::Recorder) recorded is made again from its line alone: the exchange of the trace of
 /// all that was on the line, the lost blocks and the waiting times that ended among it, is line for line the one that
-/// the recorder wrote. Whatever happened between both ends, it holds where the blocks tell what the applications called
+/// the recorder wrote, but for notes that the recording adds. Whatever happened between both ends, it holds where the blocks tell what the applications called
 /// (`AreTold` in `specs/Again.antt`): where each message was sent whole, and each request for a size or for time was
 /// sent.
 pub fn recorded_is_made_again()

@@ -10,13 +10,16 @@ mod follower;
 mod following;
 pub mod laws;
 mod line_words;
+mod marking;
 pub mod reading;
 pub mod recording;
 mod said;
 mod seen;
 mod standing;
 pub mod trace;
+pub mod unfit;
 
-pub use reading::read_trace;
+pub use reading::{line_of_item, read_trace};
 pub use recording::{RecordFault, record_trace};
 pub use trace::{Item, Trace};
+pub use unfit::{Unfit, unfit_in};

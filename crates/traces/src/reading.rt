@@ -1,8 +1,11 @@
 //! What a text says: a trace, or its first fault.
 
 ghost use Rattle.std.specs.Prelude.{◌≡◌, ◌<◌, ◌+◌, ◌^◌, ◌++◌, ◌∷◌, [], IfOk, IfSome, OnErr, OnOk};
+ghost use Rattle.std.specs.List.{slice_split};
 ghost use Rattle.traces.specs.Reading as reading;
-ghost use Rattle.traces.specs.Reading.{block_said, hex_said, item_said, is_lost, least_after, moment_said, named_said, nothing_taken, taken_with, trace_of, with_line, Becomes, IsEarly, UnlessMemory};
+ghost use Rattle.traces.specs.Unfit as unfit;
+ghost use Rattle.traces.specs.Unfit.{item_line};
+ghost use Rattle.traces.specs.Reading.{block_said, hex_said, item_said, is_line_end, is_lost, least_after, moment_said, named_said, nothing_taken, taken_with, trace_of, with_line, Becomes, IsEarly, UnlessMemory};
 
 use crate::line_words::LineWords;
 use crate::trace::{Item, Trace};
@@ -32,6 +35,48 @@ pub fn read_trace(alloc: Global, text: &[u8]) -> Result<Trace, ExchangeFault>
         taken.take(alloc, line)?;
     }
     Ok(taken.end())
+}
+
+/// The number, from 1, of the line of a text that says the item at this place, from 0; the number after the last line
+/// where no line says it.
+pub fn line_of_item(text: &[u8], place: usize) -> usize
+    ensures { result ≡ item_line 1 place (slice_split is_line_end text.now) }
+{
+    let mut number = 1;
+    let mut left = place;
+    for line in text.split(|octet| *octet == b'\n') {
+        if is_said(line, left) {
+            return number;
+        }
+        left = left_after(line, left);
+        number += 1;
+    }
+    number
+}
+
+/// Whether a line says the item before which so many are left.
+fn is_said(line: &[u8], left: usize) -> bool
+    ensures { result ≡ unfit.is_said line.now left }
+{
+    says_item(line) && left == 0
+}
+
+/// How many items are left after a line.
+fn left_after(line: &[u8], left: usize) -> usize
+    ensures { result ≡ unfit.left_after line.now left }
+{
+    if says_item(line) {
+        left.saturating_sub(1)
+    } else {
+        left
+    }
+}
+
+/// Whether a line says an item: whether it has a word.
+fn says_item(line: &[u8]) -> bool
+    ensures { result ≡ unfit.says_item line.now }
+{
+    !LineWords::of(line).first.is_empty()
 }
 
 /// What the lines so far said.

@@ -1,13 +1,16 @@
 //! The exchange of what was seen.
 
-ghost use Rattle.std.specs.Prelude.{◌≡◌, IfOk};
+ghost use Rattle.std.specs.Prelude.{◌≡◌, [], IfOk, OnOk};
 ghost use Rattle.traces.specs.Recorded as recorded;
 ghost use Rattle.traces.specs.Recorded.{lines_of, IsRecorded};
+ghost use Rattle.traces.specs.Unseen.{unseen_in};
 
 use crate::follower::Follower;
+use crate::marking::marked;
 use crate::trace::{Item, Trace};
+use crate::unfit::{Unfit, unfit_in};
 use atr_core::T1Params;
-use exchange_core::{AtrFault, Exchange, Lines, Version, copied, params_of};
+use exchange_core::{AtrFault, Exchange, Line, Version, copied, params_of};
 use std::alloc::{AllocError, Global};
 use std::error::Error;
 use std::fmt::{self, Display, Formatter, Write};
@@ -17,15 +20,23 @@ use std::fmt::{self, Display, Formatter, Write};
 pub enum RecordFault {
     /// The answer to reset can't be used, for what replay names.
     Refused(AtrFault),
+    /// The item at this place, from 0, can't be recorded.
+    Unfit { place: usize, why: Unfit },
     /// Out of memory.
     Memory,
 }
 
-/// `Refused: ` and the name that replay gives, or `memory`.
+/// `Refused: ` and the name that replay gives, `Unfit at `, the place and the reason, or `memory`.
 impl Display for RecordFault {
+    ghost use Rattle.std.specs.Prelude.{Some};
+    ghost use Rattle.traces.specs.Faults.{record_fault_text};
+
+    ghost output = { λ fault. Some (record_fault_text fault) };
+
     fn fmt<W: Write>(&self, f: &mut Formatter<W>) -> fmt::Result {
         match self {
             RecordFault::Refused(fault) => write!(f, "Refused: {fault}"),
+            RecordFault::Unfit { place, why } => write!(f, "Unfit at {place}: {why}"),
             RecordFault::Memory => f.write_str("memory"),
         }
     }
@@ -43,10 +54,12 @@ impl From<AllocError> for RecordFault {
     }
 }
 
-/// The exchange of a trace, with the lines that both applications must have said; in version 2 where the trace has a
-/// moment.
+/// The exchange of a trace, with the lines that both applications must have said. Before each line that tells what
+/// nobody saw is a line `note added`: a lost block that isn't in the trace, the end of a waiting time that isn't, and a
+/// command or a reply whose last octet 00 stands for the rest. It is of version 2 where the trace has a moment or a note
+/// is added.
 ///
-/// A new terminal and a new card take what the trace has for them. A block that is no block, where its end was to send
+/// An answer to reset that can't be used is refused first, then what can't be recorded ([`Unfit`]). A new terminal and a new card take what the trace has for them. A block that is no block, where its end was to send
 /// another one, counts as damaged on its way. An end that does otherwise than it should isn't called any more, and no
 /// line of its application is added from there on; replay of the exchange names that line.
 pub fn record_trace(alloc: Global, atr: &[u8], trace: &Trace) -> Result<Exchange, RecordFault>
@@ -57,21 +70,45 @@ pub fn record_trace(alloc: Global, atr: &[u8], trace: &Trace) -> Result<Exchange
         Err(fault) => return Err(RecordFault::Refused(fault)),
     };
     let items = trace.items();
-    let lines = lines_of(alloc, params, items)?;
-    Ok(Exchange::proper(version_of(items), copied(alloc, atr)?, lines))
+    if let Some((place, why)) = unfit_in(items) {
+        return Err(RecordFault::Unfit { place, why });
+    }
+    let mut unseen = Vec::new(alloc);
+    let lines = lines_of(alloc, params, items, &mut unseen)?;
+    let version = version_with(unseen.as_slice(), version_of(items));
+    let lines = marked(alloc, lines, unseen.as_slice())?;
+    Ok(Exchange::proper(version, copied(alloc, atr)?, lines))
 }
 
-/// The lines of these items.
-#[tactic(auto, unfolding(crate::specs::Recorded::lines_of))]
-fn lines_of(alloc: Global, params: T1Params, items: &[Item]) -> Result<Lines, AllocError>
-    ensures { IfOk result (λ lines. lines ≡ lines_of params.ifsc items.now) }
+/// The lines of these items, and the places of those that tell what nobody saw.
+#[tactic(auto, unfolding(crate::specs::Recorded::lines_of, crate::specs::Unseen::unseen_in))]
+fn lines_of(
+    alloc: Global,
+    params: T1Params,
+    items: &[Item],
+    unseen: &mut Vec<usize>,
+) -> Result<Vec<Line>, AllocError>
+    requires { unseen.old.items ≡ [] }
+    ensures lines { IfOk result (λ lines. lines.items ≡ lines_of params.ifsc items.now) }
+    ensures unseen { OnOk result (unseen.new.items ≡ unseen_in params.ifsc items.now) }
 {
     let mut follower = Follower::new(alloc, params)?;
-    follower.run(items)?;
+    follower.run(items, unseen)?;
     Ok(follower.lines())
 }
 
-/// The version of an exchange of these items.
+/// The version of an exchange that is of this one without notes.
+fn version_with(unseen: &[usize], version: Version) -> Version
+    ensures { result ≡ recorded.version_with unseen.now version }
+{
+    if unseen.is_empty() {
+        version
+    } else {
+        Version::Two
+    }
+}
+
+/// The version of an exchange of these items with no note.
 fn version_of(items: &[Item]) -> Version
     ensures { result ≡ recorded.version_of items.now }
 {

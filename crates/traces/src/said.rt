@@ -1,8 +1,8 @@
 //! What the applications said, by the blocks that are still to come.
 
-ghost use Rattle.std.specs.Prelude.{◌≡◌, IfOk};
+ghost use Rattle.std.specs.Prelude.{◌≡◌, false, IfOk};
 ghost use Rattle.traces.specs.Said as spec;
-ghost use Rattle.traces.specs.Said.{application_line, begun, closed, first_block, host_line, is_next, is_resynch, joins, message, number_of, numbers_after, opposite, same_side, takes, turns_over, with_number};
+ghost use Rattle.traces.specs.Said.{application_is_cut, application_line, begun, closed, first_block, host_is_cut, host_line, is_cut, is_next, is_resynch, joins, number_of, numbers_after, opposite, same_side, takes, turns_over, with_number};
 
 use crate::seen::block_in;
 use crate::trace::Item;
@@ -144,13 +144,44 @@ impl Said {
     }
 
     /// The message: where more was to come, an octet stands for what nobody saw.
-    fn closed(mut self) -> Result<Octets, AllocError>
-        ensures { IfOk result (λ octets. octets ≡ closed self) }
+    fn closed(mut self) -> Result<Spoken, AllocError>
+        ensures octets { IfOk result (λ message. message.octets ≡ closed self) }
+        ensures cut { IfOk result (λ message. message.is_cut ≡ self.more_comes) }
     {
-        if self.more_comes {
+        let is_cut = self.more_comes;
+        if is_cut {
             self.octets.push(UNSEEN)?;
         }
-        Ok(Octets::of(self.octets))
+        let octets = Octets::of(self.octets);
+        Ok(Spoken { octets, is_cut })
+    }
+}
+
+/// What the I-blocks of an end say.
+#[derive(Drop)]
+struct Spoken {
+    octets: Octets,
+    /// More was to come: the last octet stands for what nobody saw.
+    is_cut: bool,
+}
+
+/// A call of an application.
+#[derive(Drop)]
+pub(crate) struct Call {
+    pub(crate) line: Line,
+    /// Nobody saw the end of its message.
+    pub(crate) is_cut: bool,
+}
+
+impl Call {
+    /// A call whose message, if it has one, was seen whole.
+    fn whole(line: Line) -> Call
+        ensures { result ≡ record { line = line; is_cut = false } }
+    {
+        Call {
+            line,
+            is_cut: false,
+        }
     }
 }
 
@@ -160,8 +191,9 @@ fn message(
     from: Side,
     numbers: Numbers,
     items: &[Item],
-) -> Result<Octets, AllocError>
-    ensures { IfOk result (λ octets. octets ≡ message from numbers items.now) }
+) -> Result<Spoken, AllocError>
+    ensures octets { IfOk result (λ message. message.octets ≡ spec.message from numbers items.now) }
+    ensures cut { IfOk result (λ message. message.is_cut ≡ is_cut from numbers items.now) }
 {
     let mut said = Said::new(alloc, from, numbers);
     let mut rest = items;
@@ -194,33 +226,39 @@ fn first_block(from: Side, last: Number, items: &[Item]) -> Option<BlockRef<'_>>
 }
 
 /// What the card's host says next, by the card's blocks from these items on.
-pub(crate) fn host_line(alloc: Global, numbers: Numbers, items: &[Item]) -> Result<Line, AllocError>
-    ensures { IfOk result (λ line. line ≡ host_line numbers items.now) }
+pub(crate) fn host_call(alloc: Global, numbers: Numbers, items: &[Item]) -> Result<Call, AllocError>
+    ensures line { IfOk result (λ call. call.line ≡ host_line numbers items.now) }
+    ensures cut { IfOk result (λ call. call.is_cut ≡ host_is_cut numbers items.now) }
 {
     if let Some(block) = first_block(Side::Card, numbers.terminal, items) {
         match block.pcb() {
-            Pcb::Request(S::Ifs) => return Ok(Line::Ifsc(block.inf()[0])),
-            Pcb::Request(S::Wtx) => return Ok(Line::Time(block.inf()[0])),
+            Pcb::Request(S::Ifs) => return Ok(Call::whole(Line::Ifsc(block.inf()[0]))),
+            Pcb::Request(S::Wtx) => return Ok(Call::whole(Line::Time(block.inf()[0]))),
             _ => {}
         }
     }
-    Ok(Line::Reply(message(alloc, Side::Card, numbers, items)?))
+    let Spoken { octets, is_cut } = message(alloc, Side::Card, numbers, items)?;
+    let line = Line::Reply(octets);
+    Ok(Call { line, is_cut })
 }
 
 /// What the application asks for next, by the terminal's blocks from these items on.
-pub(crate) fn application_line(
+pub(crate) fn application_call(
     alloc: Global,
     numbers: Numbers,
     items: &[Item],
-) -> Result<Line, AllocError>
-    ensures { IfOk result (λ line. line ≡ application_line numbers items.now) }
+) -> Result<Call, AllocError>
+    ensures line { IfOk result (λ call. call.line ≡ application_line numbers items.now) }
+    ensures cut { IfOk result (λ call. call.is_cut ≡ application_is_cut numbers items.now) }
 {
     if let Some(block) = first_block(Side::Terminal, numbers.card, items) {
         if matches!(block.pcb(), Pcb::Request(S::Ifs)) {
-            return Ok(Line::Ifsd(block.inf()[0]));
+            return Ok(Call::whole(Line::Ifsd(block.inf()[0])));
         }
     }
-    Ok(Line::Command(message(alloc, Side::Terminal, numbers, items)?))
+    let Spoken { octets, is_cut } = message(alloc, Side::Terminal, numbers, items)?;
+    let line = Line::Command(octets);
+    Ok(Call { line, is_cut })
 }
 
 /// Whether a block ends what the other end said: an I-block with another number than the last one, a response, or
@@ -263,7 +301,7 @@ fn opposite(side: Side) -> Side
 }
 
 /// Whether two ends are one.
-fn is_same(a: Side, b: Side) -> bool
+pub(crate) fn is_same(a: Side, b: Side) -> bool
     ensures { result ≡ same_side a b }
 {
     match (a, b) {

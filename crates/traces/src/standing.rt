@@ -4,6 +4,7 @@ ghost use Rattle.std.specs.Prelude.{◌≡◌, IfOk};
 ghost use Rattle.traces.specs.Following as following;
 ghost use Rattle.traces.specs.Seen.{seen};
 ghost use Rattle.traces.specs.Following.{is_met, is_waiting, misses, sent_as, standing_after};
+ghost use Rattle.traces.specs.Unseen.{is_sending};
 
 use crate::said::is_resynch;
 use crate::seen::seen;
@@ -31,6 +32,16 @@ impl Standing {
         match self {
             Standing::Waits => true,
             Standing::Left | Standing::Sends(_) => false,
+        }
+    }
+
+    /// Whether it is about to send a block.
+    pub(crate) fn is_sending(&self) -> bool
+        ensures { result ≡ is_sending self.now }
+    {
+        match self {
+            Standing::Sends(_) => true,
+            Standing::Left | Standing::Waits => false,
         }
     }
 

@@ -4,11 +4,9 @@ ghost use Rattle.std.specs.Prelude.{◌≡◌};
 ghost use Rattle.traces.specs.Rising.{rises};
 
 use exchange_core::Side;
+use exchange_text::LATEST_MOMENT;
 use octet_core::Octets;
 use std::marker::Model;
-
-/// The latest moment that a file of an exchange may name, in microseconds.
-const LATEST_MOMENT: u64 = 999_999_999_999_999;
 
 /// One thing that was seen.
 #[derive(Debug, PartialEq, Eq, Drop)]

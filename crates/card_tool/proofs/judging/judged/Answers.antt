@@ -4,8 +4,8 @@ use Rattle.card_tool.proofs.judging.judged.Goals as goal
 
 pub returns-in-Ok : goal.returns-in-Ok
 returns-in-Ok c =
-    let told = rw c.ifsc.ensures.value at c.text_judged.ensures in
-    if-ok c.text_judged.result (λ answer h. used c.in-Ok.params.ifsc c.in-Ok.ensures.found h) told
+    let told = c.text_judged.ensures in
+    if-ok c.text_judged.result (λ answer h. used c.in-Ok.offer c.in-Ok.ensures.found h) told
 
 pub returns-in-Err : goal.returns-in-Err
 returns-in-Err c =

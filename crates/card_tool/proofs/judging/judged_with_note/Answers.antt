@@ -5,8 +5,8 @@ use Rattle.card_tool.proofs.judging.judged_with_note.Goals as goal
 
 pub returns-in-Ok : goal.returns-in-Ok
 returns-in-Ok c =
-    let told = rw c.ifsc.ensures.value at c.text_with_note.ensures in
-    used-noted c.args.atr.now c.in-Ok.params.ifsc c.args.ends c.args.text.now c.text_with_note.result
+    let told = c.text_with_note.ensures in
+    used-noted c.args.atr.now c.in-Ok.offer c.args.judging c.args.text.now c.text_with_note.result
     c.in-Ok.ensures.found told
 
 pub returns-in_ok-answer-in-Err : goal.returns-in_ok-answer-in-Err

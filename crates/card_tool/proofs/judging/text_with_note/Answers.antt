@@ -4,11 +4,11 @@ use Rattle.card_tool.proofs.judging.text_with_note.Goals as goal
 
 pub returns-in-Ok : goal.returns-in-Ok
 returns-in-Ok c =
-    let told = rw c.only_of.ensures at c.in-Ok.ensures in (
+    let told = rw c.scope_of.ensures at c.in-Ok.ensures in (
       judged c.in-Ok.judgment told c.answer_of.ensures.text c.answer_of.ensures.status,
       silent c.in-Ok.judgment told c.new.ensures.bytes,
     )
 
 pub returns-in-Err : goal.returns-in-Err
-returns-in-Err c = faulty-noted c.args.ifsc c.args.ends c.args.text.now c.in-Err.fault c.fault_with_note.result
-    (rw c.only_of.ensures at c.in-Err.ensures) c.fault_with_note.ensures.other c.fault_with_note.ensures.made
+returns-in-Err c = faulty-noted c.args.offer c.args.judging c.args.text.now c.in-Err.fault c.fault_with_note.result
+    (rw c.scope_of.ensures at c.in-Err.ensures) c.fault_with_note.ensures.other c.fault_with_note.ensures.made

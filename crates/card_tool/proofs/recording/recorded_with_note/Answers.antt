@@ -1,7 +1,7 @@
+use Rattle.std.proofs.lemmas.Result.{IfOk-weaker}
 use Rattle.card_tool.proofs.Records.{of-items}
 use Rattle.card_tool.proofs.recording.recorded_with_note.Goals as goal
 
-pub returns-in_ok-answer-in-Ok : goal.returns-in_ok-answer-in-Ok
-returns-in_ok-answer-in-Ok c = of-items c.args.atr.now c.args.text.now c.in-Ok.trace
-    (record { answer = c.in_ok-answer-in-Ok.answer; note = c.items_note-note.result }) c.in-Ok.ensures
-    c.in_ok-answer-in-Ok.ensures c.items_note-note.ensures
+pub returns-in-Ok : goal.returns-in-Ok
+returns-in-Ok c = IfOk-weaker c.items_with_note.result _ _
+    (λ made h. of-items c.args.atr.now c.args.text.now c.in-Ok.trace made c.in-Ok.ensures h) c.items_with_note.ensures

@@ -1,5 +1,5 @@
-use Rattle.traces.proofs.Followed.{followed-replays}
+use Rattle.traces.proofs.Noted.{noted-replays}
 use Rattle.traces.proofs.laws.followed_end_replays.Goals as goal
 
 pub returns : goal.returns
-returns c = followed-replays
+returns c = noted-replays

@@ -1,5 +1,5 @@
-use Rattle.traces.proofs.Arriving.{arrived}
+use Rattle.traces.proofs.Noted.{noted-arrive}
 use Rattle.traces.proofs.laws.seen_blocks_arrive.Goals as goal
 
 pub returns : goal.returns
-returns c = arrived
+returns c = noted-arrive
