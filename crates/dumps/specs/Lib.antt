@@ -4,3 +4,4 @@ pub mod Taking
 pub mod Words
 pub mod Source
 pub mod SourceStop
+pub mod Faults

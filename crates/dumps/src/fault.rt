@@ -16,6 +16,11 @@ pub enum DumpFault {
 }
 
 impl Display for DumpFault {
+    ghost use Rattle.std.specs.Prelude.{Some};
+    ghost use Rattle.dumps.specs.Faults.{dump_fault_text};
+
+    ghost output = { λ fault. Some (dump_fault_text fault) };
+
     fn fmt<W: Write>(&self, f: &mut Formatter<W>) -> fmt::Result {
         match self {
             DumpFault::Form => f.write_str("not in the form"),

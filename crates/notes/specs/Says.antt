@@ -1,8 +1,7 @@
 -- What octets say in words, by the tables of the standards.
 use Rattle.std.specs.Prelude.{◌==◌, ◌||◌, ◌&&◌, ◌+◌, ◌-◌, ◌*◌, ◌/◌, ◌%◌, nat_le, ℕ, List, [], ◌∷◌, length, codes, Option, Some, None, Bool, if◌then◌else◌}
 use Rattle.std.specs.List.{list_all}
-use Rattle.notes.specs.declared.command.TheConstants.{INSTRUCTIONS}
-use Rattle.notes.specs.declared.response.TheConstants.{STATUSES}
+use Rattle.notes.specs.Tables.{instructions, statuses}
 
 -- words, a number after them, if any, and the words after that
 pub record NoteText : Type 0 where
@@ -55,7 +54,7 @@ abbrev pub instruction_says : ℕ → ℕ → List ℕ
 instruction_says class instruction =
     if (nat_le 0x60 instruction && nat_le instruction 0x6F) || (nat_le 0x90 instruction && nat_le instruction 0x9F)
     then codes "invalid instruction"
-    else if is_standard class then named (λ row. row.0 == instruction) (λ row. row.1.now) INSTRUCTIONS
+    else if is_standard class then named (λ row. row.0 == instruction) (λ row. row.1) instructions
     else []
 
 -- ---- responses (ISO/IEC 7816-4:2005, 5.1.3)
@@ -74,7 +73,7 @@ status_says sw1 sw2 =
     then said (codes "the card has ") (Some sw2) (codes " octets to be asked for")
     else if sw1 == 0x63 && (nat_le 0xC0 sw2 && nat_le sw2 0xCF)
     then said (codes "counter at ") (Some (sw2 - 0xC0)) (codes ", as of tries left")
-    else words (named (λ row. row.0 == sw1 && row.1 == sw2) (λ row. row.2.now) STATUSES)
+    else words (named (λ row. row.0 == sw1 && row.1 == sw2) (λ row. row.2) statuses)
 
 -- ---- blocks (ISO/IEC 7816-3, 11.3.2)
 

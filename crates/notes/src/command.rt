@@ -2,6 +2,7 @@
 
 ghost use Rattle.std.specs.Prelude.{◌≡◌, ◌==◌, IfOk, length};
 ghost use Rattle.notes.specs.Says.{chained, class_says, instruction_says, named, said, secured};
+ghost use Rattle.notes.specs.Tables.{instructions};
 
 use crate::note::Note;
 use apdu_core::CommandRef;
@@ -129,10 +130,17 @@ pub fn instruction_name(class: u8, instruction: u8) -> &'static str
     match instruction {
         0x60..=0x6F | 0x90..=0x9F => "invalid instruction",
         _ => match class {
-            0x00..=0x1F | 0x40..=0x7F => named(&INSTRUCTIONS, instruction),
+            0x00..=0x1F | 0x40..=0x7F => standard_name(instruction),
             _ => "",
         },
     }
+}
+
+/// The name of an instruction in the standard's table, if any.
+fn standard_name(instruction: u8) -> &'static str
+    ensures { result.now ≡ named (λ row. row.0 == instruction) (λ row. row.1) instructions }
+{
+    named(&INSTRUCTIONS, instruction)
 }
 
 /// The name in the first of these rows that has an instruction, if any.

@@ -2,6 +2,7 @@
 
 ghost use Rattle.std.specs.Prelude.{◌≡◌, ◌==◌, ◌&&◌, IfOk, length};
 ghost use Rattle.notes.specs.Says.{named, said, status_says, there};
+ghost use Rattle.notes.specs.Tables.{statuses};
 
 use crate::note::Note;
 use apdu_core::ResponseRef;
@@ -97,7 +98,7 @@ fn there(before: &'static str, sw2: u8, one: &'static str, others: &'static str)
 
 /// The name of status bytes, if any.
 fn status_name(sw1: u8, sw2: u8) -> &'static str
-    ensures { result.now ≡ named (λ row. row.0 == sw1 && row.1 == sw2) (λ row. row.2.now) STATUSES }
+    ensures { result.now ≡ named (λ row. row.0 == sw1 && row.1 == sw2) (λ row. row.2) statuses }
 {
     named(&STATUSES, sw1, sw2)
 }
