@@ -5,7 +5,8 @@
 // PAGE is what web/make made, PROGRAM the program scard. Octets of vectors/ are spoiled by a fixed sequence, 10,000
 // times in all, and what the page shows of each, with notes, is compared with what `show KIND --stdin lines --notes` of
 // the program prints of it, but for the notes on refusals. So are 200 texts of exchanges, with what `replay --explain`
-// prints of each at both ends. The last line is 'N passed, M failed'.
+// prints of each at both ends, and 400 traces, with what `judge --explain` prints of each. The last line is 'N passed,
+// M failed'.
 import { spawnSync } from "node:child_process";
 import { readFileSync, readdirSync } from "node:fs";
 import { Checks } from "./checks.mjs";
@@ -14,6 +15,8 @@ import { withoutRefusalNotes } from "./requests.mjs";
 
 const COUNT = 10000;
 const EXCHANGES = 200;
+const TRACES = 400;
+const ATR = "3B808131204555";
 const LONGEST = 2048;
 const SHOWN = 10;
 
@@ -52,6 +55,17 @@ function spoiledText(text) {
   return spoiled(text, () => (any(8) ? text[any(text.length)] : String.fromCharCode(any(128)))).join("");
 }
 
+// In half of the traces lines are spoiled, by lines of others.
+function spoiledTrace(texts) {
+  const text = texts[any(texts.length)];
+  if (any(2)) return spoiledText(text);
+  const other = () => {
+    const lines = texts[any(texts.length)].split("\n");
+    return lines[any(lines.length)];
+  };
+  return spoiled(text.split("\n"), other).join("\n");
+}
+
 // The octets of each kind that the vectors have as a word.
 function bases() {
   const found = new Map(KINDS.map((kind) => [kind, []]));
@@ -87,6 +101,12 @@ function compareReplay(text) {
   }
 }
 
+function compareJudge(text) {
+  const { check, lines, notes = [] } = finished(scard.judge(ATR, text));
+  const have = [...(lines ?? [check]), ...notes].map((line) => `${line}\n`).join("");
+  checks.equal(`judge ${JSON.stringify(text)}`, have, printed(["judge", ATR, "--explain"], text));
+}
+
 for (const [kind, octets] of bases()) {
   const length = Math.ceil(COUNT / KINDS.length);
   const found = Array.from({ length }, () => spoiledOctets(octets[any(octets.length)]));
@@ -95,4 +115,6 @@ for (const [kind, octets] of bases()) {
 const names = readdirSync(examples).filter((it) => it.endsWith(".exchange")).sort();
 const texts = names.map((name) => readFileSync(new URL(name, examples), "latin1"));
 for (let times = 0; times < EXCHANGES; times++) compareReplay(spoiledText(texts[any(texts.length)]));
+const traces = [...cases()].filter(({ words }) => words.join(" ") === `judge ${ATR}`).map(({ input }) => input);
+for (let times = 0; times < TRACES; times++) compareJudge(spoiledTrace(traces));
 checks.end(COUNT);

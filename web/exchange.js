@@ -80,14 +80,26 @@ function octetSaid(word) {
   return parseInt(word, 16);
 }
 
-// What arrived of a block: null of a lost one.
-function arrivedOf([sent, way, other, ...more]) {
+// How a block arrived, by the words after the first one: lost, as other octets, or undefined where nothing is said.
+function wayOf([sent, way, other, ...more]) {
   const isLost = way === "lost" && other === undefined;
   const isChanged = way === "as" && other !== undefined && !more.length;
   need(sent !== undefined && (way === undefined || isLost || isChanged), "Word");
-  const octets = octetsSaid(sent);
-  if (isLost) return null;
-  return isChanged ? octetsSaid(other) : octets;
+  return way;
+}
+
+// What arrived of a block: null of a lost one.
+function arrivedOf(words) {
+  const way = wayOf(words);
+  const octets = octetsSaid(words[0]);
+  if (way === "lost") return null;
+  return way === "as" ? octetsSaid(words[2]) : octets;
+}
+
+// A moment, which is alone in its line.
+function momentOf(words) {
+  need(words.length === 1 && /^(0|[1-9][0-9]{0,14})$/.test(words[0]), "Word");
+  return Number(words[0]);
 }
 
 // What the words after the first one say, by the form of their line.
@@ -103,8 +115,8 @@ const SAID = {
   },
   block: arrivedOf,
   moment: (words, version) => {
-    need(version === 2 && words.length === 1 && /^(0|[1-9][0-9]{0,14})$/.test(words[0]), "Word");
-    return Number(words[0]);
+    need(version === 2, "Word");
+    return momentOf(words);
   },
   note: (words, version) => need(version === 2 && /^[ -~]{1,200}$/.test(words.join(" ")), "Word"),
 };

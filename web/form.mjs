@@ -71,6 +71,16 @@ for (const [at, dataset] of examples.entries()) {
 checks.equal("what a file asks for", [parts["octets-part"].hidden, parts["ifs-part"].hidden].join(), "true,true");
 type("exchange", "scard-exchange 1\natr 3B00\n\n");
 await said("a wrong line", "fault: line 3: Word");
+parts.atr.value = "3B 80 81 31 20 45 55";
+type("trace", "# a remark\nt 00400500A4040000E5\nc 00820082");
+await said("a trace", "2 blocks, 1 deviation: terminal 1, card 0, unseen 0");
+checks.equal("what a trace asks for", [parts["octets-part"].hidden, parts["atr-part"].hidden].join(), "true,false");
+checks.equal("what is said in a trace", parts.out.text.includes("t 00400500A4040000E5\n     block 1 terminal: "), true);
+type("trace", "t 00 as");
+await said("a wrong line of a trace", "fault: line 1: Word");
+parts.atr.value = "";
+type("trace", "t 00000500A4040000A5");
+await said("no answer to reset", "refused: BadAtr");
 type("tlv", "5000".repeat(16384));
 await said("16,384 objects", "ok 32768 octets");
 checks.equal("what a forest shows", parts.out.text.endsWith("\n(and 11384 more lines)"), true);

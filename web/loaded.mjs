@@ -29,15 +29,15 @@ function plain(field) {
   return field.replace(/\\(x..|.)/g, (_, it) => (it[0] === "x" ? octet(it.slice(1)) : parts[it]));
 }
 
-// The lines of vectors/: the words, standard input, and what the program says.
+// The lines of vectors/: the words, standard input, the status, and what the program says.
 export function* cases() {
   for (const file of readdirSync(vectors).sort()) {
     const lines = readFileSync(new URL(file, vectors), "latin1").split("\n");
     for (const [at, line] of lines.entries()) {
       if (line === "" || line.startsWith("#")) continue;
-      const [head, input, , said] = line.split("\t");
+      const [head, input, status, said] = line.split("\t");
       const words = head === "-" ? [] : head.split(" ").map(plain);
-      yield { at: `${file}:${at + 1}`, words, input: plain(input), said: plain(said) };
+      yield { at: `${file}:${at + 1}`, words, input: plain(input), status, said: plain(said) };
     }
   }
 }

@@ -13,7 +13,9 @@ const WHERE = "This browser takes no module of this page: one needs WebAssembly 
   + " memory and 64-bit numbers in calls, which Chromium, Firefox and Safari have had since 2021.";
 const LOWERED = "This browser has no 64-bit memory, so the module runs here after the tool wasm-opt has changed it for a"
   + " 32-bit one. Nobody has proved that tool.";
-const LABELS = { octets: "Octets in hexadecimal", exchange: "Text of a recorded exchange" };
+// What the text is of a kind that isn't octets, and of all others, and what there is to say of it.
+const LABELS = { exchange: "Text of a recorded exchange", trace: "Lines of a trace", octets: "Octets in hexadecimal" };
+const NOTES = { exchange: "exchange-note", trace: "trace-note", octets: "text-note" };
 
 const part = (id) => document.getElementById(id);
 
@@ -94,29 +96,36 @@ function endOf({ name, verdict }) {
   return made("article", made("h3", `${name}: `, verdictOf(verdict)), ...why);
 }
 
-// What is given in the form. It asks for what its kind has use for, and no more.
-function given() {
-  const kind = part("kind").value;
-  const isExchange = kind === "exchange";
+// Shows what a kind has use for, and no more.
+function asks(kind) {
+  const form = Object.hasOwn(LABELS, kind) ? kind : "octets";
   part("first-part").hidden = kind !== "chain";
   part("ifs-part").hidden = kind !== "chain" && kind !== "block";
-  part("octets-part").hidden = isExchange;
-  part("text-label").textContent = isExchange ? LABELS.exchange : LABELS.octets;
-  part("text-note").hidden = isExchange;
-  part("exchange-note").hidden = !isExchange;
-  part("text").setAttribute("aria-describedby", isExchange ? "exchange-note" : "text-note");
+  part("atr-part").hidden = kind !== "trace";
+  part("octets-part").hidden = form !== "octets";
+  part("text-label").textContent = LABELS[form];
+  for (const [name, id] of Object.entries(NOTES)) part(id).hidden = name !== form;
+  part("text").setAttribute("aria-describedby", NOTES[form]);
+}
+
+// What is given in the form.
+function given() {
+  const kind = part("kind").value;
+  asks(kind);
   const ifs = part("ifs-part").hidden ? 254 : part("ifs").valueAsNumber;
   const first = part("first-part").hidden ? 0 : Number(part("first").value);
-  const [each, notes] = ["each", "notes"].map((id) => !isExchange && part(id).checked);
-  return { kind, text: part("text").value, ifs, first, each, notes };
+  const atr = part("atr-part").hidden ? "" : part("atr").value;
+  const [each, notes] = ["each", "notes"].map((id) => !part("octets-part").hidden && part(id).checked);
+  return { kind, text: part("text").value, ifs, first, atr, each, notes };
 }
 
 // Shows what there is to say of what is given, in pieces.
 function* answered(scard) {
-  const { kind, text, ifs, first, each, notes } = given();
+  const { kind, text, ifs, first, atr, each, notes } = given();
   part("shared").textContent = "";
   if (!(Number.isInteger(ifs) && ifs >= 1 && ifs <= 254)) return show("no", "The information size is 1 to 254.");
   if (kind === "exchange") return replayed(yield* scard.replay(text));
+  if (kind === "trace") return judged(yield* scard.judge(atr, text));
   if (each) return yield* severally(scard.answers(kind, text, ifs, first, notes));
   const one = yield* scard.answering(kind, text, ifs, first, notes, SHOWN_LINES);
   return show(one.is === "ok" ? "yes" : "no", one.check, ...shown(one));
@@ -139,6 +148,12 @@ function replayed({ is, check, notes, replay }) {
   const isSame = ends.every((end) => end.verdict.is === "ok");
   const said = ends.map(({ name, verdict }) => `${name}: ${verdict.check}`).join("; ");
   return show(isSame ? "yes" : "no", said, ...ends.map(endOf), block("The exchange, step by step", text(steps)));
+}
+
+function judged({ is, check, notes, lines, steps }) {
+  if (notes) return show("no", check, block("Why the trace isn't judged", text(notes)));
+  const told = lines.length > 1 ? [block("What is said of it", text(lines))] : [];
+  return show(is === "ok" ? "yes" : "no", check, ...told, block("The trace, line by line", text(steps)));
 }
 
 // Shows a line, and what is below it.
@@ -171,11 +186,12 @@ class Answering {
 }
 
 // Puts what is given into the form.
-function fill({ kind, text, ifs, first, each, notes }) {
-  if ([...KINDS, "exchange"].includes(kind)) part("kind").value = kind;
+function fill({ kind, text, ifs, first, atr, each, notes }) {
+  if ([...KINDS, "exchange", "trace"].includes(kind)) part("kind").value = kind;
   if (text !== undefined && text !== null) part("text").value = text;
   part("ifs").value = ifs || "254";
   part("first").value = first === "1" ? "1" : "0";
+  part("atr").value = atr ?? "";
   part("each").checked = each === "1";
   part("notes").checked = notes !== "0";
 }
@@ -188,9 +204,10 @@ function fromAddress() {
 
 // Puts what is given into the address. Only a button calls it: octets may be secret, and a browser keeps addresses.
 function share() {
-  const { kind, text, ifs, first, each, notes } = given();
+  const { kind, text, ifs, first, atr, each, notes } = given();
+  const isPlain = !notes && !part("octets-part").hidden;
   const address = new URLSearchParams({ kind, text, ...(ifs !== 254 && { ifs }), ...(first && { first }),
-    ...(each && { each: "1" }), ...(!notes && kind !== "exchange" && { notes: "0" }) });
+    ...(atr && { atr }), ...(each && { each: "1" }), ...(isPlain && { notes: "0" }) });
   history.replaceState(null, "", `#${address}`);
   part("shared").textContent = "The address of this page has the octets now.";
 }

@@ -1,9 +1,10 @@
 // What the lines of vectors/ ask of the page, and what it answers.
 
-// What words ask for that the page has: `check` or `show`, a kind, and the octets, or `replay`. null for all else.
+// What words ask for that the page has: `check` or `show`, a kind, and the octets; `replay`; or `judge` of both ends.
+// null for all else.
 export function asked({ words, input, said }, kinds) {
   const [subcommand, ...rest] = words;
-  if (!["check", "show", "replay"].includes(subcommand) || said.startsWith("fault: words")) return null;
+  if (!["check", "show", "replay", "judge"].includes(subcommand) || said.startsWith("fault: words")) return null;
   const found = { subcommand, ifs: 254, first: 0, explain: false, notes: false, words: [] };
   while (rest.length) {
     const [word, value] = rest.shift().split("=");
@@ -17,7 +18,14 @@ export function asked({ words, input, said }, kinds) {
     else if (word.startsWith("-")) return null;
     else found.words.push(word);
   }
-  return subcommand === "replay" ? { ...found, kind: "exchange", text: input } : ofOctets(found, input, kinds);
+  if (subcommand === "replay") return { ...found, kind: "exchange", text: input };
+  return subcommand === "judge" ? ofTrace(found, input) : ofOctets(found, input, kinds);
+}
+
+function ofTrace(found, input) {
+  const [atr, ...more] = found.words;
+  const isRight = found.end === undefined && !more.length && /^[0-9A-Fa-f]+$/.test(atr);
+  return isRight ? { ...found, kind: "trace", atr, text: input } : null;
 }
 
 function ofOctets(found, input, kinds) {
@@ -35,7 +43,7 @@ function ofOctets(found, input, kinds) {
 
 // What the page says, as the program has it. All that it calls is handed over, so that a browser can run it too.
 export function answered({ scard, aroundLines, finished }, request) {
-  const { subcommand, kind, text, ifs, first, form, explain, notes, end } = request;
+  const { subcommand, kind, text, atr, ifs, first, form, explain, notes, end } = request;
   const ofLine = ({ check, lines }) => (subcommand === "check" ? [check] : [...(lines ?? [check]), ""]);
   const ended = (lines) => lines.map((line) => `${line}\n`).join("");
   if (subcommand === "replay") {
@@ -44,6 +52,10 @@ export function answered({ scard, aroundLines, finished }, request) {
     const ends = replay?.ends.filter(({ name }) => end === name || end === "both") ?? fault;
     const verdicts = ends.map(({ name, verdict }) => (end === "both" && name ? `${name}: ` : "") + verdict.check);
     return ended([...verdicts, ...(explain ? ends.flatMap(({ verdict }) => verdict.notes) : [])]);
+  }
+  if (subcommand === "judge") {
+    const { check, lines, notes: why } = finished(scard.judge(atr, text));
+    return ended([...(lines ?? [check]), ...(explain && why ? why : [])]);
   }
   if (form === "lines" && explain) return null;
   if (form === "lines") return ended([...scard.answers(kind, text, ifs, first, notes)].flatMap(ofLine));
@@ -60,8 +72,8 @@ export function withoutRefusalNotes(said) {
 }
 
 // What the page should say: the program's words, without its options.
-export function wanted({ said }, { end }) {
-  if (end) return said;
+export function wanted({ said }, { subcommand, end }) {
+  if (end || subcommand === "judge") return said;
   return withoutRefusalNotes(said).replace(" (--ifs)", "").replace("from that of --number", "from the first that is given")
     .replace(/octets there: .*\n/, "").replace(/standard input: this text is a dump too.*\n/, "");
 }

@@ -14,7 +14,7 @@ const CODECS = { atr: 1, block: 2, chain: 3, command: 4, response: 5, tlv: 6, do
 const KINDS = Object.keys(CODECS);
 // The structs of the header that are read here, by their numbers, with the sizes that this page reckons with.
 const SIZES = { 1: 16, 4: 243, 5: 3, 6: 4, 7: 4, 8: 32, 9: 16, 10: 16, 11: 4, 12: 24, 15: 56, 16: 64, 19: 32, 20: 16,
-  21: 5, 22: 40 };
+  21: 5, 22: 40, 29: 592, 30: 5, 31: 32 };
 
 // What one or two octets are, as the header numbers it for scard_note_of.
 const NOTED = { status: 1, instruction: 2, class: 3, pcb: 4, nad: 5, td: 6, ta2: 7, tag: 8 };
@@ -267,6 +267,25 @@ class Scard {
     }
   }
 
+  // What there is to say of a trace, for a card with this answer to reset in hexadecimal: the lines of the program's
+  // `judge`, of which `check` is the last, or why there are none. It stops after each line.
+  *judge(atr, text) {
+    const octets = octetsOf(atr);
+    if (!octets) return { is: "fault", check: "fault: hex", notes: [FORM] };
+    if (text.length > LONGEST_TEXT) return { is: "fault", check: "fault: TooLarge", notes: [TOO_LARGE] };
+    const { refused, ifsc } = this.params(octets);
+    if (refused) return { is: "refused", check: `refused: ${refused}`, notes: atrWhy(this, octets, refused) };
+    try {
+      const judge = new Judge(this, ifsc);
+      yield* judge.run(text);
+      const { lines, steps, deviates } = judge;
+      return { is: deviates ? "refused" : "ok", check: lines.at(-1), lines, steps };
+    } catch (fault) {
+      if (!(fault instanceof Fault)) throw fault;
+      return faultOfTrace(text, fault);
+    }
+  }
+
   // The answers to the lines of a text, each by itself, one after another.
   *answers(kind, text, ...more) {
     const lines = text.split("\n");
@@ -281,7 +300,7 @@ class Scard {
 
   // The lines of the answer to reset that was decoded last.
   atrLines(say) {
-    const { memory, calls } = this;
+    const { memory } = this;
     const atr = memory.at(memory.value, 243);
     const lines = [say(`convention ${atr[0] ? "inverse" : "direct"}`)];
     const bytes = (at, number) => ["TA", "TB", "TC"].forEach((name, i) => {
@@ -300,14 +319,28 @@ class Scard {
     const historical = [memory.value + 226, atr[225]];
     lines.push(say(`historical ${wordOf(memory.at(...historical))}`, () => this.quoted(...historical)));
     lines.push(atr[241] ? say(`tck ${PAIRS[atr[242]]}`, () => "exclusive-or of T0 to here is 00") : say("tck absent"));
-    calls.scard_atr_rates(BigInt(memory.value), BigInt(memory.other));
-    const rate = (at) => memory.view().getUint16(at, true) || "reserved";
-    lines.push(say(`F ${rate(memory.other)}`), say(`D ${rate(memory.other + 2)}`));
+    const [f, d] = this.decodedRates();
+    lines.push(say(`F ${f}`), say(`D ${d}`));
     const { refused, ifsc, bwi, cwi } = this.t1();
     const params = `ifsc ${ifsc} bwi ${bwi} cwi ${cwi}`;
     const alone = atr[7] ? "" : "offers T=0 alone";
     lines.push(say(`t1 ${refused ?? params}`, () => (refused ? alone : "redundancy code LRC")));
     return lines;
+  }
+
+  // F and D of the answer to reset that was decoded last.
+  decodedRates() {
+    const { memory, calls } = this;
+    calls.scard_atr_rates(BigInt(memory.value), BigInt(memory.other));
+    return [memory.other, memory.other + 2].map((at) => memory.view().getUint16(at, true) || "reserved");
+  }
+
+  // F and D of an octet that is as TA1: those of an answer to reset that has this one, and offers T=0 alone.
+  rates(octet) {
+    const { memory } = this;
+    const atr = memory.lend(Uint8Array.of(0x3b, 0x10, octet), memory.other);
+    this.verdict("scard_atr_decode", ...atr, BigInt(memory.value));
+    return this.decodedRates();
   }
 
   // The parameters of T=1 of the answer to reset that was decoded last, or the name of what is wrong.

@@ -2,7 +2,8 @@
 
 // The line of the verdict of each example, in their order.
 export const SAID = ["ok 5 octets", "refused at 8: BadLrc", "ok 17 octets", "ok 13 octets", "ok 2 octets",
-  "refused at 3: Overrun", "ok 8 octets", "2 of 3 lines are accepted", "terminal: ok 13 lines; card: ok 13 lines"];
+  "refused at 3: Overrun", "ok 8 octets", "2 of 3 lines are accepted", "terminal: ok 13 lines; card: ok 13 lines",
+  "4 blocks, 1 deviation: terminal 1, card 0, unseen 0"];
 
 // How many lines of a value the page shows at most.
 export const SHOWN_LINES = 5000;

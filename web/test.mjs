@@ -4,9 +4,9 @@
 //
 // PAGE is what web/make made. Its lines are compared, character by character, with those that the vectors give for the
 // program: of `check` and `show`, with notes and without, with octets as a word or in hexadecimal or as lines from
-// standard input, what `--explain` says where an octet is refused, and of `replay`, with what `--explain` says of a
-// file. Words that the program takes for none of its forms have no place in a page. The last line is 'N passed, M
-// failed'.
+// standard input, what `--explain` says where an octet is refused, and of `replay` and `judge`, with what `--explain`
+// says of a file. Words that the program takes for none of its forms have no place in a page. The last line is 'N
+// passed, M failed'.
 import { readFileSync, readdirSync } from "node:fs";
 import { Checks } from "./checks.mjs";
 import { cases, loaded, modules } from "./loaded.mjs";
@@ -14,6 +14,9 @@ import { answered, asked, wanted } from "./requests.mjs";
 
 const examples = new URL("../examples/", import.meta.url);
 const checks = new Checks("page");
+
+// What the page calls what the program ends with, by its status.
+const STATUS = { 0: "ok", 1: "refused", 2: "fault" };
 
 // The lines of the vectors that the page answers, by their kinds.
 function lines(page) {
@@ -23,10 +26,26 @@ function lines(page) {
     const said = request && answered(page, request);
     if (said === null) continue;
     checks.equal(`${one.at}: ${one.words.join(" ")}`, said, wanted(one, request));
+    if (request.kind === "trace") judged(page, one, request);
     for (const what of [request.kind, ...(request.notes ? ["notes"] : [])]) seen[what] = (seen[what] ?? 0) + 1;
   }
-  for (const kind of [...page.KINDS, "exchange", "notes"]) checks.equal(`lines of ${kind}`, seen[kind] > 100, true);
+  for (const what of [...page.KINDS, "exchange", "trace", "notes"]) {
+    checks.equal(`lines of ${what}`, seen[what] > 100, true);
+  }
   return Object.entries(seen).map(([kind, count]) => `${kind} ${count}`).join(", ");
+}
+
+// Whether a trace is permitted, and its lines again, with what is said of each after it.
+function judged(page, { at, status, input, said }, { atr, text }) {
+  const { is, steps = [], lines } = page.finished(page.scard.judge(atr, text));
+  checks.equal(`${at}: whether it is permitted`, is, STATUS[status]);
+  if (!lines) return;
+  const own = steps.filter((step) => !step.startsWith("     "));
+  const told = steps.filter((step) => step.startsWith("     "));
+  const given = input === "" ? [] : input.replace(/\n$/, "").split("\n");
+  const numbered = given.map((line, place) => `${place + 1}  ${line}`);
+  checks.equal(`${at}: its steps`, own.join("\n"), numbered.join("\n"));
+  checks.equal(`${at}: what is said`, told.map((step) => `${step.trim()}\n`).join(""), said);
 }
 
 // The steps of a replay are the lines of its file, and what the ends do between them.
