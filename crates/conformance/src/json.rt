@@ -3,6 +3,7 @@
 //! A form here is a line with the names of members in braces. After a `|` comes the word for a member that is null or
 //! isn't there, and a blank before a name is there where the member is.
 
+use crate::told::add_judgment;
 use serde_json::Value;
 use std::alloc::{AllocError, Global};
 
@@ -57,6 +58,10 @@ pub(crate) fn lines_of(alloc: Global, json: &str) -> Result<Option<String>, Allo
         return Ok(None);
     };
     let mut text = String::new(alloc);
+    if let Some(Value::Array(told)) = answer.get("told") {
+        add_judgment(alloc, &mut text, &answer, told.as_slice())?;
+        return Ok(Some(text));
+    }
     for &(name, before) in &[("terminal", "terminal: "), ("card", "card: ")] {
         if let Some(end) = answer.get(name) {
             text.push_str(before)?;
@@ -135,7 +140,7 @@ fn add_item(alloc: Global, text: &mut String, item: &Value, form: &str) -> Resul
 }
 
 /// Adds a line of a form that isn't empty, with the members of an object.
-fn add_line(
+pub(crate) fn add_line(
     alloc: Global,
     text: &mut String,
     object: &Value,

@@ -3,13 +3,14 @@
 //! It writes a line for each file, with how many lines of it there are. The first line whose status or text is another
 //! is printed, and the program ends with status 1. docs/VECTORS.md has the format of the files.
 //!
-//! Lines of `check`, `show`, `replay` and `apdus` are run once more with `--json`, but for those of changes: the lines
-//! of their texts have to come back from the objects.
+//! Lines of `check`, `show`, `replay`, `apdus` and `judge` are run once more with `--json`, but for those of changes:
+//! the lines of their texts have to come back from the objects.
 #![tactic(auto)]
 
 mod field;
 mod json;
 mod row;
+mod told;
 mod tried;
 
 use std::process::ExitCode;
@@ -17,7 +18,7 @@ use std::{fs, io};
 use tried::{Fault, tried};
 
 /// The files, which lie where the program runs.
-const NAMES: [&str; 28] = [
+const NAMES: [&str; 29] = [
     "atr",
     "atr.changes",
     "block",
@@ -39,6 +40,7 @@ const NAMES: [&str; 28] = [
     "record",
     "judge",
     "judge.changes",
+    "judge.next",
     "hex",
     "dumps",
     "lines",

@@ -93,7 +93,7 @@ fn try_row(alloc: Global, line: u64, row: Row, step: usize) -> Result<(), Fault>
 }
 
 /// The subcommands that take `--json`.
-const IN_JSON: [&str; 4] = ["check", "show", "replay", "apdus"];
+const IN_JSON: [&str; 5] = ["check", "show", "replay", "apdus", "judge"];
 
 /// Runs a line with `--json`, where its subcommand takes that and its lines have nothing beside what they say: these
 /// have to come back from the objects.

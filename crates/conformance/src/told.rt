@@ -1,0 +1,73 @@
+//! The lines of a judged trace, back from the object that stands for them in JSON.
+
+use crate::json::add_line;
+use serde_json::Value;
+use std::alloc::{AllocError, Global};
+
+/// Adds the lines of a judgment that has told this.
+pub(crate) fn add_judgment(
+    alloc: Global,
+    text: &mut String,
+    answer: &Value,
+    told: &[Value],
+) -> Result<(), AllocError> {
+    for one in told {
+        add_line(alloc, text, one, told_form(one))?;
+    }
+    if is(answer, "verdict", "ok") {
+        text.push_str("ok ")?;
+        add_counted(alloc, text, answer, "blocks", " block")?;
+        match answer.get("unseen") {
+            Some(_) => add_line(alloc, text, answer, ", unseen {unseen}"),
+            None => text.push('\n'),
+        }
+    } else {
+        add_counted(alloc, text, answer, "blocks", " block")?;
+        text.push_str(", ")?;
+        add_counted(alloc, text, answer, "deviations", " deviation")?;
+        let ends = if answer.get("late").is_some() {
+            ": terminal {terminal}, card {card}, unseen {unseen}, late {late}"
+        } else {
+            ": terminal {terminal}, card {card}, unseen {unseen}"
+        };
+        add_line(alloc, text, answer, ends)
+    }
+}
+
+/// The form of the line of what was told.
+fn told_form(one: &Value) -> &'static str {
+    let has_block = one.get("block").is_some();
+    if is(one, "kind", "pps") {
+        "pps F {F|reserved} D {D|reserved}"
+    } else if is(one, "kind", "neither") {
+        "line {line}: neither PPS nor a block"
+    } else if is(one, "kind", "late") {
+        "block {block} {end}: late, {after} microseconds after block {before}, permitted {permitted}  ({clause})"
+    } else if is(one, "kind", "unseen") && has_block {
+        "block {block} {end}: permitted if block {before} was damaged or lost unseen"
+    } else if is(one, "kind", "unseen") {
+        "{end}: no answer to block {before}, permitted if that was lost unseen"
+    } else if has_block {
+        "block {block} {end}: {rule}, due {due}  ({clause})"
+    } else {
+        "{end}: no answer to block {before}, which it got  ({clause})"
+    }
+}
+
+/// Whether a member of an object is this word.
+fn is(object: &Value, name: &str, word: &str) -> bool {
+    object.get(name).and_then(Value::as_str) == Some(word)
+}
+
+/// Adds a number of things with this name.
+fn add_counted(
+    alloc: Global,
+    text: &mut String,
+    answer: &Value,
+    name: &str,
+    thing: &str,
+) -> Result<(), AllocError> {
+    let number = answer.get(name).and_then(Value::as_u64).unwrap_or(0);
+    let end = if number == 1 { "" } else { "s" };
+    text.push_str(format!(in alloc; "{number}{thing}{end}")?.as_str())
+}

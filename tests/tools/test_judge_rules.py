@@ -1,0 +1,62 @@
+#!/usr/bin/env python3
+"""Tests tools/t1_rules.py, the second reading of the rules of T=1, and that the file judge.next of the vectors is what
+it says. That the program says the same is what crates/conformance tests."""
+
+import pathlib
+import sys
+import unittest
+
+sys.dont_write_bytecode = True
+TOP = pathlib.Path(__file__).resolve().parents[2]
+sys.path.insert(0, str(TOP / "tools"))
+from next_blocks import HISTORIES, IFSC, SIDES, Session, damaged, octets_of, receipt, rows, text
+from t1_rules import Line, block_of, clauses
+
+# a card that sends nothing: no next block shows that
+SILENCE = "no block"
+
+
+def broken(steps, word):
+    """The rule that a block breaks after some steps, and what is due."""
+    session = Session(steps)
+    octets = octets_of(session.turn, word, session.address(session.turn))
+    return session.line.broken(SIDES[session.turn], octets)
+
+
+class Rules(unittest.TestCase):
+    def test_the_file_is_what_the_rules_say(self):
+        self.assertEqual((TOP / "vectors/judge.next").read_text(encoding="ascii"), text())
+
+    def test_each_rule_of_the_page_is_broken_somewhere(self):
+        clause = clauses()
+        said = [lines[0] for _, steps in HISTORIES for _, lines in rows(steps, clause) if len(lines) > 1]
+        self.assertEqual({line.split(": ")[1].split(", due ")[0] for line in said}, clause.keys() - {SILENCE})
+
+    def test_a_block_in_order(self):
+        self.assertEqual(broken("t:I0 c:I0", "I1"), (None, "I-block 1"))
+        self.assertEqual(broken("t:I0 c:I0", "I0"), ("sequence number", "I-block 1"))
+        self.assertEqual(broken("t:I0+", "R1.1"), ("error code", "R-block 1"))
+
+    def test_a_correction_names_the_block_that_is_expected(self):
+        self.assertEqual(broken("t:I0 c:I0!", "R0.1"), (None, "R-block 0"))
+        self.assertEqual(broken("t:I0 c:I0!", "R1.1"), ("sequence number", "R-block 0"))
+
+    def test_an_i_block_within_its_own_chain_is_none_that_an_end_can_use(self):
+        self.assertEqual(broken("t:I0+ c:R1 t:ABORT c:abort t:I1+? t:R0 c:I0", "R0.2"), (None, "R-block 0"))
+
+    def test_refusals_count_as_corrections(self):
+        self.assertEqual(broken("t:I0 c:I0 t:R0.2 c:I0 t:R0.2 c:I0", "R0.2")[0], None)
+        self.assertEqual(broken("t:I0 c:I0 t:R0.2 c:I0 t:R0.2 c:I0 t:R0.2 c:I0", "R0.2")[0], "no I-block")
+
+    def test_a_session_goes_on_only_by_what_is_permitted(self):
+        line = Line(IFSC)
+        with self.assertRaises(ValueError):
+            line.takes("terminal", receipt(0, 0, 0), None)
+
+    def test_damage_is_no_block(self):
+        octets = receipt(0, 1, 0)
+        self.assertEqual((block_of(octets).number, block_of(damaged(octets))), (1, None))
+
+
+if __name__ == "__main__":
+    unittest.main()
