@@ -353,11 +353,20 @@ static void scard_trap(void)
 #define INLINE static inline
 #endif
 
+/* What makes one access, which gcc may call instead where there are many, though that takes longer. */
+#if defined(__GNUC__) && defined(__OPTIMIZE__) && !defined(__OPTIMIZE_SIZE__)
+#define ACCESS __attribute__((unused, always_inline)) static inline
+#else
+#define ACCESS INLINE
+#endif
+
 /* Where numbers of several octets lie with the lowest octet first, as in the module, they are read and written as they
- * are; elsewhere, and where SCARD_BY_OCTETS is defined, octet by octet.
+ * are; elsewhere, and where SCARD_BY_OCTETS is defined, octet by octet. So they are on an ARM that reads no number from
+ * any place, as Cortex-M0, where memcpy would be called for each.
  */
-#if !defined(SCARD_BY_OCTETS) && ((defined(__BYTE_ORDER__) && __BYTE_ORDER__ == __ORDER_LITTLE_ENDIAN__) || \
-                                  defined(_M_IX86) || defined(_M_X64) || defined(_M_ARM64))
+#if !defined(SCARD_BY_OCTETS) && !(defined(__arm__) && !defined(__ARM_FEATURE_UNALIGNED)) && \
+    ((defined(__BYTE_ORDER__) && __BYTE_ORDER__ == __ORDER_LITTLE_ENDIAN__) || defined(_M_IX86) || defined(_M_X64) || \
+     defined(_M_ARM64))
 #define LOWEST_FIRST 1
 #else
 #define LOWEST_FIRST 0
@@ -371,17 +380,24 @@ static void scard_trap(void)
 #define HIGHEST_FIRST 0
 #endif
 
-INLINE u32 get8(const u8 *at)
+/* Whether structs that are only numbers may lie otherwise here than in the module. */
+#if HIGHEST_FIRST || defined(SCARD_SHAPED)
+#define MAY_LIE_OTHERWISE 1
+#else
+#define MAY_LIE_OTHERWISE 0
+#endif
+
+ACCESS u32 get8(const u8 *at)
 {
     return *at;
 }
 
-INLINE u32 get16(const u8 *at)
+ACCESS u32 get16(const u8 *at)
 {
     return at[0] | (u32)at[1] << 8;
 }
 
-INLINE u32 get32(const u8 *at)
+ACCESS u32 get32(const u8 *at)
 {
 #if LOWEST_FIRST
     u32 number;
@@ -392,7 +408,7 @@ INLINE u32 get32(const u8 *at)
 #endif
 }
 
-INLINE u64 get64(const u8 *at)
+ACCESS u64 get64(const u8 *at)
 {
 #if LOWEST_FIRST
     u64 number;
@@ -403,18 +419,18 @@ INLINE u64 get64(const u8 *at)
 #endif
 }
 
-INLINE void put8(u8 *at, u32 number)
+ACCESS void put8(u8 *at, u32 number)
 {
     *at = (u8)number;
 }
 
-INLINE void put16(u8 *at, u32 number)
+ACCESS void put16(u8 *at, u32 number)
 {
     at[0] = (u8)number;
     at[1] = (u8)(number >> 8);
 }
 
-INLINE void put32(u8 *at, u32 number)
+ACCESS void put32(u8 *at, u32 number)
 {
 #if LOWEST_FIRST
     memcpy(at, &number, sizeof number);
@@ -424,7 +440,7 @@ INLINE void put32(u8 *at, u32 number)
 #endif
 }
 
-INLINE void put64(u8 *at, u64 number)
+ACCESS void put64(u8 *at, u64 number)
 {
 #if LOWEST_FIRST
     memcpy(at, &number, sizeof number);
@@ -587,31 +603,31 @@ APART void apart_store(const struct call *m, u64 t, u32 n, u64 number)
 
 /* ---- what the functions of the module use ---- */
 
-INLINE u32 load8(const struct call *m, u64 a, u64 offset)
+ACCESS u32 load8(const struct call *m, u64 a, u64 offset)
 {
     u64 t = a + (offset - FIRST);
     return SELDOM(LEAVES(m, t, 1u)) ? (u32)apart_load(m, t, 1) : get8(PLACE(m, t));
 }
 
-INLINE u32 load16(const struct call *m, u64 a, u64 offset)
+ACCESS u32 load16(const struct call *m, u64 a, u64 offset)
 {
     u64 t = a + (offset - FIRST);
     return SELDOM(LEAVES(m, t, 2u)) ? (u32)apart_load(m, t, 2) : get16(PLACE(m, t));
 }
 
-INLINE u32 load32(const struct call *m, u64 a, u64 offset)
+ACCESS u32 load32(const struct call *m, u64 a, u64 offset)
 {
     u64 t = a + (offset - FIRST);
     return SELDOM(LEAVES(m, t, 4u)) ? (u32)apart_load(m, t, 4) : get32(PLACE(m, t));
 }
 
-INLINE u64 load64(const struct call *m, u64 a, u64 offset)
+ACCESS u64 load64(const struct call *m, u64 a, u64 offset)
 {
     u64 t = a + (offset - FIRST);
     return SELDOM(LEAVES(m, t, 8u)) ? apart_load(m, t, 8) : get64(PLACE(m, t));
 }
 
-INLINE void store8(const struct call *m, u64 a, u64 offset, u32 number)
+ACCESS void store8(const struct call *m, u64 a, u64 offset, u32 number)
 {
     u64 t = a + (offset - FIRST);
     if (SELDOM(LEAVES(m, t, 1u))) {
@@ -621,7 +637,7 @@ INLINE void store8(const struct call *m, u64 a, u64 offset, u32 number)
     }
 }
 
-INLINE void store16(const struct call *m, u64 a, u64 offset, u32 number)
+ACCESS void store16(const struct call *m, u64 a, u64 offset, u32 number)
 {
     u64 t = a + (offset - FIRST);
     if (SELDOM(LEAVES(m, t, 2u))) {
@@ -631,7 +647,7 @@ INLINE void store16(const struct call *m, u64 a, u64 offset, u32 number)
     }
 }
 
-INLINE void store32(const struct call *m, u64 a, u64 offset, u32 number)
+ACCESS void store32(const struct call *m, u64 a, u64 offset, u32 number)
 {
     u64 t = a + (offset - FIRST);
     if (SELDOM(LEAVES(m, t, 4u))) {
@@ -641,7 +657,7 @@ INLINE void store32(const struct call *m, u64 a, u64 offset, u32 number)
     }
 }
 
-INLINE void store64(const struct call *m, u64 a, u64 offset, u64 number)
+ACCESS void store64(const struct call *m, u64 a, u64 offset, u64 number)
 {
     u64 t = a + (offset - FIRST);
     if (SELDOM(LEAVES(m, t, 8u))) {
@@ -661,14 +677,70 @@ INLINE u8 *piece(const struct call *m, u64 a, u64 n)
     return SELDOM(LEAVES(m, t, n)) ? element_at(m, t, n) : PLACE(m, t);
 }
 
-/* The same, where they are in one piece. */
-INLINE u8 *at(const struct call *m, u64 a, u64 n)
+/* The same for a number of octets below 2^31, where they are in one piece. */
+APART u8 *element_only(const struct call *m, u64 t, u64 n)
 {
-    u8 *found = piece(m, a, n);
-    if (SELDOM(!found)) {
+    u8 *found = element_at(m, t, n);
+    if (!found) {
         UNREACHABLE;
     }
     return found;
+}
+
+ACCESS u8 *at(const struct call *m, u64 a, u32 n)
+{
+    u64 t = a - FIRST;
+    return SELDOM(LEAVES(m, t, n)) ? element_only(m, t, n) : PLACE(m, t);
+}
+
+/* Where `n` octets from an address on are that several accesses are in, which all are made or none: they are held to
+ * their window here, once. On a machine where structs lie otherwise it may be null; then each access is to such a struct.
+ */
+ACCESS u8 *held(const struct call *m, u64 a, u32 n)
+{
+    return MAY_LIE_OTHERWISE ? piece(m, a, n) : at(m, a, n);
+}
+
+#define IS_HELD(p) (!MAY_LIE_OTHERWISE || (p))
+
+ACCESS u32 held8(const u8 *p, u32 place, const struct call *m, u64 a)
+{
+    return IS_HELD(p) ? get8(p + place) : (u32)apart_load(m, a + place - FIRST, 1);
+}
+
+ACCESS u32 held16(const u8 *p, u32 place, const struct call *m, u64 a)
+{
+    return IS_HELD(p) ? get16(p + place) : (u32)apart_load(m, a + place - FIRST, 2);
+}
+
+ACCESS u32 held32(const u8 *p, u32 place, const struct call *m, u64 a)
+{
+    return IS_HELD(p) ? get32(p + place) : (u32)apart_load(m, a + place - FIRST, 4);
+}
+
+ACCESS u64 held64(const u8 *p, u32 place, const struct call *m, u64 a)
+{
+    return IS_HELD(p) ? get64(p + place) : apart_load(m, a + place - FIRST, 8);
+}
+
+ACCESS void put_held8(u8 *p, u32 place, const struct call *m, u64 a, u32 number)
+{
+    IS_HELD(p) ? put8(p + place, number) : apart_store(m, a + place - FIRST, 1, number);
+}
+
+ACCESS void put_held16(u8 *p, u32 place, const struct call *m, u64 a, u32 number)
+{
+    IS_HELD(p) ? put16(p + place, number) : apart_store(m, a + place - FIRST, 2, number);
+}
+
+ACCESS void put_held32(u8 *p, u32 place, const struct call *m, u64 a, u32 number)
+{
+    IS_HELD(p) ? put32(p + place, number) : apart_store(m, a + place - FIRST, 4, number);
+}
+
+ACCESS void put_held64(u8 *p, u32 place, const struct call *m, u64 a, u64 number)
+{
+    IS_HELD(p) ? put64(p + place, number) : apart_store(m, a + place - FIRST, 8, number);
 }
 
 /* Where a loop reads that goes on `turns` / `by` times after its first turn, `step` octets from an address on and then
@@ -708,8 +780,13 @@ INLINE u32 exclusive_or(const u8 *at, u64 count)
 
 INLINE void copy(const struct call *m, u64 to, u64 from, u64 n)
 {
-    u8 *there = n ? piece(m, to, n) : NULL, *here = n ? piece(m, from, n) : NULL;
+    u8 *there, *here;
     u64 turn;
+    if (!n) {
+        return;
+    }
+    there = piece(m, to, n);
+    here = piece(m, from, n);
     if (there && here) {
         memmove(there, here, (size_t)n);
         return;
@@ -878,7 +955,7 @@ INLINE void lend_shaped(struct call *m, u32 window, const void *at, u64 count, s
     m->shaped[window] = shape;
 }
 
-#if HIGHEST_FIRST || defined(SCARD_SHAPED)
+#if MAY_LIE_OTHERWISE
 #define SHAPED_HERE struct shaped shaped[WINDOWS];
 #define LEND(m, window, at, count, shape) lend_shaped(m, window, at, count, shape)
 #else
@@ -944,6 +1021,8 @@ static void c_lent_kept_receiver_CReceiver_fitting(struct call *m, u64 v0, u64 v
 static void c_lent_kept_CTerminal_fitting(struct call *m, u64 v0, u64 v1, u64 v2, u64 v3);
 static void c_lent_lent_terminal_turn(struct call *m, u64 v0, u64 v1, u64 v2, u64 v3, u64 v4, u64 v5, u64 v6, u64 v7,
     u64 v8);
+static void tlv_core_tidy_form_put_objects(struct call *m, u64 v0, u64 v1, u64 v2, u64 v3, u64 v4, u64 v5);
+static void tlv_core_tidy_form_TidyForm_close_to(struct call *m, u64 v0, u64 v1, u64 v2, u64 v3);
 static void module_scard_atr_check(struct call *m, u64 v0, u64 v1, u64 v2);
 static void rattle_export_scard_atr_check(struct call *m, u64 v0, u64 v1, u64 v2);
 static void module_scard_atr_decode(struct call *m, u64 v0, u64 v1, u64 v2, u64 v3);
@@ -1115,6 +1194,8 @@ static u64 module_scard_tlv_first(struct call *m, u64 v0, u64 v1, u64 v2, u64 v3
 static u64 rattle_export_scard_tlv_first(struct call *m, u64 v0, u64 v1, u64 v2, u64 v3);
 static void module_scard_tlv_parts(struct call *m, u64 v0, u64 v1, u64 v2, u64 v3, u64 v4, u64 v5);
 static void rattle_export_scard_tlv_parts(struct call *m, u64 v0, u64 v1, u64 v2, u64 v3, u64 v4, u64 v5);
+static void module_scard_tlv_tidy(struct call *m, u64 v0, u64 v1, u64 v2, u64 v3, u64 v4, u64 v5);
+static void rattle_export_scard_tlv_tidy(struct call *m, u64 v0, u64 v1, u64 v2, u64 v3, u64 v4, u64 v5);
 static void module_scard_turn_text(struct call *m, u32 v0, u64 v1);
 static void rattle_export_scard_turn_text(struct call *m, u32 v0, u64 v1);
 static u32 module_scard_version(struct call *m);
@@ -1157,6 +1238,9 @@ static void atr_core_decoding_check(struct call *m, u64 v0, u64 v1, u64 v2)
     u32 t4 = 0;
     u64 w1 = 0;
     u8 *f14 = NULL;
+    u8 *p239 = NULL;
+    u8 *p333 = NULL;
+    u8 *p361 = NULL;
     u64 n11;
     const u8 *q11;
     u64 n12;
@@ -1165,8 +1249,7 @@ static void atr_core_decoding_check(struct call *m, u64 v0, u64 v1, u64 v2)
     f14 = at(m, v14, 288);
     v3 = v14;
     m->g0 = v3;
-    if ((v14 ^ 0x8000000000000000ull) < (16ull ^ 0x8000000000000000ull)) { goto after2; }
-    fill(m, v14 + 8ull, 0u, 280ull);
+    memset(f14 + 8, (int)(0u & 255u), 280);
     if (v2 == 0) { goto after3; }
     v4 = v2 + 0xFFFFFFFFFFFFFFFFull;
     if (v4 == 0) { goto after3; }
@@ -1227,9 +1310,10 @@ after7:;
         v9 = v9 - 8ull + 0xFFFFFFFFFFFFFFF8ull * n11;
     } else {
 again11:;
-        t4 = load8(m, v6 + 3ull, 0) ^ (load8(m, v6 + 2ull, 0) ^ (load8(m, v6 + 1ull, 0) ^ (load8(m, v6, 0) ^ v10)));
-        t0 = load8(m, v6 + 7ull, 0) ^ (load8(m, v6 + 6ull, 0) ^ (load8(m, v6 + 5ull, 0) ^ (load8(m, v6 + 4ull, 0) ^
-            t4)));
+        p239 = held(m, v6, 8);
+        t4 = held8(p239, 3, m, v6) ^ (held8(p239, 2, m, v6) ^ (held8(p239, 1, m, v6) ^ (held8(p239, 0, m, v6) ^
+            v10)));
+        t0 = held8(p239, 7, m, v6) ^ (held8(p239, 6, m, v6) ^ (held8(p239, 5, m, v6) ^ (held8(p239, 4, m, v6) ^ t4)));
         v10 = t0;
         v6 = v6 + 8ull;
         v9 = v9 + 0xFFFFFFFFFFFFFFF8ull;
@@ -1256,22 +1340,22 @@ after6:;
 after5:;
     v8 = v2 - v5;
     if (v8 >= 34ull) { goto after3; }
-    store64(m, v0, 0, 0ull);
-    store8(m, v0 + 24ull, 0, 0u);
-    store64(m, v0 + 16ull, 0, 0ull);
-    store64(m, v0 + 8ull, 0, v8);
+    p333 = held(m, v0, 25);
+    put_held64(p333, 0, m, v0, 0ull);
+    put_held8(p333, 24, m, v0, 0u);
+    put_held64(p333, 16, m, v0, 0ull);
+    put_held64(p333, 8, m, v0, v8);
     goto after1;
 after3:;
     atr_core_decoding_by_octets(m, v14 + 8ull, v1, v2);
     v2 = (u64)get8(f14 + 8);
-    store64(m, v0, 0, v2);
+    p361 = held(m, v0, 25);
+    put_held64(p361, 0, m, v0, v2);
     v12 = (u32)(v2 == 0);
-    store8(m, v0 + 24ull, 0, v12 ? 0u : get8(f14 + 32));
-    store64(m, v0 + 16ull, 0, v12 ? 0ull : get64(f14 + 24));
-    store64(m, v0 + 8ull, 0, v12 ? get64(f14 + 280) : (u64)get8(f14 + 16));
+    put_held8(p361, 24, m, v0, v12 ? 0u : get8(f14 + 32));
+    put_held64(p361, 16, m, v0, v12 ? 0ull : get64(f14 + 24));
+    put_held64(p361, 8, m, v0, v12 ? get64(f14 + 280) : (u64)get8(f14 + 16));
     goto after1;
-after2:;
-    UNREACHABLE;
 after1:;
     m->g0 = v14 + 288ull;
 }
@@ -1309,15 +1393,32 @@ static void atr_core_decoding_by_octets(struct call *m, u64 v0, u64 v1, u64 v2)
     u32 v28 = 0;
     u32 t0 = 0;
     u8 *f31 = NULL;
+    u8 *p288 = NULL;
+    u8 *p335 = NULL;
+    u8 *p473 = NULL;
+    u8 *p474 = NULL;
+    u8 *p523 = NULL;
+    u8 *p536 = NULL;
+    u8 *p562 = NULL;
+    u8 *p632 = NULL;
+    u8 *p633 = NULL;
+    u8 *p641 = NULL;
+    u8 *p654 = NULL;
+    u8 *p712 = NULL;
+    u8 *p738 = NULL;
+    u8 *p772 = NULL;
+    u8 *p797 = NULL;
+    u8 *p805 = NULL;
+    u8 *p964 = NULL;
+    u8 *p1049 = NULL;
     v31 = m->g0 - 1536ull;
     f31 = at(m, v31, 1536);
     v3 = v31;
     m->g0 = v3;
-    if ((v31 ^ 0x8000000000000000ull) < (16ull ^ 0x8000000000000000ull)) { goto after2; }
     v4 = 0u;
-    fill(m, v31 + 545ull, 0u, 247ull);
-    fill(m, v31 + 256ull, 0u, 288ull);
-    fill(m, v31 + 9ull, 0u, 247ull);
+    memset(f31 + 545, (int)(0u & 255u), 247);
+    memset(f31 + 256, (int)(0u & 255u), 288);
+    memset(f31 + 9, (int)(0u & 255u), 247);
     if (v2) { goto after4; }
     v5 = 0ull;
     v6 = 1ull;
@@ -1390,7 +1491,7 @@ after16:;
     v27 = 0u;
     put16(f31 + 1524, 0u);
     put32(f31 + 1520, 0u);
-    fill(m, v31 + 1304ull, 0u, 216ull);
+    memset(f31 + 1304, (int)(0u & 255u), 216);
     put64(f31 + 1296, 0ull);
     put64(f31 + 1288, 0ull);
     v6 = (v6 << 40) | ((u64)v15);
@@ -1402,7 +1503,7 @@ after21:;
     v16 = 0u;
     put16(f31 + 1524, 0u);
     put32(f31 + 1520, 0u);
-    fill(m, v31 + 1304ull, 0u, 216ull);
+    memset(f31 + 1304, (int)(0u & 255u), 216);
     v30 = 0ull;
     put64(f31 + 1296, 0ull);
     put64(f31 + 1288, 0ull);
@@ -1411,9 +1512,10 @@ after21:;
     v27 = v28 ? v4 : 0u;
     v6 = v29;
 after20:;
-    store32(m, v10, 0, get32(f31 + 1520));
-    store16(m, v10, 4, get16(f31 + 1524));
-    store16(m, v31 + 269ull, 0, (u32)0ull);
+    p288 = held(m, v10, 6);
+    put_held32(p288, 0, m, v10, get32(f31 + 1520));
+    put_held16(p288, 4, m, v10, get16(f31 + 1524));
+    put16(f31 + 269, (u32)0ull);
     put32(f31 + 265, (u32)0ull);
     put64(f31 + 272, v30);
     v17 = 0u;
@@ -1423,9 +1525,10 @@ after20:;
     put8(f31 + 256, v15);
     put16(f31 + 286, 0u);
     copy(m, v11, v31 + 1304ull, 216ull);
-    store16(m, v31 + 542ull, 0, (u32)0ull);
-    store64(m, v14, 8, get64(f31 + 1296));
-    store64(m, v14, 0, get64(f31 + 1288));
+    put16(f31 + 542, (u32)0ull);
+    p335 = held(m, v14, 16);
+    put_held64(p335, 8, m, v14, get64(f31 + 1296));
+    put_held64(p335, 0, m, v14, get64(f31 + 1288));
     put32(f31 + 538, (u32)0ull);
     put8(f31 + 537, v27);
     put8(f31 + 536, v16);
@@ -1458,8 +1561,10 @@ after30:;
 after32:;
     v16 = v22 & 1u;
     if (v21 & 255u) { goto after27; }
-    store16(m, v10, 4, load16(m, v13, 4));
-    store32(m, v10, 0, load32(m, v13, 0));
+    p473 = held(m, v13, 6);
+    p474 = held(m, v10, 6);
+    put_held16(p474, 4, m, v10, held16(p473, 4, m, v13));
+    put_held32(p474, 0, m, v10, held32(p473, 0, m, v13));
     goto after26;
 after29:;
     v26 = v26 & 0x1000000u;
@@ -1478,21 +1583,24 @@ after28:;
     v19 = v27;
     goto after25;
 after27:;
-    v15 = load32(m, v13, 0);
+    p523 = held(m, v13, 6);
+    v15 = held32(p523, 0, m, v13);
     v30 = get64(f31 + 512);
     v29 = v11 + (v30 * 7ull);
-    v28 = load16(m, v13, 4);
-    store16(m, v29, 5, v28);
-    store32(m, v29, 1, v15);
-    store8(m, v29, 0, v20);
+    v28 = held16(p523, 4, m, v13);
+    p536 = held(m, v29, 7);
+    put_held16(p536, 5, m, v29, v28);
+    put_held32(p536, 1, m, v29, v15);
+    put_held8(p536, 0, m, v29, v20);
     put16(f31 + 1532, v28);
     put32(f31 + 1528, v15);
     put64(f31 + 512, v30 + 1ull);
     v19 = get8(f31 + 533);
 after26:;
     v25 = 0u;
-    store32(m, v13, 0, 0u);
-    store16(m, v13, 4, 0u);
+    p562 = held(m, v13, 6);
+    put_held32(p562, 0, m, v13, 0u);
+    put_held16(p562, 4, m, v13, 0u);
     put8(f31 + 521, v17);
     v21 = 1u;
     put8(f31 + 520, 1u);
@@ -1513,17 +1621,21 @@ after25:;
     goto after12;
 after24:;
     if (v18 & 255u) { goto after23; }
-    store16(m, v10, 4, load16(m, v13, 4));
-    store32(m, v10, 0, load32(m, v13, 0));
+    p632 = held(m, v13, 6);
+    p633 = held(m, v10, 6);
+    put_held16(p633, 4, m, v10, held16(p632, 4, m, v13));
+    put_held32(p633, 0, m, v10, held32(p632, 0, m, v13));
     goto after22;
 after23:;
-    v4 = load32(m, v13, 0);
+    p641 = held(m, v13, 6);
+    v4 = held32(p641, 0, m, v13);
     v29 = get64(f31 + 512);
     v6 = v11 + (v29 * 7ull);
-    v26 = load16(m, v13, 4);
-    store16(m, v6, 5, v26);
-    store32(m, v6, 1, v4);
-    store8(m, v6, 0, v17);
+    v26 = held16(p641, 4, m, v13);
+    p654 = held(m, v6, 7);
+    put_held16(p654, 5, m, v6, v26);
+    put_held32(p654, 1, m, v6, v4);
+    put_held8(p654, 0, m, v6, v17);
     put16(f31 + 1532, v26);
     put32(f31 + 1528, v4);
     put64(f31 + 512, v29 + 1ull);
@@ -1538,16 +1650,18 @@ after22:;
 after35:;
     put16(f31 + 1028, 0u);
     put32(f31 + 1024, 0u);
-    put32(f31 + 1280, load32(m, v10, 0));
-    put16(f31 + 1284, load16(m, v10, 4));
+    p712 = held(m, v10, 6);
+    put32(f31 + 1280, held32(p712, 0, m, v10));
+    put16(f31 + 1284, held16(p712, 4, m, v10));
     copy(m, v31 + 1048ull, v31 + 792ull, 232ull);
     put64(f31 + 1040, 0ull);
     put64(f31 + 1032, 0ull);
     v15 = 3u;
     goto after33;
 after34:;
-    put16(f31 + 1284, load16(m, v10, 4));
-    put32(f31 + 1280, load32(m, v10, 0));
+    p738 = held(m, v10, 6);
+    put16(f31 + 1284, held16(p738, 4, m, v10));
+    put32(f31 + 1280, held32(p738, 0, m, v10));
     copy(m, v31 + 1048ull, v31 + 792ull, 232ull);
     put64(f31 + 1040, 0ull);
     put64(f31 + 1032, 0ull);
@@ -1556,17 +1670,20 @@ after34:;
     put16(f31 + 1028, 0u);
     v15 = 4u;
 after33:;
-    store32(m, v9, 0, get32(f31 + 1280));
-    store16(m, v9, 4, get16(f31 + 1284));
+    p772 = held(m, v9, 6);
+    put_held32(p772, 0, m, v9, get32(f31 + 1280));
+    put_held16(p772, 4, m, v9, get16(f31 + 1284));
     v17 = 0u;
     put8(f31 + 257, 0u);
     put8(f31 + 256, v15);
     put8(f31 + 271, 0u);
     copy(m, v12, v31 + 1048ull, 232ull);
-    store64(m, v14, 8, get64(f31 + 1040));
-    store64(m, v14, 0, get64(f31 + 1032));
-    store32(m, v8, 0, get32(f31 + 1024));
-    store16(m, v8, 4, get16(f31 + 1028));
+    p797 = held(m, v14, 16);
+    put_held64(p797, 8, m, v14, get64(f31 + 1040));
+    put_held64(p797, 0, m, v14, get64(f31 + 1032));
+    p805 = held(m, v8, 6);
+    put_held32(p805, 0, m, v8, get32(f31 + 1024));
+    put_held16(p805, 4, m, v8, get16(f31 + 1028));
     put8(f31 + 537, v27);
     put8(f31 + 536, v16);
     put64(f31 + 520, 0ull);
@@ -1618,12 +1735,13 @@ after11:;
     v1 = v5 + 1ull;
     goto after6;
 after10:;
-    store8(m, v0 + 24ull, 0, v16);
-    store64(m, v0 + 16ull, 0, v5);
-    store64(m, v0 + 8ull, 0, 1ull);
-    store64(m, v0, 0, 1ull);
+    p964 = held(m, v0, 280);
+    put_held8(p964, 24, m, v0, v16);
+    put_held64(p964, 16, m, v0, v5);
+    put_held64(p964, 8, m, v0, 1ull);
+    put_held64(p964, 0, m, v0, 1ull);
     copy(m, v0 + 25ull, v31 + 545ull, 247ull);
-    store64(m, v0 + 272ull, 0, 0ull);
+    put_held64(p964, 272, m, v0, 0ull);
     goto after1;
 after9:;
     v20 = v17;
@@ -1647,15 +1765,14 @@ after5:;
     v1 = 0ull;
     v5 = 0ull;
 after3:;
-    store64(m, v0, 0, v6);
-    store8(m, v0 + 24ull, 0, v4);
-    store64(m, v0 + 16ull, 0, v2);
-    store64(m, v0 + 8ull, 0, v5);
+    p1049 = held(m, v0, 280);
+    put_held64(p1049, 0, m, v0, v6);
+    put_held8(p1049, 24, m, v0, v4);
+    put_held64(p1049, 16, m, v0, v2);
+    put_held64(p1049, 8, m, v0, v5);
     copy(m, v0 + 25ull, v31 + 9ull, 247ull);
-    store64(m, v0 + 272ull, 0, v1);
+    put_held64(p1049, 272, m, v0, v1);
     goto after1;
-after2:;
-    UNREACHABLE;
 after1:;
     m->g0 = v31 + 1536ull;
 }
@@ -1687,6 +1804,17 @@ static void c_lent_atr_atr_decode(struct call *m, u64 v0, u64 v1, u64 v2, u64 v3
     u32 t0 = 0;
     u32 t4 = 0;
     u8 *f25 = NULL;
+    u8 *p341 = NULL;
+    u8 *p479 = NULL;
+    u8 *p480 = NULL;
+    u8 *p663 = NULL;
+    u8 *p760 = NULL;
+    u8 *p777 = NULL;
+    u8 *p912 = NULL;
+    u8 *p913 = NULL;
+    u8 *p1166 = NULL;
+    u8 *p1274 = NULL;
+    u8 *p1368 = NULL;
     u64 n34;
     const u8 *q34;
     u64 n35;
@@ -1699,16 +1827,15 @@ static void c_lent_atr_atr_decode(struct call *m, u64 v0, u64 v1, u64 v2, u64 v3
     f25 = at(m, v25, 1552);
     v4 = v25;
     m->g0 = v4;
-    if ((v25 ^ 0x8000000000000000ull) < (16ull ^ 0x8000000000000000ull)) { goto after1; }
-    fill(m, v25 + 496ull, 0u, 264ull);
+    memset(f25 + 496, (int)(0u & 255u), 264);
     put32(f25 + 491, 0u);
     put32(f25 + 488, 0u);
-    fill(m, v25 + 241ull, 0u, 247ull);
-    fill(m, v25 + 24ull, 0u, 217ull);
+    memset(f25 + 241, (int)(0u & 255u), 247);
+    memset(f25 + 24, (int)(0u & 255u), 217);
     put64(f25 + 15, 0ull);
     put64(f25 + 8, 0ull);
-    fill(m, v25 + 760ull, 0u, 280ull);
-    fill(m, v25 + 1040ull, 0u, 264ull);
+    memset(f25 + 760, (int)(0u & 255u), 280);
+    memset(f25 + 1040, (int)(0u & 255u), 264);
     if (v2 == 0) { goto after5; }
     v5 = v2 + 0xFFFFFFFFFFFFFFFFull;
     if (v5 == 0) { goto after5; }
@@ -1815,13 +1942,14 @@ after21:;
 after20:;
     if (v15 == 0) { goto after5; }
     v10 = (v25 + 1040ull) + v15;
-    store8(m, v10 + 231ull, 0, v16);
-    store8(m, v10 + 230ull, 0, v9);
-    store8(m, v10 + 229ull, 0, v14);
-    store8(m, v10 + 228ull, 0, v6);
-    store8(m, v10 + 227ull, 0, v11);
-    store8(m, v10 + 226ull, 0, v12);
-    store8(m, v10 + 225ull, 0, v7 & 15u);
+    p341 = held(m, v10 + 225ull, 7);
+    put_held8(p341, 6, m, v10 + 225ull, v16);
+    put_held8(p341, 5, m, v10 + 225ull, v9);
+    put_held8(p341, 4, m, v10 + 225ull, v14);
+    put_held8(p341, 3, m, v10 + 225ull, v6);
+    put_held8(p341, 2, m, v10 + 225ull, v11);
+    put_held8(p341, 1, m, v10 + 225ull, v12);
+    put_held8(p341, 0, m, v10 + 225ull, v7 & 15u);
     v18 = v18 + 1ull;
     put64(f25 + 1272, v18);
     v15 = v15 + 7ull;
@@ -1850,10 +1978,12 @@ after23:;
 again27:;
     v10 = v24 + v15;
     v18 = v17 + v15;
-    store8(m, v10 + 240ull, 0, load8(m, v18, 0));
-    store8(m, v10 + 241ull, 0, load8(m, v18 + 1ull, 0));
-    store8(m, v10 + 242ull, 0, load8(m, v18 + 2ull, 0));
-    store8(m, v10 + 243ull, 0, load8(m, v18 + 3ull, 0));
+    p479 = held(m, v18, 4);
+    p480 = held(m, v10 + 240ull, 4);
+    put_held8(p480, 0, m, v10 + 240ull, held8(p479, 0, m, v18));
+    put_held8(p480, 1, m, v10 + 240ull, held8(p479, 1, m, v18));
+    put_held8(p480, 2, m, v10 + 240ull, held8(p479, 2, m, v18));
+    put_held8(p480, 3, m, v10 + 240ull, held8(p479, 3, m, v18));
     v15 = v15 + 4ull;
     if (v23 != v15) { goto again27; }
     if (v19 == 0) { goto after24; }
@@ -1908,10 +2038,11 @@ after32:;
         v8 = v8 - 8ull + 0xFFFFFFFFFFFFFFF8ull * n34;
     } else {
 again34:;
-        t4 = load8(m, v15 + 3ull, 0) ^ (load8(m, v15 + 2ull, 0) ^ (load8(m, v15 + 1ull, 0) ^ (load8(m, v15, 0) ^
+        p663 = held(m, v15, 8);
+        t4 = held8(p663, 3, m, v15) ^ (held8(p663, 2, m, v15) ^ (held8(p663, 1, m, v15) ^ (held8(p663, 0, m, v15) ^
             v7)));
-        t0 = load8(m, v15 + 7ull, 0) ^ (load8(m, v15 + 6ull, 0) ^ (load8(m, v15 + 5ull, 0) ^ (load8(m, v15 + 4ull, 0)
-            ^ t4)));
+        t0 = held8(p663, 7, m, v15) ^ (held8(p663, 6, m, v15) ^ (held8(p663, 5, m, v15) ^ (held8(p663, 4, m, v15) ^
+            t4)));
         v7 = t0;
         v15 = v15 + 8ull;
         v8 = v8 + 0xFFFFFFFFFFFFFFF8ull;
@@ -1939,13 +2070,15 @@ after29:;
     v17 = v2 - v19;
     if (v17 > 33ull) { goto after5; }
     put8(f25 + 775, 0u);
-    put32(f25 + 769, load32(m, v23, 0));
-    put16(f25 + 773, load16(m, v23, 4));
+    p760 = held(m, v23, 6);
+    put32(f25 + 769, held32(p760, 0, m, v23));
+    put16(f25 + 773, held16(p760, 4, m, v23));
     v12 = get8(f25 + 1040);
     copy(m, v25 + 776ull, v18, 232ull);
-    put64(f25 + 1024, load64(m, v21, 16));
-    put64(f25 + 1016, load64(m, v21, 8));
-    put64(f25 + 1008, load64(m, v21, 0));
+    p777 = held(m, v21, 24);
+    put64(f25 + 1024, held64(p777, 16, m, v21));
+    put64(f25 + 1016, held64(p777, 8, m, v21));
+    put64(f25 + 1008, held64(p777, 0, m, v21));
     put32(f25 + 488, get32(f25 + 769));
     put32(f25 + 491, get32(f25 + 772));
     v1 = get64(f25 + 776);
@@ -1973,29 +2106,31 @@ after4:;
     put64(f25 + 504, v1);
     copy(m, v25 + 513ull, v25 + 241ull, 247ull);
     v15 = get64(f25 + 728);
-    fill(m, v25 + 1320ull, 0u, 232ull);
+    memset(f25 + 1320, (int)(0u & 255u), 232);
     if (v15 == 0) { goto after36; }
     v10 = 0ull;
     v8 = 0ull;
 again37:;
     v2 = (v25 + 1320ull) + v10;
     v1 = (v25 + 496ull) + v10;
-    store8(m, v2, 0, load8(m, v1 + 8ull, 0));
-    v7 = (u32)(load8(m, v1 + 13ull, 0) == 1u);
-    store8(m, v2 + 5ull, 0, v7);
-    v6 = (u32)(load8(m, v1 + 11ull, 0) == 1u);
-    store8(m, v2 + 3ull, 0, v6);
-    v9 = (u32)(load8(m, v1 + 9ull, 0) == 1u);
-    store8(m, v2 + 1ull, 0, v9);
-    store8(m, v2 + 6ull, 0, v7 ? load8(m, v1 + 14ull, 0) : 0u);
-    store8(m, v2 + 4ull, 0, v6 ? load8(m, v1 + 12ull, 0) : 0u);
-    store8(m, v2 + 2ull, 0, v9 ? load8(m, v1 + 10ull, 0) : 0u);
+    p912 = held(m, v1 + 8ull, 7);
+    p913 = held(m, v2, 7);
+    put_held8(p913, 0, m, v2, held8(p912, 0, m, v1 + 8ull));
+    v7 = (u32)(held8(p912, 5, m, v1 + 8ull) == 1u);
+    put_held8(p913, 5, m, v2, v7);
+    v6 = (u32)(held8(p912, 3, m, v1 + 8ull) == 1u);
+    put_held8(p913, 3, m, v2, v6);
+    v9 = (u32)(held8(p912, 1, m, v1 + 8ull) == 1u);
+    put_held8(p913, 1, m, v2, v9);
+    put_held8(p913, 6, m, v2, v7 ? held8(p912, 6, m, v1 + 8ull) : 0u);
+    put_held8(p913, 4, m, v2, v6 ? held8(p912, 4, m, v1 + 8ull) : 0u);
+    put_held8(p913, 2, m, v2, v9 ? held8(p912, 2, m, v1 + 8ull) : 0u);
     v8 = v8 + 1ull;
     put64(f25 + 1544, v8);
     v10 = v10 + 7ull;
     if (v15 != v8) { goto again37; }
 after36:;
-    fill(m, v25 + 760ull, 0u, 217ull);
+    memset(f25 + 760, (int)(0u & 255u), 217);
     v18 = get64(f25 + 1544);
     v2 = v18 * 7ull;
     if (((v25 + 760ull) - (v25 + 1320ull)) >= v2) { goto after39; }
@@ -2053,8 +2188,10 @@ after46:;
         v8 = v8 - 8ull + 0xFFFFFFFFFFFFFFF8ull * n47;
     } else {
 again47:;
-        t4 = load8(m, v2 + 3ull, 0) ^ (load8(m, v2 + 2ull, 0) ^ (load8(m, v2 + 1ull, 0) ^ (load8(m, v2, 0) ^ v7)));
-        t0 = load8(m, v2 + 7ull, 0) ^ (load8(m, v2 + 6ull, 0) ^ (load8(m, v2 + 5ull, 0) ^ (load8(m, v2 + 4ull, 0) ^
+        p1166 = held(m, v2, 8);
+        t4 = held8(p1166, 3, m, v2) ^ (held8(p1166, 2, m, v2) ^ (held8(p1166, 1, m, v2) ^ (held8(p1166, 0, m, v2) ^
+            v7)));
+        t0 = held8(p1166, 7, m, v2) ^ (held8(p1166, 6, m, v2) ^ (held8(p1166, 5, m, v2) ^ (held8(p1166, 4, m, v2) ^
             t4)));
         v7 = t0;
         v2 = v2 + 8ull;
@@ -2086,32 +2223,34 @@ after41:;
     copy(m, v25 + 24ull, v25 + 760ull, 217ull);
     put64(f25 + 15, get64(f25 + 1311));
     put64(f25 + 8, get64(f25 + 1304));
-    store8(m, v3, 7, (u32)v18);
+    p1274 = held(m, v3, 243);
+    put_held8(p1274, 7, m, v3, (u32)v18);
     v13 = (u32)(v13 == 1u);
-    store8(m, v3, 6, v13 ? v16 : 0u);
-    store8(m, v3, 5, v13);
+    put_held8(p1274, 6, m, v3, v13 ? v16 : 0u);
+    put_held8(p1274, 5, m, v3, v13);
     v14 = (u32)(v14 == 1u);
-    store8(m, v3, 4, v14 ? v11 : 0u);
-    store8(m, v3, 3, v14);
+    put_held8(p1274, 4, m, v3, v14 ? v11 : 0u);
+    put_held8(p1274, 3, m, v3, v14);
     v9 = (u32)(v9 == 1u);
-    store8(m, v3, 2, v9 ? v6 : 0u);
-    store8(m, v3, 1, v9);
-    store8(m, v3, 0, v12);
+    put_held8(p1274, 2, m, v3, v9 ? v6 : 0u);
+    put_held8(p1274, 1, m, v3, v9);
+    put_held8(p1274, 0, m, v3, v12);
     copy(m, v3 + 8ull, v25 + 24ull, 217ull);
-    store8(m, v3, 225, (u32)v19);
-    store8(m, v3, 242, v7);
+    put_held8(p1274, 225, m, v3, (u32)v19);
+    put_held8(p1274, 242, m, v3, v7);
     v2 = 0ull;
-    store8(m, v3, 241, (u32)(v1 != 0ull));
-    store64(m, v3, 226, get64(f25 + 8));
-    store64(m, v3, 233, get64(f25 + 15));
+    put_held8(p1274, 241, m, v3, (u32)(v1 != 0ull));
+    put_held64(p1274, 226, m, v3, get64(f25 + 8));
+    put_held64(p1274, 233, m, v3, get64(f25 + 15));
     goto after2;
 after3:;
     t0 = v7 + 1u;
     v7 = v12 & 255u;
     v2 = ((((u64)(v7 ? t0 : 0u)) & 255ull) << 8) | (v7 ? 2ull : 1ull);
 after2:;
-    store64(m, v0, 8, v17);
-    store64(m, v0, 0, v2);
+    p1368 = held(m, v0, 16);
+    put_held64(p1368, 8, m, v0, v17);
+    put_held64(p1368, 0, m, v0, v2);
     m->g0 = v25 + 1552ull;
     return;
 after1:;
@@ -2133,6 +2272,10 @@ static void atr_core_encoding_checked_octets(struct call *m, u64 v0, u64 v1)
     u32 v8 = 0;
     u32 t1 = 0;
     u8 *f12 = NULL;
+    u8 *p30 = NULL;
+    u8 *p162 = NULL;
+    u8 *p180 = NULL;
+    u8 *p324 = NULL;
     v12 = m->g0 - 48ull;
     f12 = at(m, v12, 48);
     v2 = v12;
@@ -2142,12 +2285,13 @@ static void atr_core_encoding_checked_octets(struct call *m, u64 v0, u64 v1)
     put64(f12 + 24, 0ull);
     put64(f12 + 32, 0ull);
     put64(f12 + 40, 0ull);
-    v3 = load8(m, v1 + 1ull, 0);
-    v4 = load64(m, v1 + 256ull, 0);
-    v5 = load8(m, v1 + 3ull, 0);
-    v6 = load8(m, v1 + 5ull, 0);
+    p30 = held(m, v1 + 1ull, 263);
+    v3 = held8(p30, 0, m, v1 + 1ull);
+    v4 = held64(p30, 255, m, v1 + 1ull);
+    v5 = held8(p30, 2, m, v1 + 1ull);
+    v6 = held8(p30, 4, m, v1 + 1ull);
     t1 = ((((v3 == 1u) ? 16u : 0u) + ((u32)v4)) + ((v5 == 1u) ? 32u : 0u)) + ((v6 == 1u) ? 64u : 0u);
-    v7 = load64(m, v1 + 232ull, 0);
+    v7 = held64(p30, 231, m, v1 + 1ull);
     v8 = (u32)(v7 == 0);
     put8(f12 + 8, t1 + (v8 ? 0u : 0xFFFFFF80u));
     if (v3 == 1u) { goto after3; }
@@ -2155,24 +2299,27 @@ static void atr_core_encoding_checked_octets(struct call *m, u64 v0, u64 v1)
     goto after2;
 after3:;
     v9 = 2ull;
-    store8(m, (v12 + 8ull) | 1ull, 0, load8(m, v1 + 2ull, 0));
+    store8(m, (v12 + 8ull) | 1ull, 0, held8(p30, 1, m, v1 + 1ull));
 after2:;
     if (v5 != 1u) { goto after4; }
-    store8(m, (v12 + 8ull) | v9, 0, load8(m, v1 + 4ull, 0));
+    store8(m, (v12 + 8ull) | v9, 0, held8(p30, 3, m, v1 + 1ull));
     v9 = v9 + 1ull;
 after4:;
     if (v6 != 1u) { goto after5; }
-    store8(m, (v12 + 8ull) | v9, 0, load8(m, v1 + 6ull, 0));
+    store8(m, (v12 + 8ull) | v9, 0, held8(p30, 5, m, v1 + 1ull));
     v9 = v9 + 1ull;
 after5:;
     if (v8) { goto after6; }
     v10 = v1 + 10ull;
 again7:;
     v11 = v10 + 0xFFFFFFFFFFFFFFFEull;
-    v3 = load8(m, v11 + 1ull, 0);
-    v5 = load8(m, v10 + 1ull, 0);
-    t1 = ((((v7 == 1ull) ? 0u : 0xFFFFFF80u) + load8(m, v11, 0)) + ((v3 == 1u) ? 16u : 0u)) + ((v5 == 1u) ? 32u : 0u);
-    v6 = load8(m, v10 + 3ull, 0);
+    p162 = held(m, v11, 2);
+    v3 = held8(p162, 1, m, v11);
+    p180 = held(m, v10 + 1ull, 3);
+    v5 = held8(p180, 0, m, v10 + 1ull);
+    t1 = ((((v7 == 1ull) ? 0u : 0xFFFFFF80u) + held8(p162, 0, m, v11)) + ((v3 == 1u) ? 16u : 0u)) + ((v5 == 1u) ? 32u
+        : 0u);
+    v6 = held8(p180, 2, m, v10 + 1ull);
     store8(m, (v12 + 8ull) + v9, 0, t1 + ((v6 == 1u) ? 64u : 0u));
     v11 = v9 + 1ull;
     if (v3 != 1u) { goto after8; }
@@ -2180,7 +2327,7 @@ again7:;
     v11 = v9 + 2ull;
 after8:;
     if (v5 != 1u) { goto after9; }
-    store8(m, (v12 + 8ull) + v11, 0, load8(m, v10 + 2ull, 0));
+    store8(m, (v12 + 8ull) + v11, 0, held8(p180, 1, m, v10 + 1ull));
     v11 = v11 + 1ull;
     put64(f12 + 40, v11);
 after9:;
@@ -2205,12 +2352,13 @@ after13:;
     if (v4 == 0) { goto after12; }
     copy(m, (v12 + 8ull) + v9, v10, v4);
 after12:;
-    store64(m, v0, 0, get64(f12 + 8));
-    store64(m, v0, 8, get64(f12 + 16));
-    store64(m, v0, 16, get64(f12 + 24));
-    store64(m, v0, 24, get64(f12 + 32));
+    p324 = held(m, v0, 40);
+    put_held64(p324, 0, m, v0, get64(f12 + 8));
+    put_held64(p324, 8, m, v0, get64(f12 + 16));
+    put_held64(p324, 16, m, v0, get64(f12 + 24));
+    put_held64(p324, 24, m, v0, get64(f12 + 32));
     v10 = v9 + v4;
-    store64(m, v0, 32, v10);
+    put_held64(p324, 32, m, v0, v10);
     put64(f12 + 40, v10);
     return;
 after1:;
@@ -2241,43 +2389,51 @@ static void c_lent_atr_made(struct call *m, u64 v0, u64 v1)
     u64 w0 = 0;
     u64 w1 = 0;
     u8 *f3 = NULL;
+    u8 *p45 = NULL;
+    u8 *p112 = NULL;
+    u8 *p113 = NULL;
+    u8 *p284 = NULL;
+    u8 *p354 = NULL;
+    u8 *p556 = NULL;
     v20 = m->g0 - 736ull;
     v2 = v20;
     m->g0 = v2;
     v3 = v20;
     f3 = at(m, v3, 736);
-    if ((v3 ^ 0x8000000000000000ull) < (16ull ^ 0x8000000000000000ull)) { goto after2; }
     v4 = load8(m, v1 + 7ull, 0);
     if (v4 > 31u) { goto after7; }
     v5 = load8(m, v1 + 225ull, 0);
     v6 = (u32)(v5 < 16u);
     if (v6 == 0) { goto after3; }
     v7 = (u64)(v6 ? v5 : 0u);
-    v8 = load8(m, v1 + 2ull, 0);
+    p45 = held(m, v1, 7);
+    v8 = held8(p45, 2, m, v1);
     v9 = 1ull;
-    v10 = load8(m, v1 + 1ull, 0);
-    v11 = load8(m, v1 + 4ull, 0);
-    v5 = load8(m, v1 + 3ull, 0);
-    v12 = load8(m, v1 + 6ull, 0);
-    v6 = load8(m, v1 + 5ull, 0);
-    v13 = load8(m, v1, 0);
-    fill(m, v3 + 504ull, 0u, 232ull);
+    v10 = held8(p45, 1, m, v1);
+    v11 = held8(p45, 4, m, v1);
+    v5 = held8(p45, 3, m, v1);
+    v12 = held8(p45, 6, m, v1);
+    v6 = held8(p45, 5, m, v1);
+    v13 = held8(p45, 0, m, v1);
+    memset(f3 + 504, (int)(0u & 255u), 232);
     if (v4 == 0) { goto after8; }
     v14 = ((u64)((v4 < 32u) ? v4 : 0u)) * 7ull;
     v15 = 0ull;
 again9:;
     v2 = (v3 + 504ull) + v15;
     v16 = v1 + v15;
-    store8(m, v2, 0, load8(m, v16 + 8ull, 0));
-    v4 = load8(m, v16 + 13ull, 0);
-    store8(m, v2 + 6ull, 0, v4 ? load8(m, v16 + 14ull, 0) : 0u);
-    store8(m, v2 + 5ull, 0, (u32)(v4 != 0u));
-    v4 = load8(m, v16 + 11ull, 0);
-    store8(m, v2 + 4ull, 0, v4 ? load8(m, v16 + 12ull, 0) : 0u);
-    store8(m, v2 + 3ull, 0, (u32)(v4 != 0u));
-    v4 = load8(m, v16 + 9ull, 0);
-    store8(m, v2 + 2ull, 0, v4 ? load8(m, v16 + 10ull, 0) : 0u);
-    store8(m, v2 + 1ull, 0, (u32)(v4 != 0u));
+    p112 = held(m, v16 + 8ull, 7);
+    p113 = held(m, v2, 7);
+    put_held8(p113, 0, m, v2, held8(p112, 0, m, v16 + 8ull));
+    v4 = held8(p112, 5, m, v16 + 8ull);
+    put_held8(p113, 6, m, v2, v4 ? held8(p112, 6, m, v16 + 8ull) : 0u);
+    put_held8(p113, 5, m, v2, (u32)(v4 != 0u));
+    v4 = held8(p112, 3, m, v16 + 8ull);
+    put_held8(p113, 4, m, v2, v4 ? held8(p112, 4, m, v16 + 8ull) : 0u);
+    put_held8(p113, 3, m, v2, (u32)(v4 != 0u));
+    v4 = held8(p112, 1, m, v16 + 8ull);
+    put_held8(p113, 2, m, v2, v4 ? held8(p112, 2, m, v16 + 8ull) : 0u);
+    put_held8(p113, 1, m, v2, (u32)(v4 != 0u));
     put64(f3 + 728, v9);
     v9 = v9 + 1ull;
     v15 = v15 + 7ull;
@@ -2308,17 +2464,23 @@ after6:;
     v2 = v3 + 504ull;
     v9 = 0ull;
 again11:;
-    w1 = (((load8(m, v2 + 1ull, 0) == 1u) ? 2ull : 1ull) + v9) + ((u64)((u32)(load8(m, v2 + 3ull, 0) == 1u)));
-    w0 = ((load8(m, v2 + 8ull, 0) == 1u) ? 2ull : 1ull) + (w1 + ((u64)((u32)(load8(m, v2 + 5ull, 0) == 1u))));
-    w0 = (w0 + ((u64)((u32)(load8(m, v2 + 10ull, 0) == 1u)))) + ((u64)((u32)(load8(m, v2 + 12ull, 0) == 1u)));
+    p284 = held(m, v2 + 1ull, 12);
+    w1 = (((held8(p284, 0, m, v2 + 1ull) == 1u) ? 2ull : 1ull) + v9) + ((u64)((u32)(held8(p284, 2, m, v2 + 1ull) ==
+        1u)));
+    w0 = ((held8(p284, 7, m, v2 + 1ull) == 1u) ? 2ull : 1ull) + (w1 + ((u64)((u32)(held8(p284, 4, m, v2 + 1ull) ==
+        1u))));
+    w0 = (w0 + ((u64)((u32)(held8(p284, 9, m, v2 + 1ull) == 1u)))) + ((u64)((u32)(held8(p284, 11, m, v2 + 1ull) ==
+        1u)));
     v9 = w0;
     v2 = v2 + 14ull;
     v16 = v16 + 0xFFFFFFFFFFFFFFFEull;
     if (v16 != 0ull) { goto again11; }
     if (v1 == 0) { goto after4; }
 after5:;
-    w0 = (((load8(m, v2 + 1ull, 0) == 1u) ? 2ull : 1ull) + v9) + ((u64)((u32)(load8(m, v2 + 3ull, 0) == 1u)));
-    v9 = w0 + ((u64)((u32)(load8(m, v2 + 5ull, 0) == 1u)));
+    p354 = held(m, v2 + 1ull, 5);
+    w0 = (((held8(p354, 0, m, v2 + 1ull) == 1u) ? 2ull : 1ull) + v9) + ((u64)((u32)(held8(p354, 2, m, v2 + 1ull) ==
+        1u)));
+    v9 = w0 + ((u64)((u32)(held8(p354, 4, m, v2 + 1ull) == 1u)));
 after4:;
     v12 = v6 ? v12 : 0u;
     v11 = v5 ? v11 : 0u;
@@ -2352,7 +2514,7 @@ after17:;
     if (((((((v10 ? 3ull : 2ull) + v7) + v14) + v1) + v9) + v16) < 34ull) { goto after15; }
 after16:;
     v13 = 0u;
-    fill(m, v3 + 272ull, 0u, 232ull);
+    memset(f3 + 272, (int)(0u & 255u), 232);
     v2 = 0ull;
     put64(f3 + 264, 0ull);
     put64(f3 + 256, 0ull);
@@ -2370,25 +2532,24 @@ after15:;
     put64(f3 + 256, get64(f3 + 8));
     v2 = 1ull;
 after14:;
-    store64(m, v0, 0, v2);
-    store8(m, v0 + 15ull, 0, 0u);
-    store8(m, v0 + 14ull, 0, v12);
-    store8(m, v0 + 13ull, 0, v17);
-    store8(m, v0 + 12ull, 0, v11);
-    store8(m, v0 + 11ull, 0, v18);
-    store8(m, v0 + 10ull, 0, v8);
-    store8(m, v0 + 9ull, 0, v19);
-    store8(m, v0 + 8ull, 0, v13);
+    p556 = held(m, v0, 272);
+    put_held64(p556, 0, m, v0, v2);
+    put_held8(p556, 15, m, v0, 0u);
+    put_held8(p556, 14, m, v0, v12);
+    put_held8(p556, 13, m, v0, v17);
+    put_held8(p556, 12, m, v0, v11);
+    put_held8(p556, 11, m, v0, v18);
+    put_held8(p556, 10, m, v0, v8);
+    put_held8(p556, 9, m, v0, v19);
+    put_held8(p556, 8, m, v0, v13);
     copy(m, v0 + 16ull, v3 + 272ull, 232ull);
-    store64(m, v0 + 264ull, 0, v7);
-    store64(m, v0 + 256ull, 0, get64(f3 + 264));
-    store64(m, v0 + 248ull, 0, get64(f3 + 256));
+    put_held64(p556, 264, m, v0, v7);
+    put_held64(p556, 256, m, v0, get64(f3 + 264));
+    put_held64(p556, 248, m, v0, get64(f3 + 256));
     goto after1;
 after3:;
     fill(m, v0, 0u, 272ull);
     goto after1;
-after2:;
-    UNREACHABLE;
 after1:;
     m->g0 = v3 + 736ull;
 }
@@ -2407,14 +2568,16 @@ static void c_lent_block_block_decode(struct call *m, u64 v0, u64 v1, u64 v2, u3
     u32 v11 = 0;
     u32 t0 = 0;
     u8 *f14 = NULL;
+    u8 *p26 = NULL;
+    u8 *p286 = NULL;
     v14 = m->g0 - 32ull;
     f14 = at(m, v14, 32);
     v5 = v14;
     m->g0 = v5;
-    if ((v14 ^ 0x8000000000000000ull) < (16ull ^ 0x8000000000000000ull)) { goto after5; }
     if (((v3 + 1u) & 255u) >= 2u) { goto after6; }
-    store64(m, v0, 8, 0ull);
-    store64(m, v0, 0, 4ull);
+    p26 = held(m, v0, 16);
+    put_held64(p26, 8, m, v0, 0ull);
+    put_held64(p26, 0, m, v0, 4ull);
     goto after1;
 after6:;
     put64(f14 + 24, 0ull);
@@ -2470,8 +2633,6 @@ after7:;
     v6 = (get8(f14 + 8)) ? (((((u64)(get8(f14 + 24) + 1u)) & 255ull) << 8) | 2ull) : 1ull;
     v2 = get64(f14 + 16);
     goto after2;
-after5:;
-    UNREACHABLE;
 after4:;
     if (v2 != 3ull) { goto after15; }
     v2 = 3ull;
@@ -2515,8 +2676,9 @@ after17:;
     store32(m, v4, 0, (((((u32)v13) << 24) | ((v9 & 255u) << 8)) | v3) + 0xFD030000u);
     v6 = 0ull;
 after2:;
-    store64(m, v0, 8, v2);
-    store64(m, v0, 0, v6);
+    p286 = held(m, v0, 16);
+    put_held64(p286, 8, m, v0, v2);
+    put_held64(p286, 0, m, v0, v6);
 after1:;
     m->g0 = v14 + 32ull;
 }
@@ -2528,12 +2690,14 @@ static void block_core_block_ref_pcb_in(struct call *m, u64 v0, u64 v1, u64 v2)
     u32 v5 = 0;
     u32 v6 = 0;
     u32 v7 = 0;
-    if ((m->g0 ^ 0x8000000000000000ull) < (16ull ^ 0x8000000000000000ull)) { goto after5; }
+    u8 *p16 = NULL;
+    u8 *p278 = NULL;
     if (v2 >= 2ull) { goto after6; }
-    store32(m, v0, 0, 1u);
-    store8(m, v0 + 24ull, 0, 0u);
-    store64(m, v0 + 16ull, 0, v2);
-    store64(m, v0 + 8ull, 0, 0ull);
+    p16 = held(m, v0, 25);
+    put_held32(p16, 0, m, v0, 1u);
+    put_held8(p16, 24, m, v0, 0u);
+    put_held64(p16, 16, m, v0, v2);
+    put_held64(p16, 8, m, v0, 0ull);
     return;
 after6:;
     v2 = 1ull;
@@ -2670,8 +2834,6 @@ after8:;
 after7:;
     v6 = 0u;
     goto after2;
-after5:;
-    UNREACHABLE;
 after4:;
     v3 = 3u;
     v4 = 0u;
@@ -2682,13 +2844,14 @@ after3:;
 after2:;
     v7 = 0u;
 after1:;
-    store8(m, v0, 0, v4);
-    store8(m, v0 + 24ull, 0, 0u);
-    store64(m, v0 + 16ull, 0, v2);
-    store64(m, v0 + 8ull, 0, v2);
-    store8(m, v0 + 3ull, 0, v7);
-    store8(m, v0 + 2ull, 0, v6);
-    store8(m, v0 + 1ull, 0, v3);
+    p278 = held(m, v0, 25);
+    put_held8(p278, 0, m, v0, v4);
+    put_held8(p278, 24, m, v0, 0u);
+    put_held64(p278, 16, m, v0, v2);
+    put_held64(p278, 8, m, v0, v2);
+    put_held8(p278, 3, m, v0, v7);
+    put_held8(p278, 2, m, v0, v6);
+    put_held8(p278, 1, m, v0, v3);
 }
 
 static u32 block_core_block_ref_sum_of(struct call *m, u64 v0, u64 v1)
@@ -2697,11 +2860,11 @@ static u32 block_core_block_ref_sum_of(struct call *m, u64 v0, u64 v1)
     u32 v3 = 0;
     u32 t0 = 0;
     u32 t4 = 0;
+    u8 *p35 = NULL;
     u64 n5;
     const u8 *q5;
     u64 n6;
     const u8 *q6;
-    if ((m->g0 ^ 0x8000000000000000ull) < (16ull ^ 0x8000000000000000ull)) { goto after1; }
     if (v1) { goto after2; }
     return 0u;
 after2:;
@@ -2719,9 +2882,9 @@ after2:;
         v1 = v1 - 8ull + 0xFFFFFFFFFFFFFFF8ull * n5;
     } else {
 again5:;
-        t4 = load8(m, v0 + 3ull, 0) ^ (load8(m, v0 + 2ull, 0) ^ (load8(m, v0 + 1ull, 0) ^ (load8(m, v0, 0) ^ v3)));
-        t0 = load8(m, v0 + 7ull, 0) ^ (load8(m, v0 + 6ull, 0) ^ (load8(m, v0 + 5ull, 0) ^ (load8(m, v0 + 4ull, 0) ^
-            t4)));
+        p35 = held(m, v0, 8);
+        t4 = held8(p35, 3, m, v0) ^ (held8(p35, 2, m, v0) ^ (held8(p35, 1, m, v0) ^ (held8(p35, 0, m, v0) ^ v3)));
+        t0 = held8(p35, 7, m, v0) ^ (held8(p35, 6, m, v0) ^ (held8(p35, 5, m, v0) ^ (held8(p35, 4, m, v0) ^ t4)));
         v3 = t0;
         v0 = v0 + 8ull;
         v1 = v1 + 0xFFFFFFFFFFFFFFF8ull;
@@ -2744,8 +2907,6 @@ again6:;
     }
 after3:;
     return v3;
-after1:;
-    UNREACHABLE;
 }
 
 static void c_lent_block_put_block(struct call *m, u64 v0, u64 v1, u64 v2, u64 v3)
@@ -2763,23 +2924,28 @@ static void c_lent_block_put_block(struct call *m, u64 v0, u64 v1, u64 v2, u64 v
     u32 v11 = 0;
     u32 t1 = 0;
     u8 *f5 = NULL;
+    u8 *p28 = NULL;
+    u8 *p108 = NULL;
+    u8 *p156 = NULL;
+    u8 *p157 = NULL;
+    u8 *p372 = NULL;
     v14 = m->g0 - 272ull;
     v4 = v14;
     m->g0 = v4;
     v5 = v14;
     f5 = at(m, v5, 272);
-    if ((v5 ^ 0x8000000000000000ull) < (16ull ^ 0x8000000000000000ull)) { goto after1; }
     if (load8(m, v1, 0) == 1u) { goto after3; }
     v1 = 0ull;
     v4 = 4ull;
     goto after2;
 after3:;
-    v6 = load64(m, v1 + 24ull, 0);
-    v7 = load64(m, v1 + 16ull, 0);
-    v8 = load8(m, v1 + 11ull, 0);
-    v9 = load8(m, v1 + 10ull, 0);
-    v10 = load8(m, v1 + 9ull, 0);
-    v11 = load8(m, v1 + 8ull, 0);
+    p28 = held(m, v1 + 8ull, 24);
+    v6 = held64(p28, 16, m, v1 + 8ull);
+    v7 = held64(p28, 8, m, v1 + 8ull);
+    v8 = held8(p28, 3, m, v1 + 8ull);
+    v9 = held8(p28, 2, m, v1 + 8ull);
+    v10 = held8(p28, 1, m, v1 + 8ull);
+    v11 = held8(p28, 0, m, v1 + 8ull);
     if (v3 < 258ull) { goto after5; }
     switch (v10) {
         case 1: goto after9;
@@ -2799,10 +2965,11 @@ after8:;
 after7:;
     v9 = v9 | 0xFFFFFFE0u;
 after6:;
-    store8(m, v2, 1, v9);
-    store8(m, v2, 0, v11);
+    p108 = held(m, v2, 3);
+    put_held8(p108, 1, m, v2, v9);
+    put_held8(p108, 0, m, v2, v11);
     v10 = (u32)v6;
-    store8(m, v2, 2, v10);
+    put_held8(p108, 2, m, v2, v10);
     v1 = v2 + 3ull;
     if ((v1 - v7) >= v6) { goto after12; }
     v12 = v6 & 3ull;
@@ -2813,10 +2980,12 @@ after6:;
 again14:;
     v1 = v2 + v4;
     v3 = v7 + v4;
-    store8(m, v1 + 3ull, 0, load8(m, v3, 0));
-    store8(m, v1 + 4ull, 0, load8(m, v3 + 1ull, 0));
-    store8(m, v1 + 5ull, 0, load8(m, v3 + 2ull, 0));
-    store8(m, v1 + 6ull, 0, load8(m, v3 + 3ull, 0));
+    p156 = held(m, v3, 4);
+    p157 = held(m, v1 + 3ull, 4);
+    put_held8(p157, 0, m, v1 + 3ull, held8(p156, 0, m, v3));
+    put_held8(p157, 1, m, v1 + 3ull, held8(p156, 1, m, v3));
+    put_held8(p157, 2, m, v1 + 3ull, held8(p156, 2, m, v3));
+    put_held8(p157, 3, m, v1 + 3ull, held8(p156, 3, m, v3));
     v4 = v4 + 4ull;
     if (v13 != v4) { goto again14; }
     if (v12 == 0) { goto after11; }
@@ -2839,7 +3008,7 @@ after11:;
     v1 = v6 + 4ull;
     goto after4;
 after5:;
-    fill(m, v5 + 17ull, 0u, 255ull);
+    memset(f5 + 17, (int)(0u & 255u), 255);
     switch (v10) {
         case 1: goto after19;
         case 2: goto after18;
@@ -2875,12 +3044,11 @@ after21:;
 after4:;
     v4 = 0ull;
 after2:;
-    store64(m, v0, 8, v1);
-    store64(m, v0, 0, v4);
+    p372 = held(m, v0, 16);
+    put_held64(p372, 8, m, v0, v1);
+    put_held64(p372, 0, m, v0, v4);
     m->g0 = v5 + 272ull;
     return;
-after1:;
-    UNREACHABLE;
 }
 
 static void c_lent_dol_put_entries(struct call *m, u64 v0, u64 v1, u64 v2, u64 v3, u64 v4)
@@ -2893,7 +3061,9 @@ static void c_lent_dol_put_entries(struct call *m, u64 v0, u64 v1, u64 v2, u64 v
     u32 v9 = 0;
     u32 v10 = 0;
     u32 v11 = 0;
-    if ((m->g0 ^ 0x8000000000000000ull) < (16ull ^ 0x8000000000000000ull)) { goto after3; }
+    u8 *p182 = NULL;
+    u8 *p199 = NULL;
+    u8 *p224 = NULL;
     v5 = 0ull;
     if (v2 == 0) { goto after4; }
     v6 = 0ull;
@@ -2950,26 +3120,27 @@ after6:;
     v6 = (v6 + ((u64)(v9 >> 24))) + 1ull;
     if (v5 >= v4) { goto after15; }
     v12 = v3 + (v5 * 5ull);
-    store8(m, v12, 4, load8(m, v1 + v8, 0));
-    store32(m, v12, 0, v9);
+    p182 = held(m, v12, 5);
+    put_held8(p182, 4, m, v12, load8(m, v1 + v8, 0));
+    put_held32(p182, 0, m, v12, v9);
 after15:;
     v5 = v5 + 1ull;
     if (v6 < v2) { goto again5; }
 after4:;
-    store64(m, v0, 0, 0ull);
-    store8(m, v0 + 24ull, 0, 0u);
-    store64(m, v0 + 16ull, 0, 0ull);
-    store64(m, v0 + 8ull, 0, v5);
+    p199 = held(m, v0, 25);
+    put_held64(p199, 0, m, v0, 0ull);
+    put_held8(p199, 24, m, v0, 0u);
+    put_held64(p199, 16, m, v0, 0ull);
+    put_held64(p199, 8, m, v0, v5);
     return;
-after3:;
-    UNREACHABLE;
 after2:;
     v1 = 1ull;
 after1:;
-    store64(m, v0, 0, 1ull);
-    store8(m, v0 + 24ull, 0, v7);
-    store64(m, v0 + 16ull, 0, v8);
-    store64(m, v0 + 8ull, 0, v1);
+    p224 = held(m, v0, 25);
+    put_held64(p224, 0, m, v0, 1ull);
+    put_held8(p224, 24, m, v0, v7);
+    put_held64(p224, 16, m, v0, v8);
+    put_held64(p224, 8, m, v0, v1);
 }
 
 static u32 core_cmp_slices_groups_equal_i8_31_core_cmp_numbers_U8PartialEq(struct call *m, u64 v0, u64 v1, u64 v2)
@@ -2987,11 +3158,33 @@ static u32 core_cmp_slices_groups_equal_i8_31_core_cmp_numbers_U8PartialEq(struc
     u32 t2 = 0;
     u32 t3 = 0;
     u32 t4 = 0;
-    if ((m->g0 ^ 0x8000000000000000ull) < (16ull ^ 0x8000000000000000ull)) { goto after3; }
+    u8 *p13 = NULL;
+    u8 *p15 = NULL;
+    u8 *p120 = NULL;
+    u8 *p125 = NULL;
+    u8 *p137 = NULL;
+    u8 *p142 = NULL;
+    u8 *p149 = NULL;
+    u8 *p154 = NULL;
+    u8 *p302 = NULL;
+    u8 *p304 = NULL;
+    u8 *p406 = NULL;
+    u8 *p411 = NULL;
+    u8 *p479 = NULL;
+    u8 *p481 = NULL;
+    u8 *p762 = NULL;
+    u8 *p767 = NULL;
+    u8 *p1031 = NULL;
+    u8 *p1036 = NULL;
+    u8 *p1289 = NULL;
+    u8 *p1291 = NULL;
     if (v1 > 8ull) { goto after4; }
-    t0 = ((u32)(load8(m, v0, 0) != load8(m, v2, 0))) | ((u32)(load8(m, v0 + 1ull, 0) != load8(m, v2 + 1ull, 0)));
-    t0 = (t0 | ((u32)(load8(m, v0 + 2ull, 0) != load8(m, v2 + 2ull, 0)))) | ((u32)(load8(m, v0 + 3ull, 0) != load8(m,
-        v2 + 3ull, 0)));
+    p13 = held(m, v0, 4);
+    p15 = held(m, v2, 4);
+    t0 = ((u32)(held8(p13, 0, m, v0) != held8(p15, 0, m, v2))) | ((u32)(held8(p13, 1, m, v0) != held8(p15, 1, m,
+        v2)));
+    t0 = (t0 | ((u32)(held8(p13, 2, m, v0) != held8(p15, 2, m, v2)))) | ((u32)(held8(p13, 3, m, v0) != held8(p15, 3,
+        m, v2)));
     v3 = v1 + 0xFFFFFFFFFFFFFFFCull;
     t1 = (u32)(load8(m, v0 + v3, 0) != load8(m, v2 + v3, 0));
     v3 = v1 + 0xFFFFFFFFFFFFFFFDull;
@@ -3006,41 +3199,54 @@ after4:;
     v1 = v1 + 0xFFFFFFFFFFFFFFF8ull;
     v5 = (v1 < 8ull) ? v1 : 8ull;
     v3 = v0 + v5;
+    p120 = held(m, v3, 8);
     v5 = v2 + v5;
+    p125 = held(m, v5, 8);
     v6 = (v1 < 16ull) ? v1 : 16ull;
     v7 = v0 + v6;
+    p137 = held(m, v7, 8);
     v6 = v2 + v6;
+    p142 = held(m, v6, 8);
+    t0 = ((u32)(held8(p120, 0, m, v3) != held8(p125, 0, m, v5))) | ((u32)(held8(p137, 0, m, v7) != held8(p142, 0, m,
+        v6)));
     v8 = v0 + v1;
+    p149 = held(m, v8, 8);
     v1 = v2 + v1;
-    t0 = (((u32)(load8(m, v3, 0) != load8(m, v5, 0))) | ((u32)(load8(m, v7, 0) != load8(m, v6, 0)))) | ((u32)(load8(m,
-        v8, 0) != load8(m, v1, 0)));
-    t1 = (((u32)(load8(m, v3, 1) != load8(m, v5, 1))) | ((u32)(load8(m, v7, 1) != load8(m, v6, 1)))) | ((u32)(load8(m,
-        v8, 1) != load8(m, v1, 1)));
-    t0 = t0 | (t1 << 1);
-    t1 = (((u32)(load8(m, v3, 3) != load8(m, v5, 3))) | ((u32)(load8(m, v7, 3) != load8(m, v6, 3)))) | ((u32)(load8(m,
-        v8, 3) != load8(m, v1, 3)));
-    t2 = (((u32)(load8(m, v3, 2) != load8(m, v5, 2))) | ((u32)(load8(m, v7, 2) != load8(m, v6, 2)))) | ((u32)(load8(m,
-        v8, 2) != load8(m, v1, 2)));
-    t0 = t0 | ((t1 << 3) | (t2 << 2));
-    t1 = (((u32)(load8(m, v3, 4) != load8(m, v5, 4))) | ((u32)(load8(m, v7, 4) != load8(m, v6, 4)))) | ((u32)(load8(m,
-        v8, 4) != load8(m, v1, 4)));
-    t2 = (((u32)(load8(m, v3, 5) != load8(m, v5, 5))) | ((u32)(load8(m, v7, 5) != load8(m, v6, 5)))) | ((u32)(load8(m,
-        v8, 5) != load8(m, v1, 5)));
-    t1 = t1 | (t2 << 1);
-    t2 = (((u32)(load8(m, v3, 7) != load8(m, v5, 7))) | ((u32)(load8(m, v7, 7) != load8(m, v6, 7)))) | ((u32)(load8(m,
-        v8, 7) != load8(m, v1, 7)));
-    t3 = (((u32)(load8(m, v3, 6) != load8(m, v5, 6))) | ((u32)(load8(m, v7, 6) != load8(m, v6, 6)))) | ((u32)(load8(m,
-        v8, 6) != load8(m, v1, 6)));
-    t0 = ((u32)(((t0 | ((t1 | ((t2 << 3) | (t3 << 2))) << 4)) & 255u) != 0u)) | ((u32)(load8(m, v0, 0) != load8(m, v2,
-        0)));
-    t1 = ((u32)(load8(m, v0 + 1ull, 0) != load8(m, v2 + 1ull, 0))) | ((u32)(load8(m, v0 + 2ull, 0) != load8(m, v2 +
-        2ull, 0)));
+    p154 = held(m, v1, 8);
+    t1 = ((u32)(held8(p120, 1, m, v3) != held8(p125, 1, m, v5))) | ((u32)(held8(p137, 1, m, v7) != held8(p142, 1, m,
+        v6)));
+    t0 = (t0 | ((u32)(held8(p149, 0, m, v8) != held8(p154, 0, m, v1)))) | ((t1 | ((u32)(held8(p149, 1, m, v8) !=
+        held8(p154, 1, m, v1)))) << 1);
+    t1 = ((u32)(held8(p120, 3, m, v3) != held8(p125, 3, m, v5))) | ((u32)(held8(p137, 3, m, v7) != held8(p142, 3, m,
+        v6)));
+    t2 = ((u32)(held8(p120, 2, m, v3) != held8(p125, 2, m, v5))) | ((u32)(held8(p137, 2, m, v7) != held8(p142, 2, m,
+        v6)));
+    t1 = ((t1 | ((u32)(held8(p149, 3, m, v8) != held8(p154, 3, m, v1)))) << 3) | ((t2 | ((u32)(held8(p149, 2, m, v8)
+        != held8(p154, 2, m, v1)))) << 2);
     t0 = t0 | t1;
-    t1 = ((u32)(load8(m, v0 + 3ull, 0) != load8(m, v2 + 3ull, 0))) | ((u32)(load8(m, v0 + 4ull, 0) != load8(m, v2 +
-        4ull, 0)));
-    t2 = ((u32)(load8(m, v0 + 5ull, 0) != load8(m, v2 + 5ull, 0))) | ((u32)(load8(m, v0 + 6ull, 0) != load8(m, v2 +
-        6ull, 0)));
-    v4 = (t0 | (t1 | t2)) | ((u32)(load8(m, v0 + 7ull, 0) != load8(m, v2 + 7ull, 0)));
+    t1 = ((u32)(held8(p120, 4, m, v3) != held8(p125, 4, m, v5))) | ((u32)(held8(p137, 4, m, v7) != held8(p142, 4, m,
+        v6)));
+    t2 = ((u32)(held8(p120, 5, m, v3) != held8(p125, 5, m, v5))) | ((u32)(held8(p137, 5, m, v7) != held8(p142, 5, m,
+        v6)));
+    t1 = (t1 | ((u32)(held8(p149, 4, m, v8) != held8(p154, 4, m, v1)))) | ((t2 | ((u32)(held8(p149, 5, m, v8) !=
+        held8(p154, 5, m, v1)))) << 1);
+    t2 = ((u32)(held8(p120, 7, m, v3) != held8(p125, 7, m, v5))) | ((u32)(held8(p137, 7, m, v7) != held8(p142, 7, m,
+        v6)));
+    t3 = ((u32)(held8(p120, 6, m, v3) != held8(p125, 6, m, v5))) | ((u32)(held8(p137, 6, m, v7) != held8(p142, 6, m,
+        v6)));
+    t2 = ((t2 | ((u32)(held8(p149, 7, m, v8) != held8(p154, 7, m, v1)))) << 3) | ((t3 | ((u32)(held8(p149, 6, m, v8)
+        != held8(p154, 6, m, v1)))) << 2);
+    p302 = held(m, v0, 8);
+    p304 = held(m, v2, 8);
+    t0 = ((u32)(((t0 | ((t1 | t2) << 4)) & 255u) != 0u)) | ((u32)(held8(p302, 0, m, v0) != held8(p304, 0, m, v2)));
+    t1 = ((u32)(held8(p302, 1, m, v0) != held8(p304, 1, m, v2))) | ((u32)(held8(p302, 2, m, v0) != held8(p304, 2, m,
+        v2)));
+    t0 = t0 | t1;
+    t1 = ((u32)(held8(p302, 3, m, v0) != held8(p304, 3, m, v2))) | ((u32)(held8(p302, 4, m, v0) != held8(p304, 4, m,
+        v2)));
+    t2 = ((u32)(held8(p302, 5, m, v0) != held8(p304, 5, m, v2))) | ((u32)(held8(p302, 6, m, v0) != held8(p304, 6, m,
+        v2)));
+    v4 = (t0 | (t1 | t2)) | ((u32)(held8(p302, 7, m, v0) != held8(p304, 7, m, v2)));
     goto after1;
 after5:;
     if (v1 < 65ull) { goto after2; }
@@ -3053,9 +3259,11 @@ again7:;
     v3 = 0ull;
 again8:;
     v5 = v6 + v3;
+    p406 = held(m, v5, 2);
     v7 = v8 + v3;
-    t0 = (v4 | ((u32)(load8(m, v5, 0) != load8(m, v7, 0)))) | ((u32)(load8(m, v5 + 1ull, 0) != load8(m, v7 + 1ull,
-        0)));
+    p411 = held(m, v7, 2);
+    t0 = (v4 | ((u32)(held8(p406, 0, m, v5) != held8(p411, 0, m, v7)))) | ((u32)(held8(p406, 1, m, v5) != held8(p411,
+        1, m, v7)));
     v4 = t0;
     v3 = v3 + 2ull;
     if (v3 != 64ull) { goto again8; }
@@ -3072,29 +3280,47 @@ after6:;
     v5 = v0 + v10;
 again11:;
     v4 = 1u;
-    t0 = ((u32)(load8(m, v5, 0) != load8(m, v3, 0))) | (((u32)(load8(m, v5, 1) != load8(m, v3, 1))) << 1);
-    t1 = (((u32)(load8(m, v5, 3) != load8(m, v3, 3))) << 3) | (((u32)(load8(m, v5, 2) != load8(m, v3, 2))) << 2);
+    p479 = held(m, v5, 32);
+    p481 = held(m, v3, 32);
+    t0 = ((u32)(held8(p479, 0, m, v5) != held8(p481, 0, m, v3))) | (((u32)(held8(p479, 1, m, v5) != held8(p481, 1, m,
+        v3))) << 1);
+    t1 = (((u32)(held8(p479, 3, m, v5) != held8(p481, 3, m, v3))) << 3) | (((u32)(held8(p479, 2, m, v5) != held8(p481,
+        2, m, v3))) << 2);
     t0 = t0 | t1;
-    t1 = ((u32)(load8(m, v5, 4) != load8(m, v3, 4))) | (((u32)(load8(m, v5, 5) != load8(m, v3, 5))) << 1);
-    t2 = (((u32)(load8(m, v5, 7) != load8(m, v3, 7))) << 3) | (((u32)(load8(m, v5, 6) != load8(m, v3, 6))) << 2);
+    t1 = ((u32)(held8(p479, 4, m, v5) != held8(p481, 4, m, v3))) | (((u32)(held8(p479, 5, m, v5) != held8(p481, 5, m,
+        v3))) << 1);
+    t2 = (((u32)(held8(p479, 7, m, v5) != held8(p481, 7, m, v3))) << 3) | (((u32)(held8(p479, 6, m, v5) != held8(p481,
+        6, m, v3))) << 2);
     t0 = t0 | ((t1 | t2) << 4);
-    t1 = ((u32)(load8(m, v5, 12) != load8(m, v3, 12))) | (((u32)(load8(m, v5, 13) != load8(m, v3, 13))) << 1);
-    t2 = (((u32)(load8(m, v5, 15) != load8(m, v3, 15))) << 3) | (((u32)(load8(m, v5, 14) != load8(m, v3, 14))) << 2);
+    t1 = ((u32)(held8(p479, 12, m, v5) != held8(p481, 12, m, v3))) | (((u32)(held8(p479, 13, m, v5) != held8(p481, 13,
+        m, v3))) << 1);
+    t2 = (((u32)(held8(p479, 15, m, v5) != held8(p481, 15, m, v3))) << 3) | (((u32)(held8(p479, 14, m, v5) !=
+        held8(p481, 14, m, v3))) << 2);
     t1 = (t1 | t2) << 12;
-    t2 = ((u32)(load8(m, v5, 8) != load8(m, v3, 8))) | (((u32)(load8(m, v5, 9) != load8(m, v3, 9))) << 1);
-    t3 = (((u32)(load8(m, v5, 11) != load8(m, v3, 11))) << 3) | (((u32)(load8(m, v5, 10) != load8(m, v3, 10))) << 2);
+    t2 = ((u32)(held8(p479, 8, m, v5) != held8(p481, 8, m, v3))) | (((u32)(held8(p479, 9, m, v5) != held8(p481, 9, m,
+        v3))) << 1);
+    t3 = (((u32)(held8(p479, 11, m, v5) != held8(p481, 11, m, v3))) << 3) | (((u32)(held8(p479, 10, m, v5) !=
+        held8(p481, 10, m, v3))) << 2);
     t0 = t0 | (t1 | ((t2 | t3) << 8));
-    t1 = ((u32)(load8(m, v5, 16) != load8(m, v3, 16))) | (((u32)(load8(m, v5, 17) != load8(m, v3, 17))) << 1);
-    t2 = (((u32)(load8(m, v5, 19) != load8(m, v3, 19))) << 3) | (((u32)(load8(m, v5, 18) != load8(m, v3, 18))) << 2);
+    t1 = ((u32)(held8(p479, 16, m, v5) != held8(p481, 16, m, v3))) | (((u32)(held8(p479, 17, m, v5) != held8(p481, 17,
+        m, v3))) << 1);
+    t2 = (((u32)(held8(p479, 19, m, v5) != held8(p481, 19, m, v3))) << 3) | (((u32)(held8(p479, 18, m, v5) !=
+        held8(p481, 18, m, v3))) << 2);
     t1 = t1 | t2;
-    t2 = ((u32)(load8(m, v5, 20) != load8(m, v3, 20))) | (((u32)(load8(m, v5, 21) != load8(m, v3, 21))) << 1);
-    t3 = (((u32)(load8(m, v5, 23) != load8(m, v3, 23))) << 3) | (((u32)(load8(m, v5, 22) != load8(m, v3, 22))) << 2);
+    t2 = ((u32)(held8(p479, 20, m, v5) != held8(p481, 20, m, v3))) | (((u32)(held8(p479, 21, m, v5) != held8(p481, 21,
+        m, v3))) << 1);
+    t3 = (((u32)(held8(p479, 23, m, v5) != held8(p481, 23, m, v3))) << 3) | (((u32)(held8(p479, 22, m, v5) !=
+        held8(p481, 22, m, v3))) << 2);
     t1 = t1 | ((t2 | t3) << 4);
-    t2 = ((u32)(load8(m, v5, 28) != load8(m, v3, 28))) | (((u32)(load8(m, v5, 29) != load8(m, v3, 29))) << 1);
-    t3 = (((u32)(load8(m, v5, 31) != load8(m, v3, 31))) << 3) | (((u32)(load8(m, v5, 30) != load8(m, v3, 30))) << 2);
+    t2 = ((u32)(held8(p479, 28, m, v5) != held8(p481, 28, m, v3))) | (((u32)(held8(p479, 29, m, v5) != held8(p481, 29,
+        m, v3))) << 1);
+    t3 = (((u32)(held8(p479, 31, m, v5) != held8(p481, 31, m, v3))) << 3) | (((u32)(held8(p479, 30, m, v5) !=
+        held8(p481, 30, m, v3))) << 2);
     t2 = (t2 | t3) << 12;
-    t3 = ((u32)(load8(m, v5, 24) != load8(m, v3, 24))) | (((u32)(load8(m, v5, 25) != load8(m, v3, 25))) << 1);
-    t4 = (((u32)(load8(m, v5, 27) != load8(m, v3, 27))) << 3) | (((u32)(load8(m, v5, 26) != load8(m, v3, 26))) << 2);
+    t3 = ((u32)(held8(p479, 24, m, v5) != held8(p481, 24, m, v3))) | (((u32)(held8(p479, 25, m, v5) != held8(p481, 25,
+        m, v3))) << 1);
+    t4 = (((u32)(held8(p479, 27, m, v5) != held8(p481, 27, m, v3))) << 3) | (((u32)(held8(p479, 26, m, v5) !=
+        held8(p481, 26, m, v3))) << 2);
     if ((t0 | (t1 | (t2 | ((t3 | t4) << 8)))) & 65535u) { goto after10; }
     v3 = v3 + 32ull;
     v5 = v5 + 32ull;
@@ -3106,101 +3332,137 @@ after10:;
 after9:;
     v5 = v1 + 0xFFFFFFFFFFFFFFE0ull;
     v3 = v0 + v5;
+    p762 = held(m, v3, 32);
     v5 = v2 + v5;
-    t0 = ((u32)(load8(m, v3, 0) != load8(m, v5, 0))) | (((u32)(load8(m, v3, 1) != load8(m, v5, 1))) << 1);
-    t1 = (((u32)(load8(m, v3, 3) != load8(m, v5, 3))) << 3) | (((u32)(load8(m, v3, 2) != load8(m, v5, 2))) << 2);
+    p767 = held(m, v5, 32);
+    t0 = ((u32)(held8(p762, 0, m, v3) != held8(p767, 0, m, v5))) | (((u32)(held8(p762, 1, m, v3) != held8(p767, 1, m,
+        v5))) << 1);
+    t1 = (((u32)(held8(p762, 3, m, v3) != held8(p767, 3, m, v5))) << 3) | (((u32)(held8(p762, 2, m, v3) != held8(p767,
+        2, m, v5))) << 2);
     t0 = t0 | t1;
-    t1 = ((u32)(load8(m, v3, 4) != load8(m, v5, 4))) | (((u32)(load8(m, v3, 5) != load8(m, v5, 5))) << 1);
-    t2 = (((u32)(load8(m, v3, 7) != load8(m, v5, 7))) << 3) | (((u32)(load8(m, v3, 6) != load8(m, v5, 6))) << 2);
+    t1 = ((u32)(held8(p762, 4, m, v3) != held8(p767, 4, m, v5))) | (((u32)(held8(p762, 5, m, v3) != held8(p767, 5, m,
+        v5))) << 1);
+    t2 = (((u32)(held8(p762, 7, m, v3) != held8(p767, 7, m, v5))) << 3) | (((u32)(held8(p762, 6, m, v3) != held8(p767,
+        6, m, v5))) << 2);
     t0 = t0 | ((t1 | t2) << 4);
-    t1 = ((u32)(load8(m, v3, 12) != load8(m, v5, 12))) | (((u32)(load8(m, v3, 13) != load8(m, v5, 13))) << 1);
-    t2 = (((u32)(load8(m, v3, 15) != load8(m, v5, 15))) << 3) | (((u32)(load8(m, v3, 14) != load8(m, v5, 14))) << 2);
+    t1 = ((u32)(held8(p762, 12, m, v3) != held8(p767, 12, m, v5))) | (((u32)(held8(p762, 13, m, v3) != held8(p767, 13,
+        m, v5))) << 1);
+    t2 = (((u32)(held8(p762, 15, m, v3) != held8(p767, 15, m, v5))) << 3) | (((u32)(held8(p762, 14, m, v3) !=
+        held8(p767, 14, m, v5))) << 2);
     t1 = (t1 | t2) << 12;
-    t2 = ((u32)(load8(m, v3, 8) != load8(m, v5, 8))) | (((u32)(load8(m, v3, 9) != load8(m, v5, 9))) << 1);
-    t3 = (((u32)(load8(m, v3, 11) != load8(m, v5, 11))) << 3) | (((u32)(load8(m, v3, 10) != load8(m, v5, 10))) << 2);
+    t2 = ((u32)(held8(p762, 8, m, v3) != held8(p767, 8, m, v5))) | (((u32)(held8(p762, 9, m, v3) != held8(p767, 9, m,
+        v5))) << 1);
+    t3 = (((u32)(held8(p762, 11, m, v3) != held8(p767, 11, m, v5))) << 3) | (((u32)(held8(p762, 10, m, v3) !=
+        held8(p767, 10, m, v5))) << 2);
     t0 = t0 | (t1 | ((t2 | t3) << 8));
-    t1 = ((u32)(load8(m, v3, 16) != load8(m, v5, 16))) | (((u32)(load8(m, v3, 17) != load8(m, v5, 17))) << 1);
-    t2 = (((u32)(load8(m, v3, 19) != load8(m, v5, 19))) << 3) | (((u32)(load8(m, v3, 18) != load8(m, v5, 18))) << 2);
+    t1 = ((u32)(held8(p762, 16, m, v3) != held8(p767, 16, m, v5))) | (((u32)(held8(p762, 17, m, v3) != held8(p767, 17,
+        m, v5))) << 1);
+    t2 = (((u32)(held8(p762, 19, m, v3) != held8(p767, 19, m, v5))) << 3) | (((u32)(held8(p762, 18, m, v3) !=
+        held8(p767, 18, m, v5))) << 2);
     t1 = t1 | t2;
-    t2 = ((u32)(load8(m, v3, 20) != load8(m, v5, 20))) | (((u32)(load8(m, v3, 21) != load8(m, v5, 21))) << 1);
-    t3 = (((u32)(load8(m, v3, 23) != load8(m, v5, 23))) << 3) | (((u32)(load8(m, v3, 22) != load8(m, v5, 22))) << 2);
+    t2 = ((u32)(held8(p762, 20, m, v3) != held8(p767, 20, m, v5))) | (((u32)(held8(p762, 21, m, v3) != held8(p767, 21,
+        m, v5))) << 1);
+    t3 = (((u32)(held8(p762, 23, m, v3) != held8(p767, 23, m, v5))) << 3) | (((u32)(held8(p762, 22, m, v3) !=
+        held8(p767, 22, m, v5))) << 2);
     t1 = t1 | ((t2 | t3) << 4);
-    t2 = ((u32)(load8(m, v3, 28) != load8(m, v5, 28))) | (((u32)(load8(m, v3, 29) != load8(m, v5, 29))) << 1);
-    t3 = (((u32)(load8(m, v3, 31) != load8(m, v5, 31))) << 3) | (((u32)(load8(m, v3, 30) != load8(m, v5, 30))) << 2);
+    t2 = ((u32)(held8(p762, 28, m, v3) != held8(p767, 28, m, v5))) | (((u32)(held8(p762, 29, m, v3) != held8(p767, 29,
+        m, v5))) << 1);
+    t3 = (((u32)(held8(p762, 31, m, v3) != held8(p767, 31, m, v5))) << 3) | (((u32)(held8(p762, 30, m, v3) !=
+        held8(p767, 30, m, v5))) << 2);
     t2 = (t2 | t3) << 12;
-    t3 = ((u32)(load8(m, v3, 24) != load8(m, v5, 24))) | (((u32)(load8(m, v3, 25) != load8(m, v5, 25))) << 1);
-    t4 = (((u32)(load8(m, v3, 27) != load8(m, v5, 27))) << 3) | (((u32)(load8(m, v3, 26) != load8(m, v5, 26))) << 2);
+    t3 = ((u32)(held8(p762, 24, m, v3) != held8(p767, 24, m, v5))) | (((u32)(held8(p762, 25, m, v3) != held8(p767, 25,
+        m, v5))) << 1);
+    t4 = (((u32)(held8(p762, 27, m, v3) != held8(p767, 27, m, v5))) << 3) | (((u32)(held8(p762, 26, m, v3) !=
+        held8(p767, 26, m, v5))) << 2);
     v4 = (u32)(((t0 | (t1 | (t2 | ((t3 | t4) << 8)))) & 65535u) != 0u);
     goto after1;
-after3:;
-    UNREACHABLE;
 after2:;
     v5 = v1 + 0xFFFFFFFFFFFFFFE0ull;
     v3 = v0 + v5;
+    p1031 = held(m, v3, 32);
     v5 = v2 + v5;
-    t0 = ((u32)(load8(m, v3, 0) != load8(m, v5, 0))) | (((u32)(load8(m, v3, 1) != load8(m, v5, 1))) << 1);
-    t1 = (((u32)(load8(m, v3, 3) != load8(m, v5, 3))) << 3) | (((u32)(load8(m, v3, 2) != load8(m, v5, 2))) << 2);
+    p1036 = held(m, v5, 32);
+    t0 = ((u32)(held8(p1031, 0, m, v3) != held8(p1036, 0, m, v5))) | (((u32)(held8(p1031, 1, m, v3) != held8(p1036, 1,
+        m, v5))) << 1);
+    t1 = (((u32)(held8(p1031, 3, m, v3) != held8(p1036, 3, m, v5))) << 3) | (((u32)(held8(p1031, 2, m, v3) !=
+        held8(p1036, 2, m, v5))) << 2);
     t0 = t0 | t1;
-    t1 = ((u32)(load8(m, v3, 4) != load8(m, v5, 4))) | (((u32)(load8(m, v3, 5) != load8(m, v5, 5))) << 1);
-    t2 = (((u32)(load8(m, v3, 7) != load8(m, v5, 7))) << 3) | (((u32)(load8(m, v3, 6) != load8(m, v5, 6))) << 2);
+    t1 = ((u32)(held8(p1031, 4, m, v3) != held8(p1036, 4, m, v5))) | (((u32)(held8(p1031, 5, m, v3) != held8(p1036, 5,
+        m, v5))) << 1);
+    t2 = (((u32)(held8(p1031, 7, m, v3) != held8(p1036, 7, m, v5))) << 3) | (((u32)(held8(p1031, 6, m, v3) !=
+        held8(p1036, 6, m, v5))) << 2);
     t0 = t0 | ((t1 | t2) << 4);
-    t1 = ((u32)(load8(m, v3, 12) != load8(m, v5, 12))) | (((u32)(load8(m, v3, 13) != load8(m, v5, 13))) << 1);
-    t2 = (((u32)(load8(m, v3, 15) != load8(m, v5, 15))) << 3) | (((u32)(load8(m, v3, 14) != load8(m, v5, 14))) << 2);
+    t1 = ((u32)(held8(p1031, 12, m, v3) != held8(p1036, 12, m, v5))) | (((u32)(held8(p1031, 13, m, v3) != held8(p1036,
+        13, m, v5))) << 1);
+    t2 = (((u32)(held8(p1031, 15, m, v3) != held8(p1036, 15, m, v5))) << 3) | (((u32)(held8(p1031, 14, m, v3) !=
+        held8(p1036, 14, m, v5))) << 2);
     t1 = (t1 | t2) << 12;
-    t2 = ((u32)(load8(m, v3, 8) != load8(m, v5, 8))) | (((u32)(load8(m, v3, 9) != load8(m, v5, 9))) << 1);
-    t3 = (((u32)(load8(m, v3, 11) != load8(m, v5, 11))) << 3) | (((u32)(load8(m, v3, 10) != load8(m, v5, 10))) << 2);
+    t2 = ((u32)(held8(p1031, 8, m, v3) != held8(p1036, 8, m, v5))) | (((u32)(held8(p1031, 9, m, v3) != held8(p1036, 9,
+        m, v5))) << 1);
+    t3 = (((u32)(held8(p1031, 11, m, v3) != held8(p1036, 11, m, v5))) << 3) | (((u32)(held8(p1031, 10, m, v3) !=
+        held8(p1036, 10, m, v5))) << 2);
     t0 = t0 | (t1 | ((t2 | t3) << 8));
-    t1 = ((u32)(load8(m, v3, 16) != load8(m, v5, 16))) | (((u32)(load8(m, v3, 17) != load8(m, v5, 17))) << 1);
-    t2 = (((u32)(load8(m, v3, 19) != load8(m, v5, 19))) << 3) | (((u32)(load8(m, v3, 18) != load8(m, v5, 18))) << 2);
+    t1 = ((u32)(held8(p1031, 16, m, v3) != held8(p1036, 16, m, v5))) | (((u32)(held8(p1031, 17, m, v3) != held8(p1036,
+        17, m, v5))) << 1);
+    t2 = (((u32)(held8(p1031, 19, m, v3) != held8(p1036, 19, m, v5))) << 3) | (((u32)(held8(p1031, 18, m, v3) !=
+        held8(p1036, 18, m, v5))) << 2);
     t1 = t1 | t2;
-    t2 = ((u32)(load8(m, v3, 20) != load8(m, v5, 20))) | (((u32)(load8(m, v3, 21) != load8(m, v5, 21))) << 1);
-    t3 = (((u32)(load8(m, v3, 23) != load8(m, v5, 23))) << 3) | (((u32)(load8(m, v3, 22) != load8(m, v5, 22))) << 2);
+    t2 = ((u32)(held8(p1031, 20, m, v3) != held8(p1036, 20, m, v5))) | (((u32)(held8(p1031, 21, m, v3) != held8(p1036,
+        21, m, v5))) << 1);
+    t3 = (((u32)(held8(p1031, 23, m, v3) != held8(p1036, 23, m, v5))) << 3) | (((u32)(held8(p1031, 22, m, v3) !=
+        held8(p1036, 22, m, v5))) << 2);
     t1 = t1 | ((t2 | t3) << 4);
-    t2 = ((u32)(load8(m, v3, 28) != load8(m, v5, 28))) | (((u32)(load8(m, v3, 29) != load8(m, v5, 29))) << 1);
-    t3 = (((u32)(load8(m, v3, 31) != load8(m, v5, 31))) << 3) | (((u32)(load8(m, v3, 30) != load8(m, v5, 30))) << 2);
+    t2 = ((u32)(held8(p1031, 28, m, v3) != held8(p1036, 28, m, v5))) | (((u32)(held8(p1031, 29, m, v3) != held8(p1036,
+        29, m, v5))) << 1);
+    t3 = (((u32)(held8(p1031, 31, m, v3) != held8(p1036, 31, m, v5))) << 3) | (((u32)(held8(p1031, 30, m, v3) !=
+        held8(p1036, 30, m, v5))) << 2);
     t2 = (t2 | t3) << 12;
-    t3 = ((u32)(load8(m, v3, 24) != load8(m, v5, 24))) | (((u32)(load8(m, v3, 25) != load8(m, v5, 25))) << 1);
-    t4 = (((u32)(load8(m, v3, 27) != load8(m, v5, 27))) << 3) | (((u32)(load8(m, v3, 26) != load8(m, v5, 26))) << 2);
-    t0 = ((u32)(((t0 | (t1 | (t2 | ((t3 | t4) << 8)))) & 65535u) != 0u)) | ((u32)(load8(m, v0, 0) != load8(m, v2,
-        0)));
-    t1 = ((u32)(load8(m, v0 + 1ull, 0) != load8(m, v2 + 1ull, 0))) | ((u32)(load8(m, v0 + 2ull, 0) != load8(m, v2 +
-        2ull, 0)));
+    t3 = ((u32)(held8(p1031, 24, m, v3) != held8(p1036, 24, m, v5))) | (((u32)(held8(p1031, 25, m, v3) != held8(p1036,
+        25, m, v5))) << 1);
+    t4 = (((u32)(held8(p1031, 27, m, v3) != held8(p1036, 27, m, v5))) << 3) | (((u32)(held8(p1031, 26, m, v3) !=
+        held8(p1036, 26, m, v5))) << 2);
+    p1289 = held(m, v0, 32);
+    p1291 = held(m, v2, 32);
+    t0 = ((u32)(((t0 | (t1 | (t2 | ((t3 | t4) << 8)))) & 65535u) != 0u)) | ((u32)(held8(p1289, 0, m, v0) !=
+        held8(p1291, 0, m, v2)));
+    t1 = ((u32)(held8(p1289, 1, m, v0) != held8(p1291, 1, m, v2))) | ((u32)(held8(p1289, 2, m, v0) != held8(p1291, 2,
+        m, v2)));
     t0 = t0 | t1;
-    t1 = ((u32)(load8(m, v0 + 3ull, 0) != load8(m, v2 + 3ull, 0))) | ((u32)(load8(m, v0 + 4ull, 0) != load8(m, v2 +
-        4ull, 0)));
-    t2 = ((u32)(load8(m, v0 + 5ull, 0) != load8(m, v2 + 5ull, 0))) | ((u32)(load8(m, v0 + 6ull, 0) != load8(m, v2 +
-        6ull, 0)));
+    t1 = ((u32)(held8(p1289, 3, m, v0) != held8(p1291, 3, m, v2))) | ((u32)(held8(p1289, 4, m, v0) != held8(p1291, 4,
+        m, v2)));
+    t2 = ((u32)(held8(p1289, 5, m, v0) != held8(p1291, 5, m, v2))) | ((u32)(held8(p1289, 6, m, v0) != held8(p1291, 6,
+        m, v2)));
     t0 = t0 | (t1 | t2);
-    t1 = ((u32)(load8(m, v0 + 7ull, 0) != load8(m, v2 + 7ull, 0))) | ((u32)(load8(m, v0 + 8ull, 0) != load8(m, v2 +
-        8ull, 0)));
-    t2 = ((u32)(load8(m, v0 + 9ull, 0) != load8(m, v2 + 9ull, 0))) | ((u32)(load8(m, v0 + 10ull, 0) != load8(m, v2 +
-        10ull, 0)));
+    t1 = ((u32)(held8(p1289, 7, m, v0) != held8(p1291, 7, m, v2))) | ((u32)(held8(p1289, 8, m, v0) != held8(p1291, 8,
+        m, v2)));
+    t2 = ((u32)(held8(p1289, 9, m, v0) != held8(p1291, 9, m, v2))) | ((u32)(held8(p1289, 10, m, v0) != held8(p1291,
+        10, m, v2)));
     t1 = t1 | t2;
-    t2 = ((u32)(load8(m, v0 + 11ull, 0) != load8(m, v2 + 11ull, 0))) | ((u32)(load8(m, v0 + 12ull, 0) != load8(m, v2 +
-        12ull, 0)));
-    t3 = ((u32)(load8(m, v0 + 13ull, 0) != load8(m, v2 + 13ull, 0))) | ((u32)(load8(m, v0 + 14ull, 0) != load8(m, v2 +
-        14ull, 0)));
+    t2 = ((u32)(held8(p1289, 11, m, v0) != held8(p1291, 11, m, v2))) | ((u32)(held8(p1289, 12, m, v0) != held8(p1291,
+        12, m, v2)));
+    t3 = ((u32)(held8(p1289, 13, m, v0) != held8(p1291, 13, m, v2))) | ((u32)(held8(p1289, 14, m, v0) != held8(p1291,
+        14, m, v2)));
     t0 = t0 | (t1 | (t2 | t3));
-    t1 = ((u32)(load8(m, v0 + 15ull, 0) != load8(m, v2 + 15ull, 0))) | ((u32)(load8(m, v0 + 16ull, 0) != load8(m, v2 +
-        16ull, 0)));
-    t2 = ((u32)(load8(m, v0 + 17ull, 0) != load8(m, v2 + 17ull, 0))) | ((u32)(load8(m, v0 + 18ull, 0) != load8(m, v2 +
-        18ull, 0)));
+    t1 = ((u32)(held8(p1289, 15, m, v0) != held8(p1291, 15, m, v2))) | ((u32)(held8(p1289, 16, m, v0) != held8(p1291,
+        16, m, v2)));
+    t2 = ((u32)(held8(p1289, 17, m, v0) != held8(p1291, 17, m, v2))) | ((u32)(held8(p1289, 18, m, v0) != held8(p1291,
+        18, m, v2)));
     t1 = t1 | t2;
-    t2 = ((u32)(load8(m, v0 + 19ull, 0) != load8(m, v2 + 19ull, 0))) | ((u32)(load8(m, v0 + 20ull, 0) != load8(m, v2 +
-        20ull, 0)));
-    t3 = ((u32)(load8(m, v0 + 21ull, 0) != load8(m, v2 + 21ull, 0))) | ((u32)(load8(m, v0 + 22ull, 0) != load8(m, v2 +
-        22ull, 0)));
+    t2 = ((u32)(held8(p1289, 19, m, v0) != held8(p1291, 19, m, v2))) | ((u32)(held8(p1289, 20, m, v0) != held8(p1291,
+        20, m, v2)));
+    t3 = ((u32)(held8(p1289, 21, m, v0) != held8(p1291, 21, m, v2))) | ((u32)(held8(p1289, 22, m, v0) != held8(p1291,
+        22, m, v2)));
     t1 = t1 | (t2 | t3);
-    t2 = ((u32)(load8(m, v0 + 23ull, 0) != load8(m, v2 + 23ull, 0))) | ((u32)(load8(m, v0 + 24ull, 0) != load8(m, v2 +
-        24ull, 0)));
-    t3 = ((u32)(load8(m, v0 + 25ull, 0) != load8(m, v2 + 25ull, 0))) | ((u32)(load8(m, v0 + 26ull, 0) != load8(m, v2 +
-        26ull, 0)));
+    t2 = ((u32)(held8(p1289, 23, m, v0) != held8(p1291, 23, m, v2))) | ((u32)(held8(p1289, 24, m, v0) != held8(p1291,
+        24, m, v2)));
+    t3 = ((u32)(held8(p1289, 25, m, v0) != held8(p1291, 25, m, v2))) | ((u32)(held8(p1289, 26, m, v0) != held8(p1291,
+        26, m, v2)));
     t2 = t2 | t3;
-    t3 = ((u32)(load8(m, v0 + 27ull, 0) != load8(m, v2 + 27ull, 0))) | ((u32)(load8(m, v0 + 28ull, 0) != load8(m, v2 +
-        28ull, 0)));
-    t4 = ((u32)(load8(m, v0 + 29ull, 0) != load8(m, v2 + 29ull, 0))) | ((u32)(load8(m, v0 + 30ull, 0) != load8(m, v2 +
-        30ull, 0)));
-    t0 = (t0 | (t1 | (t2 | (t3 | t4)))) | ((u32)(load8(m, v0 + 31ull, 0) != load8(m, v2 + 31ull, 0)));
+    t3 = ((u32)(held8(p1289, 27, m, v0) != held8(p1291, 27, m, v2))) | ((u32)(held8(p1289, 28, m, v0) != held8(p1291,
+        28, m, v2)));
+    t4 = ((u32)(held8(p1289, 29, m, v0) != held8(p1291, 29, m, v2))) | ((u32)(held8(p1289, 30, m, v0) != held8(p1291,
+        30, m, v2)));
+    t0 = (t0 | (t1 | (t2 | (t3 | t4)))) | ((u32)(held8(p1289, 31, m, v0) != held8(p1291, 31, m, v2)));
     v4 = t0;
 after1:;
     return (v4 ^ 0xFFFFFFFFu) & 1u;
@@ -3534,21 +3796,41 @@ static void c_lent_lent_card_turn(struct call *m, u64 v0, u64 v1, u64 v2, u64 v3
     u32 t1 = 0;
     u32 t2 = 0;
     u8 *f36 = NULL;
+    u8 *p23 = NULL;
+    u8 *p51 = NULL;
+    u8 *p325 = NULL;
+    u8 *p326 = NULL;
+    u8 *p433 = NULL;
+    u8 *p489 = NULL;
+    u8 *p490 = NULL;
+    u8 *p627 = NULL;
+    u8 *p697 = NULL;
+    u8 *p740 = NULL;
+    u8 *p941 = NULL;
+    u8 *p942 = NULL;
+    u8 *p1356 = NULL;
+    u8 *p1475 = NULL;
+    u8 *p1642 = NULL;
+    u8 *p1694 = NULL;
+    u8 *p1695 = NULL;
+    u8 *p1825 = NULL;
+    u8 *p1909 = NULL;
     v36 = m->g0 - 144ull;
     f36 = at(m, v36, 144);
     v9 = v36;
     m->g0 = v9;
-    if ((v36 ^ 0x8000000000000000ull) < (16ull ^ 0x8000000000000000ull)) { goto after10; }
-    v10 = load64(m, v6 + 16ull, 0);
-    v11 = load64(m, v6 + 8ull, 0);
-    v12 = load8(m, v6 + 1ull, 0);
-    v13 = load8(m, v6, 0);
-    fill(m, v36 + 8ull, 0u, 104ull);
+    p23 = held(m, v6, 24);
+    v10 = held64(p23, 16, m, v6);
+    v11 = held64(p23, 8, m, v6);
+    v12 = held8(p23, 1, m, v6);
+    v13 = held8(p23, 0, m, v6);
+    memset(f36 + 8, (int)(0u & 255u), 104);
     if (v8 >= 258ull) { goto after11; }
-    store32(m, v0, 1, 0u);
-    store8(m, v0, 0, 33u);
-    store32(m, v0, 4, 0u);
-    store64(m, v0, 8, 258ull);
+    p51 = held(m, v0, 16);
+    put_held32(p51, 1, m, v0, 0u);
+    put_held8(p51, 0, m, v0, 33u);
+    put_held32(p51, 4, m, v0, 0u);
+    put_held64(p51, 8, m, v0, 258ull);
     goto after1;
 after11:;
     c_lent_kept_CCard_fitting(m, v36 + 8ull, v1, v3, v5);
@@ -3646,10 +3928,12 @@ after29:;
 again33:;
     v6 = v4 + v8;
     v3 = v11 + v8;
-    store8(m, v6, 0, load8(m, v3, 0));
-    store8(m, v6 + 1ull, 0, load8(m, v3 + 1ull, 0));
-    store8(m, v6 + 2ull, 0, load8(m, v3 + 2ull, 0));
-    store8(m, v6 + 3ull, 0, load8(m, v3 + 3ull, 0));
+    p325 = held(m, v3, 4);
+    p326 = held(m, v6, 4);
+    put_held8(p326, 0, m, v6, held8(p325, 0, m, v3));
+    put_held8(p326, 1, m, v6, held8(p325, 1, m, v3));
+    put_held8(p326, 2, m, v6, held8(p325, 2, m, v3));
+    put_held8(p326, 3, m, v6, held8(p325, 3, m, v3));
     v8 = v8 + 4ull;
     if (v27 != v8) { goto again33; }
     if (v2 == 0) { goto after30; }
@@ -3677,11 +3961,12 @@ after36:;
     v24 = 0u;
     if (v2 == 255ull) { goto after10; }
 after35:;
-    store8(m, v7, 0, 0u);
+    p433 = held(m, v7, 3);
+    put_held8(p433, 0, m, v7, 0u);
     v13 = (u32)v2;
-    store8(m, v7, 2, v13);
+    put_held8(p433, 2, m, v7, v13);
     v12 = v24 | ((v30 & 255u) ? 64u : 0u);
-    store8(m, v7, 1, v12);
+    put_held8(p433, 1, m, v7, v12);
     v6 = v7 + 3ull;
     if ((v6 - v4) >= v2) { goto after38; }
     v11 = v2 & 3ull;
@@ -3692,10 +3977,12 @@ after35:;
 again40:;
     v6 = v7 + v8;
     v3 = v4 + v8;
-    store8(m, v6 + 3ull, 0, load8(m, v3, 0));
-    store8(m, v6 + 4ull, 0, load8(m, v3 + 1ull, 0));
-    store8(m, v6 + 5ull, 0, load8(m, v3 + 2ull, 0));
-    store8(m, v6 + 6ull, 0, load8(m, v3 + 3ull, 0));
+    p489 = held(m, v3, 4);
+    p490 = held(m, v6 + 3ull, 4);
+    put_held8(p490, 0, m, v6 + 3ull, held8(p489, 0, m, v3));
+    put_held8(p490, 1, m, v6 + 3ull, held8(p489, 1, m, v3));
+    put_held8(p490, 2, m, v6 + 3ull, held8(p489, 2, m, v3));
+    put_held8(p490, 3, m, v6 + 3ull, held8(p489, 3, m, v3));
     v8 = v8 + 4ull;
     if (v27 != v8) { goto again40; }
     if (v11 == 0) { goto after37; }
@@ -3732,15 +4019,16 @@ after19:;
     goto after5;
 after42:;
     v23 = 1u;
-    store8(m, v7, 2, 1u);
-    store16(m, v7, 0, 49920u);
-    store8(m, v7 + 3ull, 0, v12);
+    p627 = held(m, v7, 5);
+    put_held8(p627, 2, m, v7, 1u);
+    put_held16(p627, 0, m, v7, 49920u);
+    put_held8(p627, 3, m, v7, v12);
     put8(f36 + 117, v12);
     put8(f36 + 116, 1u);
     put32(f36 + 112, 0x30202u);
     v8 = 5ull;
     t1 = block_core_block_ref_sum_of(m, (v36 + 112ull) + 5ull, 1ull);
-    store8(m, v7 + 4ull, 0, t1 ^ 194u);
+    put_held8(p627, 4, m, v7, t1 ^ 194u);
     v33 = 0u;
     v24 = 4u;
     v22 = v12;
@@ -3756,23 +4044,25 @@ after44:;
     v33 = 1u;
     goto after3;
 after43:;
-    store8(m, v7, 2, 1u);
-    store16(m, v7, 0, 49408u);
-    store8(m, v7 + 3ull, 0, v12);
+    p697 = held(m, v7, 5);
+    put_held8(p697, 2, m, v7, 1u);
+    put_held16(p697, 0, m, v7, 49408u);
+    put_held8(p697, 3, m, v7, v12);
     put8(f36 + 117, v12);
     put8(f36 + 116, 1u);
     put32(f36 + 112, 0x10202u);
     v8 = 5ull;
     t1 = block_core_block_ref_sum_of(m, (v36 + 112ull) + 5ull, 1ull);
-    store8(m, v7 + 4ull, 0, t1 ^ 192u);
+    put_held8(p697, 4, m, v7, t1 ^ 192u);
     v23 = 0u;
     v24 = 4u;
     v22 = v12;
     goto after6;
 after17:;
-    store64(m, v0, 1, 0ull);
-    store8(m, v0, 0, 32u);
-    store64(m, v0, 8, 0ull);
+    p740 = held(m, v0, 16);
+    put_held64(p740, 1, m, v0, 0ull);
+    put_held8(p740, 0, m, v0, 32u);
+    put_held64(p740, 8, m, v0, 0ull);
     goto after1;
 after16:;
     if (v10 == 3ull) { goto after14; }
@@ -3845,10 +4135,12 @@ after71:;
 again76:;
     v4 = v19 + v3;
     v10 = v6 + v3;
-    store8(m, v4, 0, load8(m, v10, 0));
-    store8(m, v4 + 1ull, 0, load8(m, v10 + 1ull, 0));
-    store8(m, v4 + 2ull, 0, load8(m, v10 + 2ull, 0));
-    store8(m, v4 + 3ull, 0, load8(m, v10 + 3ull, 0));
+    p941 = held(m, v10, 4);
+    p942 = held(m, v4, 4);
+    put_held8(p942, 0, m, v4, held8(p941, 0, m, v10));
+    put_held8(p942, 1, m, v4, held8(p941, 1, m, v10));
+    put_held8(p942, 2, m, v4, held8(p941, 2, m, v10));
+    put_held8(p942, 3, m, v4, held8(p941, 3, m, v10));
     v3 = v3 + 4ull;
     if (v21 != v3) { goto again76; }
     if (v11 == 0) { goto after73; }
@@ -4011,8 +4303,9 @@ after58:;
     if (v33) { goto after50; }
 after57:;
     v30 = 0u;
-    store8(m, v7, 2, 0u);
-    store16(m, v7, 0, 57344u);
+    p1356 = held(m, v7, 3);
+    put_held8(p1356, 2, m, v7, 0u);
+    put_held16(p1356, 0, m, v7, 57344u);
     put32(f36 + 114, 0u);
     put16(f36 + 112, 770u);
     v2 = v7 + 3ull;
@@ -4059,10 +4352,11 @@ after52:;
     v12 = v29;
 after51:;
     v33 = 0u;
-    store8(m, v7, 2, 0u);
-    store8(m, v7, 0, 0u);
+    p1475 = held(m, v7, 3);
+    put_held8(p1475, 2, m, v7, 0u);
+    put_held8(p1475, 0, m, v7, 0u);
     v13 = ((v12 & 255u) ? 0xFFFFFF90u : 0xFFFFFF80u) | v13;
-    store8(m, v7, 1, v13);
+    put_held8(p1475, 1, m, v7, v13);
     v2 = v7 + 3ull;
     v11 = 0ull;
     v4 = 0x10000ull;
@@ -4121,10 +4415,11 @@ after45:;
 after10:;
     UNREACHABLE;
 after9:;
-    store8(m, v7, 1, v13);
-    store8(m, v7, 0, 0u);
+    p1642 = held(m, v7, 3);
+    put_held8(p1642, 1, m, v7, v13);
+    put_held8(p1642, 0, m, v7, 0u);
     v33 = (u32)v11;
-    store8(m, v7, 2, v33);
+    put_held8(p1642, 2, m, v7, v33);
     v2 = v7 + 3ull;
     if ((v2 - v4) < v11) { goto after90; }
     v24 = v12;
@@ -4138,10 +4433,12 @@ after90:;
 again93:;
     v8 = v7 + v6;
     v3 = v4 + v6;
-    store8(m, v8 + 3ull, 0, load8(m, v3, 0));
-    store8(m, v8 + 4ull, 0, load8(m, v3 + 1ull, 0));
-    store8(m, v8 + 5ull, 0, load8(m, v3 + 2ull, 0));
-    store8(m, v8 + 6ull, 0, load8(m, v3 + 3ull, 0));
+    p1694 = held(m, v3, 4);
+    p1695 = held(m, v8 + 3ull, 4);
+    put_held8(p1695, 0, m, v8 + 3ull, held8(p1694, 0, m, v3));
+    put_held8(p1695, 1, m, v8 + 3ull, held8(p1694, 1, m, v3));
+    put_held8(p1695, 2, m, v8 + 3ull, held8(p1694, 2, m, v3));
+    put_held8(p1695, 3, m, v8 + 3ull, held8(p1694, 3, m, v3));
     v6 = v6 + 4ull;
     if (v16 != v6) { goto again93; }
     if (v10 == 0) { goto after91; }
@@ -4188,35 +4485,37 @@ after95:;
     v24 = (v23 & 255u) ? 5u : 4u;
     v12 = v22;
 after2:;
-    store32(m, v1, 9, 0u);
-    store8(m, v1, 8, v12);
-    store8(m, v1, 7, v24);
-    store8(m, v1, 6, v25);
-    store8(m, v1, 5, v15);
-    store8(m, v1, 4, v26);
-    store8(m, v1, 1, v29);
-    store8(m, v1, 0, v30);
-    store32(m, v1, 12, 0u);
-    store64(m, v1, 56, v18);
-    store64(m, v1, 48, v19);
-    store64(m, v1, 40, v5);
-    store64(m, v1, 32, v20);
-    store64(m, v1, 24, v6);
-    store8(m, v1, 2, v28 & 1u);
+    p1825 = held(m, v1, 64);
+    put_held32(p1825, 9, m, v1, 0u);
+    put_held8(p1825, 8, m, v1, v12);
+    put_held8(p1825, 7, m, v1, v24);
+    put_held8(p1825, 6, m, v1, v25);
+    put_held8(p1825, 5, m, v1, v15);
+    put_held8(p1825, 4, m, v1, v26);
+    put_held8(p1825, 1, m, v1, v29);
+    put_held8(p1825, 0, m, v1, v30);
+    put_held32(p1825, 12, m, v1, 0u);
+    put_held64(p1825, 56, m, v1, v18);
+    put_held64(p1825, 48, m, v1, v19);
+    put_held64(p1825, 40, m, v1, v5);
+    put_held64(p1825, 32, m, v1, v20);
+    put_held64(p1825, 24, m, v1, v6);
+    put_held8(p1825, 2, m, v1, v28 & 1u);
     v24 = (u32)((v28 & 255u) == 1u);
-    store8(m, v1, 3, v24 ? v17 : 0u);
+    put_held8(p1825, 3, m, v1, v24 ? v17 : 0u);
     v6 = 0ull;
-    store64(m, v1, 16, v24 ? v27 : 0ull);
+    put_held64(p1825, 16, m, v1, v24 ? v27 : 0ull);
     if (v33) { goto after99; }
     v6 = v13 ? 0ull : v8;
     goto after98;
 after99:;
     v13 = 0x131215u >> ((v35 << 3) & 31);
 after98:;
-    store32(m, v0, 1, 0u);
-    store8(m, v0, 0, v13);
-    store32(m, v0, 4, 0u);
-    store64(m, v0, 8, v6);
+    p1909 = held(m, v0, 16);
+    put_held32(p1909, 1, m, v0, 0u);
+    put_held8(p1909, 0, m, v0, v13);
+    put_held32(p1909, 4, m, v0, 0u);
+    put_held64(p1909, 8, m, v0, v6);
 after1:;
     m->g0 = v36 + 144ull;
 }
@@ -4258,6 +4557,10 @@ static void c_lent_kept_CCard_fitting(struct call *m, u64 v0, u64 v1, u64 v2, u6
     u32 v29 = 0;
     u32 v31 = 0;
     u8 *f37 = NULL;
+    u8 *p77 = NULL;
+    u8 *p179 = NULL;
+    u8 *p190 = NULL;
+    u8 *p586 = NULL;
     v37 = m->g0 - 48ull;
     f37 = at(m, v37, 48);
     v4 = v37;
@@ -4289,10 +4592,11 @@ after7:;
 after10:;
     v6 = v6 | 256ull;
 after9:;
-    v7 = load8(m, v1 + 8ull, 0);
+    p77 = held(m, v1 + 7ull, 2);
+    v7 = held8(p77, 1, m, v1 + 7ull);
     v8 = 0ull;
     v9 = 0u;
-    v10 = load8(m, v1 + 7ull, 0);
+    v10 = held8(p77, 0, m, v1 + 7ull);
     v11 = v10;
     v12 = v10;
     v13 = v10;
@@ -4349,16 +4653,18 @@ after17:;
 after16:;
     put32(f37 + 40, 0u);
     put32(f37 + 43, 0u);
-    v14 = load8(m, v1 + 3ull, 0);
-    v15 = load64(m, v1 + 16ull, 0);
+    p179 = held(m, v1 + 3ull, 21);
+    v14 = held8(p179, 0, m, v1 + 3ull);
+    v15 = held64(p179, 13, m, v1 + 3ull);
 after15:;
-    v16 = load64(m, v1 + 56ull, 0);
-    v17 = load64(m, v1 + 48ull, 0);
-    v18 = load64(m, v1 + 40ull, 0);
-    v19 = load64(m, v1 + 32ull, 0);
-    v20 = load8(m, v1 + 6ull, 0);
-    v21 = load8(m, v1 + 5ull, 0);
-    v22 = load8(m, v1 + 4ull, 0);
+    p190 = held(m, v1 + 4ull, 60);
+    v16 = held64(p190, 52, m, v1 + 4ull);
+    v17 = held64(p190, 44, m, v1 + 4ull);
+    v18 = held64(p190, 36, m, v1 + 4ull);
+    v19 = held64(p190, 28, m, v1 + 4ull);
+    v20 = held8(p190, 2, m, v1 + 4ull);
+    v21 = held8(p190, 1, m, v1 + 4ull);
+    v22 = held8(p190, 0, m, v1 + 4ull);
     switch (v10) {
         case 2: goto after20;
         case 3: goto after21;
@@ -4508,34 +4814,35 @@ after2:;
     v35 = 0ull;
     v36 = 0ull;
 after1:;
-    store64(m, v0, 0, v36);
-    store8(m, v0 + 23ull, 0, (u32)0ull);
-    store16(m, v0 + 21ull, 0, (u32)0ull);
-    store32(m, v0 + 17ull, 0, (u32)0ull);
-    store8(m, v0 + 32ull, 0, v23);
-    store64(m, v0 + 24ull, 0, v5);
-    store8(m, v0 + 16ull, 0, v9);
-    store64(m, v0 + 8ull, 0, v1);
-    store32(m, v0 + 33ull, 0, get32(f37 + 32));
-    store32(m, v0 + 36ull, 0, get32(f37 + 35));
-    store8(m, v0 + 42ull, 0, v26);
-    store8(m, v0 + 41ull, 0, v25);
-    store8(m, v0 + 40ull, 0, v24);
-    store32(m, v0 + 43ull, 0, get32(f37 + 24));
-    store8(m, v0 + 47ull, 0, get8(f37 + 28));
-    store8(m, v0 + 50ull, 0, v29);
-    store8(m, v0 + 49ull, 0, v28);
-    store8(m, v0 + 48ull, 0, v27);
-    store64(m, v0 + 56ull, 0, v30);
-    store8(m, v0 + 64ull, 0, v31);
-    store64(m, v0 + 72ull, 0, v32);
-    store64(m, v0 + 80ull, 0, v33);
-    store64(m, v0 + 88ull, 0, v34);
-    store64(m, v0 + 96ull, 0, v35);
-    store8(m, v0 + 55ull, 0, get8(f37 + 20));
-    store32(m, v0 + 51ull, 0, get32(f37 + 16));
-    store32(m, v0 + 65ull, 0, get32(f37 + 8));
-    store32(m, v0 + 68ull, 0, get32(f37 + 11));
+    p586 = held(m, v0, 104);
+    put_held64(p586, 0, m, v0, v36);
+    put_held8(p586, 23, m, v0, (u32)0ull);
+    put_held16(p586, 21, m, v0, (u32)0ull);
+    put_held32(p586, 17, m, v0, (u32)0ull);
+    put_held8(p586, 32, m, v0, v23);
+    put_held64(p586, 24, m, v0, v5);
+    put_held8(p586, 16, m, v0, v9);
+    put_held64(p586, 8, m, v0, v1);
+    put_held32(p586, 33, m, v0, get32(f37 + 32));
+    put_held32(p586, 36, m, v0, get32(f37 + 35));
+    put_held8(p586, 42, m, v0, v26);
+    put_held8(p586, 41, m, v0, v25);
+    put_held8(p586, 40, m, v0, v24);
+    put_held32(p586, 43, m, v0, get32(f37 + 24));
+    put_held8(p586, 47, m, v0, get8(f37 + 28));
+    put_held8(p586, 50, m, v0, v29);
+    put_held8(p586, 49, m, v0, v28);
+    put_held8(p586, 48, m, v0, v27);
+    put_held64(p586, 56, m, v0, v30);
+    put_held8(p586, 64, m, v0, v31);
+    put_held64(p586, 72, m, v0, v32);
+    put_held64(p586, 80, m, v0, v33);
+    put_held64(p586, 88, m, v0, v34);
+    put_held64(p586, 96, m, v0, v35);
+    put_held8(p586, 55, m, v0, get8(f37 + 20));
+    put_held32(p586, 51, m, v0, get32(f37 + 16));
+    put_held32(p586, 65, m, v0, get32(f37 + 8));
+    put_held32(p586, 68, m, v0, get32(f37 + 11));
 }
 
 static void c_lent_kept_check_CCheck_fitting(struct call *m, u64 v0, u64 v1)
@@ -4566,19 +4873,22 @@ static void c_lent_kept_check_CCheck_fitting(struct call *m, u64 v0, u64 v1)
     u32 v17 = 0;
     u32 v18 = 0;
     u8 *f26 = NULL;
+    u8 *p43 = NULL;
+    u8 *p374 = NULL;
+    u8 *p812 = NULL;
     v26 = m->g0 - 464ull;
     f26 = at(m, v26, 464);
     v2 = v26;
     m->g0 = v2;
-    if ((v26 ^ 0x8000000000000000ull) < (16ull ^ 0x8000000000000000ull)) { goto after15; }
     put64(f26 + 192, 0ull);
     put64(f26 + 184, 0ull);
     put64(f26 + 176, 0ull);
-    fill(m, v26 + 8ull, 0u, 96ull);
-    v3 = load8(m, v1 + 88ull, 0);
-    v4 = load32(m, v1 + 4ull, 0);
-    v5 = load32(m, v1, 0);
-    v6 = load8(m, v1 + 12ull, 0);
+    memset(f26 + 8, (int)(0u & 255u), 96);
+    p43 = held(m, v1, 89);
+    v3 = held8(p43, 88, m, v1);
+    v4 = held32(p43, 4, m, v1);
+    v5 = held32(p43, 0, m, v1);
+    v6 = held8(p43, 12, m, v1);
     v7 = v6;
     v8 = v6;
     v9 = v6;
@@ -4594,7 +4904,7 @@ static void c_lent_kept_check_CCheck_fitting(struct call *m, u64 v0, u64 v1)
         default: goto after11;
     }
 after20:;
-    v12 = load8(m, v1 + 13ull, 0);
+    v12 = held8(p43, 13, m, v1);
     v7 = 0u;
     v8 = 0u;
     v9 = 0u;
@@ -4602,15 +4912,15 @@ after20:;
     v11 = 0u;
     goto after12;
 after19:;
-    v11 = load8(m, v1 + 14ull, 0);
-    v12 = load8(m, v1 + 13ull, 0);
+    v11 = held8(p43, 14, m, v1);
+    v12 = held8(p43, 13, m, v1);
     v7 = 0u;
     v8 = 0u;
     v9 = 0u;
     v10 = 0u;
     goto after12;
 after18:;
-    v10 = load8(m, v1 + 16ull, 0);
+    v10 = held8(p43, 16, m, v1);
     if (v10 > 3u) { goto after11; }
     switch (v10) {
         case 0: goto after11;
@@ -4619,23 +4929,23 @@ after18:;
         default: goto after16;
     }
 after22:;
-    v12 = load8(m, v1 + 13ull, 0);
+    v12 = held8(p43, 13, m, v1);
     if (v12 == 0) { goto after11; }
     if ((v12 & 31u) == 31u) { goto after11; }
     v8 = 0u;
     v9 = 0x1000000u;
     goto after13;
 after21:;
-    v12 = load8(m, v1 + 13ull, 0);
+    v12 = held8(p43, 13, m, v1);
     if ((v12 & 31u) != 31u) { goto after11; }
-    v8 = load8(m, v1 + 14ull, 0);
+    v8 = held8(p43, 14, m, v1);
     if (v8 < 129u) { goto after11; }
-    v10 = spread32(load8(m, v1 + 15ull, 0), 8);
+    v10 = spread32(held8(p43, 15, m, v1), 8);
     if ((v10 ^ 0x80000000u) <= (0xFFFFFFFFu ^ 0x80000000u)) { goto after11; }
     v9 = (v10 << 16) | 0x3000000u;
     goto after13;
 after17:;
-    v10 = load8(m, v1 + 16ull, 0);
+    v10 = held8(p43, 16, m, v1);
     if (v10 > 3u) { goto after11; }
     switch (v10) {
         case 0: goto after11;
@@ -4644,44 +4954,42 @@ after17:;
         default: goto after24;
     }
 after26:;
-    v12 = load8(m, v1 + 13ull, 0);
+    v12 = held8(p43, 13, m, v1);
     if (v12 == 0) { goto after11; }
     if ((v12 & 31u) == 31u) { goto after11; }
     v7 = 0u;
     v8 = 0x1000000u;
     goto after23;
 after25:;
-    v12 = load8(m, v1 + 13ull, 0);
+    v12 = held8(p43, 13, m, v1);
     if ((v12 & 31u) != 31u) { goto after11; }
-    v7 = load8(m, v1 + 14ull, 0);
+    v7 = held8(p43, 14, m, v1);
     if (v7 < 129u) { goto after11; }
-    v10 = spread32(load8(m, v1 + 15ull, 0), 8);
+    v10 = spread32(held8(p43, 15, m, v1), 8);
     if ((v10 ^ 0x80000000u) <= (0xFFFFFFFFu ^ 0x80000000u)) { goto after11; }
     v8 = (v10 << 16) | 0x3000000u;
     goto after23;
 after24:;
-    v12 = load8(m, v1 + 13ull, 0);
+    v12 = held8(p43, 13, m, v1);
     if ((v12 & 31u) != 31u) { goto after11; }
-    v7 = spread32(load8(m, v1 + 14ull, 0), 8);
+    v7 = spread32(held8(p43, 14, m, v1), 8);
     if ((v7 ^ 0x80000000u) <= (0u ^ 0x80000000u)) { goto after11; }
     v8 = 0x2000000u;
 after23:;
-    v9 = load8(m, v1 + 17ull, 0) + 0xFFFFFFFFu;
+    v9 = held8(p43, 17, m, v1) + 0xFFFFFFFFu;
     if ((v9 & 255u) > 4u) { goto after11; }
     v10 = v8 & 0x7FFF0000u;
     v12 = v12 | v8;
     v11 = v7 | (v8 >> 8);
-    v7 = load32(m, v1 + 20ull, 0);
-    v8 = load8(m, v1 + 18ull, 0);
+    v7 = held32(p43, 20, m, v1);
+    v8 = held8(p43, 18, m, v1);
     goto after12;
 after16:;
-    v12 = load8(m, v1 + 13ull, 0);
+    v12 = held8(p43, 13, m, v1);
     if ((v12 & 31u) == 31u) { goto after14; }
     goto after11;
-after15:;
-    UNREACHABLE;
 after14:;
-    v8 = spread32(load8(m, v1 + 14ull, 0), 8);
+    v8 = spread32(held8(p43, 14, m, v1), 8);
     if ((v8 ^ 0x80000000u) <= (0u ^ 0x80000000u)) { goto after11; }
     v9 = 0x2000000u;
 after13:;
@@ -4694,17 +5002,18 @@ after13:;
 after12:;
     v13 = load8(m, v1 + 89ull, 0);
     if (v13 >= 7u) { goto after5; }
-    v14 = load32(m, v1 + 8ull, 0);
+    v14 = held32(p43, 8, m, v1);
     put32(f26 + 108, v4);
     v1 = v1 + 24ull;
-    put64(f26 + 112, load64(m, v1, 0));
-    put64(f26 + 120, load64(m, v1, 8));
-    put64(f26 + 128, load64(m, v1, 16));
-    put64(f26 + 136, load64(m, v1, 24));
-    put64(f26 + 144, load64(m, v1, 32));
-    put64(f26 + 152, load64(m, v1, 40));
-    put64(f26 + 160, load64(m, v1, 48));
-    put64(f26 + 168, load64(m, v1, 56));
+    p374 = held(m, v1, 64);
+    put64(f26 + 112, held64(p374, 0, m, v1));
+    put64(f26 + 120, held64(p374, 8, m, v1));
+    put64(f26 + 128, held64(p374, 16, m, v1));
+    put64(f26 + 136, held64(p374, 24, m, v1));
+    put64(f26 + 144, held64(p374, 32, m, v1));
+    put64(f26 + 152, held64(p374, 40, m, v1));
+    put64(f26 + 160, held64(p374, 48, m, v1));
+    put64(f26 + 168, held64(p374, 56, m, v1));
     put32(f26 + 104, v5);
     put32(f26 + 192, v14);
     put32(f26 + 188, v7);
@@ -4832,13 +5141,14 @@ after38:;
     v22 = v20 + 0xFFFFFFFFFFFFFFFFull;
     v1 = v26 + 116ull;
 again41:;
-    if (load32(m, v1 + 0xFFFFFFFFFFFFFFFCull, 0) < load32(m, v1, 0)) { goto after3; }
+    p812 = held(m, v1 - 4ull, 8);
+    if (held32(p812, 0, m, v1 - 4ull) < held32(p812, 4, m, v1 - 4ull)) { goto after3; }
     v1 = v1 + 4ull;
     v22 = v22 + 0xFFFFFFFFFFFFFFFFull;
     if (v22) { goto again41; }
 after40:;
     v12 = 0u;
-    fill(m, v26 + 200ull, 0u, 68ull);
+    memset(f26 + 200, (int)(0u & 255u), 68);
     v21 = v20 << 2;
     v17 = (u32)(v21 == 0);
     if (v17) { goto after42; }
@@ -4960,7 +5270,7 @@ after49:;
 after48:;
     if (v13 == 0) { goto after4; }
     v4 = 0u;
-    fill(m, v26 + 392ull, 0u, 68ull);
+    memset(f26 + 392, (int)(0u & 255u), 68);
     if (v17) { goto after64; }
     copy(m, v26 + 392ull, v19, v21);
 after64:;
@@ -5021,15 +5331,22 @@ static void tlv_core_progress_Progress_next(struct call *m, u64 v0, u64 v1, u32 
     u32 v9 = 0;
     u32 v13 = 0;
     u32 v14 = 0;
-    if ((m->g0 ^ 0x8000000000000000ull) < (16ull ^ 0x8000000000000000ull)) { goto after1; }
+    u8 *p35 = NULL;
+    u8 *p215 = NULL;
+    u8 *p317 = NULL;
+    u8 *p459 = NULL;
+    u8 *p462 = NULL;
+    u8 *p479 = NULL;
+    u8 *p499 = NULL;
     v3 = load8(m, v1 + 96ull, 0);
     if (v3) { goto after10; }
     v4 = v2 & 255u;
     if (v4 == 0) { goto after9; }
     if (load64(m, v1 + 88ull, 0) != 16ull) { goto after9; }
-    store16(m, v0, 0, 1u);
-    store64(m, v0 + 4ull, 0, 0ull);
-    store64(m, v0 + 12ull, 0, 0ull);
+    p35 = held(m, v0, 20);
+    put_held16(p35, 0, m, v0, 1u);
+    put_held64(p35, 4, m, v0, 0ull);
+    put_held64(p35, 12, m, v0, 0ull);
     return;
 after10:;
     v4 = load32(m, v1 + 97ull, 0);
@@ -5087,11 +5404,12 @@ after12:;
     v7 = 0u;
     goto after4;
 after5:;
-    v7 = load8(m, v1 + 101ull, 0);
+    p215 = held(m, v1 + 101ull, 7);
+    v7 = held8(p215, 0, m, v1 + 101ull);
     v6 = ((u64)v7) & 255ull;
-    v8 = load32(m, v1 + 104ull, 0);
+    v8 = held32(p215, 3, m, v1 + 101ull);
     v3 = 1u;
-    v9 = load8(m, v1 + 102ull, 0) + 1u;
+    v9 = held8(p215, 1, m, v1 + 101ull) + 1u;
     if ((v9 & 255u) != (v7 & 255u)) { goto after14; }
     v7 = v4 & 255u;
     v4 = (u32)(((v6 << 32) | v5) >> 8);
@@ -5109,7 +5427,8 @@ after4:;
     v11 = v6 >> 40;
     v6 = load64(m, v1 + 88ull, 0);
     if (v6 != 0ull) { goto after16; }
-    v12 = load64(m, v1, 0) - load64(m, v1 + 8ull, 0);
+    p317 = held(m, v1, 16);
+    v12 = held64(p317, 0, m, v1) - held64(p317, 8, m, v1);
     goto after15;
 after16:;
     v12 = (u64)load32(m, (v1 + (v6 << 2)) + 12ull, 0) - load64(m, v1 + 8ull, 0);
@@ -5168,29 +5487,31 @@ after18:;
 after17:;
     v5 = v0 + 4ull;
     if (v12 > v1) { goto after2; }
-    store8(m, v0, 0, 1u);
-    store64(m, v5, 0, 0ull);
-    store64(m, v5, 8, 0ull);
-    store8(m, v0 + 1ull, 0, (v6 == 0) ? 5u : 4u);
+    p459 = held(m, v0, 2);
+    put_held8(p459, 0, m, v0, 1u);
+    p462 = held(m, v5, 16);
+    put_held64(p462, 0, m, v5, 0ull);
+    put_held64(p462, 8, m, v5, 0ull);
+    put_held8(p459, 1, m, v0, (v6 == 0) ? 5u : 4u);
     return;
 after3:;
-    store8(m, v0, 0, 1u);
-    store64(m, v0 + 4ull, 0, 0ull);
-    store8(m, v0 + 1ull, 0, v3);
-    store64(m, v0 + 12ull, 0, 0ull);
+    p479 = held(m, v0, 20);
+    put_held8(p479, 0, m, v0, 1u);
+    put_held64(p479, 4, m, v0, 0ull);
+    put_held8(p479, 1, m, v0, v3);
+    put_held64(p479, 12, m, v0, 0ull);
     return;
 after2:;
-    store16(m, v0, 0, 0u);
-    store32(m, v0 + 16ull, 0, v7);
-    store8(m, v0 + 15ull, 0, 0u);
-    store8(m, v0 + 14ull, 0, v9);
-    store8(m, v0 + 13ull, 0, v13);
-    store32(m, v0 + 9ull, 0, v4);
-    store8(m, v0 + 8ull, 0, v8);
+    p499 = held(m, v0, 20);
+    put_held16(p499, 0, m, v0, 0u);
+    put_held32(p499, 16, m, v0, v7);
+    put_held8(p499, 15, m, v0, 0u);
+    put_held8(p499, 14, m, v0, v9);
+    put_held8(p499, 13, m, v0, v13);
+    put_held32(p499, 9, m, v0, v4);
+    put_held8(p499, 8, m, v0, v8);
     store32(m, v5, 0, v3);
     return;
-after1:;
-    UNREACHABLE;
 }
 
 static void tlv_core_checking_Checking_feed(struct call *m, u64 v0, u64 v1, u64 v2, u64 v3)
@@ -5216,11 +5537,16 @@ static void tlv_core_checking_Checking_feed(struct call *m, u64 v0, u64 v1, u64 
     u32 t2 = 0;
     u64 w0 = 0;
     u8 *f21 = NULL;
+    u8 *p206 = NULL;
+    u8 *p497 = NULL;
+    u8 *p519 = NULL;
+    u8 *p534 = NULL;
+    u8 *p555 = NULL;
+    u8 *p564 = NULL;
     v21 = m->g0 - 112ull;
     f21 = at(m, v21, 112);
     v4 = v21;
     m->g0 = v4;
-    if ((v21 ^ 0x8000000000000000ull) < (16ull ^ 0x8000000000000000ull)) { goto after3; }
     if (load8(m, v1 + 120ull, 0) == 1u) { goto after2; }
     if (v3 == 0) { goto after5; }
     v5 = v21 + 16ull;
@@ -5272,8 +5598,9 @@ after14:;
     if (v11 & ((u32)((v12 & 127u) == 0))) { goto after15; }
     v11 = (v11 ? 2u : 1u) + v19;
     v20 = (v21 + 96ull) | ((u64)v11);
-    v17 = (u64)load8(m, v20, 1);
-    v19 = load8(m, v20, 0);
+    p206 = held(m, v20, 2);
+    v17 = (u64)held8(p206, 1, m, v20);
+    v19 = held8(p206, 0, m, v20);
     switch (v19 + 0xFFFFFF80u) {
         case 0: goto after15;
         case 1: goto after19;
@@ -5354,28 +5681,31 @@ after7:;
     v7 = v9 + v7;
     if (v7 < v3) { goto again6; }
 after5:;
-    store8(m, v0, 0, 0u);
-    store64(m, v0 + 8ull, 0, 0ull);
-    store64(m, v0 + 16ull, 0, 0ull);
-    store8(m, v0 + 24ull, 0, 0u);
+    p497 = held(m, v0, 25);
+    put_held8(p497, 0, m, v0, 0u);
+    put_held64(p497, 8, m, v0, 0ull);
+    put_held64(p497, 16, m, v0, 0ull);
+    put_held8(p497, 24, m, v0, 0u);
     goto after1;
 after4:;
-    store8(m, v1 + 121ull, 0, v12);
-    store8(m, v1 + 120ull, 0, 1u);
-    v9 = load64(m, v1 + 8ull, 0);
-    store8(m, v0 + 24ull, 0, v12);
-    store64(m, v0 + 16ull, 0, v9);
-    store64(m, v0 + 8ull, 0, 1ull);
-    store8(m, v0, 0, 1u);
+    p519 = held(m, v1 + 8ull, 114);
+    put_held8(p519, 113, m, v1 + 8ull, v12);
+    put_held8(p519, 112, m, v1 + 8ull, 1u);
+    v9 = held64(p519, 0, m, v1 + 8ull);
+    p534 = held(m, v0, 25);
+    put_held8(p534, 24, m, v0, v12);
+    put_held64(p534, 16, m, v0, v9);
+    put_held64(p534, 8, m, v0, 1ull);
+    put_held8(p534, 0, m, v0, 1u);
     goto after1;
-after3:;
-    UNREACHABLE;
 after2:;
-    v9 = load64(m, v1 + 8ull, 0);
-    store8(m, v0 + 24ull, 0, load8(m, v1 + 121ull, 0));
-    store64(m, v0 + 16ull, 0, v9);
-    store64(m, v0 + 8ull, 0, 1ull);
-    store8(m, v0, 0, 1u);
+    p555 = held(m, v1 + 8ull, 114);
+    v9 = held64(p555, 0, m, v1 + 8ull);
+    p564 = held(m, v0, 25);
+    put_held8(p564, 24, m, v0, held8(p555, 113, m, v1 + 8ull));
+    put_held64(p564, 16, m, v0, v9);
+    put_held64(p564, 8, m, v0, 1ull);
+    put_held8(p564, 0, m, v0, 1u);
 after1:;
     m->g0 = v21 + 112ull;
 }
@@ -5387,13 +5717,17 @@ static void tlv_core_progress_Progress_skip(struct call *m, u64 v0, u64 v1)
     u32 v4 = 0;
     u64 w0 = 0;
     u64 w1 = 0;
-    if ((m->g0 ^ 0x8000000000000000ull) < (16ull ^ 0x8000000000000000ull)) { goto after1; }
+    u8 *p10 = NULL;
+    u8 *p25 = NULL;
+    u8 *p70 = NULL;
     v2 = v0 + 112ull;
-    store64(m, v2, 0, load64(m, v2, 0) - v1);
+    p10 = held(m, v2, 8);
+    put_held64(p10, 0, m, v2, held64(p10, 0, m, v2) - v1);
     v2 = load64(m, v0 + 88ull, 0);
     if (v2 != 0ull) { goto after3; }
-    v2 = load64(m, v0 + 8ull, 0);
-    v3 = load64(m, v0, 0) - v2;
+    p25 = held(m, v0, 16);
+    v2 = held64(p25, 8, m, v0);
+    v3 = held64(p25, 0, m, v0) - v2;
     goto after2;
 after3:;
     w0 = (u64)load32(m, (v0 + (v2 << 2)) + 12ull, 0);
@@ -5403,28 +5737,27 @@ after2:;
     v2 = v2 + v1;
     store64(m, v0 + 8ull, 0, v2);
     if (v1 < v3) { goto after4; }
+    p70 = held(m, v0 + 16ull, 80);
     v4 = (u32)v2;
-    w1 = ((u64)((u32)((load32(m, v0 + 16ull, 0) ^ 0x80000000u) > (v4 ^ 0x80000000u)))) + ((u64)((u32)((load32(m, v0 +
-        20ull, 0) ^ 0x80000000u) > (v4 ^ 0x80000000u))));
-    w1 = (w1 + ((u64)((u32)((load32(m, v0 + 24ull, 0) ^ 0x80000000u) > (v4 ^ 0x80000000u))))) +
-        ((u64)((u32)((load32(m, v0 + 28ull, 0) ^ 0x80000000u) > (v4 ^ 0x80000000u))));
-    w1 = (w1 + ((u64)((u32)((load32(m, v0 + 32ull, 0) ^ 0x80000000u) > (v4 ^ 0x80000000u))))) +
-        ((u64)((u32)((load32(m, v0 + 36ull, 0) ^ 0x80000000u) > (v4 ^ 0x80000000u))));
-    w1 = (w1 + ((u64)((u32)((load32(m, v0 + 40ull, 0) ^ 0x80000000u) > (v4 ^ 0x80000000u))))) +
-        ((u64)((u32)((load32(m, v0 + 44ull, 0) ^ 0x80000000u) > (v4 ^ 0x80000000u))));
-    w1 = (w1 + ((u64)((u32)((load32(m, v0 + 48ull, 0) ^ 0x80000000u) > (v4 ^ 0x80000000u))))) +
-        ((u64)((u32)((load32(m, v0 + 52ull, 0) ^ 0x80000000u) > (v4 ^ 0x80000000u))));
-    w1 = (w1 + ((u64)((u32)((load32(m, v0 + 56ull, 0) ^ 0x80000000u) > (v4 ^ 0x80000000u))))) +
-        ((u64)((u32)((load32(m, v0 + 60ull, 0) ^ 0x80000000u) > (v4 ^ 0x80000000u))));
-    w1 = (w1 + ((u64)((u32)((load32(m, v0 + 64ull, 0) ^ 0x80000000u) > (v4 ^ 0x80000000u))))) +
-        ((u64)((u32)((load32(m, v0 + 68ull, 0) ^ 0x80000000u) > (v4 ^ 0x80000000u))));
-    w1 = (w1 + ((u64)((u32)((load32(m, v0 + 72ull, 0) ^ 0x80000000u) > (v4 ^ 0x80000000u))))) +
-        ((u64)((u32)((load32(m, v0 + 76ull, 0) ^ 0x80000000u) > (v4 ^ 0x80000000u))));
-    store64(m, v0 + 88ull, 0, w1);
+    w1 = ((u64)((u32)((held32(p70, 0, m, v0 + 16ull) ^ 0x80000000u) > (v4 ^ 0x80000000u)))) +
+        ((u64)((u32)((held32(p70, 4, m, v0 + 16ull) ^ 0x80000000u) > (v4 ^ 0x80000000u))));
+    w1 = (w1 + ((u64)((u32)((held32(p70, 8, m, v0 + 16ull) ^ 0x80000000u) > (v4 ^ 0x80000000u))))) +
+        ((u64)((u32)((held32(p70, 12, m, v0 + 16ull) ^ 0x80000000u) > (v4 ^ 0x80000000u))));
+    w1 = (w1 + ((u64)((u32)((held32(p70, 16, m, v0 + 16ull) ^ 0x80000000u) > (v4 ^ 0x80000000u))))) +
+        ((u64)((u32)((held32(p70, 20, m, v0 + 16ull) ^ 0x80000000u) > (v4 ^ 0x80000000u))));
+    w1 = (w1 + ((u64)((u32)((held32(p70, 24, m, v0 + 16ull) ^ 0x80000000u) > (v4 ^ 0x80000000u))))) +
+        ((u64)((u32)((held32(p70, 28, m, v0 + 16ull) ^ 0x80000000u) > (v4 ^ 0x80000000u))));
+    w1 = (w1 + ((u64)((u32)((held32(p70, 32, m, v0 + 16ull) ^ 0x80000000u) > (v4 ^ 0x80000000u))))) +
+        ((u64)((u32)((held32(p70, 36, m, v0 + 16ull) ^ 0x80000000u) > (v4 ^ 0x80000000u))));
+    w1 = (w1 + ((u64)((u32)((held32(p70, 40, m, v0 + 16ull) ^ 0x80000000u) > (v4 ^ 0x80000000u))))) +
+        ((u64)((u32)((held32(p70, 44, m, v0 + 16ull) ^ 0x80000000u) > (v4 ^ 0x80000000u))));
+    w1 = (w1 + ((u64)((u32)((held32(p70, 48, m, v0 + 16ull) ^ 0x80000000u) > (v4 ^ 0x80000000u))))) +
+        ((u64)((u32)((held32(p70, 52, m, v0 + 16ull) ^ 0x80000000u) > (v4 ^ 0x80000000u))));
+    w1 = (w1 + ((u64)((u32)((held32(p70, 56, m, v0 + 16ull) ^ 0x80000000u) > (v4 ^ 0x80000000u))))) +
+        ((u64)((u32)((held32(p70, 60, m, v0 + 16ull) ^ 0x80000000u) > (v4 ^ 0x80000000u))));
+    put_held64(p70, 72, m, v0 + 16ull, w1);
 after4:;
     return;
-after1:;
-    UNREACHABLE;
 }
 
 static void tlv_core_progress_Progress_take(struct call *m, u64 v0, u64 v1, u32 v2)
@@ -5444,11 +5777,17 @@ static void tlv_core_progress_Progress_take(struct call *m, u64 v0, u64 v1, u32 
     u32 v13 = 0;
     u64 w1 = 0;
     u8 *f15 = NULL;
+    u8 *p42 = NULL;
+    u8 *p108 = NULL;
+    u8 *p251 = NULL;
+    u8 *p274 = NULL;
+    u8 *p315 = NULL;
+    u8 *p453 = NULL;
+    u8 *p493 = NULL;
     v15 = m->g0 - 32ull;
     f15 = at(m, v15, 32);
     v3 = v15;
     m->g0 = v3;
-    if ((v15 ^ 0x8000000000000000ull) < (16ull ^ 0x8000000000000000ull)) { goto after2; }
     put32(f15 + 24, 0u);
     put64(f15 + 16, 0ull);
     put64(f15 + 8, 0ull);
@@ -5456,8 +5795,9 @@ static void tlv_core_progress_Progress_take(struct call *m, u64 v0, u64 v1, u32 
     if (get8(f15 + 8)) { goto after3; }
     v4 = load64(m, v1 + 88ull, 0);
     if (v4 != 0ull) { goto after5; }
-    v5 = load64(m, v1 + 8ull, 0);
-    v6 = load64(m, v1, 0) - v5;
+    p42 = held(m, v1, 16);
+    v5 = held64(p42, 8, m, v1);
+    v6 = held64(p42, 0, m, v1) - v5;
     goto after4;
 after5:;
     v5 = load64(m, v1 + 8ull, 0);
@@ -5473,82 +5813,86 @@ after4:;
     v14 = v5 + 1ull;
     store64(m, v1 + 8ull, 0, v14);
     if (v6 > 1ull) { goto after6; }
+    p108 = held(m, v1 + 16ull, 80);
     v2 = (u32)v14;
-    w1 = ((u64)((u32)((load32(m, v1 + 20ull, 0) ^ 0x80000000u) > (v2 ^ 0x80000000u)))) + ((u64)((u32)((load32(m, v1 +
-        16ull, 0) ^ 0x80000000u) > (v2 ^ 0x80000000u))));
-    w1 = (w1 + ((u64)((u32)((load32(m, v1 + 24ull, 0) ^ 0x80000000u) > (v2 ^ 0x80000000u))))) +
-        ((u64)((u32)((load32(m, v1 + 28ull, 0) ^ 0x80000000u) > (v2 ^ 0x80000000u))));
-    w1 = (w1 + ((u64)((u32)((load32(m, v1 + 32ull, 0) ^ 0x80000000u) > (v2 ^ 0x80000000u))))) +
-        ((u64)((u32)((load32(m, v1 + 36ull, 0) ^ 0x80000000u) > (v2 ^ 0x80000000u))));
-    w1 = (w1 + ((u64)((u32)((load32(m, v1 + 40ull, 0) ^ 0x80000000u) > (v2 ^ 0x80000000u))))) +
-        ((u64)((u32)((load32(m, v1 + 44ull, 0) ^ 0x80000000u) > (v2 ^ 0x80000000u))));
-    w1 = (w1 + ((u64)((u32)((load32(m, v1 + 48ull, 0) ^ 0x80000000u) > (v2 ^ 0x80000000u))))) +
-        ((u64)((u32)((load32(m, v1 + 52ull, 0) ^ 0x80000000u) > (v2 ^ 0x80000000u))));
-    w1 = (w1 + ((u64)((u32)((load32(m, v1 + 56ull, 0) ^ 0x80000000u) > (v2 ^ 0x80000000u))))) +
-        ((u64)((u32)((load32(m, v1 + 60ull, 0) ^ 0x80000000u) > (v2 ^ 0x80000000u))));
-    w1 = (w1 + ((u64)((u32)((load32(m, v1 + 64ull, 0) ^ 0x80000000u) > (v2 ^ 0x80000000u))))) +
-        ((u64)((u32)((load32(m, v1 + 68ull, 0) ^ 0x80000000u) > (v2 ^ 0x80000000u))));
-    w1 = (w1 + ((u64)((u32)((load32(m, v1 + 72ull, 0) ^ 0x80000000u) > (v2 ^ 0x80000000u))))) +
-        ((u64)((u32)((load32(m, v1 + 76ull, 0) ^ 0x80000000u) > (v2 ^ 0x80000000u))));
+    w1 = ((u64)((u32)((held32(p108, 4, m, v1 + 16ull) ^ 0x80000000u) > (v2 ^ 0x80000000u)))) +
+        ((u64)((u32)((held32(p108, 0, m, v1 + 16ull) ^ 0x80000000u) > (v2 ^ 0x80000000u))));
+    w1 = (w1 + ((u64)((u32)((held32(p108, 8, m, v1 + 16ull) ^ 0x80000000u) > (v2 ^ 0x80000000u))))) +
+        ((u64)((u32)((held32(p108, 12, m, v1 + 16ull) ^ 0x80000000u) > (v2 ^ 0x80000000u))));
+    w1 = (w1 + ((u64)((u32)((held32(p108, 16, m, v1 + 16ull) ^ 0x80000000u) > (v2 ^ 0x80000000u))))) +
+        ((u64)((u32)((held32(p108, 20, m, v1 + 16ull) ^ 0x80000000u) > (v2 ^ 0x80000000u))));
+    w1 = (w1 + ((u64)((u32)((held32(p108, 24, m, v1 + 16ull) ^ 0x80000000u) > (v2 ^ 0x80000000u))))) +
+        ((u64)((u32)((held32(p108, 28, m, v1 + 16ull) ^ 0x80000000u) > (v2 ^ 0x80000000u))));
+    w1 = (w1 + ((u64)((u32)((held32(p108, 32, m, v1 + 16ull) ^ 0x80000000u) > (v2 ^ 0x80000000u))))) +
+        ((u64)((u32)((held32(p108, 36, m, v1 + 16ull) ^ 0x80000000u) > (v2 ^ 0x80000000u))));
+    w1 = (w1 + ((u64)((u32)((held32(p108, 40, m, v1 + 16ull) ^ 0x80000000u) > (v2 ^ 0x80000000u))))) +
+        ((u64)((u32)((held32(p108, 44, m, v1 + 16ull) ^ 0x80000000u) > (v2 ^ 0x80000000u))));
+    w1 = (w1 + ((u64)((u32)((held32(p108, 48, m, v1 + 16ull) ^ 0x80000000u) > (v2 ^ 0x80000000u))))) +
+        ((u64)((u32)((held32(p108, 52, m, v1 + 16ull) ^ 0x80000000u) > (v2 ^ 0x80000000u))));
+    w1 = (w1 + ((u64)((u32)((held32(p108, 56, m, v1 + 16ull) ^ 0x80000000u) > (v2 ^ 0x80000000u))))) +
+        ((u64)((u32)((held32(p108, 60, m, v1 + 16ull) ^ 0x80000000u) > (v2 ^ 0x80000000u))));
     v4 = w1;
-    store64(m, v1 + 88ull, 0, v4);
+    put_held64(p108, 72, m, v1 + 16ull, v4);
 after6:;
     v5 = v1 + 96ull;
     if (v7 != 1u) { goto after8; }
-    store32(m, v1 + 104ull, 0, v8);
-    store8(m, v1 + 102ull, 0, v10);
-    store8(m, v1 + 101ull, 0, v11);
-    store32(m, v1 + 97ull, 0, v12);
+    p251 = held(m, v1 + 97ull, 11);
+    put_held32(p251, 7, m, v1 + 97ull, v8);
+    put_held8(p251, 5, m, v1 + 97ull, v10);
+    put_held8(p251, 4, m, v1 + 97ull, v11);
+    put_held32(p251, 0, m, v1 + 97ull, v12);
     store8(m, v5, 0, v13);
     goto after7;
 after8:;
-    store32(m, v5, 0, 0u);
-    store32(m, v5, 3, 0u);
+    p274 = held(m, v5, 7);
+    put_held32(p274, 0, m, v5, 0u);
+    put_held32(p274, 3, m, v5, 0u);
     store32(m, v1 + 104ull, 0, 0u);
     if (v7 != 2u) { goto after7; }
     if (v8 == 0) { goto after7; }
     if ((v13 & 32u) == 0) { goto after9; }
     v5 = v1 + 16ull;
     store32(m, v5 + (v4 << 2), 0, v8 + ((u32)v14));
-    v2 = load32(m, v1 + 8ull, 0);
-    w1 = ((u64)((u32)((load32(m, v1 + 20ull, 0) ^ 0x80000000u) > (v2 ^ 0x80000000u)))) + ((u64)((u32)((load32(m, v5,
-        0) ^ 0x80000000u) > (v2 ^ 0x80000000u))));
-    w1 = (w1 + ((u64)((u32)((load32(m, v1 + 24ull, 0) ^ 0x80000000u) > (v2 ^ 0x80000000u))))) +
-        ((u64)((u32)((load32(m, v1 + 28ull, 0) ^ 0x80000000u) > (v2 ^ 0x80000000u))));
-    w1 = (w1 + ((u64)((u32)((load32(m, v1 + 32ull, 0) ^ 0x80000000u) > (v2 ^ 0x80000000u))))) +
-        ((u64)((u32)((load32(m, v1 + 36ull, 0) ^ 0x80000000u) > (v2 ^ 0x80000000u))));
-    w1 = (w1 + ((u64)((u32)((load32(m, v1 + 40ull, 0) ^ 0x80000000u) > (v2 ^ 0x80000000u))))) +
-        ((u64)((u32)((load32(m, v1 + 44ull, 0) ^ 0x80000000u) > (v2 ^ 0x80000000u))));
-    w1 = (w1 + ((u64)((u32)((load32(m, v1 + 48ull, 0) ^ 0x80000000u) > (v2 ^ 0x80000000u))))) +
-        ((u64)((u32)((load32(m, v1 + 52ull, 0) ^ 0x80000000u) > (v2 ^ 0x80000000u))));
-    w1 = (w1 + ((u64)((u32)((load32(m, v1 + 56ull, 0) ^ 0x80000000u) > (v2 ^ 0x80000000u))))) +
-        ((u64)((u32)((load32(m, v1 + 60ull, 0) ^ 0x80000000u) > (v2 ^ 0x80000000u))));
-    w1 = (w1 + ((u64)((u32)((load32(m, v1 + 64ull, 0) ^ 0x80000000u) > (v2 ^ 0x80000000u))))) +
-        ((u64)((u32)((load32(m, v1 + 68ull, 0) ^ 0x80000000u) > (v2 ^ 0x80000000u))));
-    w1 = (w1 + ((u64)((u32)((load32(m, v1 + 72ull, 0) ^ 0x80000000u) > (v2 ^ 0x80000000u))))) +
-        ((u64)((u32)((load32(m, v1 + 76ull, 0) ^ 0x80000000u) > (v2 ^ 0x80000000u))));
-    store64(m, v1 + 88ull, 0, w1);
+    p315 = held(m, v1 + 8ull, 88);
+    v2 = held32(p315, 0, m, v1 + 8ull);
+    w1 = ((u64)((u32)((held32(p315, 12, m, v1 + 8ull) ^ 0x80000000u) > (v2 ^ 0x80000000u)))) + ((u64)((u32)((load32(m,
+        v5, 0) ^ 0x80000000u) > (v2 ^ 0x80000000u))));
+    w1 = (w1 + ((u64)((u32)((held32(p315, 16, m, v1 + 8ull) ^ 0x80000000u) > (v2 ^ 0x80000000u))))) +
+        ((u64)((u32)((held32(p315, 20, m, v1 + 8ull) ^ 0x80000000u) > (v2 ^ 0x80000000u))));
+    w1 = (w1 + ((u64)((u32)((held32(p315, 24, m, v1 + 8ull) ^ 0x80000000u) > (v2 ^ 0x80000000u))))) +
+        ((u64)((u32)((held32(p315, 28, m, v1 + 8ull) ^ 0x80000000u) > (v2 ^ 0x80000000u))));
+    w1 = (w1 + ((u64)((u32)((held32(p315, 32, m, v1 + 8ull) ^ 0x80000000u) > (v2 ^ 0x80000000u))))) +
+        ((u64)((u32)((held32(p315, 36, m, v1 + 8ull) ^ 0x80000000u) > (v2 ^ 0x80000000u))));
+    w1 = (w1 + ((u64)((u32)((held32(p315, 40, m, v1 + 8ull) ^ 0x80000000u) > (v2 ^ 0x80000000u))))) +
+        ((u64)((u32)((held32(p315, 44, m, v1 + 8ull) ^ 0x80000000u) > (v2 ^ 0x80000000u))));
+    w1 = (w1 + ((u64)((u32)((held32(p315, 48, m, v1 + 8ull) ^ 0x80000000u) > (v2 ^ 0x80000000u))))) +
+        ((u64)((u32)((held32(p315, 52, m, v1 + 8ull) ^ 0x80000000u) > (v2 ^ 0x80000000u))));
+    w1 = (w1 + ((u64)((u32)((held32(p315, 56, m, v1 + 8ull) ^ 0x80000000u) > (v2 ^ 0x80000000u))))) +
+        ((u64)((u32)((held32(p315, 60, m, v1 + 8ull) ^ 0x80000000u) > (v2 ^ 0x80000000u))));
+    w1 = (w1 + ((u64)((u32)((held32(p315, 64, m, v1 + 8ull) ^ 0x80000000u) > (v2 ^ 0x80000000u))))) +
+        ((u64)((u32)((held32(p315, 68, m, v1 + 8ull) ^ 0x80000000u) > (v2 ^ 0x80000000u))));
+    put_held64(p315, 80, m, v1 + 8ull, w1);
     goto after7;
 after9:;
     store64(m, v1 + 112ull, 0, (u64)v8);
 after7:;
-    store16(m, v0, 0, 0u);
-    store32(m, v0 + 16ull, 0, v8);
-    store8(m, v0 + 15ull, 0, v9);
-    store8(m, v0 + 14ull, 0, v10);
-    store8(m, v0 + 13ull, 0, v11);
-    store32(m, v0 + 9ull, 0, v12);
-    store8(m, v0 + 8ull, 0, v13);
-    store32(m, v0 + 4ull, 0, v7);
+    p453 = held(m, v0, 20);
+    put_held16(p453, 0, m, v0, 0u);
+    put_held32(p453, 16, m, v0, v8);
+    put_held8(p453, 15, m, v0, v9);
+    put_held8(p453, 14, m, v0, v10);
+    put_held8(p453, 13, m, v0, v11);
+    put_held32(p453, 9, m, v0, v12);
+    put_held8(p453, 8, m, v0, v13);
+    put_held32(p453, 4, m, v0, v7);
     goto after1;
 after3:;
-    store8(m, v0, 0, 1u);
-    store64(m, v0 + 4ull, 0, 0ull);
-    store8(m, v0 + 1ull, 0, get8(f15 + 9));
-    store64(m, v0 + 12ull, 0, 0ull);
+    p493 = held(m, v0, 20);
+    put_held8(p493, 0, m, v0, 1u);
+    put_held64(p493, 4, m, v0, 0ull);
+    put_held8(p493, 1, m, v0, get8(f15 + 9));
+    put_held64(p493, 12, m, v0, 0ull);
     goto after1;
-after2:;
-    UNREACHABLE;
 after1:;
     m->g0 = v15 + 32ull;
 }
@@ -5578,11 +5922,11 @@ static u32 line_core_framing_sum_of(struct call *m, u64 v0, u64 v1)
     u32 v3 = 0;
     u32 t0 = 0;
     u32 t4 = 0;
+    u8 *p35 = NULL;
     u64 n5;
     const u8 *q5;
     u64 n6;
     const u8 *q6;
-    if ((m->g0 ^ 0x8000000000000000ull) < (16ull ^ 0x8000000000000000ull)) { goto after1; }
     if (v1) { goto after2; }
     return 0u;
 after2:;
@@ -5600,9 +5944,9 @@ after2:;
         v1 = v1 - 8ull + 0xFFFFFFFFFFFFFFF8ull * n5;
     } else {
 again5:;
-        t4 = load8(m, v0 + 3ull, 0) ^ (load8(m, v0 + 2ull, 0) ^ (load8(m, v0 + 1ull, 0) ^ (load8(m, v0, 0) ^ v3)));
-        t0 = load8(m, v0 + 7ull, 0) ^ (load8(m, v0 + 6ull, 0) ^ (load8(m, v0 + 5ull, 0) ^ (load8(m, v0 + 4ull, 0) ^
-            t4)));
+        p35 = held(m, v0, 8);
+        t4 = held8(p35, 3, m, v0) ^ (held8(p35, 2, m, v0) ^ (held8(p35, 1, m, v0) ^ (held8(p35, 0, m, v0) ^ v3)));
+        t0 = held8(p35, 7, m, v0) ^ (held8(p35, 6, m, v0) ^ (held8(p35, 5, m, v0) ^ (held8(p35, 4, m, v0) ^ t4)));
         v3 = t0;
         v0 = v0 + 8ull;
         v1 = v1 + 0xFFFFFFFFFFFFFFF8ull;
@@ -5625,8 +5969,6 @@ again6:;
     }
 after3:;
     return v3;
-after1:;
-    UNREACHABLE;
 }
 
 static void c_lent_kept_judge_CWatched_of(struct call *m, u64 v0, u64 v1)
@@ -5657,21 +5999,27 @@ static void c_lent_kept_judge_CWatched_of(struct call *m, u64 v0, u64 v1)
     u32 v24 = 0;
     u32 v25 = 0;
     u32 v26 = 0;
+    u8 *f27 = NULL;
+    u8 *p41 = NULL;
+    u8 *p132 = NULL;
+    u8 *p170 = NULL;
+    u8 *p294 = NULL;
     v27 = m->g0 - 256ull;
+    f27 = at(m, v27, 256);
     v2 = v27;
     m->g0 = v2;
-    if ((v27 ^ 0x8000000000000000ull) < (16ull ^ 0x8000000000000000ull)) { goto after4; }
     v3 = load64(m, v1 + 280ull, 0);
     v4 = 0u;
-    fill(m, v27 + 2ull, 0u, 254ull);
+    memset(f27 + 2, (int)(0u & 255u), 254);
     if (v3 == 0) { goto after5; }
     copy(m, v27 + 2ull, v1 + 24ull, v3);
 after5:;
-    v5 = load8(m, v1, 7);
-    if (load8(m, v1, 4) == 0) { goto after7; }
-    v6 = load8(m, v1, 6);
+    p41 = held(m, v1 + 4ull, 4);
+    v5 = held8(p41, 3, m, v1 + 4ull);
+    if (held8(p41, 0, m, v1 + 4ull) == 0) { goto after7; }
+    v6 = held8(p41, 2, m, v1 + 4ull);
     v4 = 1u;
-    switch ((u32)(u64)load8(m, v1, 5)) {
+    switch ((u32)(u64)held8(p41, 1, m, v1 + 4ull)) {
         case 1: goto after10;
         case 2: goto after9;
         case 3: goto after8;
@@ -5727,9 +6075,10 @@ after15:;
     v8 = 7u;
     goto after11;
 after14:;
-    v5 = load8(m, v1, 9);
+    p132 = held(m, v1 + 8ull, 2);
+    v5 = held8(p132, 1, m, v1 + 8ull);
     v8 = 8u;
-    switch (load8(m, v1, 8)) {
+    switch (held8(p132, 0, m, v1 + 8ull)) {
         case 1: goto after23;
         case 2: goto after22;
         case 3: goto after21;
@@ -5753,24 +6102,25 @@ after12:;
     v8 = 13u;
 after11:;
     v7 = load64(m, v7, 0);
-    v9 = load8(m, v1, 14);
-    v10 = load8(m, v1, 13);
-    v11 = load8(m, v1, 12);
-    v12 = load8(m, v1, 11);
-    v13 = load8(m, v1, 10);
-    v14 = load8(m, v1, 3);
-    v15 = load8(m, v1, 2);
-    v16 = load8(m, v1, 1);
-    v17 = load8(m, v1, 0);
-    v18 = load8(m, v1 + 19ull, 0);
-    v19 = load8(m, v1 + 18ull, 0);
-    v20 = load8(m, v1 + 17ull, 0);
-    v21 = load8(m, v1 + 16ull, 0);
+    p170 = held(m, v1, 20);
+    v9 = held8(p170, 14, m, v1);
+    v10 = held8(p170, 13, m, v1);
+    v11 = held8(p170, 12, m, v1);
+    v12 = held8(p170, 11, m, v1);
+    v13 = held8(p170, 10, m, v1);
+    v14 = held8(p170, 3, m, v1);
+    v15 = held8(p170, 2, m, v1);
+    v16 = held8(p170, 1, m, v1);
+    v17 = held8(p170, 0, m, v1);
+    v18 = held8(p170, 19, m, v1);
+    v19 = held8(p170, 18, m, v1);
+    v20 = held8(p170, 17, m, v1);
+    v21 = held8(p170, 16, m, v1);
     v22 = 0u;
     v23 = 0u;
     v24 = 0u;
     v25 = 0u;
-    v26 = load8(m, v1 + 15ull, 0);
+    v26 = held8(p170, 15, m, v1);
     switch ((u32)(((u64)v26) & 255ull)) {
         case 1: goto after26;
         case 2: goto after25;
@@ -5809,37 +6159,36 @@ after24:;
     v23 = v20;
     v24 = 0u;
     goto after2;
-after4:;
-    UNREACHABLE;
 after3:;
     v22 = 0u;
     v23 = v20;
 after2:;
     v25 = v18;
 after1:;
-    store8(m, v0, 26, (u32)v3);
-    store8(m, v0, 25, v25);
-    store8(m, v0, 24, v24);
-    store8(m, v0, 23, v23);
-    store8(m, v0, 22, v22);
-    store8(m, v0, 21, v26);
-    store8(m, v0, 18, v11);
-    store8(m, v0, 17, v12);
-    store8(m, v0, 16, v13);
-    store8(m, v0, 15, v5);
-    store8(m, v0, 14, v8);
-    store8(m, v0, 13, v6);
-    store8(m, v0, 12, v4);
-    store8(m, v0, 11, v14);
-    store8(m, v0, 10, v15);
-    store8(m, v0, 9, v16);
-    store8(m, v0, 8, v17);
-    store64(m, v0, 0, v7);
-    store8(m, v0, 20, v9 & 1u);
-    store8(m, v0, 19, v10 & 1u);
+    p294 = held(m, v0, 288);
+    put_held8(p294, 26, m, v0, (u32)v3);
+    put_held8(p294, 25, m, v0, v25);
+    put_held8(p294, 24, m, v0, v24);
+    put_held8(p294, 23, m, v0, v23);
+    put_held8(p294, 22, m, v0, v22);
+    put_held8(p294, 21, m, v0, v26);
+    put_held8(p294, 18, m, v0, v11);
+    put_held8(p294, 17, m, v0, v12);
+    put_held8(p294, 16, m, v0, v13);
+    put_held8(p294, 15, m, v0, v5);
+    put_held8(p294, 14, m, v0, v8);
+    put_held8(p294, 13, m, v0, v6);
+    put_held8(p294, 12, m, v0, v4);
+    put_held8(p294, 11, m, v0, v14);
+    put_held8(p294, 10, m, v0, v15);
+    put_held8(p294, 9, m, v0, v16);
+    put_held8(p294, 8, m, v0, v17);
+    put_held64(p294, 0, m, v0, v7);
+    put_held8(p294, 20, m, v0, v9 & 1u);
+    put_held8(p294, 19, m, v0, v10 & 1u);
     copy(m, v0 + 27ull, v27 + 2ull, 254ull);
-    store32(m, v0, 284, 0u);
-    store32(m, v0, 281, 0u);
+    put_held32(p294, 284, m, v0, 0u);
+    put_held32(p294, 281, m, v0, 0u);
     m->g0 = v27 + 256ull;
 }
 
@@ -5878,15 +6227,18 @@ static void c_lent_kept_judge_CWatched_watched(struct call *m, u64 v0, u64 v1)
     u32 v31 = 0;
     u32 v32 = 0;
     u8 *f33 = NULL;
+    u8 *p18 = NULL;
+    u8 *p152 = NULL;
+    u8 *p411 = NULL;
     v33 = m->g0 - 800ull;
     f33 = at(m, v33, 800);
     v2 = v33;
     m->g0 = v2;
-    if ((v33 ^ 0x8000000000000000ull) < (16ull ^ 0x8000000000000000ull)) { goto after1; }
     v3 = v1 + 15ull;
-    v4 = load8(m, v1 + 14ull, 0);
-    v5 = load8(m, v1 + 13ull, 0);
-    v6 = load8(m, v1 + 12ull, 0);
+    p18 = held(m, v1 + 12ull, 3);
+    v4 = held8(p18, 2, m, v1 + 12ull);
+    v5 = held8(p18, 1, m, v1 + 12ull);
+    v6 = held8(p18, 0, m, v1 + 12ull);
     v7 = v6;
     v8 = v6;
     switch (v6) {
@@ -5972,9 +6324,10 @@ after10:;
 after9:;
     v11 = 0u;
 after8:;
-    v5 = load8(m, v1 + 23ull, 0);
-    v4 = load8(m, v1 + 21ull, 0);
-    v3 = (u64)load8(m, v1 + 22ull, 0);
+    p152 = held(m, v1 + 21ull, 3);
+    v5 = held8(p152, 2, m, v1 + 21ull);
+    v4 = held8(p152, 0, m, v1 + 21ull);
+    v3 = (u64)held8(p152, 1, m, v1 + 21ull);
     if (v3 > 2ull) { goto after23; }
     v12 = load8(m, v1 + 24ull, 0);
     switch ((u32)v3) {
@@ -6052,7 +6405,7 @@ after27:;
     v31 = load8(m, v21, 0);
     v32 = load8(m, v22, 0);
     v5 = load8(m, v1 + 26ull, 0);
-    fill(m, v33 + 536ull, 0u, 256ull);
+    memset(f33 + 536, (int)(0u & 255u), 256);
     v3 = (u64)((v5 < 254u) ? v5 : 254u);
     if (v3 == 0) { goto after32; }
     copy(m, v33 + 536ull, v1 + 27ull, v3);
@@ -6061,34 +6414,33 @@ after32:;
     copy(m, v33 + 8ull, v33 + 536ull, 264ull);
     v1 = load64(m, v1, 0);
     copy(m, v33 + 272ull, v33 + 8ull, 264ull);
-    store32(m, v0, 20, 0u);
-    store8(m, v0, 19, v25);
-    store8(m, v0, 18, v24);
-    store8(m, v0, 17, v23);
-    store8(m, v0, 16, v12);
-    store8(m, v0, 15, v4);
-    store8(m, v0, 14, (u32)((v13 & 255u) != 0u));
-    store8(m, v0, 13, (u32)((v14 & 255u) != 0u));
-    store8(m, v0, 12, v26);
-    store8(m, v0, 11, v27);
-    store8(m, v0, 10, v28);
-    store8(m, v0, 9, v11);
-    store8(m, v0, 8, v9);
-    store8(m, v0, 7, v10);
-    store8(m, v0, 6, v8);
-    store8(m, v0, 5, v7);
-    store8(m, v0, 4, v6);
+    p411 = held(m, v0, 296);
+    put_held32(p411, 20, m, v0, 0u);
+    put_held8(p411, 19, m, v0, v25);
+    put_held8(p411, 18, m, v0, v24);
+    put_held8(p411, 17, m, v0, v23);
+    put_held8(p411, 16, m, v0, v12);
+    put_held8(p411, 15, m, v0, v4);
+    put_held8(p411, 14, m, v0, (u32)((v13 & 255u) != 0u));
+    put_held8(p411, 13, m, v0, (u32)((v14 & 255u) != 0u));
+    put_held8(p411, 12, m, v0, v26);
+    put_held8(p411, 11, m, v0, v27);
+    put_held8(p411, 10, m, v0, v28);
+    put_held8(p411, 9, m, v0, v11);
+    put_held8(p411, 8, m, v0, v9);
+    put_held8(p411, 7, m, v0, v10);
+    put_held8(p411, 6, m, v0, v8);
+    put_held8(p411, 5, m, v0, v7);
+    put_held8(p411, 4, m, v0, v6);
     v4 = v29 & 255u;
-    store8(m, v0, 3, v4 ? ((v4 == 1u) ? 1u : 2u) : 0u);
-    store8(m, v0, 2, (u32)((v30 & 255u) != 0u));
-    store8(m, v0, 1, (u32)((v31 & 255u) != 0u));
-    store8(m, v0, 0, (u32)((v32 & 255u) != 0u));
+    put_held8(p411, 3, m, v0, v4 ? ((v4 == 1u) ? 1u : 2u) : 0u);
+    put_held8(p411, 2, m, v0, (u32)((v30 & 255u) != 0u));
+    put_held8(p411, 1, m, v0, (u32)((v31 & 255u) != 0u));
+    put_held8(p411, 0, m, v0, (u32)((v32 & 255u) != 0u));
     copy(m, v0 + 24ull, v33 + 272ull, 264ull);
-    store64(m, v0, 288, v1);
+    put_held64(p411, 288, m, v0, v1);
     m->g0 = v33 + 800ull;
     return;
-after1:;
-    UNREACHABLE;
 }
 
 static void judge_core_class_class_of(struct call *m, u64 v0, u64 v1, u64 v2)
@@ -6106,12 +6458,13 @@ static void judge_core_class_class_of(struct call *m, u64 v0, u64 v1, u64 v2)
     u32 t0 = 0;
     u32 t4 = 0;
     u8 *f4 = NULL;
+    u8 *p261 = NULL;
+    u8 *p402 = NULL;
     v12 = m->g0 - 32ull;
     v3 = v12;
     m->g0 = v3;
     v4 = v12;
     f4 = at(m, v4, 32);
-    if ((v4 ^ 0x8000000000000000ull) < (16ull ^ 0x8000000000000000ull)) { goto after9; }
     put64(f4 + 24, 0ull);
     put64(f4 + 16, 0ull);
     put64(f4 + 8, 0ull);
@@ -6152,8 +6505,6 @@ after10:;
     v5 = get8(f4 + 8);
     v8 = get8(f4 + 24);
     goto after4;
-after9:;
-    UNREACHABLE;
 after8:;
     if (v2 == 3ull) { goto after5; }
     v5 = 1u;
@@ -6212,9 +6563,10 @@ after19:;
     v2 = v2 & 0xFFFFFFFFFFFFFFF8ull;
     v7 = 0u;
 again22:;
-    v9 = load8(m, v1 + 7ull, 0);
-    t4 = load8(m, v1 + 3ull, 0) ^ (load8(m, v1 + 2ull, 0) ^ (load8(m, v1 + 1ull, 0) ^ (load8(m, v1, 0) ^ v7)));
-    v6 = load8(m, v1 + 6ull, 0) ^ (load8(m, v1 + 5ull, 0) ^ (load8(m, v1 + 4ull, 0) ^ t4));
+    p261 = held(m, v1, 8);
+    v9 = held8(p261, 7, m, v1);
+    t4 = held8(p261, 3, m, v1) ^ (held8(p261, 2, m, v1) ^ (held8(p261, 1, m, v1) ^ (held8(p261, 0, m, v1) ^ v7)));
+    v6 = held8(p261, 6, m, v1) ^ (held8(p261, 5, m, v1) ^ (held8(p261, 4, m, v1) ^ t4));
     v7 = v9 ^ v6;
     v1 = v1 + 8ull;
     v2 = v2 + 0xFFFFFFFFFFFFFFF8ull;
@@ -6249,18 +6601,19 @@ after24:;
     v8 = 0u;
     v7 = 0u;
 after1:;
-    store8(m, v0, 0, v10);
-    store8(m, v0 + 31ull, 0, (u32)0ull);
-    store16(m, v0 + 29ull, 0, (u32)0ull);
-    store32(m, v0 + 25ull, 0, (u32)0ull);
-    store8(m, v0 + 24ull, 0, v7);
-    store64(m, v0 + 16ull, 0, v3);
-    store32(m, v0 + 12ull, 0, 0u);
-    store8(m, v0 + 11ull, 0, v6);
-    store8(m, v0 + 10ull, 0, v5);
-    store8(m, v0 + 9ull, 0, v9);
-    store8(m, v0 + 8ull, 0, v8);
-    store8(m, v0 + 1ull, 0, v11);
+    p402 = held(m, v0, 32);
+    put_held8(p402, 0, m, v0, v10);
+    put_held8(p402, 31, m, v0, (u32)0ull);
+    put_held16(p402, 29, m, v0, (u32)0ull);
+    put_held32(p402, 25, m, v0, (u32)0ull);
+    put_held8(p402, 24, m, v0, v7);
+    put_held64(p402, 16, m, v0, v3);
+    put_held32(p402, 12, m, v0, 0u);
+    put_held8(p402, 11, m, v0, v6);
+    put_held8(p402, 10, m, v0, v5);
+    put_held8(p402, 9, m, v0, v9);
+    put_held8(p402, 8, m, v0, v8);
+    put_held8(p402, 1, m, v0, v11);
     m->g0 = v4 + 32ull;
 }
 
@@ -6316,11 +6669,18 @@ static void judge_core_monitor_Watched_sent(struct call *m, u64 v0, u64 v1, u32 
     u32 v50 = 0;
     u32 t2 = 0;
     u8 *f52 = NULL;
+    u8 *p38 = NULL;
+    u8 *p48 = NULL;
+    u8 *p614 = NULL;
+    u8 *p639 = NULL;
+    u8 *p656 = NULL;
+    u8 *p1681 = NULL;
+    u8 *p1682 = NULL;
+    u8 *p1833 = NULL;
     v52 = m->g0 - 128ull;
     f52 = at(m, v52, 128);
     v5 = v52;
     m->g0 = v5;
-    if ((v52 ^ 0x8000000000000000ull) < (16ull ^ 0x8000000000000000ull)) { goto after1; }
     put64(f52 + 21, 0ull);
     put64(f52 + 16, 0ull);
     put64(f52 + 8, 0ull);
@@ -6331,32 +6691,34 @@ static void judge_core_monitor_Watched_sent(struct call *m, u64 v0, u64 v1, u32 
     }
 after7:;
     if (v2 == 0) { goto after8; }
-    v6 = load64(m, v3 + 24ull, 0);
-    v7 = load64(m, v3 + 16ull, 0);
-    v8 = load64(m, v1 + 280ull, 0);
-    v9 = load8(m, v3 + 9ull, 0);
-    v10 = load8(m, v3 + 10ull, 0);
-    v11 = load8(m, v3 + 11ull, 0);
-    v12 = load8(m, v1 + 15ull, 0);
-    v13 = load8(m, v1 + 16ull, 0);
-    v14 = load8(m, v1 + 17ull, 0);
-    v2 = load8(m, v1 + 18ull, 0);
-    v15 = load8(m, v1, 14);
-    v16 = load8(m, v1, 13);
-    v17 = load8(m, v1, 12);
-    v18 = load8(m, v1, 11);
-    v19 = load8(m, v1, 10);
-    v20 = load8(m, v1, 9);
-    v21 = load8(m, v1, 8);
-    v22 = load8(m, v1, 7);
-    v23 = load8(m, v1, 6);
-    v24 = load8(m, v1, 5);
-    v25 = load8(m, v1, 4);
-    v26 = load8(m, v1, 3);
-    v27 = load8(m, v1, 2);
-    v28 = load8(m, v1, 1);
-    v29 = load8(m, v1, 0);
-    v30 = load8(m, v1 + 19ull, 0);
+    p38 = held(m, v3 + 9ull, 23);
+    v6 = held64(p38, 15, m, v3 + 9ull);
+    v7 = held64(p38, 7, m, v3 + 9ull);
+    p48 = held(m, v1, 288);
+    v8 = held64(p48, 280, m, v1);
+    v9 = held8(p38, 0, m, v3 + 9ull);
+    v10 = held8(p38, 1, m, v3 + 9ull);
+    v11 = held8(p38, 2, m, v3 + 9ull);
+    v12 = held8(p48, 15, m, v1);
+    v13 = held8(p48, 16, m, v1);
+    v14 = held8(p48, 17, m, v1);
+    v2 = held8(p48, 18, m, v1);
+    v15 = held8(p48, 14, m, v1);
+    v16 = held8(p48, 13, m, v1);
+    v17 = held8(p48, 12, m, v1);
+    v18 = held8(p48, 11, m, v1);
+    v19 = held8(p48, 10, m, v1);
+    v20 = held8(p48, 9, m, v1);
+    v21 = held8(p48, 8, m, v1);
+    v22 = held8(p48, 7, m, v1);
+    v23 = held8(p48, 6, m, v1);
+    v24 = held8(p48, 5, m, v1);
+    v25 = held8(p48, 4, m, v1);
+    v26 = held8(p48, 3, m, v1);
+    v27 = held8(p48, 2, m, v1);
+    v28 = held8(p48, 1, m, v1);
+    v29 = held8(p48, 0, m, v1);
+    v30 = held8(p48, 19, m, v1);
     put8(f52 + 127, v30);
     put8(f52 + 126, v2);
     put8(f52 + 125, v14);
@@ -6554,22 +6916,25 @@ after6:;
     judge_core_monitor_Watched_sent_other(m, v52 + 8ull, v1, t2, v4);
     goto after2;
 after5:;
-    v2 = load8(m, v1, 3);
-    v31 = load8(m, v1, 2);
-    v42 = load8(m, v1, 0);
+    p614 = held(m, v1, 4);
+    v2 = held8(p614, 3, m, v1);
+    v31 = held8(p614, 2, m, v1);
+    v42 = held8(p614, 0, m, v1);
     v3 = v1 + 15ull;
     if (((load8(m, v3, 0) + 0xFFFFFFFFu) & 255u) > 1u) { goto after20; }
-    v41 = load8(m, v1 + 16ull, 0);
-    v31 = v41 ? v31 : ((u32)(load8(m, v1 + 17ull, 0) == 0));
+    p639 = held(m, v1 + 16ull, 2);
+    v41 = held8(p639, 0, m, v1 + 16ull);
+    v31 = v41 ? v31 : ((u32)(held8(p639, 1, m, v1 + 16ull) == 0));
     v2 = v41 ? v2 : 0u;
 after20:;
-    store8(m, v1, 13, 0u);
-    store8(m, v1, 9, 0u);
-    store16(m, v1, 7, 9u);
-    store8(m, v1, 3, v2);
-    store8(m, v1, 2, v31);
-    store64(m, v1 + 288ull, 0, v4);
-    store32(m, v1 + 16ull, 0, 0u);
+    p656 = held(m, v1 + 2ull, 294);
+    put_held8(p656, 11, m, v1 + 2ull, 0u);
+    put_held8(p656, 7, m, v1 + 2ull, 0u);
+    put_held16(p656, 5, m, v1 + 2ull, 9u);
+    put_held8(p614, 3, m, v1, v2);
+    put_held8(p614, 2, m, v1, v31);
+    put_held64(p656, 286, m, v1 + 2ull, v4);
+    put_held32(p656, 14, m, v1 + 2ull, 0u);
     store8(m, v3, 0, (v42 & 255u) ? 4u : 3u);
     goto after2;
 after4:;
@@ -6949,37 +7314,37 @@ after27:;
     v22 = 0u;
     v9 = v27;
 after26:;
-    store32(m, v1 + 16ull, 0, 0u);
+    put_held32(p48, 16, m, v1, 0u);
     store64(m, v1 + 288ull, 0, v4);
-    store8(m, v1, 14, v13);
-    store8(m, v1, 13, v9);
-    store8(m, v1, 12, v45);
-    store8(m, v1, 11, v14);
-    store8(m, v1, 10, v25);
-    store8(m, v1, 9, v16);
-    store8(m, v1, 8, v24);
-    store8(m, v1, 7, v23);
-    store8(m, v1, 6, v19);
-    store8(m, v1, 5, v15);
-    store8(m, v1, 4, v17);
-    store8(m, v1, 3, v18);
-    store8(m, v1, 2, v20);
-    store8(m, v1, 1, v21);
-    v31 = load8(m, v1, 0);
-    store8(m, v1, 0, v46);
-    store8(m, v1 + 15ull, 0, v31 ? 4u : 3u);
-    if (load8(m, v3 + 9ull, 0)) { goto after47; }
-    v4 = load64(m, v1 + 280ull, 0);
+    put_held8(p48, 14, m, v1, v13);
+    put_held8(p48, 13, m, v1, v9);
+    put_held8(p48, 12, m, v1, v45);
+    put_held8(p48, 11, m, v1, v14);
+    put_held8(p48, 10, m, v1, v25);
+    put_held8(p48, 9, m, v1, v16);
+    put_held8(p48, 8, m, v1, v24);
+    put_held8(p48, 7, m, v1, v23);
+    put_held8(p48, 6, m, v1, v19);
+    put_held8(p48, 5, m, v1, v15);
+    put_held8(p48, 4, m, v1, v17);
+    put_held8(p48, 3, m, v1, v18);
+    put_held8(p48, 2, m, v1, v20);
+    put_held8(p48, 1, m, v1, v21);
+    v31 = held8(p48, 0, m, v1);
+    put_held8(p48, 0, m, v1, v46);
+    put_held8(p48, 15, m, v1, v31 ? 4u : 3u);
+    if (held8(p38, 0, m, v3 + 9ull)) { goto after47; }
+    v4 = held64(p48, 280, m, v1);
     v31 = (u32)(v4 == 0);
     if (v31) { goto after48; }
     if (v31) { goto after49; }
     fill(m, v48, 0u, v4);
 after49:;
-    store64(m, v1 + 280ull, 0, 0ull);
+    put_held64(p48, 280, m, v1, 0ull);
 after48:;
-    v51 = load64(m, v3 + 24ull, 0);
+    v51 = held64(p38, 15, m, v3 + 9ull);
     if (v51 > 254ull) { goto after1; }
-    v8 = load64(m, v3 + 16ull, 0);
+    v8 = held64(p38, 7, m, v3 + 9ull);
     if ((v48 - v8) >= v51) { goto after51; }
     v7 = v51 & 3ull;
     v4 = 0ull;
@@ -6989,10 +7354,12 @@ after48:;
 again53:;
     v3 = v1 + v4;
     v6 = v8 + v4;
-    store8(m, v3 + 24ull, 0, load8(m, v6, 0));
-    store8(m, v3 + 25ull, 0, load8(m, v6 + 1ull, 0));
-    store8(m, v3 + 26ull, 0, load8(m, v6 + 2ull, 0));
-    store8(m, v3 + 27ull, 0, load8(m, v6 + 3ull, 0));
+    p1681 = held(m, v6, 4);
+    p1682 = held(m, v3 + 24ull, 4);
+    put_held8(p1682, 0, m, v3 + 24ull, held8(p1681, 0, m, v6));
+    put_held8(p1682, 1, m, v3 + 24ull, held8(p1681, 1, m, v6));
+    put_held8(p1682, 2, m, v3 + 24ull, held8(p1681, 2, m, v6));
+    put_held8(p1682, 3, m, v3 + 24ull, held8(p1681, 3, m, v6));
     v4 = v4 + 4ull;
     if (v48 != v4) { goto again53; }
     if (v7 == 0) { goto after50; }
@@ -7010,7 +7377,7 @@ after51:;
     if (v51 == 0) { goto after50; }
     copy(m, v48, v8, v51);
 after50:;
-    store64(m, v1 + 280ull, 0, v51);
+    put_held64(p48, 280, m, v1, v51);
 after47:;
     put8(f52 + 28, v22);
     put8(f52 + 27, v30);
@@ -7034,12 +7401,13 @@ after47:;
     put8(f52 + 9, v29);
     put8(f52 + 8, 1u);
 after2:;
-    store16(m, v0, 0, get16(f52 + 8));
-    store8(m, v0 + 2ull, 0, get8(f52 + 10));
-    store64(m, v0 + 3ull, 0, get64(f52 + 11));
-    store64(m, v0 + 10ull, 0, get64(f52 + 18));
-    store8(m, v0 + 20ull, 0, get8(f52 + 28));
-    store16(m, v0 + 18ull, 0, get16(f52 + 26));
+    p1833 = held(m, v0, 21);
+    put_held16(p1833, 0, m, v0, get16(f52 + 8));
+    put_held8(p1833, 2, m, v0, get8(f52 + 10));
+    put_held64(p1833, 3, m, v0, get64(f52 + 11));
+    put_held64(p1833, 10, m, v0, get64(f52 + 18));
+    put_held8(p1833, 20, m, v0, get8(f52 + 28));
+    put_held16(p1833, 18, m, v0, get16(f52 + 26));
     m->g0 = v52 + 128ull;
     return;
 after1:;
@@ -7086,22 +7454,25 @@ static void judge_core_end_End_got_whole(struct call *m, u64 v0, u64 v1, u64 v2)
     u32 v38 = 0;
     u32 v39 = 0;
     u32 v40 = 0;
-    if ((m->g0 ^ 0x8000000000000000ull) < (16ull ^ 0x8000000000000000ull)) { goto after12; }
-    v3 = load8(m, v1, 14);
-    v4 = load8(m, v1, 13);
-    v5 = load8(m, v1, 12);
-    v6 = load8(m, v1, 11);
-    v7 = load8(m, v1, 10);
-    v8 = load8(m, v1, 9);
-    v9 = load8(m, v1, 8);
-    v10 = load8(m, v1, 7);
-    v11 = load8(m, v1, 6);
-    v12 = load8(m, v1, 5);
-    v13 = load8(m, v1, 4);
-    v14 = load8(m, v1, 3);
-    v15 = load8(m, v1, 2);
-    v16 = load8(m, v1, 1);
-    v17 = load8(m, v1, 0);
+    u8 *p17 = NULL;
+    u8 *p143 = NULL;
+    u8 *p908 = NULL;
+    p17 = held(m, v1, 15);
+    v3 = held8(p17, 14, m, v1);
+    v4 = held8(p17, 13, m, v1);
+    v5 = held8(p17, 12, m, v1);
+    v6 = held8(p17, 11, m, v1);
+    v7 = held8(p17, 10, m, v1);
+    v8 = held8(p17, 9, m, v1);
+    v9 = held8(p17, 8, m, v1);
+    v10 = held8(p17, 7, m, v1);
+    v11 = held8(p17, 6, m, v1);
+    v12 = held8(p17, 5, m, v1);
+    v13 = held8(p17, 4, m, v1);
+    v14 = held8(p17, 3, m, v1);
+    v15 = held8(p17, 2, m, v1);
+    v16 = held8(p17, 1, m, v1);
+    v17 = held8(p17, 0, m, v1);
     v18 = 0u;
     v19 = 0u;
     v20 = 0u;
@@ -7147,10 +7518,11 @@ after14:;
     v33 = v3;
     goto after3;
 after13:;
-    v37 = load8(m, v2 + 4ull, 0);
-    v38 = load8(m, v2 + 3ull, 0);
-    v39 = load8(m, v2 + 2ull, 0);
-    v40 = load8(m, v2 + 1ull, 0);
+    p143 = held(m, v2 + 1ull, 4);
+    v37 = held8(p143, 3, m, v2 + 1ull);
+    v38 = held8(p143, 2, m, v2 + 1ull);
+    v39 = held8(p143, 1, m, v2 + 1ull);
+    v40 = held8(p143, 0, m, v2 + 1ull);
     v19 = 1u;
     if ((v17 & 255u) != 1u) { goto after15; }
     if (v40 != 2u) { goto after15; }
@@ -7464,8 +7836,6 @@ after16:;
     v36 = 0u;
     v18 = 0u;
     goto after1;
-after12:;
-    UNREACHABLE;
 after11:;
     v24 = v12;
 after10:;
@@ -7517,25 +7887,26 @@ after2:;
     v35 = 7u;
     v36 = 0u;
 after1:;
-    store8(m, v0, 0, v34);
-    store8(m, v0 + 18ull, 0, v18);
-    store8(m, v0 + 17ull, 0, v36);
-    store8(m, v0 + 16ull, 0, v35);
-    store8(m, v0 + 15ull, 0, v33);
-    store8(m, v0 + 14ull, 0, v32);
-    store8(m, v0 + 13ull, 0, v31);
-    store8(m, v0 + 12ull, 0, v30);
-    store8(m, v0 + 11ull, 0, v29);
-    store8(m, v0 + 10ull, 0, v28);
-    store8(m, v0 + 9ull, 0, v27);
-    store8(m, v0 + 8ull, 0, v26);
-    store8(m, v0 + 7ull, 0, v25);
-    store8(m, v0 + 6ull, 0, v24);
-    store8(m, v0 + 5ull, 0, v23);
-    store8(m, v0 + 4ull, 0, v22);
-    store8(m, v0 + 3ull, 0, v21);
-    store8(m, v0 + 2ull, 0, v20);
-    store8(m, v0 + 1ull, 0, v19);
+    p908 = held(m, v0, 19);
+    put_held8(p908, 0, m, v0, v34);
+    put_held8(p908, 18, m, v0, v18);
+    put_held8(p908, 17, m, v0, v36);
+    put_held8(p908, 16, m, v0, v35);
+    put_held8(p908, 15, m, v0, v33);
+    put_held8(p908, 14, m, v0, v32);
+    put_held8(p908, 13, m, v0, v31);
+    put_held8(p908, 12, m, v0, v30);
+    put_held8(p908, 11, m, v0, v29);
+    put_held8(p908, 10, m, v0, v28);
+    put_held8(p908, 9, m, v0, v27);
+    put_held8(p908, 8, m, v0, v26);
+    put_held8(p908, 7, m, v0, v25);
+    put_held8(p908, 6, m, v0, v24);
+    put_held8(p908, 5, m, v0, v23);
+    put_held8(p908, 4, m, v0, v22);
+    put_held8(p908, 3, m, v0, v21);
+    put_held8(p908, 2, m, v0, v20);
+    put_held8(p908, 1, m, v0, v19);
 }
 
 static void judge_core_monitor_Watched_sent_other(struct call *m, u64 v0, u64 v1, u32 v2, u64 v3)
@@ -7580,40 +7951,42 @@ static void judge_core_monitor_Watched_sent_other(struct call *m, u64 v0, u64 v1
     u32 v40 = 0;
     u32 v41 = 0;
     u8 *f42 = NULL;
+    u8 *p26 = NULL;
+    u8 *p661 = NULL;
     v42 = m->g0 - 32ull;
     f42 = at(m, v42, 32);
     v4 = v42;
     m->g0 = v4;
-    if ((v42 ^ 0x8000000000000000ull) < (16ull ^ 0x8000000000000000ull)) { goto after1; }
     put64(f42 + 8, 0ull);
     put64(f42 + 16, 0ull);
     v5 = 0u;
     put32(f42 + 23, 0u);
-    v6 = load8(m, v1 + 15ull, 0);
+    p26 = held(m, v1, 20);
+    v6 = held8(p26, 15, m, v1);
     put8(f42 + 3, v6);
-    v7 = load8(m, v1 + 16ull, 0);
+    v7 = held8(p26, 16, m, v1);
     put8(f42 + 4, v7);
-    v8 = load8(m, v1 + 17ull, 0);
+    v8 = held8(p26, 17, m, v1);
     put8(f42 + 5, v8);
-    put8(f42 + 6, load8(m, v1 + 18ull, 0));
-    v9 = load8(m, v1 + 19ull, 0);
+    put8(f42 + 6, held8(p26, 18, m, v1));
+    v9 = held8(p26, 19, m, v1);
     put8(f42 + 7, v9);
     judge_core_end_End_got_whole(m, v42 + 8ull, v1, v42 + 3ull);
-    v10 = load8(m, v1, 14);
-    v11 = load8(m, v1, 13);
-    v12 = load8(m, v1, 12);
-    v13 = load8(m, v1, 11);
-    v14 = load8(m, v1, 10);
-    v15 = load8(m, v1, 9);
-    v16 = load8(m, v1, 8);
-    v17 = load8(m, v1, 7);
-    v18 = load8(m, v1, 6);
-    v19 = load8(m, v1, 5);
-    v20 = load8(m, v1, 4);
-    v21 = load8(m, v1, 3);
-    v22 = load8(m, v1, 2);
-    v23 = load8(m, v1, 1);
-    v24 = load8(m, v1, 0);
+    v10 = held8(p26, 14, m, v1);
+    v11 = held8(p26, 13, m, v1);
+    v12 = held8(p26, 12, m, v1);
+    v13 = held8(p26, 11, m, v1);
+    v14 = held8(p26, 10, m, v1);
+    v15 = held8(p26, 9, m, v1);
+    v16 = held8(p26, 8, m, v1);
+    v17 = held8(p26, 7, m, v1);
+    v18 = held8(p26, 6, m, v1);
+    v19 = held8(p26, 5, m, v1);
+    v20 = held8(p26, 4, m, v1);
+    v21 = held8(p26, 3, m, v1);
+    v22 = held8(p26, 2, m, v1);
+    v23 = held8(p26, 1, m, v1);
+    v24 = held8(p26, 0, m, v1);
     v25 = 0u;
     v26 = 0u;
     v27 = 0u;
@@ -7824,38 +8197,37 @@ after16:;
     v22 = v6 ? v22 : ((u32)((v8 & 255u) == 0));
     v21 = v6 ? v21 : 0u;
 after18:;
-    store8(m, v1, 13, 0u);
-    store8(m, v1, 9, 0u);
-    store16(m, v1, 7, 9u);
-    store8(m, v1, 3, v21);
-    store8(m, v1, 2, v22);
+    put_held8(p26, 13, m, v1, 0u);
+    put_held8(p26, 9, m, v1, 0u);
+    put_held16(p26, 7, m, v1, 9u);
+    put_held8(p26, 3, m, v1, v21);
+    put_held8(p26, 2, m, v1, v22);
     store64(m, v1 + 288ull, 0, v3);
-    store32(m, v1 + 16ull, 0, 0u);
-    store8(m, v1 + 15ull, 0, (v24 & 255u) ? 4u : 3u);
-    store8(m, v0 + 20ull, 0, v41);
-    store8(m, v0 + 19ull, 0, v9);
-    store8(m, v0 + 18ull, 0, v40);
-    store8(m, v0 + 17ull, 0, v38);
-    store8(m, v0 + 16ull, 0, v37);
-    store8(m, v0 + 15ull, 0, v36);
-    store8(m, v0 + 14ull, 0, v35);
-    store8(m, v0 + 13ull, 0, v34);
-    store8(m, v0 + 12ull, 0, v33);
-    store8(m, v0 + 11ull, 0, v32);
-    store8(m, v0 + 10ull, 0, v31);
-    store8(m, v0 + 9ull, 0, v30);
-    store8(m, v0 + 8ull, 0, v29);
-    store8(m, v0 + 7ull, 0, v28);
-    store8(m, v0 + 6ull, 0, v27);
-    store8(m, v0 + 5ull, 0, v26);
-    store8(m, v0 + 4ull, 0, v25);
-    store8(m, v0 + 3ull, 0, v5);
-    store8(m, v0 + 2ull, 0, v2);
-    store16(m, v0, 0, 513u);
+    put_held32(p26, 16, m, v1, 0u);
+    put_held8(p26, 15, m, v1, (v24 & 255u) ? 4u : 3u);
+    p661 = held(m, v0, 21);
+    put_held8(p661, 20, m, v0, v41);
+    put_held8(p661, 19, m, v0, v9);
+    put_held8(p661, 18, m, v0, v40);
+    put_held8(p661, 17, m, v0, v38);
+    put_held8(p661, 16, m, v0, v37);
+    put_held8(p661, 15, m, v0, v36);
+    put_held8(p661, 14, m, v0, v35);
+    put_held8(p661, 13, m, v0, v34);
+    put_held8(p661, 12, m, v0, v33);
+    put_held8(p661, 11, m, v0, v32);
+    put_held8(p661, 10, m, v0, v31);
+    put_held8(p661, 9, m, v0, v30);
+    put_held8(p661, 8, m, v0, v29);
+    put_held8(p661, 7, m, v0, v28);
+    put_held8(p661, 6, m, v0, v27);
+    put_held8(p661, 5, m, v0, v26);
+    put_held8(p661, 4, m, v0, v25);
+    put_held8(p661, 3, m, v0, v5);
+    put_held8(p661, 2, m, v0, v2);
+    put_held16(p661, 0, m, v0, 513u);
     m->g0 = v42 + 32ull;
     return;
-after1:;
-    UNREACHABLE;
 }
 
 static void judge_core_courses_attempted(struct call *m, u64 v0, u64 v1, u64 v2, u64 v3, u64 v4, u64 v5, u64 v6)
@@ -7902,11 +8274,14 @@ static void judge_core_courses_attempted(struct call *m, u64 v0, u64 v1, u64 v2,
     u32 v45 = 0;
     u32 t0 = 0;
     u8 *f46 = NULL;
+    u8 *p72 = NULL;
+    u8 *p82 = NULL;
+    u8 *p102 = NULL;
+    u8 *p2377 = NULL;
     v46 = m->g0 - 48ull;
     f46 = at(m, v46, 48);
     v7 = v46;
     m->g0 = v7;
-    if ((v46 ^ 0x8000000000000000ull) < (16ull ^ 0x8000000000000000ull)) { goto after25; }
     v8 = 0u;
     v9 = 0u;
     v10 = 0u;
@@ -7922,15 +8297,18 @@ static void judge_core_courses_attempted(struct call *m, u64 v0, u64 v1, u64 v2,
     v20 = 0u;
     v21 = load8(m, v1, 0);
     if ((v21 & 255u) != 1u) { goto after1; }
-    v22 = load8(m, v4 + 2ull, 0);
-    v23 = load8(m, v4 + 1ull, 0);
-    v24 = load8(m, v1 + 18ull, 0);
-    v25 = load8(m, v1 + 17ull, 0);
-    v26 = load8(m, v1 + 16ull, 0);
-    v14 = load8(m, v4, 0);
+    p72 = held(m, v4, 3);
+    v22 = held8(p72, 2, m, v4);
+    v23 = held8(p72, 1, m, v4);
+    p82 = held(m, v1 + 16ull, 3);
+    v24 = held8(p82, 2, m, v1 + 16ull);
+    v25 = held8(p82, 1, m, v1 + 16ull);
+    v26 = held8(p82, 0, m, v1 + 16ull);
+    v14 = held8(p72, 0, m, v4);
     v1 = v1 + 1ull;
-    put64(f46 + 15, load64(m, v1, 7));
-    v1 = load64(m, v1, 0);
+    p102 = held(m, v1, 15);
+    put64(f46 + 15, held64(p102, 7, m, v1));
+    v1 = held64(p102, 0, m, v1);
     put64(f46 + 8, v1);
     put8(f46 + 25, v24);
     put8(f46 + 24, v25);
@@ -8795,8 +9173,6 @@ after114:;
     v17 = v30;
     v18 = 0u;
     goto after13;
-after25:;
-    UNREACHABLE;
 after24:;
     v12 = 1u;
     v20 = 0u;
@@ -8971,20 +9347,21 @@ after2:;
     v18 = 0u;
     v19 = 0u;
 after1:;
-    store8(m, v0, 0, v21);
-    store8(m, v0 + 16ull, 0, v19);
-    store8(m, v0 + 15ull, 0, v18);
-    store8(m, v0 + 14ull, 0, v17);
-    store8(m, v0 + 13ull, 0, v16);
-    store8(m, v0 + 12ull, 0, v15);
-    store32(m, v0 + 8ull, 0, v14);
-    store8(m, v0 + 7ull, 0, v13);
-    store8(m, v0 + 6ull, 0, v12);
-    store8(m, v0 + 5ull, 0, v11);
-    store8(m, v0 + 4ull, 0, v10);
-    store8(m, v0 + 3ull, 0, v9);
-    store8(m, v0 + 2ull, 0, v8);
-    store8(m, v0 + 1ull, 0, v20);
+    p2377 = held(m, v0, 17);
+    put_held8(p2377, 0, m, v0, v21);
+    put_held8(p2377, 16, m, v0, v19);
+    put_held8(p2377, 15, m, v0, v18);
+    put_held8(p2377, 14, m, v0, v17);
+    put_held8(p2377, 13, m, v0, v16);
+    put_held8(p2377, 12, m, v0, v15);
+    put_held32(p2377, 8, m, v0, v14);
+    put_held8(p2377, 7, m, v0, v13);
+    put_held8(p2377, 6, m, v0, v12);
+    put_held8(p2377, 5, m, v0, v11);
+    put_held8(p2377, 4, m, v0, v10);
+    put_held8(p2377, 3, m, v0, v9);
+    put_held8(p2377, 2, m, v0, v8);
+    put_held8(p2377, 1, m, v0, v20);
     m->g0 = v46 + 48ull;
 }
 
@@ -9017,22 +9394,26 @@ static void judge_core_end_End_repeats_request(struct call *m, u64 v0, u64 v1, u
     u32 v29 = 0;
     u32 v30 = 0;
     u32 v31 = 0;
-    if ((m->g0 ^ 0x8000000000000000ull) < (16ull ^ 0x8000000000000000ull)) { goto after5; }
-    v5 = load8(m, v1, 12);
-    v6 = load8(m, v1, 11);
-    v7 = load8(m, v1, 10);
-    v8 = load8(m, v1, 0);
+    u8 *p10 = NULL;
+    u8 *p31 = NULL;
+    u8 *p492 = NULL;
+    p10 = held(m, v1, 13);
+    v5 = held8(p10, 12, m, v1);
+    v6 = held8(p10, 11, m, v1);
+    v7 = held8(p10, 10, m, v1);
+    v8 = held8(p10, 0, m, v1);
     v9 = 1u;
-    if (load8(m, v1, 4) != 1u) { goto after7; }
-    v10 = load8(m, v1, 14);
-    v11 = load8(m, v1, 9);
-    v12 = load8(m, v1, 8);
-    v13 = load8(m, v1, 7);
-    v14 = load8(m, v1, 6);
-    v15 = load8(m, v1, 3);
-    v16 = load8(m, v1, 2);
-    v17 = load8(m, v1, 1);
-    v18 = load8(m, v1, 5);
+    if (held8(p10, 4, m, v1) != 1u) { goto after7; }
+    p31 = held(m, v1 + 1ull, 14);
+    v10 = held8(p31, 13, m, v1 + 1ull);
+    v11 = held8(p10, 9, m, v1);
+    v12 = held8(p10, 8, m, v1);
+    v13 = held8(p10, 7, m, v1);
+    v14 = held8(p10, 6, m, v1);
+    v15 = held8(p10, 3, m, v1);
+    v16 = held8(p10, 2, m, v1);
+    v17 = held8(p10, 1, m, v1);
+    v18 = held8(p10, 5, m, v1);
     switch (v18) {
         case 1: goto after15;
         case 2: goto after14;
@@ -9210,8 +9591,6 @@ after6:;
     v27 = 0u;
     v30 = v5;
     goto after3;
-after5:;
-    UNREACHABLE;
 after4:;
     v20 = 0u;
     v21 = 0u;
@@ -9236,19 +9615,20 @@ after2:;
     v29 = v6;
     v30 = v5;
 after1:;
-    store8(m, v0, 0, v9);
-    store8(m, v0 + 15ull, 0, v31);
-    store8(m, v0 + 14ull, 0, v22);
-    store8(m, v0 + 13ull, 0, v30);
-    store8(m, v0 + 12ull, 0, v29);
-    store8(m, v0 + 11ull, 0, v28);
-    store8(m, v0 + 6ull, 0, v23);
-    store8(m, v0 + 5ull, 0, v22);
-    store8(m, v0 + 4ull, 0, v21);
-    store8(m, v0 + 3ull, 0, v20);
-    store8(m, v0 + 2ull, 0, v19);
-    store8(m, v0 + 1ull, 0, v4);
-    store32(m, v0 + 7ull, 0, (((v27 << 24) | ((v26 & 255u) << 16)) | ((v25 & 255u) << 8)) | (v24 & 255u));
+    p492 = held(m, v0, 16);
+    put_held8(p492, 0, m, v0, v9);
+    put_held8(p492, 15, m, v0, v31);
+    put_held8(p492, 14, m, v0, v22);
+    put_held8(p492, 13, m, v0, v30);
+    put_held8(p492, 12, m, v0, v29);
+    put_held8(p492, 11, m, v0, v28);
+    put_held8(p492, 6, m, v0, v23);
+    put_held8(p492, 5, m, v0, v22);
+    put_held8(p492, 4, m, v0, v21);
+    put_held8(p492, 3, m, v0, v20);
+    put_held8(p492, 2, m, v0, v19);
+    put_held8(p492, 1, m, v0, v4);
+    put_held32(p492, 7, m, v0, (((v27 << 24) | ((v26 & 255u) << 16)) | ((v25 & 255u) << 8)) | (v24 & 255u));
 }
 
 static void c_lent_kept_receiver_CReceiver_fitting(struct call *m, u64 v0, u64 v1, u64 v2)
@@ -9285,6 +9665,8 @@ static void c_lent_kept_receiver_CReceiver_fitting(struct call *m, u64 v0, u64 v
     u32 v31 = 0;
     u32 v32 = 0;
     u8 *f33 = NULL;
+    u8 *p840 = NULL;
+    u8 *p967 = NULL;
     v33 = m->g0 - 32ull;
     f33 = at(m, v33, 32);
     v3 = v33;
@@ -9666,13 +10048,14 @@ after26:;
     if (v27 < 254u) { goto after4; }
     goto after1;
 after6:;
-    store64(m, v0, 48, 0ull);
-    store64(m, v0, 40, 0ull);
-    store64(m, v0, 32, 0ull);
-    store64(m, v0, 24, 0ull);
-    store64(m, v0, 16, 0ull);
-    store64(m, v0, 8, 0ull);
-    store64(m, v0, 0, 0ull);
+    p840 = held(m, v0, 56);
+    put_held64(p840, 48, m, v0, 0ull);
+    put_held64(p840, 40, m, v0, 0ull);
+    put_held64(p840, 32, m, v0, 0ull);
+    put_held64(p840, 24, m, v0, 0ull);
+    put_held64(p840, 16, m, v0, 0ull);
+    put_held64(p840, 8, m, v0, 0ull);
+    put_held64(p840, 0, m, v0, 0ull);
     return;
 after5:;
     v4 = 0u;
@@ -9727,28 +10110,29 @@ after2:;
     v25 = 0u;
     v26 = 0ull;
 after1:;
-    store64(m, v0, 0, v26);
-    store8(m, v0 + 39ull, 0, (u32)0ull);
-    store16(m, v0 + 37ull, 0, (u32)0ull);
-    store32(m, v0 + 33ull, 0, (u32)0ull);
-    store8(m, v0 + 28ull, 0, v23);
-    store8(m, v0 + 27ull, 0, v22);
-    store8(m, v0 + 26ull, 0, v21);
-    store8(m, v0 + 25ull, 0, v20);
-    store8(m, v0 + 24ull, 0, v19);
-    store32(m, v0 + 20ull, 0, v18);
-    store32(m, v0 + 16ull, 0, v17);
-    store32(m, v0 + 12ull, 0, v16);
-    store16(m, v0 + 10ull, 0, 0u);
-    store8(m, v0 + 9ull, 0, v4);
-    store8(m, v0 + 8ull, 0, v15);
-    store16(m, v0 + 29ull, 0, get16(f33 + 12));
-    store8(m, v0 + 31ull, 0, get8(f33 + 14));
-    store8(m, v0 + 48ull, 0, v25);
-    store64(m, v0 + 40ull, 0, v6);
-    store8(m, v0 + 32ull, 0, v24);
-    store32(m, v0 + 52ull, 0, get32(f33 + 7));
-    store32(m, v0 + 49ull, 0, get32(f33 + 4));
+    p967 = held(m, v0, 56);
+    put_held64(p967, 0, m, v0, v26);
+    put_held8(p967, 39, m, v0, (u32)0ull);
+    put_held16(p967, 37, m, v0, (u32)0ull);
+    put_held32(p967, 33, m, v0, (u32)0ull);
+    put_held8(p967, 28, m, v0, v23);
+    put_held8(p967, 27, m, v0, v22);
+    put_held8(p967, 26, m, v0, v21);
+    put_held8(p967, 25, m, v0, v20);
+    put_held8(p967, 24, m, v0, v19);
+    put_held32(p967, 20, m, v0, v18);
+    put_held32(p967, 16, m, v0, v17);
+    put_held32(p967, 12, m, v0, v16);
+    put_held16(p967, 10, m, v0, 0u);
+    put_held8(p967, 9, m, v0, v4);
+    put_held8(p967, 8, m, v0, v15);
+    put_held16(p967, 29, m, v0, get16(f33 + 12));
+    put_held8(p967, 31, m, v0, get8(f33 + 14));
+    put_held8(p967, 48, m, v0, v25);
+    put_held64(p967, 40, m, v0, v6);
+    put_held8(p967, 32, m, v0, v24);
+    put_held32(p967, 52, m, v0, get32(f33 + 7));
+    put_held32(p967, 49, m, v0, get32(f33 + 4));
 }
 
 static void c_lent_kept_CTerminal_fitting(struct call *m, u64 v0, u64 v1, u64 v2, u64 v3)
@@ -9786,6 +10170,8 @@ static void c_lent_kept_CTerminal_fitting(struct call *m, u64 v0, u64 v1, u64 v2
     u32 v28 = 0;
     u32 v29 = 0;
     u8 *f35 = NULL;
+    u8 *p103 = NULL;
+    u8 *p468 = NULL;
     v35 = m->g0 - 32ull;
     f35 = at(m, v35, 32);
     v4 = v35;
@@ -9818,14 +10204,15 @@ after7:;
 after6:;
     v10 = load8(m, v1 + 8ull, 0);
     if (v10 > 1u) { goto after4; }
-    v12 = load8(m, v1 + 5ull, 0);
-    v13 = load8(m, v1 + 4ull, 0);
-    v14 = load8(m, v1 + 3ull, 0);
-    v15 = load8(m, v1 + 2ull, 0);
-    v16 = load64(m, v1 + 48ull, 0);
-    v17 = load64(m, v1 + 40ull, 0);
-    v18 = load64(m, v1 + 32ull, 0);
-    v19 = load64(m, v1 + 24ull, 0);
+    p103 = held(m, v1 + 2ull, 54);
+    v12 = held8(p103, 3, m, v1 + 2ull);
+    v13 = held8(p103, 2, m, v1 + 2ull);
+    v14 = held8(p103, 1, m, v1 + 2ull);
+    v15 = held8(p103, 0, m, v1 + 2ull);
+    v16 = held64(p103, 46, m, v1 + 2ull);
+    v17 = held64(p103, 38, m, v1 + 2ull);
+    v18 = held64(p103, 30, m, v1 + 2ull);
+    v19 = held64(p103, 22, m, v1 + 2ull);
     switch (v7) {
         case 1: goto after14;
         case 2: goto after10;
@@ -9959,29 +10346,30 @@ after2:;
     v33 = 0ull;
     v34 = 0ull;
 after1:;
-    store64(m, v0, 0, v34);
-    store8(m, v0 + 17ull, 0, v27);
-    store8(m, v0 + 16ull, 0, v26);
-    store16(m, v0 + 14ull, 0, 0u);
-    store8(m, v0 + 13ull, 0, v25);
-    store8(m, v0 + 12ull, 0, v24);
-    store8(m, v0 + 11ull, 0, v23);
-    store8(m, v0 + 10ull, 0, v22);
-    store8(m, v0 + 9ull, 0, v21);
-    store8(m, v0 + 8ull, 0, v20);
-    store32(m, v0 + 18ull, 0, get32(f35 + 24));
-    store16(m, v0 + 22ull, 0, get16(f35 + 28));
-    store8(m, v0 + 32ull, 0, v28);
-    store64(m, v0 + 24ull, 0, v1);
-    store32(m, v0 + 33ull, 0, get32(f35 + 16));
-    store32(m, v0 + 36ull, 0, get32(f35 + 19));
-    store8(m, v0 + 40ull, 0, v29);
-    store64(m, v0 + 48ull, 0, v30);
-    store64(m, v0 + 56ull, 0, v31);
-    store64(m, v0 + 64ull, 0, v32);
-    store64(m, v0 + 72ull, 0, v33);
-    store32(m, v0 + 41ull, 0, get32(f35 + 8));
-    store32(m, v0 + 44ull, 0, get32(f35 + 11));
+    p468 = held(m, v0, 80);
+    put_held64(p468, 0, m, v0, v34);
+    put_held8(p468, 17, m, v0, v27);
+    put_held8(p468, 16, m, v0, v26);
+    put_held16(p468, 14, m, v0, 0u);
+    put_held8(p468, 13, m, v0, v25);
+    put_held8(p468, 12, m, v0, v24);
+    put_held8(p468, 11, m, v0, v23);
+    put_held8(p468, 10, m, v0, v22);
+    put_held8(p468, 9, m, v0, v21);
+    put_held8(p468, 8, m, v0, v20);
+    put_held32(p468, 18, m, v0, get32(f35 + 24));
+    put_held16(p468, 22, m, v0, get16(f35 + 28));
+    put_held8(p468, 32, m, v0, v28);
+    put_held64(p468, 24, m, v0, v1);
+    put_held32(p468, 33, m, v0, get32(f35 + 16));
+    put_held32(p468, 36, m, v0, get32(f35 + 19));
+    put_held8(p468, 40, m, v0, v29);
+    put_held64(p468, 48, m, v0, v30);
+    put_held64(p468, 56, m, v0, v31);
+    put_held64(p468, 64, m, v0, v32);
+    put_held64(p468, 72, m, v0, v33);
+    put_held32(p468, 41, m, v0, get32(f35 + 8));
+    put_held32(p468, 44, m, v0, get32(f35 + 11));
 }
 
 static void c_lent_lent_terminal_turn(struct call *m, u64 v0, u64 v1, u64 v2, u64 v3, u64 v4, u64 v5, u64 v6, u64 v7,
@@ -10018,21 +10406,45 @@ static void c_lent_lent_terminal_turn(struct call *m, u64 v0, u64 v1, u64 v2, u6
     u32 t1 = 0;
     u32 t2 = 0;
     u8 *f35 = NULL;
+    u8 *p26 = NULL;
+    u8 *p52 = NULL;
+    u8 *p249 = NULL;
+    u8 *p250 = NULL;
+    u8 *p360 = NULL;
+    u8 *p416 = NULL;
+    u8 *p417 = NULL;
+    u8 *p726 = NULL;
+    u8 *p762 = NULL;
+    u8 *p795 = NULL;
+    u8 *p896 = NULL;
+    u8 *p941 = NULL;
+    u8 *p1356 = NULL;
+    u8 *p1357 = NULL;
+    u8 *p1661 = NULL;
+    u8 *p1662 = NULL;
+    u8 *p2076 = NULL;
+    u8 *p2450 = NULL;
+    u8 *p2573 = NULL;
+    u8 *p2619 = NULL;
+    u8 *p2620 = NULL;
+    u8 *p2741 = NULL;
+    u8 *p2789 = NULL;
     v35 = m->g0 - 112ull;
     f35 = at(m, v35, 112);
     v9 = v35;
     m->g0 = v9;
-    if ((v35 ^ 0x8000000000000000ull) < (16ull ^ 0x8000000000000000ull)) { goto after13; }
-    v10 = load64(m, v6 + 16ull, 0);
-    v11 = load64(m, v6 + 8ull, 0);
-    v12 = load8(m, v6 + 1ull, 0);
-    v13 = load8(m, v6, 0);
-    fill(m, v35, 0u, 80ull);
+    p26 = held(m, v6, 24);
+    v10 = held64(p26, 16, m, v6);
+    v11 = held64(p26, 8, m, v6);
+    v12 = held8(p26, 1, m, v6);
+    v13 = held8(p26, 0, m, v6);
+    memset(f35, (int)(0u & 255u), 80);
     if (v8 >= 258ull) { goto after14; }
-    store32(m, v0, 1, 0u);
-    store8(m, v0, 0, 33u);
-    store32(m, v0, 4, 0u);
-    store64(m, v0, 8, 258ull);
+    p52 = held(m, v0, 16);
+    put_held32(p52, 1, m, v0, 0u);
+    put_held8(p52, 0, m, v0, 33u);
+    put_held32(p52, 4, m, v0, 0u);
+    put_held64(p52, 8, m, v0, 258ull);
     goto after1;
 after14:;
     c_lent_kept_CTerminal_fitting(m, v35, v1, v3, v5);
@@ -10100,10 +10512,12 @@ after56:;
 again60:;
     v6 = v2 + v8;
     v3 = v11 + v8;
-    store8(m, v6, 0, load8(m, v3, 0));
-    store8(m, v6 + 1ull, 0, load8(m, v3 + 1ull, 0));
-    store8(m, v6 + 2ull, 0, load8(m, v3 + 2ull, 0));
-    store8(m, v6 + 3ull, 0, load8(m, v3 + 3ull, 0));
+    p249 = held(m, v3, 4);
+    p250 = held(m, v6, 4);
+    put_held8(p250, 0, m, v6, held8(p249, 0, m, v3));
+    put_held8(p250, 1, m, v6, held8(p249, 1, m, v3));
+    put_held8(p250, 2, m, v6, held8(p249, 2, m, v3));
+    put_held8(p250, 3, m, v6, held8(p249, 3, m, v3));
     v8 = v8 + 4ull;
     if (v16 != v8) { goto again60; }
     if (v4 == 0) { goto after57; }
@@ -10131,11 +10545,12 @@ after63:;
     v13 = 0u;
 after62:;
     v22 = (u32)(v10 > v5);
-    store8(m, v7, 0, 0u);
+    p360 = held(m, v7, 3);
+    put_held8(p360, 0, m, v7, 0u);
     v12 = (u32)v11;
-    store8(m, v7, 2, v12);
+    put_held8(p360, 2, m, v7, v12);
     v13 = v13 | ((v27 & 255u) ? 64u : 0u);
-    store8(m, v7, 1, v13);
+    put_held8(p360, 1, m, v7, v13);
     v6 = v7 + 3ull;
     if ((v6 - v2) >= v11) { goto after65; }
     v3 = v11 & 3ull;
@@ -10146,10 +10561,12 @@ after62:;
 again67:;
     v6 = v7 + v8;
     v5 = v2 + v8;
-    store8(m, v6 + 3ull, 0, load8(m, v5, 0));
-    store8(m, v6 + 4ull, 0, load8(m, v5 + 1ull, 0));
-    store8(m, v6 + 5ull, 0, load8(m, v5 + 2ull, 0));
-    store8(m, v6 + 6ull, 0, load8(m, v5 + 3ull, 0));
+    p416 = held(m, v5, 4);
+    p417 = held(m, v6 + 3ull, 4);
+    put_held8(p417, 0, m, v6 + 3ull, held8(p416, 0, m, v5));
+    put_held8(p417, 1, m, v6 + 3ull, held8(p416, 1, m, v5));
+    put_held8(p417, 2, m, v6 + 3ull, held8(p416, 2, m, v5));
+    put_held8(p417, 3, m, v6 + 3ull, held8(p416, 3, m, v5));
     v8 = v8 + 4ull;
     if (v4 != v8) { goto again67; }
     if (v3 == 0) { goto after64; }
@@ -10252,8 +10669,9 @@ after81:;
     put32(f35 + 82, (v21 << 24) | 0x10001u);
     if (((v21 + 1u) & 255u) <= 1u) { goto after13; }
     v25 = v25 + 1u;
-    store8(m, v7, 2, 1u);
-    store16(m, v7, 0, 49408u);
+    p726 = held(m, v7, 3);
+    put_held8(p726, 2, m, v7, 1u);
+    put_held16(p726, 0, m, v7, 49408u);
     v5 = v7 + 3ull;
     v8 = v35 + 85ull;
     if (v5 == v8) { goto after78; }
@@ -10268,8 +10686,9 @@ after80:;
     v21 = 1u;
 after79:;
     v14 = 0u;
-    store8(m, v7, 2, 0u);
-    store16(m, v7, 0, 49152u);
+    p762 = held(m, v7, 3);
+    put_held8(p762, 2, m, v7, 0u);
+    put_held16(p762, 0, m, v7, 49152u);
     v5 = v7 + 3ull;
     v8 = 0x10000ull;
     v13 = 192u;
@@ -10284,10 +10703,11 @@ after78:;
     v22 = 4u;
     goto after75;
 after77:;
-    store8(m, v7, 2, 0u);
-    store8(m, v7, 0, 0u);
+    p795 = held(m, v7, 3);
+    put_held8(p795, 2, m, v7, 0u);
+    put_held8(p795, 0, m, v7, 0u);
     v13 = v26 ? 0xFFFFFF90u : 0xFFFFFF80u;
-    store8(m, v7, 1, v13);
+    put_held8(p795, 1, m, v7, v13);
     put32(f35 + 82, v26);
     put16(f35 + 80, 258u);
     v5 = v7 + 3ull;
@@ -10329,24 +10749,26 @@ after86:;
     v28 = 1u;
     goto after4;
 after85:;
-    store8(m, v7, 2, 1u);
-    store16(m, v7, 0, 49408u);
-    store8(m, v7 + 3ull, 0, v12);
+    p896 = held(m, v7, 5);
+    put_held8(p896, 2, m, v7, 1u);
+    put_held16(p896, 0, m, v7, 49408u);
+    put_held8(p896, 3, m, v7, v12);
     put8(f35 + 85, v12);
     put8(f35 + 84, 1u);
     put32(f35 + 80, 0x10202u);
     v8 = 5ull;
     t1 = block_core_block_ref_sum_of(m, (v35 + 80ull) + 5ull, 1ull);
-    store8(m, v7 + 4ull, 0, t1 ^ 192u);
+    put_held8(p896, 4, m, v7, t1 ^ 192u);
     v22 = 4u;
     v28 = 0u;
     v25 = 0u;
     v21 = v12;
     goto after5;
 after49:;
-    store64(m, v0, 1, 0ull);
-    store8(m, v0, 0, 32u);
-    store64(m, v0, 8, 0ull);
+    p941 = held(m, v0, 16);
+    put_held64(p941, 1, m, v0, 0ull);
+    put_held8(p941, 0, m, v0, 32u);
+    put_held64(p941, 8, m, v0, 0ull);
     goto after1;
 after48:;
     if (v10 == 3ull) { goto after46; }
@@ -10522,10 +10944,12 @@ after108:;
 again113:;
     v10 = v33 + v5;
     v11 = v6 + v5;
-    store8(m, v10, 0, load8(m, v11, 0));
-    store8(m, v10 + 1ull, 0, load8(m, v11 + 1ull, 0));
-    store8(m, v10 + 2ull, 0, load8(m, v11 + 2ull, 0));
-    store8(m, v10 + 3ull, 0, load8(m, v11 + 3ull, 0));
+    p1356 = held(m, v11, 4);
+    p1357 = held(m, v10, 4);
+    put_held8(p1357, 0, m, v10, held8(p1356, 0, m, v11));
+    put_held8(p1357, 1, m, v10, held8(p1356, 1, m, v11));
+    put_held8(p1357, 2, m, v10, held8(p1356, 2, m, v11));
+    put_held8(p1357, 3, m, v10, held8(p1356, 3, m, v11));
     v5 = v5 + 4ull;
     if (v34 != v5) { goto again113; }
     if (v20 == 0) { goto after110; }
@@ -10641,10 +11065,12 @@ after122:;
 again128:;
     v8 = v20 + v5;
     v10 = v6 + v5;
-    store8(m, v8, 0, load8(m, v10, 0));
-    store8(m, v8 + 1ull, 0, load8(m, v10 + 1ull, 0));
-    store8(m, v8 + 2ull, 0, load8(m, v10 + 2ull, 0));
-    store8(m, v8 + 3ull, 0, load8(m, v10 + 3ull, 0));
+    p1661 = held(m, v10, 4);
+    p1662 = held(m, v8, 4);
+    put_held8(p1662, 0, m, v8, held8(p1661, 0, m, v10));
+    put_held8(p1662, 1, m, v8, held8(p1661, 1, m, v10));
+    put_held8(p1662, 2, m, v8, held8(p1661, 2, m, v10));
+    put_held8(p1662, 3, m, v8, held8(p1661, 3, m, v10));
     v5 = v5 + 4ull;
     if (v33 != v5) { goto again128; }
     if (v11 == 0) { goto after125; }
@@ -10819,8 +11245,9 @@ after37:;
     goto after3;
 after36:;
     v14 = 0u;
-    store8(m, v7, 2, 0u);
-    store16(m, v7, 0, 49152u);
+    p2076 = held(m, v7, 3);
+    put_held8(p2076, 2, m, v7, 0u);
+    put_held16(p2076, 0, m, v7, 49152u);
     put32(f35 + 82, 0u);
     put16(f35 + 80, 514u);
     v2 = v7 + 3ull;
@@ -10986,10 +11413,11 @@ after152:;
 after146:;
     if (v13 == 0x10000u) { goto after13; }
     v28 = 0u;
-    store8(m, v7, 2, 0u);
-    store8(m, v7, 0, 0u);
+    p2450 = held(m, v7, 3);
+    put_held8(p2450, 2, m, v7, 0u);
+    put_held8(p2450, 0, m, v7, 0u);
     v13 = ((v12 & 255u) ? 0xFFFFFF90u : 0xFFFFFF80u) + v30;
-    store8(m, v7, 1, v13);
+    put_held8(p2450, 1, m, v7, v13);
     v2 = v7 + 3ull;
     v4 = 0ull;
     v11 = 0x10000ull;
@@ -11033,10 +11461,11 @@ after10:;
 after9:;
     v30 = 1u;
 after8:;
-    store8(m, v7, 1, v13);
-    store8(m, v7, 0, 0u);
+    p2573 = held(m, v7, 3);
+    put_held8(p2573, 1, m, v7, v13);
+    put_held8(p2573, 0, m, v7, 0u);
     v28 = (u32)v4;
-    store8(m, v7, 2, v28);
+    put_held8(p2573, 2, m, v7, v28);
     v2 = v7 + 3ull;
     if ((v2 - v11) >= v4) { goto after7; }
     v10 = v4 & 3ull;
@@ -11047,10 +11476,12 @@ after8:;
 again154:;
     v8 = v7 + v6;
     v5 = v11 + v6;
-    store8(m, v8 + 3ull, 0, load8(m, v5, 0));
-    store8(m, v8 + 4ull, 0, load8(m, v5 + 1ull, 0));
-    store8(m, v8 + 5ull, 0, load8(m, v5 + 2ull, 0));
-    store8(m, v8 + 6ull, 0, load8(m, v5 + 3ull, 0));
+    p2619 = held(m, v5, 4);
+    p2620 = held(m, v8 + 3ull, 4);
+    put_held8(p2620, 0, m, v8 + 3ull, held8(p2619, 0, m, v5));
+    put_held8(p2620, 1, m, v8 + 3ull, held8(p2619, 1, m, v5));
+    put_held8(p2620, 2, m, v8 + 3ull, held8(p2619, 2, m, v5));
+    put_held8(p2620, 3, m, v8 + 3ull, held8(p2619, 3, m, v5));
     v6 = v6 + 4ull;
     if (v33 != v6) { goto again154; }
     if (v10 == 0) { goto after6; }
@@ -11084,30 +11515,514 @@ after156:;
     v21 = v14;
     v6 = v20;
 after2:;
-    store32(m, v1, 9, 0u);
-    store8(m, v1, 8, v19);
-    store8(m, v1, 7, v21);
-    store8(m, v1, 6, v22);
-    store8(m, v1, 5, v23);
-    store8(m, v1, 4, v24);
-    store8(m, v1, 3, v15);
-    store8(m, v1, 2, v25);
-    store8(m, v1, 1, v26);
-    store8(m, v1, 0, v27);
-    store32(m, v1, 12, 0u);
-    store64(m, v1, 48, v16);
-    store64(m, v1, 40, v3);
-    store64(m, v1, 32, v17);
-    store64(m, v1, 24, v18);
-    store64(m, v1, 16, v6);
-    store32(m, v0, 2, 0u);
-    store16(m, v0, 6, 0u);
+    p2741 = held(m, v1, 56);
+    put_held32(p2741, 9, m, v1, 0u);
+    put_held8(p2741, 8, m, v1, v19);
+    put_held8(p2741, 7, m, v1, v21);
+    put_held8(p2741, 6, m, v1, v22);
+    put_held8(p2741, 5, m, v1, v23);
+    put_held8(p2741, 4, m, v1, v24);
+    put_held8(p2741, 3, m, v1, v15);
+    put_held8(p2741, 2, m, v1, v25);
+    put_held8(p2741, 1, m, v1, v26);
+    put_held8(p2741, 0, m, v1, v27);
+    put_held32(p2741, 12, m, v1, 0u);
+    put_held64(p2741, 48, m, v1, v16);
+    put_held64(p2741, 40, m, v1, v3);
+    put_held64(p2741, 32, m, v1, v17);
+    put_held64(p2741, 24, m, v1, v18);
+    put_held64(p2741, 16, m, v1, v6);
+    p2789 = held(m, v0, 16);
+    put_held32(p2789, 2, m, v0, 0u);
+    put_held16(p2789, 6, m, v0, 0u);
     v22 = v28 | v13;
-    store8(m, v0, 1, v22 ? 0u : v30);
-    store8(m, v0, 0, v28 ? (v29 | 16u) : v13);
-    store64(m, v0, 8, v22 ? 0ull : v8);
+    put_held8(p2789, 1, m, v0, v22 ? 0u : v30);
+    put_held8(p2789, 0, m, v0, v28 ? (v29 | 16u) : v13);
+    put_held64(p2789, 8, m, v0, v22 ? 0ull : v8);
 after1:;
     m->g0 = v35 + 112ull;
+}
+
+static void tlv_core_tidy_form_put_objects(struct call *m, u64 v0, u64 v1, u64 v2, u64 v3, u64 v4, u64 v5)
+{
+    u64 v6 = 0;
+    u64 v7 = 0;
+    u64 v9 = 0;
+    u64 v10 = 0;
+    u64 v11 = 0;
+    u64 v12 = 0;
+    u64 v13 = 0;
+    u64 v14 = 0;
+    u64 v16 = 0;
+    u64 v21 = 0;
+    u64 v22 = 0;
+    u64 v23 = 0;
+    u64 v24 = 0;
+    u64 v25 = 0;
+    u64 v26 = 0;
+    u32 v8 = 0;
+    u32 v15 = 0;
+    u32 v17 = 0;
+    u32 v18 = 0;
+    u32 v19 = 0;
+    u32 v20 = 0;
+    u32 t2 = 0;
+    u64 w0 = 0;
+    u64 w1 = 0;
+    u8 *f26 = NULL;
+    u8 *p325 = NULL;
+    u8 *p671 = NULL;
+    u8 *p1009 = NULL;
+    u8 *p1010 = NULL;
+    u8 *p1141 = NULL;
+    u8 *p1160 = NULL;
+    v26 = m->g0 - 272ull;
+    f26 = at(m, v26, 272);
+    v6 = v26;
+    m->g0 = v6;
+    v7 = 0ull;
+    put64(f26 + 32, 0ull);
+    put64(f26 + 24, 0ull);
+    put64(f26 + 16, 0ull);
+    put64(f26 + 8, 0ull);
+    put64(f26 + 120, v3);
+    v8 = 0u;
+    memset(f26 + 128, (int)(0u & 255u), 112);
+    memset(f26 + 40, (int)(0u & 255u), 80);
+    v3 = get64(f26 + 128);
+    if (v3 >= v2) { goto after4; }
+    v9 = (v26 + 120ull) + 16ull;
+    v10 = v26 + 132ull;
+    v11 = (v26 + 8ull) | 5ull;
+again5:;
+    v12 = get64(f26 + 232);
+    if (v12 == 0) { goto after7; }
+    v13 = v2 - v3;
+    v13 = (v13 < v12) ? v13 : v12;
+    put64(f26 + 232, v12 - v13);
+    v12 = get64(f26 + 208);
+    if (v12 != 0ull) { goto after9; }
+    v12 = get64(f26 + 120);
+    goto after8;
+after9:;
+    v12 = (u64)load32(m, v10 + (v12 << 2), 0);
+after8:;
+    v14 = v13 + v3;
+    put64(f26 + 128, v14);
+    if (v13 < (v12 - v3)) { goto after6; }
+    v15 = (u32)v14;
+    w1 = ((u64)((u32)((get32(f26 + 140) ^ 0x80000000u) > (v15 ^ 0x80000000u)))) + ((u64)((u32)((get32(f26 + 136) ^
+        0x80000000u) > (v15 ^ 0x80000000u))));
+    w1 = (w1 + ((u64)((u32)((get32(f26 + 144) ^ 0x80000000u) > (v15 ^ 0x80000000u))))) + ((u64)((u32)((get32(f26 +
+        148) ^ 0x80000000u) > (v15 ^ 0x80000000u))));
+    w1 = (w1 + ((u64)((u32)((get32(f26 + 152) ^ 0x80000000u) > (v15 ^ 0x80000000u))))) + ((u64)((u32)((get32(f26 +
+        156) ^ 0x80000000u) > (v15 ^ 0x80000000u))));
+    w1 = (w1 + ((u64)((u32)((get32(f26 + 160) ^ 0x80000000u) > (v15 ^ 0x80000000u))))) + ((u64)((u32)((get32(f26 +
+        164) ^ 0x80000000u) > (v15 ^ 0x80000000u))));
+    w1 = (w1 + ((u64)((u32)((get32(f26 + 168) ^ 0x80000000u) > (v15 ^ 0x80000000u))))) + ((u64)((u32)((get32(f26 +
+        172) ^ 0x80000000u) > (v15 ^ 0x80000000u))));
+    w1 = (w1 + ((u64)((u32)((get32(f26 + 176) ^ 0x80000000u) > (v15 ^ 0x80000000u))))) + ((u64)((u32)((get32(f26 +
+        180) ^ 0x80000000u) > (v15 ^ 0x80000000u))));
+    w1 = (w1 + ((u64)((u32)((get32(f26 + 184) ^ 0x80000000u) > (v15 ^ 0x80000000u))))) + ((u64)((u32)((get32(f26 +
+        188) ^ 0x80000000u) > (v15 ^ 0x80000000u))));
+    w1 = (w1 + ((u64)((u32)((get32(f26 + 192) ^ 0x80000000u) > (v15 ^ 0x80000000u))))) + ((u64)((u32)((get32(f26 +
+        196) ^ 0x80000000u) > (v15 ^ 0x80000000u))));
+    put64(f26 + 208, w1);
+    goto after6;
+after7:;
+    v12 = v1 + v3;
+    v13 = get64(f26 + 208);
+    if (get8(f26 + 216)) { goto after11; }
+    if (v13 > 15ull) { goto after11; }
+    put64(f26 + 248, 0ull);
+    v14 = v12;
+    v16 = v2 - v3;
+    if (v16 > 7ull) { goto after12; }
+    tlv_core_short_front_of_few(m, v26 + 248ull, v12, v16);
+    v14 = v26 + 248ull;
+after12:;
+    v14 = load64(m, v14, 0);
+    put64(f26 + 240, v14);
+    v15 = (u32)v14;
+    v17 = v15 & 31u;
+    v18 = (u32)(v17 == 31u);
+    v19 = (u32)(v14 >> 8);
+    v20 = v18 & ((u32)(((spread32(v19, 8)) ^ 0x80000000u) < (0u ^ 0x80000000u)));
+    if (v20 & ((u32)((v14 & 0x800000ull) >> 23))) { goto after11; }
+    if ((v15 & 255u) == 0) { goto after11; }
+    if (v18 & ((u32)((v19 & 127u) == 0))) { goto after11; }
+    v18 = 1u;
+    v19 = ((v17 == 31u) ? 2u : 1u) + v20;
+    v21 = (u64)v19;
+    v22 = (v26 + 240ull) | v21;
+    p325 = held(m, v22, 2);
+    v23 = (u64)held8(p325, 1, m, v22);
+    v17 = held8(p325, 0, m, v22);
+    switch (v17 + 0xFFFFFF80u) {
+        case 0: goto after11;
+        case 1: goto after13;
+        case 2: goto after15;
+        default: goto after14;
+    }
+after15:;
+    v23 = (v23 << 8) | (u64)load8(m, v22, 2);
+    v18 = 2u;
+    goto after13;
+after14:;
+    v18 = 0u;
+    if (((spread32(v17, 8)) ^ 0x80000000u) < (0u ^ 0x80000000u)) { goto after11; }
+    v23 = (u64)v17;
+after13:;
+    v15 = v15 & 32u;
+    v22 = (u64)((v19 + v18) + 1u);
+    if (v16 < ((v15 ? 0ull : v23) + v22)) { goto after11; }
+    v16 = v23 + v22;
+    if (v13 != 0ull) { goto after17; }
+    v24 = get64(f26 + 120);
+    goto after16;
+after17:;
+    v24 = (u64)load32(m, v10 + (v13 << 2), 0);
+after16:;
+    if ((v24 - v3) < v16) { goto after11; }
+    w0 = (((v19 == 3u) ? (v14 & 0xFF0000ull) : 0ull) | (v21 << 24)) | ((v19 > 1u) ? (v14 & 65280ull) : 0ull);
+    v14 = w0 | (v14 & 255ull);
+    v12 = v3 + v22;
+    v21 = ((u64)v18) << 32;
+    v22 = v15 ? v22 : v16;
+    if (v22 != v16) { goto after19; }
+    if (v13 != 0ull) { goto after19; }
+    put64(f26 + 128, v16 + v3);
+    v3 = 0ull;
+    goto after18;
+after19:;
+    store32(m, v9 + ((v22 < v16) ? (v13 << 2) : 64ull), 0, (u32)(v16 + v3));
+    v3 = v3 + v22;
+    put64(f26 + 128, v3);
+    v15 = (u32)v3;
+    w0 = ((u64)((u32)((get32(f26 + 136) ^ 0x80000000u) > (v15 ^ 0x80000000u)))) + ((u64)((u32)((get32(f26 + 140) ^
+        0x80000000u) > (v15 ^ 0x80000000u))));
+    w0 = (w0 + ((u64)((u32)((get32(f26 + 144) ^ 0x80000000u) > (v15 ^ 0x80000000u))))) + ((u64)((u32)((get32(f26 +
+        148) ^ 0x80000000u) > (v15 ^ 0x80000000u))));
+    w0 = (w0 + ((u64)((u32)((get32(f26 + 152) ^ 0x80000000u) > (v15 ^ 0x80000000u))))) + ((u64)((u32)((get32(f26 +
+        156) ^ 0x80000000u) > (v15 ^ 0x80000000u))));
+    w0 = (w0 + ((u64)((u32)((get32(f26 + 160) ^ 0x80000000u) > (v15 ^ 0x80000000u))))) + ((u64)((u32)((get32(f26 +
+        164) ^ 0x80000000u) > (v15 ^ 0x80000000u))));
+    w0 = (w0 + ((u64)((u32)((get32(f26 + 168) ^ 0x80000000u) > (v15 ^ 0x80000000u))))) + ((u64)((u32)((get32(f26 +
+        172) ^ 0x80000000u) > (v15 ^ 0x80000000u))));
+    w0 = (w0 + ((u64)((u32)((get32(f26 + 176) ^ 0x80000000u) > (v15 ^ 0x80000000u))))) + ((u64)((u32)((get32(f26 +
+        180) ^ 0x80000000u) > (v15 ^ 0x80000000u))));
+    w0 = (w0 + ((u64)((u32)((get32(f26 + 184) ^ 0x80000000u) > (v15 ^ 0x80000000u))))) + ((u64)((u32)((get32(f26 +
+        188) ^ 0x80000000u) > (v15 ^ 0x80000000u))));
+    w0 = (w0 + ((u64)((u32)((get32(f26 + 192) ^ 0x80000000u) > (v15 ^ 0x80000000u))))) + ((u64)((u32)((get32(f26 +
+        196) ^ 0x80000000u) > (v15 ^ 0x80000000u))));
+    v3 = w0;
+after18:;
+    put64(f26 + 208, v3);
+    v12 = (v12 & 0xFFFFFFFFull) | (v23 << 32);
+    v3 = (((v13 << 40) | v21) + v14) + 0x10000000000ull;
+    goto after10;
+after11:;
+    put32(f26 + 264, 0u);
+    put64(f26 + 256, 0ull);
+    put64(f26 + 248, 0ull);
+    t2 = load8(m, v12, 0);
+    tlv_core_progress_Progress_take(m, v26 + 248ull, v26 + 120ull, t2);
+    if (get8(f26 + 248)) { goto after20; }
+    if (get8(f26 + 252) != 2u) { goto after6; }
+    w0 = (((u64)get8(f26 + 260) << 32) | (((v13 << 40) + 0x10000000000ull) & 0xFF0000000000ull)) | (u64)get32(f26 +
+        256);
+    v3 = w0;
+    v12 = (u64)get32(f26 + 128) | ((u64)get32(f26 + 264) << 32);
+    goto after10;
+after20:;
+    v3 = get64(f26 + 128);
+    v8 = get8(f26 + 249);
+    v7 = 1ull;
+    goto after3;
+after10:;
+    p671 = held(m, v11, 3);
+    put_held16(p671, 0, m, v11, 0u);
+    put_held8(p671, 2, m, v11, 0u);
+    v16 = v12 & 0xFFFFFFFFull;
+    put64(f26 + 16, v16);
+    put32(f26 + 8, (u32)v3);
+    put8(f26 + 12, (u32)(v3 >> 32));
+    v23 = v1 + v16;
+    put64(f26 + 24, v23);
+    v12 = v12 >> 32;
+    v13 = v2 - v16;
+    v13 = (v12 < v13) ? v12 : v13;
+    put64(f26 + 32, v13);
+    tlv_core_tidy_form_TidyForm_close_to(m, v26 + 40ull, v3 >> 40, v4, v5);
+    v14 = (v3 >> 24) & 255ull;
+    v22 = (u64)get32(f26 + 112);
+    v12 = v14 + v22;
+    if (v12 > v5) { goto after21; }
+    if (v14 == 0) { goto after21; }
+    copy(m, v4 + v22, v26 + 8ull, v14);
+after21:;
+    v12 = (v12 < 0xFFFFFFFFull) ? v12 : 0xFFFFFFFFull;
+    v15 = (u32)v12;
+    put32(f26 + 112, v15);
+    if ((v3 & 32ull) == 0) { goto after23; }
+    v3 = get64(f26 + 104);
+    if (v3 > 15ull) { goto after22; }
+    store32(m, (v26 + 40ull) + (v3 << 2), 0, v15);
+    put64(f26 + 104, v3 + 1ull);
+    goto after22;
+after23:;
+    if (v13 > 127ull) { goto after25; }
+    v15 = (u32)v13;
+    v3 = 1ull;
+    v14 = 0ull;
+    v18 = 0u;
+    v19 = 0u;
+    v17 = 0u;
+    goto after24;
+after25:;
+    if (v13 > 255ull) { goto after26; }
+    v18 = (u32)v13;
+    v3 = 2ull;
+    v14 = 0ull;
+    v19 = 0u;
+    v15 = 129u;
+    v17 = 0u;
+    goto after24;
+after26:;
+    v20 = (u32)(v13 >> 8);
+    if (v13 > 65535ull) { goto after27; }
+    v19 = (u32)v13;
+    v3 = 3ull;
+    v14 = 0ull;
+    v17 = 0u;
+    v15 = 130u;
+    v18 = v20;
+    goto after24;
+after27:;
+    v3 = v13 >> 16;
+    if (v13 > 0xFFFFFFull) { goto after28; }
+    v15 = (u32)v13;
+    v18 = right32(v15 & 255u, 8u);
+    v19 = (v18 | ((v15 << 8) & 0xFF0000u)) >> 16;
+    v17 = v18 >> 24;
+    v18 = (u32)v3;
+    v3 = 4ull;
+    v14 = 0ull;
+    v15 = 131u;
+    goto after24;
+after28:;
+    v14 = (v13 << 32) & 0xFF00000000ull;
+    v18 = (u32)(v13 >> 24);
+    v19 = (u32)v3;
+    v3 = 5ull;
+    v15 = 132u;
+    v17 = v20;
+after24:;
+    put64(f26 + 248, v14 | ((u64)((((v18 & 255u) << 8) | v15) | ((v17 << 24) | ((v19 << 16) & 0xFF0000u)))));
+    put64(f26 + 256, v3);
+    v14 = v3 + v12;
+    if (v14 > v5) { goto after29; }
+    if (v3 == 0) { goto after29; }
+    copy(m, v4 + v12, v26 + 248ull, v3);
+after29:;
+    v25 = (v14 < 0xFFFFFFFFull) ? v14 : 0xFFFFFFFFull;
+    v24 = v25 + v13;
+    if (v24 > v5) { goto after30; }
+    v22 = v4 + v25;
+    if ((v22 - v23) >= v13) { goto after31; }
+    v14 = v13 & 3ull;
+    v12 = 0ull;
+    if (v13 < 4ull) { goto after32; }
+    v21 = v13 & 0xFFFFFFFCull;
+    v12 = 0ull;
+again33:;
+    v3 = v22 + v12;
+    v13 = v23 + v12;
+    p1009 = held(m, v13, 4);
+    p1010 = held(m, v3, 4);
+    put_held8(p1010, 0, m, v3, held8(p1009, 0, m, v13));
+    put_held8(p1010, 1, m, v3, held8(p1009, 1, m, v13));
+    put_held8(p1010, 2, m, v3, held8(p1009, 2, m, v13));
+    put_held8(p1010, 3, m, v3, held8(p1009, 3, m, v13));
+    v12 = v12 + 4ull;
+    if (v21 != v12) { goto again33; }
+    if (v14 == 0) { goto after30; }
+after32:;
+    v3 = v4 + (v12 + v25);
+    v12 = v1 + (v12 + v16);
+again34:;
+    store8(m, v3, 0, load8(m, v12, 0));
+    v3 = v3 + 1ull;
+    v12 = v12 + 1ull;
+    v14 = v14 + 0xFFFFFFFFFFFFFFFFull;
+    if (v14 != 0ull) { goto again34; }
+    goto after30;
+after31:;
+    if (v13 == 0) { goto after30; }
+    copy(m, v22, v23, v13);
+after30:;
+    put32(f26 + 112, (u32)((v24 < 0xFFFFFFFFull) ? v24 : 0xFFFFFFFFull));
+after22:;
+    v3 = get64(f26 + 128);
+    if (v3 < v2) { goto again5; }
+    goto after4;
+after6:;
+    v3 = get64(f26 + 128);
+    if (v3 < v2) { goto again5; }
+after4:;
+    if (get64(f26 + 208) != 0ull) { goto after3; }
+    if (get8(f26 + 216) & 255u) { goto after3; }
+    if (get64(f26 + 232)) { goto after3; }
+    tlv_core_tidy_form_TidyForm_close_to(m, v26 + 40ull, 1ull, v4, v5);
+    p1141 = held(m, v0, 25);
+    put_held8(p1141, 24, m, v0, 0u);
+    put_held64(p1141, 16, m, v0, 0ull);
+    put_held64(p1141, 0, m, v0, 0ull);
+    put_held64(p1141, 8, m, v0, (u64)get32(f26 + 112));
+    goto after2;
+after3:;
+    p1160 = held(m, v0, 25);
+    put_held64(p1160, 0, m, v0, 1ull);
+    put_held8(p1160, 24, m, v0, v8);
+    put_held64(p1160, 16, m, v0, v3);
+    put_held64(p1160, 8, m, v0, v7);
+after2:;
+    m->g0 = v26 + 272ull;
+    return;
+}
+
+static void tlv_core_tidy_form_TidyForm_close_to(struct call *m, u64 v0, u64 v1, u64 v2, u64 v3)
+{
+    u64 v4 = 0;
+    u64 v5 = 0;
+    u64 v6 = 0;
+    u64 v7 = 0;
+    u64 v8 = 0;
+    u64 v13 = 0;
+    u64 v17 = 0;
+    u64 v18 = 0;
+    u64 v19 = 0;
+    u64 v20 = 0;
+    u64 v21 = 0;
+    u64 v22 = 0;
+    u64 v23 = 0;
+    u32 v9 = 0;
+    u32 v10 = 0;
+    u32 v11 = 0;
+    u32 v12 = 0;
+    u32 v14 = 0;
+    u32 v15 = 0;
+    u32 v16 = 0;
+    u8 *f23 = NULL;
+    u8 *p37 = NULL;
+    u8 *p46 = NULL;
+    u8 *p279 = NULL;
+    u8 *p292 = NULL;
+    v23 = m->g0 - 16ull;
+    f23 = at(m, v23, 16);
+    v4 = v23;
+    if ((v4 ^ 0x8000000000000000ull) < (16ull ^ 0x8000000000000000ull)) { goto after1; }
+    v5 = load64(m, v0 + 64ull, 0);
+    if (v1 > v5) { goto after2; }
+    if (v5 == 0) { goto after2; }
+    v6 = v2 + 0xFFFFFFFFFFFFFFFCull;
+    v7 = v2 + 0xFFFFFFFFFFFFFFFFull;
+again3:;
+    v5 = v5 + 0xFFFFFFFFFFFFFFFFull;
+    p37 = held(m, v0 + 64ull, 12);
+    put_held64(p37, 0, m, v0 + 64ull, v5);
+    v8 = 2ull;
+    v5 = v0 + (v5 << 2);
+    p46 = held(m, v5, 4);
+    v9 = held32(p46, 0, m, v5);
+    v10 = 0u;
+    put_held32(p46, 0, m, v5, 0u);
+    v11 = held32(p37, 8, m, v0 + 64ull);
+    v12 = v11 - v9;
+    v12 = (v12 > v11) ? 0u : v12;
+    v13 = (u64)v12;
+    v5 = 0ull;
+    if (v12 >= 128u) { goto after5; }
+    v8 = 1ull;
+    v14 = v12;
+    v15 = 0u;
+    v16 = 0u;
+    goto after4;
+after5:;
+    if (v12 >= 256u) { goto after6; }
+    v14 = 129u;
+    v15 = v12;
+    v16 = 0u;
+    goto after4;
+after6:;
+    v15 = v12 >> 8;
+    if (v12 >= 0x10000u) { goto after7; }
+    v8 = 3ull;
+    v14 = 130u;
+    v16 = v12;
+    goto after4;
+after7:;
+    v17 = v13 >> 16;
+    if (v12 > 0xFFFFFFu) { goto after8; }
+    v15 = (u32)v17;
+    v10 = right32(v12 & 0xFF00FFu, 8u);
+    v16 = ((v15 << 8) | (v10 | ((right32(v12, 24u)) & 0xFF00FFu))) >> 16;
+    v10 = v10 >> 24;
+    v8 = 4ull;
+    v14 = 131u;
+    goto after4;
+after8:;
+    v10 = v15 & 255u;
+    v15 = v12 >> 24;
+    v5 = ((u64)(v12 & 255u)) << 32;
+    v16 = (u32)v17;
+    v8 = 5ull;
+    v14 = 132u;
+after4:;
+    put64(f23, v5 | ((u64)(((v10 << 24) | ((v16 << 16) & 0xFF0000u)) | (v14 | ((v15 << 8) & 65280u)))));
+    put64(f23 + 8, v8);
+    v18 = (u64)v9;
+    v19 = (v13 + v18) + v8;
+    if (v19 > v3) { goto after9; }
+    v20 = v2 + v18;
+    if (v11 <= v9) { goto after10; }
+    v5 = v13 & 3ull;
+    if (v5 == 0) { goto after11; }
+    v21 = v20 + v8;
+    v22 = v7 + v18;
+again12:;
+    v17 = v13;
+    v13 = v17 + 0xFFFFFFFFFFFFFFFFull;
+    store8(m, v13 + v21, 0, load8(m, v22 + v17, 0));
+    v5 = v5 + 0xFFFFFFFFFFFFFFFFull;
+    if (v5 != 0ull) { goto again12; }
+after11:;
+    if ((v12 + 0xFFFFFFFFu) < 3u) { goto after10; }
+    v5 = v6 + (v13 + v18);
+again13:;
+    p279 = held(m, v5, 4);
+    v12 = held16(p279, 2, m, v5);
+    v9 = held8(p279, 1, m, v5);
+    v17 = v5 + v8;
+    p292 = held(m, v17, 4);
+    put_held8(p292, 0, m, v17, held8(p279, 0, m, v5));
+    put_held8(p292, 1, m, v17, v9);
+    put_held16(p292, 2, m, v17, v12);
+    v5 = v5 + 0xFFFFFFFFFFFFFFFCull;
+    v13 = v13 + 0xFFFFFFFFFFFFFFFCull;
+    if (v13 != 0ull) { goto again13; }
+after10:;
+    if (v8 == 0) { goto after9; }
+    copy(m, v20, v23, v8);
+after9:;
+    put_held32(p37, 8, m, v0 + 64ull, (u32)((v19 < 0xFFFFFFFFull) ? v19 : 0xFFFFFFFFull));
+    v5 = held64(p37, 0, m, v0 + 64ull);
+    if (v1 > v5) { goto after2; }
+    if (v5 != 0ull) { goto again3; }
+after2:;
+    return;
+after1:;
+    UNREACHABLE;
 }
 
 static void module_scard_atr_check(struct call *m, u64 v0, u64 v1, u64 v2)
@@ -11129,11 +12044,11 @@ static void rattle_export_scard_atr_check(struct call *m, u64 v0, u64 v1, u64 v2
     u64 v6 = 0;
     u32 v5 = 0;
     u8 *f6 = NULL;
+    u8 *p73 = NULL;
     v6 = m->g0 - 32ull;
     f6 = at(m, v6, 32);
     v3 = v6;
     m->g0 = v3;
-    if ((v6 ^ 0x8000000000000000ull) < (16ull ^ 0x8000000000000000ull)) { goto after3; }
     v4 = 0ull;
     put64(f6 + 24, 0ull);
     put64(f6 + 16, 0ull);
@@ -11143,15 +12058,14 @@ static void rattle_export_scard_atr_check(struct call *m, u64 v0, u64 v1, u64 v2
     if (get8(f6)) { goto after2; }
     v1 = get64(f6 + 8);
     goto after1;
-after3:;
-    UNREACHABLE;
 after2:;
     v5 = get8(f6 + 8);
     v4 = ((((u64)(v5 ? (get8(f6 + 24) + 1u) : 0u)) & 255ull) << 8) | (v5 ? 2ull : 1ull);
     v1 = get64(f6 + 16);
 after1:;
-    store64(m, v0, 8, v1);
-    store64(m, v0, 0, v4);
+    p73 = held(m, v0, 16);
+    put_held64(p73, 8, m, v0, v1);
+    put_held64(p73, 0, m, v0, v4);
     m->g0 = v6 + 32ull;
 }
 
@@ -11172,6 +12086,7 @@ static void rattle_export_scard_atr_decode(struct call *m, u64 v0, u64 v1, u64 v
     u64 v4 = 0;
     u64 v5 = 0;
     u8 *f5 = NULL;
+    u8 *p33 = NULL;
     v5 = m->g0 - 16ull;
     f5 = at(m, v5, 16);
     v4 = v5;
@@ -11182,8 +12097,9 @@ after1:;
     put64(f5 + 8, 0ull);
     put64(f5, 0ull);
     c_lent_atr_atr_decode(m, v5, v1 + ((v1 == 0) ? 4096ull : 0ull), v2, v3);
-    store64(m, v0, 8, get64(f5 + 8));
-    store64(m, v0, 0, get64(f5));
+    p33 = held(m, v0, 16);
+    put_held64(p33, 8, m, v0, get64(f5 + 8));
+    put_held64(p33, 0, m, v0, get64(f5));
     m->g0 = v5 + 16ull;
 }
 
@@ -11213,6 +12129,8 @@ static void rattle_export_scard_atr_encode(struct call *m, u64 v0, u64 v1, u64 v
     u32 t0 = 0;
     u32 t4 = 0;
     u8 *f5 = NULL;
+    u8 *p216 = NULL;
+    u8 *p344 = NULL;
     u64 n11;
     const u8 *q11;
     u64 n12;
@@ -11222,9 +12140,8 @@ static void rattle_export_scard_atr_encode(struct call *m, u64 v0, u64 v1, u64 v
     m->g0 = v4;
     v5 = v12;
     f5 = at(m, v5, 672);
-    if ((v5 ^ 0x8000000000000000ull) < (16ull ^ 0x8000000000000000ull)) { goto after1; }
     v4 = 0ull;
-    fill(m, v5 + 48ull, 0u, 272ull);
+    memset(f5 + 48, (int)(0u & 255u), 272);
     c_lent_atr_made(m, v5 + 48ull, v1);
     v6 = 4ull;
     if (get8(f5 + 48) != 1u) { goto after2; }
@@ -11291,9 +12208,10 @@ after10:;
         v2 = v2 - 8ull + 0xFFFFFFFFFFFFFFF8ull * n11;
     } else {
 again11:;
-        t4 = load8(m, v4 + 3ull, 0) ^ (load8(m, v4 + 2ull, 0) ^ (load8(m, v4 + 1ull, 0) ^ (load8(m, v4, 0) ^ v11)));
-        t0 = load8(m, v4 + 7ull, 0) ^ (load8(m, v4 + 6ull, 0) ^ (load8(m, v4 + 5ull, 0) ^ (load8(m, v4 + 4ull, 0) ^
-            t4)));
+        p216 = held(m, v4, 8);
+        t4 = held8(p216, 3, m, v4) ^ (held8(p216, 2, m, v4) ^ (held8(p216, 1, m, v4) ^ (held8(p216, 0, m, v4) ^
+            v11)));
+        t0 = held8(p216, 7, m, v4) ^ (held8(p216, 6, m, v4) ^ (held8(p216, 5, m, v4) ^ (held8(p216, 4, m, v4) ^ t4)));
         v11 = t0;
         v4 = v4 + 8ull;
         v2 = v2 + 0xFFFFFFFFFFFFFFF8ull;
@@ -11331,8 +12249,9 @@ after5:;
 after13:;
     v6 = 0ull;
 after2:;
-    store64(m, v0, 8, v4);
-    store64(m, v0, 0, v6);
+    p344 = held(m, v0, 16);
+    put_held64(p344, 8, m, v0, v4);
+    put_held64(p344, 0, m, v0, v6);
     m->g0 = v5 + 672ull;
     return;
 after1:;
@@ -11362,12 +12281,14 @@ static u32 rattle_export_scard_atr_rates(struct call *m, u64 v0, u64 v1)
     u32 v4 = 0;
     u32 v5 = 0;
     u8 *f6 = NULL;
+    u8 *p93 = NULL;
+    u8 *p121 = NULL;
+    u8 *p128 = NULL;
     v6 = m->g0 - 400ull;
     f6 = at(m, v6, 400);
     v2 = v6;
     m->g0 = v2;
-    if ((v6 ^ 0x8000000000000000ull) < (16ull ^ 0x8000000000000000ull)) { goto after1; }
-    fill(m, v6, 0u, 272ull);
+    memset(f6, (int)(0u & 255u), 272);
     c_lent_atr_made(m, v6, v0);
     v3 = 4u;
     if (get8(f6) != 1u) { goto after2; }
@@ -11389,20 +12310,21 @@ static u32 rattle_export_scard_atr_rates(struct call *m, u64 v0, u64 v1)
     put64(f6 + 304, 0x140001000C0001ull);
     v3 = (v4 == 1u) ? v3 : 17u;
     v0 = (v6 + 336ull) + ((u64)((v3 >> 2) & 60u));
-    v4 = load16(m, v0 + 2ull, 0);
-    v5 = load8(m, v0, 0);
+    p93 = held(m, v0, 4);
+    v4 = held16(p93, 2, m, v0);
+    v5 = held8(p93, 0, m, v0);
     put64(f6 + 328, 0ull);
     put64(f6 + 320, 0ull);
     put64(f6 + 312, 0ull);
     v0 = (v6 + 272ull) + ((u64)((v3 << 2) & 60u));
-    store16(m, v1, 2, (load8(m, v0, 0) == 1u) ? load16(m, v0 + 2ull, 0) : 0u);
-    store16(m, v1, 0, (v5 == 1u) ? v4 : 0u);
+    p121 = held(m, v0, 4);
+    p128 = held(m, v1, 4);
+    put_held16(p128, 2, m, v1, (held8(p121, 0, m, v0) == 1u) ? held16(p121, 2, m, v0) : 0u);
+    put_held16(p128, 0, m, v1, (v5 == 1u) ? v4 : 0u);
     v3 = 0u;
 after2:;
     m->g0 = v6 + 400ull;
     return v3;
-after1:;
-    UNREACHABLE;
 }
 
 static u32 module_scard_atr_t1_params(struct call *m, u64 v0, u64 v1)
@@ -11434,13 +12356,14 @@ static u32 rattle_export_scard_atr_t1_params(struct call *m, u64 v0, u64 v1)
     u32 v10 = 0;
     u32 v11 = 0;
     u8 *f3 = NULL;
+    u8 *p125 = NULL;
+    u8 *p243 = NULL;
     v12 = m->g0 - 544ull;
     v2 = v12;
     m->g0 = v2;
     v3 = v12;
     f3 = at(m, v3, 544);
-    if ((v3 ^ 0x8000000000000000ull) < (16ull ^ 0x8000000000000000ull)) { goto after3; }
-    fill(m, v3 + 8ull, 0u, 272ull);
+    memset(f3 + 8, (int)(0u & 255u), 272);
     c_lent_atr_made(m, v3 + 8ull, v0);
     if (get8(f3 + 8) == 1u) { goto after4; }
     v4 = 4u;
@@ -11474,15 +12397,16 @@ after7:;
     v7 = 0u;
 again8:;
     if (load8(m, v2 + 15ull, 0) != 1u) { goto after9; }
+    p125 = held(m, v2 + 16ull, 6);
     v9 = (u32)((v9 & 255u) == 1u);
-    v8 = v9 ? v8 : load8(m, v2 + 21ull, 0);
-    v9 = v9 ? 1u : load8(m, v2 + 20ull, 0);
+    v8 = v9 ? v8 : held8(p125, 5, m, v2 + 16ull);
+    v9 = v9 ? 1u : held8(p125, 4, m, v2 + 16ull);
     v11 = (u32)((v11 & 255u) == 1u);
-    v10 = v11 ? v10 : load8(m, v2 + 19ull, 0);
+    v10 = v11 ? v10 : held8(p125, 3, m, v2 + 16ull);
     v7 = (u32)((v7 & 255u) == 1u);
-    v6 = v7 ? v6 : load8(m, v2 + 17ull, 0);
-    v7 = v7 ? 1u : load8(m, v2 + 16ull, 0);
-    v11 = v11 ? 1u : load8(m, v2 + 18ull, 0);
+    v6 = v7 ? v6 : held8(p125, 1, m, v2 + 16ull);
+    v7 = v7 ? 1u : held8(p125, 0, m, v2 + 16ull);
+    v11 = v11 ? 1u : held8(p125, 2, m, v2 + 16ull);
 after9:;
     v2 = v2 + 7ull;
     v0 = v0 + 0xFFFFFFFFFFFFFFFFull;
@@ -11495,12 +12419,11 @@ after9:;
     if ((v8 & 1u) == 0) { goto after2; }
     v4 = 3u;
     goto after1;
-after3:;
-    UNREACHABLE;
 after2:;
-    store8(m, v1, 0, v7);
-    store8(m, v1, 2, v6 & 15u);
-    store8(m, v1, 1, (v6 & 240u) >> 4);
+    p243 = held(m, v1, 3);
+    put_held8(p243, 0, m, v1, v7);
+    put_held8(p243, 2, m, v1, v6 & 15u);
+    put_held8(p243, 1, m, v1, (v6 & 240u) >> 4);
     v4 = 0u;
 after1:;
     m->g0 = v3 + 544ull;
@@ -11524,6 +12447,7 @@ static void rattle_export_scard_block_decode(struct call *m, u64 v0, u64 v1, u64
     u64 v5 = 0;
     u64 v6 = 0;
     u8 *f6 = NULL;
+    u8 *p34 = NULL;
     v6 = m->g0 - 16ull;
     f6 = at(m, v6, 16);
     v5 = v6;
@@ -11534,8 +12458,9 @@ after1:;
     put64(f6 + 8, 0ull);
     put64(f6, 0ull);
     c_lent_block_block_decode(m, v6, v1 + ((v1 == 0) ? 4096ull : 0ull), v2, v3, v4);
-    store64(m, v0, 8, get64(f6 + 8));
-    store64(m, v0, 0, get64(f6));
+    p34 = held(m, v0, 16);
+    put_held64(p34, 8, m, v0, get64(f6 + 8));
+    put_held64(p34, 0, m, v0, get64(f6));
     m->g0 = v6 + 16ull;
 }
 
@@ -11564,11 +12489,11 @@ static void rattle_export_scard_block_encode(struct call *m, u64 v0, u32 v1, u32
     u32 v12 = 0;
     u32 v13 = 0;
     u8 *f16 = NULL;
+    u8 *p345 = NULL;
     v16 = m->g0 - 48ull;
     f16 = at(m, v16, 48);
     v7 = v16;
     m->g0 = v7;
-    if ((v16 ^ 0x8000000000000000ull) < (16ull ^ 0x8000000000000000ull)) { goto after26; }
     v8 = v3 + ((v3 == 0) ? 4096ull : 0ull);
     put64(f16 + 32, 0ull);
     put64(f16 + 40, 0ull);
@@ -11586,8 +12511,6 @@ after27:;
     v10 = 0u;
     v9 = 0u;
     goto after4;
-after26:;
-    UNREACHABLE;
 after25:;
     v10 = 0u;
     switch (v2 + 0xFFFFFFA0u) {
@@ -11725,8 +12648,9 @@ after2:;
     put64(f16, v15);
 after1:;
     c_lent_block_put_block(m, v16 + 32ull, v16, v5 + ((v5 == 0) ? 4096ull : 0ull), v6);
-    store64(m, v0, 8, get64(f16 + 40));
-    store64(m, v0, 0, get64(f16 + 32));
+    p345 = held(m, v0, 16);
+    put_held64(p345, 8, m, v0, get64(f16 + 40));
+    put_held64(p345, 0, m, v0, get64(f16 + 32));
     m->g0 = v16 + 48ull;
 }
 
@@ -11754,11 +12678,11 @@ static void rattle_export_scard_block_i(struct call *m, u64 v0, u32 v1, u32 v2, 
     u32 v11 = 0;
     u32 v12 = 0;
     u8 *f15 = NULL;
+    u8 *p137 = NULL;
     v15 = m->g0 - 64ull;
     f15 = at(m, v15, 64);
     v8 = v15;
     m->g0 = v8;
-    if ((v15 ^ 0x8000000000000000ull) < (16ull ^ 0x8000000000000000ull)) { goto after3; }
     put64(f15 + 48, 0ull);
     put64(f15 + 56, 0ull);
     if ((v2 & 255u) > 1u) { goto after2; }
@@ -11789,8 +12713,6 @@ after4:;
     put64(f15 + 8, get64(f15 + 56));
     put64(f15, get64(f15 + 48));
     goto after1;
-after3:;
-    UNREACHABLE;
 after2:;
     put64(f15 + 49, 0ull);
     put8(f15 + 48, 4u);
@@ -11798,8 +12720,9 @@ after2:;
     put64(f15, get64(f15 + 48));
     put64(f15 + 8, get64(f15 + 56));
 after1:;
-    store64(m, v0, 8, get64(f15 + 8));
-    store64(m, v0, 0, get64(f15));
+    p137 = held(m, v0, 16);
+    put_held64(p137, 8, m, v0, get64(f15 + 8));
+    put_held64(p137, 0, m, v0, get64(f15));
     m->g0 = v15 + 64ull;
 }
 
@@ -11820,11 +12743,11 @@ static void rattle_export_scard_block_r(struct call *m, u64 v0, u32 v1, u32 v2, 
     u64 v6 = 0;
     u64 v7 = 0;
     u8 *f7 = NULL;
+    u8 *p103 = NULL;
     v7 = m->g0 - 64ull;
     f7 = at(m, v7, 64);
     v6 = v7;
     m->g0 = v6;
-    if ((v7 ^ 0x8000000000000000ull) < (16ull ^ 0x8000000000000000ull)) { goto after3; }
     put64(f7 + 48, 0ull);
     put64(f7 + 56, 0ull);
     if ((v2 & 255u) > 1u) { goto after2; }
@@ -11841,8 +12764,6 @@ static void rattle_export_scard_block_r(struct call *m, u64 v0, u32 v1, u32 v2, 
     put64(f7 + 8, get64(f7 + 56));
     put64(f7, get64(f7 + 48));
     goto after1;
-after3:;
-    UNREACHABLE;
 after2:;
     put64(f7 + 49, 0ull);
     put8(f7 + 48, 4u);
@@ -11850,8 +12771,9 @@ after2:;
     put64(f7, get64(f7 + 48));
     put64(f7 + 8, get64(f7 + 56));
 after1:;
-    store64(m, v0, 8, get64(f7 + 8));
-    store64(m, v0, 0, get64(f7));
+    p103 = held(m, v0, 16);
+    put_held64(p103, 8, m, v0, get64(f7 + 8));
+    put_held64(p103, 0, m, v0, get64(f7));
     m->g0 = v7 + 64ull;
 }
 
@@ -11879,11 +12801,11 @@ static void rattle_export_scard_block_s_request(struct call *m, u64 v0, u32 v1, 
     u32 v11 = 0;
     u32 v12 = 0;
     u8 *f14 = NULL;
+    u8 *p188 = NULL;
     v14 = m->g0 - 64ull;
     f14 = at(m, v14, 64);
     v7 = v14;
     m->g0 = v7;
-    if ((v14 ^ 0x8000000000000000ull) < (16ull ^ 0x8000000000000000ull)) { goto after6; }
     put64(f14 + 48, 0ull);
     put64(f14 + 56, 0ull);
     if ((v2 & 255u) > 3u) { goto after5; }
@@ -11918,8 +12840,6 @@ after7:;
     v5 = v9;
     v3 = v4;
     goto after2;
-after6:;
-    UNREACHABLE;
 after5:;
     put64(f14 + 49, 0ull);
     put8(f14 + 48, 4u);
@@ -11948,8 +12868,9 @@ after2:;
     put64(f14 + 8, get64(f14 + 56));
     put64(f14, get64(f14 + 48));
 after1:;
-    store64(m, v0, 8, get64(f14 + 8));
-    store64(m, v0, 0, get64(f14));
+    p188 = held(m, v0, 16);
+    put_held64(p188, 8, m, v0, get64(f14 + 8));
+    put_held64(p188, 0, m, v0, get64(f14));
     m->g0 = v14 + 64ull;
 }
 
@@ -11977,11 +12898,11 @@ static void rattle_export_scard_block_s_response(struct call *m, u64 v0, u32 v1,
     u32 v11 = 0;
     u32 v12 = 0;
     u8 *f14 = NULL;
+    u8 *p188 = NULL;
     v14 = m->g0 - 64ull;
     f14 = at(m, v14, 64);
     v7 = v14;
     m->g0 = v7;
-    if ((v14 ^ 0x8000000000000000ull) < (16ull ^ 0x8000000000000000ull)) { goto after6; }
     put64(f14 + 48, 0ull);
     put64(f14 + 56, 0ull);
     if ((v2 & 255u) > 3u) { goto after5; }
@@ -12016,8 +12937,6 @@ after7:;
     v5 = v9;
     v3 = v4;
     goto after2;
-after6:;
-    UNREACHABLE;
 after5:;
     put64(f14 + 49, 0ull);
     put8(f14 + 48, 4u);
@@ -12046,8 +12965,9 @@ after2:;
     put64(f14 + 8, get64(f14 + 56));
     put64(f14, get64(f14 + 48));
 after1:;
-    store64(m, v0, 8, get64(f14 + 8));
-    store64(m, v0, 0, get64(f14));
+    p188 = held(m, v0, 16);
+    put_held64(p188, 8, m, v0, get64(f14 + 8));
+    put_held64(p188, 0, m, v0, get64(f14));
     m->g0 = v14 + 64ull;
 }
 
@@ -12074,11 +12994,11 @@ static void rattle_export_scard_chain_block(struct call *m, u64 v0, u64 v1, u64 
     u32 v10 = 0;
     u32 v13 = 0;
     u8 *f14 = NULL;
+    u8 *p225 = NULL;
     v14 = m->g0 - 608ull;
     f14 = at(m, v14, 608);
     v8 = v14;
     m->g0 = v8;
-    if ((v14 ^ 0x8000000000000000ull) < (16ull ^ 0x8000000000000000ull)) { goto after3; }
     put64(f14 + 328, 0ull);
     put64(f14 + 336, 0ull);
     if (v2 < v3) { goto after5; }
@@ -12094,7 +13014,7 @@ after4:;
     if ((v5 & 255u) > 1u) { goto after2; }
     v9 = (v6 == 0) ? 4096ull : 0ull;
     v10 = 0u;
-    fill(m, v14 + 344ull, 0u, 256ull);
+    memset(f14 + 344, (int)(0u & 255u), 256);
     v11 = ((u64)v4) & 255ull;
     v2 = v2 - v3;
     v12 = (v11 < v2) ? v11 : v2;
@@ -12133,8 +13053,6 @@ after7:;
     put64(f14 + 16, get64(f14 + 336));
     put64(f14 + 8, get64(f14 + 328));
     goto after1;
-after3:;
-    UNREACHABLE;
 after2:;
     put64(f14 + 329, 0ull);
     put8(f14 + 328, 4u);
@@ -12142,8 +13060,9 @@ after2:;
     put64(f14 + 8, get64(f14 + 328));
     put64(f14 + 16, get64(f14 + 336));
 after1:;
-    store64(m, v0, 8, get64(f14 + 16));
-    store64(m, v0, 0, get64(f14 + 8));
+    p225 = held(m, v0, 16);
+    put_held64(p225, 8, m, v0, get64(f14 + 16));
+    put_held64(p225, 0, m, v0, get64(f14 + 8));
     m->g0 = v14 + 608ull;
 }
 
@@ -12176,6 +13095,8 @@ static void rattle_export_scard_chain_cut(struct call *m, u64 v0, u64 v1, u64 v2
     u32 t0 = 0;
     u32 t4 = 0;
     u8 *f8 = NULL;
+    u8 *p233 = NULL;
+    u8 *p372 = NULL;
     u64 n10;
     const u8 *q10;
     u64 n11;
@@ -12185,7 +13106,6 @@ static void rattle_export_scard_chain_cut(struct call *m, u64 v0, u64 v1, u64 v2
     m->g0 = v7;
     v8 = v18;
     f8 = at(m, v8, 816);
-    if ((v8 ^ 0x8000000000000000ull) < (16ull ^ 0x8000000000000000ull)) { goto after1; }
     v9 = 0ull;
     v10 = 4ull;
     if ((v4 & 255u) > 1u) { goto after2; }
@@ -12212,13 +13132,13 @@ again3:;
 again4:;
     v7 = (v1 < v2) ? v1 : v2;
     if (v7 == 255ull) { goto after1; }
-    fill(m, v8 + 544ull, 0u, 256ull);
+    memset(f8 + 544, (int)(0u & 255u), 256);
     if (v7 == 0) { goto after5; }
     copy(m, v8 + 544ull, v12, v7);
 after5:;
     put64(f8 + 800, v7);
     copy(m, v8 + 280ull, v8 + 544ull, 264ull);
-    fill(m, v8 + 544ull, 0u, 264ull);
+    memset(f8 + 544, (int)(0u & 255u), 264);
     v15 = (u32)(v2 > v1);
     put8(f8 + 545, (v15 ? 32u : 0u) | ((v4 & 1u) ? 0u : 64u));
     v6 = get64(f8 + 536);
@@ -12247,9 +13167,9 @@ after9:;
         v10 = v10 - 8ull + 0xFFFFFFFFFFFFFFF8ull * n10;
     } else {
 again10:;
-        t4 = load8(m, v7 + 3ull, 0) ^ (load8(m, v7 + 2ull, 0) ^ (load8(m, v7 + 1ull, 0) ^ (load8(m, v7, 0) ^ v3)));
-        t0 = load8(m, v7 + 7ull, 0) ^ (load8(m, v7 + 6ull, 0) ^ (load8(m, v7 + 5ull, 0) ^ (load8(m, v7 + 4ull, 0) ^
-            t4)));
+        p233 = held(m, v7, 8);
+        t4 = held8(p233, 3, m, v7) ^ (held8(p233, 2, m, v7) ^ (held8(p233, 1, m, v7) ^ (held8(p233, 0, m, v7) ^ v3)));
+        t0 = held8(p233, 7, m, v7) ^ (held8(p233, 6, m, v7) ^ (held8(p233, 5, m, v7) ^ (held8(p233, 4, m, v7) ^ t4)));
         v3 = t0;
         v7 = v7 + 8ull;
         v10 = v10 + 0xFFFFFFFFFFFFFFF8ull;
@@ -12287,8 +13207,9 @@ after12:;
     if (v15) { goto again4; }
     v10 = 0ull;
 after2:;
-    store64(m, v0, 8, v9);
-    store64(m, v0, 0, v10);
+    p372 = held(m, v0, 16);
+    put_held64(p372, 8, m, v0, v9);
+    put_held64(p372, 0, m, v0, v10);
     m->g0 = v8 + 816ull;
     return;
 after1:;
@@ -12318,7 +13239,9 @@ static void rattle_export_scard_command_decode(struct call *m, u64 v0, u64 v1, u
     u32 v7 = 0;
     u32 v9 = 0;
     u32 v12 = 0;
-    if ((m->g0 ^ 0x8000000000000000ull) < (16ull ^ 0x8000000000000000ull)) { goto after1; }
+    u8 *p175 = NULL;
+    u8 *p286 = NULL;
+    u8 *p313 = NULL;
     v4 = 0ull;
     v5 = 1ull;
     if (v2 < 4ull) { goto after6; }
@@ -12379,7 +13302,8 @@ after14:;
 after15:;
     if (v5 > 2ull) { goto after16; }
     v5 = (v1 + 7ull) + v8;
-    v7 = (load8(m, v5, 0) << 8) | load8(m, v5 + 1ull, 0);
+    p175 = held(m, v5, 2);
+    v7 = (held8(p175, 0, m, v5) << 8) | held8(p175, 1, m, v5);
     v9 = v7 ? v7 : 0x10000u;
     v4 = 7ull;
     v7 = 7u;
@@ -12425,21 +13349,21 @@ after4:;
     v9 = 0u;
 after3:;
     v12 = load32(m, v1, 0);
-    store64(m, v3, 24, v8);
-    store64(m, v3, 16, v4);
-    store32(m, v3, 12, 0u);
-    store32(m, v3, 8, v9);
-    store16(m, v3, 6, 0u);
-    store8(m, v3, 5, v6);
-    store8(m, v3, 4, v7);
-    store32(m, v3, 0, v12);
+    p286 = held(m, v3, 32);
+    put_held64(p286, 24, m, v3, v8);
+    put_held64(p286, 16, m, v3, v4);
+    put_held32(p286, 12, m, v3, 0u);
+    put_held32(p286, 8, m, v3, v9);
+    put_held16(p286, 6, m, v3, 0u);
+    put_held8(p286, 5, m, v3, v6);
+    put_held8(p286, 4, m, v3, v7);
+    put_held32(p286, 0, m, v3, v12);
     v5 = 0ull;
 after2:;
-    store64(m, v0, 8, v2);
-    store64(m, v0, 0, v5);
+    p313 = held(m, v0, 16);
+    put_held64(p313, 8, m, v0, v2);
+    put_held64(p313, 0, m, v0, v5);
     return;
-after1:;
-    UNREACHABLE;
 }
 
 static void module_scard_command_encode(struct call *m, u64 v0, u64 v1, u64 v2, u64 v3, u64 v4, u64 v5)
@@ -12466,12 +13390,25 @@ static void rattle_export_scard_command_encode(struct call *m, u64 v0, u64 v1, u
     u32 v9 = 0;
     u32 v10 = 0;
     u32 v11 = 0;
-    if ((m->g0 ^ 0x8000000000000000ull) < (16ull ^ 0x8000000000000000ull)) { goto after5; }
+    u8 *p22 = NULL;
+    u8 *p339 = NULL;
+    u8 *p340 = NULL;
+    u8 *p472 = NULL;
+    u8 *p473 = NULL;
+    u8 *p570 = NULL;
+    u8 *p591 = NULL;
+    u8 *p645 = NULL;
+    u8 *p646 = NULL;
+    u8 *p736 = NULL;
+    u8 *p790 = NULL;
+    u8 *p791 = NULL;
+    u8 *p902 = NULL;
     v6 = v2 + ((v2 == 0) ? 4096ull : 0ull);
     v7 = 4ull;
-    v8 = load32(m, v1 + 8ull, 0);
+    p22 = held(m, v1 + 4ull, 8);
+    v8 = held32(p22, 4, m, v1 + 4ull);
     v2 = 0ull;
-    switch (load8(m, v1 + 4ull, 0) + 0xFFFFFFFFu) {
+    switch (held8(p22, 0, m, v1 + 4ull) + 0xFFFFFFFFu) {
         case 0: goto after17;
         case 1: goto after16;
         case 2: goto after15;
@@ -12573,8 +13510,6 @@ after6:;
     v9 = 0u;
     v10 = v8;
     goto after2;
-after5:;
-    UNREACHABLE;
 after4:;
     v9 = 0u;
     v10 = 0u;
@@ -12612,10 +13547,12 @@ after33:;
 again37:;
     v2 = v5 + v1;
     v15 = v6 + v1;
-    store8(m, v2 + 5ull, 0, load8(m, v15, 0));
-    store8(m, v2 + 6ull, 0, load8(m, v15 + 1ull, 0));
-    store8(m, v2 + 7ull, 0, load8(m, v15 + 2ull, 0));
-    store8(m, v2 + 8ull, 0, load8(m, v15 + 3ull, 0));
+    p339 = held(m, v15, 4);
+    p340 = held(m, v2 + 5ull, 4);
+    put_held8(p340, 0, m, v2 + 5ull, held8(p339, 0, m, v15));
+    put_held8(p340, 1, m, v2 + 5ull, held8(p339, 1, m, v15));
+    put_held8(p340, 2, m, v2 + 5ull, held8(p339, 2, m, v15));
+    put_held8(p340, 3, m, v2 + 5ull, held8(p339, 3, m, v15));
     v1 = v1 + 4ull;
     if (v14 != v1) { goto again37; }
     if (v13 == 0) { goto after34; }
@@ -12647,10 +13584,12 @@ after32:;
 again42:;
     v2 = v5 + v1;
     v15 = v6 + v1;
-    store8(m, v2 + 5ull, 0, load8(m, v15, 0));
-    store8(m, v2 + 6ull, 0, load8(m, v15 + 1ull, 0));
-    store8(m, v2 + 7ull, 0, load8(m, v15 + 2ull, 0));
-    store8(m, v2 + 8ull, 0, load8(m, v15 + 3ull, 0));
+    p472 = held(m, v15, 4);
+    p473 = held(m, v2 + 5ull, 4);
+    put_held8(p473, 0, m, v2 + 5ull, held8(p472, 0, m, v15));
+    put_held8(p473, 1, m, v2 + 5ull, held8(p472, 1, m, v15));
+    put_held8(p473, 2, m, v2 + 5ull, held8(p472, 2, m, v15));
+    put_held8(p473, 3, m, v2 + 5ull, held8(p472, 3, m, v15));
     v1 = v1 + 4ull;
     if (v14 != v1) { goto again42; }
     if (v13 == 0) { goto after39; }
@@ -12672,15 +13611,17 @@ after39:;
     v2 = v3 + 6ull;
     goto after1;
 after31:;
-    store8(m, v5 + 6ull, 0, v9);
-    store8(m, v5 + 5ull, 0, v9 >> 8);
-    store8(m, v5 + 4ull, 0, 0u);
+    p570 = held(m, v5 + 4ull, 3);
+    put_held8(p570, 2, m, v5 + 4ull, v9);
+    put_held8(p570, 1, m, v5 + 4ull, v9 >> 8);
+    put_held8(p570, 0, m, v5 + 4ull, 0u);
     v2 = 7ull;
     goto after1;
 after30:;
-    store8(m, v5 + 6ull, 0, (u32)v3);
-    store8(m, v5 + 5ull, 0, (u32)(v3 >> 8));
-    store8(m, v5 + 4ull, 0, 0u);
+    p591 = held(m, v5 + 4ull, 3);
+    put_held8(p591, 2, m, v5 + 4ull, (u32)v3);
+    put_held8(p591, 1, m, v5 + 4ull, (u32)(v3 >> 8));
+    put_held8(p591, 0, m, v5 + 4ull, 0u);
     v2 = v5 + 7ull;
     if ((v2 - v6) >= v3) { goto after45; }
     v13 = v3 & 3ull;
@@ -12691,10 +13632,12 @@ after30:;
 again47:;
     v2 = v5 + v1;
     v15 = v6 + v1;
-    store8(m, v2 + 7ull, 0, load8(m, v15, 0));
-    store8(m, v2 + 8ull, 0, load8(m, v15 + 1ull, 0));
-    store8(m, v2 + 9ull, 0, load8(m, v15 + 2ull, 0));
-    store8(m, v2 + 10ull, 0, load8(m, v15 + 3ull, 0));
+    p645 = held(m, v15, 4);
+    p646 = held(m, v2 + 7ull, 4);
+    put_held8(p646, 0, m, v2 + 7ull, held8(p645, 0, m, v15));
+    put_held8(p646, 1, m, v2 + 7ull, held8(p645, 1, m, v15));
+    put_held8(p646, 2, m, v2 + 7ull, held8(p645, 2, m, v15));
+    put_held8(p646, 3, m, v2 + 7ull, held8(p645, 3, m, v15));
     v1 = v1 + 4ull;
     if (v14 != v1) { goto again47; }
     if (v13 == 0) { goto after44; }
@@ -12715,9 +13658,10 @@ after44:;
     v2 = v3 + 7ull;
     goto after1;
 after29:;
-    store8(m, v5 + 6ull, 0, (u32)v3);
-    store8(m, v5 + 5ull, 0, (u32)(v3 >> 8));
-    store8(m, v5 + 4ull, 0, 0u);
+    p736 = held(m, v5 + 4ull, 3);
+    put_held8(p736, 2, m, v5 + 4ull, (u32)v3);
+    put_held8(p736, 1, m, v5 + 4ull, (u32)(v3 >> 8));
+    put_held8(p736, 0, m, v5 + 4ull, 0u);
     v2 = v5 + 7ull;
     if ((v2 - v6) >= v3) { goto after50; }
     v13 = v3 & 3ull;
@@ -12728,10 +13672,12 @@ after29:;
 again52:;
     v2 = v5 + v1;
     v15 = v6 + v1;
-    store8(m, v2 + 7ull, 0, load8(m, v15, 0));
-    store8(m, v2 + 8ull, 0, load8(m, v15 + 1ull, 0));
-    store8(m, v2 + 9ull, 0, load8(m, v15 + 2ull, 0));
-    store8(m, v2 + 10ull, 0, load8(m, v15 + 3ull, 0));
+    p790 = held(m, v15, 4);
+    p791 = held(m, v2 + 7ull, 4);
+    put_held8(p791, 0, m, v2 + 7ull, held8(p790, 0, m, v15));
+    put_held8(p791, 1, m, v2 + 7ull, held8(p790, 1, m, v15));
+    put_held8(p791, 2, m, v2 + 7ull, held8(p790, 2, m, v15));
+    put_held8(p791, 3, m, v2 + 7ull, held8(p790, 3, m, v15));
     v1 = v1 + 4ull;
     if (v14 != v1) { goto again52; }
     if (v13 == 0) { goto after49; }
@@ -12756,8 +13702,9 @@ after28:;
     store8(m, v5 + 4ull, 0, v9);
     v2 = 5ull;
 after1:;
-    store64(m, v0, 8, v2);
-    store64(m, v0, 0, v7);
+    p902 = held(m, v0, 16);
+    put_held64(p902, 8, m, v0, v2);
+    put_held64(p902, 0, m, v0, v7);
 }
 
 static void module_scard_dol_check(struct call *m, u64 v0, u64 v1, u64 v2)
@@ -12779,11 +13726,11 @@ static void rattle_export_scard_dol_check(struct call *m, u64 v0, u64 v1, u64 v2
     u64 v6 = 0;
     u32 v5 = 0;
     u8 *f6 = NULL;
+    u8 *p72 = NULL;
     v6 = m->g0 - 48ull;
     f6 = at(m, v6, 48);
     v3 = v6;
     m->g0 = v3;
-    if ((v6 ^ 0x8000000000000000ull) < (16ull ^ 0x8000000000000000ull)) { goto after1; }
     v4 = 0ull;
     put64(f6 + 32, 0ull);
     put64(f6 + 24, 0ull);
@@ -12795,12 +13742,11 @@ static void rattle_export_scard_dol_check(struct call *m, u64 v0, u64 v1, u64 v2
     v4 = ((((u64)(v5 ? (get8(f6 + 32) + 1u) : 0u)) & 255ull) << 8) | (v5 ? 2ull : 1ull);
     v2 = get64(f6 + 24);
 after2:;
-    store64(m, v0, 8, v2);
-    store64(m, v0, 0, v4);
+    p72 = held(m, v0, 16);
+    put_held64(p72, 8, m, v0, v2);
+    put_held64(p72, 0, m, v0, v4);
     m->g0 = v6 + 48ull;
     return;
-after1:;
-    UNREACHABLE;
 }
 
 static void module_scard_dol_entries(struct call *m, u64 v0, u64 v1, u64 v2, u64 v3, u64 v4)
@@ -12821,11 +13767,11 @@ static void rattle_export_scard_dol_entries(struct call *m, u64 v0, u64 v1, u64 
     u64 v7 = 0;
     u32 v6 = 0;
     u8 *f7 = NULL;
+    u8 *p85 = NULL;
     v7 = m->g0 - 32ull;
     f7 = at(m, v7, 32);
     v5 = v7;
     m->g0 = v5;
-    if ((v7 ^ 0x8000000000000000ull) < (16ull ^ 0x8000000000000000ull)) { goto after3; }
     put64(f7 + 24, 0ull);
     put64(f7 + 16, 0ull);
     put64(f7 + 8, 0ull);
@@ -12835,15 +13781,14 @@ static void rattle_export_scard_dol_entries(struct call *m, u64 v0, u64 v1, u64 
     v3 = get64(f7 + 8);
     v1 = (v3 > v4) ? 4ull : 0ull;
     goto after1;
-after3:;
-    UNREACHABLE;
 after2:;
     v6 = get8(f7 + 8);
     v1 = ((((u64)(v6 ? (get8(f7 + 24) + 1u) : 0u)) & 255ull) << 8) | (v6 ? 2ull : 1ull);
     v3 = get64(f7 + 16);
 after1:;
-    store64(m, v0, 8, v3);
-    store64(m, v0, 0, v1);
+    p85 = held(m, v0, 16);
+    put_held64(p85, 8, m, v0, v3);
+    put_held64(p85, 0, m, v0, v1);
     m->g0 = v7 + 32ull;
 }
 
@@ -12881,7 +13826,6 @@ static void rattle_export_scard_dol_fill(struct call *m, u64 v0, u64 v1, u64 v2,
     m->g0 = v7;
     v8 = v20;
     f8 = at(m, v8, 80);
-    if ((v8 ^ 0x8000000000000000ull) < (16ull ^ 0x8000000000000000ull)) { goto after3; }
     v9 = v3 + ((v3 == 0) ? 4096ull : 0ull);
     put64(f8 + 32, 0ull);
     put64(f8 + 24, 0ull);
@@ -12984,8 +13928,6 @@ after12:;
     c_lent_filling_put_parts(m, v8 + 40ull, v13, v2, v9, v4, v5 + ((v5 == 0) ? 4096ull : 0ull), v6);
     v10 = 0ull;
     goto after1;
-after3:;
-    UNREACHABLE;
 after2:;
     v11 = 0ull;
     v10 = 5ull;
@@ -13016,7 +13958,7 @@ static void rattle_export_scard_hex_decode(struct call *m, u64 v0, u64 v1, u64 v
     u32 v8 = 0;
     u32 v10 = 0;
     u32 v11 = 0;
-    if ((m->g0 ^ 0x8000000000000000ull) < (16ull ^ 0x8000000000000000ull)) { goto after3; }
+    u8 *p298 = NULL;
     if ((((u32)v2) & 1u) == 0) { goto after4; }
     v5 = 514ull;
     goto after1;
@@ -13107,13 +14049,12 @@ after18:;
     v3 = v3 + 0xFFFFFFFFFFFFFFFFull;
     if (v3) { goto again14; }
     goto after1;
-after3:;
-    UNREACHABLE;
 after2:;
     v2 = v3 + 1ull;
 after1:;
-    store64(m, v0, 8, v2);
-    store64(m, v0, 0, v5);
+    p298 = held(m, v0, 16);
+    put_held64(p298, 8, m, v0, v2);
+    put_held64(p298, 0, m, v0, v5);
 }
 
 static void module_scard_hex_encode(struct call *m, u64 v0, u64 v1, u64 v2, u64 v3, u64 v4)
@@ -13132,7 +14073,8 @@ static void rattle_export_scard_hex_encode(struct call *m, u64 v0, u64 v1, u64 v
 {
     u64 v5 = 0;
     u64 v6 = 0;
-    if ((m->g0 ^ 0x8000000000000000ull) < (16ull ^ 0x8000000000000000ull)) { goto after1; }
+    u8 *p46 = NULL;
+    u8 *p72 = NULL;
     v5 = 4ull;
     v6 = v2 << 1;
     if (v4 < v6) { goto after2; }
@@ -13142,18 +14084,18 @@ static void rattle_export_scard_hex_encode(struct call *m, u64 v0, u64 v1, u64 v
     v3 = v1 + ((v1 == 0) ? 4096ull : 0ull);
 again3:;
     v1 = (u64)load8(m, v3, 0);
-    store8(m, v4 + 1ull, 0, load8(m, v1 & 15ull, 65536));
-    store8(m, v4, 0, load8(m, v1 >> 4, 65536));
+    p46 = held(m, v4, 2);
+    put_held8(p46, 1, m, v4, load8(m, v1 & 15ull, 65536));
+    put_held8(p46, 0, m, v4, load8(m, v1 >> 4, 65536));
     v3 = v3 + 1ull;
     v4 = v4 + 2ull;
     v2 = v2 + 0xFFFFFFFFFFFFFFFFull;
     if (v2) { goto again3; }
 after2:;
-    store64(m, v0, 8, v6);
-    store64(m, v0, 0, v5);
+    p72 = held(m, v0, 16);
+    put_held64(p72, 8, m, v0, v6);
+    put_held64(p72, 0, m, v0, v5);
     return;
-after1:;
-    UNREACHABLE;
 }
 
 static u32 module_scard_is_text(struct call *m, u64 v0, u64 v1)
@@ -13176,7 +14118,6 @@ static u32 rattle_export_scard_is_text(struct call *m, u64 v0, u64 v1)
     u64 v2 = 0;
     u32 v3 = 0;
     u32 v4 = 0;
-    if ((m->g0 ^ 0x8000000000000000ull) < (16ull ^ 0x8000000000000000ull)) { goto after1; }
     v2 = v0 + ((v0 == 0) ? 4096ull : 0ull);
     v0 = v1;
 again3:;
@@ -13188,8 +14129,6 @@ again3:;
     if (((v4 + 0xFFFFFFE0u) & 255u) < 95u) { goto again3; }
 after2:;
     return ((u32)((v1 + 0xFFFFFFFFFFFFFFFFull) < 40ull)) & v3;
-after1:;
-    UNREACHABLE;
 }
 
 static void module_scard_judge_clause_text(struct call *m, u32 v0, u64 v1)
@@ -13209,17 +14148,17 @@ static void rattle_export_scard_judge_clause_text(struct call *m, u32 v0, u64 v1
     u64 v3 = 0;
     u64 v4 = 0;
     u32 v2 = 0;
-    if ((m->g0 ^ 0x8000000000000000ull) < (16ull ^ 0x8000000000000000ull)) { goto after4; }
+    u8 *p33 = NULL;
+    u8 *p92 = NULL;
     v2 = v0 & 255u;
     if (v2 < 23u) { goto after3; }
     goto after2;
-after4:;
-    UNREACHABLE;
 after3:;
     if (((0x79C3CFu >> (v2 & 31)) & 1u) == 0) { goto after2; }
     v3 = (((u64)v0) & 255ull) << 3;
-    v4 = load64(m, v3, 71976);
-    v3 = load64(m, v3, 71792);
+    p33 = held(m, v3 + 71792ull, 192);
+    v4 = held64(p33, 184, m, v3 + 71792ull);
+    v3 = held64(p33, 0, m, v3 + 71792ull);
     goto after1;
 after2:;
     if (v2 >= 6u) { goto after5; }
@@ -13241,8 +14180,9 @@ after7:;
     v4 = v0 ? 0x10337ull : 0x103F5ull;
     v3 = v0 ? 23ull : 1ull;
 after1:;
-    store64(m, v1, 8, v3);
-    store64(m, v1, 0, v4);
+    p92 = held(m, v1, 16);
+    put_held64(p92, 8, m, v1, v3);
+    put_held64(p92, 0, m, v1, v4);
 }
 
 static void module_scard_judge_rule_text(struct call *m, u32 v0, u64 v1)
@@ -13261,21 +14201,22 @@ static void rattle_export_scard_judge_rule_text(struct call *m, u32 v0, u64 v1)
 {
     u64 v2 = 0;
     u64 v3 = 0;
-    if ((m->g0 ^ 0x8000000000000000ull) < (16ull ^ 0x8000000000000000ull)) { goto after3; }
+    u8 *p31 = NULL;
+    u8 *p39 = NULL;
     v0 = v0 + 0xFFFFFFFFu;
     if ((v0 & 255u) < 22u) { goto after2; }
     v2 = 0x103F5ull;
     v3 = 1ull;
     goto after1;
-after3:;
-    UNREACHABLE;
 after2:;
     v3 = (((u64)v0) & 255ull) << 3;
-    v2 = load64(m, v3, 72336);
-    v3 = load64(m, v3, 72160);
+    p31 = held(m, v3 + 72160ull, 184);
+    v2 = held64(p31, 176, m, v3 + 72160ull);
+    v3 = held64(p31, 0, m, v3 + 72160ull);
 after1:;
-    store64(m, v1, 8, v3);
-    store64(m, v1, 0, v2);
+    p39 = held(m, v1, 16);
+    put_held64(p39, 8, m, v1, v3);
+    put_held64(p39, 0, m, v1, v2);
 }
 
 static void module_scard_lent_atr_reader_begin(struct call *m, u64 v0)
@@ -13326,12 +14267,14 @@ static void rattle_export_scard_lent_atr_reader_feed(struct call *m, u64 v0, u64
     u64 v16 = 0;
     u32 v7 = 0;
     u8 *f5 = NULL;
+    u8 *p86 = NULL;
+    u8 *p87 = NULL;
+    u8 *p253 = NULL;
     v16 = m->g0 - 32ull;
     v4 = v16;
     m->g0 = v4;
     v5 = v16;
     f5 = at(m, v5, 32);
-    if ((v5 ^ 0x8000000000000000ull) < (16ull ^ 0x8000000000000000ull)) { goto after3; }
     v6 = v1 + 4ull;
     v7 = load32(m, v1, 0);
     v8 = (u64)((v7 < 33u) ? v7 : 33u);
@@ -13350,10 +14293,12 @@ static void rattle_export_scard_lent_atr_reader_feed(struct call *m, u64 v0, u64
 again7:;
     v3 = v14 + v4;
     v9 = v11 + v4;
-    store8(m, v3 + 4ull, 0, load8(m, v9, 0));
-    store8(m, v3 + 5ull, 0, load8(m, v9 + 1ull, 0));
-    store8(m, v3 + 6ull, 0, load8(m, v9 + 2ull, 0));
-    store8(m, v3 + 7ull, 0, load8(m, v9 + 3ull, 0));
+    p86 = held(m, v9, 4);
+    p87 = held(m, v3 + 4ull, 4);
+    put_held8(p87, 0, m, v3 + 4ull, held8(p86, 0, m, v9));
+    put_held8(p87, 1, m, v3 + 4ull, held8(p86, 1, m, v9));
+    put_held8(p87, 2, m, v3 + 4ull, held8(p86, 2, m, v9));
+    put_held8(p87, 3, m, v3 + 4ull, held8(p86, 3, m, v9));
     v4 = v4 + 4ull;
     if (v15 != v4) { goto again7; }
     if (v13 == 0) { goto after4; }
@@ -13389,16 +14334,15 @@ after9:;
     v9 = (v4 > v3) ? 0ull : v4;
     v4 = 6ull;
     goto after1;
-after3:;
-    UNREACHABLE;
 after2:;
     v4 = ((((u64)(get8(f5 + 24) + 1u)) & 255ull) << 8) | 2ull;
     v9 = v3;
     v3 = v3 + 1ull;
 after1:;
     store32(m, v1, 0, (u32)v3);
-    store64(m, v0, 8, v9);
-    store64(m, v0, 0, v4);
+    p253 = held(m, v0, 16);
+    put_held64(p253, 8, m, v0, v9);
+    put_held64(p253, 0, m, v0, v4);
     m->g0 = v5 + 32ull;
 }
 
@@ -13421,11 +14365,11 @@ static void rattle_export_scard_lent_atr_reader_finish(struct call *m, u64 v0, u
     u64 v5 = 0;
     u32 v4 = 0;
     u8 *f5 = NULL;
+    u8 *p72 = NULL;
     v5 = m->g0 - 32ull;
     f5 = at(m, v5, 32);
     v2 = v5;
     m->g0 = v2;
-    if ((v5 ^ 0x8000000000000000ull) < (16ull ^ 0x8000000000000000ull)) { goto after1; }
     v3 = 0ull;
     put64(f5 + 24, 0ull);
     put64(f5 + 16, 0ull);
@@ -13439,12 +14383,11 @@ static void rattle_export_scard_lent_atr_reader_finish(struct call *m, u64 v0, u
     v1 = ((((u64)(v4 ? (get8(f5 + 24) + 1u) : 0u)) & 255ull) << 8) | (v4 ? 2ull : 1ull);
     v3 = get64(f5 + 16);
 after2:;
-    store64(m, v0, 8, v3);
-    store64(m, v0, 0, v1);
+    p72 = held(m, v0, 16);
+    put_held64(p72, 8, m, v0, v3);
+    put_held64(p72, 0, m, v0, v1);
     m->g0 = v5 + 32ull;
     return;
-after1:;
-    UNREACHABLE;
 }
 
 static void module_scard_lent_atr_reader_value(struct call *m, u64 v0, u64 v1, u64 v2)
@@ -13465,11 +14408,11 @@ static void rattle_export_scard_lent_atr_reader_value(struct call *m, u64 v0, u6
     u64 v5 = 0;
     u32 v4 = 0;
     u8 *f5 = NULL;
+    u8 *p62 = NULL;
     v5 = m->g0 - 32ull;
     f5 = at(m, v5, 32);
     v3 = v5;
     m->g0 = v3;
-    if ((v5 ^ 0x8000000000000000ull) < (16ull ^ 0x8000000000000000ull)) { goto after3; }
     put64(f5 + 8, 0ull);
     put64(f5, 0ull);
     v4 = load32(m, v1, 0);
@@ -13479,16 +14422,15 @@ static void rattle_export_scard_lent_atr_reader_value(struct call *m, u64 v0, u6
     put64(f5 + 16, get64(f5 + 1));
     v4 = 0u;
     goto after1;
-after3:;
-    UNREACHABLE;
 after2:;
     put64(f5 + 23, 0ull);
     put64(f5 + 16, 0ull);
     v4 = 4u;
 after1:;
-    store8(m, v0, 0, v4);
-    store64(m, v0, 1, get64(f5 + 16));
-    store64(m, v0, 8, get64(f5 + 23));
+    p62 = held(m, v0, 16);
+    put_held8(p62, 0, m, v0, v4);
+    put_held64(p62, 1, m, v0, get64(f5 + 16));
+    put_held64(p62, 8, m, v0, get64(f5 + 23));
     m->g0 = v5 + 32ull;
 }
 
@@ -13507,18 +14449,19 @@ after1:;
 static void rattle_export_scard_lent_block_reader_begin(struct call *m, u64 v0, u64 v1, u32 v2)
 {
     u64 v3 = 0;
-    if ((m->g0 ^ 0x8000000000000000ull) < (16ull ^ 0x8000000000000000ull)) { goto after1; }
+    u8 *p18 = NULL;
+    u8 *p29 = NULL;
     v3 = 4ull;
     if (((v2 + 1u) & 255u) < 2u) { goto after2; }
-    store32(m, v1, 0, 0u);
-    store8(m, v1 + 4ull, 0, v2);
+    p18 = held(m, v1, 5);
+    put_held32(p18, 0, m, v1, 0u);
+    put_held8(p18, 4, m, v1, v2);
     v3 = 0ull;
 after2:;
-    store64(m, v0, 8, 0ull);
-    store64(m, v0, 0, v3);
+    p29 = held(m, v0, 16);
+    put_held64(p29, 8, m, v0, 0ull);
+    put_held64(p29, 0, m, v0, v3);
     return;
-after1:;
-    UNREACHABLE;
 }
 
 static void module_scard_lent_block_reader_feed(struct call *m, u64 v0, u64 v1, u64 v2, u64 v3)
@@ -13554,12 +14497,14 @@ static void rattle_export_scard_lent_block_reader_feed(struct call *m, u64 v0, u
     u32 v19 = 0;
     u32 t0 = 0;
     u8 *f5 = NULL;
+    u8 *p106 = NULL;
+    u8 *p107 = NULL;
+    u8 *p417 = NULL;
     v20 = m->g0 - 32ull;
     v4 = v20;
     m->g0 = v4;
     v5 = v20;
     f5 = at(m, v5, 32);
-    if ((v5 ^ 0x8000000000000000ull) < (16ull ^ 0x8000000000000000ull)) { goto after7; }
     v4 = 0ull;
     v6 = 4ull;
     v7 = load8(m, v1 + 4ull, 0);
@@ -13582,10 +14527,12 @@ static void rattle_export_scard_lent_block_reader_feed(struct call *m, u64 v0, u
 again11:;
     v4 = v15 + v6;
     v3 = v12 + v6;
-    store8(m, v4 + 5ull, 0, load8(m, v3, 0));
-    store8(m, v4 + 6ull, 0, load8(m, v3 + 1ull, 0));
-    store8(m, v4 + 7ull, 0, load8(m, v3 + 2ull, 0));
-    store8(m, v4 + 8ull, 0, load8(m, v3 + 3ull, 0));
+    p106 = held(m, v3, 4);
+    p107 = held(m, v4 + 5ull, 4);
+    put_held8(p107, 0, m, v4 + 5ull, held8(p106, 0, m, v3));
+    put_held8(p107, 1, m, v4 + 5ull, held8(p106, 1, m, v3));
+    put_held8(p107, 2, m, v4 + 5ull, held8(p106, 2, m, v3));
+    put_held8(p107, 3, m, v4 + 5ull, held8(p106, 3, m, v3));
     v6 = v6 + 4ull;
     if (v16 != v6) { goto again11; }
     if (v14 == 0) { goto after8; }
@@ -13660,8 +14607,6 @@ after14:;
 after22:;
     v7 = get8(f5 + 24);
     goto after3;
-after7:;
-    UNREACHABLE;
 after6:;
     v4 = 3ull;
     if (v3 == 3ull) { goto after4; }
@@ -13691,8 +14636,9 @@ after3:;
 after2:;
     store32(m, v1, 0, (u32)v3);
 after1:;
-    store64(m, v0, 8, v4);
-    store64(m, v0, 0, v6);
+    p417 = held(m, v0, 16);
+    put_held64(p417, 8, m, v0, v4);
+    put_held64(p417, 0, m, v0, v6);
     m->g0 = v5 + 32ull;
 }
 
@@ -13724,11 +14670,11 @@ static void rattle_export_scard_lent_block_reader_finish(struct call *m, u64 v0,
     u32 v11 = 0;
     u32 t0 = 0;
     u8 *f13 = NULL;
+    u8 *p237 = NULL;
     v13 = m->g0 - 32ull;
     f13 = at(m, v13, 32);
     v2 = v13;
     m->g0 = v2;
-    if ((v13 ^ 0x8000000000000000ull) < (16ull ^ 0x8000000000000000ull)) { goto after4; }
     v3 = 4ull;
     v4 = 0ull;
     v5 = load8(m, v1 + 4ull, 0);
@@ -13788,8 +14734,6 @@ after5:;
     v3 = (get8(f13 + 8)) ? (((((u64)(get8(f13 + 24) + 1u)) & 255ull) << 8) | 2ull) : 1ull;
     v4 = get64(f13 + 16);
     goto after1;
-after4:;
-    UNREACHABLE;
 after3:;
     if (v6 != 3u) { goto after13; }
     v4 = 3ull;
@@ -13812,8 +14756,9 @@ after14:;
     v4 = 0ull;
     v3 = 0ull;
 after1:;
-    store64(m, v0, 8, v4);
-    store64(m, v0, 0, v3);
+    p237 = held(m, v0, 16);
+    put_held64(p237, 8, m, v0, v4);
+    put_held64(p237, 0, m, v0, v3);
     m->g0 = v13 + 32ull;
 }
 
@@ -13836,31 +14781,32 @@ static void rattle_export_scard_lent_block_reader_value(struct call *m, u64 v0, 
     u32 v4 = 0;
     u32 t3 = 0;
     u8 *f5 = NULL;
+    u8 *p24 = NULL;
+    u8 *p66 = NULL;
     v5 = m->g0 - 32ull;
     f5 = at(m, v5, 32);
     v3 = v5;
     m->g0 = v3;
-    if ((v5 ^ 0x8000000000000000ull) < (16ull ^ 0x8000000000000000ull)) { goto after3; }
     put64(f5 + 8, 0ull);
     put64(f5, 0ull);
-    v4 = load32(m, v1, 0);
-    t3 = load8(m, v1 + 4ull, 0);
+    p24 = held(m, v1, 5);
+    v4 = held32(p24, 0, m, v1);
+    t3 = held8(p24, 4, m, v1);
     c_lent_block_block_decode(m, v5, v1 + 5ull, (u64)((v4 < 258u) ? v4 : 258u), t3, v2);
     if (get8(f5)) { goto after2; }
     put64(f5 + 23, get64(f5 + 8));
     put64(f5 + 16, get64(f5 + 1));
     v4 = 0u;
     goto after1;
-after3:;
-    UNREACHABLE;
 after2:;
     put64(f5 + 23, 0ull);
     put64(f5 + 16, 0ull);
     v4 = 4u;
 after1:;
-    store8(m, v0, 0, v4);
-    store64(m, v0, 1, get64(f5 + 16));
-    store64(m, v0, 8, get64(f5 + 23));
+    p66 = held(m, v0, 16);
+    put_held8(p66, 0, m, v0, v4);
+    put_held64(p66, 1, m, v0, get64(f5 + 16));
+    put_held64(p66, 8, m, v0, get64(f5 + 23));
     m->g0 = v5 + 32ull;
 }
 
@@ -13883,6 +14829,7 @@ static void rattle_export_scard_lent_card_ask_ifs(struct call *m, u64 v0, u64 v1
     u64 v9 = 0;
     u64 v10 = 0;
     u8 *f10 = NULL;
+    u8 *p66 = NULL;
     v10 = m->g0 - 48ull;
     f10 = at(m, v10, 48);
     v9 = v10;
@@ -13898,8 +14845,9 @@ after1:;
     put8(f10 + 9, v6);
     c_lent_lent_card_turn(m, v10 + 32ull, v1, v2 + ((v2 == 0) ? 4096ull : 0ull), v3, v4 + ((v4 == 0) ? 4096ull :
         0ull), v5, v10 + 8ull, v7 + ((v7 == 0) ? 4096ull : 0ull), v8);
-    store64(m, v0, 8, get64(f10 + 40));
-    store64(m, v0, 0, get64(f10 + 32));
+    p66 = held(m, v0, 16);
+    put_held64(p66, 8, m, v0, get64(f10 + 40));
+    put_held64(p66, 0, m, v0, get64(f10 + 32));
     m->g0 = v10 + 48ull;
 }
 
@@ -13920,7 +14868,8 @@ static void rattle_export_scard_lent_card_begin(struct call *m, u64 v0, u64 v1, 
     v6, u32 v7, u32 v8)
 {
     u64 v9 = 0;
-    if ((m->g0 ^ 0x8000000000000000ull) < (16ull ^ 0x8000000000000000ull)) { goto after1; }
+    u8 *p94 = NULL;
+    u8 *p141 = NULL;
     v9 = 4ull;
     if (((v6 + 1u) & 255u) < 2u) { goto after2; }
     if (((v8 | v7) & 255u) > 15u) { goto after2; }
@@ -13945,24 +14894,24 @@ after6:;
     store8(m, v9 + v4, 0, 0u);
 after5:;
     v9 = 0ull;
-    store64(m, v1, 7, 0ull);
-    store8(m, v1, 6, v6);
-    store8(m, v1, 5, 32u);
-    store8(m, v1, 4, v6);
-    store32(m, v1, 0, 0u);
-    store64(m, v1, 15, 0ull);
-    store64(m, v1, 23, 0ull);
-    store8(m, v1, 31, 0u);
-    store64(m, v1, 48, 0ull);
-    store64(m, v1, 56, 0ull);
-    store64(m, v1, 40, (v5 < 0x10002ull) ? v5 : 0x10002ull);
-    store64(m, v1, 32, (v3 < 0x10008ull) ? v3 : 0x10008ull);
+    p94 = held(m, v1, 64);
+    put_held64(p94, 7, m, v1, 0ull);
+    put_held8(p94, 6, m, v1, v6);
+    put_held8(p94, 5, m, v1, 32u);
+    put_held8(p94, 4, m, v1, v6);
+    put_held32(p94, 0, m, v1, 0u);
+    put_held64(p94, 15, m, v1, 0ull);
+    put_held64(p94, 23, m, v1, 0ull);
+    put_held8(p94, 31, m, v1, 0u);
+    put_held64(p94, 48, m, v1, 0ull);
+    put_held64(p94, 56, m, v1, 0ull);
+    put_held64(p94, 40, m, v1, (v5 < 0x10002ull) ? v5 : 0x10002ull);
+    put_held64(p94, 32, m, v1, (v3 < 0x10008ull) ? v3 : 0x10008ull);
 after2:;
-    store64(m, v0, 8, 0ull);
-    store64(m, v0, 0, v9);
+    p141 = held(m, v0, 16);
+    put_held64(p141, 8, m, v0, 0ull);
+    put_held64(p141, 0, m, v0, v9);
     return;
-after1:;
-    UNREACHABLE;
 }
 
 static void module_scard_lent_card_command(struct call *m, u64 v0, u64 v1, u64 v2, u64 v3, u64 v4, u64 v5)
@@ -13984,12 +14933,12 @@ static void rattle_export_scard_lent_card_command(struct call *m, u64 v0, u64 v1
     u64 v4 = 0;
     u64 v5 = 0;
     u8 *f5 = NULL;
+    u8 *p49 = NULL;
     v5 = m->g0 - 112ull;
     f5 = at(m, v5, 112);
     v4 = v5;
     m->g0 = v4;
-    if ((v5 ^ 0x8000000000000000ull) < (16ull ^ 0x8000000000000000ull)) { goto after1; }
-    fill(m, v5 + 8ull, 0u, 104ull);
+    memset(f5 + 8, (int)(0u & 255u), 104);
     c_lent_kept_CCard_fitting(m, v5 + 8ull, v1, v2, v3);
     v3 = 0ull;
     v2 = 4ull;
@@ -13998,12 +14947,11 @@ static void rattle_export_scard_lent_card_command(struct call *m, u64 v0, u64 v1
     v2 = 0ull;
     v3 = get64(f5 + 96);
 after2:;
-    store64(m, v0, 8, v3);
-    store64(m, v0, 0, v2);
+    p49 = held(m, v0, 16);
+    put_held64(p49, 8, m, v0, v3);
+    put_held64(p49, 0, m, v0, v2);
     m->g0 = v5 + 112ull;
     return;
-after1:;
-    UNREACHABLE;
 }
 
 static void module_scard_lent_card_more_time(struct call *m, u64 v0, u64 v1, u64 v2, u64 v3, u64 v4, u64 v5, u32 v6,
@@ -14025,6 +14973,7 @@ static void rattle_export_scard_lent_card_more_time(struct call *m, u64 v0, u64 
     u64 v9 = 0;
     u64 v10 = 0;
     u8 *f10 = NULL;
+    u8 *p66 = NULL;
     v10 = m->g0 - 48ull;
     f10 = at(m, v10, 48);
     v9 = v10;
@@ -14040,8 +14989,9 @@ after1:;
     put8(f10 + 9, v6);
     c_lent_lent_card_turn(m, v10 + 32ull, v1, v2 + ((v2 == 0) ? 4096ull : 0ull), v3, v4 + ((v4 == 0) ? 4096ull :
         0ull), v5, v10 + 8ull, v7 + ((v7 == 0) ? 4096ull : 0ull), v8);
-    store64(m, v0, 8, get64(f10 + 40));
-    store64(m, v0, 0, get64(f10 + 32));
+    p66 = held(m, v0, 16);
+    put_held64(p66, 8, m, v0, get64(f10 + 40));
+    put_held64(p66, 0, m, v0, get64(f10 + 32));
     m->g0 = v10 + 48ull;
 }
 
@@ -14064,6 +15014,7 @@ static void rattle_export_scard_lent_card_received(struct call *m, u64 v0, u64 v
     u64 v10 = 0;
     u64 v11 = 0;
     u8 *f11 = NULL;
+    u8 *p69 = NULL;
     v11 = m->g0 - 48ull;
     f11 = at(m, v11, 48);
     v10 = v11;
@@ -14078,8 +15029,9 @@ after1:;
     put64(f11 + 16, v6 + ((v6 == 0) ? 4096ull : 0ull));
     c_lent_lent_card_turn(m, v11 + 32ull, v1, v2 + ((v2 == 0) ? 4096ull : 0ull), v3, v4 + ((v4 == 0) ? 4096ull :
         0ull), v5, v11 + 8ull, v8 + ((v8 == 0) ? 4096ull : 0ull), v9);
-    store64(m, v0, 8, get64(f11 + 40));
-    store64(m, v0, 0, get64(f11 + 32));
+    p69 = held(m, v0, 16);
+    put_held64(p69, 8, m, v0, get64(f11 + 40));
+    put_held64(p69, 0, m, v0, get64(f11 + 32));
     m->g0 = v11 + 48ull;
 }
 
@@ -14102,6 +15054,7 @@ static void rattle_export_scard_lent_card_reply(struct call *m, u64 v0, u64 v1, 
     u64 v10 = 0;
     u64 v11 = 0;
     u8 *f11 = NULL;
+    u8 *p69 = NULL;
     v11 = m->g0 - 48ull;
     f11 = at(m, v11, 48);
     v10 = v11;
@@ -14116,8 +15069,9 @@ after1:;
     put64(f11 + 16, v6 + ((v6 == 0) ? 4096ull : 0ull));
     c_lent_lent_card_turn(m, v11 + 32ull, v1, v2 + ((v2 == 0) ? 4096ull : 0ull), v3, v4 + ((v4 == 0) ? 4096ull :
         0ull), v5, v11 + 8ull, v8 + ((v8 == 0) ? 4096ull : 0ull), v9);
-    store64(m, v0, 8, get64(f11 + 40));
-    store64(m, v0, 0, get64(f11 + 32));
+    p69 = held(m, v0, 16);
+    put_held64(p69, 8, m, v0, get64(f11 + 40));
+    put_held64(p69, 0, m, v0, get64(f11 + 32));
     m->g0 = v11 + 48ull;
 }
 
@@ -14136,18 +15090,17 @@ after1:;
 static void rattle_export_scard_lent_check_begin(struct call *m, u64 v0, u64 v1, u64 v2)
 {
     u64 v3 = 0;
-    if ((m->g0 ^ 0x8000000000000000ull) < (16ull ^ 0x8000000000000000ull)) { goto after1; }
+    u8 *p26 = NULL;
     v3 = 4ull;
     if (v2 > 0x100000ull) { goto after2; }
     store32(m, v1, 0, (u32)v2);
     fill(m, v1 + 4ull, 0u, 88ull);
     v3 = 0ull;
 after2:;
-    store64(m, v0, 8, 0ull);
-    store64(m, v0, 0, v3);
+    p26 = held(m, v0, 16);
+    put_held64(p26, 8, m, v0, 0ull);
+    put_held64(p26, 0, m, v0, v3);
     return;
-after1:;
-    UNREACHABLE;
 }
 
 static void module_scard_lent_check_feed(struct call *m, u64 v0, u64 v1, u64 v2, u64 v3)
@@ -14193,13 +15146,14 @@ static void rattle_export_scard_lent_check_feed(struct call *m, u64 v0, u64 v1, 
     u32 v29 = 0;
     u32 v30 = 0;
     u8 *f31 = NULL;
+    u8 *p521 = NULL;
+    u8 *p646 = NULL;
     v31 = m->g0 - 560ull;
     f31 = at(m, v31, 560);
     v4 = v31;
     m->g0 = v4;
-    if ((v31 ^ 0x8000000000000000ull) < (16ull ^ 0x8000000000000000ull)) { goto after5; }
     v5 = 0u;
-    fill(m, v31 + 4ull, 0u, 100ull);
+    memset(f31 + 4, (int)(0u & 255u), 100);
     c_lent_kept_check_CCheck_fitting(m, v31 + 4ull, v1);
     if (get8(f31 + 4) != 1u) { goto after6; }
     v6 = v2 + ((v2 == 0) ? 4096ull : 0ull);
@@ -14220,7 +15174,7 @@ static void rattle_export_scard_lent_check_feed(struct call *m, u64 v0, u64 v1, 
     put64(f31 + 240, 0ull);
     put64(f31 + 248, 0ull);
     v2 = (u64)get8(f31 + 168);
-    fill(m, v31 + 416ull, 0u, 68ull);
+    memset(f31 + 416, (int)(0u & 255u), 68);
     v9 = v2 << 2;
     if (v9 == 0) { goto after7; }
     copy(m, v31 + 416ull, v31 + 104ull, v9);
@@ -14359,38 +15313,37 @@ after6:;
     v3 = 0ull;
     v10 = 4u;
     goto after1;
-after5:;
-    UNREACHABLE;
 after4:;
     v28 = 0u;
 after3:;
     v29 = 0u;
     v30 = 0u;
 after2:;
-    store32(m, v1, 20, v30);
+    p521 = held(m, v1, 92);
+    put_held32(p521, 20, m, v1, v30);
     v5 = 0u;
-    store8(m, v1, 19, 0u);
-    store8(m, v1, 18, v29);
-    store8(m, v1, 17, v28);
-    store8(m, v1, 16, v27);
-    store8(m, v1, 15, v12);
-    store8(m, v1, 14, v11);
-    store8(m, v1, 13, v13);
-    store8(m, v1, 12, v10);
-    store32(m, v1, 8, v16);
-    store32(m, v1, 4, v20);
-    store32(m, v1, 0, v21);
-    store64(m, v1, 24, get64(f31 + 104));
-    store64(m, v1, 32, get64(f31 + 112));
-    store64(m, v1, 40, get64(f31 + 120));
-    store64(m, v1, 48, get64(f31 + 128));
-    store64(m, v1, 56, get64(f31 + 136));
-    store64(m, v1, 64, get64(f31 + 144));
-    store64(m, v1, 72, get64(f31 + 152));
-    store64(m, v1, 80, get64(f31 + 160));
-    store16(m, v1, 90, 0u);
-    store8(m, v1, 89, (v15 & 255u) ? (v14 + 1u) : 0u);
-    store8(m, v1, 88, v26);
+    put_held8(p521, 19, m, v1, 0u);
+    put_held8(p521, 18, m, v1, v29);
+    put_held8(p521, 17, m, v1, v28);
+    put_held8(p521, 16, m, v1, v27);
+    put_held8(p521, 15, m, v1, v12);
+    put_held8(p521, 14, m, v1, v11);
+    put_held8(p521, 13, m, v1, v13);
+    put_held8(p521, 12, m, v1, v10);
+    put_held32(p521, 8, m, v1, v16);
+    put_held32(p521, 4, m, v1, v20);
+    put_held32(p521, 0, m, v1, v21);
+    put_held64(p521, 24, m, v1, get64(f31 + 104));
+    put_held64(p521, 32, m, v1, get64(f31 + 112));
+    put_held64(p521, 40, m, v1, get64(f31 + 120));
+    put_held64(p521, 48, m, v1, get64(f31 + 128));
+    put_held64(p521, 56, m, v1, get64(f31 + 136));
+    put_held64(p521, 64, m, v1, get64(f31 + 144));
+    put_held64(p521, 72, m, v1, get64(f31 + 152));
+    put_held64(p521, 80, m, v1, get64(f31 + 160));
+    put_held16(p521, 90, m, v1, 0u);
+    put_held8(p521, 89, m, v1, (v15 & 255u) ? (v14 + 1u) : 0u);
+    put_held8(p521, 88, m, v1, v26);
     if (v25 & 255u) { goto after16; }
     put16(f31 + 556, 0u);
     put32(f31 + 552, 0u);
@@ -14404,11 +15357,12 @@ after16:;
     v10 = v10 ? 2u : 1u;
     v3 = v7;
 after1:;
-    store8(m, v0, 1, v5);
-    store8(m, v0, 0, v10);
-    store32(m, v0, 2, get32(f31 + 552));
-    store16(m, v0, 6, get16(f31 + 556));
-    store64(m, v0, 8, v3);
+    p646 = held(m, v0, 16);
+    put_held8(p646, 1, m, v0, v5);
+    put_held8(p646, 0, m, v0, v10);
+    put_held32(p646, 2, m, v0, get32(f31 + 552));
+    put_held16(p646, 6, m, v0, get16(f31 + 556));
+    put_held64(p646, 8, m, v0, v3);
     m->g0 = v31 + 560ull;
 }
 
@@ -14432,12 +15386,12 @@ static void rattle_export_scard_lent_check_finish(struct call *m, u64 v0, u64 v1
     u32 v4 = 0;
     u32 v5 = 0;
     u8 *f6 = NULL;
+    u8 *p97 = NULL;
     v6 = m->g0 - 112ull;
     f6 = at(m, v6, 112);
     v2 = v6;
     m->g0 = v2;
-    if ((v6 ^ 0x8000000000000000ull) < (16ull ^ 0x8000000000000000ull)) { goto after3; }
-    fill(m, v6 + 12ull, 0u, 100ull);
+    memset(f6 + 12, (int)(0u & 255u), 100);
     c_lent_kept_check_CCheck_fitting(m, v6 + 12ull, v1);
     if (get8(f6 + 12) == 1u) { goto after4; }
     v3 = 4ull;
@@ -14459,13 +15413,12 @@ after5:;
     v1 = 0ull;
     v3 = 0ull;
     goto after1;
-after3:;
-    UNREACHABLE;
 after2:;
     v3 = ((((u64)((v4 == 1u) ? (v5 + 1u) : 0u)) & 255ull) << 8) | v3;
 after1:;
-    store64(m, v0, 8, v1);
-    store64(m, v0, 0, v3);
+    p97 = held(m, v0, 16);
+    put_held64(p97, 8, m, v0, v1);
+    put_held64(p97, 0, m, v0, v3);
     m->g0 = v6 + 112ull;
 }
 
@@ -14537,7 +15490,8 @@ static void rattle_export_scard_lent_framer_feed(struct call *m, u64 v0, u64 v1,
     u64 v10 = 0;
     u64 v11 = 0;
     u64 v12 = 0;
-    if ((m->g0 ^ 0x8000000000000000ull) < (16ull ^ 0x8000000000000000ull)) { goto after1; }
+    u8 *p72 = NULL;
+    u8 *p73 = NULL;
     v3 = load64(m, v0, 0);
     v4 = (v3 < 259ull) ? v3 : 259ull;
     v5 = v0 + v4;
@@ -14555,10 +15509,12 @@ static void rattle_export_scard_lent_framer_feed(struct call *m, u64 v0, u64 v1,
 again5:;
     v9 = v5 + v6;
     v12 = v8 + v6;
-    store8(m, v9 + 8ull, 0, load8(m, v12, 0));
-    store8(m, v9 + 9ull, 0, load8(m, v12 + 1ull, 0));
-    store8(m, v9 + 10ull, 0, load8(m, v12 + 2ull, 0));
-    store8(m, v9 + 11ull, 0, load8(m, v12 + 3ull, 0));
+    p72 = held(m, v12, 4);
+    p73 = held(m, v9 + 8ull, 4);
+    put_held8(p73, 0, m, v9 + 8ull, held8(p72, 0, m, v12));
+    put_held8(p73, 1, m, v9 + 8ull, held8(p72, 1, m, v12));
+    put_held8(p73, 2, m, v9 + 8ull, held8(p72, 2, m, v12));
+    put_held8(p73, 3, m, v9 + 8ull, held8(p72, 3, m, v12));
     v6 = v6 + 4ull;
     if (v11 != v6) { goto again5; }
     if (v10 == 0) { goto after2; }
@@ -14582,8 +15538,6 @@ after2:;
     v9 = v2 + v3;
     store64(m, v0, 0, (v9 < v2) ? 0xFFFFFFFFFFFFFFFFull : v9);
     return;
-after1:;
-    UNREACHABLE;
 }
 
 static u32 module_scard_lent_framer_is_whole(struct call *m, u64 v0)
@@ -14607,11 +15561,13 @@ static u32 rattle_export_scard_lent_framer_is_whole(struct call *m, u64 v0)
     u64 v3 = 0;
     u32 v2 = 0;
     u32 t0 = 0;
+    u8 *p10 = NULL;
     v1 = m->g0;
     if ((v1 ^ 0x8000000000000000ull) < (16ull ^ 0x8000000000000000ull)) { goto after1; }
     v2 = 0u;
-    v3 = load64(m, v0, 0);
-    if (v3 != ((u64)load8(m, v0 + 10ull, 0) + 4ull)) { goto after2; }
+    p10 = held(m, v0, 11);
+    v3 = held64(p10, 0, m, v0);
+    if (v3 != ((u64)held8(p10, 10, m, v0) + 4ull)) { goto after2; }
     t0 = line_core_framing_sum_of(m, v0 + 8ull, v3);
     v2 = (u32)((t0 & 255u) == 0);
 after2:;
@@ -14676,11 +15632,12 @@ static void rattle_export_scard_lent_judge_begin(struct call *m, u64 v0, u64 v1,
     u64 v4 = 0;
     u64 v5 = 0;
     u8 *f5 = NULL;
+    u8 *p116 = NULL;
+    u8 *p123 = NULL;
     v5 = m->g0 - 1760ull;
     f5 = at(m, v5, 1760);
     v3 = v5;
     m->g0 = v3;
-    if ((v5 ^ 0x8000000000000000ull) < (16ull ^ 0x8000000000000000ull)) { goto after1; }
     v4 = 4ull;
     if (((v2 + 1u) & 255u) < 2u) { goto after2; }
     put32(f5 + 7, 0u);
@@ -14689,29 +15646,29 @@ static void rattle_export_scard_lent_judge_begin(struct call *m, u64 v0, u64 v1,
     put8(f5 + 13, 1u);
     put8(f5 + 12, v2);
     put8(f5 + 11, v2);
-    fill(m, v5 + 14ull, 0u, 282ull);
+    memset(f5 + 14, (int)(0u & 255u), 282);
     put64(f5 + 297, 0ull);
     put8(f5 + 296, 1u);
     put16(f5 + 305, 0u);
     put8(f5 + 311, 4u);
     put32(f5 + 307, 0x12020u);
-    fill(m, v5 + 312ull, 0u, 296ull);
-    fill(m, v5 + 896ull, 0u, 288ull);
-    fill(m, v5 + 608ull, 0u, 288ull);
+    memset(f5 + 312, (int)(0u & 255u), 296);
+    memset(f5 + 896, (int)(0u & 255u), 288);
+    memset(f5 + 608, (int)(0u & 255u), 288);
     c_lent_kept_judge_CWatched_of(m, v5 + 896ull, v5);
     c_lent_kept_judge_CWatched_of(m, v5 + 608ull, v5 + 296ull);
     copy(m, v5 + 1184ull, v5 + 896ull, 288ull);
     copy(m, (v5 + 1184ull) + 288ull, v5 + 608ull, 288ull);
     copy(m, v1, v5 + 1184ull, 576ull);
-    store64(m, v1, 584, 0ull);
-    store64(m, v1, 576, 0ull);
+    p116 = held(m, v1 + 576ull, 16);
+    put_held64(p116, 8, m, v1 + 576ull, 0ull);
+    put_held64(p116, 0, m, v1 + 576ull, 0ull);
 after2:;
-    store64(m, v0, 8, 0ull);
-    store64(m, v0, 0, v4);
+    p123 = held(m, v0, 16);
+    put_held64(p123, 8, m, v0, 0ull);
+    put_held64(p123, 0, m, v0, v4);
     m->g0 = v5 + 1760ull;
     return;
-after1:;
-    UNREACHABLE;
 }
 
 static void module_scard_lent_judge_block(struct call *m, u64 v0, u64 v1, u32 v2, u64 v3, u64 v4, u32 v5, u64 v6, u64
@@ -14752,11 +15709,14 @@ static void rattle_export_scard_lent_judge_block(struct call *m, u64 v0, u64 v1,
     u32 v27 = 0;
     u32 v28 = 0;
     u8 *f29 = NULL;
+    u8 *p88 = NULL;
+    u8 *p847 = NULL;
+    u8 *p1047 = NULL;
+    u8 *p1086 = NULL;
     v29 = m->g0 - 2400ull;
     f29 = at(m, v29, 2400);
     v9 = v29;
     m->g0 = v9;
-    if ((v29 ^ 0x8000000000000000ull) < (16ull ^ 0x8000000000000000ull)) { goto after6; }
     v10 = 0u;
     v11 = 4ull;
     switch ((u32)(((u64)v2) & 255ull)) {
@@ -14782,13 +15742,14 @@ after10:;
     v14 = v7;
 after9:;
     v16 = 0u;
-    fill(m, v29 + 912ull, 0u, 296ull);
-    fill(m, v29 + 616ull, 0u, 296ull);
+    memset(f29 + 912, (int)(0u & 255u), 296);
+    memset(f29 + 616, (int)(0u & 255u), 296);
     c_lent_kept_judge_CWatched_watched(m, v29 + 912ull, v1);
     c_lent_kept_judge_CWatched_watched(m, v29 + 616ull, v1 + 288ull);
-    v11 = load64(m, v1 + 576ull, 0);
-    v17 = load8(m, v1 + 585ull, 0);
-    v18 = load8(m, v1 + 584ull, 0);
+    p88 = held(m, v1 + 576ull, 10);
+    v11 = held64(p88, 0, m, v1 + 576ull);
+    v17 = held8(p88, 9, m, v1 + 576ull);
+    v18 = held8(p88, 8, m, v1 + 576ull);
     copy(m, v29 + 1208ull, v29 + 912ull, 296ull);
     copy(m, (v29 + 1208ull) + 296ull, v29 + 616ull, 296ull);
     copy(m, v29 + 8ull, v29 + 1208ull, 592ull);
@@ -14968,8 +15929,6 @@ after14:;
 after33:;
     v5 = load8(m, v12, 0) << 24;
     goto after4;
-after6:;
-    UNREACHABLE;
 after5:;
     v22 = 0u;
     v10 = 3u;
@@ -14998,8 +15957,8 @@ after3:;
 after2:;
     v16 = load8(m, v11, 0);
     v18 = 0u;
-    fill(m, v29 + 1208ull, 0u, 288ull);
-    fill(m, v29 + 912ull, 0u, 288ull);
+    memset(f29 + 1208, (int)(0u & 255u), 288);
+    memset(f29 + 912, (int)(0u & 255u), 288);
     v20 = get8(f29 + 601);
     v2 = get8(f29 + 600);
     c_lent_kept_judge_CWatched_of(m, v29 + 1208ull, v29 + 8ull);
@@ -15008,11 +15967,12 @@ after2:;
     copy(m, v29 + 1824ull, v29 + 1208ull, 288ull);
     copy(m, (v29 + 1824ull) + 288ull, v29 + 912ull, 288ull);
     copy(m, v1, v29 + 1824ull, 576ull);
-    store32(m, v1, 586, 0u);
-    store8(m, v1 + 585ull, 0, (v2 == 1u) ? v20 : 0u);
-    store8(m, v1 + 584ull, 0, v2 & 1u);
-    store64(m, v1 + 576ull, 0, v11);
-    store16(m, v1, 590, 0u);
+    p847 = held(m, v1 + 576ull, 16);
+    put_held32(p847, 10, m, v1 + 576ull, 0u);
+    put_held8(p847, 9, m, v1 + 576ull, (v2 == 1u) ? v20 : 0u);
+    put_held8(p847, 8, m, v1 + 576ull, v2 & 1u);
+    put_held64(p847, 0, m, v1 + 576ull, v11);
+    put_held16(p847, 14, m, v1 + 576ull, 0u);
     if (v16 == 1u) { goto after36; }
     v5 = 1u;
     goto after35;
@@ -15113,21 +16073,23 @@ after35:;
     v19 = 0u;
     v21 = 0u;
 after34:;
-    store8(m, v8, 31, v21);
-    store8(m, v8, 30, v19);
-    store8(m, v8, 29, v20);
-    store8(m, v8, 28, v16);
-    store8(m, v8, 27, v2);
-    store8(m, v8, 26, v10);
-    store8(m, v8, 25, v18);
-    store8(m, v8, 24, v5);
-    store64(m, v8, 8, v4);
-    store64(m, v8, 0, v11);
+    p1047 = held(m, v8, 32);
+    put_held8(p1047, 31, m, v8, v21);
+    put_held8(p1047, 30, m, v8, v19);
+    put_held8(p1047, 29, m, v8, v20);
+    put_held8(p1047, 28, m, v8, v16);
+    put_held8(p1047, 27, m, v8, v2);
+    put_held8(p1047, 26, m, v8, v10);
+    put_held8(p1047, 25, m, v8, v18);
+    put_held8(p1047, 24, m, v8, v5);
+    put_held64(p1047, 8, m, v8, v4);
+    put_held64(p1047, 0, m, v8, v11);
     v11 = 0ull;
-    store64(m, v8, 16, v10 ? v3 : 0ull);
+    put_held64(p1047, 16, m, v8, v10 ? v3 : 0ull);
 after1:;
-    store64(m, v0, 8, 0ull);
-    store64(m, v0, 0, v11);
+    p1086 = held(m, v0, 16);
+    put_held64(p1086, 8, m, v0, 0ull);
+    put_held64(p1086, 0, m, v0, v11);
     m->g0 = v29 + 2400ull;
 }
 
@@ -15149,13 +16111,13 @@ static void rattle_export_scard_lent_judge_finish(struct call *m, u64 v0, u64 v1
     u64 v4 = 0;
     u32 v3 = 0;
     u8 *f4 = NULL;
+    u8 *p57 = NULL;
     v4 = m->g0 - 592ull;
     f4 = at(m, v4, 592);
     v2 = v4;
     m->g0 = v2;
-    if ((v4 ^ 0x8000000000000000ull) < (16ull ^ 0x8000000000000000ull)) { goto after3; }
-    fill(m, v4 + 296ull, 0u, 296ull);
-    fill(m, v4, 0u, 296ull);
+    memset(f4 + 296, (int)(0u & 255u), 296);
+    memset(f4, (int)(0u & 255u), 296);
     c_lent_kept_judge_CWatched_watched(m, v4 + 296ull, v0);
     c_lent_kept_judge_CWatched_watched(m, v4, v0 + 288ull);
     v0 = get64(f4 + 584);
@@ -15169,18 +16131,17 @@ after4:;
     v0 = 0ull;
     v3 = 0u;
     goto after1;
-after3:;
-    UNREACHABLE;
 after2:;
     v3 = 1u;
 after1:;
-    store64(m, v1, 8, 0ull);
-    store64(m, v1, 0, 0ull);
-    store32(m, v1, 27, 0u);
-    store8(m, v1, 26, v3);
-    store16(m, v1, 24, 0u);
-    store64(m, v1, 16, v0);
-    store8(m, v1, 31, 0u);
+    p57 = held(m, v1, 32);
+    put_held64(p57, 8, m, v1, 0ull);
+    put_held64(p57, 0, m, v1, 0ull);
+    put_held32(p57, 27, m, v1, 0u);
+    put_held8(p57, 26, m, v1, v3);
+    put_held16(p57, 24, m, v1, 0u);
+    put_held64(p57, 16, m, v1, v0);
+    put_held8(p57, 31, m, v1, 0u);
     m->g0 = v4 + 592ull;
 }
 
@@ -15209,14 +16170,15 @@ static void rattle_export_scard_lent_judge_quiet(struct call *m, u64 v0, u64 v1)
     u32 v8 = 0;
     u32 v9 = 0;
     u8 *f11 = NULL;
+    u8 *p131 = NULL;
+    u8 *p224 = NULL;
     v11 = m->g0 - 2928ull;
     f11 = at(m, v11, 2928);
     v2 = v11;
     m->g0 = v2;
-    if ((v11 ^ 0x8000000000000000ull) < (16ull ^ 0x8000000000000000ull)) { goto after3; }
-    fill(m, v11, 0u, 576ull);
-    fill(m, v11 + 576ull, 0u, 296ull);
-    fill(m, v11 + 2352ull, 0u, 296ull);
+    memset(f11, (int)(0u & 255u), 576);
+    memset(f11 + 576, (int)(0u & 255u), 296);
+    memset(f11 + 2352, (int)(0u & 255u), 296);
     c_lent_kept_judge_CWatched_watched(m, v11 + 576ull, v0);
     c_lent_kept_judge_CWatched_watched(m, v11 + 2352ull, v0 + 288ull);
     v3 = v0 + 576ull;
@@ -15246,35 +16208,35 @@ after4:;
     v10 = 0ull;
     v8 = 0u;
     goto after1;
-after3:;
-    UNREACHABLE;
 after2:;
     v8 = 1u;
 after1:;
-    store64(m, v1, 0, 0ull);
-    store64(m, v1, 8, 0ull);
-    store32(m, v1, 27, 0u);
-    store8(m, v1, 26, v8);
-    store16(m, v1, 24, 0u);
-    store64(m, v1, 16, v10);
-    store8(m, v1, 31, 0u);
+    p131 = held(m, v1, 32);
+    put_held64(p131, 0, m, v1, 0ull);
+    put_held64(p131, 8, m, v1, 0ull);
+    put_held32(p131, 27, m, v1, 0u);
+    put_held8(p131, 26, m, v1, v8);
+    put_held16(p131, 24, m, v1, 0u);
+    put_held64(p131, 16, m, v1, v10);
+    put_held8(p131, 31, m, v1, 0u);
     put32(f11 + 888, 0u);
     put8(f11 + 887, 4u);
     put32(f11 + 592, 0u);
     put8(f11 + 591, (get8(f11 + 591)) ? 3u : 0u);
-    fill(m, v11 + 2064ull, 0u, 288ull);
-    fill(m, v11 + 1776ull, 0u, 288ull);
+    memset(f11 + 2064, (int)(0u & 255u), 288);
+    memset(f11 + 1776, (int)(0u & 255u), 288);
     c_lent_kept_judge_CWatched_of(m, v11 + 2064ull, v11 + 576ull);
     c_lent_kept_judge_CWatched_of(m, v11 + 1776ull, (v11 + 576ull) + 296ull);
     copy(m, v11 + 2352ull, v11 + 2064ull, 288ull);
     copy(m, (v11 + 2352ull) + 288ull, v11 + 1776ull, 288ull);
     copy(m, v11, v11 + 2352ull, 576ull);
     copy(m, v0, v11, 576ull);
-    store32(m, v0, 586, 0u);
+    p224 = held(m, v0 + 586ull, 6);
+    put_held32(p224, 0, m, v0 + 586ull, 0u);
     store8(m, v5, 0, v6);
     store8(m, v7, 0, v9);
     store64(m, v3, 0, v4);
-    store16(m, v0, 590, 0u);
+    put_held16(p224, 4, m, v0 + 586ull, 0u);
     m->g0 = v11 + 2928ull;
 }
 
@@ -15293,25 +16255,26 @@ after1:;
 static void rattle_export_scard_lent_receiver_begin(struct call *m, u64 v0, u64 v1, u32 v2, u32 v3, u64 v4)
 {
     u64 v5 = 0;
-    if ((m->g0 ^ 0x8000000000000000ull) < (16ull ^ 0x8000000000000000ull)) { goto after1; }
+    u8 *p30 = NULL;
+    u8 *p52 = NULL;
     v5 = 4ull;
     if ((v3 & 255u) > 1u) { goto after2; }
     if (((v2 + 0xFFFFFFFFu) & 255u) > 253u) { goto after2; }
     if (v4 > 0x20000ull) { goto after2; }
     v5 = 0ull;
-    store64(m, v1, 22, 0ull);
-    store8(m, v1, 21, v3);
-    store8(m, v1, 20, v2);
-    store64(m, v1, 12, 0ull);
-    store32(m, v1, 8, (u32)v4);
-    store64(m, v1, 0, 0ull);
-    store16(m, v1, 30, 0u);
+    p30 = held(m, v1, 32);
+    put_held64(p30, 22, m, v1, 0ull);
+    put_held8(p30, 21, m, v1, v3);
+    put_held8(p30, 20, m, v1, v2);
+    put_held64(p30, 12, m, v1, 0ull);
+    put_held32(p30, 8, m, v1, (u32)v4);
+    put_held64(p30, 0, m, v1, 0ull);
+    put_held16(p30, 30, m, v1, 0u);
 after2:;
-    store64(m, v0, 8, 0ull);
-    store64(m, v0, 0, v5);
+    p52 = held(m, v0, 16);
+    put_held64(p52, 8, m, v0, 0ull);
+    put_held64(p52, 0, m, v0, v5);
     return;
-after1:;
-    UNREACHABLE;
 }
 
 static void module_scard_lent_receiver_feed(struct call *m, u64 v0, u64 v1, u64 v2, u64 v3, u64 v4, u64 v5)
@@ -15362,6 +16325,11 @@ static void rattle_export_scard_lent_receiver_feed(struct call *m, u64 v0, u64 v
     u32 t1 = 0;
     u32 t4 = 0;
     u8 *f7 = NULL;
+    u8 *p243 = NULL;
+    u8 *p533 = NULL;
+    u8 *p534 = NULL;
+    u8 *p796 = NULL;
+    u8 *p876 = NULL;
     u64 n23;
     const u8 *q23;
     u64 n24;
@@ -15371,7 +16339,6 @@ static void rattle_export_scard_lent_receiver_feed(struct call *m, u64 v0, u64 v
     m->g0 = v6;
     v7 = v35;
     f7 = at(m, v7, 64);
-    if ((v7 ^ 0x8000000000000000ull) < (16ull ^ 0x8000000000000000ull)) { goto after1; }
     v8 = 0ull;
     put64(f7 + 56, 0ull);
     put64(f7 + 48, 0ull);
@@ -15436,9 +16403,10 @@ again7:;
         v4 = v4 - 8ull + 0xFFFFFFFFFFFFFFF8ull * n23;
     } else {
 again23:;
-        t4 = load8(m, v6 + 3ull, 0) ^ (load8(m, v6 + 2ull, 0) ^ (load8(m, v6 + 1ull, 0) ^ (load8(m, v6, 0) ^ v14)));
-        t0 = load8(m, v6 + 7ull, 0) ^ (load8(m, v6 + 6ull, 0) ^ (load8(m, v6 + 5ull, 0) ^ (load8(m, v6 + 4ull, 0) ^
-            t4)));
+        p243 = held(m, v6, 8);
+        t4 = held8(p243, 3, m, v6) ^ (held8(p243, 2, m, v6) ^ (held8(p243, 1, m, v6) ^ (held8(p243, 0, m, v6) ^
+            v14)));
+        t0 = held8(p243, 7, m, v6) ^ (held8(p243, 6, m, v6) ^ (held8(p243, 5, m, v6) ^ (held8(p243, 4, m, v6) ^ t4)));
         v14 = t0;
         v6 = v6 + 8ull;
         v4 = v4 + 0xFFFFFFFFFFFFFFF8ull;
@@ -15544,10 +16512,12 @@ after17:;
 again37:;
     v6 = v28 + v3;
     v4 = v2 + v3;
-    store8(m, v6, 0, load8(m, v4, 0));
-    store8(m, v6 + 1ull, 0, load8(m, v4 + 1ull, 0));
-    store8(m, v6 + 2ull, 0, load8(m, v4 + 2ull, 0));
-    store8(m, v6 + 3ull, 0, load8(m, v4 + 3ull, 0));
+    p533 = held(m, v4, 4);
+    p534 = held(m, v6, 4);
+    put_held8(p534, 0, m, v6, held8(p533, 0, m, v4));
+    put_held8(p534, 1, m, v6, held8(p533, 1, m, v4));
+    put_held8(p534, 2, m, v6, held8(p533, 2, m, v4));
+    put_held8(p534, 3, m, v6, held8(p533, 3, m, v4));
     v3 = v3 + 4ull;
     if (v34 != v3) { goto again37; }
     if (v33 == 0) { goto after34; }
@@ -15658,21 +16628,22 @@ after43:;
     v26 = v10;
     v29 = v12;
 after42:;
-    store32(m, v1, 28, 0u);
-    store8(m, v1, 26, v17);
-    store8(m, v1, 25, v11);
-    store8(m, v1, 24, v29);
-    store8(m, v1, 22, v9);
-    store8(m, v1, 21, v21);
-    store8(m, v1, 20, v22);
-    store32(m, v1, 16, v18);
-    store32(m, v1, 12, v19);
-    store32(m, v1, 8, v20);
-    store8(m, v1, 23, v26 & 1u);
+    p796 = held(m, v1, 32);
+    put_held32(p796, 28, m, v1, 0u);
+    put_held8(p796, 26, m, v1, v17);
+    put_held8(p796, 25, m, v1, v11);
+    put_held8(p796, 24, m, v1, v29);
+    put_held8(p796, 22, m, v1, v9);
+    put_held8(p796, 21, m, v1, v21);
+    put_held8(p796, 20, m, v1, v22);
+    put_held32(p796, 16, m, v1, v18);
+    put_held32(p796, 12, m, v1, v19);
+    put_held32(p796, 8, m, v1, v20);
+    put_held8(p796, 23, m, v1, v26 & 1u);
     t1 = v14 + 1u;
     v14 = v16 & 255u;
-    store8(m, v1, 27, v14 ? t1 : 0u);
-    store64(m, v1, 0, v14 ? v15 : 0ull);
+    put_held8(p796, 27, m, v1, v14 ? t1 : 0u);
+    put_held64(p796, 0, m, v1, v14 ? v15 : 0ull);
     if (v14) { goto after45; }
     v6 = (v25 & 1u) ? 0ull : 6ull;
     goto after2;
@@ -15680,12 +16651,11 @@ after45:;
     v6 = ((v8 & 255ull) == 0) ? 1ull : v6;
     v8 = v13 | (((u64)v25) & 255ull);
 after2:;
-    store64(m, v0, 8, v8);
-    store64(m, v0, 0, v6);
+    p876 = held(m, v0, 16);
+    put_held64(p876, 8, m, v0, v8);
+    put_held64(p876, 0, m, v0, v6);
     m->g0 = v7 + 64ull;
     return;
-after1:;
-    UNREACHABLE;
 }
 
 static void module_scard_lent_receiver_finish(struct call *m, u64 v0, u64 v1, u64 v2, u64 v3)
@@ -15710,11 +16680,11 @@ static void rattle_export_scard_lent_receiver_finish(struct call *m, u64 v0, u64
     u32 v6 = 0;
     u64 w0 = 0;
     u8 *f7 = NULL;
+    u8 *p131 = NULL;
     v7 = m->g0 - 64ull;
     f7 = at(m, v7, 64);
     v3 = v7;
     m->g0 = v3;
-    if ((v7 ^ 0x8000000000000000ull) < (16ull ^ 0x8000000000000000ull)) { goto after1; }
     v4 = 0ull;
     put64(f7 + 56, 0ull);
     put64(f7 + 48, 0ull);
@@ -15749,12 +16719,11 @@ after6:;
 after4:;
     v2 = ((((u64)((v5 == 1u) ? (v6 + 1u) : 0u)) & 255ull) << 8) | v2;
 after2:;
-    store64(m, v0, 8, v4);
-    store64(m, v0, 0, v2);
+    p131 = held(m, v0, 16);
+    put_held64(p131, 8, m, v0, v4);
+    put_held64(p131, 0, m, v0, v2);
     m->g0 = v7 + 64ull;
     return;
-after1:;
-    UNREACHABLE;
 }
 
 static void module_scard_lent_receiver_message(struct call *m, u64 v0, u64 v1, u64 v2, u64 v3)
@@ -15777,11 +16746,11 @@ static void rattle_export_scard_lent_receiver_message(struct call *m, u64 v0, u6
     u64 v6 = 0;
     u32 v5 = 0;
     u8 *f6 = NULL;
+    u8 *p71 = NULL;
     v6 = m->g0 - 64ull;
     f6 = at(m, v6, 64);
     v3 = v6;
     m->g0 = v3;
-    if ((v6 ^ 0x8000000000000000ull) < (16ull ^ 0x8000000000000000ull)) { goto after1; }
     v4 = 0ull;
     put64(f6 + 56, 0ull);
     put64(f6 + 48, 0ull);
@@ -15797,12 +16766,11 @@ static void rattle_export_scard_lent_receiver_message(struct call *m, u64 v0, u6
     v4 = v5 ? (u64)get32(f6 + 28) : 0ull;
     v2 = v5 ? 0ull : 4ull;
 after2:;
-    store64(m, v0, 8, v4);
-    store64(m, v0, 0, v2);
+    p71 = held(m, v0, 16);
+    put_held64(p71, 8, m, v0, v4);
+    put_held64(p71, 0, m, v0, v2);
     m->g0 = v6 + 64ull;
     return;
-after1:;
-    UNREACHABLE;
 }
 
 static void module_scard_lent_terminal_answer(struct call *m, u64 v0, u64 v1, u64 v2, u64 v3, u64 v4, u64 v5)
@@ -15825,26 +16793,25 @@ static void rattle_export_scard_lent_terminal_answer(struct call *m, u64 v0, u64
     u64 v6 = 0;
     u32 v5 = 0;
     u8 *f6 = NULL;
+    u8 *p56 = NULL;
     v6 = m->g0 - 80ull;
     f6 = at(m, v6, 80);
     v4 = v6;
     m->g0 = v4;
-    if ((v6 ^ 0x8000000000000000ull) < (16ull ^ 0x8000000000000000ull)) { goto after3; }
-    fill(m, v6, 0u, 80ull);
+    memset(f6, (int)(0u & 255u), 80);
     c_lent_kept_CTerminal_fitting(m, v6, v1, v2, v3);
     if (get8(f6) == 1u) { goto after2; }
     v3 = 0ull;
     v2 = 4ull;
     goto after1;
-after3:;
-    UNREACHABLE;
 after2:;
     v5 = get8(f6 + 40) & 1u;
     v3 = v5 ? (v5 ? get64(f6 + 72) : 0ull) : 0ull;
     v2 = v5 ? 0ull : 4ull;
 after1:;
-    store64(m, v0, 8, v3);
-    store64(m, v0, 0, v2);
+    p56 = held(m, v0, 16);
+    put_held64(p56, 8, m, v0, v3);
+    put_held64(p56, 0, m, v0, v2);
     m->g0 = v6 + 80ull;
 }
 
@@ -15867,6 +16834,7 @@ static void rattle_export_scard_lent_terminal_ask_ifs(struct call *m, u64 v0, u6
     u64 v9 = 0;
     u64 v10 = 0;
     u8 *f10 = NULL;
+    u8 *p66 = NULL;
     v10 = m->g0 - 48ull;
     f10 = at(m, v10, 48);
     v9 = v10;
@@ -15882,8 +16850,9 @@ after1:;
     put8(f10 + 9, v6);
     c_lent_lent_terminal_turn(m, v10 + 32ull, v1, v2 + ((v2 == 0) ? 4096ull : 0ull), v3, v4 + ((v4 == 0) ? 4096ull :
         0ull), v5, v10 + 8ull, v7 + ((v7 == 0) ? 4096ull : 0ull), v8);
-    store64(m, v0, 8, get64(f10 + 40));
-    store64(m, v0, 0, get64(f10 + 32));
+    p66 = held(m, v0, 16);
+    put_held64(p66, 8, m, v0, get64(f10 + 40));
+    put_held64(p66, 0, m, v0, get64(f10 + 32));
     m->g0 = v10 + 48ull;
 }
 
@@ -15904,7 +16873,8 @@ static void rattle_export_scard_lent_terminal_begin(struct call *m, u64 v0, u64 
     u32 v6, u32 v7, u32 v8)
 {
     u64 v9 = 0;
-    if ((m->g0 ^ 0x8000000000000000ull) < (16ull ^ 0x8000000000000000ull)) { goto after1; }
+    u8 *p94 = NULL;
+    u8 *p141 = NULL;
     v9 = 4ull;
     if (((v6 + 1u) & 255u) < 2u) { goto after2; }
     if (((v8 | v7) & 255u) > 15u) { goto after2; }
@@ -15929,24 +16899,24 @@ after6:;
     store8(m, v9 + v4, 0, 0u);
 after5:;
     v9 = 0ull;
-    store64(m, v1, 6, 0ull);
-    store8(m, v1, 5, v6);
-    store8(m, v1, 4, 32u);
-    store8(m, v1, 3, v6);
-    store8(m, v1, 2, 0u);
-    store16(m, v1, 0, 0u);
-    store64(m, v1, 14, 0ull);
-    store16(m, v1, 22, 0u);
-    store64(m, v1, 40, 0ull);
-    store64(m, v1, 48, 0ull);
-    store64(m, v1, 32, (v5 < 0x10002ull) ? v5 : 0x10002ull);
-    store64(m, v1, 24, (v3 < 0x10008ull) ? v3 : 0x10008ull);
+    p94 = held(m, v1, 56);
+    put_held64(p94, 6, m, v1, 0ull);
+    put_held8(p94, 5, m, v1, v6);
+    put_held8(p94, 4, m, v1, 32u);
+    put_held8(p94, 3, m, v1, v6);
+    put_held8(p94, 2, m, v1, 0u);
+    put_held16(p94, 0, m, v1, 0u);
+    put_held64(p94, 14, m, v1, 0ull);
+    put_held16(p94, 22, m, v1, 0u);
+    put_held64(p94, 40, m, v1, 0ull);
+    put_held64(p94, 48, m, v1, 0ull);
+    put_held64(p94, 32, m, v1, (v5 < 0x10002ull) ? v5 : 0x10002ull);
+    put_held64(p94, 24, m, v1, (v3 < 0x10008ull) ? v3 : 0x10008ull);
 after2:;
-    store64(m, v0, 8, 0ull);
-    store64(m, v0, 0, v9);
+    p141 = held(m, v0, 16);
+    put_held64(p141, 8, m, v0, 0ull);
+    put_held64(p141, 0, m, v0, v9);
     return;
-after1:;
-    UNREACHABLE;
 }
 
 static void module_scard_lent_terminal_quiet(struct call *m, u64 v0, u64 v1, u64 v2, u64 v3, u64 v4, u64 v5, u64 v6,
@@ -15968,6 +16938,7 @@ static void rattle_export_scard_lent_terminal_quiet(struct call *m, u64 v0, u64 
     u64 v8 = 0;
     u64 v9 = 0;
     u8 *f9 = NULL;
+    u8 *p66 = NULL;
     v9 = m->g0 - 48ull;
     f9 = at(m, v9, 48);
     v8 = v9;
@@ -15983,8 +16954,9 @@ after1:;
     put8(f9 + 8, 2u);
     c_lent_lent_terminal_turn(m, v9 + 32ull, v1, v2 + ((v2 == 0) ? 4096ull : 0ull), v3, v4 + ((v4 == 0) ? 4096ull :
         0ull), v5, v9 + 8ull, v6 + ((v6 == 0) ? 4096ull : 0ull), v7);
-    store64(m, v0, 8, get64(f9 + 40));
-    store64(m, v0, 0, get64(f9 + 32));
+    p66 = held(m, v0, 16);
+    put_held64(p66, 8, m, v0, get64(f9 + 40));
+    put_held64(p66, 0, m, v0, get64(f9 + 32));
     m->g0 = v9 + 48ull;
 }
 
@@ -16007,6 +16979,7 @@ static void rattle_export_scard_lent_terminal_received(struct call *m, u64 v0, u
     u64 v10 = 0;
     u64 v11 = 0;
     u8 *f11 = NULL;
+    u8 *p69 = NULL;
     v11 = m->g0 - 48ull;
     f11 = at(m, v11, 48);
     v10 = v11;
@@ -16021,8 +16994,9 @@ after1:;
     put64(f11 + 16, v6 + ((v6 == 0) ? 4096ull : 0ull));
     c_lent_lent_terminal_turn(m, v11 + 32ull, v1, v2 + ((v2 == 0) ? 4096ull : 0ull), v3, v4 + ((v4 == 0) ? 4096ull :
         0ull), v5, v11 + 8ull, v8 + ((v8 == 0) ? 4096ull : 0ull), v9);
-    store64(m, v0, 8, get64(f11 + 40));
-    store64(m, v0, 0, get64(f11 + 32));
+    p69 = held(m, v0, 16);
+    put_held64(p69, 8, m, v0, get64(f11 + 40));
+    put_held64(p69, 0, m, v0, get64(f11 + 32));
     m->g0 = v11 + 48ull;
 }
 
@@ -16045,6 +17019,7 @@ static void rattle_export_scard_lent_terminal_transmit(struct call *m, u64 v0, u
     u64 v10 = 0;
     u64 v11 = 0;
     u8 *f11 = NULL;
+    u8 *p69 = NULL;
     v11 = m->g0 - 48ull;
     f11 = at(m, v11, 48);
     v10 = v11;
@@ -16059,8 +17034,9 @@ after1:;
     put64(f11 + 16, v6 + ((v6 == 0) ? 4096ull : 0ull));
     c_lent_lent_terminal_turn(m, v11 + 32ull, v1, v2 + ((v2 == 0) ? 4096ull : 0ull), v3, v4 + ((v4 == 0) ? 4096ull :
         0ull), v5, v11 + 8ull, v8 + ((v8 == 0) ? 4096ull : 0ull), v9);
-    store64(m, v0, 8, get64(f11 + 40));
-    store64(m, v0, 0, get64(f11 + 32));
+    p69 = held(m, v0, 16);
+    put_held64(p69, 8, m, v0, get64(f11 + 40));
+    put_held64(p69, 0, m, v0, get64(f11 + 32));
     m->g0 = v11 + 48ull;
 }
 
@@ -16085,11 +17061,11 @@ static u32 rattle_export_scard_lrc(struct call *m, u64 v0, u64 v1)
     u32 v2 = 0;
     u32 t0 = 0;
     u32 t4 = 0;
+    u8 *p44 = NULL;
     u64 n5;
     const u8 *q5;
     u64 n6;
     const u8 *q6;
-    if ((m->g0 ^ 0x8000000000000000ull) < (16ull ^ 0x8000000000000000ull)) { goto after1; }
     if (v1) { goto after3; }
     v2 = 0u;
     goto after2;
@@ -16109,9 +17085,9 @@ after3:;
         v1 = v1 - 8ull + 0xFFFFFFFFFFFFFFF8ull * n5;
     } else {
 again5:;
-        t4 = load8(m, v0 + 3ull, 0) ^ (load8(m, v0 + 2ull, 0) ^ (load8(m, v0 + 1ull, 0) ^ (load8(m, v0, 0) ^ v2)));
-        t0 = load8(m, v0 + 7ull, 0) ^ (load8(m, v0 + 6ull, 0) ^ (load8(m, v0 + 5ull, 0) ^ (load8(m, v0 + 4ull, 0) ^
-            t4)));
+        p44 = held(m, v0, 8);
+        t4 = held8(p44, 3, m, v0) ^ (held8(p44, 2, m, v0) ^ (held8(p44, 1, m, v0) ^ (held8(p44, 0, m, v0) ^ v2)));
+        t0 = held8(p44, 7, m, v0) ^ (held8(p44, 6, m, v0) ^ (held8(p44, 5, m, v0) ^ (held8(p44, 4, m, v0) ^ t4)));
         v2 = t0;
         v0 = v0 + 8ull;
         v1 = v1 + 0xFFFFFFFFFFFFFFF8ull;
@@ -16134,8 +17110,6 @@ again6:;
     }
 after2:;
     return v2 & 255u;
-after1:;
-    UNREACHABLE;
 }
 
 static void module_scard_note_of(struct call *m, u32 v0, u32 v1, u32 v2, u64 v3)
@@ -16160,7 +17134,11 @@ static void rattle_export_scard_note_of(struct call *m, u32 v0, u32 v1, u32 v2, 
     u64 v10 = 0;
     u32 v8 = 0;
     u32 v11 = 0;
-    if ((m->g0 ^ 0x8000000000000000ull) < (16ull ^ 0x8000000000000000ull)) { goto after23; }
+    u8 *p526 = NULL;
+    u8 *p589 = NULL;
+    u8 *p769 = NULL;
+    u8 *p994 = NULL;
+    u8 *p1009 = NULL;
     v4 = 0ull;
     v5 = 0x10000ull;
     if (((v0 + 0xFFFFFFFFu) & 255u) <= 7u) { goto after24; }
@@ -16458,8 +17436,9 @@ after45:;
 after44:;
     v9 = 0x112E8ull;
 after43:;
-    v6 = load64(m, v9 + 8ull, 0);
-    v7 = load64(m, v9 + 16ull, 0);
+    p526 = held(m, v9 + 8ull, 16);
+    v6 = held64(p526, 0, m, v9 + 8ull);
+    v7 = held64(p526, 8, m, v9 + 8ull);
     goto after2;
 after30:;
     v5 = 0x10000ull;
@@ -16478,8 +17457,9 @@ after94:;
     if (v8 > 31u) { goto after96; }
     v8 = v1 & 3u;
     v4 = ((u64)((v1 >> 2) & 3u)) << 3;
-    v6 = load64(m, v4, 72544);
-    v7 = load64(m, v4, 72512);
+    p589 = held(m, v4 + 72512ull, 40);
+    v6 = held64(p589, 32, m, v4 + 72512ull);
+    v7 = held64(p589, 0, m, v4 + 72512ull);
     goto after95;
 after96:;
     if ((v1 & 255u) >= 64u) { goto after97; }
@@ -16549,11 +17529,10 @@ after26:;
     goto after1;
 after25:;
     v6 = ((u64)((v1 & 192u) >> 6)) << 3;
-    v7 = load64(m, v6, 72672);
-    v6 = load64(m, v6, 72640);
+    p769 = held(m, v6 + 72640ull, 40);
+    v7 = held64(p769, 32, m, v6 + 72640ull);
+    v6 = held64(p769, 0, m, v6 + 72640ull);
     goto after2;
-after23:;
-    UNREACHABLE;
 after22:;
     v0 = 1u;
     v1 = v2 & 255u;
@@ -16679,20 +17658,22 @@ after4:;
     v8 = 0u;
     goto after1;
 after3:;
-    v6 = load64(m, v7 + 8ull, 0);
-    v7 = load64(m, v7 + 16ull, 0);
+    p994 = held(m, v7 + 8ull, 16);
+    v6 = held64(p994, 0, m, v7 + 8ull);
+    v7 = held64(p994, 8, m, v7 + 8ull);
 after2:;
     v0 = 0u;
     v8 = 0u;
 after1:;
-    store16(m, v3, 37, 0u);
-    store8(m, v3, 36, v0);
-    store64(m, v3, 24, v4);
-    store64(m, v3, 16, v5);
-    store64(m, v3, 8, v7);
-    store64(m, v3, 0, v6);
-    store8(m, v3, 39, 0u);
-    store32(m, v3, 32, v0 ? v8 : 0u);
+    p1009 = held(m, v3, 40);
+    put_held16(p1009, 37, m, v3, 0u);
+    put_held8(p1009, 36, m, v3, v0);
+    put_held64(p1009, 24, m, v3, v4);
+    put_held64(p1009, 16, m, v3, v5);
+    put_held64(p1009, 8, m, v3, v7);
+    put_held64(p1009, 0, m, v3, v6);
+    put_held8(p1009, 39, m, v3, 0u);
+    put_held32(p1009, 32, m, v3, v0 ? v8 : 0u);
 }
 
 static void module_scard_reason_text(struct call *m, u32 v0, u32 v1, u64 v2)
@@ -16711,7 +17692,12 @@ static void rattle_export_scard_reason_text(struct call *m, u32 v0, u32 v1, u64 
 {
     u64 v3 = 0;
     u64 v4 = 0;
-    if ((m->g0 ^ 0x8000000000000000ull) < (16ull ^ 0x8000000000000000ull)) { goto after7; }
+    u8 *p106 = NULL;
+    u8 *p133 = NULL;
+    u8 *p160 = NULL;
+    u8 *p187 = NULL;
+    u8 *p214 = NULL;
+    u8 *p222 = NULL;
     v3 = 0x103F5ull;
     v4 = 1ull;
     switch ((v0 & 255u) + 0xFFFFFFFFu) {
@@ -16751,16 +17737,15 @@ after11:;
     v3 = 0x103F5ull;
     v4 = 1ull;
     goto after1;
-after7:;
-    UNREACHABLE;
 after6:;
     v3 = 0x103F5ull;
     v4 = 1ull;
     v0 = v1 + 0xFFFFFFFFu;
     if ((v0 & 255u) >= 3u) { goto after1; }
     v3 = (((u64)v0) & 255ull) << 3;
-    v4 = load64(m, v3, 72728);
-    v3 = load64(m, v3, 72704);
+    p106 = held(m, v3 + 72704ull, 32);
+    v4 = held64(p106, 24, m, v3 + 72704ull);
+    v3 = held64(p106, 0, m, v3 + 72704ull);
     goto after1;
 after5:;
     v3 = 0x103F5ull;
@@ -16768,8 +17753,9 @@ after5:;
     v0 = v1 + 0xFFFFFFFFu;
     if ((v0 & 255u) >= 5u) { goto after1; }
     v3 = (((u64)v0) & 255ull) << 3;
-    v4 = load64(m, v3, 72792);
-    v3 = load64(m, v3, 72752);
+    p133 = held(m, v3 + 72752ull, 48);
+    v4 = held64(p133, 40, m, v3 + 72752ull);
+    v3 = held64(p133, 0, m, v3 + 72752ull);
     goto after1;
 after4:;
     v3 = 0x103F5ull;
@@ -16777,8 +17763,9 @@ after4:;
     v0 = v1 + 0xFFFFFFFFu;
     if ((v0 & 255u) >= 9u) { goto after1; }
     v3 = (((u64)v0) & 255ull) << 3;
-    v4 = load64(m, v3, 72904);
-    v3 = load64(m, v3, 72832);
+    p160 = held(m, v3 + 72832ull, 80);
+    v4 = held64(p160, 72, m, v3 + 72832ull);
+    v3 = held64(p160, 0, m, v3 + 72832ull);
     goto after1;
 after3:;
     v3 = 0x103F5ull;
@@ -16786,8 +17773,9 @@ after3:;
     v0 = v1 + 0xFFFFFFFFu;
     if ((v0 & 255u) >= 6u) { goto after1; }
     v3 = (((u64)v0) & 255ull) << 3;
-    v4 = load64(m, v3, 73024);
-    v3 = load64(m, v3, 72976);
+    p187 = held(m, v3 + 72976ull, 56);
+    v4 = held64(p187, 48, m, v3 + 72976ull);
+    v3 = held64(p187, 0, m, v3 + 72976ull);
     goto after1;
 after2:;
     v3 = 0x103F5ull;
@@ -16795,11 +17783,13 @@ after2:;
     v0 = v1 + 0xFFFFFFFFu;
     if ((v0 & 255u) >= 3u) { goto after1; }
     v3 = (((u64)v0) & 255ull) << 3;
-    v4 = load64(m, v3, 73096);
-    v3 = load64(m, v3, 73072);
+    p214 = held(m, v3 + 73072ull, 32);
+    v4 = held64(p214, 24, m, v3 + 73072ull);
+    v3 = held64(p214, 0, m, v3 + 73072ull);
 after1:;
-    store64(m, v2, 8, v4);
-    store64(m, v2, 0, v3);
+    p222 = held(m, v2, 16);
+    put_held64(p222, 8, m, v2, v4);
+    put_held64(p222, 0, m, v2, v3);
 }
 
 static void module_scard_response_decode(struct call *m, u64 v0, u64 v1, u64 v2, u64 v3)
@@ -16819,7 +17809,8 @@ static void rattle_export_scard_response_decode(struct call *m, u64 v0, u64 v1, 
     u64 v4 = 0;
     u32 v5 = 0;
     u32 v6 = 0;
-    if ((m->g0 ^ 0x8000000000000000ull) < (16ull ^ 0x8000000000000000ull)) { goto after3; }
+    u8 *p52 = NULL;
+    u8 *p70 = NULL;
     if (v2 >= 2ull) { goto after4; }
     v3 = 1ull;
     goto after1;
@@ -16829,21 +17820,21 @@ after4:;
     v2 = 0x10002ull;
     v3 = 258ull;
     goto after1;
-after3:;
-    UNREACHABLE;
 after2:;
     v1 = v1 + ((v1 == 0) ? 4096ull : 0ull);
     v5 = load8(m, v1 + v4, 0);
     v6 = load8(m, (v1 + v2) + 0xFFFFFFFFFFFFFFFFull, 0);
-    store32(m, v3, 2, 0u);
-    store8(m, v3, 1, v6);
-    store8(m, v3, 0, v5);
-    store16(m, v3, 6, 0u);
-    store64(m, v3, 8, v4);
+    p52 = held(m, v3, 16);
+    put_held32(p52, 2, m, v3, 0u);
+    put_held8(p52, 1, m, v3, v6);
+    put_held8(p52, 0, m, v3, v5);
+    put_held16(p52, 6, m, v3, 0u);
+    put_held64(p52, 8, m, v3, v4);
     v3 = 0ull;
 after1:;
-    store64(m, v0, 8, v2);
-    store64(m, v0, 0, v3);
+    p70 = held(m, v0, 16);
+    put_held64(p70, 8, m, v0, v2);
+    put_held64(p70, 0, m, v0, v3);
 }
 
 static void module_scard_response_encode(struct call *m, u64 v0, u64 v1, u64 v2, u32 v3, u32 v4, u64 v5, u64 v6)
@@ -16870,7 +17861,9 @@ static void rattle_export_scard_response_encode(struct call *m, u64 v0, u64 v1, 
     u64 v13 = 0;
     u64 v14 = 0;
     u64 v15 = 0;
-    if ((m->g0 ^ 0x8000000000000000ull) < (16ull ^ 0x8000000000000000ull)) { goto after1; }
+    u8 *p74 = NULL;
+    u8 *p75 = NULL;
+    u8 *p171 = NULL;
     v7 = 4ull;
     if (v2 <= 0x10000ull) { goto after3; }
     v8 = 0ull;
@@ -16891,10 +17884,12 @@ after3:;
 again7:;
     v7 = v10 + v6;
     v15 = v12 + v6;
-    store8(m, v7, 0, load8(m, v15, 0));
-    store8(m, v7 + 1ull, 0, load8(m, v15 + 1ull, 0));
-    store8(m, v7 + 2ull, 0, load8(m, v15 + 2ull, 0));
-    store8(m, v7 + 3ull, 0, load8(m, v15 + 3ull, 0));
+    p74 = held(m, v15, 4);
+    p75 = held(m, v7, 4);
+    put_held8(p75, 0, m, v7, held8(p74, 0, m, v15));
+    put_held8(p75, 1, m, v7, held8(p74, 1, m, v15));
+    put_held8(p75, 2, m, v7, held8(p74, 2, m, v15));
+    put_held8(p75, 3, m, v7, held8(p74, 3, m, v15));
     v6 = v6 + 4ull;
     if (v14 != v6) { goto again7; }
     if (v13 == 0) { goto after4; }
@@ -16915,11 +17910,10 @@ after4:;
     store16(m, v10 + v2, 0, (v4 << 8) | (v3 & 255u));
     v7 = 0ull;
 after2:;
-    store64(m, v0, 8, v8);
-    store64(m, v0, 0, v7);
+    p171 = held(m, v0, 16);
+    put_held64(p171, 8, m, v0, v8);
+    put_held64(p171, 0, m, v0, v7);
     return;
-after1:;
-    UNREACHABLE;
 }
 
 static u32 module_scard_status_class(struct call *m, u32 v0, u32 v1)
@@ -16939,7 +17933,7 @@ after1:;
 static u32 rattle_export_scard_status_class(struct call *m, u32 v0, u32 v1)
 {
     u32 v2 = 0;
-    if ((m->g0 ^ 0x8000000000000000ull) < (16ull ^ 0x8000000000000000ull)) { goto after2; }
+    (void)m;
     v2 = v0 & 255u;
     if (v2 == 97u) { goto after1; }
     if (v2 != 144u) { goto after3; }
@@ -16962,8 +17956,6 @@ after7:;
     return 5u;
 after4:;
     return 6u;
-after2:;
-    UNREACHABLE;
 after1:;
     return 1u;
 }
@@ -16984,20 +17976,21 @@ static void rattle_export_scard_status_text(struct call *m, u32 v0, u64 v1)
 {
     u64 v2 = 0;
     u64 v3 = 0;
-    if ((m->g0 ^ 0x8000000000000000ull) < (16ull ^ 0x8000000000000000ull)) { goto after3; }
+    u8 *p28 = NULL;
+    u8 *p36 = NULL;
     if ((v0 & 255u) < 7u) { goto after2; }
     v2 = 0x103F5ull;
     v3 = 1ull;
     goto after1;
-after3:;
-    UNREACHABLE;
 after2:;
     v3 = (((u64)v0) & 255ull) << 3;
-    v2 = load64(m, v3, 73176);
-    v3 = load64(m, v3, 73120);
+    p28 = held(m, v3 + 73120ull, 64);
+    v2 = held64(p28, 56, m, v3 + 73120ull);
+    v3 = held64(p28, 0, m, v3 + 73120ull);
 after1:;
-    store64(m, v1, 8, v3);
-    store64(m, v1, 0, v2);
+    p36 = held(m, v1, 16);
+    put_held64(p36, 8, m, v1, v3);
+    put_held64(p36, 0, m, v1, v2);
 }
 
 static u64 module_scard_struct_size(struct call *m, u32 v0)
@@ -17019,15 +18012,12 @@ after1:;
 static u64 rattle_export_scard_struct_size(struct call *m, u32 v0)
 {
     u64 v1 = 0;
-    if ((m->g0 ^ 0x8000000000000000ull) < (16ull ^ 0x8000000000000000ull)) { goto after1; }
     v1 = 0ull;
     v0 = v0 + 0xFFFFFFFFu;
     if ((v0 & 255u) >= 31u) { goto after2; }
     v1 = load64(m, (((u64)v0) & 255ull) << 3, 73232);
 after2:;
     return v1;
-after1:;
-    UNREACHABLE;
 }
 
 static u64 module_scard_t1_bwt(struct call *m, u64 v0, u32 v1, u32 v2)
@@ -17050,17 +18040,16 @@ static u64 rattle_export_scard_t1_bwt(struct call *m, u64 v0, u32 v1, u32 v2)
     u64 v3 = 0;
     u32 v4 = 0;
     u64 w0 = 0;
-    if ((m->g0 ^ 0x8000000000000000ull) < (16ull ^ 0x8000000000000000ull)) { goto after1; }
+    u8 *p20 = NULL;
     v3 = 0ull;
     if (((load8(m, v0, 0) + 1u) & 255u) < 2u) { goto after2; }
-    v4 = load8(m, v0 + 1ull, 0);
-    if (((load8(m, v0 + 2ull, 0) | v4) & 255u) > 15u) { goto after2; }
+    p20 = held(m, v0 + 1ull, 2);
+    v4 = held8(p20, 0, m, v0 + 1ull);
+    if (((held8(p20, 1, m, v0 + 1ull) | v4) & 255u) > 15u) { goto after2; }
     w0 = ((0x57300ull << ((((u64)v4) & 255ull) & 63)) * (((u64)v2) & 65535ull)) + ((((u64)v1) & 65535ull) * 11ull);
     v3 = w0;
 after2:;
     return v3;
-after1:;
-    UNREACHABLE;
 }
 
 static u32 module_scard_t1_cwt(struct call *m, u64 v0)
@@ -17082,12 +18071,14 @@ static u32 rattle_export_scard_t1_cwt(struct call *m, u64 v0)
 {
     u32 v1 = 0;
     u32 t0 = 0;
+    u8 *p13 = NULL;
     if ((m->g0 ^ 0x8000000000000000ull) > (15ull ^ 0x8000000000000000ull)) { goto after1; }
     UNREACHABLE;
 after1:;
-    v1 = load8(m, v0 + 2ull, 0);
-    t0 = (((load8(m, v0, 0) + 1u) & 255u) < 2u) ? 0u : ((((v1 | load8(m, v0 + 1ull, 0)) & 255u) > 15u) ? 0u : ((1u <<
-        (v1 & 31)) + 11u));
+    p13 = held(m, v0, 3);
+    v1 = held8(p13, 2, m, v0);
+    t0 = (((held8(p13, 0, m, v0) + 1u) & 255u) < 2u) ? 0u : ((((v1 | held8(p13, 1, m, v0)) & 255u) > 15u) ? 0u : ((1u
+        << (v1 & 31)) + 11u));
     return t0;
 }
 
@@ -17112,17 +18103,17 @@ static void rattle_export_scard_tlv_check(struct call *m, u64 v0, u64 v1, u64 v2
     u32 v7 = 0;
     u32 t2 = 0;
     u8 *f8 = NULL;
+    u8 *p143 = NULL;
     v8 = m->g0 - 160ull;
     f8 = at(m, v8, 160);
     v4 = v8;
     m->g0 = v4;
-    if ((v8 ^ 0x8000000000000000ull) < (16ull ^ 0x8000000000000000ull)) { goto after3; }
     v5 = 0ull;
     put64(f8 + 120, 0ull);
     v6 = 4ull;
     if (v3 > 0x100000ull) { goto after1; }
     put64(f8, v3);
-    fill(m, v8 + 8ull, 0u, 114ull);
+    memset(f8 + 8, (int)(0u & 255u), 114);
     put64(f8 + 152, 0ull);
     put64(f8 + 144, 0ull);
     put64(f8 + 136, 0ull);
@@ -17138,16 +18129,15 @@ after4:;
     v6 = ((((u64)(get8(f8 + 121) + 1u)) & 255ull) << 8) | 2ull;
     v5 = get64(f8 + 8);
     goto after1;
-after3:;
-    UNREACHABLE;
 after2:;
     t2 = (((u32)(get64(f8 + 88) != 0ull)) | ((u32)((get8(f8 + 96) & 255u) != 0u))) | ((u32)(get64(f8 + 112) != 0ull));
     v7 = t2;
     v5 = v7 ? get64(f8 + 8) : v2;
     v6 = (u64)v7;
 after1:;
-    store64(m, v0, 8, v5);
-    store64(m, v0, 0, v6);
+    p143 = held(m, v0, 16);
+    put_held64(p143, 8, m, v0, v5);
+    put_held64(p143, 0, m, v0, v6);
     m->g0 = v8 + 160ull;
 }
 
@@ -17176,7 +18166,6 @@ static u64 rattle_export_scard_tlv_first(struct call *m, u64 v0, u64 v1, u64 v2,
     u32 v8 = 0;
     u32 v9 = 0;
     u32 v10 = 0;
-    if ((m->g0 ^ 0x8000000000000000ull) < (16ull ^ 0x8000000000000000ull)) { goto after1; }
     v4 = 0ull;
     if (v1 == 0) { goto after2; }
     v5 = v2 + ((v2 == 0) ? 4096ull : 0ull);
@@ -17215,8 +18204,6 @@ after4:;
     v4 = v1;
 after2:;
     return v4;
-after1:;
-    UNREACHABLE;
 }
 
 static void module_scard_tlv_parts(struct call *m, u64 v0, u64 v1, u64 v2, u64 v3, u64 v4, u64 v5)
@@ -17255,17 +18242,19 @@ static void rattle_export_scard_tlv_parts(struct call *m, u64 v0, u64 v1, u64 v2
     u64 w0 = 0;
     u64 w1 = 0;
     u8 *f23 = NULL;
+    u8 *p331 = NULL;
+    u8 *p709 = NULL;
+    u8 *p789 = NULL;
     v23 = m->g0 - 160ull;
     f23 = at(m, v23, 160);
     v6 = v23;
     m->g0 = v6;
-    if ((v23 ^ 0x8000000000000000ull) < (16ull ^ 0x8000000000000000ull)) { goto after1; }
     v7 = 4ull;
     if (v3 <= 0x100000ull) { goto after3; }
     v3 = 0ull;
     goto after2;
 after3:;
-    fill(m, v23 + 16ull, 0u, 112ull);
+    memset(f23 + 16, (int)(0u & 255u), 112);
     put64(f23 + 8, v3);
     v8 = 0ull;
     v3 = 0ull;
@@ -17341,8 +18330,9 @@ after14:;
     v17 = ((v15 == 31u) ? 2u : 1u) + v18;
     v19 = (u64)v17;
     v20 = (v23 + 128ull) | v19;
-    v21 = (u64)load8(m, v20, 1);
-    v15 = load8(m, v20, 0);
+    p331 = held(m, v20, 2);
+    v21 = (u64)held8(p331, 1, m, v20);
+    v15 = held8(p331, 0, m, v20);
     switch (v15 + 0xFFFFFF80u) {
         case 0: goto after13;
         case 1: goto after15;
@@ -17432,12 +18422,13 @@ after7:;
 after6:;
     if (v8 >= v5) { goto after23; }
     v4 = v9 + (v8 * 24ull);
-    store8(m, v4, 0, (u32)(v7 >> 40));
-    store64(m, v4 + 16ull, 0, v1 >> 32);
-    store64(m, v4 + 8ull, 0, v1 & 0xFFFFFFFFull);
-    store32(m, v4 + 3ull, 0, (u32)v7);
-    store8(m, v4 + 2ull, 0, ((u32)(v7 >> 32)) + 1u);
-    store8(m, v4 + 1ull, 0, (((u32)v7) >> 5) & 1u);
+    p709 = held(m, v4, 24);
+    put_held8(p709, 0, m, v4, (u32)(v7 >> 40));
+    put_held64(p709, 16, m, v4, v1 >> 32);
+    put_held64(p709, 8, m, v4, v1 & 0xFFFFFFFFull);
+    put_held32(p709, 3, m, v4, (u32)v7);
+    put_held8(p709, 2, m, v4, ((u32)(v7 >> 32)) + 1u);
+    put_held8(p709, 1, m, v4, (((u32)v7) >> 5) & 1u);
 after23:;
     v8 = v8 + 1ull;
     if (v3 < v2) { goto again5; }
@@ -17449,12 +18440,63 @@ after4:;
     v7 = (v8 > v5) ? 4ull : 0ull;
     v3 = v8;
 after2:;
-    store64(m, v0, 8, v3);
-    store64(m, v0, 0, v7);
+    p789 = held(m, v0, 16);
+    put_held64(p789, 8, m, v0, v3);
+    put_held64(p789, 0, m, v0, v7);
     m->g0 = v23 + 160ull;
     return;
-after1:;
+}
+
+static void module_scard_tlv_tidy(struct call *m, u64 v0, u64 v1, u64 v2, u64 v3, u64 v4, u64 v5)
+{
+    u32 t0 = 0;
+    t0 = rattle_enter(m);
+    if (t0 == 0) { goto after1; }
+    rattle_trap(m);
     UNREACHABLE;
+after1:;
+    rattle_export_scard_tlv_tidy(m, v0, v1, v2, v3, v4, v5);
+    rattle_leave(m);
+}
+
+static void rattle_export_scard_tlv_tidy(struct call *m, u64 v0, u64 v1, u64 v2, u64 v3, u64 v4, u64 v5)
+{
+    u64 v6 = 0;
+    u64 v7 = 0;
+    u64 v8 = 0;
+    u64 v9 = 0;
+    u8 *f9 = NULL;
+    u8 *p111 = NULL;
+    v9 = m->g0 - 80ull;
+    f9 = at(m, v9, 80);
+    v6 = v9;
+    m->g0 = v6;
+    v7 = 4ull;
+    if (v3 <= 0x100000ull) { goto after4; }
+    v1 = 0ull;
+    goto after1;
+after4:;
+    put64(f9 + 32, 0ull);
+    put64(f9 + 24, 0ull);
+    put64(f9 + 16, 0ull);
+    put64(f9 + 8, 0ull);
+    v8 = v1 + ((v1 == 0) ? 4096ull : 0ull);
+    tlv_core_tidy_form_put_objects(m, v9 + 8ull, v8, v2, v3, v9 + 79ull, 0ull);
+    v1 = get64(f9 + 16);
+    if (get8(f9 + 8)) { goto after2; }
+    v7 = 4ull;
+    if (v1 > v5) { goto after1; }
+    tlv_core_tidy_form_put_objects(m, v9 + 40ull, v8, v2, v3, v4 + ((v4 == 0) ? 4096ull : 0ull), v5);
+    v7 = 0ull;
+    goto after1;
+after2:;
+    v7 = ((v1 & 255ull) == 0) ? 1ull : (((((u64)(get8(f9 + 32) + 1u)) & 255ull) << 8) | 2ull);
+    v1 = get64(f9 + 24);
+after1:;
+    p111 = held(m, v0, 16);
+    put_held64(p111, 8, m, v0, v1);
+    put_held64(p111, 0, m, v0, v7);
+    m->g0 = v9 + 80ull;
 }
 
 static void module_scard_turn_text(struct call *m, u32 v0, u64 v1)
@@ -17473,7 +18515,7 @@ static void rattle_export_scard_turn_text(struct call *m, u32 v0, u64 v1)
 {
     u64 v2 = 0;
     u64 v3 = 0;
-    if ((m->g0 ^ 0x8000000000000000ull) < (16ull ^ 0x8000000000000000ull)) { goto after3; }
+    u8 *p107 = NULL;
     v2 = 0x102A2ull;
     v3 = 5ull;
     switch ((u32)(((u64)v0) & 255ull)) {
@@ -17539,13 +18581,12 @@ after4:;
     v2 = 0x103F5ull;
     v3 = 1ull;
     goto after1;
-after3:;
-    UNREACHABLE;
 after2:;
     v2 = 0x10289ull;
 after1:;
-    store64(m, v1, 8, v3);
-    store64(m, v1, 0, v2);
+    p107 = held(m, v1, 16);
+    put_held64(p107, 8, m, v1, v3);
+    put_held64(p107, 0, m, v1, v2);
 }
 
 static u32 module_scard_version(struct call *m)
@@ -17558,7 +18599,7 @@ static u32 module_scard_version(struct call *m)
 after1:;
     rattle_export_scard_version(m);
     rattle_leave(m);
-    return 0xF4A10u;
+    return 0xF4DF8u;
 }
 
 static void rattle_export_scard_version(struct call *m)
@@ -17571,7 +18612,7 @@ after1:;
 /* ---- the calls of scard.h: written from the header ---- */
 
 /* These calls of scard.h aren't in this file, since they take memory:
- * scard_tlv_tidy, scard_terminal_open, scard_card_open, scard_close, scard_terminal_transmit, scard_terminal_received,
+ * scard_terminal_open, scard_card_open, scard_close, scard_terminal_transmit, scard_terminal_received,
  * scard_terminal_quiet, scard_terminal_ask_ifs, scard_card_received, scard_card_reply, scard_card_more_time,
  * scard_card_ask_ifs, scard_message, scard_atr_reader_open, scard_block_reader_open, scard_receiver_open,
  * scard_tlv_check_open, scard_reader_feed, scard_reader_finish, scard_atr_reader_value, scard_block_reader_value */
@@ -18615,6 +19656,23 @@ struct scard_verdict scard_tlv_check(const uint8_t *octets, size_t count, size_t
     result.status = (uint8_t)get8(stack + 304);
     result.reason = (uint8_t)get8(stack + 304 + 1);
     result.place = (scard_size)get64(stack + 304 + 8);
+    return result;
+}
+
+struct scard_verdict scard_tlv_tidy(const uint8_t *octets, size_t count, size_t max, uint8_t *out, size_t room)
+{
+    struct call m;
+    u8 stack[400];
+    struct shaped *shaped = NULL;
+    struct scard_verdict result;
+    begin(&m, stack, sizeof stack, shaped);
+    lend(&m, 2, octets, count);
+    lend(&m, 3, out, room);
+    m.g0 -= 16;
+    module_scard_tlv_tidy(&m, m.g0, ADDRESS(2), (u64)count, (u64)max, ADDRESS(3), (u64)room);
+    result.status = (uint8_t)get8(stack + 384);
+    result.reason = (uint8_t)get8(stack + 384 + 1);
+    result.place = (scard_size)get64(stack + 384 + 8);
     return result;
 }
 

@@ -21,10 +21,10 @@
  * header is the library's.
  */
 #define SCARD_VERSION_MAJOR 1
-#define SCARD_VERSION_MINOR 2
+#define SCARD_VERSION_MINOR 3
 #define SCARD_VERSION_PATCH 0
 #define SCARD_VERSION (SCARD_VERSION_MAJOR * 1000000 + SCARD_VERSION_MINOR * 1000 + SCARD_VERSION_PATCH)
-#define SCARD_VERSION_TEXT "1.2.0"
+#define SCARD_VERSION_TEXT "1.3.0"
 
 #include <stdbool.h>
 #include <stddef.h>
@@ -450,8 +450,10 @@ uint8_t scard_status_class(uint8_t sw1, uint8_t sw2);
 SCARD_MUST_USE
 struct scard_verdict scard_tlv_check(const uint8_t *octets, size_t count, size_t max);
 
-/* Writes the same objects without fillers and with each length in its shortest form. Room: `count` suffices.
- * OK, SHORT, AT, MEMORY, ARGUMENT. */
+/* Writes the same objects without fillers and with each length in its shortest form. Room: `count` suffices. The octets
+ * are gone over twice, and those of an object are moved once for each object that it is in. No memory.
+ * OK, SHORT, AT, ARGUMENT.
+ */
 SCARD_MUST_USE
 struct scard_verdict scard_tlv_tidy(const uint8_t *octets, size_t count, size_t max, uint8_t *out, size_t room);
 
