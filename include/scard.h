@@ -1053,8 +1053,11 @@ enum scard_owed {
     SCARD_OWED_IFS_RESPONSE = 9,
     SCARD_OWED_ABORT_RESPONSE = 10,
     SCARD_OWED_WTX_RESPONSE = 11,
-    SCARD_OWED_EITHER_BLOCK = 12,     /* the first I-block of a message, or an R-block: after ABORT */
-    SCARD_OWED_ANY_BLOCK = 13         /* nobody knows, since the line damaged its last block */
+    SCARD_OWED_EITHER_BLOCK = 12,     /* the first I-block of a message, or an R-block that hands over: after ABORT */
+    SCARD_OWED_ANY_BLOCK = 13,        /* nobody knows, since the line damaged its last block */
+    SCARD_OWED_MESSAGE_OR_CORRECTION = 14,      /* as 1 or 5: the R-block hands over, or asks for the last one again */
+    SCARD_OWED_MESSAGE_OR_REFUSAL = 15,         /* as 1, or the refusal of the I-block before its request */
+    SCARD_OWED_ACKNOWLEDGMENT_OR_REFUSAL = 16   /* as 3, or the refusal of the I-block before its request */
 };
 
 /* A request of an end that waits for its response. */
@@ -1099,6 +1102,7 @@ struct scard_lent_sender {
     uint8_t before;
     uint8_t before_octet;
     uint8_t tries;
+    uint8_t row;
     uint8_t room;
     uint8_t first_room;
     uint8_t known;

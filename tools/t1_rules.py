@@ -74,15 +74,16 @@ class End:
 
     def __init__(self, side, room, owed):
         self.side, self.room, self.first_room, self.owed = side, room, room, owed
-        self.next = self.expects = self.tries = self.earlier = self.resynchs = 0
+        self.next = self.expects = self.tries = self.row = self.resynchs = 0
+        self.earlier = 0, 0
         self.last = self.asked = self.before = self.about = None
-        self.in_chain = self.hears_chain = self.is_aborted = self.may_refuse = False
+        self.in_chain = self.hears_chain = self.is_aborted = self.may_refuse = self.refuses_later = False
 
     def begins_again(self):
         """What RESYNCH leaves: new numbers, no chain, and the larger size."""
         self.next = self.expects = 0
         self.last = None
-        self.in_chain = self.hears_chain = self.is_aborted = self.may_refuse = False
+        self.in_chain = self.hears_chain = self.is_aborted = self.may_refuse = self.refuses_later = False
         self.room = max(self.room, self.first_room)
 
     # ---- what it hears
@@ -104,7 +105,8 @@ class End:
 
     def goes_on(self, owed):
         """It heard a block in order."""
-        self.owed, self.earlier, self.tries = owed, self.tries, 0
+        self.owed, self.earlier = owed, (self.tries, self.row)
+        self.tries = self.row = 0
 
     def hears_information(self, block):
         """An I-block: the one that it expects, or none that it can use, as within its own chain."""
@@ -121,7 +123,7 @@ class End:
         if self.asked:
             self.fails()
         elif self.is_aborted and block.number == self.next:
-            self.goes_on("message")
+            self.owed = "message_or_correction"
         elif self.last and block.number != self.next:
             self.owed = "repeat"
         elif self.in_chain and block.number == self.next:
@@ -140,6 +142,8 @@ class End:
             if block.subject == "ABORT":
                 self.in_chain = self.hears_chain = False
             self.goes_on({"RESYNCH": "message", "ABORT": "either"}.get(block.subject, self.before))
+            self.may_refuse = self.refuses_later and block.subject in ("IFS", "WTX")
+            self.earlier = 0, 0
 
     def hears_request(self, block):
         """A request: an answer is due, but where its own request waits, unless all begins again."""
@@ -196,13 +200,13 @@ class End:
 
     def is_refusal(self, block):
         """Whether an R-block refuses, as another error, the I-block that came whole: a correction like others."""
-        is_often = self.side == "terminal" and self.earlier >= MOST
+        is_often = self.side == "terminal" and self.earlier[1] >= MOST
         return self.may_refuse and block.number != self.expects and block.code == 2 and not is_often
 
     def breaks_in_order(self, block):
         """A request in place of the block that is due in order; RESYNCH where the block before may be refused again."""
         if block.subject == "RESYNCH":
-            return None if self.may_refuse and self.earlier >= LEAST else "RESYNCH too early"
+            return None if self.may_refuse and self.earlier[0] >= LEAST else "RESYNCH too early"
         if block.subject == "ABORT" and not (self.in_chain or self.hears_chain):
             return "ABORT outside a chain"
         return None
@@ -215,15 +219,21 @@ class End:
             return self.breaks_receipt(block)
         return None if block.number == self.next else "sequence number"
 
+    def breaks_message_or_correction(self, block):
+        """After ABORT and an R-block, which hands over or asks for the last R-block again: a message, or that."""
+        if block.kind == "R":
+            return self.breaks_correction(block)
+        return self.breaks_either(block)
+
     def breaks_often(self, block, otherwise):
         """What else an end may send that repeats or corrects, and whether it does so too often."""
         if block.is_request("RESYNCH") and self.tries < LEAST:
             return "RESYNCH too early"
         return None if block.is_request("RESYNCH") else otherwise
 
-    def too_many(self):
+    def too_many(self, count):
         """A terminal that repeated as often as it may."""
-        return "too many repeats" if self.side == "terminal" and self.tries >= MOST else None
+        return "too many repeats" if self.side == "terminal" and count >= MOST else None
 
     def breaks_repeat(self, block):
         """Its last I-block once more."""
@@ -231,20 +241,20 @@ class End:
             return self.breaks_often(block, "no repeat")
         if block.number == self.next:
             return "sequence number"
-        return self.too_many() if (block.pcb, block.field) == self.last else "repeat with other octets"
+        return self.too_many(self.row) if (block.pcb, block.field) == self.last else "repeat with other octets"
 
     def breaks_correction(self, block):
         """An R-block after an error."""
         if block.kind != "R":
             return self.breaks_often(block, "no R-block")
-        return self.too_many() if block.number == self.expects else "sequence number"
+        return self.too_many(self.row) if block.number == self.expects else "sequence number"
 
     def breaks_request(self, block):
         """Its request once more; RESYNCH in its place."""
         if block.is_request("RESYNCH"):
             return "too many repeats" if self.resynchs >= RESYNCHS else None
         if block.is_request(*SUBJECTS) and (block.subject, block.octet) == self.asked:
-            return self.too_many()
+            return self.too_many(self.tries)
         return "no repeated request"
 
     def breaks_response(self, block):
@@ -260,14 +270,17 @@ class End:
                 "nothing": information, "repeat": f"I-block {1 - self.next} again",
                 "request": f"{self.asked and self.asked[0]} request again",
                 "response": f"{self.about and self.about.subject} response",
-                "either": f"{information} or {receipt}"}[self.owed]
+                "either": f"{information} or {receipt}",
+                "message_or_correction": f"{information} or {receipt}"}[self.owed]
 
     # ---- what it sends
 
     def sends(self, block):
         """It sent a block that breaks no rule."""
-        if self.owed in ("repeat", "correction", "request"):
+        corrects = self.owed == "message_or_correction" and block.kind == "R"
+        if corrects or self.owed in ("repeat", "correction", "request"):
             self.tries += 1
+            self.row += 1
         {"I": self.sends_information, "R": self.sends_receipt, "S": self.sends_supervision}[block.kind](block)
 
     def sends_information(self, block):
@@ -276,11 +289,13 @@ class End:
             self.last, self.in_chain = (block.pcb, block.field), block.more
             self.next ^= 1
             self.hears_chain = self.is_aborted = False
+            self.tries = self.row = 0
 
     def sends_receipt(self, block):
         """A refused I-block is expected again."""
         if block.number != self.expects:
-            self.expects, self.tries = block.number, self.earlier + 1
+            self.expects = block.number
+            self.tries, self.row = (count + 1 for count in self.earlier)
 
     def sends_supervision(self, block):
         """A request waits for its response; a response changes what it agrees to."""
@@ -289,13 +304,15 @@ class End:
             return
         if not self.asked:
             self.before = self.owed
+            self.refuses_later = self.may_refuse and (self.side == "card" or self.owed == "acknowledgment")
         self.asked = (block.subject, block.octet)
         if block.subject == "RESYNCH":
             self.resynchs += 1
             self.begins_again()
 
     def agrees(self, block):
-        """A response: a size, new numbers, or the end of a chain."""
+        """A response: a size, new numbers, or the end of a chain. It ends a row of repeats."""
+        self.row = 0
         if block.subject == "IFS":
             self.room = block.octet
         elif block.subject == "RESYNCH":

@@ -26,11 +26,12 @@ const WANTED = {
 
 const iBlock = ({ next }) => `I-block ${next}`;
 const rBlock = ({ expects }) => `R-block ${expects}`;
+const either = (due) => `${iBlock(due)} or ${rBlock(due)}`;
 const REQUESTS = ["its", "IFS", "WTX", "ABORT", "RESYNCH"];
 // What was due of an end, by the numbers that the header has for what it owed.
 const DUE = [() => "", iBlock, iBlock, rBlock, ({ next }) => `${iBlock({ next: 1 - next })} again`, rBlock, rBlock,
   ({ asked }) => `${REQUESTS[asked]} request again`, ...SUBJECTS.map((name) => () => `${name} response`),
-  (due) => `${iBlock(due)} or ${rBlock(due)}`, () => "any block"];
+  either, () => "any block", either, iBlock, rBlock];
 
 // So many things, in words.
 const several = (count, name) => `${count} ${name}${count === 1 ? "" : "s"}`;

@@ -123,12 +123,13 @@ static void places(void)
     PLACE(scard_note, after_size, 24);
     PLACE(scard_note, number, 32);
     PLACE(scard_note, has_number, 36);
-    PLACE(scard_lent_sender, aborted, 12);
+    PLACE(scard_lent_sender, row, 9);
+    PLACE(scard_lent_sender, aborted, 13);
     PLACE(scard_lent_heard, octet, 4);
     PLACE(scard_lent_watched, sender, 8);
-    PLACE(scard_lent_watched, heard, 21);
-    PLACE(scard_lent_watched, last_len, 26);
-    PLACE(scard_lent_watched, last, 27);
+    PLACE(scard_lent_watched, heard, 22);
+    PLACE(scard_lent_watched, last_len, 27);
+    PLACE(scard_lent_watched, last, 28);
     PLACE(scard_lent_judge, card, 288);
     PLACE(scard_lent_judge, blocks, 576);
     PLACE(scard_lent_judge, nad, 585);

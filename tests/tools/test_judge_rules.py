@@ -10,10 +10,13 @@ sys.dont_write_bytecode = True
 TOP = pathlib.Path(__file__).resolve().parents[2]
 sys.path.insert(0, str(TOP / "tools"))
 from next_blocks import HISTORIES, IFSC, SIDES, Session, damaged, octets_of, receipt, rows, text
-from t1_rules import Line, block_of, clauses
+from t1_rules import End, Line, block_of, clauses
 
 # a card that sends nothing: no next block shows that
 SILENCE = "no block"
+# what an end can owe
+STATES = {"nothing", "message", "next", "acknowledgment", "repeat", "correction", "request", "response", "either",
+          "message_or_correction"}
 
 
 def broken(steps, word):
@@ -47,6 +50,31 @@ class Rules(unittest.TestCase):
     def test_refusals_count_as_corrections(self):
         self.assertEqual(broken("t:I0 c:I0 t:R0.2 c:I0 t:R0.2 c:I0", "R0.2")[0], None)
         self.assertEqual(broken("t:I0 c:I0 t:R0.2 c:I0 t:R0.2 c:I0 t:R0.2 c:I0", "R0.2")[0], "no I-block")
+
+    def test_a_response_ends_a_row_of_repeats(self):
+        repeated = "t:I0! c:R0.1 t:I0! c:R0.1 t:I0! c:R0.1 t:I0 "
+        self.assertEqual(broken(repeated + "c:I0!", "R0.1")[0], "too many repeats")
+        for asked in ("c:WTX t:wtx", "c:IFS t:ifs"):
+            self.assertEqual(broken(f"{repeated}{asked} c:I0!", "R0.1")[0], None)
+            self.assertEqual(broken(f"{repeated}{asked} c:I0!", "RESYNCH")[0], None)
+
+    def test_a_hand_over_may_be_a_correction(self):
+        handed = "t:I0 c:I0+ t:ABORT c:abort t:R1"
+        for word in ("I1", "R1.0", "R1.1", "R1.2"):
+            self.assertEqual(broken(handed, word), (None, "I-block 1 or R-block 1"))
+
+    def test_a_block_may_be_refused_after_a_request(self):
+        for asked in ("c:WTX t:wtx", "c:IFS t:ifs"):
+            self.assertEqual(broken(f"t:I0 {asked}", "R0.2")[0], None)
+            self.assertEqual(broken(f"t:I0 {asked}", "R0.1")[0], "no I-block")
+            self.assertEqual(broken(f"t:I0+ {asked}", "R0.2")[0], None)
+        self.assertEqual(broken("t:I0 c:I0 t:IFS c:ifs", "R0.2")[0], "no I-block")
+
+    def test_each_state_of_an_end_is_in_some_history(self):
+        sessions = [Session(steps) for _, steps in HISTORIES]
+        owed = {(session.turn, session.line.ends[SIDES[session.turn]].owed) for session in sessions}
+        self.assertTrue(all(hasattr(End, f"breaks_{state}") for state in STATES - {"nothing"}))
+        self.assertEqual({state for _, state in owed}, STATES)
 
     def test_a_session_goes_on_only_by_what_is_permitted(self):
         line = Line(IFSC)

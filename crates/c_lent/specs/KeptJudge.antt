@@ -16,7 +16,7 @@ use Rattle.judge_core.specs.declared.end.Pending.TheVariants.{Settled, Chain, La
 use Rattle.judge_core.specs.declared.end.Asked.{Asked}
 use Rattle.judge_core.specs.declared.end.Asked.TheVariants.{Size, Time, Stop, Anew}
 use Rattle.judge_core.specs.declared.end.Owed.{Owed}
-use Rattle.judge_core.specs.declared.end.Owed.TheVariants.{NewMessage, NextBlock, Acknowledgment, SameBlock, Correction, Refusal, SameRequest, Answer, EitherBlock, AnyBlock}
+use Rattle.judge_core.specs.declared.end.Owed.TheVariants.{NewMessage, NextBlock, Acknowledgment, SameBlock, Correction, Refusal, SameRequest, Answer, EitherBlock, MessageOrCorrection, MessageOrRefusal, AcknowledgmentOrRefusal, AnyBlock}
 use Rattle.judge_core.specs.declared.end.End.{End}
 use Rattle.judge_core.specs.declared.courses.Heard.{Heard}
 use Rattle.judge_core.specs.declared.courses.Heard.TheVariants.{Beginning, Whole, Perhaps, Broken, Nothing}
@@ -83,7 +83,10 @@ owed_in kind octet =
     else (if kind == 9 then Answer Ifs octet
     else (if kind == 10 then Answer Abort octet
     else (if kind == 11 then Answer Wtx octet
-    else (if kind == 12 then EitherBlock else AnyBlock)))))))))))
+    else (if kind == 12 then EitherBlock
+    else (if kind == 14 then MessageOrCorrection
+    else (if kind == 15 then MessageOrRefusal
+    else (if kind == 16 then AcknowledgmentOrRefusal else AnyBlock))))))))))))))
 
 -- the number of what is due, and the octet that a response carries
 abbrev pub owed_told : Owed → ℕ × ℕ
@@ -100,6 +103,9 @@ owed_told (Answer Abort octet) = (10, octet)
 owed_told (Answer Wtx octet) = (11, octet)
 owed_told EitherBlock = (12, 0)
 owed_told AnyBlock = (13, 0)
+owed_told MessageOrCorrection = (14, 0)
+owed_told MessageOrRefusal = (15, 0)
+owed_told AcknowledgmentOrRefusal = (16, 0)
 
 -- what a block is: its kind, its number or its subject, and whether more follow or the fault
 abbrev pub pcb_in : ℕ → ℕ → ℕ → Pcb
@@ -127,6 +133,7 @@ end_of c = record {
   asked = asked_in c.asked c.asked_octet;
   before = owed_in c.before c.before_octet;
   tries = c.tries;
+  row = c.row;
   room = c.room;
   first_room = c.first_room;
   known = mark_in c.known;

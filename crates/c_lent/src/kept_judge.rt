@@ -25,6 +25,7 @@ pub struct CEnd {
     pub before: u8,
     pub before_octet: u8,
     pub tries: u8,
+    pub row: u8,
     pub room: u8,
     pub first_room: u8,
     pub known: u8,
@@ -211,6 +212,9 @@ fn owed_in(kind: u8, octet: u8) -> Owed
         10 => Owed::Answer(S::Abort, octet),
         11 => Owed::Answer(S::Wtx, octet),
         12 => Owed::EitherBlock,
+        14 => Owed::MessageOrCorrection,
+        15 => Owed::MessageOrRefusal,
+        16 => Owed::AcknowledgmentOrRefusal,
         _ => Owed::AnyBlock,
     }
 }
@@ -234,6 +238,9 @@ pub(crate) fn owed(owed: Owed) -> (u8, u8)
         Owed::Answer(S::Wtx, octet) => (11, octet),
         Owed::EitherBlock => (12, 0),
         Owed::AnyBlock => (13, 0),
+        Owed::MessageOrCorrection => (14, 0),
+        Owed::MessageOrRefusal => (15, 0),
+        Owed::AcknowledgmentOrRefusal => (16, 0),
     }
 }
 
@@ -346,6 +353,7 @@ impl CEnd {
             before,
             before_octet,
             tries: end.tries,
+            row: end.row,
             room: end.room,
             first_room: end.first_room,
             known: mark(end.known),
@@ -364,6 +372,7 @@ impl CEnd {
             asked: asked_in(self.asked, self.asked_octet),
             before: owed_in(self.before, self.before_octet),
             tries: self.tries,
+            row: self.row,
             room: self.room,
             first_room: self.first_room,
             known: mark_in(self.known),

@@ -17,7 +17,7 @@ use Rattle.judge_core.specs.declared.end.Pending.TheVariants.{Settled, Chain, La
 use Rattle.judge_core.specs.declared.end.Asked.{Asked}
 use Rattle.judge_core.specs.declared.end.Asked.TheVariants.{Size, Time, Stop, Anew}
 use Rattle.judge_core.specs.declared.end.Owed.{Owed}
-use Rattle.judge_core.specs.declared.end.Owed.TheVariants.{NewMessage, NextBlock, Acknowledgment, SameBlock, Correction, Refusal, SameRequest, Answer, EitherBlock, AnyBlock}
+use Rattle.judge_core.specs.declared.end.Owed.TheVariants.{NewMessage, NextBlock, Acknowledgment, SameBlock, Correction, Refusal, SameRequest, Answer, EitherBlock, MessageOrCorrection, MessageOrRefusal, AcknowledgmentOrRefusal, AnyBlock}
 use Rattle.judge_core.specs.declared.end.End.{End}
 use Rattle.judge_core.specs.declared.end.After.{After}
 use Rattle.judge_core.specs.declared.rule.Rule.{Rule}
@@ -98,7 +98,7 @@ acknowledgment_refusal : (e : End) (x : Number)
     → Alike (after (taking e x) Acknowledgment) (after (expecting e x) Refusal)
 acknowledgment_refusal e x last (Info number more) inf = tt
 acknowledgment_refusal e x last (Ready number Free) inf =
-    by_first (if same number (other x) then Ok (record (taking e x) { tries = 0 }) else Err SequenceNumber) _
+    by_first (if same number (other x) then Ok (record (taking e x) { tries = 0; row = 0 }) else Err SequenceNumber) _
 acknowledgment_refusal e x last (Ready number Redundancy) inf = tt
 acknowledgment_refusal e x last (Ready number Other) inf = tt
 acknowledgment_refusal e x last (Request Resynch) inf = tt
@@ -167,6 +167,16 @@ repeat_correction e last (Request Ifs) inf = tt
 repeat_correction e last (Request Abort) inf = tt
 repeat_correction e last (Request Wtx) inf = tt
 repeat_correction e last (Response s) inf = tt
+
+either_correction : (e : End) → Alike (after (free e) MessageOrCorrection) (after (free e) Correction)
+either_correction e last (Info number more) inf = by_first _ _
+either_correction e last (Ready number fault) inf = itself (sends_ready (free e) number)
+either_correction e last (Request Resynch) inf =
+    where_then (nat_le least_repeats e.tries) (asking (free e) NewMessage Resynch 0) _
+either_correction e last (Request Ifs) inf = tt
+either_correction e last (Request Abort) inf = tt
+either_correction e last (Request Wtx) inf = tt
+either_correction e last (Response s) inf = tt
 
 answer_correction : (e f : End) (s : S) (n : ℕ) → Alike (after e (Answer s n)) (after f Correction)
 answer_correction e f s n last (Info number more) inf = tt
@@ -253,6 +263,9 @@ resynch_row e asked SameRequest last inf =
     then_where (nat_le least_repeats e.tries) (asking (free e) NewMessage Resynch 0) _
 resynch_row e asked (Answer s n) last inf = tt
 resynch_row e asked EitherBlock last inf = refl
+resynch_row e asked MessageOrCorrection last inf = refl
+resynch_row e asked MessageOrRefusal last inf = refl
+resynch_row e asked AcknowledgmentOrRefusal last inf = tt
 resynch_row e asked AnyBlock last inf = refl
 
 size_row : (e : End) (n : ℕ) (owed : Owed) (last inf : List ℕ) → Same
@@ -267,6 +280,12 @@ size_row e n Refusal last inf = tt
 size_row e n SameRequest last inf = tt
 size_row e n (Answer s m) last inf = tt
 size_row e n EitherBlock last inf = first_size e.side e EitherBlock (Size n) (carried inf == n) (carried inf)
+size_row e n MessageOrCorrection last inf =
+    first_size e.side e MessageOrCorrection (Size n) (carried inf == n) (carried inf)
+size_row e n MessageOrRefusal last inf =
+    first_size e.side e MessageOrRefusal (Size n) (carried inf == n) (carried inf)
+size_row e n AcknowledgmentOrRefusal last inf =
+    first_size e.side e AcknowledgmentOrRefusal (Size n) (carried inf == n) (carried inf)
 size_row e n AnyBlock last inf = first_size e.side e AnyBlock (Size n) (carried inf == n) (carried inf)
 
 time_row : (e : End) (n : ℕ) (owed : Owed) (last inf : List ℕ) → Same
@@ -281,6 +300,12 @@ time_row e n Refusal last inf = tt
 time_row e n SameRequest last inf = tt
 time_row e n (Answer s m) last inf = tt
 time_row e n EitherBlock last inf = first_time e.side e EitherBlock (Time n) (carried inf == n) (carried inf)
+time_row e n MessageOrCorrection last inf =
+    first_time e.side e MessageOrCorrection (Time n) (carried inf == n) (carried inf)
+time_row e n MessageOrRefusal last inf =
+    first_time e.side e MessageOrRefusal (Time n) (carried inf == n) (carried inf)
+time_row e n AcknowledgmentOrRefusal last inf =
+    first_time e.side e AcknowledgmentOrRefusal (Time n) (carried inf == n) (carried inf)
 time_row e n AnyBlock last inf = first_time e.side e AnyBlock (Time n) (carried inf == n) (carried inf)
 
 size_request : (e : End) (n : ℕ) (owed : Owed)
@@ -410,9 +435,9 @@ missed_ready e Last true aborted = both (after (record (having e Last) { aborted
 missed_ready e Last false aborted = together e.side (record (having e Last) { aborted = aborted })
     (record (having e Last) { aborted = aborted }) SameBlock Correction
     (repeat_correction (record (having e Last) { aborted = aborted }))
-missed_ready e Settled true true = together e.side (record (having e Settled) { aborted = false })
-    (record (having e Settled) { aborted = true }) NewMessage Correction
-    (message_correction (record (having e Settled) { aborted = true }) e.next e.expects Settled false)
+missed_ready e Settled true true = together e.side (record (having e Settled) { aborted = true })
+    (record (having e Settled) { aborted = true }) MessageOrCorrection Correction
+    (either_correction (record (having e Settled) { aborted = true }))
 missed_ready e Settled true false = both (after (record (having e Settled) { aborted = false }) Correction)
 missed_ready e Settled false aborted = both (after (record (having e Settled) { aborted = aborted }) Correction)
 

@@ -20,7 +20,7 @@ use Rattle.judge_core.specs.declared.end.Pending.TheVariants.{Settled, Chain, La
 use Rattle.judge_core.specs.declared.end.Asked.{Asked as Question}
 use Rattle.judge_core.specs.declared.end.Asked.TheVariants.{Size, Time}
 use Rattle.judge_core.specs.declared.end.Owed.{Owed}
-use Rattle.judge_core.specs.declared.end.Owed.TheVariants.{NewMessage, NextBlock, Acknowledgment, SameBlock, Correction, Refusal, SameRequest, Answer}
+use Rattle.judge_core.specs.declared.end.Owed.TheVariants.{NewMessage, NextBlock, Acknowledgment, SameBlock, Correction, Refusal, SameRequest, Answer, MessageOrRefusal}
 use Rattle.judge_core.specs.declared.end.End.{End}
 use Rattle.judge_core.specs.declared.courses.Heard.{Heard}
 use Rattle.judge_core.specs.declared.courses.Heard.TheVariants.{Whole, Perhaps, Nothing}
@@ -71,6 +71,7 @@ busy next expects pending before room first aborted = record {
   asked = None;
   before = before;
   tries = 0;
+  row = 0;
   room = room;
   first_room = first;
   known = true;
@@ -92,17 +93,28 @@ question (time n) = Time n
 abbrev pub inquiring : (c : CardState) → SpareOf c → Pending → Bool → CardRequest → End
 inquiring c x pending aborted asked = record (rested c x pending aborted) {
   asked = Some (question asked);
-  before = NewMessage;
+  before = MessageOrRefusal;
 }
 
 abbrev pub InTalk : CardState → Kind → Watched → Type 0
 InTalk c k w = (x : SpareOf c) × (hearing w Nothing ≡ watched (in_talk c x k) Nothing (last_of k))
 
+-- it owes a message, which it may refuse to send
+abbrev pub OwesMessage : End → Owed → Type 0
+OwesMessage e owed = ((last : List ℕ) (number : Number) (more : Bool) (inf : List ℕ)
+    → sends e owed last (Info number more) inf ≡ judge_info e number more inf)
+    × ((last : List ℕ) (n : ℕ) → sends e owed last (Request Wtx) (n ∷ [])
+    ≡ Ok (record e { asked = Some (Time n); before = MessageOrRefusal; tries = 0; row = 0; known = true }))
+    × ((last : List ℕ) (n : ℕ) → sends e owed last (Request Ifs) (n ∷ [])
+    ≡ Ok (record e { asked = Some (Size n); before = MessageOrRefusal; tries = 0; row = 0; known = true }))
+
 pub record Rests (c : CardState) (w : Watched) : Type 0 where
   pub spare : SpareOf c
   pub pending : Pending
   pub aborted : Bool
-  pub owes : got_whole w.«end» w.heard ≡ Some (after (rested c spare pending aborted) NewMessage)
+  pub owed : Owed
+  pub owes : got_whole w.«end» w.heard ≡ Some (after (rested c spare pending aborted) owed)
+  pub message : OwesMessage (rested c spare pending aborted) owed
 
 abbrev pub Listens : CardState → Option (List ℕ) → List ℕ → Watched → Type 0
 Listens c None joined w = (last : List ℕ) × InTalk c (listens joined last) w
@@ -369,8 +381,10 @@ joining c k saved x view joined number false inf h after_it in_order = (
     spare = x;
     pending = Settled;
     aborted = false;
+    owed = NewMessage;
     owes = whole_at view (in_talk c x k) (Info number false) inf ∙ ap Some (taken c k x number false h in_order
         ∙ ap (λ n. after (busy n (other c.expected) Settled x.before x.room x.first false) NewMessage) after_it);
+    message = ((λ last n m i. refl), (λ last n. refl), (λ last n. refl));
   },
 )
 
@@ -586,13 +600,21 @@ asking_still c asked x pending aborted last view came h =
 
 rests_again : (c : CardState) (x : SpareOf c) (pending : Pending) (aborted : Bool) (e : End) (heard : Heard)
     (last : List ℕ)
-    → got_whole e heard ≡ Some (after (record (rested c x pending aborted) { before = NewMessage }) NewMessage)
+    → got_whole e heard ≡ Some (after (record (rested c x pending aborted) { before = MessageOrRefusal }) MessageOrRefusal)
     → Rests c (watched e heard last)
 rests_again c x pending aborted e heard last owes = record {
-  spare = record { before = NewMessage; room = x.room; first = x.first; room_ok = x.room_ok; first_ok = x.first_ok };
+  spare = record {
+    before = MessageOrRefusal;
+    room = x.room;
+    first = x.first;
+    room_ok = x.room_ok;
+    first_ok = x.first_ok;
+  };
   pending = pending;
   aborted = aborted;
+  owed = MessageOrRefusal;
   owes = owes;
+  message = ((λ last n m i. refl), (λ last n. refl), (λ last n. refl));
 }
 
 all_asking : (c : CardState) (asked : CardRequest) (x : SpareOf c) (pending : Pending) (aborted : Bool) (last : List ℕ)
@@ -672,7 +694,7 @@ all_asking c (time n) x pending aborted last view quiet = asking_still c (time n
 replying : (c : CardState) (w : Watched) (octets : List ℕ) → Rests c w
     → Outcome w (if nat_le (length octets) c.limits.answer then sends_next c octets else Err TooLong)
 replying c w octets r = with_test (Outcome w) (nat_le (length octets) c.limits.answer) _ _
-    (λ h. cutting w c r.spare r.pending r.aborted NewMessage octets (inl r.owes) (λ n b i. refl))
+    (λ h. cutting w c r.spare r.pending r.aborted r.owed octets (inl r.owes) (r.message.0 w.last))
     (λ h. tt)
 
 asking_time : (c : CardState) (w : Watched) (n : ℕ) → Rests c w
@@ -680,8 +702,8 @@ asking_time : (c : CardState) (w : Watched) (n : ℕ) → Rests c w
 asking_time c w n r =
     let e1 = inquiring c r.spare r.pending r.aborted (time n) in
     said w (request_block (time n)) (record c { waits = asking (time n) }) e1
-    (passes w.«end» w.heard w.last (Request Wtx) (n ∷ []) (after (rested c r.spare r.pending r.aborted) NewMessage) e1
-    (inl r.owes) refl) tt tt
+    (passes w.«end» w.heard w.last (Request Wtx) (n ∷ []) (after (rested c r.spare r.pending r.aborted) r.owed) e1
+    (inl r.owes) (r.message.1 w.last n)) tt tt
     (r.spare, r.pending, r.aborted, w.last, refl)
 
 asking_size : (c : CardState) (w : Watched) (n : ℕ) → Rests c w
@@ -692,8 +714,8 @@ asking_size c w n r =
     with_test (Outcome w) (is_reserved n) _ _
     (λ h. tt)
     (λ h. said w (request_block (size n)) (record c { waits = asking (size n) }) e1
-    (passes w.«end» w.heard w.last (Request Ifs) (n ∷ []) (after (rested c r.spare r.pending r.aborted) NewMessage) e1
-    (inl r.owes) refl) tt tt
+    (passes w.«end» w.heard w.last (Request Ifs) (n ∷ []) (after (rested c r.spare r.pending r.aborted) r.owed) e1
+    (inl r.owes) (r.message.2 w.last n)) tt tt
     (r.spare, r.pending, r.aborted, w.last, refl))
 
 -- ---- any turn of the card

@@ -203,6 +203,7 @@ terminal_starts ifsc limits = record {
   spare = record { before = NewMessage; room = ifsc; first = ifsc; room_ok = omega arith; first_ok = omega arith };
   pending = Settled;
   tries = 0;
+  row = 0;
   aborted = false;
   owes = refl;
 }

@@ -23,10 +23,11 @@ use Rattle.judge_core.specs.declared.end.Owed.{Owed}
 use Rattle.judge_core.specs.declared.end.Owed.TheVariants.{NewMessage, NextBlock, Acknowledgment, SameBlock, Correction, Refusal, SameRequest, Answer}
 use Rattle.judge_core.specs.declared.end.End.{End}
 use Rattle.judge_core.specs.declared.end.After.{After}
+use Rattle.judge_core.specs.declared.rule.Rule.TheVariants.{TooManyRepeats}
 use Rattle.judge_core.specs.declared.courses.Heard.{Heard}
 use Rattle.judge_core.specs.declared.courses.Heard.TheVariants.{Whole, Perhaps, Broken}
 use Rattle.judge_core.specs.Ends.{after, due_after, hears, hears_info, hears_ready, is_chain}
-use Rattle.judge_core.specs.Sends.{sends, sends_info as judge_info, least_repeats, is_pending, pending_of}
+use Rattle.judge_core.specs.Sends.{sends, sends_info as judge_info, least_repeats, one_more, is_pending, pending_of}
 use Rattle.judge_core.specs.Courses.{got_whole}
 use Rattle.judge_core.specs.Followed.{last_after}
 use Rattle.judge_core.specs.Watched.{Watched, after_sending, hearing, judged_of}
@@ -63,8 +64,8 @@ next_with (chain field rest) number = other number
 next_with (ends field) number = other number
 next_with (further joined last) number = number
 
-abbrev pub busy : Number → Number → Pending → Owed → ℕ → ℕ → ℕ → End
-busy next expects pending before tries room first = record {
+abbrev pub busy : Number → Number → Pending → Owed → ℕ → ℕ → ℕ → ℕ → End
+busy next expects pending before tries row room first = record {
   side = Terminal;
   next = next;
   expects = expects;
@@ -72,41 +73,52 @@ busy next expects pending before tries room first = record {
   asked = None;
   before = before;
   tries = tries;
+  row = row;
   room = room;
   first_room = first;
   known = true;
   aborted = false;
 }
 
-abbrev pub in_talk : (t : TerminalState) → SpareOf t → Kind → End
+-- in an exchange it repeated no more often in a row than it counts failures
+pub record Talk (ifsc first_ifsc failures : ℕ) : Type 0 where
+  pub spare : Spare ifsc first_ifsc
+  pub row : ℕ
+  pub few : row ≤ failures
+
+abbrev pub TalkOf : TerminalState → Type 0
+TalkOf t = Talk t.ifsc t.first_ifsc t.failures
+
+abbrev pub in_talk : (t : TerminalState) → TalkOf t → Kind → End
 in_talk t x k =
-    busy (next_with k t.number) t.expected (pending_with k) x.before t.failures x.room x.first
+    busy (next_with k t.number) t.expected (pending_with k) x.spare.before t.failures x.row x.spare.room x.spare.first
 
 -- it may begin a message
-abbrev pub rested : (t : TerminalState) → SpareOf t → Pending → ℕ → Bool → End
-rested t x pending tries aborted = record (busy t.number t.expected pending x.before tries x.room x.first)
+abbrev pub rested : (t : TerminalState) → SpareOf t → Pending → ℕ → ℕ → Bool → End
+rested t x pending tries row aborted = record (busy t.number t.expected pending x.before tries row x.room x.first)
     { aborted = aborted }
 
 -- it asked for a size
 abbrev pub sizing : (t : TerminalState) → SpareOf t → Pending → Bool → ℕ → ℕ → End
-sizing t x pending aborted tries size = record (rested t x pending tries aborted) {
+sizing t x pending aborted tries size = record (rested t x pending tries 0 aborted) {
   asked = Some (Size size);
   before = NewMessage;
 }
 
 -- it asked for RESYNCH so often
 abbrev pub beginning : ℕ → ℕ → ℕ → End
-beginning room first tries = record (busy Zero Zero Settled NewMessage tries room first) { asked = Some Anew }
+beginning room first tries = record (busy Zero Zero Settled NewMessage tries 0 room first) { asked = Some Anew }
 
 abbrev pub InTalk : TerminalState → Kind → Watched → Type 0
-InTalk t k w = (x : SpareOf t) × (hearing w Broken ≡ watched (in_talk t x k) Broken (last_of k))
+InTalk t k w = (x : TalkOf t) × (hearing w Broken ≡ watched (in_talk t x k) Broken (last_of k))
 
 pub record Rests (t : TerminalState) (w : Watched) : Type 0 where
   pub spare : SpareOf t
   pub pending : Pending
   pub tries : ℕ
+  pub row : ℕ
   pub aborted : Bool
-  pub owes : got_whole w.«end» w.heard ≡ Some (after (rested t spare pending tries aborted) NewMessage)
+  pub owes : got_whole w.«end» w.heard ≡ Some (after (rested t spare pending tries row aborted) NewMessage)
 
 -- the watched end goes with the terminal's state
 abbrev pub Fits : TerminalState → Waits → Watched → Type 0
@@ -123,7 +135,7 @@ Fits t dead w = Unit {0}
 abbrev at : Waits → TerminalState → TerminalState
 at waits t = record t { waits = waits }
 
-fits_talk : (t : TerminalState) (k : Kind) (x : SpareOf t)
+fits_talk : (t : TerminalState) (k : Kind) (x : TalkOf t)
     → Fits (at (waits_of k) t) (waits_of k) (watched (in_talk t x k) Broken (last_of k))
 fits_talk t (chain field rest) x = (x, refl)
 fits_talk t (ends field) x = (x, refl)
@@ -191,22 +203,40 @@ busy_kind (chain field rest) = tt
 busy_kind (ends field) = tt
 busy_kind (further joined last) = tt
 
+-- a repeat more, in the row too
+counted : (n : ℕ) → nat_lt n most_repeats ≡ true → one_more n ≡ n + 1
+counted n h = grind (arith, nat_tests)
+
+rarely : (n row : ℕ) → row ≤ n → nat_lt n most_repeats ≡ true → nat_lt row most_repeats ≡ true
+rarely n row h k = grind (arith, nat_tests)
+
+abbrev once_more : (t : TerminalState) → TalkOf t → TalkOf (record t { failures = t.failures + 1 })
+once_more t x = record { spare = x.spare; row = x.row + 1; few = omega (arith, x.few) }
+
+repeated : (t : TerminalState) (x : TalkOf t) (e : End) → nat_lt t.failures most_repeats ≡ true
+    → (if nat_lt x.row most_repeats
+    then Ok (record e { tries = one_more t.failures; row = x.row + 1 })
+    else Err TooManyRepeats)
+    ≡ Ok (record e { tries = t.failures + 1; row = x.row + 1 })
+repeated t x e h = is_then (nat_lt x.row most_repeats) _ _ (rarely t.failures x.row x.few h)
+    ∙ ap (λ n. Ok (record e { tries = n; row = x.row + 1 })) (counted t.failures h)
+
 -- an R-block after an error
-correcting : (t : TerminalState) (k : Kind) (x : SpareOf t) (heard : Heard) (fault : Fault)
+correcting : (t : TerminalState) (k : Kind) (x : TalkOf t) (heard : Heard) (fault : Fault)
     → Course (in_talk t x k) heard (after (in_talk t x k) Correction)
     → Outcome (watched (in_talk t x k) heard (last_of k)) (fails (at (waits_of k) t) (ready t.expected fault))
 correcting t k x heard fault course =
     let e = in_talk t x k in
     failing (watched e heard (last_of k)) (at (waits_of k) t) (ready t.expected fault)
-    (record e { tries = t.failures + 1 }) (after e Correction) (max x.room x.first) x.first (busy_kind k) tt course
-    x.first_ok
+    (record e { tries = t.failures + 1; row = x.row + 1 }) (after e Correction) (max x.spare.room x.spare.first) x.spare.first (busy_kind k) tt course
+    x.spare.first_ok
     (λ h. is_then (same t.expected t.expected) _ _ (same_self t.expected)
-    ∙ is_then (nat_lt t.failures most_repeats) _ _ h)
+    ∙ repeated t x e h)
     (λ h. is_then (nat_le least_repeats t.failures) _ _ (early t.failures h))
-    (fits_talk (record t { failures = t.failures + 1 }) k x)
+    (fits_talk (record t { failures = t.failures + 1 }) k (once_more t x))
 
 -- an I-block is refused, as one that came, or as one that didn't
-refusing : (t : TerminalState) (k : Kind) (x : SpareOf t) (view : View) (number : Number) (goes_on : Bool)
+refusing : (t : TerminalState) (k : Kind) (x : TalkOf t) (view : View) (number : Number) (goes_on : Bool)
     (inf : List ℕ)
     → Outcome (watched (in_talk t x k) (heard_at view (got (Info number goes_on) inf)) (last_of k))
     (fails (at (waits_of k) t) (ready t.expected Other))
@@ -214,17 +244,17 @@ refusing t k x certain number goes_on inf =
     let e = in_talk t x k in
     failing (watched e (Whole (Info number goes_on) (carried inf)) (last_of k)) (at (waits_of k) t)
     (ready t.expected Other)
-    (record e { tries = t.failures + 1 }) (after e Refusal) (max x.room x.first) x.first (busy_kind k) tt (inr refl)
-    x.first_ok
+    (record e { tries = t.failures + 1; row = x.row + 1 }) (after e Refusal) (max x.spare.room x.spare.first) x.spare.first (busy_kind k) tt (inr refl)
+    x.spare.first_ok
     (λ h. is_then (same t.expected t.expected) _ _ (same_self t.expected)
-    ∙ is_then (nat_lt t.failures most_repeats) _ _ h)
+    ∙ repeated t x e h)
     (λ h. is_then (nat_le least_repeats t.failures) _ _ (early t.failures h))
-    (fits_talk (record t { failures = t.failures + 1 }) k x)
+    (fits_talk (record t { failures = t.failures + 1 }) k (once_more t x))
 refusing t k x (maybe sent octet) number goes_on inf =
     correcting t k x (Perhaps (Info number goes_on) (carried inf)) Other (inr refl)
 
 -- the I-block under way once more
-repeating : (t : TerminalState) (k : Kind) (x : SpareOf t) (heard : Heard) (goes_on : Bool)
+repeating : (t : TerminalState) (k : Kind) (x : TalkOf t) (heard : Heard) (goes_on : Bool)
     → Course (in_talk t x k) heard (after (in_talk t x k) SameBlock)
     → same t.number (next_with k t.number) ≡ false → is_pending (pending_with k) goes_on ≡ true
     → Outcome (watched (in_talk t x k) heard (last_of k))
@@ -232,41 +262,41 @@ repeating : (t : TerminalState) (k : Kind) (x : SpareOf t) (heard : Heard) (goes
 repeating t k x heard goes_on course other_number pending =
     let e = in_talk t x k in
     failing (watched e heard (last_of k)) (at (waits_of k) t) (info t.number goes_on (last_of k))
-    (record e { tries = t.failures + 1 }) (after e SameBlock) (max x.room x.first) x.first (busy_kind k) tt course
-    x.first_ok
+    (record e { tries = t.failures + 1; row = x.row + 1 }) (after e SameBlock) (max x.spare.room x.spare.first) x.spare.first (busy_kind k) tt course
+    x.spare.first_ok
     (λ h. is_else (same t.number (next_with k t.number)) _ _ other_number
     ∙ is_then (is_pending (pending_with k) goes_on) _ _ pending
     ∙ is_then (bytes_eq (last_of k) (last_of k)) _ _ (bytes_self (last_of k))
-    ∙ is_then (nat_lt t.failures most_repeats) _ _ h)
+    ∙ repeated t x e h)
     (λ h. is_then (nat_le least_repeats t.failures) _ _ (early t.failures h))
-    (fits_talk (record t { failures = t.failures + 1 }) k x)
+    (fits_talk (record t { failures = t.failures + 1 }) k (once_more t x))
 
 -- ---- a block of a message
 
 -- the rest of the message goes out
 fits_next : (t : TerminalState) (x : SpareOf t) (field rest : List ℕ)
     → Fits (record t { failures = 0; waits = waiting field rest }) (waiting field rest)
-    (watched (busy (other t.number) t.expected (pending_of (is_more rest)) x.before 0 x.room x.first) Broken field)
-fits_next t x field [] = (x, refl)
-fits_next t x field (octet ∷ rest) = (x, refl)
+    (watched (busy (other t.number) t.expected (pending_of (is_more rest)) x.before 0 0 x.room x.first) Broken field)
+fits_next t x field [] = (record { spare = x; row = 0; few = omega arith }, refl)
+fits_next t x field (octet ∷ rest) = (record { spare = x; row = 0; few = omega arith }, refl)
 
 busy_next : (field rest : List ℕ) → IsBusy (waiting field rest)
 busy_next field [] = tt
 busy_next field (octet ∷ rest) = tt
 
-cutting : (w : Watched) (t : TerminalState) (x : SpareOf t) (pending : Pending) (tries : ℕ) (aborted : Bool)
+cutting : (w : Watched) (t : TerminalState) (x : SpareOf t) (pending : Pending) (tries row : ℕ) (aborted : Bool)
     (owed : Owed) (octets : List ℕ)
-    → Course w.«end» w.heard (after (rested t x pending tries aborted) owed)
+    → Course w.«end» w.heard (after (rested t x pending tries row aborted) owed)
     → ((number : Number) (more : Bool) (inf : List ℕ)
-    → sends (rested t x pending tries aborted) owed w.last (Info number more) inf
-    ≡ judge_info (rested t x pending tries aborted) number more inf)
+    → sends (rested t x pending tries row aborted) owed w.last (Info number more) inf
+    ≡ judge_info (rested t x pending tries row aborted) number more inf)
     → Outcome w (sends_next (record t { failures = 0 }) octets)
-cutting w t x pending tries aborted owed octets course as_info =
+cutting w t x pending tries row aborted owed octets course as_info =
     let field = take t.ifsc octets in
     let rest = drop t.ifsc octets in
-    let e = rested t x pending tries aborted in
+    let e = rested t x pending tries row aborted in
     said w (info t.number (is_more rest) field) (record t { failures = 0; waits = waiting field rest })
-    (busy (other t.number) t.expected (pending_of (is_more rest)) x.before 0 x.room x.first)
+    (busy (other t.number) t.expected (pending_of (is_more rest)) x.before 0 0 x.room x.first)
     (passes w.«end» w.heard w.last (Info t.number (is_more rest)) field (after e owed) _ course
     (as_info t.number (is_more rest) field
     ∙ is_then (same t.number t.number) _ _ (same_self t.number)
@@ -275,7 +305,11 @@ cutting w t x pending tries aborted owed octets course as_info =
 
 -- ---- in an exchange
 
-size_told : (t : TerminalState) (k : Kind) (x : SpareOf t) (view : View) (inf : List ℕ)
+-- it takes another size
+abbrev roomy : (t : TerminalState) → SpareOf t → (n : ℕ) → SpareOf (record t { ifsc = n })
+roomy t x n = record { before = x.before; room = n; first = x.first; room_ok = omega arith; first_ok = x.first_ok }
+
+size_told : (t : TerminalState) (k : Kind) (x : TalkOf t) (view : View) (inf : List ℕ)
     → Outcome (watched (in_talk t x k) (heard_at view (got (Request Ifs) inf)) (last_of k))
     (in_exchange (at (waits_of k) t) (got (Request Ifs) inf))
 size_told t k x view inf =
@@ -283,23 +317,25 @@ size_told t k x view inf =
     let n = carried inf in
     said (watched e (heard_at view (got (Request Ifs) inf)) (last_of k)) (response Ifs inf)
     (record t { ifsc = n; waits = waits_of k })
-    (record e { room = n })
+    (record e { room = n; row = 0 })
     (passes e (heard_at view (got (Request Ifs) inf)) (last_of k) (Response Ifs) inf (after e (Answer Ifs n))
-    (record e { room = n })
+    (record e { room = n; row = 0 })
     (inl (whole_at view e (Request Ifs) inf)) (is_then (n == n) _ _ (equal_self n))) tt (busy_kind k)
     (fits_talk (record t { ifsc = n }) k
-    (record { before = x.before; room = n; first = x.first; room_ok = omega arith; first_ok = x.first_ok }))
+    (record { spare = roomy t x.spare n; row = 0; few = omega arith }))
 
-time_told : (t : TerminalState) (k : Kind) (x : SpareOf t) (view : View) (inf : List ℕ)
+time_told : (t : TerminalState) (k : Kind) (x : TalkOf t) (view : View) (inf : List ℕ)
     → Outcome (watched (in_talk t x k) (heard_at view (got (Request Wtx) inf)) (last_of k))
     (in_exchange (at (waits_of k) t) (got (Request Wtx) inf))
 time_told t k x view inf =
     let e = in_talk t x k in
     let n = carried inf in
     said (watched e (heard_at view (got (Request Wtx) inf)) (last_of k)) (response Wtx inf)
-    (record t { waits = waits_of k }) e
-    (passes e (heard_at view (got (Request Wtx) inf)) (last_of k) (Response Wtx) inf (after e (Answer Wtx n)) e
-    (inl (whole_at view e (Request Wtx) inf)) (is_then (n == n) _ _ (equal_self n))) tt (busy_kind k) (fits_talk t k x)
+    (record t { waits = waits_of k }) (record e { row = 0 })
+    (passes e (heard_at view (got (Request Wtx) inf)) (last_of k) (Response Wtx) inf (after e (Answer Wtx n))
+    (record e { row = 0 })
+    (inl (whole_at view e (Request Wtx) inf)) (is_then (n == n) _ _ (equal_self n))) tt (busy_kind k)
+    (fits_talk t k (record { spare = x.spare; row = 0; few = omega arith }))
 
 -- what a terminal may take, but for an R-block, which goes by the kind
 abbrev NotReady : Came → Type 0
@@ -311,7 +347,7 @@ NotReady damaged = Unit {0}
 NotReady invalid = Unit {0}
 NotReady quiet = Unit {0}
 
-exchanging : (t : TerminalState) (k : Kind) (x : SpareOf t) (view : View) (came : Came) → NotReady came
+exchanging : (t : TerminalState) (k : Kind) (x : TalkOf t) (view : View) (came : Came) → NotReady came
     → Outcome (watched (in_talk t x k) (heard_at view came) (last_of k)) (in_exchange (at (waits_of k) t) came)
 exchanging t k x view (got (Info number goes_on) inf) h = refusing t k x view number goes_on inf
 exchanging t k x view (got (Ready number fault) inf) h = absurd h
@@ -331,14 +367,14 @@ exchanging t k x view quiet h =
     correcting t k x (heard_at view quiet) Free (inr (broken_at view quiet (in_talk t x k) tt))
 
 -- an I-block of the answer is joined
-taken : (t : TerminalState) (k : Kind) (x : SpareOf t) (number : Number) (goes_on : Bool)
+taken : (t : TerminalState) (k : Kind) (x : TalkOf t) (number : Number) (goes_on : Bool)
     → is_chain (pending_with k) ≡ false → same number t.expected ≡ true
     → hears_info (in_talk t x k) number goes_on
     ≡ after (record (in_talk t x k) { expects = other t.expected; pending = Settled }) (due_after goes_on)
 taken t k x number goes_on h in_order =
     is_else (is_chain (pending_with k)) _ _ h ∙ is_then (same number t.expected) _ _ in_order
 
-joining : (t : TerminalState) (k : Kind) (x : SpareOf t) (view : View) (joined : List ℕ)
+joining : (t : TerminalState) (k : Kind) (x : TalkOf t) (view : View) (joined : List ℕ)
     (number : Number) (goes_on : Bool) (inf : List ℕ)
     → is_chain (pending_with k) ≡ false → same number t.expected ≡ true
     → Outcome (watched (in_talk t x k) (heard_at view (got (Info number goes_on) inf)) (last_of k))
@@ -348,19 +384,20 @@ joining t k x view joined number true inf h in_order =
     let e1 = record e { expects = other t.expected; pending = Settled } in
     said (watched e (heard_at view (got (Info number true) inf)) (last_of k)) (ready (other t.expected) Free)
     (record t { number = next_with k t.number; failures = 0; expected = other t.expected; waits = more joined })
-    (record e1 { tries = 0 })
+    (record e1 { tries = 0; row = 0 })
     (passes e (heard_at view (got (Info number true) inf)) (last_of k) (Ready (other t.expected) Free) []
     (after e1 Acknowledgment)
-    (record e1 { tries = 0 }) (inl (whole_at view e (Info number true) inf
+    (record e1 { tries = 0; row = 0 }) (inl (whole_at view e (Info number true) inf
     ∙ ap Some (taken t k x number true h in_order)))
     (is_then (same (other t.expected) (other t.expected)) _ _ (same_self (other t.expected)))) tt tt
-    (last_of k, (x, refl))
+    (last_of k, (record { spare = x.spare; row = 0; few = omega arith }, refl))
 joining t k x view joined number false inf h in_order = (
   (λ b. b),
   record {
-    spare = x;
+    spare = x.spare;
     pending = Settled;
     tries = t.failures;
+    row = x.row;
     aborted = false;
     owes = whole_at view (in_talk t x k) (Info number false) inf ∙ ap Some (taken t k x number false h in_order);
   },
@@ -368,7 +405,7 @@ joining t k x view joined number false inf h in_order = (
 
 -- ---- an R-block, by the kind
 
-acking : (t : TerminalState) (field rest : List ℕ) (x : SpareOf t) (view : View) (number : Number) (fault : Fault)
+acking : (t : TerminalState) (field rest : List ℕ) (x : TalkOf t) (view : View) (number : Number) (fault : Fault)
     (inf : List ℕ)
     → Outcome (watched (in_talk t x (chain field rest)) (heard_at view (got (Ready number fault) inf)) field)
     (in_ack (at (ack field rest) t) field rest (got (Ready number fault) inf))
@@ -379,12 +416,12 @@ acking t field rest x view number fault inf =
     (λ h. repeating t (chain field rest) x (heard_at view (got (Ready number fault) inf)) true
     (inl (whole_at view e (Ready number fault) inf
     ∙ ap (λ b. Some (hears_ready e Chain b)) (same_other number t.number h))) (same_next t.number) refl)
-    (λ h. cutting w (record t { number = other t.number; waits = ack field rest }) x Settled t.failures false NextBlock
+    (λ h. cutting w (record t { number = other t.number; waits = ack field rest }) x.spare Settled t.failures x.row false NextBlock
     rest
     (inl (whole_at view e (Ready number fault) inf
     ∙ ap (λ b. Some (hears_ready e Chain b)) (differs_other number t.number h))) (λ n m i. refl))
 
-answering : (t : TerminalState) (field : List ℕ) (x : SpareOf t) (view : View) (number : Number) (fault : Fault)
+answering : (t : TerminalState) (field : List ℕ) (x : TalkOf t) (view : View) (number : Number) (fault : Fault)
     (inf : List ℕ)
     → Outcome (watched (in_talk t x (ends field)) (heard_at view (got (Ready number fault) inf)) field)
     (in_answer (at (answer field) t) field (got (Ready number fault) inf))
@@ -398,7 +435,7 @@ answering t field x view number fault inf =
     (inl (whole_at view e (Ready number fault) inf
     ∙ ap (λ b. Some (hears_ready e Last b)) (differs_other number t.number h))))
 
-hearing_more : (t : TerminalState) (joined last : List ℕ) (x : SpareOf t) (view : View) (number : Number)
+hearing_more : (t : TerminalState) (joined last : List ℕ) (x : TalkOf t) (view : View) (number : Number)
     (fault : Fault) (inf : List ℕ)
     → Outcome (watched (in_talk t x (further joined last)) (heard_at view (got (Ready number fault) inf)) last)
     (in_more (at (more joined) t) joined (got (Ready number fault) inf))
@@ -409,7 +446,7 @@ hearing_more t joined last x view number fault inf =
 
 -- ---- all that comes in an exchange
 
-all_ack : (t : TerminalState) (field rest : List ℕ) (x : SpareOf t) (view : View) (came : Came) → PlainCame came
+all_ack : (t : TerminalState) (field rest : List ℕ) (x : TalkOf t) (view : View) (came : Came) → PlainCame came
     → Outcome (watched (in_talk t x (chain field rest)) (heard_at view came) field)
     (in_ack (at (ack field rest) t) field rest came)
 all_ack t field rest x view (got (Ready number fault) inf) h = acking t field rest x view number fault inf
@@ -421,7 +458,7 @@ all_ack t field rest x view damaged h = exchanging t (chain field rest) x view d
 all_ack t field rest x view invalid h = exchanging t (chain field rest) x view invalid h
 all_ack t field rest x view quiet h = exchanging t (chain field rest) x view quiet h
 
-all_answer : (t : TerminalState) (field : List ℕ) (x : SpareOf t) (view : View) (came : Came) → PlainCame came
+all_answer : (t : TerminalState) (field : List ℕ) (x : TalkOf t) (view : View) (came : Came) → PlainCame came
     → Outcome (watched (in_talk t x (ends field)) (heard_at view came) field)
     (in_answer (at (answer field) t) field came)
 all_answer t field x view (got (Ready number fault) inf) h = answering t field x view number fault inf
@@ -436,7 +473,7 @@ all_answer t field x view damaged h = exchanging t (ends field) x view damaged h
 all_answer t field x view invalid h = exchanging t (ends field) x view invalid h
 all_answer t field x view quiet h = exchanging t (ends field) x view quiet h
 
-all_more : (t : TerminalState) (joined last : List ℕ) (x : SpareOf t) (view : View) (came : Came) → PlainCame came
+all_more : (t : TerminalState) (joined last : List ℕ) (x : TalkOf t) (view : View) (came : Came) → PlainCame came
     → Outcome (watched (in_talk t x (further joined last)) (heard_at view came) last)
     (in_more (at (more joined) t) joined came)
 all_more t joined last x view (got (Ready number fault) inf) h = hearing_more t joined last x view number fault inf
@@ -456,8 +493,8 @@ all_more t joined last x view quiet h = exchanging t (further joined last) x vie
 
 -- ---- a size was asked for
 
-one_more : (n m : ℕ) → m ≤ n + 1 → nat_lt n most_repeats ≡ true → nat_lt m (most_repeats + 1) ≡ true
-one_more n m h k = grind (arith, nat_tests)
+one_asked : (n m : ℕ) → m ≤ n + 1 → nat_lt n most_repeats ≡ true → nat_lt m (most_repeats + 1) ≡ true
+one_asked n m h k = grind (arith, nat_tests)
 
 asking_size : (t : TerminalState) (size : ℕ) (x : SpareOf t) (pending : Pending) (aborted : Bool) (last : List ℕ)
     (e : End) (heard : Heard) (tries : ℕ) → tries ≤ t.failures + 1
@@ -468,7 +505,7 @@ asking_size t size x pending aborted last e heard tries few course =
     failing (watched e heard last) (at (ifs size) t) (request Ifs (size ∷ []))
     (record due { tries = tries + 1 }) (after due SameRequest) (max x.room x.first) x.first tt tt course x.first_ok
     (λ h. is_then (size == size) _ _ (equal_self size)
-    ∙ is_then (nat_lt tries (most_repeats + 1)) _ _ (one_more t.failures tries few h))
+    ∙ is_then (nat_lt tries (most_repeats + 1)) _ _ (one_asked t.failures tries few h))
     (λ h. refl)
     (x, pending, aborted, last, tries + 1, omega arith, refl)
 
@@ -512,6 +549,7 @@ all_ifs t size x pending aborted last tries view (got (Response Ifs) inf) few =
         };
         pending = pending;
         tries = tries;
+        row = 0;
         aborted = aborted;
         owes = whole_at view e (Response Ifs) inf ∙ ap Some (is_then (carried inf == size) _ _ h);
       },
@@ -589,6 +627,7 @@ all_resynch t asked room first last tries view (got (Response Resynch) inf) few 
     spare = record { before = NewMessage; room = max room first; first = first; room_ok = omega arith; first_ok = ok };
     pending = Settled;
     tries = 0;
+    row = 0;
     aborted = false;
     owes = whole_at view (beginning room first tries) (Response Resynch) inf;
   },
@@ -621,7 +660,7 @@ sending : (t : TerminalState) (w : Watched) (m : List ℕ) → Rests t w
     → Outcome w (if nat_le (length m) t.limits.command
     then sends_next (record t { failures = 0; command = m; answered = None }) m else Err TooLong)
 sending t w m r = with_test (Outcome w) (nat_le (length m) t.limits.command) _ _
-    (λ h. cutting w (record t { command = m; answered = None }) r.spare r.pending r.tries r.aborted NewMessage m
+    (λ h. cutting w (record t { command = m; answered = None }) r.spare r.pending r.tries r.row r.aborted NewMessage m
     (inl r.owes) (λ n b i. refl))
     (λ h. tt)
 
@@ -629,7 +668,7 @@ sizing_up : (t : TerminalState) (w : Watched) (n : ℕ) → Rests t w
     → Outcome w (if is_reserved n then Err Reserved
     else Ok (Send (request Ifs (n ∷ [])), record t { failures = 0; waits = ifs n }, no_failure))
 sizing_up t w n r =
-    let e = rested t r.spare r.pending r.tries r.aborted in
+    let e = rested t r.spare r.pending r.tries r.row r.aborted in
     let t1 = record t { failures = 0; waits = ifs n } in
     with_test (Outcome w) (is_reserved n) _ _
     (λ h. tt)

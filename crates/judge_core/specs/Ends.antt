@@ -16,7 +16,7 @@ use Rattle.judge_core.specs.declared.end.Pending.TheVariants.{Settled, Chain, La
 use Rattle.judge_core.specs.declared.end.Asked.{Asked}
 use Rattle.judge_core.specs.declared.end.Asked.TheVariants.{Size, Time, Stop, Anew}
 use Rattle.judge_core.specs.declared.end.Owed.{Owed}
-use Rattle.judge_core.specs.declared.end.Owed.TheVariants.{NewMessage, NextBlock, Acknowledgment, SameBlock, Correction, SameRequest, Answer, EitherBlock, AnyBlock}
+use Rattle.judge_core.specs.declared.end.Owed.TheVariants.{NewMessage, NextBlock, Acknowledgment, SameBlock, Correction, SameRequest, Answer, EitherBlock, MessageOrCorrection, AnyBlock}
 use Rattle.judge_core.specs.declared.end.End.{End}
 use Rattle.judge_core.specs.declared.end.After.{After}
 
@@ -34,6 +34,7 @@ new_end side room = record {
   asked = None;
   before = NewMessage;
   tries = 0;
+  row = 0;
   room = room;
   first_room = room;
   known = true;
@@ -49,6 +50,7 @@ begun e = record e {
   asked = None;
   before = NewMessage;
   tries = 0;
+  row = 0;
   room = max e.room e.first_room;
   known = true;
   aborted = false;
@@ -72,15 +74,14 @@ answered e Anew = after (begun e) NewMessage
 
 -- The other end's R-block, which has the number of this end's next I-block or of its last one. The next after a chain's
 -- block acknowledges it (rule 2.2), and the last one is asked for again (rule 7.1). Else the other end lacks a block that
--- this end can't know, and it says which I-block it expects itself (rule 7.1).
+-- this end can't know, and it says which I-block it expects itself (rule 7.1). After ABORT it can't tell an R-block that
+-- hands over the right to send (rule 9) from one that asks for its R-block again.
 abbrev pub hears_ready : End → Pending → Bool → After
 hears_ready e Chain true = after (record e { pending = Settled }) NextBlock
 hears_ready e Chain false = after e SameBlock
 hears_ready e Last true = after e Correction
 hears_ready e Last false = after e SameBlock
-hears_ready e Settled true = if e.aborted
-    then after (record e { aborted = false }) NewMessage
-    else after e Correction
+hears_ready e Settled true = if e.aborted then after e MessageOrCorrection else after e Correction
 hears_ready e Settled false = after e Correction
 
 -- The other end's request: only the terminal asks for RESYNCH (rule 6.1) and only the card for time (rule 3).

@@ -1,5 +1,5 @@
 -- What an end of T=1 may send that owes this (ISO/IEC 7816-3:2006, clause 11.6), and the rule that another block breaks.
-use Rattle.std.specs.Prelude.{ℕ, ◌+◌, ◌==◌, nat_lt, nat_le, List, length, bytes_eq, Bool, true, false, if◌then◌else◌, Option, Some, None, Result, Ok, Err}
+use Rattle.std.specs.Prelude.{ℕ, ◌+◌, ◌==◌, nat_lt, nat_le, min, List, length, bytes_eq, Bool, true, false, if◌then◌else◌, Option, Some, None, Result, Ok, Err}
 use Rattle.block_core.specs.Block.{other}
 use Rattle.block_core.specs.declared.pcb.Number.{Number}
 use Rattle.block_core.specs.declared.pcb.Fault.{Fault}
@@ -17,7 +17,7 @@ use Rattle.judge_core.specs.declared.end.Pending.TheVariants.{Settled, Chain, La
 use Rattle.judge_core.specs.declared.end.Asked.{Asked}
 use Rattle.judge_core.specs.declared.end.Asked.TheVariants.{Size, Time, Stop, Anew}
 use Rattle.judge_core.specs.declared.end.Owed.{Owed}
-use Rattle.judge_core.specs.declared.end.Owed.TheVariants.{NewMessage, NextBlock, Acknowledgment, SameBlock, Correction, Refusal, SameRequest, Answer, EitherBlock, AnyBlock}
+use Rattle.judge_core.specs.declared.end.Owed.TheVariants.{NewMessage, NextBlock, Acknowledgment, SameBlock, Correction, Refusal, SameRequest, Answer, EitherBlock, MessageOrCorrection, MessageOrRefusal, AcknowledgmentOrRefusal, AnyBlock}
 use Rattle.judge_core.specs.declared.end.End.{End}
 use Rattle.judge_core.specs.declared.rule.Rule.{Rule}
 use Rattle.judge_core.specs.declared.rule.Rule.TheVariants as rule
@@ -29,14 +29,21 @@ Sent = Result End Rule
 
 -- ---- what may be repeated, and how often
 
--- A terminal repeats so many times before it asks for RESYNCH (rule 7.4, where the reading that permits more is taken), and
--- asks for that so many times; a card has no limit. RESYNCH may come after two repeats.
+-- A terminal repeats so many times in a row before it asks for RESYNCH (rule 7.4), and asks for that so many times; a card
+-- has no limit. RESYNCH may come after two repeats since the last new block. A response to a request of the card ends a
+-- row, and not that count: so the reading that permits more is taken of both.
 abbrev pub least_repeats : ℕ
 least_repeats = 2
 
+-- a count stays at its greatest value
+abbrev pub one_more : ℕ → ℕ
+one_more n = min (n + 1) 255
+
 abbrev pub again_as : Side → End → Sent
 again_as Terminal e =
-    if nat_lt e.tries most_repeats then Ok (record e { tries = e.tries + 1 }) else Err rule.TooManyRepeats
+    if nat_lt e.row most_repeats
+    then Ok (record e { tries = one_more e.tries; row = e.row + 1 })
+    else Err rule.TooManyRepeats
 again_as Card e = Ok e
 
 abbrev pub again : End → Sent
@@ -55,17 +62,47 @@ abbrev pub first_tries : Side → ℕ
 first_tries Terminal = 1
 first_tries Card = 0
 
--- The end after its request, which owes as before when the response came. After RESYNCH all begins again, whatever it owed.
+-- What an end owes once its request about a size or time is answered: what it owed before. It may still refuse the I-block
+-- that it took before it asked. A card asks only after an I-block; a terminal may ask before there was one.
+abbrev pub after_answer : Owed → Side → Owed
+after_answer NewMessage Terminal = NewMessage
+after_answer NewMessage Card = MessageOrRefusal
+after_answer NextBlock side = NextBlock
+after_answer Acknowledgment side = AcknowledgmentOrRefusal
+after_answer SameBlock side = SameBlock
+after_answer Correction side = Correction
+after_answer Refusal side = Refusal
+after_answer SameRequest side = SameRequest
+after_answer (Answer s n) side = Answer s n
+after_answer EitherBlock side = EitherBlock
+after_answer MessageOrCorrection side = MessageOrCorrection
+after_answer MessageOrRefusal side = MessageOrRefusal
+after_answer AcknowledgmentOrRefusal side = AcknowledgmentOrRefusal
+after_answer AnyBlock side = AnyBlock
+
+-- an end that asks
+abbrev pub asks_for : End → Owed → Asked → End
+asks_for e owed asked = record e {
+  asked = Some asked;
+  before = after_answer owed e.side;
+  tries = first_tries e.side;
+  row = 0;
+  known = true;
+}
+
+-- The end after its request. After RESYNCH all begins again, whatever it owed.
 abbrev pub asking : End → Owed → S → ℕ → End
-asking e owed Resynch n = record (begun e) { asked = Some Anew; tries = first_tries e.side }
-asking e owed Ifs n = record e { asked = Some (Size n); before = owed; tries = first_tries e.side; known = true }
-asking e owed Abort n = record e { asked = Some Stop; before = owed; tries = first_tries e.side; known = true }
-asking e owed Wtx n = record e { asked = Some (Time n); before = owed; tries = first_tries e.side; known = true }
+asking e owed Resynch n = asks_for (begun e) NewMessage Anew
+asking e owed Ifs n = asks_for e owed (Size n)
+asking e owed Abort n = asks_for e owed Stop
+asking e owed Wtx n = asks_for e owed (Time n)
 
 -- between messages a terminal may begin again
 abbrev pub is_between : Owed → Bool
 is_between NewMessage = true
 is_between EitherBlock = true
+is_between MessageOrCorrection = true
+is_between MessageOrRefusal = true
 is_between owed = false
 
 -- within a chain either end may abort it (rule 9)
@@ -142,6 +179,7 @@ informed e number more = record e {
   pending = pending_of more;
   asked = None;
   tries = 0;
+  row = 0;
   known = true;
   aborted = false;
 }
@@ -169,7 +207,7 @@ sends_ready e number = if same number e.expects then again e else Err rule.Seque
 -- An acknowledgment is free of errors (rule 2.2).
 abbrev pub acknowledged : End → Number → Fault → Sent
 acknowledged e number Free =
-    if same number e.expects then Ok (record e { tries = 0 }) else Err rule.SequenceNumber
+    if same number e.expects then Ok (record e { tries = 0; row = 0 }) else Err rule.SequenceNumber
 acknowledged e number Redundancy = Err rule.ErrorCode
 acknowledged e number Other = Err rule.ErrorCode
 
@@ -197,6 +235,18 @@ refuses e (Info number more) inf = Err rule.CorrectionDue
 refuses e (Ready number fault) inf = refuses_with e number fault
 refuses e (Request s) inf = repeats_request e s (carried inf) rule.CorrectionDue
 refuses e (Response s) inf = Err rule.CorrectionDue
+
+-- An end that asked for a size or for time after it took an I-block may still refuse that block (11.3.2.2).
+abbrev pub is_refusal : End → Pcb → Bool
+is_refusal e (Info number more) = false
+is_refusal e (Ready number Free) = false
+is_refusal e (Ready number Redundancy) = false
+is_refusal e (Ready number Other) = same number (other e.expects)
+is_refusal e (Request s) = false
+is_refusal e (Response s) = false
+
+abbrev pub or_refuses : End → Pcb → Sent → Sent
+or_refuses e pcb sent = if is_refusal e pcb then again (record e { expects = other e.expects; tries = 0 }) else sent
 
 -- ---- repeats and answers
 
@@ -230,9 +280,9 @@ asks_again e (Response s) inf = Err rule.RequestDue
 -- An end that answered: a size holds from then on (rule 4), a chain is over (rule 9), or all begins again (rule 6).
 abbrev pub responded : End → S → ℕ → End
 responded e Resynch n = begun e
-responded e Ifs n = record e { room = n }
-responded e Abort n = record e { pending = Settled; aborted = true }
-responded e Wtx n = e
+responded e Ifs n = record e { room = n; row = 0 }
+responded e Abort n = record e { pending = Settled; row = 0; aborted = true }
+responded e Wtx n = record e { row = 0 }
 
 abbrev pub same_subject : S → S → Bool
 same_subject Resynch Resynch = true
@@ -257,6 +307,13 @@ either e (Info number more) inf = sends_info e number more inf
 either e (Ready number fault) inf = acknowledged e number fault
 either e (Request s) inf = asks e EitherBlock s (carried inf)
 either e (Response s) inf = Err rule.Unasked
+
+-- A message, or an R-block with any error code: after an R-block that hands over, or asks for the last one again.
+abbrev pub begins_or_corrects : End → Pcb → List ℕ → Sent
+begins_or_corrects e (Info number more) inf = sends_info e number more inf
+begins_or_corrects e (Ready number fault) inf = sends_ready e number
+begins_or_corrects e (Request s) inf = asks e MessageOrCorrection s (carried inf)
+begins_or_corrects e (Response s) inf = Err rule.Unasked
 
 -- ---- going on
 
@@ -295,6 +352,9 @@ sends_owed e Refusal last pcb inf = refuses e pcb inf
 sends_owed e SameRequest last pcb inf = asks_again e pcb inf
 sends_owed e (Answer s n) last pcb inf = responds e s n pcb inf
 sends_owed e EitherBlock last pcb inf = either e pcb inf
+sends_owed e MessageOrCorrection last pcb inf = begins_or_corrects e pcb inf
+sends_owed e MessageOrRefusal last pcb inf = or_refuses e pcb (messages e MessageOrRefusal pcb inf)
+sends_owed e AcknowledgmentOrRefusal last pcb inf = or_refuses e pcb (acknowledges e pcb inf)
 sends_owed e AnyBlock last pcb inf = any_block e pcb inf
 
 -- What an end may send that owes this: its last I-block had the field last, and the block has the field inf.

@@ -55,8 +55,14 @@ pub enum Owed {
     SameRequest,
     /// The response to a request, with the octet that it carried, or 0.
     Answer(S, u8),
-    /// The first I-block of a message, or an R-block: after ABORT.
+    /// The first I-block of a message, or an R-block that hands over the right to send: after ABORT.
     EitherBlock,
+    /// The first I-block of a message, or an R-block: after an R-block that either hands over or asks for one again.
+    MessageOrCorrection,
+    /// The first I-block of a message, or an R-block that refuses the I-block before its request.
+    MessageOrRefusal,
+    /// An R-block that acknowledges the I-block before its request, or that refuses it.
+    AcknowledgmentOrRefusal,
     /// Nobody knows, since the line damaged its last block.
     AnyBlock,
 }
@@ -72,10 +78,12 @@ pub struct End {
     pub pending: Pending,
     /// Its request that waits for a response.
     pub asked: Option<Asked>,
-    /// What it owed when it asked.
+    /// What it owes once its request is answered.
     pub before: Owed,
-    /// How often in a row it repeated, or corrected, at a terminal.
+    /// How often it repeated or corrected since its last new block, or sent its request, at a terminal.
     pub tries: u8,
+    /// How often it repeated or corrected in a row: a response to a request of the card ends the row.
+    pub row: u8,
     /// The most octets of a field that the other end takes, now and at the start.
     pub room: u8,
     pub first_room: u8,
@@ -105,6 +113,7 @@ impl End {
             asked: None,
             before: Owed::NewMessage,
             tries: 0,
+            row: 0,
             room,
             first_room: room,
             known: true,

@@ -101,11 +101,7 @@ impl End {
             }
             .owes(Owed::NextBlock),
             (Pending::Chain | Pending::Last, false) => self.owes(Owed::SameBlock),
-            (Pending::Settled, true) if self.aborted => End {
-                aborted: false,
-                ..self
-            }
-            .owes(Owed::NewMessage),
+            (Pending::Settled, true) if self.aborted => self.owes(Owed::MessageOrCorrection),
             (Pending::Last | Pending::Settled, _) => self.owes(Owed::Correction),
         }
     }

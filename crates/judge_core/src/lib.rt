@@ -6,6 +6,7 @@
 //! what it may send then, rule by rule, and `specs/Courses.antt` the courses. Nothing here allocates.
 #![tactic(auto)]
 
+mod asking;
 mod class;
 pub mod courses;
 pub mod end;
@@ -14,6 +15,7 @@ pub mod laws;
 pub mod monitor;
 pub mod rule;
 mod sending;
+mod step;
 
 pub use courses::{Heard, Verdict};
 pub use end::{After, Asked, End, Owed, Pending, Side};

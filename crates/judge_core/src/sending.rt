@@ -2,19 +2,14 @@
 
 ghost use Rattle.std.specs.Prelude.{◌≡◌, Some, true, length, slice_index};
 ghost use Rattle.t1_core.specs.Came.{carried};
-ghost use Rattle.judge_core.specs.Sends.{acknowledged, acknowledges, again, any_block, asked_again, asking, asks, asks_again, corrects, either, first_tries, informed, is_asked, is_between, is_foreign, is_next, is_pending, is_waiting, is_within, messages, most_asked, pending_of, refuses, refuses_with, repeats, repeats_info, repeats_request, responded, responds, resynchs, resynchs_asking, same_subject, sends, sends_info, sends_owed, sends_ready, suggested};
+ghost use Rattle.judge_core.specs.Sends.{acknowledges, any_block, asks_again, begins_or_corrects, corrects, either, is_next, is_refusal, messages, or_refuses, refuses, repeats, responds, same_subject, sends};
 
-use crate::end::{Asked, End, Owed, Pending, Side};
+use crate::asking::is_foreign;
+use crate::end::{End, Owed};
 use crate::hearing::same;
 use crate::rule::Rule;
-use block_core::{Fault, Number, Pcb, S};
-use t1_core::{MOST_REPEATS, MOST_RESYNCHS};
-
-/// How many repeats come before RESYNCH.
-const LEAST_REPEATS: u8 = 2;
-
-/// The end after a block that it may send, or the rule that the block breaks.
-type Sent = Result<End, Rule>;
+use crate::step::Sent;
+use block_core::{Fault, Pcb, S};
 
 impl End {
     /// What it may send that owes this: its last I-block had the field `last`, and the block has the field `inf`.
@@ -33,6 +28,9 @@ impl End {
             Owed::SameRequest => self.asks_again(pcb, inf),
             Owed::Answer(about, octet) => self.responds(about, octet, pcb, inf),
             Owed::EitherBlock => self.either(pcb, inf),
+            Owed::MessageOrCorrection => self.begins_or_corrects(pcb, inf),
+            Owed::MessageOrRefusal => self.or_refuses(pcb, self.messages(owed, pcb, inf)),
+            Owed::AcknowledgmentOrRefusal => self.or_refuses(pcb, self.acknowledges(pcb, inf)),
             Owed::AnyBlock => self.any_block(pcb, inf),
         }
     }
@@ -69,6 +67,46 @@ impl End {
             Pcb::Ready { number, fault } => self.acknowledged(number, fault),
             Pcb::Request(about) => self.asks(Owed::EitherBlock, about, carried(inf)),
             Pcb::Response(_) => Err(Rule::Unasked),
+        }
+    }
+
+    /// After an R-block that either hands over the right to send or asks for the last R-block again.
+    fn begins_or_corrects(self, pcb: Pcb, inf: &[u8]) -> Sent
+        ensures { result ≡ begins_or_corrects self pcb inf.now }
+    {
+        match pcb {
+            Pcb::Info { number, more } => self.sends_info(number, more, inf),
+            Pcb::Ready { number, .. } => self.sends_ready(number),
+            Pcb::Request(about) => self.asks(Owed::MessageOrCorrection, about, carried(inf)),
+            Pcb::Response(_) => Err(Rule::Unasked),
+        }
+    }
+
+    /// Where the block refuses the I-block before the end's request, and else what the end may send all the same.
+    fn or_refuses(self, pcb: Pcb, sent: Sent) -> Sent
+        ensures { result ≡ or_refuses self pcb sent }
+    {
+        if self.is_refusal(pcb) {
+            let refusing = End {
+                expects: self.expects.other(),
+                tries: 0,
+                ..self
+            };
+            refusing.again()
+        } else {
+            sent
+        }
+    }
+
+    fn is_refusal(self, pcb: Pcb) -> bool
+        ensures { result ≡ is_refusal self pcb }
+    {
+        match pcb {
+            Pcb::Ready {
+                number,
+                fault: Fault::Other,
+            } => same(number, self.expects.other()),
+            _ => false,
         }
     }
 
@@ -117,44 +155,6 @@ impl End {
         }
     }
 
-    /// The same request once more, or RESYNCH; another request breaks this rule.
-    fn repeats_request(self, about: S, octet: u8, broken: Rule) -> Sent
-        ensures { result ≡ repeats_request self about octet broken }
-    {
-        if is_asked(self.asked, about, octet) {
-            self.asked_again(about, octet)
-        } else if self.asked.is_some() {
-            self.resynchs_asking(about, broken)
-        } else {
-            self.resynchs(about, broken)
-        }
-    }
-
-    /// Its request goes out once more; a card has no limit.
-    fn asked_again(self, about: S, octet: u8) -> Sent
-        ensures { result ≡ asked_again self.side self about octet }
-    {
-        let asking = self.asking(self.before, about, octet);
-        match self.side {
-            Side::Card => Ok(asking),
-            Side::Terminal if self.tries < most_asked(about) => Ok(End {
-                tries: self.tries + 1,
-                ..asking
-            }),
-            Side::Terminal => Err(Rule::TooManyRepeats),
-        }
-    }
-
-    /// RESYNCH in place of a request: nobody sees how often the request failed.
-    fn resynchs_asking(self, about: S, broken: Rule) -> Sent
-        ensures { result ≡ resynchs_asking self about broken }
-    {
-        match about {
-            S::Resynch => Ok(self.asking(Owed::NewMessage, S::Resynch, 0)),
-            S::Ifs | S::Abort | S::Wtx => Err(broken),
-        }
-    }
-
     fn responds(self, about: S, octet: u8, pcb: Pcb, inf: &[u8]) -> Sent
         ensures { result ≡ responds self about octet pcb inf.now }
     {
@@ -190,170 +190,6 @@ impl End {
             Pcb::Response(about) => Ok(hidden.responded(about, carried(inf))),
         }
     }
-
-    /// The end that its own block suggests, which carries this octet or 0.
-    pub(crate) fn suggested(self, pcb: Pcb, octet: u8) -> End
-        ensures { result ≡ suggested self pcb octet }
-    {
-        let known = End {
-            asked: None,
-            before: Owed::NewMessage,
-            known: true,
-            ..self
-        };
-        match pcb {
-            Pcb::Info { number, more } => known.informed(number, more),
-            Pcb::Ready { number, .. } => End {
-                expects: number,
-                ..known
-            },
-            Pcb::Request(_) if is_foreign(self.side, pcb) => End {
-                known: false,
-                ..self
-            },
-            Pcb::Request(about) => self.asking(Owed::NewMessage, about, octet),
-            Pcb::Response(about) => known.responded(about, octet),
-        }
-    }
-
-    /// A new I-block.
-    fn sends_info(self, number: Number, more: bool, inf: &[u8]) -> Sent
-        ensures { result ≡ sends_info self number more inf.now }
-    {
-        if !same(number, self.next) {
-            Err(Rule::SequenceNumber)
-        } else if inf.len() > usize::from(self.room) {
-            Err(Rule::FieldSize)
-        } else {
-            Ok(self.informed(number, more))
-        }
-    }
-
-    fn informed(self, number: Number, more: bool) -> End
-        ensures { result ≡ informed self number more }
-    {
-        End {
-            next: number.other(),
-            pending: pending_of(more),
-            asked: None,
-            tries: 0,
-            known: true,
-            aborted: false,
-            ..self
-        }
-    }
-
-    /// The last I-block once more, with the octets that it had.
-    fn repeats_info(self, last: &[u8], number: Number, more: bool, inf: &[u8]) -> Sent
-        ensures { result ≡ repeats_info self last.now number more inf.now }
-    {
-        if same(number, self.next) {
-            Err(Rule::SequenceNumber)
-        } else if is_pending(self.pending, more) && inf == last {
-            self.again()
-        } else {
-            Err(Rule::RepeatedOctets)
-        }
-    }
-
-    fn sends_ready(self, number: Number) -> Sent
-        ensures { result ≡ sends_ready self number }
-    {
-        if same(number, self.expects) {
-            self.again()
-        } else {
-            Err(Rule::SequenceNumber)
-        }
-    }
-
-    fn acknowledged(self, number: Number, fault: Fault) -> Sent
-        ensures { result ≡ acknowledged self number fault }
-    {
-        match fault {
-            Fault::Redundancy | Fault::Other => Err(Rule::ErrorCode),
-            Fault::Free if same(number, self.expects) => Ok(End { tries: 0, ..self }),
-            Fault::Free => Err(Rule::SequenceNumber),
-        }
-    }
-
-    /// One repeat or correction more; a card has no limit.
-    fn again(self) -> Sent
-        ensures { result ≡ again self }
-    {
-        match self.side {
-            Side::Card => Ok(self),
-            Side::Terminal if self.tries < MOST_REPEATS => Ok(End {
-                tries: self.tries + 1,
-                ..self
-            }),
-            Side::Terminal => Err(Rule::TooManyRepeats),
-        }
-    }
-
-    /// A request in place of what is owed.
-    fn asks(self, owed: Owed, about: S, octet: u8) -> Sent
-        ensures { result ≡ asks self owed about octet }
-    {
-        match about {
-            S::Resynch if !is_between(owed) => Err(Rule::EarlyResynch),
-            S::Abort if !is_within(owed) => Err(Rule::NoChain),
-            S::Resynch | S::Abort | S::Ifs | S::Wtx => Ok(self.asking(owed, about, octet)),
-        }
-    }
-
-    fn asking(self, owed: Owed, about: S, octet: u8) -> End
-        ensures { result ≡ asking self owed about octet }
-    {
-        match about {
-            S::Resynch => self.begun().asks_for(Owed::NewMessage, Asked::Anew),
-            S::Ifs => self.asks_for(owed, Asked::Size(octet)),
-            S::Abort => self.asks_for(owed, Asked::Stop),
-            S::Wtx => self.asks_for(owed, Asked::Time(octet)),
-        }
-    }
-
-    fn asks_for(self, before: Owed, asked: Asked) -> End
-        ensures { result ≡ record self
-            { asked = Some asked; before = before; tries = first_tries self.side; known = true } }
-    {
-        End {
-            asked: Some(asked),
-            before,
-            tries: first_tries(self.side),
-            known: true,
-            ..self
-        }
-    }
-
-    /// RESYNCH in place of a repeat; another request breaks this rule.
-    fn resynchs(self, about: S, broken: Rule) -> Sent
-        ensures { result ≡ resynchs self about broken }
-    {
-        match about {
-            S::Resynch if self.tries < LEAST_REPEATS => Err(Rule::EarlyResynch),
-            S::Resynch => Ok(self.asking(Owed::NewMessage, S::Resynch, 0)),
-            S::Ifs | S::Abort | S::Wtx => Err(broken),
-        }
-    }
-
-    /// The end after its response.
-    fn responded(self, about: S, octet: u8) -> End
-        ensures { result ≡ responded self about octet }
-    {
-        match about {
-            S::Resynch => self.begun(),
-            S::Ifs => End {
-                room: octet,
-                ..self
-            },
-            S::Abort => End {
-                pending: Pending::Settled,
-                aborted: true,
-                ..self
-            },
-            S::Wtx => self,
-        }
-    }
 }
 
 /// The size or the multiple that a block carries, or 0.
@@ -363,37 +199,6 @@ pub(crate) fn carried(inf: &[u8]) -> u8
     inf.first().copied().unwrap_or(0)
 }
 
-/// Whether it is a request that only the other end makes.
-fn is_foreign(side: Side, pcb: Pcb) -> bool
-    ensures { result ≡ is_foreign side pcb }
-{
-    match (side, pcb) {
-        (Side::Card, Pcb::Request(S::Resynch)) => true,
-        (Side::Terminal, Pcb::Request(S::Wtx)) => true,
-        _ => false,
-    }
-}
-
-/// A request of a terminal counts its first sending too.
-fn first_tries(side: Side) -> u8
-    ensures { result ≡ first_tries side }
-{
-    match side {
-        Side::Terminal => 1,
-        Side::Card => 0,
-    }
-}
-
-/// How often a terminal may send a request in a row.
-fn most_asked(about: S) -> u8
-    ensures { result ≡ most_asked about }
-{
-    match about {
-        S::Resynch => MOST_RESYNCHS,
-        S::Ifs | S::Abort | S::Wtx => MOST_REPEATS + 1,
-    }
-}
-
 /// Whether an end that the line hid is known again, by an I-block with the next number or another one.
 fn is_next(owed: Owed, next: bool) -> bool
     ensures { result ≡ is_next owed next }
@@ -401,46 +206,6 @@ fn is_next(owed: Owed, next: bool) -> bool
     match owed {
         Owed::AnyBlock => false,
         _ => next,
-    }
-}
-
-fn is_between(owed: Owed) -> bool
-    ensures { result ≡ is_between owed }
-{
-    matches!(owed, Owed::NewMessage | Owed::EitherBlock)
-}
-
-fn is_within(owed: Owed) -> bool
-    ensures { result ≡ is_within owed }
-{
-    matches!(owed, Owed::NextBlock | Owed::Acknowledgment)
-}
-
-fn pending_of(more: bool) -> Pending
-    ensures { result ≡ pending_of more }
-{
-    if more { Pending::Chain } else { Pending::Last }
-}
-
-fn is_pending(pending: Pending, more: bool) -> bool
-    ensures { result ≡ is_pending pending more }
-{
-    match pending {
-        Pending::Settled => false,
-        Pending::Chain => more,
-        Pending::Last => !more,
-    }
-}
-
-fn is_asked(asked: Option<Asked>, about: S, octet: u8) -> bool
-    ensures { result ≡ is_asked asked about octet }
-{
-    match (asked, about) {
-        (Some(Asked::Size(size)), S::Ifs) => octet == size,
-        (Some(Asked::Time(multiple)), S::Wtx) => octet == multiple,
-        (Some(Asked::Stop), S::Abort) => true,
-        (Some(Asked::Anew), S::Resynch) => true,
-        _ => false,
     }
 }
 

@@ -10,7 +10,7 @@ use Rattle.judge_core.specs.declared.end.Side.TheVariants.{Terminal, Card}
 use Rattle.judge_core.specs.declared.end.Asked.{Asked}
 use Rattle.judge_core.specs.declared.end.Asked.TheVariants.{Size, Time, Stop, Anew}
 use Rattle.judge_core.specs.declared.end.Owed.{Owed}
-use Rattle.judge_core.specs.declared.end.Owed.TheVariants.{NewMessage, NextBlock, Acknowledgment, SameBlock, Correction, Refusal, SameRequest, Answer, EitherBlock, AnyBlock}
+use Rattle.judge_core.specs.declared.end.Owed.TheVariants.{NewMessage, NextBlock, Acknowledgment, SameBlock, Correction, Refusal, SameRequest, Answer, EitherBlock, MessageOrCorrection, MessageOrRefusal, AcknowledgmentOrRefusal, AnyBlock}
 use Rattle.judge_core.specs.declared.end.End.{End}
 use Rattle.judge_core.specs.declared.end.After.{After}
 use Rattle.judge_core.specs.declared.rule.Rule.{Rule}
@@ -39,17 +39,29 @@ asked_text (Some (Time n)) = codes "WTX"
 asked_text (Some Stop) = codes "ABORT"
 asked_text (Some Anew) = codes "RESYNCH"
 
+abbrev pub i_block : End → List ℕ
+i_block e = codes "I-block " ++ digit_text e.next
+
+abbrev pub r_block : End → List ℕ
+r_block e = codes "R-block " ++ digit_text e.expects
+
+abbrev pub either_block : End → List ℕ
+either_block e = i_block e ++ (codes " or R-block " ++ digit_text e.expects)
+
 -- an end and what is due from it
 abbrev pub due_text : End → Owed → List ℕ
-due_text e NewMessage = codes "I-block " ++ digit_text e.next
-due_text e NextBlock = codes "I-block " ++ digit_text e.next
-due_text e Acknowledgment = codes "R-block " ++ digit_text e.expects
+due_text e NewMessage = i_block e
+due_text e NextBlock = i_block e
+due_text e Acknowledgment = r_block e
 due_text e SameBlock = codes "I-block " ++ (digit_text (other e.next) ++ codes " again")
-due_text e Correction = codes "R-block " ++ digit_text e.expects
-due_text e Refusal = codes "R-block " ++ digit_text e.expects
+due_text e Correction = r_block e
+due_text e Refusal = r_block e
 due_text e SameRequest = asked_text e.asked ++ codes " request again"
 due_text e (Answer s n) = subject_text s ++ codes " response"
-due_text e EitherBlock = codes "I-block " ++ (digit_text e.next ++ (codes " or R-block " ++ digit_text e.expects))
+due_text e EitherBlock = either_block e
+due_text e MessageOrCorrection = either_block e
+due_text e MessageOrRefusal = i_block e
+due_text e AcknowledgmentOrRefusal = r_block e
 due_text e AnyBlock = codes "any block"
 
 -- a block with its number

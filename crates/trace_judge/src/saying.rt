@@ -153,8 +153,10 @@ fn push_due(text: &mut String, end: &End, owed: Owed) -> Result<(), AllocError>
     ensures { OnOk result (string_bytes text.new ≡ string_bytes text.old ++ due_text end.now owed) }
 {
     match owed {
-        Owed::NewMessage | Owed::NextBlock => push_numbered(text, "I-block ", end.next),
-        Owed::Acknowledgment | Owed::Correction | Owed::Refusal => {
+        Owed::NewMessage | Owed::NextBlock | Owed::MessageOrRefusal => push_numbered(
+            text, "I-block ", end.next,
+        ),
+        Owed::Acknowledgment | Owed::AcknowledgmentOrRefusal | Owed::Correction | Owed::Refusal => {
             push_numbered(text, "R-block ", end.expects)
         }
         Owed::SameBlock => {
@@ -163,7 +165,7 @@ fn push_due(text: &mut String, end: &End, owed: Owed) -> Result<(), AllocError>
         }
         Owed::SameRequest => push_words(text, asked_word(end.asked), " request again"),
         Owed::Answer(about, _) => push_words(text, subject_word(about), " response"),
-        Owed::EitherBlock => {
+        Owed::EitherBlock | Owed::MessageOrCorrection => {
             push_numbered(text, "I-block ", end.next)?;
             push_numbered(text, " or R-block ", end.expects)
         }

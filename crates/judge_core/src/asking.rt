@@ -1,0 +1,168 @@
+//! Which requests an end may make (ISO/IEC 7816-3:2006, clause 11.6): about a size or time, for ABORT and for RESYNCH.
+
+ghost use Rattle.std.specs.Prelude.{◌≡◌, Some, true};
+ghost use Rattle.judge_core.specs.Sends.{after_answer, asked_again, asking, asks, asks_for, first_tries, is_asked, is_between, is_foreign, is_within, most_asked, repeats_request, resynchs, resynchs_asking};
+
+use crate::end::{Asked, End, Owed, Side};
+use crate::rule::Rule;
+use crate::step::Sent;
+use block_core::{Pcb, S};
+use t1_core::{MOST_REPEATS, MOST_RESYNCHS};
+
+/// How many repeats come before RESYNCH.
+const LEAST_REPEATS: u8 = 2;
+
+impl End {
+    /// The same request once more, or RESYNCH; another request breaks this rule.
+    pub(crate) fn repeats_request(self, about: S, octet: u8, broken: Rule) -> Sent
+        ensures { result ≡ repeats_request self about octet broken }
+    {
+        if is_asked(self.asked, about, octet) {
+            self.asked_again(about, octet)
+        } else if self.asked.is_some() {
+            self.resynchs_asking(about, broken)
+        } else {
+            self.resynchs(about, broken)
+        }
+    }
+
+    /// Its request goes out once more; a card has no limit.
+    fn asked_again(self, about: S, octet: u8) -> Sent
+        ensures { result ≡ asked_again self.side self about octet }
+    {
+        let asking = self.asking(self.before, about, octet);
+        match self.side {
+            Side::Card => Ok(asking),
+            Side::Terminal if self.tries < most_asked(about) => Ok(End {
+                tries: self.tries + 1,
+                ..asking
+            }),
+            Side::Terminal => Err(Rule::TooManyRepeats),
+        }
+    }
+
+    /// RESYNCH in place of a request: nobody sees how often the request failed.
+    fn resynchs_asking(self, about: S, broken: Rule) -> Sent
+        ensures { result ≡ resynchs_asking self about broken }
+    {
+        match about {
+            S::Resynch => Ok(self.asking(Owed::NewMessage, S::Resynch, 0)),
+            S::Ifs | S::Abort | S::Wtx => Err(broken),
+        }
+    }
+
+    /// A request in place of what is owed.
+    pub(crate) fn asks(self, owed: Owed, about: S, octet: u8) -> Sent
+        ensures { result ≡ asks self owed about octet }
+    {
+        match about {
+            S::Resynch if !is_between(owed) => Err(Rule::EarlyResynch),
+            S::Abort if !is_within(owed) => Err(Rule::NoChain),
+            S::Resynch | S::Abort | S::Ifs | S::Wtx => Ok(self.asking(owed, about, octet)),
+        }
+    }
+
+    pub(crate) fn asking(self, owed: Owed, about: S, octet: u8) -> End
+        ensures { result ≡ asking self owed about octet }
+    {
+        match about {
+            S::Resynch => self.begun().asks_for(Owed::NewMessage, Asked::Anew),
+            S::Ifs => self.asks_for(owed, Asked::Size(octet)),
+            S::Abort => self.asks_for(owed, Asked::Stop),
+            S::Wtx => self.asks_for(owed, Asked::Time(octet)),
+        }
+    }
+
+    fn asks_for(self, before: Owed, asked: Asked) -> End
+        ensures { result ≡ asks_for self before asked }
+    {
+        End {
+            asked: Some(asked),
+            before: after_answer(before, self.side),
+            tries: first_tries(self.side),
+            row: 0,
+            known: true,
+            ..self
+        }
+    }
+
+    /// RESYNCH in place of a repeat; another request breaks this rule.
+    pub(crate) fn resynchs(self, about: S, broken: Rule) -> Sent
+        ensures { result ≡ resynchs self about broken }
+    {
+        match about {
+            S::Resynch if self.tries < LEAST_REPEATS => Err(Rule::EarlyResynch),
+            S::Resynch => Ok(self.asking(Owed::NewMessage, S::Resynch, 0)),
+            S::Ifs | S::Abort | S::Wtx => Err(broken),
+        }
+    }
+}
+
+/// Whether it is a request that only the other end makes.
+pub(crate) fn is_foreign(side: Side, pcb: Pcb) -> bool
+    ensures { result ≡ is_foreign side pcb }
+{
+    match (side, pcb) {
+        (Side::Card, Pcb::Request(S::Resynch)) => true,
+        (Side::Terminal, Pcb::Request(S::Wtx)) => true,
+        _ => false,
+    }
+}
+
+/// What an end owes once its request is answered, which owed this when it asked.
+fn after_answer(owed: Owed, side: Side) -> Owed
+    ensures { result ≡ after_answer owed side }
+{
+    match (owed, side) {
+        (Owed::NewMessage, Side::Card) => Owed::MessageOrRefusal,
+        (Owed::Acknowledgment, _) => Owed::AcknowledgmentOrRefusal,
+        (owed, _) => owed,
+    }
+}
+
+/// A request of a terminal counts its first sending too.
+fn first_tries(side: Side) -> u8
+    ensures { result ≡ first_tries side }
+{
+    match side {
+        Side::Terminal => 1,
+        Side::Card => 0,
+    }
+}
+
+/// How often a terminal may send a request in a row.
+fn most_asked(about: S) -> u8
+    ensures { result ≡ most_asked about }
+{
+    match about {
+        S::Resynch => MOST_RESYNCHS,
+        S::Ifs | S::Abort | S::Wtx => MOST_REPEATS + 1,
+    }
+}
+
+fn is_between(owed: Owed) -> bool
+    ensures { result ≡ is_between owed }
+{
+    matches!(
+        owed,
+        Owed::NewMessage | Owed::EitherBlock | Owed::MessageOrCorrection | Owed::MessageOrRefusal
+    )
+}
+
+fn is_within(owed: Owed) -> bool
+    ensures { result ≡ is_within owed }
+{
+    matches!(owed, Owed::NextBlock | Owed::Acknowledgment)
+}
+
+fn is_asked(asked: Option<Asked>, about: S, octet: u8) -> bool
+    ensures { result ≡ is_asked asked about octet }
+{
+    match (asked, about) {
+        (Some(Asked::Size(size)), S::Ifs) => octet == size,
+        (Some(Asked::Time(multiple)), S::Wtx) => octet == multiple,
+        (Some(Asked::Stop), S::Abort) => true,
+        (Some(Asked::Anew), S::Resynch) => true,
+        _ => false,
+    }
+}

@@ -1,0 +1,158 @@
+//! An end after a block that it sent (ISO/IEC 7816-3:2006, clause 11.6).
+
+ghost use Rattle.std.specs.Prelude.{◌≡◌, length, true};
+ghost use Rattle.judge_core.specs.Sends.{acknowledged, again, informed, is_pending, pending_of, repeats_info, responded, sends_info, sends_ready, suggested};
+
+use crate::asking::is_foreign;
+use crate::end::{End, Owed, Pending, Side};
+use crate::hearing::same;
+use crate::rule::Rule;
+use block_core::{Fault, Number, Pcb, S};
+use t1_core::MOST_REPEATS;
+
+/// The end after a block that it may send, or the rule that the block breaks.
+pub(crate) type Sent = Result<End, Rule>;
+
+impl End {
+    /// A new I-block.
+    pub(crate) fn sends_info(self, number: Number, more: bool, inf: &[u8]) -> Sent
+        ensures { result ≡ sends_info self number more inf.now }
+    {
+        if !same(number, self.next) {
+            Err(Rule::SequenceNumber)
+        } else if inf.len() > usize::from(self.room) {
+            Err(Rule::FieldSize)
+        } else {
+            Ok(self.informed(number, more))
+        }
+    }
+
+    pub(crate) fn informed(self, number: Number, more: bool) -> End
+        ensures { result ≡ informed self number more }
+    {
+        End {
+            next: number.other(),
+            pending: pending_of(more),
+            asked: None,
+            tries: 0,
+            row: 0,
+            known: true,
+            aborted: false,
+            ..self
+        }
+    }
+
+    /// The last I-block once more, with the octets that it had.
+    pub(crate) fn repeats_info(self, last: &[u8], number: Number, more: bool, inf: &[u8]) -> Sent
+        ensures { result ≡ repeats_info self last.now number more inf.now }
+    {
+        if same(number, self.next) {
+            Err(Rule::SequenceNumber)
+        } else if is_pending(self.pending, more) && inf == last {
+            self.again()
+        } else {
+            Err(Rule::RepeatedOctets)
+        }
+    }
+
+    pub(crate) fn sends_ready(self, number: Number) -> Sent
+        ensures { result ≡ sends_ready self number }
+    {
+        if same(number, self.expects) {
+            self.again()
+        } else {
+            Err(Rule::SequenceNumber)
+        }
+    }
+
+    pub(crate) fn acknowledged(self, number: Number, fault: Fault) -> Sent
+        ensures { result ≡ acknowledged self number fault }
+    {
+        match fault {
+            Fault::Redundancy | Fault::Other => Err(Rule::ErrorCode),
+            Fault::Free if same(number, self.expects) => Ok(End {
+                tries: 0,
+                row: 0,
+                ..self
+            }),
+            Fault::Free => Err(Rule::SequenceNumber),
+        }
+    }
+
+    /// One repeat or correction more; a card has no limit.
+    pub(crate) fn again(self) -> Sent
+        ensures { result ≡ again self }
+    {
+        match self.side {
+            Side::Card => Ok(self),
+            Side::Terminal if self.row < MOST_REPEATS => Ok(End {
+                tries: self.tries.saturating_add(1),
+                row: self.row + 1,
+                ..self
+            }),
+            Side::Terminal => Err(Rule::TooManyRepeats),
+        }
+    }
+
+    /// The end after its response.
+    pub(crate) fn responded(self, about: S, octet: u8) -> End
+        ensures { result ≡ responded self about octet }
+    {
+        match about {
+            S::Resynch => self.begun(),
+            S::Ifs => End {
+                room: octet,
+                row: 0,
+                ..self
+            },
+            S::Abort => End {
+                pending: Pending::Settled,
+                row: 0,
+                aborted: true,
+                ..self
+            },
+            S::Wtx => End { row: 0, ..self },
+        }
+    }
+
+    /// The end that its own block suggests, which carries this octet or 0.
+    pub(crate) fn suggested(self, pcb: Pcb, octet: u8) -> End
+        ensures { result ≡ suggested self pcb octet }
+    {
+        let known = End {
+            asked: None,
+            before: Owed::NewMessage,
+            known: true,
+            ..self
+        };
+        match pcb {
+            Pcb::Info { number, more } => known.informed(number, more),
+            Pcb::Ready { number, .. } => End {
+                expects: number,
+                ..known
+            },
+            Pcb::Request(_) if is_foreign(self.side, pcb) => End {
+                known: false,
+                ..self
+            },
+            Pcb::Request(about) => self.asking(Owed::NewMessage, about, octet),
+            Pcb::Response(about) => known.responded(about, octet),
+        }
+    }
+}
+
+fn pending_of(more: bool) -> Pending
+    ensures { result ≡ pending_of more }
+{
+    if more { Pending::Chain } else { Pending::Last }
+}
+
+fn is_pending(pending: Pending, more: bool) -> bool
+    ensures { result ≡ is_pending pending more }
+{
+    match pending {
+        Pending::Settled => false,
+        Pending::Chain => more,
+        Pending::Last => !more,
+    }
+}
