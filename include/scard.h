@@ -1102,7 +1102,8 @@ struct scard_lent_sender {
     uint8_t before;
     uint8_t before_octet;
     uint8_t tries;
-    uint8_t row;
+    uint8_t repeats;
+    uint8_t corrections;
     uint8_t room;
     uint8_t first_room;
     uint8_t known;

@@ -74,8 +74,8 @@ class End:
 
     def __init__(self, side, room, owed):
         self.side, self.room, self.first_room, self.owed = side, room, room, owed
-        self.next = self.expects = self.tries = self.row = self.resynchs = 0
-        self.earlier = 0, 0
+        self.next = self.expects = self.tries = self.repeats = self.corrections = self.resynchs = 0
+        self.earlier = 0, 0, 0
         self.last = self.asked = self.before = self.about = None
         self.in_chain = self.hears_chain = self.is_aborted = self.may_refuse = self.refuses_later = False
 
@@ -105,8 +105,8 @@ class End:
 
     def goes_on(self, owed):
         """It heard a block in order."""
-        self.owed, self.earlier = owed, (self.tries, self.row)
-        self.tries = self.row = 0
+        self.owed, self.earlier = owed, (self.tries, self.repeats, self.corrections)
+        self.tries = self.repeats = self.corrections = 0
 
     def hears_information(self, block):
         """An I-block: the one that it expects, or none that it can use, as within its own chain."""
@@ -143,7 +143,7 @@ class End:
                 self.in_chain = self.hears_chain = False
             self.goes_on({"RESYNCH": "message", "ABORT": "either"}.get(block.subject, self.before))
             self.may_refuse = self.refuses_later and block.subject in ("IFS", "WTX")
-            self.earlier = 0, 0
+            self.earlier = 0, 0, 0
 
     def hears_request(self, block):
         """A request: an answer is due, but where its own request waits, unless all begins again."""
@@ -200,7 +200,7 @@ class End:
 
     def is_refusal(self, block):
         """Whether an R-block refuses, as another error, the I-block that came whole: a correction like others."""
-        is_often = self.side == "terminal" and self.earlier[1] >= MOST
+        is_often = self.side == "terminal" and self.earlier[2] >= MOST
         return self.may_refuse and block.number != self.expects and block.code == 2 and not is_often
 
     def breaks_in_order(self, block):
@@ -241,13 +241,13 @@ class End:
             return self.breaks_often(block, "no repeat")
         if block.number == self.next:
             return "sequence number"
-        return self.too_many(self.row) if (block.pcb, block.field) == self.last else "repeat with other octets"
+        return self.too_many(self.repeats) if (block.pcb, block.field) == self.last else "repeat with other octets"
 
     def breaks_correction(self, block):
         """An R-block after an error."""
         if block.kind != "R":
             return self.breaks_often(block, "no R-block")
-        return self.too_many(self.row) if block.number == self.expects else "sequence number"
+        return self.too_many(self.corrections) if block.number == self.expects else "sequence number"
 
     def breaks_request(self, block):
         """Its request once more; RESYNCH in its place."""
@@ -277,10 +277,10 @@ class End:
 
     def sends(self, block):
         """It sent a block that breaks no rule."""
-        corrects = self.owed == "message_or_correction" and block.kind == "R"
-        if corrects or self.owed in ("repeat", "correction", "request"):
-            self.tries += 1
-            self.row += 1
+        corrects = self.owed == "correction" or self.owed == "message_or_correction" and block.kind == "R"
+        self.tries += corrects or self.owed in ("repeat", "request")
+        self.repeats += self.owed == "repeat"
+        self.corrections += corrects
         {"I": self.sends_information, "R": self.sends_receipt, "S": self.sends_supervision}[block.kind](block)
 
     def sends_information(self, block):
@@ -289,13 +289,14 @@ class End:
             self.last, self.in_chain = (block.pcb, block.field), block.more
             self.next ^= 1
             self.hears_chain = self.is_aborted = False
-            self.tries = self.row = 0
+            self.tries = self.repeats = self.corrections = 0
 
     def sends_receipt(self, block):
         """A refused I-block is expected again."""
         if block.number != self.expects:
             self.expects = block.number
-            self.tries, self.row = (count + 1 for count in self.earlier)
+            tries, self.repeats, corrections = self.earlier
+            self.tries, self.corrections = tries + 1, corrections + 1
 
     def sends_supervision(self, block):
         """A request waits for its response; a response changes what it agrees to."""
@@ -311,8 +312,8 @@ class End:
             self.begins_again()
 
     def agrees(self, block):
-        """A response: a size, new numbers, or the end of a chain. It ends a row of repeats."""
-        self.row = 0
+        """A response: a size, new numbers, or the end of a chain. It ends each row of repeats."""
+        self.repeats = self.corrections = 0
         if block.subject == "IFS":
             self.room = block.octet
         elif block.subject == "RESYNCH":

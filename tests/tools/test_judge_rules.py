@@ -53,10 +53,15 @@ class Rules(unittest.TestCase):
 
     def test_a_response_ends_a_row_of_repeats(self):
         repeated = "t:I0! c:R0.1 t:I0! c:R0.1 t:I0! c:R0.1 t:I0 "
-        self.assertEqual(broken(repeated + "c:I0!", "R0.1")[0], "too many repeats")
+        self.assertEqual(broken(repeated + "c:R0.2", "I0")[0], "too many repeats")
         for asked in ("c:WTX t:wtx", "c:IFS t:ifs"):
-            self.assertEqual(broken(f"{repeated}{asked} c:I0!", "R0.1")[0], None)
-            self.assertEqual(broken(f"{repeated}{asked} c:I0!", "RESYNCH")[0], None)
+            self.assertEqual(broken(f"{repeated}{asked} c:R0.2", "I0")[0], None)
+            self.assertEqual(broken(f"{repeated}{asked} c:R0.2", "RESYNCH")[0], None)
+
+    def test_repeats_and_corrections_count_apart(self):
+        corrected = "t:I0! c:R0.1 t:I0 c:I0! t:R0.1 c:I0! t:R0.1 c:I0!"
+        self.assertEqual(broken(corrected, "R0.1")[0], None)
+        self.assertEqual(broken(f"{corrected} t:R0.1 c:I0!", "R0.1")[0], "too many repeats")
 
     def test_a_hand_over_may_be_a_correction(self):
         handed = "t:I0 c:I0+ t:ABORT c:abort t:R1"

@@ -133,7 +133,7 @@ end_of c = record {
   asked = asked_in c.asked c.asked_octet;
   before = owed_in c.before c.before_octet;
   tries = c.tries;
-  row = c.row;
+  row = record { repeats = c.repeats; corrections = c.corrections };
   room = c.room;
   first_room = c.first_room;
   known = mark_in c.known;

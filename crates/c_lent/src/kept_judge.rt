@@ -10,7 +10,7 @@ use crate::kept::{mark, mark_of};
 use crate::number::{fault_of, number_of, subject_of};
 use arrayvec::ArrayVec;
 use block_core::{Fault, LONGEST_INF, Number, Pcb, S};
-use judge_core::{Asked, End, Heard, Monitor, Owed, Pending, Side, Watched};
+use judge_core::{Asked, End, Heard, Monitor, Owed, Pending, Row, Side, Watched};
 
 /// What decides what an end may send.
 #[repr(C)]
@@ -25,7 +25,8 @@ pub struct CEnd {
     pub before: u8,
     pub before_octet: u8,
     pub tries: u8,
-    pub row: u8,
+    pub repeats: u8,
+    pub corrections: u8,
     pub room: u8,
     pub first_room: u8,
     pub known: u8,
@@ -353,7 +354,8 @@ impl CEnd {
             before,
             before_octet,
             tries: end.tries,
-            row: end.row,
+            repeats: end.row.repeats,
+            corrections: end.row.corrections,
             room: end.room,
             first_room: end.first_room,
             known: mark(end.known),
@@ -372,7 +374,10 @@ impl CEnd {
             asked: asked_in(self.asked, self.asked_octet),
             before: owed_in(self.before, self.before_octet),
             tries: self.tries,
-            row: self.row,
+            row: Row {
+                repeats: self.repeats,
+                corrections: self.corrections,
+            },
             room: self.room,
             first_room: self.first_room,
             known: mark_in(self.known),

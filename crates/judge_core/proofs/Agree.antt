@@ -24,7 +24,7 @@ use Rattle.judge_core.specs.declared.rule.Rule.{Rule}
 use Rattle.judge_core.specs.declared.rule.Rule.TheVariants.{CorrectionDue, RequestDue, SequenceNumber}
 use Rattle.judge_core.specs.declared.courses.Heard.{Heard}
 use Rattle.judge_core.specs.declared.courses.Heard.TheVariants.{Beginning, Whole, Perhaps, Broken, Nothing}
-use Rattle.judge_core.specs.Ends.{after, begun, answered, answers, hears, hears_info, hears_ready, hears_free, hears_asking, hears_request, hears_unknown, due_after, begins_again, missed}
+use Rattle.judge_core.specs.Ends.{after, begun, no_row, answered, answers, hears, hears_info, hears_ready, hears_free, hears_asking, hears_request, hears_unknown, due_after, begins_again, missed}
 use Rattle.judge_core.specs.Sends.{Sent, sends, sends_owed, is_foreign, asking, resynchs, repeats_request, sends_ready, least_repeats, asked_again}
 use Rattle.judge_core.specs.Courses.{attempted, got_whole, got_none, perhaps_answers, uncounted, untaken}
 
@@ -98,7 +98,7 @@ acknowledgment_refusal : (e : End) (x : Number)
     → Alike (after (taking e x) Acknowledgment) (after (expecting e x) Refusal)
 acknowledgment_refusal e x last (Info number more) inf = tt
 acknowledgment_refusal e x last (Ready number Free) inf =
-    by_first (if same number (other x) then Ok (record (taking e x) { tries = 0; row = 0 }) else Err SequenceNumber) _
+    by_first (if same number (other x) then Ok (record (taking e x) { tries = 0; row = no_row }) else Err SequenceNumber) _
 acknowledgment_refusal e x last (Ready number Redundancy) inf = tt
 acknowledgment_refusal e x last (Ready number Other) inf = tt
 acknowledgment_refusal e x last (Request Resynch) inf = tt

@@ -24,7 +24,7 @@ use Rattle.judge_core.specs.declared.end.Owed.TheVariants.{NewMessage, NextBlock
 use Rattle.judge_core.specs.declared.end.End.{End}
 use Rattle.judge_core.specs.declared.courses.Heard.{Heard}
 use Rattle.judge_core.specs.declared.courses.Heard.TheVariants.{Whole, Perhaps, Nothing}
-use Rattle.judge_core.specs.Ends.{after, begun, due_after, hears, hears_info, hears_ready, is_chain}
+use Rattle.judge_core.specs.Ends.{after, begun, no_row, due_after, hears, hears_info, hears_ready, is_chain}
 use Rattle.judge_core.specs.Sends.{is_pending, pending_of, sends, sends_info as judge_info}
 use Rattle.judge_core.specs.Courses.{got_none, got_whole}
 use Rattle.judge_core.specs.Followed.{last_after}
@@ -71,7 +71,7 @@ busy next expects pending before room first aborted = record {
   asked = None;
   before = before;
   tries = 0;
-  row = 0;
+  row = no_row;
   room = room;
   first_room = first;
   known = true;
@@ -104,9 +104,9 @@ abbrev pub OwesMessage : End → Owed → Type 0
 OwesMessage e owed = ((last : List ℕ) (number : Number) (more : Bool) (inf : List ℕ)
     → sends e owed last (Info number more) inf ≡ judge_info e number more inf)
     × ((last : List ℕ) (n : ℕ) → sends e owed last (Request Wtx) (n ∷ [])
-    ≡ Ok (record e { asked = Some (Time n); before = MessageOrRefusal; tries = 0; row = 0; known = true }))
+    ≡ Ok (record e { asked = Some (Time n); before = MessageOrRefusal; tries = 0; row = no_row; known = true }))
     × ((last : List ℕ) (n : ℕ) → sends e owed last (Request Ifs) (n ∷ [])
-    ≡ Ok (record e { asked = Some (Size n); before = MessageOrRefusal; tries = 0; row = 0; known = true }))
+    ≡ Ok (record e { asked = Some (Size n); before = MessageOrRefusal; tries = 0; row = no_row; known = true }))
 
 pub record Rests (c : CardState) (w : Watched) : Type 0 where
   pub spare : SpareOf c

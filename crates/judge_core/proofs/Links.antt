@@ -17,6 +17,7 @@ use Rattle.judge_core.specs.declared.courses.Heard.{Heard}
 use Rattle.judge_core.specs.declared.courses.Heard.TheVariants.{Beginning, Whole, Perhaps, Broken, Nothing}
 use Rattle.judge_core.specs.declared.courses.Verdict.TheVariants.{Unseen, Deviates}
 use Rattle.judge_core.specs.Followed.{IsCertain}
+use Rattle.judge_core.specs.Ends.{no_row}
 use Rattle.judge_core.specs.Watched.{AllPermitted, EndsArePermitted, Watch, Watched, arrival, at_card, at_terminal, by_card, by_terminal, card_hears, card_says, delivery, heard_of, loss, made, new_watch, terminal_hears, terminal_says, watch_all, watches}
 use Rattle.judge_core.proofs.Passes.{Doubts, Fine, NoAbort, PlainCame, certain}
 use Rattle.judge_core.proofs.Terminals as terminals
@@ -203,7 +204,7 @@ terminal_starts ifsc limits = record {
   spare = record { before = NewMessage; room = ifsc; first = ifsc; room_ok = omega arith; first_ok = omega arith };
   pending = Settled;
   tries = 0;
-  row = 0;
+  row = no_row;
   aborted = false;
   owes = refl;
 }

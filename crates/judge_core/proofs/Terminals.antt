@@ -21,12 +21,13 @@ use Rattle.judge_core.specs.declared.end.Pending.TheVariants.{Settled, Chain, La
 use Rattle.judge_core.specs.declared.end.Asked.TheVariants.{Size, Anew}
 use Rattle.judge_core.specs.declared.end.Owed.{Owed}
 use Rattle.judge_core.specs.declared.end.Owed.TheVariants.{NewMessage, NextBlock, Acknowledgment, SameBlock, Correction, Refusal, SameRequest, Answer}
+use Rattle.judge_core.specs.declared.end.Row.{Row}
 use Rattle.judge_core.specs.declared.end.End.{End}
 use Rattle.judge_core.specs.declared.end.After.{After}
 use Rattle.judge_core.specs.declared.rule.Rule.TheVariants.{TooManyRepeats}
 use Rattle.judge_core.specs.declared.courses.Heard.{Heard}
 use Rattle.judge_core.specs.declared.courses.Heard.TheVariants.{Whole, Perhaps, Broken}
-use Rattle.judge_core.specs.Ends.{after, due_after, hears, hears_info, hears_ready, is_chain}
+use Rattle.judge_core.specs.Ends.{no_row, after, due_after, hears, hears_info, hears_ready, is_chain}
 use Rattle.judge_core.specs.Sends.{sends, sends_info as judge_info, least_repeats, one_more, is_pending, pending_of}
 use Rattle.judge_core.specs.Courses.{got_whole}
 use Rattle.judge_core.specs.Followed.{last_after}
@@ -64,7 +65,7 @@ next_with (chain field rest) number = other number
 next_with (ends field) number = other number
 next_with (further joined last) number = number
 
-abbrev pub busy : Number → Number → Pending → Owed → ℕ → ℕ → ℕ → ℕ → End
+abbrev pub busy : Number → Number → Pending → Owed → ℕ → Row → ℕ → ℕ → End
 busy next expects pending before tries row room first = record {
   side = Terminal;
   next = next;
@@ -83,8 +84,9 @@ busy next expects pending before tries row room first = record {
 -- in an exchange it repeated no more often in a row than it counts failures
 pub record Talk (ifsc first_ifsc failures : ℕ) : Type 0 where
   pub spare : Spare ifsc first_ifsc
-  pub row : ℕ
-  pub few : row ≤ failures
+  pub row : Row
+  pub few : row.repeats ≤ failures
+  pub fewer : row.corrections ≤ failures
 
 abbrev pub TalkOf : TerminalState → Type 0
 TalkOf t = Talk t.ifsc t.first_ifsc t.failures
@@ -94,20 +96,20 @@ in_talk t x k =
     busy (next_with k t.number) t.expected (pending_with k) x.spare.before t.failures x.row x.spare.room x.spare.first
 
 -- it may begin a message
-abbrev pub rested : (t : TerminalState) → SpareOf t → Pending → ℕ → ℕ → Bool → End
+abbrev pub rested : (t : TerminalState) → SpareOf t → Pending → ℕ → Row → Bool → End
 rested t x pending tries row aborted = record (busy t.number t.expected pending x.before tries row x.room x.first)
     { aborted = aborted }
 
 -- it asked for a size
 abbrev pub sizing : (t : TerminalState) → SpareOf t → Pending → Bool → ℕ → ℕ → End
-sizing t x pending aborted tries size = record (rested t x pending tries 0 aborted) {
+sizing t x pending aborted tries size = record (rested t x pending tries no_row aborted) {
   asked = Some (Size size);
   before = NewMessage;
 }
 
 -- it asked for RESYNCH so often
 abbrev pub beginning : ℕ → ℕ → ℕ → End
-beginning room first tries = record (busy Zero Zero Settled NewMessage tries 0 room first) { asked = Some Anew }
+beginning room first tries = record (busy Zero Zero Settled NewMessage tries no_row room first) { asked = Some Anew }
 
 abbrev pub InTalk : TerminalState → Kind → Watched → Type 0
 InTalk t k w = (x : TalkOf t) × (hearing w Broken ≡ watched (in_talk t x k) Broken (last_of k))
@@ -116,7 +118,7 @@ pub record Rests (t : TerminalState) (w : Watched) : Type 0 where
   pub spare : SpareOf t
   pub pending : Pending
   pub tries : ℕ
-  pub row : ℕ
+  pub row : Row
   pub aborted : Bool
   pub owes : got_whole w.«end» w.heard ≡ Some (after (rested t spare pending tries row aborted) NewMessage)
 
@@ -207,19 +209,34 @@ busy_kind (further joined last) = tt
 counted : (n : ℕ) → nat_lt n most_repeats ≡ true → one_more n ≡ n + 1
 counted n h = grind (arith, nat_tests)
 
-rarely : (n row : ℕ) → row ≤ n → nat_lt n most_repeats ≡ true → nat_lt row most_repeats ≡ true
-rarely n row h k = grind (arith, nat_tests)
+rarely : (n count : ℕ) → count ≤ n → nat_lt n most_repeats ≡ true → nat_lt count most_repeats ≡ true
+rarely n count h k = grind (arith, nat_tests)
 
-abbrev once_more : (t : TerminalState) → TalkOf t → TalkOf (record t { failures = t.failures + 1 })
-once_more t x = record { spare = x.spare; row = x.row + 1; few = omega (arith, x.few) }
+at_most : (n m : ℕ) → n ≤ m → one_more n ≤ m + 1
+at_most n m h = omega (arith, h)
 
-repeated : (t : TerminalState) (x : TalkOf t) (e : End) → nat_lt t.failures most_repeats ≡ true
-    → (if nat_lt x.row most_repeats
-    then Ok (record e { tries = one_more t.failures; row = x.row + 1 })
-    else Err TooManyRepeats)
-    ≡ Ok (record e { tries = t.failures + 1; row = x.row + 1 })
-repeated t x e h = is_then (nat_lt x.row most_repeats) _ _ (rarely t.failures x.row x.few h)
-    ∙ ap (λ n. Ok (record e { tries = n; row = x.row + 1 })) (counted t.failures h)
+abbrev corrected_once : (t : TerminalState) → TalkOf t → TalkOf (record t { failures = t.failures + 1 })
+corrected_once t x = record {
+  spare = x.spare;
+  row = record x.row { corrections = one_more x.row.corrections };
+  few = omega (arith, x.few);
+  fewer = at_most x.row.corrections t.failures x.fewer;
+}
+
+abbrev repeated_once : (t : TerminalState) → TalkOf t → TalkOf (record t { failures = t.failures + 1 })
+repeated_once t x = record {
+  spare = x.spare;
+  row = record x.row { repeats = one_more x.row.repeats };
+  few = at_most x.row.repeats t.failures x.few;
+  fewer = omega (arith, x.fewer);
+}
+
+once_more : (t : TerminalState) (count : ℕ) (row : Row) (e : End) → count ≤ t.failures
+    → nat_lt t.failures most_repeats ≡ true
+    → (if nat_lt count most_repeats then Ok (record e { tries = one_more t.failures; row = row }) else Err
+    TooManyRepeats) ≡ Ok (record e { tries = t.failures + 1; row = row })
+once_more t count row e few h = is_then (nat_lt count most_repeats) _ _ (rarely t.failures count few h)
+    ∙ ap (λ n. Ok (record e { tries = n; row = row })) (counted t.failures h)
 
 -- an R-block after an error
 correcting : (t : TerminalState) (k : Kind) (x : TalkOf t) (heard : Heard) (fault : Fault)
@@ -228,12 +245,12 @@ correcting : (t : TerminalState) (k : Kind) (x : TalkOf t) (heard : Heard) (faul
 correcting t k x heard fault course =
     let e = in_talk t x k in
     failing (watched e heard (last_of k)) (at (waits_of k) t) (ready t.expected fault)
-    (record e { tries = t.failures + 1; row = x.row + 1 }) (after e Correction) (max x.spare.room x.spare.first) x.spare.first (busy_kind k) tt course
+    (record e { tries = t.failures + 1; row = (corrected_once t x).row }) (after e Correction) (max x.spare.room x.spare.first) x.spare.first (busy_kind k) tt course
     x.spare.first_ok
     (λ h. is_then (same t.expected t.expected) _ _ (same_self t.expected)
-    ∙ repeated t x e h)
+    ∙ once_more t x.row.corrections (corrected_once t x).row e x.fewer h)
     (λ h. is_then (nat_le least_repeats t.failures) _ _ (early t.failures h))
-    (fits_talk (record t { failures = t.failures + 1 }) k (once_more t x))
+    (fits_talk (record t { failures = t.failures + 1 }) k (corrected_once t x))
 
 -- an I-block is refused, as one that came, or as one that didn't
 refusing : (t : TerminalState) (k : Kind) (x : TalkOf t) (view : View) (number : Number) (goes_on : Bool)
@@ -244,12 +261,12 @@ refusing t k x certain number goes_on inf =
     let e = in_talk t x k in
     failing (watched e (Whole (Info number goes_on) (carried inf)) (last_of k)) (at (waits_of k) t)
     (ready t.expected Other)
-    (record e { tries = t.failures + 1; row = x.row + 1 }) (after e Refusal) (max x.spare.room x.spare.first) x.spare.first (busy_kind k) tt (inr refl)
+    (record e { tries = t.failures + 1; row = (corrected_once t x).row }) (after e Refusal) (max x.spare.room x.spare.first) x.spare.first (busy_kind k) tt (inr refl)
     x.spare.first_ok
     (λ h. is_then (same t.expected t.expected) _ _ (same_self t.expected)
-    ∙ repeated t x e h)
+    ∙ once_more t x.row.corrections (corrected_once t x).row e x.fewer h)
     (λ h. is_then (nat_le least_repeats t.failures) _ _ (early t.failures h))
-    (fits_talk (record t { failures = t.failures + 1 }) k (once_more t x))
+    (fits_talk (record t { failures = t.failures + 1 }) k (corrected_once t x))
 refusing t k x (maybe sent octet) number goes_on inf =
     correcting t k x (Perhaps (Info number goes_on) (carried inf)) Other (inr refl)
 
@@ -262,29 +279,29 @@ repeating : (t : TerminalState) (k : Kind) (x : TalkOf t) (heard : Heard) (goes_
 repeating t k x heard goes_on course other_number pending =
     let e = in_talk t x k in
     failing (watched e heard (last_of k)) (at (waits_of k) t) (info t.number goes_on (last_of k))
-    (record e { tries = t.failures + 1; row = x.row + 1 }) (after e SameBlock) (max x.spare.room x.spare.first) x.spare.first (busy_kind k) tt course
+    (record e { tries = t.failures + 1; row = (repeated_once t x).row }) (after e SameBlock) (max x.spare.room x.spare.first) x.spare.first (busy_kind k) tt course
     x.spare.first_ok
     (λ h. is_else (same t.number (next_with k t.number)) _ _ other_number
     ∙ is_then (is_pending (pending_with k) goes_on) _ _ pending
     ∙ is_then (bytes_eq (last_of k) (last_of k)) _ _ (bytes_self (last_of k))
-    ∙ repeated t x e h)
+    ∙ once_more t x.row.repeats (repeated_once t x).row e x.few h)
     (λ h. is_then (nat_le least_repeats t.failures) _ _ (early t.failures h))
-    (fits_talk (record t { failures = t.failures + 1 }) k (once_more t x))
+    (fits_talk (record t { failures = t.failures + 1 }) k (repeated_once t x))
 
 -- ---- a block of a message
 
 -- the rest of the message goes out
 fits_next : (t : TerminalState) (x : SpareOf t) (field rest : List ℕ)
     → Fits (record t { failures = 0; waits = waiting field rest }) (waiting field rest)
-    (watched (busy (other t.number) t.expected (pending_of (is_more rest)) x.before 0 0 x.room x.first) Broken field)
-fits_next t x field [] = (record { spare = x; row = 0; few = omega arith }, refl)
-fits_next t x field (octet ∷ rest) = (record { spare = x; row = 0; few = omega arith }, refl)
+    (watched (busy (other t.number) t.expected (pending_of (is_more rest)) x.before 0 no_row x.room x.first) Broken field)
+fits_next t x field [] = (record { spare = x; row = no_row; few = omega arith; fewer = omega arith }, refl)
+fits_next t x field (octet ∷ rest) = (record { spare = x; row = no_row; few = omega arith; fewer = omega arith }, refl)
 
 busy_next : (field rest : List ℕ) → IsBusy (waiting field rest)
 busy_next field [] = tt
 busy_next field (octet ∷ rest) = tt
 
-cutting : (w : Watched) (t : TerminalState) (x : SpareOf t) (pending : Pending) (tries row : ℕ) (aborted : Bool)
+cutting : (w : Watched) (t : TerminalState) (x : SpareOf t) (pending : Pending) (tries : ℕ) (row : Row) (aborted : Bool)
     (owed : Owed) (octets : List ℕ)
     → Course w.«end» w.heard (after (rested t x pending tries row aborted) owed)
     → ((number : Number) (more : Bool) (inf : List ℕ)
@@ -296,7 +313,7 @@ cutting w t x pending tries row aborted owed octets course as_info =
     let rest = drop t.ifsc octets in
     let e = rested t x pending tries row aborted in
     said w (info t.number (is_more rest) field) (record t { failures = 0; waits = waiting field rest })
-    (busy (other t.number) t.expected (pending_of (is_more rest)) x.before 0 0 x.room x.first)
+    (busy (other t.number) t.expected (pending_of (is_more rest)) x.before 0 no_row x.room x.first)
     (passes w.«end» w.heard w.last (Info t.number (is_more rest)) field (after e owed) _ course
     (as_info t.number (is_more rest) field
     ∙ is_then (same t.number t.number) _ _ (same_self t.number)
@@ -317,12 +334,12 @@ size_told t k x view inf =
     let n = carried inf in
     said (watched e (heard_at view (got (Request Ifs) inf)) (last_of k)) (response Ifs inf)
     (record t { ifsc = n; waits = waits_of k })
-    (record e { room = n; row = 0 })
+    (record e { room = n; row = no_row })
     (passes e (heard_at view (got (Request Ifs) inf)) (last_of k) (Response Ifs) inf (after e (Answer Ifs n))
-    (record e { room = n; row = 0 })
+    (record e { room = n; row = no_row })
     (inl (whole_at view e (Request Ifs) inf)) (is_then (n == n) _ _ (equal_self n))) tt (busy_kind k)
     (fits_talk (record t { ifsc = n }) k
-    (record { spare = roomy t x.spare n; row = 0; few = omega arith }))
+    (record { spare = roomy t x.spare n; row = no_row; few = omega arith; fewer = omega arith }))
 
 time_told : (t : TerminalState) (k : Kind) (x : TalkOf t) (view : View) (inf : List ℕ)
     → Outcome (watched (in_talk t x k) (heard_at view (got (Request Wtx) inf)) (last_of k))
@@ -331,11 +348,11 @@ time_told t k x view inf =
     let e = in_talk t x k in
     let n = carried inf in
     said (watched e (heard_at view (got (Request Wtx) inf)) (last_of k)) (response Wtx inf)
-    (record t { waits = waits_of k }) (record e { row = 0 })
+    (record t { waits = waits_of k }) (record e { row = no_row })
     (passes e (heard_at view (got (Request Wtx) inf)) (last_of k) (Response Wtx) inf (after e (Answer Wtx n))
-    (record e { row = 0 })
+    (record e { row = no_row })
     (inl (whole_at view e (Request Wtx) inf)) (is_then (n == n) _ _ (equal_self n))) tt (busy_kind k)
-    (fits_talk t k (record { spare = x.spare; row = 0; few = omega arith }))
+    (fits_talk t k (record { spare = x.spare; row = no_row; few = omega arith; fewer = omega arith }))
 
 -- what a terminal may take, but for an R-block, which goes by the kind
 abbrev NotReady : Came → Type 0
@@ -384,13 +401,13 @@ joining t k x view joined number true inf h in_order =
     let e1 = record e { expects = other t.expected; pending = Settled } in
     said (watched e (heard_at view (got (Info number true) inf)) (last_of k)) (ready (other t.expected) Free)
     (record t { number = next_with k t.number; failures = 0; expected = other t.expected; waits = more joined })
-    (record e1 { tries = 0; row = 0 })
+    (record e1 { tries = 0; row = no_row })
     (passes e (heard_at view (got (Info number true) inf)) (last_of k) (Ready (other t.expected) Free) []
     (after e1 Acknowledgment)
-    (record e1 { tries = 0; row = 0 }) (inl (whole_at view e (Info number true) inf
+    (record e1 { tries = 0; row = no_row }) (inl (whole_at view e (Info number true) inf
     ∙ ap Some (taken t k x number true h in_order)))
     (is_then (same (other t.expected) (other t.expected)) _ _ (same_self (other t.expected)))) tt tt
-    (last_of k, (record { spare = x.spare; row = 0; few = omega arith }, refl))
+    (last_of k, (record { spare = x.spare; row = no_row; few = omega arith; fewer = omega arith }, refl))
 joining t k x view joined number false inf h in_order = (
   (λ b. b),
   record {
@@ -549,7 +566,7 @@ all_ifs t size x pending aborted last tries view (got (Response Ifs) inf) few =
         };
         pending = pending;
         tries = tries;
-        row = 0;
+        row = no_row;
         aborted = aborted;
         owes = whole_at view e (Response Ifs) inf ∙ ap Some (is_then (carried inf == size) _ _ h);
       },
@@ -627,7 +644,7 @@ all_resynch t asked room first last tries view (got (Response Resynch) inf) few 
     spare = record { before = NewMessage; room = max room first; first = first; room_ok = omega arith; first_ok = ok };
     pending = Settled;
     tries = 0;
-    row = 0;
+    row = no_row;
     aborted = false;
     owes = whole_at view (beginning room first tries) (Response Resynch) inf;
   },

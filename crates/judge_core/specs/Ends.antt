@@ -17,11 +17,16 @@ use Rattle.judge_core.specs.declared.end.Asked.{Asked}
 use Rattle.judge_core.specs.declared.end.Asked.TheVariants.{Size, Time, Stop, Anew}
 use Rattle.judge_core.specs.declared.end.Owed.{Owed}
 use Rattle.judge_core.specs.declared.end.Owed.TheVariants.{NewMessage, NextBlock, Acknowledgment, SameBlock, Correction, SameRequest, Answer, EitherBlock, MessageOrCorrection, AnyBlock}
+use Rattle.judge_core.specs.declared.end.Row.{Row}
 use Rattle.judge_core.specs.declared.end.End.{End}
 use Rattle.judge_core.specs.declared.end.After.{After}
 
 abbrev pub after : End → Owed → After
 after e owed = record { «end» = e; owed = owed }
+
+-- nothing was repeated or corrected
+abbrev pub no_row : Row
+no_row = record { repeats = 0; corrections = 0 }
 
 -- At a reset of the card, with the largest field that the end may send: the terminal the IFSC of the answer to reset, the
 -- card 32 octets (11.4.2). Numbers begin at 0 (rule 2.1).
@@ -34,7 +39,7 @@ new_end side room = record {
   asked = None;
   before = NewMessage;
   tries = 0;
-  row = 0;
+  row = no_row;
   room = room;
   first_room = room;
   known = true;
@@ -50,7 +55,7 @@ begun e = record e {
   asked = None;
   before = NewMessage;
   tries = 0;
-  row = 0;
+  row = no_row;
   room = max e.room e.first_room;
   known = true;
   aborted = false;

@@ -18,10 +18,11 @@ use Rattle.judge_core.specs.declared.end.Asked.{Asked}
 use Rattle.judge_core.specs.declared.end.Asked.TheVariants.{Size, Time, Stop, Anew}
 use Rattle.judge_core.specs.declared.end.Owed.{Owed}
 use Rattle.judge_core.specs.declared.end.Owed.TheVariants.{NewMessage, NextBlock, Acknowledgment, SameBlock, Correction, Refusal, SameRequest, Answer, EitherBlock, MessageOrCorrection, MessageOrRefusal, AcknowledgmentOrRefusal, AnyBlock}
+use Rattle.judge_core.specs.declared.end.Row.{Row}
 use Rattle.judge_core.specs.declared.end.End.{End}
 use Rattle.judge_core.specs.declared.rule.Rule.{Rule}
 use Rattle.judge_core.specs.declared.rule.Rule.TheVariants as rule
-use Rattle.judge_core.specs.Ends.{begun}
+use Rattle.judge_core.specs.Ends.{begun, no_row}
 
 -- the end after a block that it may send, or the rule that the block breaks
 abbrev pub Sent : Type 0
@@ -29,9 +30,10 @@ Sent = Result End Rule
 
 -- ---- what may be repeated, and how often
 
--- A terminal repeats so many times in a row before it asks for RESYNCH (rule 7.4), and asks for that so many times; a card
--- has no limit. RESYNCH may come after two repeats since the last new block. A response to a request of the card ends a
--- row, and not that count: so the reading that permits more is taken of both.
+-- A terminal repeats an I-block so many times in a row before it asks for RESYNCH, corrects as often (rule 7.4), and asks
+-- for RESYNCH so many times; a card has no limit. RESYNCH may come after two repeats and corrections together since the
+-- last new block. A response to a request of the card ends both rows, and not that count. So the reading that permits
+-- more is taken of each.
 abbrev pub least_repeats : ℕ
 least_repeats = 2
 
@@ -39,15 +41,17 @@ least_repeats = 2
 abbrev pub one_more : ℕ → ℕ
 one_more n = min (n + 1) 255
 
-abbrev pub again_as : Side → End → Sent
-again_as Terminal e =
-    if nat_lt e.row most_repeats
-    then Ok (record e { tries = one_more e.tries; row = e.row + 1 })
-    else Err rule.TooManyRepeats
-again_as Card e = Ok e
+-- once more, where there were so many of its kind in a row, which is then this
+abbrev pub again_as : Side → End → ℕ → Row → Sent
+again_as Terminal e count row =
+    if nat_lt count most_repeats then Ok (record e { tries = one_more e.tries; row = row }) else Err rule.TooManyRepeats
+again_as Card e count row = Ok e
 
-abbrev pub again : End → Sent
-again e = again_as e.side e
+abbrev pub repeats_again : End → Sent
+repeats_again e = again_as e.side e e.row.repeats (record e.row { repeats = one_more e.row.repeats })
+
+abbrev pub corrects_again : End → Sent
+corrects_again e = again_as e.side e e.row.corrections (record e.row { corrections = one_more e.row.corrections })
 
 -- ---- requests
 
@@ -86,7 +90,7 @@ asks_for e owed asked = record e {
   asked = Some asked;
   before = after_answer owed e.side;
   tries = first_tries e.side;
-  row = 0;
+  row = no_row;
   known = true;
 }
 
@@ -179,7 +183,7 @@ informed e number more = record e {
   pending = pending_of more;
   asked = None;
   tries = 0;
-  row = 0;
+  row = no_row;
   known = true;
   aborted = false;
 }
@@ -202,12 +206,12 @@ messages e owed (Response s) inf = Err rule.Unasked
 
 -- An R-block with the number of the I-block that its sender expects (rule 7.1).
 abbrev pub sends_ready : End → Number → Sent
-sends_ready e number = if same number e.expects then again e else Err rule.SequenceNumber
+sends_ready e number = if same number e.expects then corrects_again e else Err rule.SequenceNumber
 
 -- An acknowledgment is free of errors (rule 2.2).
 abbrev pub acknowledged : End → Number → Fault → Sent
 acknowledged e number Free =
-    if same number e.expects then Ok (record e { tries = 0; row = 0 }) else Err rule.SequenceNumber
+    if same number e.expects then Ok (record e { tries = 0; row = no_row }) else Err rule.SequenceNumber
 acknowledged e number Redundancy = Err rule.ErrorCode
 acknowledged e number Other = Err rule.ErrorCode
 
@@ -246,7 +250,7 @@ is_refusal e (Request s) = false
 is_refusal e (Response s) = false
 
 abbrev pub or_refuses : End → Pcb → Sent → Sent
-or_refuses e pcb sent = if is_refusal e pcb then again (record e { expects = other e.expects; tries = 0 }) else sent
+or_refuses e pcb sent = if is_refusal e pcb then corrects_again (record e { expects = other e.expects; tries = 0 }) else sent
 
 -- ---- repeats and answers
 
@@ -261,7 +265,7 @@ abbrev pub repeats_info : End → List ℕ → Number → Bool → List ℕ → 
 repeats_info e last number more inf =
     if same number e.next then Err rule.SequenceNumber
     else (if is_pending e.pending more
-    then (if bytes_eq inf last then again e else Err rule.RepeatedOctets)
+    then (if bytes_eq inf last then repeats_again e else Err rule.RepeatedOctets)
     else Err rule.RepeatedOctets)
 
 abbrev pub repeats : End → List ℕ → Pcb → List ℕ → Sent
@@ -280,9 +284,9 @@ asks_again e (Response s) inf = Err rule.RequestDue
 -- An end that answered: a size holds from then on (rule 4), a chain is over (rule 9), or all begins again (rule 6).
 abbrev pub responded : End → S → ℕ → End
 responded e Resynch n = begun e
-responded e Ifs n = record e { room = n; row = 0 }
-responded e Abort n = record e { pending = Settled; row = 0; aborted = true }
-responded e Wtx n = record e { row = 0 }
+responded e Ifs n = record e { room = n; row = no_row }
+responded e Abort n = record e { pending = Settled; row = no_row; aborted = true }
+responded e Wtx n = record e { row = no_row }
 
 abbrev pub same_subject : S → S → Bool
 same_subject Resynch Resynch = true

@@ -3,7 +3,7 @@
 ghost use Rattle.std.specs.Prelude.{◌≡◌, Some, true};
 ghost use Rattle.judge_core.specs.Sends.{after_answer, asked_again, asking, asks, asks_for, first_tries, is_asked, is_between, is_foreign, is_within, most_asked, repeats_request, resynchs, resynchs_asking};
 
-use crate::end::{Asked, End, Owed, Side};
+use crate::end::{Asked, End, Owed, Row, Side};
 use crate::rule::Rule;
 use crate::step::Sent;
 use block_core::{Pcb, S};
@@ -80,7 +80,7 @@ impl End {
             asked: Some(asked),
             before: after_answer(before, self.side),
             tries: first_tries(self.side),
-            row: 0,
+            row: Row::none(),
             known: true,
             ..self
         }

@@ -1,7 +1,7 @@
 //! What an end of the line has under way, and what it owes.
 
 ghost use Rattle.std.specs.Prelude.{◌≡◌};
-ghost use Rattle.judge_core.specs.Ends.{after, begun, new_end};
+ghost use Rattle.judge_core.specs.Ends.{after, begun, new_end, no_row};
 
 use block_core::{Number, S};
 
@@ -67,6 +67,14 @@ pub enum Owed {
     AnyBlock,
 }
 
+/// How often in a row a terminal sent its last I-block again, and an R-block after an error. A new block ends the row, and
+/// so does a response to a request of the card.
+#[derive(Clone, Copy, Debug)]
+pub struct Row {
+    pub repeats: u8,
+    pub corrections: u8,
+}
+
 /// What decides what an end may send.
 #[derive(Clone, Copy, Debug)]
 pub struct End {
@@ -82,8 +90,7 @@ pub struct End {
     pub before: Owed,
     /// How often it repeated or corrected since its last new block, or sent its request, at a terminal.
     pub tries: u8,
-    /// How often it repeated or corrected in a row: a response to a request of the card ends the row.
-    pub row: u8,
+    pub row: Row,
     /// The most octets of a field that the other end takes, now and at the start.
     pub room: u8,
     pub first_room: u8,
@@ -100,6 +107,18 @@ pub struct After {
     pub owed: Owed,
 }
 
+impl Row {
+    /// Nothing was repeated or corrected.
+    pub(crate) fn none() -> Row
+        ensures { result ≡ no_row }
+    {
+        Row {
+            repeats: 0,
+            corrections: 0,
+        }
+    }
+}
+
 impl End {
     /// An end at a reset of the card, which sends fields of up to `room` octets.
     pub fn new(side: Side, room: u8) -> End
@@ -113,7 +132,7 @@ impl End {
             asked: None,
             before: Owed::NewMessage,
             tries: 0,
-            row: 0,
+            row: Row::none(),
             room,
             first_room: room,
             known: true,

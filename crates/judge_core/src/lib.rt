@@ -18,6 +18,6 @@ mod sending;
 mod step;
 
 pub use courses::{Heard, Verdict};
-pub use end::{After, Asked, End, Owed, Pending, Side};
+pub use end::{After, Asked, End, Owed, Pending, Row, Side};
 pub use monitor::{Arrival, Monitor, Report, Said, Silence, Watched};
 pub use rule::Rule;

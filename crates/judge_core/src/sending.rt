@@ -92,7 +92,7 @@ impl End {
                 tries: 0,
                 ..self
             };
-            refusing.again()
+            refusing.corrects_again()
         } else {
             sent
         }

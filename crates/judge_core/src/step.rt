@@ -1,10 +1,10 @@
 //! An end after a block that it sent (ISO/IEC 7816-3:2006, clause 11.6).
 
 ghost use Rattle.std.specs.Prelude.{◌≡◌, length, true};
-ghost use Rattle.judge_core.specs.Sends.{acknowledged, again, informed, is_pending, pending_of, repeats_info, responded, sends_info, sends_ready, suggested};
+ghost use Rattle.judge_core.specs.Sends.{acknowledged, again_as, corrects_again, informed, is_pending, pending_of, repeats_again, repeats_info, responded, sends_info, sends_ready, suggested};
 
 use crate::asking::is_foreign;
-use crate::end::{End, Owed, Pending, Side};
+use crate::end::{End, Owed, Pending, Row, Side};
 use crate::hearing::same;
 use crate::rule::Rule;
 use block_core::{Fault, Number, Pcb, S};
@@ -35,7 +35,7 @@ impl End {
             pending: pending_of(more),
             asked: None,
             tries: 0,
-            row: 0,
+            row: Row::none(),
             known: true,
             aborted: false,
             ..self
@@ -49,7 +49,7 @@ impl End {
         if same(number, self.next) {
             Err(Rule::SequenceNumber)
         } else if is_pending(self.pending, more) && inf == last {
-            self.again()
+            self.repeats_again()
         } else {
             Err(Rule::RepeatedOctets)
         }
@@ -59,7 +59,7 @@ impl End {
         ensures { result ≡ sends_ready self number }
     {
         if same(number, self.expects) {
-            self.again()
+            self.corrects_again()
         } else {
             Err(Rule::SequenceNumber)
         }
@@ -72,22 +72,46 @@ impl End {
             Fault::Redundancy | Fault::Other => Err(Rule::ErrorCode),
             Fault::Free if same(number, self.expects) => Ok(End {
                 tries: 0,
-                row: 0,
+                row: Row::none(),
                 ..self
             }),
             Fault::Free => Err(Rule::SequenceNumber),
         }
     }
 
-    /// One repeat or correction more; a card has no limit.
-    pub(crate) fn again(self) -> Sent
-        ensures { result ≡ again self }
+    /// Its last I-block once more.
+    fn repeats_again(self) -> Sent
+        ensures { result ≡ repeats_again self }
+    {
+        let repeats = self.row.repeats.saturating_add(1);
+        let row = Row {
+            repeats,
+            ..self.row
+        };
+        self.again(self.row.repeats, row)
+    }
+
+    /// One correction more.
+    pub(crate) fn corrects_again(self) -> Sent
+        ensures { result ≡ corrects_again self }
+    {
+        let corrections = self.row.corrections.saturating_add(1);
+        let row = Row {
+            corrections,
+            ..self.row
+        };
+        self.again(self.row.corrections, row)
+    }
+
+    /// Once more, where there were so many of its kind in a row, which is then this; a card has no limit.
+    fn again(self, count: u8, row: Row) -> Sent
+        ensures { result ≡ again_as self.side self count row }
     {
         match self.side {
             Side::Card => Ok(self),
-            Side::Terminal if self.row < MOST_REPEATS => Ok(End {
+            Side::Terminal if count < MOST_REPEATS => Ok(End {
                 tries: self.tries.saturating_add(1),
-                row: self.row + 1,
+                row,
                 ..self
             }),
             Side::Terminal => Err(Rule::TooManyRepeats),
@@ -102,16 +126,19 @@ impl End {
             S::Resynch => self.begun(),
             S::Ifs => End {
                 room: octet,
-                row: 0,
+                row: Row::none(),
                 ..self
             },
             S::Abort => End {
                 pending: Pending::Settled,
-                row: 0,
+                row: Row::none(),
                 aborted: true,
                 ..self
             },
-            S::Wtx => End { row: 0, ..self },
+            S::Wtx => End {
+                row: Row::none(),
+                ..self
+            },
         }
     }
 
