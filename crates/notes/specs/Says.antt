@@ -1,5 +1,5 @@
 -- What octets say in words, by the tables of the standards.
-use Rattle.std.specs.Prelude.{◌==◌, ◌||◌, ◌&&◌, ◌+◌, ◌-◌, ◌*◌, ◌/◌, ◌%◌, nat_le, ℕ, List, [], ◌∷◌, length, codes, Option, Some, None, Bool, if◌then◌else◌}
+use Rattle.std.specs.Prelude.{◌==◌, ◌||◌, ◌&&◌, ◌+◌, ◌-◌, ◌*◌, ◌/◌, ◌%◌, nat_le, ℕ, List, [], ◌∷◌, ◌++◌, length, codes, decimal, Option, Some, None, Bool, if◌then◌else◌}
 use Rattle.std.specs.List.{list_all}
 use Rattle.notes.specs.Tables.{instructions, statuses}
 
@@ -11,6 +11,11 @@ pub record NoteText : Type 0 where
 
 abbrev pub said : List ℕ → Option ℕ → List ℕ → NoteText
 said before number after = record { before = before; number = number; after = after }
+
+-- the text of them
+abbrev pub note_text : List ℕ → Option ℕ → List ℕ → List ℕ
+note_text before None after = before
+note_text before (Some number) after = before ++ (decimal number ++ after)
 
 -- words alone
 abbrev pub words : List ℕ → NoteText

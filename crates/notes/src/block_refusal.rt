@@ -1,6 +1,7 @@
 //! The note on octets that are no block.
 
-ghost use Rattle.std.specs.Prelude.{◌≡◌, ◌≤◌, ◌-◌, length};
+ghost use Rattle.std.specs.Prelude.{◌≡◌, ◌≤◌, ◌-◌, length, take};
+ghost use Rattle.octet_core.specs.Octets.{xor_of};
 
 use crate::missing::{comes_next, front, would_be};
 use block_core::{BlockReason, BlockRef};
@@ -19,9 +20,16 @@ pub fn block_refusal_note(
         Stop::At {
             place,
             reason: BlockReason::BadLrc,
-        } => would_be(alloc, "LRC", lrc(front(octets, place))),
+        } => would_be(alloc, "LRC", lrc_before(octets, place)),
         Stop::At { .. } => Ok(String::new(alloc)),
     }
+}
+
+/// The check octet of the octets before a place.
+fn lrc_before(octets: &[u8], place: usize) -> u8
+    ensures { result ≡ xor_of (take place octets.now) }
+{
+    lrc(front(octets, place))
 }
 
 /// What comes after the first octets of a block (ISO/IEC 7816-3, 11.3.1).

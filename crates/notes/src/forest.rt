@@ -1,6 +1,7 @@
 //! Notes on data objects.
 
-ghost use Rattle.std.specs.Prelude.{◌≡◌};
+ghost use Rattle.std.specs.Prelude.{◌≡◌, ℕ, ◌-◌, ◌+◌, length};
+ghost use Rattle.tlv_core.specs.Tag.{length_field};
 ghost use Rattle.notes.specs.Says.{tag_says};
 
 use crate::text::{octets_counted, quoted};
@@ -28,7 +29,9 @@ fn part_note(alloc: Global, part: &Part<'_>) -> Result<String, AllocError> {
 }
 
 /// The place of the header of an object, whose value is at this place.
-pub(crate) fn header_at(tag: Tag, form: Form, place: usize) -> usize {
+pub(crate) fn header_at(tag: Tag, form: Form, place: usize) -> usize
+    ensures { (len : ℕ) → result ≡ place - (length tag + length (length_field form len)) }
+{
     place.saturating_sub(tag.octets().len() + form.octets())
 }
 

@@ -1,7 +1,7 @@
 //! Words with a number among them.
 
-ghost use Rattle.std.specs.Prelude.{◌≡◌, [], Some, None};
-ghost use Rattle.notes.specs.Says.{said, words};
+ghost use Rattle.std.specs.Prelude.{◌≡◌, [], Some, None, IfOk, string_bytes};
+ghost use Rattle.notes.specs.Says.{note_text, said, words};
 
 use std::alloc::{AllocError, Global};
 
@@ -41,7 +41,10 @@ impl Note {
     }
 
     /// Its text.
-    pub(crate) fn text(self, alloc: Global) -> Result<String, AllocError> {
+    pub(crate) fn text(self, alloc: Global) -> Result<String, AllocError>
+        ensures { IfOk result (λ text.
+            string_bytes text ≡ note_text self.before.now self.number self.after.now) }
+    {
         match self.number {
             Some(number) => format!(in alloc; "{}{number}{}", self.before, self.after),
             None => String::from_str(alloc, self.before),
