@@ -19,7 +19,7 @@ pub enum Form {
     Hex,
     /// The octets themselves.
     Octets,
-    /// A dump as `xxd`, `hexdump -C` or `od -Ax -tx1` writes it.
+    /// A dump as `xxd`, `hexdump -C`, `od -Ax -tx1` or Wireshark writes it.
     Dump,
     /// Octets as programs write them: `0x3B`, `\x3b`, `3Bh` or `3B`, in brackets or quotes, with comments.
     Source,

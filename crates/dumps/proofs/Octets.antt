@@ -6,7 +6,7 @@ use Rattle.octet_core.specs.Octets.{AreOctets}
 use Rattle.octet_core.proofs.Lists.{octets-append}
 use Rattle.std.specs.List.{slice_split}
 use Rattle.dumps.specs.Characters.{digit, groups, is_pair, is_within, joined_to, octet_at, offset_from}
-use Rattle.dumps.specs.Dump.{◌>>=◌, copies, dump_octets, is_line_end, is_row, line_of, may_end, nothing_taken, repeated, row_groups, row_of, starred, style_of, up_to, with_line, with_lines, with_offset, with_rest, with_row, Taken}
+use Rattle.dumps.specs.Dump.{◌>>=◌, copies, dump_octets, is_line_end, is_offset, is_row, line_of, may_end, nothing_taken, repeated, row_groups, row_of, starred, style_of, up_to, with_line, with_lines, with_offset, with_rest, with_row, Taken}
 use Rattle.dumps.specs.declared.fault.DumpFault.{DumpFault}
 use Rattle.dumps.specs.declared.fault.DumpFault.TheVariants.{Form}
 use Rattle.dumps.specs.declared.line.Before.{Before}
@@ -75,6 +75,7 @@ halves-octets false first h = h
 row-groups-octets : (style : Style) (text : List ℕ) → AreOctets (row_groups style text).0
 row-groups-octets style.Xxd text = groups-octets true true text
 row-groups-octets style.Od text = groups-octets false true text
+row-groups-octets style.Wireshark text = groups-octets false true text
 row-groups-octets style.Hexdump text = halves-octets (length (groups false true text).0 == 8) (groups false true text)
     (groups-octets false true text)
 
@@ -146,7 +147,8 @@ with-rest-proper octets taken digits (x ∷ text) next are proper h =
 with-offset-proper : (digits at : ℕ) (text : List ℕ) (taken next : Taken) → IsProper taken
     → with_offset digits (at, text) taken ≡ Ok next → IsProper next
 with-offset-proper digits at text taken next proper h =
-    let octets = both-steps (up_to at taken.before taken) _ next (tested (nat_le 6 digits) _ next h) in
+    let octets = both-steps (up_to at taken.before taken) _ next (tested (is_offset digits text taken.before) _ next h)
+    in
     with-rest-proper octets.0 taken digits text next
     (up-to-octets at taken.before taken octets.0 proper octets.1) proper octets.2
 

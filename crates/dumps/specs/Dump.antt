@@ -1,6 +1,7 @@
 -- Octets as a dump: lines with an offset, groups of digits and, at the end, the characters.
 use Rattle.std.specs.Prelude.{◌≡◌, ◌⊎◌, ℕ, zero, suc, ◌-◌, ◌/◌, ◌%◌, ◌==◌, ◌&&◌, ◌||◌, nat_le, not, List, [], ◌∷◌, ◌++◌, length, drop, take, Bool, true, false, Option, Some, None, Result, Ok, Err, if◌then◌else◌}
 use Rattle.std.specs.List.{slice_split}
+use Rattle.octet_core.specs.Words.{is_blank, after_blanks as after_space}
 use Rattle.dumps.specs.Characters.{after_blanks, after_shown, groups, is_after_blank, joined_to, offset_from}
 use Rattle.dumps.specs.declared.fault.DumpFault.{DumpFault}
 use Rattle.dumps.specs.declared.fault.DumpFault.TheVariants.{Form, Memory}
@@ -25,12 +26,19 @@ abbrev pub is_none : List ℕ → Bool
 is_none [] = true
 is_none (x ∷ more) = false
 
+-- after two blanks a third one, or an offset of fewer than eight digits, tells Wireshark's row from that of hexdump
+abbrev pub after_two_blanks : ℕ → List ℕ → Style × List ℕ
+after_two_blanks digits text =
+    if is_after_blank text then (style.Wireshark, drop 1 text)
+    else (if nat_le 8 digits then (style.Hexdump, text)
+    else (style.Wireshark, text))
+
 -- what tells the programs apart after an offset of so many digits, and the text after that
 abbrev pub style_of : ℕ → List ℕ → Option (Style × List ℕ)
 style_of digits (x ∷ y ∷ text) =
     if x == 58 && (y == 32 && nat_le 8 digits) then Some (style.Xxd, text)
-    else (if x == 32 && (y == 32 && nat_le 8 digits) then Some (style.Hexdump, text)
-    else (if x == 32 then Some (style.Od, y ∷ text)
+    else (if x == 32 && y == 32 then Some (after_two_blanks digits text)
+    else (if x == 32 && nat_le 6 digits then Some (style.Od, y ∷ text)
     else None))
 style_of digits _ = None
 
@@ -42,6 +50,7 @@ halves first = if length first.0 == 8 then joined_to first.0 (groups false false
 abbrev pub row_groups : Style → List ℕ → List ℕ × List ℕ
 row_groups style.Xxd text = groups true true text
 row_groups style.Od text = groups false true text
+row_groups style.Wireshark text = groups false true text
 row_groups style.Hexdump text = halves (groups false true text)
 
 -- the mark that ends a column, and nothing more
@@ -58,17 +67,20 @@ abbrev pub is_whole : Option (List ℕ) → Bool
 is_whole (Some []) = true
 is_whole _ = false
 
--- xxd's column has no marks: it has as many characters as there are octets, after blanks
+-- a column without marks has as many characters as there are octets, after blanks
 abbrev pub is_bare : ℕ → List ℕ → List ℕ → Bool
 is_bare pad octets text = nat_le 1 pad &&
     (is_none (after_blanks (take pad text)) && is_whole (after_shown octets (drop pad text)))
 
--- after the octets of a row and one blank comes the column that shows them; od may leave it out
+-- after the octets of a row and one blank comes the column that shows them; od and Wireshark may leave it out, and
+-- Wireshark may have blanks in its place
 abbrev pub has_column : Style → List ℕ → List ℕ → Bool
 has_column style.Xxd octets text = is_bare (length text - length octets) octets text
 has_column style.Hexdump octets text = is_after_blank text && is_marked 124 124 octets (after_blanks text)
 has_column style.Od octets text = is_none text ||
     (is_after_blank text && is_marked 62 60 octets (after_blanks text))
+has_column style.Wireshark octets text = is_none (after_blanks text) ||
+    is_bare (length text - length octets) octets text
 
 -- at least one octet, and what shows them
 abbrev pub is_row : Style → List ℕ × List ℕ → Bool
@@ -111,9 +123,15 @@ abbrev pub with_rest : List ℕ → Taken → ℕ → List ℕ → Result Taken 
 with_rest octets taken digits [] = Ok (record { octets = octets; row = taken.row; before = before.End })
 with_rest octets taken digits (x ∷ text) = with_row octets taken (style_of digits (x ∷ text))
 
+-- an offset has four digits or more; one alone has six or more, and comes after no row of Wireshark
+abbrev pub is_offset : ℕ → List ℕ → Before → Bool
+is_offset digits (x ∷ text) before = nat_le 4 digits
+is_offset digits [] (before.Row style.Wireshark) = false
+is_offset digits [] _ = nat_le 6 digits
+
 abbrev pub with_offset : ℕ → ℕ × List ℕ → Taken → Result Taken DumpFault
-with_offset digits (at, text) taken =
-    if nat_le 6 digits then up_to at taken.before taken >>= (λ octets. with_rest octets taken digits text) else Err Form
+with_offset digits (at, text) taken = if is_offset digits text taken.before
+    then up_to at taken.before taken >>= (λ octets. with_rest octets taken digits text) else Err Form
 
 -- a * follows a row of 16 octets
 abbrev pub starred : Before → Taken → Result Taken DumpFault
@@ -145,10 +163,11 @@ is_line_end x = x == 10 || x == 13
 abbrev pub nothing_taken : Taken
 nothing_taken = record { octets = []; row = []; before = before.Nothing }
 
--- rows of hexdump and od end with an offset alone, those of xxd by themselves
+-- rows of hexdump and od end with an offset alone, those of xxd and Wireshark by themselves
 abbrev pub may_end : Before → Bool
 may_end before.Nothing = true
 may_end (before.Row style.Xxd) = true
+may_end (before.Row style.Wireshark) = true
 may_end before.End = true
 may_end _ = false
 
@@ -158,6 +177,19 @@ ended taken = if nat_le (length taken.octets) 4194304 && may_end taken.before th
 
 abbrev pub dump_octets : List ℕ → Result (List ℕ) DumpFault
 dump_octets text = with_lines nothing_taken (slice_split is_line_end text) >>= ended
+
+-- ---- a text that is no dump
+
+-- a text begins with a blank or a tab
+abbrev pub is_gap : List ℕ → Bool
+is_gap (x ∷ more) = is_blank x && not (is_line_end x)
+is_gap [] = false
+
+-- after blanks and empty lines a text begins with an offset of four digits or more, and a blank or a tab after it
+abbrev pub begins_with_offset : List ℕ → Bool
+begins_with_offset text =
+    let row = after_space text in
+    let read = offset_from 0 row in nat_le 4 (length row - length read.1) && is_gap read.1
 
 -- ---- what calls make
 

@@ -8,8 +8,8 @@ use crate::line::Dump;
 use octet_core::Octets;
 use std::alloc::Global;
 
-/// The octets of a dump as `xxd`, `hexdump -C` or `od -Ax -tx1` writes it, with or without `z`. A text that
-/// is none, or not all of one, is `Form`.
+/// The octets of a dump as `xxd`, `hexdump -C`, `od -Ax -tx1` or Wireshark writes it; `od` may have `z`, and Wireshark
+/// may leave the characters out. A text that isn't such a dump, or not all of one, is `Form`.
 pub fn dump_octets(alloc: Global, text: &[u8]) -> Result<Octets, DumpFault>
     ensures { UnlessMemory result (dump_octets text.now) }
 {

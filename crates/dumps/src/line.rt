@@ -1,12 +1,12 @@
 //! The lines of a dump, taken one after another.
 
 ghost use Rattle.std.specs.Prelude.{◌≡◌, ◌++◌, Some, IfOk, length};
-ghost use Rattle.dumps.specs.Dump.{copies, ended, line_of, nothing_taken, starred, up_to, with_line, with_row, Becomes, ComesTo};
+ghost use Rattle.dumps.specs.Dump.{copies, ended, is_offset, line_of, nothing_taken, starred, up_to, with_line, with_row, Becomes, ComesTo};
 ghost use Rattle.dumps.specs.Taking.{taken};
 ghost use Rattle.dumps.specs.declared.line.Before.TheVariants as before;
 
 use crate::fault::DumpFault;
-use crate::row::{Style, read_row, style_of};
+use crate::row::{DIGITS_OF_OD, Style, read_row, style_of};
 use crate::text::{GREATEST_OFFSET, offset};
 use octet_core::Octets;
 use std::alloc::{AllocError, Global};
@@ -15,7 +15,7 @@ use std::alloc::{AllocError, Global};
 const WHOLE: usize = 16;
 
 /// The fewest digits of an offset.
-pub(crate) const FEWEST_DIGITS: usize = 6;
+pub(crate) const FEWEST_DIGITS: usize = 4;
 
 /// What the line before was, empty ones left out.
 #[derive(Clone, Copy)]
@@ -77,7 +77,9 @@ impl Dump {
             return Err(DumpFault::Form);
         }
         match self.before {
-            Before::Nothing | Before::Row(Style::Xxd) | Before::End => Ok(Octets::of(self.octets)),
+            Before::Nothing | Before::Row(Style::Xxd | Style::Wireshark) | Before::End => {
+                Ok(Octets::of(self.octets))
+            }
             Before::Row(_) | Before::Star => Err(DumpFault::Form),
         }
     }
@@ -101,7 +103,7 @@ impl Dump {
     {
         let (at, text) = offset(line);
         let digits = line.len().saturating_sub(text.len());
-        if digits < FEWEST_DIGITS {
+        if !is_offset(digits, text, self.before) {
             return Err(DumpFault::Form);
         }
         self.come_to(at)?;
@@ -114,7 +116,7 @@ impl Dump {
     }
 
     /// Repeats the last row up to an offset, where a `*` asks for that. Else the offset is that of the octets.
-    fn come_to(&mut self, at: usize) -> Result<(), DumpFault>
+    pub(crate) fn come_to(&mut self, at: usize) -> Result<(), DumpFault>
         ensures { ComesTo (up_to at self.old.before (taken self.old)) (taken self.old)
             (taken self.new) result }
     {
@@ -166,5 +168,19 @@ impl Dump {
         self.octets.extend_from_slice(&self.row)?;
         self.before = Before::Row(style);
         Ok(())
+    }
+}
+
+/// Whether an offset of so many digits may be there, with this text after it. One alone ends a dump as `od` and
+/// `hexdump` do, and comes after no row of Wireshark.
+fn is_offset(digits: usize, text: &[u8], before: Before) -> bool
+    ensures { result ≡ is_offset digits text.now before }
+{
+    if !text.is_empty() {
+        return digits >= FEWEST_DIGITS;
+    }
+    match before {
+        Before::Row(Style::Wireshark) => false,
+        _ => digits >= DIGITS_OF_OD,
     }
 }

@@ -1,16 +1,20 @@
 //! Where a text isn't a dump any more.
 
+ghost use Rattle.std.specs.Prelude.{◌≡◌};
+ghost use Rattle.dumps.specs.Dump.{begins_with_offset, is_gap};
+
 use crate::dump::is_line_end;
 use crate::fault::DumpFault;
 use crate::line::{Dump, FEWEST_DIGITS};
 use crate::row::{push_row, style_of};
 use crate::text::offset;
+use octet_core::{after_blanks, is_blank};
 use std::alloc::{AllocError, Global};
 
 /// What is wrong at the first place at which a text isn't a dump any more.
 #[derive(Clone, Copy, Debug, PartialEq, Eq)]
 pub enum DumpWrong {
-    /// The offset has fewer than six digits there.
+    /// The offset has fewer than four digits there.
     Offset,
     /// The offset that begins there isn't how many octets came before, or a line follows the end.
     Place,
@@ -42,6 +46,23 @@ pub fn dump_stop(alloc: Global, text: &[u8]) -> Result<Option<(usize, DumpWrong)
     Ok(stop_at_end(dump, text.len()))
 }
 
+/// Whether a text begins as a row does, after blanks and empty lines: with an offset, and a blank or a tab after it.
+/// Hexadecimal takes such an offset for octets.
+pub fn begins_with_offset(text: &[u8]) -> bool
+    ensures { result ≡ begins_with_offset text.now }
+{
+    let row = after_blanks(text);
+    let (_, rest) = offset(row);
+    row.len().saturating_sub(rest.len()) >= FEWEST_DIGITS && is_gap(rest)
+}
+
+/// Whether a blank or a tab is in front of a text.
+fn is_gap(text: &[u8]) -> bool
+    ensures { result ≡ is_gap text.now }
+{
+    matches!(text, [x, ..] if is_blank(*x) && !is_line_end(*x))
+}
+
 /// What is wrong at the end of a text, if anything.
 fn stop_at_end(dump: Dump, place: usize) -> Option<(usize, DumpWrong)> {
     match dump.end() {
@@ -60,22 +81,22 @@ fn stop_in(
     if matches!(line, [b'*']) {
         return Ok((0, DumpWrong::Star));
     }
-    let (_, text) = offset(line);
+    let (at, text) = offset(line);
     let digits = line.len().saturating_sub(text.len());
     if digits < FEWEST_DIGITS {
         return Ok((digits, DumpWrong::Offset));
     }
-    if !is_reached && !takes(dump, &line[..digits]) {
+    if !is_reached && !is_at(dump, at) {
         return Ok((0, DumpWrong::Place));
     }
     let left = row_left(alloc, digits, text)?;
     Ok((line.len().saturating_sub(left), DumpWrong::Row))
 }
 
-/// Whether a dump takes this line.
-fn takes(dump: Dump, line: &[u8]) -> bool {
+/// Whether a dump may go on at this offset.
+fn is_at(dump: Dump, at: usize) -> bool {
     let mut dump = dump;
-    dump.take(line).is_ok()
+    dump.come_to(at).is_ok()
 }
 
 /// How many characters of a row are left after its octets, or all where no row has this after its offset.

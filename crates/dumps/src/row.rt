@@ -1,12 +1,15 @@
 //! A row of a dump, after its offset.
 
 ghost use Rattle.std.specs.Prelude.{◌≡◌, ◌-◌, [], false, true, length, option_map, IfOk};
-ghost use Rattle.dumps.specs.Dump.{halves, has_column, is_bare, is_marked, is_row, row_groups, row_of, style_of, IsRow};
+ghost use Rattle.dumps.specs.Dump.{after_two_blanks, halves, has_column, is_bare, is_marked, is_row, row_groups, row_of, style_of, IsRow};
 ghost use Rattle.dumps.specs.Characters.{groups};
 
 use crate::fault::DumpFault;
 use crate::text::{after_blanks, after_shown, push_groups};
 use std::alloc::AllocError;
+
+/// The fewest digits of an offset of `od`.
+pub(crate) const DIGITS_OF_OD: usize = 6;
 
 /// Which program's row it is.
 #[derive(Clone, Copy)]
@@ -17,6 +20,9 @@ pub(crate) enum Style {
     Hexdump,
     /// `000000 3b 80 80 01 01`, as `od -Ax -tx1` writes it, or with `>;....<` at the end.
     Od,
+    /// `0000  3b 80 80 01 01                                    ;....`, as Wireshark writes it with two or three
+    /// blanks after the offset, or without the characters.
+    Wireshark,
 }
 
 /// Which program's row has this after an offset of so many digits, and what is after the blanks there.
@@ -25,10 +31,21 @@ pub(crate) fn style_of(digits: usize, text: &[u8]) -> Option<(Style, &[u8])>
 {
     match text {
         [b':', b' ', row @ ..] if digits >= 8 => Some((Style::Xxd, row)),
-        [b' ', b' ', row @ ..] if digits >= 8 => Some((Style::Hexdump, row)),
+        [b' ', b' ', row @ ..] => Some(after_two_blanks(digits, row)),
         [_] => None,
-        [b' ', row @ ..] => Some((Style::Od, row)),
+        [b' ', row @ ..] if digits >= DIGITS_OF_OD => Some((Style::Od, row)),
         _ => None,
+    }
+}
+
+/// The same after two blanks, where a third one or fewer digits tell Wireshark's row from that of `hexdump`.
+fn after_two_blanks(digits: usize, text: &[u8]) -> (Style, &[u8])
+    ensures { (result.0, result.1.now) ≡ after_two_blanks digits text.now }
+{
+    match text {
+        [b' ', row @ ..] => (Style::Wireshark, row),
+        _ if digits >= 8 => (Style::Hexdump, text),
+        _ => (Style::Wireshark, text),
     }
 }
 
@@ -56,7 +73,7 @@ pub(crate) fn push_row<'a>(
 {
     match style {
         Style::Xxd => push_groups(row, text, true, true),
-        Style::Od => push_groups(row, text, false, true),
+        Style::Od | Style::Wireshark => push_groups(row, text, false, true),
         Style::Hexdump => push_halves(row, text),
     }
 }
@@ -81,7 +98,7 @@ fn is_row(style: Style, octets: &[u8], text: &[u8]) -> bool
     !octets.is_empty() && has_column(style, octets, text)
 }
 
-/// Whether the column that shows the octets comes after them. `od` may leave it out.
+/// Whether the column that shows the octets comes after them. `od` and Wireshark may leave it out.
 fn has_column(style: Style, octets: &[u8], text: &[u8]) -> bool
     ensures { result ≡ has_column style octets.now text.now }
 {
@@ -93,6 +110,7 @@ fn has_column(style: Style, octets: &[u8], text: &[u8]) -> bool
             text.is_empty()
                 || text.starts_with(b" ") && is_marked(b'>', b'<', octets, after_blanks(text))
         }
+        Style::Wireshark => after_blanks(text).is_empty() || is_bare(octets, text),
     }
 }
 

@@ -14,7 +14,7 @@ pub(crate) fn dump_note(alloc: Global, text: &[u8]) -> Result<String, AllocError
 
 fn dump_sentence(wrong: DumpWrong) -> &'static str {
     match wrong {
-        DumpWrong::Offset => "an offset has six hexadecimal digits or more",
+        DumpWrong::Offset => "an offset has four hexadecimal digits or more",
         DumpWrong::Place => "this offset isn't the number of octets before it",
         DumpWrong::Star => "a * follows a row of 16 octets",
         DumpWrong::Row => "here come octets, and the characters that show them",

@@ -6,6 +6,7 @@ ghost use Rattle.explainer.specs.Notes.{offsets_note, place_note};
 use crate::misread::{dump_note, source_note};
 use crate::words::what_form;
 use card_words::{Fault, Form};
+use dumps::begins_with_offset;
 use octet_core::{Octets, is_blank};
 use std::alloc::{AllocError, Global};
 
@@ -49,9 +50,10 @@ pub fn text_note(alloc: Global, form: Form, text: &[u8]) -> Result<String, Alloc
     Ok(note)
 }
 
-/// The option for another form that takes the text, as a line.
+/// The option for another form that takes the text, as a line. Hexadecimal has no offsets: it would take them for
+/// octets.
 fn other_form(alloc: Global, form: Form, text: &[u8]) -> Result<&'static str, AllocError> {
-    if form != Form::Hex && takes(alloc, Form::Hex, text)? {
+    if form != Form::Hex && !begins_with_offset(text) && takes(alloc, Form::Hex, text)? {
         return Ok("--stdin hex takes this text\n");
     }
     if form != Form::Dump && takes(alloc, Form::Dump, text)? {
