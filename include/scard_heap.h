@@ -1,11 +1,13 @@
-/* scard: the three functions by which the library takes memory.
+/* scard: the three functions by which the library allocates memory.
  *
- * libscard.a has them over malloc, realloc and free of the C library. A program needs this page only where it has no
- * such functions, or has the library take memory elsewhere: then it defines all three, and the linker takes none
- * from libscard.a. It can do so over libscard.a alone: libscard.so has its own, and takes no others.
+ * libscard.a implements them with malloc, realloc and free of the C library. Most programs never need this header. Use
+ * it if your program has no such functions, or if the library should take its memory elsewhere. Then define all three
+ * functions, and the linker takes none of them from libscard.a. This works only with libscard.a: libscard.so always
+ * uses its own.
  *
- * The calls that take memory say so by MEMORY among their statuses in scard.h, and the calls of an open handle may give
- * it back. A program that makes none of these calls needs no such functions: the others are an object of their own.
+ * A call in scard.h that allocates has MEMORY among its statuses. The calls on an open handle may free memory. The
+ * calls that allocate nothing are an object of their own, so a program that makes only those needs none of these
+ * functions.
  */
 #ifndef SCARD_HEAP_H
 #define SCARD_HEAP_H
@@ -17,23 +19,27 @@
 extern "C" {
 #endif
 
-/* A block, or none. Both fields are returned: a function that returns a pointer alone compiles and answers nonsense. */
+/* The result of an allocation: a block, or none. Both fields are returned. A definition that returns a pointer alone
+ * still compiles, but its results are wrong.
+ */
 struct scard_memory {
     bool is_there; /* whether `at` is a block */
-    void *at;      /* never null: where there is no block, the address of any octet, which the library leaves alone */
+    void *at;      /* never null: without a block, the address of any octet, which the library doesn't touch */
 };
 
-/* A block of `size` octets, whose address is a multiple of `align`: a power of two, at most 16. `size` may be 0: then
- * there is a block all the same, of any size. A block overlaps no other that isn't freed yet.
+/* Allocates a block of `size` octets, at an address that is a multiple of `align`: a power of two, at most 16. `size`
+ * may be 0, and then the block may have any size. The block may not overlap another one that isn't freed. The library
+ * owns it until it calls rattle_dealloc. If there is no memory, is_there is false.
  */
 struct scard_memory rattle_alloc(size_t size, size_t align);
 
-/* The same block with `size` octets, at the same place or another, which begins with the first `kept` octets that it
- * had. Where there is none, the old block stays as it was. `align` is that of the block, `kept` at most `size`.
+/* Resizes a block to `size` octets, in place or at a new address. The block keeps its first `kept` octets; `kept` is at
+ * most `size`. `align` is that of the block. If there is no memory, is_there is false and the old block stays as it
+ * was.
  */
 struct scard_memory rattle_realloc(void *at, size_t kept, size_t size, size_t align);
 
-/* Takes a block back: one that these functions gave, each once. The library doesn't say what size it has. */
+/* Frees a block that one of these functions returned. The library frees each block once, and doesn't pass its size. */
 void rattle_dealloc(void *at);
 
 #ifdef __cplusplus
