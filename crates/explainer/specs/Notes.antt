@@ -1,5 +1,5 @@
 -- What is said of octets after the line of their verdict.
-use Rattle.std.specs.Prelude.{◌≡◌, ℕ, nat_lt, true, false, ◌-◌, List, ◌++◌, [], codes, decimal, drop, encode_utf8, length, take, ◌==◌, Option, Some, None, if◌then◌else◌, Result, Ok, Err}
+use Rattle.std.specs.Prelude.{◌≡◌, ℕ, nat_le, nat_lt, true, false, ◌+◌, ◌-◌, ◌*◌, List, ◌++◌, [], ◌∷◌, codes, decimal, drop, encode_utf8, length, take, ◌==◌, Option, Some, None, if◌then◌else◌, Result, Ok, Err}
 use Rattle.std.specs.List.{list_any, repeat}
 use Rattle.hex.specs.Hex.{encode_upper}
 use Rattle.octet_core.specs.declared.stop.Stop.{Stop}
@@ -39,6 +39,20 @@ abbrev pub short_note : ℕ → Option ℕ → List ℕ
 short_note count None = codes "octets there: " ++ (decimal count ++ codes "; more must come\n")
 short_note count (Some least) = codes "octets there: "
     ++ (decimal count ++ (codes "; still to come, at least: " ++ (decimal least ++ codes "\n")))
+
+-- how many octets a block has by its LEN, or at least without one (ISO/IEC 7816-3, 11.3)
+abbrev pub block_has : List ℕ → ℕ
+block_has (nad ∷ pcb ∷ len ∷ more) = len + 4
+block_has octets = 4
+
+-- how many a command has at least by its length fields (ISO/IEC 7816-4, 5.1)
+abbrev pub extended_has : List ℕ → ℕ
+extended_has (high ∷ low ∷ x ∷ more) = 7 + high * 256 + low
+extended_has more = 7
+
+abbrev pub command_has : List ℕ → ℕ
+command_has (cla ∷ ins ∷ p1 ∷ p2 ∷ lc ∷ more) = if lc == 0 then extended_has more else 5 + lc
+command_has octets = 4
 
 -- how many octets are left after a value that ends by itself
 abbrev pub left_note : ℕ → List ℕ
@@ -84,18 +98,44 @@ pub data IsSessionNote (b note : List ℕ) : Type 0 where
   no_atr : (stop : Stop AtrReason) → Refuses self_ended IsAtr IsReason b stop → IsStopNote b stop note
       → IsSessionNote b note
 
--- a list that names blocks which were never sent, some of these, and how many were sent
+-- a list that names blocks which were never sent, which these are, and how many were sent
 abbrev pub unsent_line : List ℕ → List ℕ → ℕ → List ℕ
 unsent_line option shown sent =
     option ++ (codes " names blocks that were never sent: " ++ (shown ++ (codes "; "
     ++ (decimal sent ++ codes " were sent\n"))))
 
--- The note on a list by how many blocks were sent: none where it names none above that number. How those that it names
--- are shown is open.
+-- numbers that follow one another are a range
+abbrev pub run_text : ℕ → ℕ → List ℕ
+run_text first last = if first == last then decimal first else decimal first ++ (codes "-" ++ decimal last)
+
+abbrev pub with_run : List ℕ → ℕ → ℕ → List ℕ
+with_run text first last = text ++ ((if length text == 0 then [] else codes ",") ++ run_text first last)
+
+abbrev pub with_last : List ℕ → Option (ℕ × ℕ) → List ℕ
+with_last text None = text
+with_last text (Some run) = with_run text run.0 run.1
+
+-- one number more: it goes on with the range before it, or that one is written
+abbrev pub next_shown : ℕ → List ℕ → Option (ℕ × ℕ) → List ℕ × Option (ℕ × ℕ)
+next_shown number text None = (text, Some (number, number))
+next_shown number text (Some run) = if number == run.1 + 1
+    then (text, Some (run.0, number))
+    else (with_run text run.0 run.1, Some (number, number))
+
+-- The numbers of a list above this one, in their order, after the text so far and the range that isn't written yet. The
+-- rest is left out after 60 characters.
+abbrev pub unsent_shown : ℕ → List ℕ → List ℕ → Option (ℕ × ℕ) → List ℕ
+unsent_shown sent [] text run = with_last text run
+unsent_shown sent (number ∷ numbers) text run = if nat_le number sent then unsent_shown sent numbers text run
+    else (if nat_lt 60 (length (next_shown number text run).0)
+    then (next_shown number text run).0 ++ codes ",.."
+    else unsent_shown sent numbers (next_shown number text run).0 (next_shown number text run).1)
+
+-- The note on a list by how many blocks were sent: none where it names none above that number, else these.
 pub data IsUnsentNote (option blocks : List ℕ) (sent : ℕ) (note : List ℕ) : Type 0 where
   all_sent : list_any (λ number. nat_lt sent number) blocks ≡ false → note ≡ [] → IsUnsentNote option blocks sent note
-  some_unsent : list_any (λ number. nat_lt sent number) blocks ≡ true → (shown : List ℕ)
-      → note ≡ unsent_line option shown sent → IsUnsentNote option blocks sent note
+  some_unsent : list_any (λ number. nat_lt sent number) blocks ≡ true
+      → note ≡ unsent_line option (unsent_shown sent blocks [] None) sent → IsUnsentNote option blocks sent note
 
 -- the same of all lists of a session
 pub record AreUnsentNotes (s : Session) (sent : ℕ) (note : List ℕ) : Type 0 where

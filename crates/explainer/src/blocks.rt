@@ -1,11 +1,14 @@
 //! The note on blocks that the lists of a session name, and that were never sent.
 
-ghost use Rattle.std.specs.Prelude.{◌≡◌, nat_lt, IfOk, string_bytes};
+ghost use Rattle.std.specs.Prelude.{◌≡◌, [], None, Some, nat_lt, IfOk, OnOk, string_bytes};
 ghost use Rattle.std.specs.List.{list_any};
-ghost use Rattle.explainer.specs.Notes.{AreUnsentNotes, IsUnsentNote};
+ghost use Rattle.explainer.specs.Notes.{next_shown, run_text, unsent_shown, with_run, AreUnsentNotes, IsUnsentNote};
 
 use card_words::{BlockNumbers, Session};
 use std::alloc::{AllocError, Global};
+
+/// The first and the last number of a range.
+type Run = (u64, u64);
 
 /// How many characters the numbers of blocks take, at most, before the rest is left out.
 const SHOWN: usize = 60;
@@ -45,23 +48,16 @@ fn names_unsent(blocks: &[u64], sent: usize) -> bool
 }
 
 /// The numbers above so many, in their order, those that follow one another as a range.
-fn unsent_numbers(alloc: Global, blocks: &[u64], sent: usize) -> Result<String, AllocError> {
+fn unsent_numbers(alloc: Global, blocks: &[u64], sent: usize) -> Result<String, AllocError>
+    ensures { IfOk result (λ text. string_bytes text ≡ unsent_shown sent blocks.now [] None) }
+{
     let mut text = String::new(alloc);
     let mut run = None;
     for number in blocks {
         if *number <= sent as u64 {
             continue;
         }
-        match run {
-            Some((first, last)) if number.checked_sub(1) == Some(last) => run = Some((
-                first, *number,
-            )),
-            Some((first, last)) => {
-                push_run(alloc, &mut text, first, last)?;
-                run = Some((*number, *number));
-            }
-            None => run = Some((*number, *number)),
-        }
+        run = Some(next_run(alloc, &mut text, run, *number)?);
         if text.len() > SHOWN {
             text.push_str(",..")?;
             return Ok(text);
@@ -73,15 +69,43 @@ fn unsent_numbers(alloc: Global, blocks: &[u64], sent: usize) -> Result<String, 
     Ok(text)
 }
 
-/// Adds one number, or a range.
-fn push_run(alloc: Global, text: &mut String, first: u64, last: u64) -> Result<(), AllocError> {
-    if !text.is_empty() {
-        text.push(',')?;
-    }
-    let run = if first == last {
-        format!(in alloc; "{first}")?
-    } else {
-        format!(in alloc; "{first}-{last}")?
+/// The range with one number more; one that it doesn't follow is written before it.
+fn next_run(
+    alloc: Global,
+    text: &mut String,
+    run: Option<Run>,
+    number: u64,
+) -> Result<Run, AllocError>
+    ensures { IfOk result (λ next. (string_bytes text.new, Some next)
+        ≡ next_shown number (string_bytes text.old) run) }
+{
+    let Some((first, last)) = run else {
+        return Ok((number, number));
     };
+    if number.checked_sub(1) == Some(last) {
+        return Ok((first, number));
+    }
+    push_run(alloc, text, first, last)?;
+    Ok((number, number))
+}
+
+/// Adds one number, or a range.
+fn push_run(alloc: Global, text: &mut String, first: u64, last: u64) -> Result<(), AllocError>
+    ensures { OnOk result (string_bytes text.new ≡ with_run (string_bytes text.old) first last) }
+{
+    if !text.is_empty() {
+        text.push_str(",")?;
+    }
+    let run = run_text(alloc, first, last)?;
     text.push_str(run.as_str())
+}
+
+fn run_text(alloc: Global, first: u64, last: u64) -> Result<String, AllocError>
+    ensures { IfOk result (λ text. string_bytes text ≡ run_text first last) }
+{
+    if first == last {
+        format!(in alloc; "{first}")
+    } else {
+        format!(in alloc; "{first}-{last}")
+    }
 }

@@ -1,7 +1,8 @@
 //! Notes on octets, by the verdict on them.
 
-ghost use Rattle.std.specs.Prelude.{IfOk, string_bytes};
-ghost use Rattle.explainer.specs.Notes.{IsVerdictNote};
+ghost use Rattle.std.specs.Prelude.{◌≡◌, ◌-◌, Some, length, IfOk, string_bytes};
+ghost use Rattle.card_words.specs.declared.request.Kind.TheVariants.{Block, Command, Response};
+ghost use Rattle.explainer.specs.Notes.{block_has, command_has, IsVerdictNote};
 
 use crate::mark::{left, stop_note};
 use crate::reason::Explained;
@@ -29,7 +30,11 @@ pub fn verdict_note<R: Explained>(
 }
 
 /// How many octets must still come at least, where octets are short that are taken for this kind, and it is known.
-pub fn least_wanting(kind: Kind, octets: &[u8]) -> Option<usize> {
+pub fn least_wanting(kind: Kind, octets: &[u8]) -> Option<usize>
+    ensures block { kind ≡ Block → result ≡ Some (block_has octets.now - length octets.now) }
+    ensures command { kind ≡ Command → result ≡ Some (command_has octets.now - length octets.now) }
+    ensures response { kind ≡ Response → result ≡ Some (2 - length octets.now) }
+{
     match kind {
         Kind::Block => Some(wanting_of_block(octets)),
         Kind::Command => Some(wanting_of_command(octets)),
@@ -40,7 +45,9 @@ pub fn least_wanting(kind: Kind, octets: &[u8]) -> Option<usize> {
 }
 
 /// How many octets a block that is short wants at least.
-fn wanting_of_block(octets: &[u8]) -> usize {
+fn wanting_of_block(octets: &[u8]) -> usize
+    ensures { result ≡ block_has octets.now - length octets.now }
+{
     match octets {
         [_, _, len, ..] => block_len(*len).saturating_sub(octets.len()),
         _ => 4_usize.saturating_sub(octets.len()),
@@ -48,7 +55,9 @@ fn wanting_of_block(octets: &[u8]) -> usize {
 }
 
 /// How many octets a command that is short wants at least.
-fn wanting_of_command(octets: &[u8]) -> usize {
+fn wanting_of_command(octets: &[u8]) -> usize
+    ensures { result ≡ command_has octets.now - length octets.now }
+{
     let least = match octets {
         [_, _, _, _, 0, high, low, _, ..] => 7 + usize::from(*high) * 256 + usize::from(*low),
         [_, _, _, _, 0, ..] => 7,
