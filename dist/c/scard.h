@@ -1,24 +1,26 @@
 /* scard: the proved smart card stack for programs in C and C++.
  *
- * Answers to reset, T=1 blocks and chains (ISO/IEC 7816-3), commands and responses (ISO/IEC 7816-4), data objects
- * (EMV 4.3 Book 3), readers of octets in pieces, and both ends of a T=1 session. Link with libscard.a; docs/C.md says
- * how, and what is proved.
+ * This header declares codecs for answers to reset, T=1 blocks and chains (ISO/IEC 7816-3), commands and responses
+ * (ISO/IEC 7816-4) and data objects (EMV 4.3 Book 3). It also declares readers for octets that arrive in pieces, and
+ * both ends of a T=1 session. Link with libscard.a. docs/C.md says how to link, and what is proved.
  *
- * Lengths and places count octets, places from 0; those of an array of structs count structs. Octets go in as a
- * pointer and a length, buffers as a pointer and their room. A null pointer is fine where the length or the room is
- * 0. No call keeps a pointer that it was given, and none reads or writes past a length. Octets that go in may not lie
- * in a buffer that the same call writes. What a call writes, and when, is said at the call; in all other cases it
- * leaves what its pointers point to as it was.
+ * Units. Lengths and places count octets; a place is an offset and starts at 0. The length of an array of structs
+ * counts structs. Input is a pointer and a length; an output buffer is a pointer and its room, the capacity. A pointer
+ * may be null where its length or room is 0.
  *
- * The library has no state of its own: two threads may be in any calls at a time, each with its own handles, states
- * and buffers. Each of these is in one call at a time, and may go to another thread between two calls, where the
- * program orders them, by a lock or by a thread's start or join.
+ * Memory. The caller owns the memory at every pointer that it passes. No call keeps a pointer after it returns, and
+ * none reads or writes past a length. Input may not overlap a buffer that the same call writes. Each comment says what
+ * its call writes, and when. In all other cases the call leaves what its pointers point to unchanged.
+ *
+ * Threads. The library has no state of its own. Two threads may be in any calls at the same time if each uses its own
+ * handles, states and buffers. Only one call at a time may use a given handle, state or buffer. It may move to another
+ * thread between two calls if the program orders them, by a lock or by a thread's start or join.
  */
 #ifndef SCARD_H
 #define SCARD_H
 
-/* The version of this header. scard_version() is that of the library that is linked; both are one number where the
- * header is the library's.
+/* The version of this header. scard_version() returns the version of the linked library. The two numbers are equal if
+ * the header belongs to the library.
  */
 #define SCARD_VERSION_MAJOR 1
 #define SCARD_VERSION_MINOR 3
@@ -30,8 +32,8 @@
 #include <stddef.h>
 #include <stdint.h>
 
-/* At each call whose answer says what happened: the compiler warns where it is thrown away. Where that isn't wanted,
- * define it as nothing before this header is included.
+/* Marks a call whose result says what happened: the compiler warns if the program ignores it. To turn the warning off,
+ * define SCARD_MUST_USE as nothing before you include this header.
  */
 #ifndef SCARD_MUST_USE
 #if defined(__cplusplus) && __cplusplus >= 201703L
@@ -43,8 +45,8 @@
 #endif
 #endif
 
-/* What counts octets in a struct. It has 64 bits on every machine, so the structs are the same on all of them, and is
- * size_t where that has 64 bits.
+/* The type of a count of octets in a struct. It has 64 bits on every machine, so the structs are the same everywhere.
+ * Where size_t has 64 bits, the two are the same type.
  */
 #if SIZE_MAX > 0xFFFFFFFFu
 typedef size_t scard_size;
@@ -58,36 +60,36 @@ typedef uint64_t scard_size;
 extern "C" {
 #endif
 
-/* The version of the library, as SCARD_VERSION. */
+/* Returns the version of the library, in the form of SCARD_VERSION. */
 uint32_t scard_version(void);
 
 /* ---- verdicts ---- */
 
 enum scard_status {
-    /* The octets are a spelling, and `place` is how many it takes; or `place` octets were written. */
+    /* Success. A decoder read a value that takes `place` octets; or a call wrote `place` octets. */
     SCARD_OK = 0,
-    /* The octets ended at `place`, where a spelling could go on. */
+    /* The input ends too early: after its `place` octets, more could still complete a value. */
     SCARD_SHORT = 1,
-    /* The octet at `place` is the first after which no spelling goes on, and `reason` says why. */
+    /* The input is invalid: no encoding continues after the octet at `place`, the first such. `reason` says why. */
     SCARD_AT = 2,
     /* Out of memory. */
     SCARD_MEMORY = 3,
-    /* An argument is out of its range, and `place` is 0; or a buffer is too small, and `place` is the room needed. */
+    /* An argument is out of range, and `place` is 0; or a buffer is too small, and `place` is the room needed. */
     SCARD_ARGUMENT = 4,
-    /* Two known values have one tag. */
+    /* Two known values have the same tag. */
     SCARD_DUPLICATE = 5,
-    /* A reader took the whole piece, `place` octets, and more must come. */
+    /* A reader consumed the whole piece, `place` octets, and needs more. */
     SCARD_MORE = 6
 };
 
 struct scard_verdict {
     uint8_t status; /* enum scard_status */
-    uint8_t reason; /* the reason by the codec, below; 0 unless the status is SCARD_AT */
-    scard_size place; /* by the status: at SCARD_OK the octets that were written or taken, at SCARD_ARGUMENT the room
-                         that is needed, while nothing was written. So look at the status first. */
+    uint8_t reason; /* the reason, from the codec's enum below; 0 unless the status is SCARD_AT */
+    scard_size place; /* depends on the status, so check that first: at SCARD_OK the octets written or consumed; at
+                         SCARD_ARGUMENT the room needed, with nothing written */
 };
 
-/* The codecs, for scard_reason_name. */
+/* The codecs. Pass one to scard_reason_name. */
 enum scard_codec {
     SCARD_CODEC_ATR = 1,
     SCARD_CODEC_BLOCK = 2,
@@ -101,14 +103,14 @@ enum scard_codec {
 
 enum scard_atr_reason {
     SCARD_ATR_BAD_TS = 1,   /* TS is neither 3B nor 3F */
-    SCARD_ATR_TOO_LONG = 2, /* after this TD every answer has more than 33 octets */
+    SCARD_ATR_TOO_LONG = 2, /* with this TD, every possible answer has more than 33 octets */
     SCARD_ATR_BAD_TCK = 3   /* TCK is wrong */
 };
 
 enum scard_block_reason {
-    SCARD_BLOCK_BAD_PCB = 1,  /* PCB is none of the 18 */
-    SCARD_BLOCK_BAD_LEN = 2,  /* LEN is FF, or not the length that this R- or S-block has */
-    SCARD_BLOCK_OVER_IFS = 3, /* LEN of an I-block is above the information size */
+    SCARD_BLOCK_BAD_PCB = 1,  /* PCB isn't one of the 18 valid values */
+    SCARD_BLOCK_BAD_LEN = 2,  /* LEN is FF, or wrong for this R- or S-block */
+    SCARD_BLOCK_OVER_IFS = 3, /* LEN of an I-block exceeds the information size */
     SCARD_BLOCK_BAD_IFS = 4,  /* the octet of an IFS request or response is 00 or FF */
     SCARD_BLOCK_BAD_LRC = 5   /* LRC is wrong */
 };
@@ -116,59 +118,60 @@ enum scard_block_reason {
 enum scard_chain_reason {
     SCARD_CHAIN_BAD_NAD = 1,         /* NAD is not 00 */
     SCARD_CHAIN_BAD_PCB = 2,         /* no block has this PCB */
-    SCARD_CHAIN_NOT_INFO = 3,        /* an R- or S-block */
-    SCARD_CHAIN_BAD_SEQUENCE = 4,    /* an I-block with the wrong number */
-    SCARD_CHAIN_TOO_MANY_BLOCKS = 5, /* M=1 in the last block that a chain can have */
+    SCARD_CHAIN_NOT_INFO = 3,        /* the block is an R- or S-block */
+    SCARD_CHAIN_BAD_SEQUENCE = 4,    /* the I-block has the wrong number */
+    SCARD_CHAIN_TOO_MANY_BLOCKS = 5, /* M=1 in the last block that a chain may have */
     SCARD_CHAIN_BAD_LEN = 6,         /* LEN is FF */
-    SCARD_CHAIN_OVER_IFS = 7,        /* LEN is above the information size */
-    SCARD_CHAIN_TOO_LONG = 8,        /* the message would pass its limit */
+    SCARD_CHAIN_OVER_IFS = 7,        /* LEN exceeds the information size */
+    SCARD_CHAIN_TOO_LONG = 8,        /* the message would exceed its limit */
     SCARD_CHAIN_BAD_LRC = 9          /* LRC is wrong */
 };
 
 enum scard_command_reason {
-    SCARD_COMMAND_TRAILING = 1 /* the octet is after the last that the length fields allow */
+    SCARD_COMMAND_TRAILING = 1 /* an octet follows the last one that the length fields allow */
 };
 
 enum scard_response_reason {
-    SCARD_RESPONSE_TOO_LONG = 1 /* the octet is after the last that the longest response has */
+    SCARD_RESPONSE_TOO_LONG = 1 /* an octet follows the last one of the longest response */
 };
 
 enum scard_tlv_reason {
-    SCARD_TLV_TOO_DEEP = 1,    /* an object begins inside one of depth 16 */
-    SCARD_TLV_TAG_SECOND = 2,  /* the low seven bits of a second tag octet are all 0 */
-    SCARD_TLV_TAG_LONG = 3,    /* a fourth tag octet would follow */
+    SCARD_TLV_TOO_DEEP = 1,    /* an object begins inside an object of depth 16 */
+    SCARD_TLV_TAG_SECOND = 2,  /* the low seven bits of the second tag octet are all 0 */
+    SCARD_TLV_TAG_LONG = 3,    /* the tag would need a fourth octet */
     SCARD_TLV_LENGTH_FORM = 4, /* a length field begins with 80, or with 85 to FF */
-    SCARD_TLV_OVERRUN = 5,     /* what must still come passes the end of the open object */
-    SCARD_TLV_TOO_LONG = 6     /* what must still come passes the limit of the whole */
+    SCARD_TLV_OVERRUN = 5,     /* the octets still needed pass the end of the open object */
+    SCARD_TLV_TOO_LONG = 6     /* the octets still needed pass the limit of the whole forest */
 };
 
 enum scard_dol_reason {
     SCARD_DOL_TAG_ZERO = 1,   /* a tag begins with 00 */
-    SCARD_DOL_TAG_SECOND = 2, /* the low seven bits of a second tag octet are all 0 */
-    SCARD_DOL_TAG_LONG = 3    /* a fourth tag octet would follow */
+    SCARD_DOL_TAG_SECOND = 2, /* the low seven bits of the second tag octet are all 0 */
+    SCARD_DOL_TAG_LONG = 3    /* the tag would need a fourth octet */
 };
 
 enum scard_hex_reason {
-    SCARD_HEX_DIGIT = 1, /* no hexadecimal digit */
-    SCARD_HEX_ODD = 2    /* the text has an odd number of digits; `place` is its length */
+    SCARD_HEX_DIGIT = 1, /* not a hexadecimal digit */
+    SCARD_HEX_ODD = 2    /* the number of digits is odd; `place` is the length of the text */
 };
 
 /* ---- names ---- */
 
-/* A text that the library has, and that never changes. */
+/* A constant text that the library owns. It never changes, and nobody frees it. */
 struct scard_text {
-    const char *text; /* a 0 is after it */
-    scard_size size;      /* its octets, with the 0 */
+    const char *text; /* terminated by a 0 */
+    scard_size size;      /* its octets, with the terminating 0 */
 };
 
-/* Write where a name is: of a status ("SHORT"), of a turn's kind ("SEND"), of a reason of a codec ("BadTck"). It is ""
- * where nothing has this number.
+/* Look up a name, and write it to *out. scard_status_text takes an enum scard_status ("SHORT"), scard_turn_text an enum
+ * scard_turn_kind ("SEND"). scard_reason_text takes an enum scard_codec and a reason of that codec ("BadTck"). An
+ * unknown number gives "". The library owns the text.
  */
 void scard_status_text(uint8_t status, struct scard_text *out);
 void scard_turn_text(uint8_t kind, struct scard_text *out);
 void scard_reason_text(uint8_t codec, uint8_t reason, struct scard_text *out);
 
-/* The same names, for C and C++. */
+/* The same names as C strings, for C and C++. The library owns them; don't free them. An unknown number gives "". */
 static inline const char *scard_status_name(int status)
 {
     struct scard_text name;
@@ -191,22 +194,23 @@ static inline const char *scard_reason_name(int codec, int reason)
     return name.text;
 }
 
-/* ---- what octets say in words ---- */
+/* ---- explanations in words ---- */
 
-/* What one or two octets are, for scard_note_of: the first, and the second where there is one. */
+/* The kind of the octets that scard_note_of explains: the first octet, and the second where the kind has two. */
 enum scard_noted {
     SCARD_NOTED_STATUS = 1,      /* SW1 and SW2 of a response (ISO/IEC 7816-4:2005, clause 5.1.3) */
     SCARD_NOTED_INSTRUCTION = 2, /* CLA and INS of a command (clause 5.1.2) */
     SCARD_NOTED_CLASS = 3,       /* CLA of a command (clause 5.1.1) */
-    SCARD_NOTED_PCB = 4,         /* PCB, and the first octet of the field or 0 (ISO/IEC 7816-3, clause 11.3.2.2) */
+    SCARD_NOTED_PCB = 4,         /* PCB, and the first octet of the information field or 0 (ISO/IEC 7816-3, clause
+                                    11.3.2.2) */
     SCARD_NOTED_NAD = 5,         /* NAD (clause 11.3.2.1) */
     SCARD_NOTED_TD = 6,          /* the protocol that a TD indicates, 0 to 15 (clause 8.2.3) */
     SCARD_NOTED_TA2 = 7,         /* TA2 (clause 8.3) */
     SCARD_NOTED_TAG = 8          /* the first octet of a tag (ISO/IEC 7816-4:2005, clause 5.2.2.1) */
 };
 
-/* Words that the library has, with a number among them: `before`, then the number in decimal digits where has_number
- * is 1, then `after`. No 0 is after either text. Where there is no number, both its fields are 0 and `after` is empty.
+/* An explanation: `before`, then the number in decimal digits if has_number is 1, then `after`. The library owns both
+ * texts. Neither is terminated by a 0. Without a number, `number` and `has_number` are 0 and `after` is empty.
  */
 struct scard_note {
     const char *before;
@@ -217,136 +221,153 @@ struct scard_note {
     uint8_t has_number;
 };
 
-/* Writes what they say: of status bytes "file or application not found", of a class "no secure messaging, channel " and
- * a number. Both texts are empty where the standard has no words for these octets, or nothing has this number.
+/* Writes to *out an explanation of one or two octets. `about` is an enum scard_noted. Status bytes give, for example,
+ * "file or application not found"; a class gives "no secure messaging, channel " and a number. Both texts are empty if
+ * the standard has no words for these octets, or if `about` is unknown.
  */
 void scard_note_of(uint8_t about, uint8_t first, uint8_t second, struct scard_note *out);
 
-/* Whether octets are shown as text beside their hexadecimal: 1 to 40 of them, all from 20 to 7E. */
+/* Returns whether octets are shown as text beside their hexadecimal: 1 to 40 octets, each from 20 to 7E. */
 bool scard_is_text(const uint8_t *octets, size_t count);
 
 /* ---- octets ---- */
 
-/* The longitudinal redundancy check (ISO/IEC 7816-3, clause 11.3): the exclusive-or of all octets, 0 for none. */
+/* Returns the longitudinal redundancy check of `count` octets: their exclusive-or, or 0 if there are none (ISO/IEC
+ * 7816-3, clause 11.3).
+ */
 uint8_t scard_lrc(const uint8_t *octets, size_t count);
 
-/* Writes octets as hexadecimal text in upper case, two digits each, with no 0 after it. Room: 2 * count.
- * OK, ARGUMENT. */
+/* Writes `count` octets as upper-case hexadecimal text, two digits each, without a terminating 0. Room: 2 * count.
+ * Returns OK, ARGUMENT.
+ */
 SCARD_MUST_USE
 struct scard_verdict scard_hex_encode(const uint8_t *octets, size_t count, char *text, size_t room);
 
-/* Writes the octets of a hexadecimal text in either case. Room: length / 2. The first octet that is no digit is
- * refused; a text of an odd length is refused at its end. OK, AT (enum scard_hex_reason), ARGUMENT.
+/* Decodes hexadecimal text, upper or lower case, and writes its octets. `length` counts characters. Room: length / 2.
+ * AT: `place` is the first character that isn't a digit; or the length is odd, and `place` is the end of the text (enum
+ * scard_hex_reason). Returns OK, AT, ARGUMENT.
  */
 SCARD_MUST_USE
 struct scard_verdict scard_hex_decode(const char *text, size_t length, uint8_t *out, size_t room);
 
 /* ---- answers to reset (ISO/IEC 7816-3, clause 8) ---- */
 
-/* TA, TB and TC, each there where its mark isn't 0. */
+/* TA, TB and TC. Each is present if its `has_` field isn't 0. */
 struct scard_interface {
     uint8_t has_ta, ta;
     uint8_t has_tb, tb;
     uint8_t has_tc, tc;
 };
 
-/* One TD: the protocol T that it indicates, 0 to 15, and the bytes after it. */
+/* One TD: the protocol T that it indicates, 0 to 15, and the interface bytes after it. */
 struct scard_indicated {
     uint8_t protocol;
     struct scard_interface bytes;
 };
 
 struct scard_atr {
-    uint8_t convention;                    /* 0 direct (TS is 3B), any other inverse (TS is 3F) */
+    uint8_t convention;                    /* 0 is direct (TS is 3B), any other value inverse (TS is 3F) */
     struct scard_interface first;          /* TA1, TB1, TC1 */
-    uint8_t indicated_count;               /* the TDs in their order, at most 31 */
+    uint8_t indicated_count;               /* how many TDs follow in `indicated`, in their order; at most 31 */
     struct scard_indicated indicated[31];
-    uint8_t historical_count;              /* the historical bytes, at most 15 */
+    uint8_t historical_count;              /* how many historical bytes there are, at most 15 */
     uint8_t historical[15];
-    uint8_t has_tck, tck;                  /* read back by decode; no other call looks at them */
+    uint8_t has_tck, tck;                  /* written by decode; no other call reads them */
 };
 
-/* The verdict on octets as an answer to reset; what follows the answer isn't looked at. OK, SHORT, AT. */
+/* Checks whether the octets begin with a valid answer to reset. It ignores what follows the answer. At OK, `place` is
+ * the answer's length. Returns OK, SHORT, AT (enum scard_atr_reason).
+ */
 SCARD_MUST_USE
 struct scard_verdict scard_atr_check(const uint8_t *octets, size_t count);
 
-/* The same, and the answer is written to *out at OK. */
+/* Decodes an answer to reset: as scard_atr_check, and at OK writes the answer to *out. */
 SCARD_MUST_USE
 struct scard_verdict scard_atr_decode(const uint8_t *octets, size_t count, struct scard_atr *out);
 
-/* Writes the octets of an answer. Room: at most 33. ARGUMENT with place 0: a count is too large, a protocol is
- * above 15, or it would have more than 33 octets. OK, ARGUMENT.
+/* Encodes an answer to reset, and writes its octets. Room: at most 33. ARGUMENT with place 0: a count is too large, a
+ * protocol is above 15, or the answer would have more than 33 octets. Returns OK, ARGUMENT.
  */
 SCARD_MUST_USE
 struct scard_verdict scard_atr_encode(const struct scard_atr *atr, uint8_t *out, size_t room);
 
-/* What scard_atr_t1_params says; any other number is SCARD_ARGUMENT, where the struct says no answer. */
+/* The results of scard_atr_t1_params. Any other number is SCARD_ARGUMENT: the struct holds no valid answer. */
 enum scard_t1_fault {
-    SCARD_T1_USABLE = 0,        /* *out is written; in all other cases it stays */
-    SCARD_T1_NO_T1 = 1,         /* T=1 isn't offered */
+    SCARD_T1_USABLE = 0,        /* success: *out is written; with any other result it is unchanged */
+    SCARD_T1_NO_T1 = 1,         /* the answer doesn't offer T=1 */
     SCARD_T1_RESERVED_IFSC = 2, /* IFSC is 00 or FF */
-    SCARD_T1_CRC = 3            /* the CRC is asked for, which this stack doesn't do */
+    SCARD_T1_CRC = 3            /* the answer asks for the CRC, which this stack doesn't support */
 };
 
 struct scard_t1 {
-    uint8_t ifsc; /* the information size of the card, 1 to 254 */
-    uint8_t bwi;  /* the indexes of its block waiting time and its character waiting time, 0 to 15 */
+    uint8_t ifsc; /* the information size of the card, 1 to 254 octets */
+    uint8_t bwi;  /* the index of its block waiting time, 0 to 15; `cwi` is that of its character waiting time, 0 to
+                     15 */
     uint8_t cwi;
 };
 
-/* The parameters of T=1 that an answer gives (ISO/IEC 7816-3, clause 11.4), or their defaults 32, 4 and 13. */
+/* Writes to *out the T=1 parameters of an answer to reset (ISO/IEC 7816-3, clause 11.4). Parameters that the answer
+ * leaves out get their defaults: 32, 4 and 13. Returns an enum scard_t1_fault, or SCARD_ARGUMENT.
+ */
 SCARD_MUST_USE
 uint8_t scard_atr_t1_params(const struct scard_atr *atr, struct scard_t1 *out);
 
 struct scard_rates {
-    uint16_t fi; /* 0 where reserved */
-    uint16_t di; /* 0 where reserved */
+    uint16_t fi; /* 0 if reserved */
+    uint16_t di; /* 0 if reserved */
 };
 
-/* The integers Fi and Di of TA1 (clause 8.3), or 372 and 1. SCARD_OK, or SCARD_ARGUMENT where the struct says no
-   answer. */
+/* Writes to *out the integers Fi and Di of TA1 (clause 8.3); without a TA1, 372 and 1. Returns SCARD_OK, or
+ * SCARD_ARGUMENT if the struct holds no valid answer.
+ */
 SCARD_MUST_USE
 uint8_t scard_atr_rates(const struct scard_atr *atr, struct scard_rates *out);
 
-/* The waiting times of these parameters (clause 11.4), with nothing rounded; 0 where the struct says none: `ifsc` is 0
- * or 255, or an index is above 15. An elementary time unit, etu, is `fi` / `di` cycles of the card's clock; `fi` and
- * `di` are the integers that are in use, 372 and 1 until others are agreed. docs/C.md makes microseconds of them.
+/* Returns CWT in etu: the longest time between the starts of two characters of one block (clause 11.4). It is 11 +
+ * 2^cwi, so 12 to 32,779.
  *
- * CWT, the longest time between the beginnings of two characters of one block, in etu: 11 + 2^cwi, so 12 to 32,779.
+ * For this call and the next: the result is exact, without rounding. It is 0 if the struct holds no valid parameters:
+ * `ifsc` is 0 or 255, or an index is above 15. An elementary time unit, etu, is `fi` / `di` cycles of the card's clock.
+ * `fi` and `di` are the integers in use: 372 and 1 until both ends agree on others. docs/C.md converts the times to
+ * microseconds.
  */
 uint32_t scard_t1_cwt(const struct scard_t1 *params);
 
-/* BWT, the longest time between the beginnings of the last character that the card received and of the first that it
- * sends back, in cycles of the card's clock times `di`: 11 * fi + 2^bwi * 960 * 372 * di. `fi` of these are an etu.
+/* Returns BWT: the longest time from the start of the last character that the card received to the start of the first
+ * one that it sends back (clause 11.4). The unit is a clock cycle divided by `di`, so an etu has `fi` units. The value
+ * is 11 * fi + 2^bwi * 960 * 372 * di.
  */
 uint64_t scard_t1_bwt(const struct scard_t1 *params, uint16_t fi, uint16_t di);
 
 /* ---- blocks of T=1 (ISO/IEC 7816-3, clause 11.3) ---- */
 
-/* The room that every block fits into. */
+/* The room that fits every block, in octets. */
 #define SCARD_BLOCK_ROOM 258
 
 struct scard_block {
     uint8_t nad;
     uint8_t pcb;
-    uint8_t inf_place; /* the information field is inf_len octets from this place on of the octets: 3 */
+    uint8_t inf_place; /* the information field is `inf_len` octets of the input, starting at this place: 3 */
     uint8_t inf_len;
 };
 
-/* What an R-block says of the block that it answers. */
+/* What an R-block reports about the block that it answers. */
 enum scard_block_fault { SCARD_FAULT_FREE = 0, SCARD_FAULT_REDUNDANCY = 1, SCARD_FAULT_OTHER = 2 };
 
-/* What an S-block is about. IFS carries one octet, 1 to 254; WTX one of any value; the others none. */
+/* The kind of an S-block. IFS carries one octet, 1 to 254; WTX one octet of any value; the others carry none. */
 enum scard_block_about { SCARD_S_RESYNCH = 0, SCARD_S_IFS = 1, SCARD_S_ABORT = 2, SCARD_S_WTX = 3 };
 
-/* The block with which the octets begin, where I-blocks have at most `ifs` octets, 1 to 254; it is written to *out
- * at OK. OK, SHORT, AT, ARGUMENT.
+/* Decodes the block at the start of the octets, and at OK writes it to *out. `ifs` is the largest information field of
+ * an I-block, 1 to 254 octets. At OK, `place` is the block's length; what follows isn't read. Returns OK, SHORT, AT
+ * (enum scard_block_reason), ARGUMENT (`ifs` is 0 or 255).
  */
 SCARD_MUST_USE
 struct scard_verdict scard_block_decode(const uint8_t *octets, size_t count, uint8_t ifs, struct scard_block *out);
 
-/* Write a block. `ns` and `nr` are 0 or 1, an information field has at most 254 octets. Room: SCARD_BLOCK_ROOM, or
- * the field's octets and 4. ARGUMENT with place 0: there is no such block. OK, ARGUMENT.
+/* Encode a block of one kind, and write its octets. `nad` is the node address, any octet. `ns` and `nr` are 0 or 1.
+ * `more` says that more blocks of the chain follow. `fault` is an enum scard_block_fault, `about` an enum
+ * scard_block_about. `inf` is the information field, at most 254 octets. Room: SCARD_BLOCK_ROOM always suffices;
+ * exactly, the field's octets and 4. ARGUMENT with place 0: there is no such block. Return OK, ARGUMENT.
  */
 SCARD_MUST_USE
 struct scard_verdict scard_block_i(uint8_t nad, uint8_t ns, bool more, const uint8_t *inf, size_t count,
@@ -360,23 +381,26 @@ SCARD_MUST_USE
 struct scard_verdict scard_block_s_response(uint8_t nad, uint8_t about, const uint8_t *inf, size_t count,
                                             uint8_t *out, size_t room);
 
-/* The same by the control octet, one of 18. */
+/* Encodes a block of any kind, with its control octet given as `pcb`, one of 18 values. Otherwise as above. */
 SCARD_MUST_USE
 struct scard_verdict scard_block_encode(uint8_t nad, uint8_t pcb, const uint8_t *inf, size_t count,
                                         uint8_t *out, size_t room);
 
 /* ---- chains of I-blocks (ISO/IEC 7816-3, clause 11.6) ---- */
 
-/* Writes the block of the chain that begins at octet `start` of the message: min(ifs, what is left) octets of it,
- * with more to come where any are left after them, and the number `ns`. Room: SCARD_BLOCK_ROOM. ARGUMENT with
- * place 0: `ifs` is 0 or 255, `ns` isn't 0 or 1, or `start` is past the message. OK, ARGUMENT.
+/* Encodes one block of a message's chain, and writes its octets. The block carries the octets from `start` on: `ifs` of
+ * them, or all that are left if those are fewer. It says that more follow if octets are left after it. `ifs` is 1 to
+ * 254 octets. `ns` is the block's number, 0 or 1. Room: SCARD_BLOCK_ROOM. ARGUMENT with place 0: `ifs` is 0 or 255,
+ * `ns` isn't 0 or 1, or `start` is past the message. Returns OK, ARGUMENT.
  */
 SCARD_MUST_USE
 struct scard_verdict scard_chain_block(const uint8_t *message, size_t count, size_t start, uint8_t ifs, uint8_t ns,
                                        uint8_t *out, size_t room);
 
-/* Writes the whole chain of a message of at most 131,072 octets, the first block with the number `ns`. Room: the
- * message and 4 octets a block; the empty message has one block. OK, ARGUMENT.
+/* Encodes the whole chain of a message, and writes its octets. The message has at most 131,072 octets. Its fields have
+ * `ifs` octets, 1 to 254, except the last one. `ns` is the number of the first block, 0 or 1. Room: the message, and 4
+ * octets for each block; the empty message has one block. ARGUMENT with place 0: an argument is out of its range.
+ * Returns OK, ARGUMENT.
  */
 SCARD_MUST_USE
 struct scard_verdict scard_chain_cut(const uint8_t *message, size_t count, uint8_t ifs, uint8_t ns,
@@ -385,7 +409,7 @@ struct scard_verdict scard_chain_cut(const uint8_t *message, size_t count, uint8
 /* ---- commands and responses (ISO/IEC 7816-3, clause 12; ISO/IEC 7816-4, clause 5.1) ---- */
 
 enum scard_shape {
-    SCARD_CASE_1 = 1,       /* nothing after the header */
+    SCARD_CASE_1 = 1,       /* no body after the header */
     SCARD_CASE_2_SHORT = 2, /* Le, 1 to 256 */
     SCARD_CASE_3_SHORT = 3, /* a data field of 1 to 255 octets */
     SCARD_CASE_4_SHORT = 4, /* both */
@@ -397,32 +421,37 @@ enum scard_shape {
 struct scard_command {
     uint8_t cla, ins, p1, p2;
     uint8_t shape; /* enum scard_shape */
-    uint8_t has_le;    /* 1 where there is an Le field, else 0 */
-    uint32_t le;       /* the most octets that are expected back; 0 where there is no Le */
-    scard_size data_place; /* the data field is data_len octets from this place on of the octets */
+    uint8_t has_le;    /* 1 if there is an Le field, else 0 */
+    uint32_t le;       /* the most octets expected in the response; 0 if there is no Le */
+    scard_size data_place; /* the data field is `data_len` octets of the input, starting at this place */
     scard_size data_len;
 };
 
 struct scard_response {
     uint8_t sw1, sw2;
-    scard_size data_len; /* the data field is the front of the octets */
+    scard_size data_len; /* the data field is this many octets, at the start of the input */
 };
 
-/* The command, or the response, that all the octets are; it is written to *out at OK. OK, SHORT, AT. */
+/* Decode a command, or a response, that takes all the octets; at OK they write it to *out. Return OK, SHORT, AT (enum
+ * scard_command_reason, enum scard_response_reason).
+ */
 SCARD_MUST_USE
 struct scard_verdict scard_command_decode(const uint8_t *octets, size_t count, struct scard_command *out);
 SCARD_MUST_USE
 struct scard_verdict scard_response_decode(const uint8_t *octets, size_t count, struct scard_response *out);
 
-/* Writes the command with the header, shape and Le of a struct, and this data field; the struct's other fields
- * aren't looked at. Give an Le of 0 and no data field to a shape that hasn't them. Room: at most the data field
- * and 9. ARGUMENT with place 0: its length fields can't tell them. OK, ARGUMENT.
+/* Encodes a command, and writes its octets. It takes the header, the shape and Le from the struct, and ignores the
+ * struct's other fields. `data` is the data field, caller-owned. Where a shape has no Le or no data field, pass 0 for
+ * it. Room: at most the data field and 9. ARGUMENT with place 0: no length field can express these values. Returns OK,
+ * ARGUMENT.
  */
 SCARD_MUST_USE
 struct scard_verdict scard_command_encode(const struct scard_command *command, const uint8_t *data, size_t count,
                                           uint8_t *out, size_t room);
 
-/* Writes a response. Room: the data field, at most 65,536 octets, and 2. OK, ARGUMENT. */
+/* Encodes a response, and writes its octets. The data field has at most 65,536 octets. Room: the data field and 2.
+ * Returns OK, ARGUMENT.
+ */
 SCARD_MUST_USE
 struct scard_verdict scard_response_encode(const uint8_t *data, size_t count, uint8_t sw1, uint8_t sw2,
                                            uint8_t *out, size_t room);
@@ -436,87 +465,91 @@ enum scard_status_class {
     SCARD_CLASS_INVALID = 6
 };
 
-/* The class of two status bytes: enum scard_status_class. */
+/* Returns the class of two status bytes, an enum scard_status_class (ISO/IEC 7816-4, clause 5.1). */
 uint8_t scard_status_class(uint8_t sw1, uint8_t sw2);
 
 /* ---- data objects (EMV 4.3 Book 3, Annex B and clause 5.4) ---- */
 
-/* The largest forest. */
+/* The most octets of a forest, which is a list of data objects and filler octets 00. */
 #define SCARD_TLV_LARGEST 1048576
 
-/* The verdict on octets as a forest: a list of data objects and filler octets 00, at most `max` octets, itself at
- * most SCARD_TLV_LARGEST. OK, SHORT, AT, ARGUMENT.
+/* Checks whether the octets are a valid forest of at most `max` octets, itself at most SCARD_TLV_LARGEST. Returns OK,
+ * SHORT, AT (enum scard_tlv_reason), ARGUMENT (`max` is larger).
  */
 SCARD_MUST_USE
 struct scard_verdict scard_tlv_check(const uint8_t *octets, size_t count, size_t max);
 
-/* Writes the same objects without fillers and with each length in its shortest form. Room: `count` suffices. The octets
- * are gone over twice, and those of an object are moved once for each object that it is in. No memory.
- * OK, SHORT, AT, ARGUMENT.
+/* Writes the shortest encoding of the same objects: without fillers, and with each length in its shortest form. `max`
+ * is as in scard_tlv_check. Room: `count` suffices. It allocates nothing. It makes two passes over the octets, and
+ * moves those of an object once for each object that contains it. Returns OK, SHORT, AT, ARGUMENT.
  */
 SCARD_MUST_USE
 struct scard_verdict scard_tlv_tidy(const uint8_t *octets, size_t count, size_t max, uint8_t *out, size_t room);
 
-/* A tag: its octets, 1 to 3, and 0 after them; and how many they are. As an argument the octets after `count` aren't
- * looked at, and a count above 3 is taken as 3.
+/* A tag: 1 to 3 octets, padded with 0, and their number. In an argument, the library ignores the octets after `count`,
+ * and reads a count above 3 as 3.
  */
 struct scard_tag {
     uint8_t octets[3];
     uint8_t count;
 };
 
-/* An object of a forest. Its value is `len` octets from place `place` on of the octets of the forest; that of a
- * constructed object has the objects inside it.
+/* An object of a forest. Its value is `len` octets of the forest, starting at `place`. The value of a constructed
+ * object holds the objects inside it.
  */
 struct scard_part {
-    uint8_t depth;          /* 1 to 16, 1 for an outermost object */
-    uint8_t is_constructed; /* 1 where it is constructed, else 0 */
-    uint8_t len_octets;     /* how many octets its length field has, 1 to 5 */
+    uint8_t depth;          /* 1 to 16; an outermost object has 1 */
+    uint8_t is_constructed; /* 1 if it is constructed, else 0 */
+    uint8_t len_octets;     /* the octets of its length field, 1 to 5 */
     struct scard_tag tag;
     scard_size place;
     scard_size len;
 };
 
-/* Writes the objects of a forest of at most `max` octets, each before those inside it, without the fillers, to the
- * array `parts`; `place` is how many there are. Room, in parts: what the verdict's place says; half of `count`
- * suffices. OK, SHORT, AT, ARGUMENT. It writes as it reads: where it isn't OK, what the array holds is unspecified. No
- * memory.
+/* Lists the objects of a forest in the array `parts`: each object before those inside it, and no fillers. `max` is as
+ * in scard_tlv_check. At OK, `place` is the number of objects. Room, in structs: half of `count` suffices; if the room
+ * is too small, the verdict's place says how many are needed. The call writes as it reads, so the contents of the array
+ * are unspecified unless the status is OK. It allocates nothing. Returns OK, SHORT, AT, ARGUMENT.
  */
 SCARD_MUST_USE
 struct scard_verdict scard_tlv_parts(const uint8_t *octets, size_t count, size_t max,
                                      struct scard_part *parts, size_t room);
 
-/* The place in the array of the first object on a path of tags, or `count` where there is none. On a path of one
- * tag it is the first outermost object that has it; on a longer one the first that the rest of the path finds
- * directly inside an object with the first tag, these tried in order. `parts` are those of one forest. No memory.
+/* Finds the first object on a path of tags. Returns its index in `parts`, or `count` if there is none. A path of one
+ * tag matches the first outermost object with that tag. A longer path tries the outermost objects with its first tag in
+ * order, and searches directly inside each for the rest of the path. `parts` must be those of one forest. It allocates
+ * nothing.
  */
 size_t scard_tlv_first(const struct scard_part *parts, size_t count, const struct scard_tag *path, size_t tags);
 
-/* The verdict on octets as a data object list: tags, each with a length octet. OK, SHORT, AT. No memory. */
+/* Checks whether the octets are a valid data object list: tags, each followed by a length octet (EMV 4.3 Book 3, clause
+ * 5.4). It allocates nothing. Returns OK, SHORT, AT (enum scard_dol_reason).
+ */
 SCARD_MUST_USE
 struct scard_verdict scard_dol_check(const uint8_t *octets, size_t count);
 
 /* An entry of a data object list. */
 struct scard_entry {
     struct scard_tag tag;
-    uint8_t len; /* how many octets its value is to have */
+    uint8_t len; /* the length that the list asks for, in octets */
 };
 
-/* Writes the entries of a data object list, in their order, to the array `entries`; `place` is how many there are.
- * Room, in entries: what the verdict's place says; half of `count` suffices. OK, SHORT, AT, ARGUMENT. It writes as it
- * reads: where it isn't OK, what the array holds is unspecified. No memory.
+/* Lists the entries of a data object list, in their order, in the array `entries`. At OK, `place` is their number.
+ * Room, in structs: half of `count` suffices; if the room is too small, the verdict's place says how many are needed.
+ * The call writes as it reads, so the contents of the array are unspecified unless the status is OK. It allocates
+ * nothing. Returns OK, SHORT, AT, ARGUMENT.
  */
 SCARD_MUST_USE
 struct scard_verdict scard_dol_entries(const uint8_t *octets, size_t count, struct scard_entry *entries, size_t room);
 
-/* How a value is cut and padded to a length. */
+/* How a value is cut or padded to the length that a list asks for. */
 enum scard_format {
-    SCARD_NUMERIC = 0,            /* loses its leftmost octets, or gets leading 00 */
-    SCARD_COMPRESSED_NUMERIC = 1, /* loses its rightmost octets, or gets trailing FF */
-    SCARD_OTHER = 2               /* loses its rightmost octets, or gets trailing 00 */
+    SCARD_NUMERIC = 0,            /* cut: loses leftmost octets; padded: gets leading 00 */
+    SCARD_COMPRESSED_NUMERIC = 1, /* cut: loses rightmost octets; padded: gets trailing FF */
+    SCARD_OTHER = 2               /* cut: loses rightmost octets; padded: gets trailing 00 */
 };
 
-/* A value that is known for a tag. */
+/* A value for a tag. The caller owns the octets at `value`. */
 struct scard_known {
     struct scard_tag tag;
     uint8_t format; /* enum scard_format */
@@ -524,13 +557,14 @@ struct scard_known {
     scard_size count;
 };
 
-/* Writes the octets that a data object list asks for: for each entry as many as it says, which are the known value
- * of its tag, cut or padded; or 00, where the tag is that of a constructed object or has no known value. Room: the
- * sum of the lengths in the list, at most 255 for each two octets of it. `known_count` counts structs. The refusal
- * of the list has the reasons of enum scard_dol_reason. DUPLICATE: two known values have one tag, also where the
- * list doesn't name it. ARGUMENT with place 0: a known tag is none, a format is above 2, or the list has more than 2^48
- * octets. All pairs of known values are compared, and for each entry the known values one by one. No memory.
- * OK, SHORT, AT, ARGUMENT, DUPLICATE.
+/* Writes the octets that a data object list asks for. Each entry gets the known value of its tag, cut or padded to the
+ * entry's length. It gets 00s if the tag is that of a constructed object, or has no known value. `known_count` counts
+ * structs. Room: the sum of the lengths in the list, at most 255 for each two octets of the list. It allocates nothing.
+ * It compares all pairs of known values, and searches them one by one for each entry.
+ *
+ * AT: the list is invalid (enum scard_dol_reason). DUPLICATE: two known values have the same tag, even one that the
+ * list doesn't contain. ARGUMENT with place 0: a known tag is invalid, a format is above 2, or the list has more than
+ * 2^48 octets. Returns OK, SHORT, AT, ARGUMENT, DUPLICATE.
  */
 SCARD_MUST_USE
 struct scard_verdict scard_dol_fill(const uint8_t *list, size_t count, const struct scard_known *known,
@@ -538,8 +572,8 @@ struct scard_verdict scard_dol_fill(const uint8_t *list, size_t count, const str
 
 /* ---- both ends of a T=1 session (ISO/IEC 7816-3, clause 11.6) ---- */
 
-/* A terminal, a card or a reader. Begin with SCARD_HANDLE_EMPTY, and close what was opened. Never copy one, and
- * never change one but by these calls.
+/* A handle: it holds a terminal, a card or a reader. Initialize it with SCARD_HANDLE_EMPTY. scard_close frees what it
+ * holds. Never copy a handle, and change it only by these calls.
  */
 struct scard_handle {
     void *at;
@@ -551,59 +585,73 @@ struct scard_handle {
 enum scard_turn_kind {
     /* Send the first `count` octets of the buffer, and wait for the other end. */
     SCARD_SEND = 0,
-    /* Terminal: the answer is complete. Card: its host owes the reply to a command. scard_message has either. */
+    /* Terminal: the answer is complete. Card: its host owes the reply to a command. scard_message returns either. */
     SCARD_DONE = 1,
-    /* Terminal: the card took the information size. */
+    /* Terminal: the card accepted the information size. */
     SCARD_IFS_SET = 2,
-    /* Terminal: the ends were resynchronized, and the exchange or the question about a size is given up. */
+    /* Terminal: both ends were resynchronized, and the exchange or the IFS request was given up. */
     SCARD_GIVEN_UP = 3,
-    /* Terminal: the card answers no more. */
+    /* Terminal: the card no longer answers. */
     SCARD_DEAD = 4,
-    /* The call was refused, and changed nothing. */
-    SCARD_REFUSED_DEAD = 16,     /* the card was found dead */
-    SCARD_REFUSED_BUSY = 17,     /* an exchange, or a question about a size, is under way */
-    SCARD_REFUSED_TOO_LONG = 18, /* a command above 65,544 octets, a reply above 65,538, or a lent buffer's room */
+    /* These refuse the call, and nothing changed. */
+    SCARD_REFUSED_DEAD = 16,     /* the card no longer answers */
+    SCARD_REFUSED_BUSY = 17,     /* an exchange or an IFS request is in progress */
+    SCARD_REFUSED_TOO_LONG = 18, /* a command is above 65,544 octets, a reply above 65,538, or either is above the
+                                    room of a lent buffer */
     SCARD_REFUSED_RESERVED = 19, /* the sizes 0 and 255 are reserved */
-    SCARD_REFUSED_IDLE = 20,     /* the terminal awaits no block */
-    SCARD_REFUSED_ORDER = 21,    /* it isn't the turn of the card's host, or a block came in it */
-    SCARD_NO_END = 32,           /* the handle holds no such end, or a lent state is none */
-    SCARD_NO_ROOM = 33           /* the buffer has less than SCARD_BLOCK_ROOM octets */
+    SCARD_REFUSED_IDLE = 20,     /* the terminal isn't waiting for a block */
+    SCARD_REFUSED_ORDER = 21,    /* it isn't the turn of the card's host; or it is, and a block came */
+    SCARD_NO_END = 32,           /* the handle holds no such end, or a lent state is invalid */
+    SCARD_NO_ROOM = 33           /* the buffer has fewer than SCARD_BLOCK_ROOM octets */
 };
 
 struct scard_turn {
     uint8_t kind; /* enum scard_turn_kind */
-    uint8_t wait; /* terminal: how many block waiting times to wait, after SCARD_SEND, for the block that comes: 1, or
-                     the multiple that was granted to the card, 1 to 255. 0 where no time is set: at a card, which
-                     waits for its terminal without end, and in a turn that sends nothing. */
-    scard_size count; /* the octets to be sent; at SCARD_NO_ROOM the room needed; else 0 */
+    uint8_t wait; /* terminal: how many block waiting times to wait for the answer after SCARD_SEND: 1, or the
+                     multiple that the terminal granted to the card, 1 to 255. 0 if there is no time limit: at a
+                     card, which waits for its terminal without limit, and in a turn that sends nothing */
+    scard_size count; /* the octets to send; at SCARD_NO_ROOM the room needed; else 0 */
 };
 
-/* Open an end for these parameters of T=1. All the memory of an end is taken here, some 131 KB; what the handle
- * held is freed. Where the handle holds such an end already, that is made a new one in the memory that it has, where
- * what it held is overwritten, and none is taken. Unless it is OK the handle stays as it was. OK, MEMORY, ARGUMENT
- * (`ifsc` is 0 or 255, or an index is above 15). An end measures no time, so it only looks whether the indexes are in
- * range.
+/* Open a terminal, or a card, in a handle. `ifsc` is 1 to 254 octets, `bwi` and `cwi` are 0 to 15: the T=1 parameters
+ * of the card. An end measures no time, so it only checks the range of the two indexes.
  *
- * A terminal and a card begin together, at a reset of the card. A terminal that is opened while its card goes on has
- * lost the number of the next block. The card may then take its first command for a repeat of the last one, not hand
- * it to its host, and answer it with the last answer, which looks like a good exchange. So keep one terminal for as
- * long as its card isn't reset, and open it again at each reset.
+ * These calls allocate all the memory of an end, some 131 KB. The handle owns it until scard_close. They free what the
+ * handle held before. If it already holds an end of the same kind, they overwrite that one's contents and reuse its
+ * memory, and allocate nothing. If they don't return OK, the handle is unchanged. Return OK, MEMORY, ARGUMENT (`ifsc`
+ * is 0 or 255, or an index is above 15).
+ *
+ * Open a terminal at each reset of its card, and at no other time. A terminal and a card begin together. A terminal
+ * that is opened while its card goes on doesn't know the number of the next block. The card may then take its first
+ * command for a repeat of the last one. It doesn't pass that command to its host, and sends the last answer again,
+ * which looks like a good exchange. So keep one terminal for as long as its card isn't reset.
  */
 SCARD_MUST_USE
 struct scard_verdict scard_terminal_open(struct scard_handle *handle, uint8_t ifsc, uint8_t bwi, uint8_t cwi);
 SCARD_MUST_USE
 struct scard_verdict scard_card_open(struct scard_handle *handle, uint8_t ifsc, uint8_t bwi, uint8_t cwi);
 
-/*
- * Frees what the handle holds, and leaves it empty. An empty handle is fine. The buffers of an end, and the message of
- * a receiver of chains, are overwritten before their memory is freed.
+/* Frees what the handle holds, and leaves it empty. The handle may be empty already. Before it frees the memory, it
+ * overwrites the buffers of an end, and the message of a receiver of chains.
  */
 void scard_close(struct scard_handle *handle);
 
-/* The calls of an end. Each takes a buffer of SCARD_BLOCK_ROOM octets, and writes the octets of a block to it at
- * SCARD_SEND alone. `received` takes what the line delivered as one block, whatever it is; `quiet` says that
- * nothing came within the waiting time, `wait` times BWT, which this library doesn't measure. Don't say so earlier: all
- * that is promised of both ends rests on their taking turns.
+/* Drive an end: each call returns a turn, which says what to do next (enum scard_turn_kind). `out` is a caller-owned
+ * buffer of at least SCARD_BLOCK_ROOM octets. Only with SCARD_SEND do the calls write a block to it. They borrow
+ * `command`, `reply` and `octets` until they return. A refused call changes nothing; the names in parentheses say with
+ * which SCARD_REFUSED_ kind each call may be refused. Every call may also return SCARD_NO_END and SCARD_NO_ROOM.
+ *
+ * - scard_terminal_transmit: begins an exchange with a command, at most 65,544 octets (DEAD, BUSY, TOO_LONG).
+ * - scard_terminal_received: passes on what the line delivered as one block, whatever it is (DEAD, IDLE).
+ * - scard_terminal_quiet: reports a timeout: nothing came within `wait` times BWT, which this library doesn't measure.
+ *   Never call it earlier: all promises about the two ends rest on their taking turns (DEAD, IDLE).
+ * - scard_terminal_ask_ifs: tells the card the largest field that the terminal takes, `size`, 1 to 254 octets (DEAD,
+ *   BUSY, RESERVED).
+ * - scard_card_received: passes on what the line delivered as one block, whatever it is (ORDER).
+ * - scard_card_reply: passes on the reply of the card's host, at most 65,538 octets (ORDER, TOO_LONG).
+ * - scard_card_more_time: asks the terminal for `multiple` block waiting times, any octet (ORDER).
+ * - scard_card_ask_ifs: tells the terminal the largest field that the card takes, `size`, 1 to 254 octets (ORDER,
+ *   RESERVED).
  */
 SCARD_MUST_USE
 struct scard_turn scard_terminal_transmit(struct scard_handle *handle, const uint8_t *command, size_t count,
@@ -627,24 +675,26 @@ struct scard_turn scard_card_more_time(struct scard_handle *handle, uint8_t mult
 SCARD_MUST_USE
 struct scard_turn scard_card_ask_ifs(struct scard_handle *handle, uint8_t size, uint8_t *out, size_t room);
 
-/* Writes the terminal's answer, from the turn SCARD_DONE on until the next command is taken; or the card's
- * command, while its host owes the reply; or the message of a receiver of chains, once its chain is whole. Room:
- * what the verdict's place says; 65,544 suffices for an end, `max` for a receiver. OK, ARGUMENT (with place 0:
- * there is none).
+/* Writes the message that an end or a receiver has. For a terminal it is the answer, from the turn SCARD_DONE until it
+ * accepts the next command. For a card it is the command, while its host owes the reply. For a receiver of chains it is
+ * the message, once the chain is complete. Room: 65,544 suffices for an end, `max` for a receiver; if the room is too
+ * small, the verdict's place says how much is needed. Returns OK, ARGUMENT (with place 0: there is no message).
  */
 SCARD_MUST_USE
 struct scard_verdict scard_message(struct scard_handle *handle, uint8_t *out, size_t room);
 
 /* ---- both ends without an allocator ---- */
 
-/* The state of an end that the caller keeps. Its fields are the library's own: `begin` writes them, and each call that
- * changes the end. An end is its state and two buffers, one for commands and one for answers, so each call is given
- * all three: the same buffers as the call before, of the same sizes, with the octets that it left in them. A buffer
- * of 65,544 octets takes any command, and one of 65,538 any answer; smaller ones take shorter messages, and a longer
- * one is refused as too long.
+/* The caller-owned state of an end. The fields belong to the library: `begin` writes them, and so does each call that
+ * changes the end.
  *
- * Whatever octets a state has, a call is safe: where they are no state of an end over buffers of these sizes it answers
- * SCARD_NO_END, or ARGUMENT, and changes nothing. These calls take no memory.
+ * An end is its state and two buffers, one for commands and one for answers, so each call takes all three. Pass the
+ * same buffers each time, with the same sizes, and leave their octets unchanged between calls. A buffer of 65,544
+ * octets fits any command, and one of 65,538 any answer. A smaller buffer takes shorter messages; a longer message is
+ * refused as too long.
+ *
+ * A call is safe with any octets in the state. If they aren't the state of an end over buffers of these sizes, it
+ * returns SCARD_NO_END, or ARGUMENT, and changes nothing. These calls allocate nothing.
  */
 struct scard_lent_terminal {
     uint8_t number;
@@ -681,16 +731,17 @@ struct scard_lent_card {
     scard_size reply_len;
 };
 
-/* The first five arguments of these calls, of a state and two arrays: SCARD_LENT(terminal, command, answer). A buffer
- * that is known by a pointer has to be given with its size by hand: `sizeof` of a pointer is that of no buffer.
+/* The first five arguments of these calls, made from a state and two arrays: SCARD_LENT(terminal, command, answer). If
+ * you have only a pointer to a buffer, pass its size yourself: `sizeof` a pointer isn't the buffer's size.
  */
 #define SCARD_LENT(state, command, answer) &(state), (command), sizeof(command), (answer), sizeof(answer)
 
-/* Begin an end for these parameters of T=1, whatever the state was: a new session too, over the same buffers. Both
- * buffers are set to 0. OK with place 0, ARGUMENT (`ifsc` is 0 or 255, or an index is above 15): then nothing changes.
+/* Begin an end with these T=1 parameters, whatever the state held before. They also begin a new session over the same
+ * buffers. `ifsc` is 1 to 254 octets, `bwi` and `cwi` are 0 to 15. They set both buffers to 0. Return OK with place 0;
+ * or ARGUMENT (`ifsc` is 0 or 255, or an index is above 15), and then nothing changes.
  *
- * A terminal and a card begin together, at a reset of the card, and at no other time: scard_terminal_open says what
- * happens else.
+ * Begin a terminal together with its card, at a reset of the card, and at no other time. scard_terminal_open says what
+ * happens otherwise.
  */
 SCARD_MUST_USE
 struct scard_verdict scard_lent_terminal_begin(struct scard_lent_terminal *state,
@@ -703,7 +754,7 @@ struct scard_verdict scard_lent_card_begin(struct scard_lent_card *state,
                                            uint8_t *reply, size_t reply_room,
                                            uint8_t ifsc, uint8_t bwi, uint8_t cwi);
 
-/* The calls of an end, as those above. The octets that are handed over and `out` lie apart from both buffers. */
+/* Drive an end, like the calls on handles above. The input and `out` may not overlap either of the end's buffers. */
 SCARD_MUST_USE
 struct scard_turn scard_lent_terminal_transmit(struct scard_lent_terminal *state,
                                                uint8_t *command, size_t command_room,
@@ -741,9 +792,10 @@ struct scard_turn scard_lent_card_ask_ifs(struct scard_lent_card *state,
                                           uint8_t *command, size_t command_room, uint8_t *reply, size_t reply_room,
                                           uint8_t size, uint8_t *out, size_t room);
 
-/* How many octets at the front of its buffer are the terminal's answer, from the turn SCARD_DONE on until the next
- * command is taken, or the card's command, while its host owes the reply: the place of the verdict. They are written
- * nowhere else. OK, ARGUMENT (with place 0: there is none).
+/* Return the length of the terminal's answer, or of the card's command, as the verdict's place. The octets are at the
+ * start of the end's own buffer; the calls copy them nowhere. The answer is there from the turn SCARD_DONE until the
+ * terminal accepts the next command. The command is there while the card's host owes the reply. Return OK, ARGUMENT
+ * (with place 0: there is none).
  */
 SCARD_MUST_USE
 struct scard_verdict scard_lent_terminal_answer(const struct scard_lent_terminal *state,
@@ -754,13 +806,18 @@ struct scard_verdict scard_lent_card_command(const struct scard_lent_card *state
                                              const uint8_t *command, size_t command_room,
                                              const uint8_t *reply, size_t reply_room);
 
-/* ---- octets that come in pieces ---- */
+/* ---- readers of octets that arrive in pieces ---- */
 
-/* Open a reader in a handle: of one answer to reset; of one block, where I-blocks have at most `ifs` octets, 1 to
- * 254; of one chain, whose first block has the number `ns`, 0 or 1, and whose message at most `max` octets, itself
- * at most 131,072; of one forest of at most `max` octets, itself at most SCARD_TLV_LARGEST. All the memory of a
- * reader is taken here, some 700 octets, for a receiver `max` octets more. What the handle held is freed. Unless it
- * is OK the handle stays as it was. To begin anew, open again. OK, MEMORY, ARGUMENT.
+/* Open a reader in a handle, for one answer to reset, one block, one chain or one forest.
+ *
+ * - scard_block_reader_open: I-blocks have at most `ifs` octets, 1 to 254.
+ * - scard_receiver_open: `ifs` likewise; the first block has the number `ns`, 0 or 1; the message has at most `max`
+ *   octets, itself at most 131,072.
+ * - scard_tlv_check_open: the forest has at most `max` octets, itself at most SCARD_TLV_LARGEST.
+ *
+ * These calls allocate all the memory of a reader: some 700 octets, and `max` more for a receiver. The handle owns it
+ * until scard_close. They free what the handle held before. If they don't return OK, the handle is unchanged. To start
+ * over, open the reader again. Return OK, MEMORY, ARGUMENT.
  */
 SCARD_MUST_USE
 struct scard_verdict scard_atr_reader_open(struct scard_handle *handle);
@@ -771,28 +828,29 @@ struct scard_verdict scard_receiver_open(struct scard_handle *handle, uint8_t if
 SCARD_MUST_USE
 struct scard_verdict scard_tlv_check_open(struct scard_handle *handle, size_t max);
 
-/* Gives the next octets to a reader, in pieces of any length. OK: what it reads is whole now, and took `place` octets
- * of this piece; after that it takes none. MORE: it took the whole piece. AT: the octet at `place`, counted from the
- * first ever given, is the first after which nothing goes on; from then on this is answered again. A check of a
- * forest, which doesn't end by itself, never answers OK. The reasons are those of what the reader reads. ARGUMENT: the
- * handle holds no reader. OK, MORE, AT, ARGUMENT.
+/* Feeds a reader the next octets, in pieces of any length. OK: the value is complete, and took `place` octets of this
+ * piece; from then on the reader consumes none. MORE: the reader consumed the whole piece. AT: the input is invalid at
+ * `place`, counted from the first octet ever fed; later calls return the same again. The reasons are those of the codec
+ * that the reader is for. ARGUMENT: the handle holds no reader. A check of a forest never returns OK, since a forest
+ * has no end of its own. Returns OK, MORE, AT, ARGUMENT.
  */
 SCARD_MUST_USE
 struct scard_verdict scard_reader_feed(struct scard_handle *handle, const uint8_t *octets, size_t count);
 
-/* The verdict on all octets that a reader took: OK with place 0 where they are whole, SHORT with their number where
- * they could go on, or the refusal. It changes nothing. OK, SHORT, AT, ARGUMENT (the handle holds no reader).
+/* Returns the verdict on all octets that a reader consumed, and changes nothing. OK with place 0: they are complete.
+ * SHORT: more could follow, and `place` is how many there are. AT: they were refused. ARGUMENT: the handle holds no
+ * reader. Returns OK, SHORT, AT, ARGUMENT.
  */
 SCARD_MUST_USE
 struct scard_verdict scard_reader_finish(struct scard_handle *handle);
 
-/* The answer to reset that a reader has, once it is whole: it is written to *out at OK. OK with place 0, ARGUMENT. */
+/* Writes to *out the answer to reset that a reader has, once it is complete. Returns OK with place 0, ARGUMENT. */
 SCARD_MUST_USE
 struct scard_verdict scard_atr_reader_value(struct scard_handle *handle, struct scard_atr *out);
 
-/* The block that a reader has, once it is whole: its octets are written to `octets`, and *out says where the
- * information field is in them. Room: SCARD_BLOCK_ROOM. At OK both are written, else neither. OK, ARGUMENT (with
- * place 0: there is none).
+/* Copies the block that a reader has, once it is complete: its octets to `octets`, and to *out where the information
+ * field is in them. Room: SCARD_BLOCK_ROOM. At OK both are written, otherwise neither. Returns OK, ARGUMENT (with place
+ * 0: there is no block).
  */
 SCARD_MUST_USE
 struct scard_verdict scard_block_reader_value(struct scard_handle *handle, struct scard_block *out,
@@ -800,12 +858,12 @@ struct scard_verdict scard_block_reader_value(struct scard_handle *handle, struc
 
 /* ---- a check of a forest in pieces, without an allocator ---- */
 
-/* The state of a check that the caller keeps, 92 octets. Its fields are the library's own: `begin` writes them, and
- * each piece. It keeps where the open objects end, at most 16, and of the octets that came only those of a header that
- * isn't whole yet.
+/* The caller-owned state of a check, 92 octets. The fields belong to the library: `begin` writes them, and so does each
+ * piece. The state keeps where the open objects end, at most 16. Of the input it keeps only the octets of an incomplete
+ * header.
  *
- * Whatever octets a state has, a call is safe: where they are no state of a check it answers ARGUMENT and changes
- * nothing. These calls take no memory.
+ * A call is safe with any octets in the state. If they aren't the state of a check, it returns ARGUMENT and changes
+ * nothing. These calls allocate nothing.
  */
 struct scard_lent_header {
     uint8_t kind;
@@ -826,15 +884,15 @@ struct scard_lent_check {
     uint8_t refused;
 };
 
-/* Begins a check of a forest of at most `max` octets, itself at most SCARD_TLV_LARGEST, whatever the state was. OK with
- * place 0, ARGUMENT: then nothing changes.
+/* Begins a check of a forest, whatever the state held before. The forest has at most `max` octets, itself at most
+ * SCARD_TLV_LARGEST. Returns OK with place 0; or ARGUMENT, and then nothing changes.
  */
 SCARD_MUST_USE
 struct scard_verdict scard_lent_check_begin(struct scard_lent_check *state, size_t max);
 
-/* Gives the next octets to a check, and says what there is to say of all that it took, as scard_reader_feed and
- * scard_reader_finish of a check in a handle. `feed`: MORE, AT, ARGUMENT. `finish`: OK with place 0, SHORT, AT,
- * ARGUMENT. ARGUMENT (with place 0): the state is none of a check.
+/* Feed a check the next octets, and return the verdict on all that it consumed. They work as scard_reader_feed and
+ * scard_reader_finish do with a check in a handle. `feed` returns MORE, AT, ARGUMENT. `finish` returns OK with place 0,
+ * SHORT, AT, ARGUMENT. ARGUMENT (with place 0): the state isn't that of a check.
  */
 SCARD_MUST_USE
 struct scard_verdict scard_lent_check_feed(struct scard_lent_check *state, const uint8_t *octets, size_t count);
@@ -843,11 +901,11 @@ struct scard_verdict scard_lent_check_finish(const struct scard_lent_check *stat
 
 /* ---- a chain in pieces, without an allocator ---- */
 
-/* The state of a receiver of one chain that the caller keeps, 32 octets. Its fields are the library's own: `begin`
- * writes them, and each piece. The octets of the message go to the front of the caller's buffer as they come.
+/* The caller-owned state of a receiver of one chain, 32 octets. The fields belong to the library: `begin` writes them,
+ * and so does each piece. The octets of the message go to the start of the caller's buffer as they arrive.
  *
- * Whatever octets a state has, a call is safe: where they are no state of a receiver whose message fits the buffer it
- * answers ARGUMENT and changes nothing. These calls take no memory.
+ * A call is safe with any octets in the state. If they aren't the state of a receiver whose message fits the buffer, it
+ * returns ARGUMENT and changes nothing. These calls allocate nothing.
  */
 struct scard_lent_receiver {
     scard_size refused_at;
@@ -864,18 +922,18 @@ struct scard_lent_receiver {
     uint8_t refused;
 };
 
-/* Begins a receiver of one chain, whatever the state was: I-blocks have at most `ifs` octets, 1 to 254, the first
- * has the number `ns`, 0 or 1, and the message at most `max` octets, itself at most 131,072. OK with place 0, ARGUMENT:
- * then nothing changes.
+/* Begins a receiver of one chain, whatever the state held before. I-blocks have at most `ifs` octets, 1 to 254. The
+ * first has the number `ns`, 0 or 1. The message has at most `max` octets, itself at most 131,072. Returns OK with
+ * place 0; or ARGUMENT, and then nothing changes.
  */
 SCARD_MUST_USE
 struct scard_verdict scard_lent_receiver_begin(struct scard_lent_receiver *state, uint8_t ifs, uint8_t ns, size_t max);
 
-/* Gives the next octets to a receiver, and says what there is to say of all that it took, as scard_reader_feed and
- * scard_reader_finish of a receiver in a handle. `message` is the buffer of the message, the same at each call, with
- * room for `max` octets; what is in it after the message so far is the library's. The octets may not be in the buffer.
- * `feed`: OK, MORE, AT, ARGUMENT. `finish`: OK with place 0, SHORT, AT, ARGUMENT. ARGUMENT (with place 0): the state is
- * none of a receiver, or the buffer is too small for it.
+/* Feed a receiver the next octets, and return the verdict on all that it consumed. They work as scard_reader_feed and
+ * scard_reader_finish do with a receiver in a handle. `message` is the caller-owned buffer of the message, with room
+ * for `max` octets: pass the same one each time. What it holds after the message so far belongs to the library. The
+ * input may not overlap it. `feed` returns OK, MORE, AT, ARGUMENT. `finish` returns OK with place 0, SHORT, AT,
+ * ARGUMENT. ARGUMENT (with place 0): the state isn't that of a receiver, or the buffer is too small for it.
  */
 SCARD_MUST_USE
 struct scard_verdict scard_lent_receiver_feed(struct scard_lent_receiver *state, uint8_t *message, size_t room,
@@ -884,8 +942,8 @@ SCARD_MUST_USE
 struct scard_verdict scard_lent_receiver_finish(const struct scard_lent_receiver *state,
                                                 const uint8_t *message, size_t room);
 
-/* How many octets at the front of the buffer are the message, once the chain is whole: the place of the verdict. They
- * are written nowhere else. OK, ARGUMENT (with place 0: it isn't whole).
+/* Returns the length of the message, once the chain is complete, as the verdict's place. Its octets are at the start of
+ * the buffer; the call copies them nowhere. Returns OK, ARGUMENT (with place 0: the chain isn't complete).
  */
 SCARD_MUST_USE
 struct scard_verdict scard_lent_receiver_message(const struct scard_lent_receiver *state,
@@ -896,32 +954,32 @@ struct scard_verdict scard_lent_receiver_message(const struct scard_lent_receive
 /* The most octets of an answer to reset: TS and 32 more (ISO/IEC 7816-3, clause 8.2.1). */
 #define SCARD_ATR_ROOM 33
 
-/* Readers of one block and of one answer to reset that the caller keeps, 264 and 40 octets. The caller reads the
- * fields, and changes them by the calls alone. Each call decides again what the octets taken are, so whatever octets a
- * state has, a call is safe, and reads no more than `octets`. These calls take no memory.
+/* The caller-owned readers of one block and of one answer to reset, 264 and 40 octets. The caller may read the fields,
+ * but only the calls may change them. Each call decides afresh what the consumed octets are. So a call is safe with any
+ * octets in the state, and reads no more than `octets`. These calls allocate nothing.
  */
 struct scard_lent_block_reader {
-    uint32_t count;                     /* octets taken, with a refusal those up to and with the refused one */
+    uint32_t count;                     /* octets consumed; after a refusal, including the refused one */
     uint8_t ifs;                        /* the information size */
-    uint8_t octets[SCARD_BLOCK_ROOM];   /* at its front those that were taken */
+    uint8_t octets[SCARD_BLOCK_ROOM];   /* those consumed, at its start */
 };
 
 struct scard_lent_atr_reader {
-    uint32_t count;                     /* octets taken, with a refusal those up to and with the refused one */
-    uint8_t octets[SCARD_ATR_ROOM];     /* at its front those that were taken */
+    uint32_t count;                     /* octets consumed; after a refusal, including the refused one */
+    uint8_t octets[SCARD_ATR_ROOM];     /* those consumed, at its start */
 };
 
-/* Begin a reader, whatever the state was: of one block, where I-blocks have at most `ifs` octets, 1 to 254; of one
- * answer to reset. For a block: OK with place 0, ARGUMENT: then nothing changes.
+/* Begin a reader of one block, or of one answer to reset, whatever the state held before. I-blocks have at most `ifs`
+ * octets, 1 to 254. For a block the call returns OK with place 0; or ARGUMENT, and then nothing changes.
  */
 SCARD_MUST_USE
 struct scard_verdict scard_lent_block_reader_begin(struct scard_lent_block_reader *state, uint8_t ifs);
 void scard_lent_atr_reader_begin(struct scard_lent_atr_reader *state);
 
-/* Gives the next octets to a reader, and says what there is to say of all that it took, as scard_reader_feed and
- * scard_reader_finish of a reader in a handle. The octets may not be in the state. `feed`: OK, MORE, AT. `finish`: OK
- * with place 0, SHORT, AT. For a block also ARGUMENT (with place 0): `ifs` of the state is 0 or 255, and nothing
- * changes.
+/* Feed a reader the next octets, and return the verdict on all that it consumed. They work as scard_reader_feed and
+ * scard_reader_finish do with a reader in a handle. The input may not overlap the state. `feed` returns OK, MORE, AT.
+ * `finish` returns OK with place 0, SHORT, AT. For a block they also return ARGUMENT (with place 0) if `ifs` of the
+ * state is 0 or 255, and then nothing changes.
  */
 SCARD_MUST_USE
 struct scard_verdict scard_lent_block_reader_feed(struct scard_lent_block_reader *state,
@@ -934,9 +992,9 @@ struct scard_verdict scard_lent_atr_reader_feed(struct scard_lent_atr_reader *st
 SCARD_MUST_USE
 struct scard_verdict scard_lent_atr_reader_finish(const struct scard_lent_atr_reader *state);
 
-/* The block, or the answer to reset, that a reader has, once it is whole: it is written to *out at OK. The place says
- * how many octets it has: they are the first of `octets` of the state, and *out says where a block's information field
- * is in them. OK, ARGUMENT (with place 0: it isn't whole).
+/* Write to *out the block, or the answer to reset, that a reader has, once it is complete. The verdict's place is its
+ * length; its octets are at the start of `octets` in the state. For a block, *out says where the information field is
+ * in them. Return OK, ARGUMENT (with place 0: it isn't complete).
  */
 SCARD_MUST_USE
 struct scard_verdict scard_lent_block_reader_value(const struct scard_lent_block_reader *state,
@@ -946,44 +1004,46 @@ struct scard_verdict scard_lent_atr_reader_value(const struct scard_lent_atr_rea
 
 /* ---- framing ---- */
 
-/* The most octets of a burst that are kept: one more than the longest block has. */
+/* The most octets of a burst that the framer keeps: one more than the longest block has. */
 #define SCARD_BURST_ROOM 259
 
-/* A burst: octets that follow one another without the silence that ends it (ISO/IEC 7816-3, clause 11.4.3). A block is
- * a whole burst and nothing less: LEN alone doesn't say where a block ends, since LEN may be the octet that is wrong.
- * The caller keeps the struct, some 270 octets. It reads the fields, and changes them by the calls alone. Whatever a
- * struct has, a call is safe. These calls take no memory.
+/* A burst is a run of octets without a silence long enough to end it (ISO/IEC 7816-3, clause 11.4.3). A block is always
+ * a whole burst. LEN alone doesn't say where a block ends, since LEN may be the octet that is wrong.
+ *
+ * The caller owns the struct, some 270 octets. The caller may read the fields, but only the calls may change them. A
+ * call is safe with any octets in the struct. These calls allocate nothing.
  */
 struct scard_lent_framer {
-    scard_size count;                  /* octets of the burst so far, also those that aren't kept; it stays at its
-                                          greatest value */
+    scard_size count;                  /* octets of the burst so far, including those that aren't kept; it stops at
+                                          its largest value */
     uint8_t octets[SCARD_BURST_ROOM];  /* the first of them */
 };
 
-/* Begins a burst, of no octet so far, whatever the struct was. */
+/* Begins a burst with no octets, whatever the struct held before. */
 void scard_lent_framer_begin(struct scard_lent_framer *framer);
 
-/* Octets came. */
+/* Appends octets that arrived to the burst. */
 void scard_lent_framer_feed(struct scard_lent_framer *framer, const uint8_t *octets, size_t count);
 
-/* Whether the burst so far is a whole block: NAD, PCB, LEN, LEN octets and a check octet, with nothing after it and the
- * exclusive-or 0.
+/* Returns whether the burst so far is a whole block: NAD, PCB, LEN, LEN octets and a check octet, with nothing after
+ * them and an exclusive-or of 0.
  */
 bool scard_lent_framer_is_whole(const struct scard_lent_framer *framer);
 
-/* How long a silence ends the burst now: `first` while no octet came, `after` where it is a whole block, `inside` else.
+/* Returns the silence that ends the burst now, in the unit of its arguments. It is `first` before the first octet,
+ * `after` once the burst is a whole block, and `inside` otherwise.
  */
 uint64_t scard_lent_framer_wait(const struct scard_lent_framer *framer, uint64_t first, uint64_t inside,
                                 uint64_t after);
 
-/* How many octets at the front of `octets` an end is given once the burst ended: all of them, at most 259. */
+/* Returns how many octets to pass to an end once the burst has ended: those at the start of `octets`, at most 259. */
 size_t scard_lent_framer_burst(const struct scard_lent_framer *framer);
 
 /* ---- a judge of the blocks on a line, without an allocator ---- */
 
-/* Judges each block that a line had: which end broke T=1, which rule, and what was due. A block is permitted where some
- * course of what its sender may have heard permits it, since nobody sees on the line whether the other end got a block
- * whole. docs/JUDGE.md has the rules.
+/* A judge checks each block on a line against the rules of T=1. For a deviation it says which end broke which rule, and
+ * which block was due. Nobody can see on the line whether the other end received a block intact. So a block is
+ * permitted if it is right for something that its sender may have received. docs/JUDGE.md has the rules.
  */
 
 /* An end of the line. */
@@ -994,70 +1054,77 @@ enum scard_end {
 
 /* How octets reached the other end. */
 enum scard_arrival {
-    SCARD_ARRIVAL_UNSAID = 0, /* nobody knows, as at a tap on the line */
+    SCARD_ARRIVAL_UNSAID = 0, /* unknown, as at a tap on the line */
     SCARD_ARRIVAL_LOST = 1,   /* they didn't */
     SCARD_ARRIVAL_CAME = 2    /* as the octets `came` */
 };
 
 enum scard_judged {
     SCARD_JUDGED_PERMITTED = 0,
-    SCARD_JUDGED_DAMAGE = 1,   /* the octets are no block, by the check octet or the length: no end broke a rule */
+    SCARD_JUDGED_DAMAGE = 1,   /* not a block: the check octet or the length is wrong, and no end broke a rule */
     SCARD_JUDGED_UNSEEN = 2,   /* permitted only if the block `before` was damaged or lost unseen */
-    SCARD_JUDGED_DEVIATION = 3 /* it breaks `rule`, and `due` was due */
+    SCARD_JUDGED_DEVIATION = 3 /* the block breaks `rule`; `due` is what was due */
 };
 
 /* Whether a card that owed a block sent none, in answer to the block `unanswered`. */
 enum scard_silence {
     SCARD_SILENCE_NO = 0,
-    SCARD_SILENCE_POSSIBLE = 1, /* it sent none, and may not have got that block whole */
-    SCARD_SILENCE_CERTAIN = 2   /* it sent none, and got that block whole: it breaks SCARD_RULE_SILENCE */
+    SCARD_SILENCE_POSSIBLE = 1, /* it sent none, and may not have received that block intact */
+    SCARD_SILENCE_CERTAIN = 2   /* it sent none though it received that block intact, so it broke SCARD_RULE_SILENCE */
 };
 
-/* The rules. The clauses are those of ISO/IEC 7816-3:2006. */
+/* The rules, numbered. Their clauses are those of ISO/IEC 7816-3:2006. */
 enum scard_rule {
-    SCARD_RULE_NODE_ADDRESS = 1,        /* another node address than the first block set, or not swapped in an answer */
+    SCARD_RULE_NODE_ADDRESS = 1,        /* the node address differs from that of the first block, or isn't swapped in
+                                           an answer */
     SCARD_RULE_CONTROL_OCTET = 2,       /* no block has this control octet */
-    SCARD_RULE_LENGTH = 3,              /* no block of its kind has a field of this length */
+    SCARD_RULE_LENGTH = 3,              /* no block of this kind has a field of this length */
     SCARD_RULE_RESERVED_SIZE = 4,       /* a size of 0 or 255 octets */
-    SCARD_RULE_FIELD_SIZE = 5,          /* a field with more octets than the other end takes */
+    SCARD_RULE_FIELD_SIZE = 5,          /* a field with more octets than the other end accepts */
     SCARD_RULE_TURN = 6,                /* it is the other end's turn to send */
-    SCARD_RULE_FOREIGN_REQUEST = 7,     /* a card asks for RESYNCH, or a terminal for time */
+    SCARD_RULE_FOREIGN_REQUEST = 7,     /* a card asks for RESYNCH, or a terminal for more time */
     SCARD_RULE_SEQUENCE_NUMBER = 8,     /* the wrong number */
     SCARD_RULE_BLOCK_DUE = 9,           /* an I-block, or a request, is due */
     SCARD_RULE_ACKNOWLEDGMENT_DUE = 10, /* the R-block that acknowledges a block of a chain is due */
     SCARD_RULE_ERROR_CODE = 11,         /* an acknowledgment that reports an error */
-    SCARD_RULE_REPEAT_DUE = 12,         /* the last I-block is due once more */
-    SCARD_RULE_REPEATED_OCTETS = 13,    /* a repeated I-block has other octets */
+    SCARD_RULE_REPEAT_DUE = 12,         /* the last I-block is due again */
+    SCARD_RULE_REPEATED_OCTETS = 13,    /* a repeated I-block has different octets */
     SCARD_RULE_CORRECTION_DUE = 14,     /* an R-block after an error is due */
-    SCARD_RULE_REQUEST_DUE = 15,        /* the same request is due once more */
+    SCARD_RULE_REQUEST_DUE = 15,        /* the same request is due again */
     SCARD_RULE_RESPONSE_DUE = 16,       /* the response to a request is due */
-    SCARD_RULE_RESPONSE_OCTET = 17,     /* a response carries another size or multiple than its request */
-    SCARD_RULE_UNASKED = 18,            /* a response to no request */
+    SCARD_RULE_RESPONSE_OCTET = 17,     /* a response carries a different size or multiple from its request */
+    SCARD_RULE_UNASKED = 18,            /* a response without a request */
     SCARD_RULE_NO_CHAIN = 19,           /* ABORT outside a chain */
     SCARD_RULE_EARLY_RESYNCH = 20,      /* RESYNCH before a block was repeated twice */
-    SCARD_RULE_TOO_MANY_REPEATS = 21,   /* a block was repeated as often as the standard permits already */
-    SCARD_RULE_SILENCE = 22             /* no block where one is owed */
+    SCARD_RULE_TOO_MANY_REPEATS = 21,   /* a block was already repeated as often as the standard permits */
+    SCARD_RULE_SILENCE = 22             /* no block where one is due */
 };
 
-/* What an end owed. */
+/* The block that an end owed. */
 enum scard_owed {
-    SCARD_OWED_NOTHING_SAID = 0,      /* the block is no deviation */
+    SCARD_OWED_NOTHING_SAID = 0,      /* the block isn't a deviation */
     SCARD_OWED_NEW_MESSAGE = 1,       /* the first I-block of a message, with the number `next` */
     SCARD_OWED_NEXT_BLOCK = 2,        /* the next I-block of its chain, with the number `next` */
     SCARD_OWED_ACKNOWLEDGMENT = 3,    /* the R-block with the number `expects` after a block of a chain */
-    SCARD_OWED_SAME_BLOCK = 4,        /* its last I-block once more, whose number is the other than `next` */
+    SCARD_OWED_SAME_BLOCK = 4,        /* its last I-block again, whose number is the opposite of `next` */
     SCARD_OWED_CORRECTION = 5,        /* an R-block with the number `expects` after an error */
-    SCARD_OWED_REFUSAL = 6,           /* the same, to refuse an I-block that came whole */
-    SCARD_OWED_SAME_REQUEST = 7,      /* its request `asked` once more */
-    SCARD_OWED_RESYNCH_RESPONSE = 8,  /* the response to a request; `octet` is what that carried, else 0 */
+    SCARD_OWED_REFUSAL = 6,           /* the same R-block, to refuse an I-block that arrived intact */
+    SCARD_OWED_SAME_REQUEST = 7,      /* its request `asked` again */
+    SCARD_OWED_RESYNCH_RESPONSE = 8,  /* like the next three, the response to a request; `octet` is what that
+                                         carried, else 0 */
     SCARD_OWED_IFS_RESPONSE = 9,
     SCARD_OWED_ABORT_RESPONSE = 10,
     SCARD_OWED_WTX_RESPONSE = 11,
-    SCARD_OWED_EITHER_BLOCK = 12,     /* the first I-block of a message, or an R-block: after ABORT */
-    SCARD_OWED_ANY_BLOCK = 13         /* nobody knows, since the line damaged its last block */
+    SCARD_OWED_EITHER_BLOCK = 12,     /* the first I-block of a message, or an R-block that hands over the right to
+                                         send: after ABORT */
+    SCARD_OWED_ANY_BLOCK = 13,        /* unknown, since the line damaged its last block */
+    SCARD_OWED_MESSAGE_OR_CORRECTION = 14,      /* 1 or 5: the R-block hands over the right to send, or asks for the
+                                                   last block again */
+    SCARD_OWED_MESSAGE_OR_REFUSAL = 15,         /* 1, or the refusal of the I-block before its request */
+    SCARD_OWED_ACKNOWLEDGMENT_OR_REFUSAL = 16   /* 3, or the refusal of the I-block before its request */
 };
 
-/* A request of an end that waits for its response. */
+/* The request of an end that waits for its response. */
 enum scard_asked {
     SCARD_ASKED_NOTHING = 0,
     SCARD_ASKED_IFS = 1,
@@ -1068,26 +1135,26 @@ enum scard_asked {
 
 struct scard_due {
     uint8_t owed;    /* enum scard_owed */
-    uint8_t octet;   /* the size or multiple that a response carries, else 0 */
+    uint8_t octet;   /* the size or multiple in a response, else 0 */
     uint8_t next;    /* the number of the end's next new I-block, 0 or 1 */
     uint8_t expects; /* the number of the I-block that it expects, 0 or 1 */
     uint8_t asked;   /* enum scard_asked */
 };
 
-/* What is said of a block, and of a card that sent none before it. Blocks are numbered from 1 over both ends. */
+/* The judgment of a block, and of a card that sent none before it. Blocks are numbered from 1 over both ends. */
 struct scard_judgment {
     scard_size number;     /* the number of this block */
     scard_size before;     /* the number of the other end's last block, 0 before its first */
     scard_size unanswered; /* the number of the block that the card didn't answer, or 0 */
     uint8_t verdict;       /* enum scard_judged */
-    uint8_t rule;          /* enum scard_rule at a deviation, else 0 */
+    uint8_t rule;          /* enum scard_rule for a deviation, else 0 */
     uint8_t silence;       /* enum scard_silence */
-    struct scard_due due;  /* all 0 unless it is a deviation */
+    struct scard_due due;  /* all 0 unless the block is a deviation */
 };
 
-/* The state of a judge that the caller keeps, 592 octets. Its fields are the library's own: `begin` writes them, and
- * each call. Whatever octets a state has, a call is safe, and goes on from some state of a judge. These calls take no
- * memory.
+/* The caller-owned state of a judge, 592 octets. The fields belong to the library: `begin` writes them, and so does
+ * each call. A call is safe with any octets in the state: it continues from some valid state of a judge. These calls
+ * allocate nothing.
  */
 struct scard_lent_sender {
     uint8_t side;
@@ -1099,6 +1166,8 @@ struct scard_lent_sender {
     uint8_t before;
     uint8_t before_octet;
     uint8_t tries;
+    uint8_t repeats;
+    uint8_t corrections;
     uint8_t room;
     uint8_t first_room;
     uint8_t known;
@@ -1129,34 +1198,39 @@ struct scard_lent_judge {
     uint8_t nad;
 };
 
-/* Begins a judge at a reset of a card that takes fields of up to `ifsc` octets, 1 to 254, whatever the state was. OK
- * with place 0, ARGUMENT (`ifsc` is 0 or 255): then nothing changes.
+/* Begins a judge at a reset of the card, whatever the state held before. `ifsc` is the largest field that the card
+ * accepts, 1 to 254 octets. Returns OK with place 0; or ARGUMENT (`ifsc` is 0 or 255), and then nothing changes.
  */
 SCARD_MUST_USE
 struct scard_verdict scard_lent_judge_begin(struct scard_lent_judge *state, uint8_t ifsc);
 
-/* Judges the octets that were on the line as one block of an end, enum scard_end. `arrival`, enum scard_arrival, says
- * how they reached the other end; `came` is read at SCARD_ARRIVAL_CAME alone. OK with place 0, ARGUMENT (another end or
- * arrival): then nothing changes.
+/* Judges the octets that were on the line as one block, and writes the judgment to *out. `from` is the end that sent
+ * them, an enum scard_end. `arrival`, an enum scard_arrival, says how they reached the other end; the call reads `came`
+ * only with SCARD_ARRIVAL_CAME. Returns OK with place 0; or ARGUMENT (another end or arrival), and then nothing
+ * changes.
  */
 SCARD_MUST_USE
 struct scard_verdict scard_lent_judge_block(struct scard_lent_judge *state, uint8_t from,
                                             const uint8_t *octets, size_t count, uint8_t arrival,
                                             const uint8_t *came, size_t came_count, struct scard_judgment *out);
 
-/* The terminal's waiting time ended: the silence of the card, where it owed a block. The rest of *out is 0. */
+/* Reports that the terminal's waiting time ended, and writes to *out whether the card owed a block and sent none. The
+ * other fields of *out are 0.
+ */
 void scard_lent_judge_quiet(struct scard_lent_judge *state, struct scard_judgment *out);
 
-/* Whether the card owes a block now, as at the end of a recording. The rest of *out is 0, and nothing changes. */
+/* Writes to *out whether the card owes a block now, for example at the end of a recording. The other fields of *out are
+ * 0. The state doesn't change.
+ */
 void scard_lent_judge_finish(const struct scard_lent_judge *state, struct scard_judgment *out);
 
-/* Write where a text is: what breaks a rule ("sequence number"), and its clause in ISO/IEC 7816-3:2006
- * ("11.6.2.3 rule 2.2"). It is "" where no rule has this number.
+/* Look up a rule, an enum scard_rule, and write a text to *out: what breaks the rule ("sequence number"), or its clause
+ * in ISO/IEC 7816-3:2006 ("11.6.2.3 rule 2.2"). An unknown number gives "". The library owns the text.
  */
 void scard_judge_rule_text(uint8_t rule, struct scard_text *out);
 void scard_judge_clause_text(uint8_t rule, struct scard_text *out);
 
-/* ---- the structs ---- */
+/* ---- sizes of the structs ---- */
 
 /* The structs above, for scard_struct_size. */
 enum scard_struct {
@@ -1193,7 +1267,9 @@ enum scard_struct {
     SCARD_STRUCT_JUDGMENT = 31
 };
 
-/* How many octets a struct has in the library, to be compared with its sizeof; 0 for any other number. */
+/* Returns how many octets a struct has in the library, to compare with its sizeof. An unknown number gives 0. `number`
+ * is an enum scard_struct.
+ */
 size_t scard_struct_size(uint8_t number);
 
 #ifdef __cplusplus

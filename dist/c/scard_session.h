@@ -1,16 +1,19 @@
-/* scard_session: a T=1 session in C, over the calls of scard.h that take no memory.
+/* scard_session: a T=1 session in C, on top of the calls in scard.h that allocate nothing.
  *
- * Both ends, the terminal and the card, with the loop around them: a driver gives two functions, one that sends octets
- * and one that receives them under a waiting time, and has whole exchanges of commands and answers. This is C and isn't
- * proved, since a proved crate can't call functions of C; what each end does with a block is proved as ever, and so is
- * which octets are one (scard_lent_framer_is_whole): no rule about LEN or the check octet is here.
+ * This header implements both ends, the terminal and the card, with the loop around them. A driver supplies two
+ * functions: one sends octets, one receives them within a waiting time. In return the driver gets whole exchanges of
+ * commands and answers.
  *
- * A session begins together with a reset of its card: a new terminal and a new card, never one without the other. A
- * card that goes on under a new terminal takes the first command for a repeat of the one before, and gives the old
- * answer again, as a good one. Who can't reset the card begins by scard_session_resync.
+ * This header is C and isn't proved, since a proved crate can't call functions of C. What each end does with a block is
+ * proved, and so is which octets are a block (scard_lent_framer_is_whole). This header has no rule about LEN or the
+ * check octet.
  *
- * No call takes memory. A session is in one call at a time, in whichever thread. docs/C.md says how to use it,
- * docs/WIRING.md how a serial port becomes its line, and examples/c has a terminal and a card.
+ * Begin a session at a reset of its card: a new terminal and a new card, never one without the other. A card that goes
+ * on under a new terminal takes the first command for a repeat of the one before. It sends the old answer again, as if
+ * it were a good one. If you can't reset the card, begin with scard_session_resync.
+ *
+ * No call allocates memory. Only one call at a time may use a session, from any thread. docs/C.md says how to use it,
+ * docs/WIRING.md how to make a serial port its line, and examples/c has a terminal and a card.
  */
 #ifndef SCARD_SESSION_H
 #define SCARD_SESSION_H
@@ -27,17 +30,23 @@ extern "C" {
 
 enum scard_line_said {
     SCARD_LINE_FAILED = -1,     /* the line failed or ended, or the program ends it */
-    SCARD_LINE_INTERRUPTED = -2 /* the call was interrupted, as by a signal: neither octets nor silence */
+    SCARD_LINE_INTERRUPTED = -2 /* the call was interrupted, for example by a signal: neither octets nor a timeout */
 };
 
-/* As long as it takes. */
+/* Wait without a limit. */
 #define SCARD_LINE_FOREVER UINT64_MAX
 
-/* The line to the other end. `send` sends all octets: 0, or SCARD_LINE_FAILED. `receive` takes octets that come, at
- * most `room`, as soon as there are any: how many; 0 where none came within so many microseconds; SCARD_LINE_FAILED;
- * or SCARD_LINE_INTERRUPTED, where it is called again with the same time (one that is interrupted often waits for the
- * rest of its time by itself). It may wait for longer than that, never for less, and counts from the last octet that
- * was sent or received. `now` is the time in microseconds, of a clock that never goes back; it may be null.
+/* The line to the other end, in three functions of the driver. Each function gets `context`, which is the driver's own.
+ *
+ * `send` sends all the octets. It returns 0, or SCARD_LINE_FAILED.
+ *
+ * `receive` waits for octets, and returns as soon as there are any. It writes at most `room` of them to `octets`, and
+ * returns how many. It returns 0 on a timeout, if no octet came within `microseconds`. It may wait longer than that,
+ * but never shorter, and counts from the last octet that was sent or received. It returns SCARD_LINE_FAILED if the line
+ * failed. It returns SCARD_LINE_INTERRUPTED if the call was interrupted; the session then calls it again with the same
+ * time. If interrupts are frequent, `receive` should wait for the rest of its time by itself.
+ *
+ * `now` returns the time in microseconds, from a clock that never goes back. It may be null.
  */
 struct scard_line {
     void *context;
@@ -46,8 +55,8 @@ struct scard_line {
     uint64_t (*now)(void *context);
 };
 
-/* What an elementary time unit is: Fi/Di cycles of a clock of so many hertz. Fi is 372 and Di is 1 until others are
- * negotiated, whatever the answer to reset offers.
+/* The elementary time unit, etu: Fi/Di cycles of a clock of so many hertz. Fi is 372 and Di is 1 until both ends
+ * negotiate others, whatever the answer to reset offers.
  */
 struct scard_clock {
     uint16_t fi;
@@ -55,26 +64,29 @@ struct scard_clock {
     uint32_t hertz;
 };
 
-/* A `silence` for a line that hands over whole bursts, as one of packets does: one that is a whole block ends at once,
- * and BGT is left to what sends the packets.
+/* A value of `silence` for a line that delivers whole bursts, as a line of packets does. A burst that is a whole block
+ * then ends at once. What sends the packets has to keep BGT.
  */
 #define SCARD_SILENCE_NONE UINT64_MAX
 
-/* The limits of an exchange where the setup has 0. The longest exchange has 131,081 blocks of the terminal: a command
- * of 65,544 octets and an answer of 65,538 in fields of one octet, with each block but the answer's last acknowledged.
- * At 9,600 bits a second it takes some 35 minutes. This is twice the one, and more than one and a half times the other.
+/* The limits of an exchange if the setup has 0. The longest exchange has 131,081 blocks of the terminal: a command of
+ * 65,544 octets and an answer of 65,538, in fields of one octet, with every block except the answer's last one
+ * acknowledged. At 9,600 bits a second it takes some 35 minutes. These limits are some two times that number of blocks,
+ * and more than one and a half times that time.
  */
 #define SCARD_MOST_BLOCKS 262144
 #define SCARD_MOST_MICROSECONDS UINT64_C(3600000000)
 
-/* What a session of either end is made of: set all of it to 0 first. The buffers are the session's until it isn't used
- * any more: 65,544 octets take any command, 65,538 any answer; with less, longer messages are refused as too long.
+/* The setup of a session, for either end. Set all of it to 0 first.
  *
- * A burst ends where the line is silent: for CWT while it isn't a whole block, and for `silence` microseconds once it
- * is. 0 is BGT, 22 etu (ISO/IEC 7816-3, clause 11.4.3), and any time up to CWT may be asked for. A block one of whose
- * octets comes later than `silence` after the one before is cut there: it may be taken for a block where its front is
- * one, as only a wrong LEN makes it. CWT as the silence rules that out of ends that keep to CWT, and makes each block
- * wait so long.
+ * The session borrows the two buffers for as long as it is in use. 65,544 octets fit any command, and 65,538 any
+ * answer. With smaller buffers, longer messages are refused as too long.
+ *
+ * `silence` is the silence, in microseconds, that ends a burst which is a whole block: any time up to CWT. 0 means BGT,
+ * 22 etu (ISO/IEC 7816-3, clause 11.4.3). A burst that isn't a whole block yet ends after a silence of CWT. If an octet
+ * comes later than `silence` after the one before it, the block is cut there. The front may then pass for a block, but
+ * only if LEN is wrong. A `silence` of CWT rules that out for ends that keep to CWT, but every block then waits that
+ * long.
  */
 struct scard_setup {
     struct scard_line line;
@@ -82,26 +94,27 @@ struct scard_setup {
     size_t command_room;
     uint8_t *answer;
     size_t answer_room;
-    struct scard_t1 t1; /* the parameters of the card's answer to reset */
+    struct scard_t1 t1; /* the parameters in the card's answer to reset */
     struct scard_clock clock;
-    uint64_t silence;           /* in microseconds; 0 is BGT, SCARD_SILENCE_NONE none */
-    uint64_t most_microseconds; /* for one exchange of a terminal; 0 is SCARD_MOST_MICROSECONDS, SCARD_LINE_FOREVER
-                                   any */
-    uint32_t most_blocks;       /* that a terminal sends in one exchange; 0 is SCARD_MOST_BLOCKS */
-    bool echo;                  /* the line gives back what is sent on it, as a UART on one wire */
+    uint64_t silence;           /* in microseconds; 0 is BGT, SCARD_SILENCE_NONE no silence */
+    uint64_t most_microseconds; /* the limit of one exchange of a terminal; 0 is SCARD_MOST_MICROSECONDS,
+                                   SCARD_LINE_FOREVER no limit */
+    uint32_t most_blocks;       /* the limit of blocks that a terminal sends in one exchange; 0 is SCARD_MOST_BLOCKS */
+    bool echo;                  /* the line returns what is sent on it, as a UART on one wire does */
 };
 
-/* Kinds of turns, besides those of scard.h.
- * FAILED: the line failed. The exchange isn't over, so the session goes on by no call but one that begins it.
- * USED_UP: the blocks or the time of one exchange are used up. It isn't over either: the session goes on by a call that
- * begins it, as scard_session_resync, and until then all else is refused, _BUSY.
- * NO_STATUS: the card answered by `count` octets, none or one, and no response has less than two. The session goes on.
+/* Kinds of turns besides those of scard.h.
+ *
+ * - FAILED: the line failed. The exchange isn't over, so only a call that begins the session again works.
+ * - USED_UP: one exchange has used up its blocks or its time. It isn't over either. Continue with a call that begins
+ *   the session, such as scard_session_resync. Until then every other call is refused, _BUSY.
+ * - NO_STATUS: the card answered with `count` octets, none or one; a response has at least two. The session goes on.
  */
 #define SCARD_SESSION_FAILED 64
 #define SCARD_SESSION_USED_UP 65
 #define SCARD_SESSION_NO_STATUS 66
 
-/* A turn without octets. */
+/* Returns a turn without octets. */
 static inline struct scard_turn scard_session_turn(uint8_t kind)
 {
     struct scard_turn turn;
@@ -110,14 +123,16 @@ static inline struct scard_turn scard_session_turn(uint8_t kind)
     return turn;
 }
 
-/* Parts of an elementary time unit, of which Fi are one, in microseconds, rounded up. */
+/* Converts a time to microseconds, rounded up. The unit of `parts` is an etu divided by Fi. */
 static inline uint64_t scard_clock_time(const struct scard_clock *clock, uint64_t parts)
 {
     uint64_t in_second = (uint64_t)clock->di * clock->hertz;
     return parts / in_second * 1000000 + (parts % in_second * 1000000 + in_second - 1) / in_second;
 }
 
-/* Whether times can be made of it: none of its numbers is 0, Di is at most 64, and it has 1,000 hertz at least. */
+/* Returns whether times can be computed from the clock: no number is 0, Di is at most 64, and it has at least 1,000
+ * hertz.
+ */
 static inline bool scard_clock_runs(const struct scard_clock *clock)
 {
     return clock->fi != 0 && clock->di != 0 && clock->di <= 64 && clock->hertz >= 1000;
@@ -132,28 +147,28 @@ static inline int scard_line_take(const struct scard_line *line, uint8_t *octets
     return got < 0 || (size_t)got > room ? SCARD_LINE_FAILED : got;
 }
 
-/* ---- bursts: what both ends do with a line ---- */
+/* ---- bursts: how both ends use a line ---- */
 
-/* After so many octets without a silence the line isn't waited for any more. */
+/* After this many octets without a silence, the session stops waiting for the line. */
 #define SCARD_BURST_MOST 65536
 
-/* What calls of a wire say besides SCARD_LINE_FAILED. */
+/* What the calls of a wire return besides SCARD_LINE_FAILED. */
 enum scard_wire_said {
     SCARD_WIRE_USED_UP = -3,  /* the time of the exchange is over */
-    SCARD_WIRE_COLLISION = -4 /* what was sent came back otherwise, or not all of it */
+    SCARD_WIRE_COLLISION = -4 /* the echo differs from what was sent, or is incomplete */
 };
 
-/* What an end knows of its line. Its fields are the session's own. Times are in microseconds. */
+/* The state of an end's line. The fields belong to the session. Times are in microseconds. */
 struct scard_wire {
-    const void *self; /* the session that this is in, once it is begun: a copy of it is none */
+    const void *self; /* the session that this struct is in, once begun; a copy of that session isn't valid */
     uint32_t mark;    /* which end it is */
-    uint64_t bgt;     /* what is waited between a block that came and one that is sent */
-    uint64_t after;   /* the silence that ends a whole block; SCARD_SILENCE_NONE */
-    uint64_t owed;    /* the silence that is waited for before the next block is sent, counted from the last octet */
-    uint64_t most;    /* of the exchange under way: its time, and how much of that is known to be over */
+    uint64_t bgt;     /* the pause between a block that came and the next one sent */
+    uint64_t after;   /* the silence that ends a whole block, or SCARD_SILENCE_NONE */
+    uint64_t owed;    /* the silence to wait for before the next block is sent, counted from the last octet */
+    uint64_t most;    /* the current exchange: its time limit, its start, and the time that is known to be over */
     uint64_t began;
     uint64_t spent;
-    struct scard_lent_framer framer; /* the burst that comes, or the last one */
+    struct scard_lent_framer framer; /* the current burst, or the last one */
 };
 
 #define SCARD_WIRE_TERMINAL UINT32_C(0x5CA2D701)
@@ -164,7 +179,7 @@ static inline bool scard_wire_is(const struct scard_wire *wire, const void *sess
     return wire->self == session && wire->mark == mark;
 }
 
-/* The time of an exchange begins. */
+/* Starts the time of an exchange. */
 static inline void scard_wire_start(struct scard_wire *wire, const struct scard_line *line, uint64_t most)
 {
     wire->most = most;
@@ -172,8 +187,8 @@ static inline void scard_wire_start(struct scard_wire *wire, const struct scard_
     wire->began = line->now != NULL && most != SCARD_LINE_FOREVER ? line->now(line->context) : 0;
 }
 
-/* What is left of it. Without a clock that is reckoned: each wait that ended in silence is over, and so is each one
- * that the card made longer, at full length.
+/* Returns what is left of that time. Without a clock, the session adds up the waits: each one that ended in a timeout,
+ * and each one that the card extended, at full length.
  */
 static inline uint64_t scard_wire_left(const struct scard_wire *wire, const struct scard_line *line)
 {
@@ -185,7 +200,7 @@ static inline uint64_t scard_wire_left(const struct scard_wire *wire, const stru
     return gone < wire->most ? wire->most - gone : 0;
 }
 
-/* Takes octets as scard_line_take does, within what is left of the time. */
+/* Receives octets as scard_line_take does, but waits no longer than what is left of the time. */
 static inline int scard_wire_take(struct scard_wire *wire, const struct scard_line *line,
                                   uint8_t octets[SCARD_BURST_ROOM], uint64_t microseconds)
 {
@@ -198,7 +213,7 @@ static inline int scard_wire_take(struct scard_wire *wire, const struct scard_li
     return got == 0 && asked < microseconds ? SCARD_WIRE_USED_UP : got;
 }
 
-/* Drops what comes until the line was silent for so long: 0. One that is never silent has failed. */
+/* Discards octets until the line is silent for `silence`, and returns 0. A line that is never silent has failed. */
 static inline int scard_wire_drain(struct scard_wire *wire, const struct scard_line *line, uint64_t silence)
 {
     uint8_t octets[SCARD_BURST_ROOM];
@@ -213,13 +228,15 @@ static inline int scard_wire_drain(struct scard_wire *wire, const struct scard_l
     return got > 0 ? SCARD_LINE_FAILED : got;
 }
 
-/* Waits until an end may send: 0. */
+/* Waits until the end may send, and returns 0. */
 static inline int scard_wire_settle(struct scard_wire *wire, const struct scard_line *line)
 {
     return wire->owed > 0 ? scard_wire_drain(wire, line, wire->owed) : 0;
 }
 
-/* Drops what the line has, which nobody awaited; where there was any, until it was silent for so long: 0. */
+/* Discards what the line holds though nobody waited for it. If there was anything, continues until the line is silent
+ * for `silence`. Returns 0.
+ */
 static inline int scard_wire_late(struct scard_wire *wire, const struct scard_line *line, uint64_t silence)
 {
     uint8_t octets[SCARD_BURST_ROOM];
@@ -227,7 +244,9 @@ static inline int scard_wire_late(struct scard_wire *wire, const struct scard_li
     return got > 0 ? scard_wire_drain(wire, line, silence) : got;
 }
 
-/* Takes back what was just sent, each part within so long. What comes right after it begins the next burst. */
+/* Reads back the echo of what was just sent, each part within `microseconds`. Octets right after it begin the next
+ * burst.
+ */
 static inline int scard_wire_hear(struct scard_wire *wire, const struct scard_line *line, const uint8_t *sent,
                                   size_t count, uint64_t microseconds)
 {
@@ -248,7 +267,7 @@ static inline int scard_wire_hear(struct scard_wire *wire, const struct scard_li
     return 0;
 }
 
-/* Sends a block, once the line was silent for as long as it is owed; a new burst begins. */
+/* Waits for the silence that is owed, sends a block, and begins a new burst. */
 static inline int scard_wire_send(struct scard_wire *wire, const struct scard_setup *setup, uint64_t cwt,
                                   const uint8_t *octets, size_t count)
 {
@@ -269,9 +288,10 @@ static inline int scard_wire_send(struct scard_wire *wire, const struct scard_se
     return scard_wire_hear(wire, line, octets, count, cwt);
 }
 
-/* Takes the rest of a burst: how many octets an end is given of it; 0 where none came within `first`. What came before
- * a failure isn't looked at, since its end wasn't seen. A burst that never ends is cut. After a whole block BGT is
- * owed, and after any other burst `broken`.
+/* Receives the rest of a burst. Returns how many of its octets to pass to an end, or 0 on a timeout, if none came
+ * within `first`. If the line fails, it ignores what came before, since it didn't see the end of the burst. It cuts a
+ * burst that never ends. Before the end sends again, the line has to be silent: for BGT after a whole block, for
+ * `broken` after any other burst.
  */
 static inline int scard_wire_burst(struct scard_wire *wire, const struct scard_line *line, uint64_t first, uint64_t cwt,
                                    uint64_t broken)
@@ -293,8 +313,8 @@ static inline int scard_wire_burst(struct scard_wire *wire, const struct scard_l
     return got < 0 ? got : (int)scard_lent_framer_burst(framer);
 }
 
-/* Whether an end can begin by a setup: both functions are there, times can be made of the clock and the parameters, and
- * the silence is at most CWT.
+/* Returns whether an end can begin with a setup: both functions are there, times can be computed from the clock and the
+ * parameters, and the silence is at most CWT.
  */
 static inline bool scard_setup_is(const struct scard_setup *setup)
 {
@@ -306,8 +326,8 @@ static inline bool scard_setup_is(const struct scard_setup *setup)
     return cwt > 0 && (setup->silence <= cwt || setup->silence == SCARD_SILENCE_NONE);
 }
 
-/* The wire of an end that begins by such a setup, and its waiting times. BWT is 4/3 of CWT at least, so that three
- * quarters of it, after which a card answers a broken block, aren't below CWT.
+/* Initializes the wire of an end from a valid setup, and computes its waiting times. BWT is at least 4/3 of CWT. A card
+ * answers a broken block after three quarters of BWT, and this keeps that time at CWT or more.
  */
 static inline void scard_wire_begin(struct scard_wire *wire, const struct scard_setup *setup, uint64_t *bwt,
                                     uint64_t *cwt)
@@ -330,19 +350,20 @@ static inline void scard_wire_begin(struct scard_wire *wire, const struct scard_
 struct scard_session {
     struct scard_lent_terminal terminal;
     struct scard_setup setup;
-    uint64_t bwt; /* the waiting times in microseconds; a driver may make them longer, never shorter */
+    uint64_t bwt; /* the waiting times in microseconds; a driver may lengthen them, never shorten them */
     uint64_t cwt;
-    uint32_t blocks; /* how many were sent in this exchange */
+    uint32_t blocks; /* how many blocks were sent in this exchange */
     struct scard_wire wire;
 };
 
-/* The state and the buffers, as each call of an end is given them. */
+/* The state and the buffers, in the form that each call of an end takes. */
 #define SCARD_SESSION_END(state, setup) \
     (state), (setup)->command, (setup)->command_room, (setup)->answer, (setup)->answer_room
 
-/* Begins a session with a card that was just reset; nothing is sent. The session stays where it is: a copy is none, and
- * refuses all calls. OK, ARGUMENT (there are no such parameters, a function of the line is missing, the clock doesn't
- * run, or `silence` is above CWT): then the session stays as it was.
+/* Begins a session with a card that was just reset. It sends nothing. The caller owns the session, and may not move it:
+ * a copy refuses all calls. The session borrows the setup's buffers, and copies the setup itself. Returns OK; or
+ * ARGUMENT if the parameters are invalid, a function of the line is missing, the clock doesn't run, or `silence` is
+ * above CWT. With ARGUMENT the session stays as it was.
  */
 SCARD_MUST_USE
 static inline struct scard_verdict scard_session_begin(struct scard_session *session, const struct scard_setup *setup)
@@ -363,9 +384,10 @@ static inline struct scard_verdict scard_session_begin(struct scard_session *ses
     return verdict;
 }
 
-/* Sends a block, and takes the burst that comes within so many times BWT: as scard_wire_burst. After a broken one all
- * is dropped until the line was silent for as long, so that no late rest of it is taken for a block, and no block of a
- * card that still works crosses the next one. A rest that is later still is a burst of its own.
+/* Sends a block, and receives the burst that comes within `times` times BWT; it returns as scard_wire_burst does. After
+ * a broken burst it discards everything until the line is silent for that long. So no late rest of the burst passes for
+ * a block, and no block of a card that is still working crosses the next one. A rest that is later still is a burst of
+ * its own.
  */
 static inline int scard_session_talk(struct scard_session *session, const uint8_t *octets, size_t count,
                                      uint8_t times)
@@ -384,7 +406,7 @@ static inline int scard_session_talk(struct scard_session *session, const uint8_
     return said;
 }
 
-/* The turn of the terminal after what came. */
+/* Returns the terminal's turn after what came. */
 static inline struct scard_turn scard_session_came(struct scard_session *session, size_t count,
                                                    uint8_t out[SCARD_BLOCK_ROOM])
 {
@@ -397,7 +419,7 @@ static inline struct scard_turn scard_session_came(struct scard_session *session
                                         SCARD_BLOCK_ROOM);
 }
 
-/* Sends the block of a turn, and goes on until a turn has none, or the exchange's limits are reached. */
+/* Sends the block of a turn, and continues until a turn has none, or a limit of the exchange is reached. */
 static inline struct scard_turn scard_session_run(struct scard_session *session, struct scard_turn turn,
                                                   uint8_t out[SCARD_BLOCK_ROOM])
 {
@@ -426,12 +448,16 @@ static inline struct scard_turn scard_session_run(struct scard_session *session,
     return turn;
 }
 
-/* Sends a command and waits for its answer. SCARD_DONE: the answer is `count` octets, two at least, at the front of the
- * buffer for answers, until the next call. SCARD_SESSION_NO_STATUS: it has none or one. SCARD_GIVEN_UP: there is no
- * answer, whether the card acted on the command isn't known, and the sizes are those of the start. SCARD_DEAD,
- * SCARD_SESSION_FAILED, SCARD_SESSION_USED_UP: the session is over. Else it is refused, and nothing was sent: _DEAD,
- * _BUSY (the line failed before, or a limit was reached), _TOO_LONG, SCARD_NO_END (the session was never begun, or is a
- * copy). The command lies apart from both buffers.
+/* Sends a command, and waits for its answer. The command may not overlap the session's buffers. The results:
+ *
+ * - SCARD_DONE: the answer is `count` octets, at least two. They are at the start of the answer buffer until the next
+ *   call.
+ * - SCARD_SESSION_NO_STATUS: the answer has one octet or none.
+ * - SCARD_GIVEN_UP: there is no answer, and it isn't known whether the card acted on the command. The field sizes are
+ *   those of the start.
+ * - SCARD_DEAD, SCARD_SESSION_FAILED, SCARD_SESSION_USED_UP: the session is over.
+ * - Refused, and nothing was sent: _DEAD, _BUSY (the line failed before, or a limit was reached), _TOO_LONG,
+ *   SCARD_NO_END (the session was never begun, or is a copy).
  */
 SCARD_MUST_USE
 static inline struct scard_turn scard_session_exchange(struct scard_session *session, const uint8_t *command,
@@ -456,8 +482,8 @@ static inline struct scard_turn scard_session_exchange(struct scard_session *ses
     return turn;
 }
 
-/* Tells the card that the terminal takes fields of `size` octets from now on, 1 to 254; a new session takes 32.
- * SCARD_IFS_SET; else as scard_session_exchange, and refused _RESERVED for 0 and 255.
+/* Tells the card the largest field that the terminal takes from now on: `size`, 1 to 254 octets. A new session takes
+ * 32. Returns SCARD_IFS_SET, or another result of scard_session_exchange. 0 and 255 are refused, _RESERVED.
  */
 SCARD_MUST_USE
 static inline struct scard_turn scard_session_ask_ifs(struct scard_session *session, uint8_t size)
@@ -472,13 +498,18 @@ static inline struct scard_turn scard_session_ask_ifs(struct scard_session *sess
     return scard_session_run(session, turn, out);
 }
 
-/* Begins a session with a card that can't be reset, and of whose state nothing is known; also after one that failed or
- * was used up. What the line has is dropped until it was silent for BWT, so that no block under way is taken for an
- * answer. Then the card is asked for RESYNCH, three times at most, and nothing else is sent. SCARD_GIVEN_UP: it
- * answered, so it is as at its start and the session is begun; whether its host acted on a command that was under way
- * isn't known. SCARD_DEAD: it didn't. SCARD_SESSION_FAILED: the line failed. SCARD_NO_END: scard_session_begin would
- * answer ARGUMENT. Unless the card answered the session is none, and refuses its calls. No limit of an exchange is
- * counted.
+/* Begins a session with a card that can't be reset, and whose state isn't known. It also recovers a session that failed
+ * or was used up. First it discards what the line holds until the line is silent for BWT, so that no earlier block
+ * passes for an answer. Then it asks the card for RESYNCH (ISO/IEC 7816-3, clause 11.6.3.2), at most three times, and
+ * sends nothing else. It counts no limit of an exchange. The results:
+ *
+ * - SCARD_GIVEN_UP: the card answered, so it is as at its start, and the session has begun. It isn't known whether the
+ *   card's host acted on a command that was in progress.
+ * - SCARD_DEAD: the card didn't answer.
+ * - SCARD_SESSION_FAILED: the line failed.
+ * - SCARD_NO_END: scard_session_begin would return ARGUMENT.
+ *
+ * Unless the card answered, there is no session, and later calls are refused.
  */
 SCARD_MUST_USE
 static inline struct scard_turn scard_session_resync(struct scard_session *session, const struct scard_setup *setup)
@@ -507,10 +538,10 @@ static inline struct scard_turn scard_session_resync(struct scard_session *sessi
 /* ---- the card ---- */
 
 enum scard_host_kind {
-    SCARD_HOST_REPLY = 0, /* the reply, `count` octets at `octets`, apart from the session's buffers */
+    SCARD_HOST_REPLY = 0, /* the reply, `count` octets at `octets`, outside the session's buffers */
     SCARD_HOST_TIME = 1,  /* it needs `number` times the waiting time */
-    SCARD_HOST_IFS = 2,   /* it takes fields of `number` octets from now on, 1 to 254 */
-    SCARD_HOST_END = 3    /* it serves no more */
+    SCARD_HOST_IFS = 2,   /* it takes fields of up to `number` octets from now on, 1 to 254 */
+    SCARD_HOST_END = 3    /* it stops serving */
 };
 
 struct scard_host_turn {
@@ -520,9 +551,10 @@ struct scard_host_turn {
     size_t count;
 };
 
-/* What the card does: its application. `granted` is how many of its requests about this command the terminal granted.
- * Where it is 0 the command is new, and is to be acted on now; else it is the same one, and the host goes on with it.
- * About a command that the terminal gave up while the host asked for something, it isn't asked again.
+/* The host: the card's application. The session calls `serve` with a command. It copies the octets of a reply.
+ * `granted` counts the host's requests about this command that the terminal granted. If it is 0, the command is new, so
+ * act on it now. Otherwise it is the same command, so continue with it. If the terminal gives a command up while the
+ * host's request is pending, the session doesn't call `serve` for it again.
  */
 struct scard_host {
     void *context;
@@ -535,12 +567,12 @@ struct scard_card_session {
     struct scard_host host;
     uint64_t cwt; /* in microseconds */
     size_t granted;
-    uint64_t bwt; /* within which the terminal awaits an answer */
+    uint64_t bwt; /* within which the terminal expects an answer */
     struct scard_wire wire;
 };
 
-/* Begins a session at a reset of the card. OK, ARGUMENT, as scard_session_begin; ARGUMENT too where the host has no
- * function.
+/* Begins a session at a reset of the card. It copies the setup and the host, and borrows the setup's buffers. Returns
+ * OK or ARGUMENT as scard_session_begin does; ARGUMENT also if the host has no function.
  */
 SCARD_MUST_USE
 static inline struct scard_verdict scard_card_session_begin(struct scard_card_session *session,
@@ -564,7 +596,7 @@ static inline struct scard_verdict scard_card_session_begin(struct scard_card_se
     return verdict;
 }
 
-/* What the host says about the command that it owes a reply to. */
+/* Calls the host about the command that it owes a reply to, and returns the card's turn. */
 static inline struct scard_turn scard_card_session_host(struct scard_card_session *session,
                                                         uint8_t out[SCARD_BLOCK_ROOM])
 {
@@ -589,7 +621,7 @@ static inline struct scard_turn scard_card_session_host(struct scard_card_sessio
     }
 }
 
-/* Asks the host. What came meanwhile is dropped. */
+/* Calls the host, and discards what came meanwhile. */
 static inline struct scard_turn scard_card_session_ask(struct scard_card_session *session,
                                                        uint8_t out[SCARD_BLOCK_ROOM])
 {
@@ -600,7 +632,9 @@ static inline struct scard_turn scard_card_session_ask(struct scard_card_session
     return turn;
 }
 
-/* The turn of the card after a burst of so many octets; its host's too, where the card asks it. */
+/* Returns the card's turn after a burst of `count` octets. If the card passes a command to its host, that is the host's
+ * turn.
+ */
 static inline struct scard_turn scard_card_session_came(struct scard_card_session *session, size_t count,
                                                         uint8_t out[SCARD_BLOCK_ROOM])
 {
@@ -613,20 +647,23 @@ static inline struct scard_turn scard_card_session_came(struct scard_card_sessio
     return turn.kind == SCARD_DONE ? scard_card_session_ask(session, out) : turn;
 }
 
-/* The silence that a card waits for after a broken burst. */
+/* Returns the silence that a card waits for after a broken burst. */
 static inline uint64_t scard_card_session_pause(const struct scard_card_session *session)
 {
     const uint64_t most = session->bwt / 4 * 3;
     return most > session->cwt ? most : session->cwt;
 }
 
-/* Answers blocks, as long as it takes. SCARD_SESSION_FAILED: the line failed or ended; where it goes on after all, a
- * further call does too. SCARD_DONE: the host serves no more. Where what it said can't be: SCARD_REFUSED_TOO_LONG,
- * _RESERVED. SCARD_NO_END: the session was never begun, or is a copy.
+/* Serves the terminal: answers its blocks without a time limit. The results:
  *
- * A card has to answer within BWT. So after a broken burst it drops all until the line was silent for three quarters of
- * BWT, or CWT where that is more, and answers then. The rest of a block of the terminal that pauses for longer than
- * that inside it, is a burst of its own.
+ * - SCARD_SESSION_FAILED: the line failed or ended. If the line works again, call this again to go on.
+ * - SCARD_DONE: the host stopped serving.
+ * - SCARD_REFUSED_TOO_LONG, _RESERVED: what the host returned is invalid.
+ * - SCARD_NO_END: the session was never begun, or is a copy.
+ *
+ * A card has to answer within BWT. So after a broken burst it discards everything until the line is silent for three
+ * quarters of BWT, or for CWT if that is longer, and then answers. If the terminal pauses inside a block for longer
+ * than that, the rest of the block is a burst of its own.
  */
 SCARD_MUST_USE
 static inline struct scard_turn scard_card_session_serve(struct scard_card_session *session)

@@ -98,7 +98,8 @@ acknowledgment_refusal : (e : End) (x : Number)
     → Alike (after (taking e x) Acknowledgment) (after (expecting e x) Refusal)
 acknowledgment_refusal e x last (Info number more) inf = tt
 acknowledgment_refusal e x last (Ready number Free) inf =
-    by_first (if same number (other x) then Ok (record (taking e x) { tries = 0; row = no_row }) else Err SequenceNumber) _
+    by_first (if same number (other x) then Ok (record (taking e x) { tries = 0; row = no_row }) else Err
+    SequenceNumber) _
 acknowledgment_refusal e x last (Ready number Redundancy) inf = tt
 acknowledgment_refusal e x last (Ready number Other) inf = tt
 acknowledgment_refusal e x last (Request Resynch) inf = tt

@@ -600,7 +600,8 @@ asking_still c asked x pending aborted last view came h =
 
 rests_again : (c : CardState) (x : SpareOf c) (pending : Pending) (aborted : Bool) (e : End) (heard : Heard)
     (last : List ℕ)
-    → got_whole e heard ≡ Some (after (record (rested c x pending aborted) { before = MessageOrRefusal }) MessageOrRefusal)
+    → got_whole e heard ≡ Some (after (record (rested c x pending aborted) { before = MessageOrRefusal })
+    MessageOrRefusal)
     → Rests c (watched e heard last)
 rests_again c x pending aborted e heard last owes = record {
   spare = record {

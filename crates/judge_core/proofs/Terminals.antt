@@ -245,7 +245,8 @@ correcting : (t : TerminalState) (k : Kind) (x : TalkOf t) (heard : Heard) (faul
 correcting t k x heard fault course =
     let e = in_talk t x k in
     failing (watched e heard (last_of k)) (at (waits_of k) t) (ready t.expected fault)
-    (record e { tries = t.failures + 1; row = (corrected_once t x).row }) (after e Correction) (max x.spare.room x.spare.first) x.spare.first (busy_kind k) tt course
+    (record e { tries = t.failures + 1; row = (corrected_once t x).row }) (after e Correction)
+    (max x.spare.room x.spare.first) x.spare.first (busy_kind k) tt course
     x.spare.first_ok
     (λ h. is_then (same t.expected t.expected) _ _ (same_self t.expected)
     ∙ once_more t x.row.corrections (corrected_once t x).row e x.fewer h)
@@ -261,7 +262,8 @@ refusing t k x certain number goes_on inf =
     let e = in_talk t x k in
     failing (watched e (Whole (Info number goes_on) (carried inf)) (last_of k)) (at (waits_of k) t)
     (ready t.expected Other)
-    (record e { tries = t.failures + 1; row = (corrected_once t x).row }) (after e Refusal) (max x.spare.room x.spare.first) x.spare.first (busy_kind k) tt (inr refl)
+    (record e { tries = t.failures + 1; row = (corrected_once t x).row }) (after e Refusal)
+    (max x.spare.room x.spare.first) x.spare.first (busy_kind k) tt (inr refl)
     x.spare.first_ok
     (λ h. is_then (same t.expected t.expected) _ _ (same_self t.expected)
     ∙ once_more t x.row.corrections (corrected_once t x).row e x.fewer h)
@@ -279,7 +281,8 @@ repeating : (t : TerminalState) (k : Kind) (x : TalkOf t) (heard : Heard) (goes_
 repeating t k x heard goes_on course other_number pending =
     let e = in_talk t x k in
     failing (watched e heard (last_of k)) (at (waits_of k) t) (info t.number goes_on (last_of k))
-    (record e { tries = t.failures + 1; row = (repeated_once t x).row }) (after e SameBlock) (max x.spare.room x.spare.first) x.spare.first (busy_kind k) tt course
+    (record e { tries = t.failures + 1; row = (repeated_once t x).row }) (after e SameBlock)
+    (max x.spare.room x.spare.first) x.spare.first (busy_kind k) tt course
     x.spare.first_ok
     (λ h. is_else (same t.number (next_with k t.number)) _ _ other_number
     ∙ is_then (is_pending (pending_with k) goes_on) _ _ pending
@@ -293,7 +296,8 @@ repeating t k x heard goes_on course other_number pending =
 -- the rest of the message goes out
 fits_next : (t : TerminalState) (x : SpareOf t) (field rest : List ℕ)
     → Fits (record t { failures = 0; waits = waiting field rest }) (waiting field rest)
-    (watched (busy (other t.number) t.expected (pending_of (is_more rest)) x.before 0 no_row x.room x.first) Broken field)
+    (watched (busy (other t.number) t.expected (pending_of (is_more rest)) x.before 0 no_row x.room x.first) Broken
+    field)
 fits_next t x field [] = (record { spare = x; row = no_row; few = omega arith; fewer = omega arith }, refl)
 fits_next t x field (octet ∷ rest) = (record { spare = x; row = no_row; few = omega arith; fewer = omega arith }, refl)
 
@@ -433,7 +437,8 @@ acking t field rest x view number fault inf =
     (λ h. repeating t (chain field rest) x (heard_at view (got (Ready number fault) inf)) true
     (inl (whole_at view e (Ready number fault) inf
     ∙ ap (λ b. Some (hears_ready e Chain b)) (same_other number t.number h))) (same_next t.number) refl)
-    (λ h. cutting w (record t { number = other t.number; waits = ack field rest }) x.spare Settled t.failures x.row false NextBlock
+    (λ h. cutting w (record t { number = other t.number; waits = ack field rest }) x.spare Settled t.failures x.row
+    false NextBlock
     rest
     (inl (whole_at view e (Ready number fault) inf
     ∙ ap (λ b. Some (hears_ready e Chain b)) (differs_other number t.number h))) (λ n m i. refl))

@@ -250,7 +250,8 @@ is_refusal e (Request s) = false
 is_refusal e (Response s) = false
 
 abbrev pub or_refuses : End → Pcb → Sent → Sent
-or_refuses e pcb sent = if is_refusal e pcb then corrects_again (record e { expects = other e.expects; tries = 0 }) else sent
+or_refuses e pcb sent = if is_refusal e pcb then corrects_again (record e { expects = other e.expects; tries = 0 }) else
+    sent
 
 -- ---- repeats and answers
 
