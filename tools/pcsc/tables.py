@@ -88,6 +88,12 @@ def replayed(end):
     return cell
 
 
+def judged(way):
+    if SCARD == "none":
+        return "not tried"
+    return said(f"{HERE}/judged", SCARD, *sorted(glob.glob(way.record + ".*"))).strip()
+
+
 def descriptors():
     """How many descriptors our processes have open."""
     count = 0
@@ -121,6 +127,7 @@ ROWS += [("each single block, 108 plans", sweep("singles")),
          ("100 sessions, recorded", sessions),
          ("recordings as our card does", replayed("card")),
          ("recordings as our terminal does", replayed("terminal")),
+         ("deviations from T=1 in the recordings", judged),
          ("1,000 exchanges, 2 %, valgrind", leaks)]
 
 
