@@ -5,3 +5,4 @@ pub mod Forests
 pub mod Duplicates
 pub mod OneVerdict
 pub mod NoSign
+pub mod Tds

@@ -49,14 +49,14 @@ use Rattle.tlv_core.specs.declared.reason.TlvReason.TheVariants as tlv
 use Rattle.tlv_core.specs.declared.reason.DolReason.{DolReason}
 use Rattle.tlv_core.specs.declared.reason.DolReason.TheVariants as dol
 use Rattle.card_kinds.specs.AtrTexts as atr_texts
-use Rattle.card_kinds.specs.AtrTexts.{atr_codec, atr_text, byte_text, bytes_text, convention_text, interface_text, meaning_text, rate_text, t1_text, tck_text, td_text, tds_text}
+use Rattle.card_kinds.specs.AtrTexts.{atr_codec, atr_text, byte_text, bytes_text, convention_text, interface_text, meaning_text, rate_or, t1_text, tck_text, td_text, tds_text}
 use Rattle.card_kinds.specs.BlockTexts as block_texts
 use Rattle.card_kinds.specs.BlockTexts.{block_codec, block_text, more_number, pcb_text, supervisory_text}
 use Rattle.card_kinds.specs.ChainTexts as chain_texts
 use Rattle.card_kinds.specs.ChainTexts.{chain_codec, chain_text}
 use Rattle.card_kinds.specs.Codec.{Codec}
 use Rattle.card_kinds.specs.CommandTexts as command_texts
-use Rattle.card_kinds.specs.CommandTexts.{command_codec, command_text, le_text, shape_text}
+use Rattle.card_kinds.specs.CommandTexts.{command_codec, command_text, le_or, shape_text}
 use Rattle.card_kinds.specs.ForestTexts as forest_texts
 use Rattle.card_kinds.specs.ForestTexts.{forest_codec, forest_text, lines_text, part_text, value_text}
 use Rattle.card_kinds.specs.ListTexts as list_texts
@@ -67,6 +67,7 @@ use Rattle.card_kinds.specs.Texts.{octets_text, refused_text}
 use Rattle.card_kinds.specs.Verdicts.{Shows, Tells, accepted, refused}
 use Rattle.card_kinds.specs.declared.status.Status.{Status}
 use Rattle.card_words.specs.declared.request.Expected.{Expected}
+use Rattle.card_words.specs.declared.request.Layout.TheVariants.{Lines}
 use Rattle.card_words.specs.declared.request.Kind.{Kind}
 use Rattle.card_words.specs.declared.request.Kind.TheVariants as kind
 
@@ -182,7 +183,7 @@ tck-lacks : (tck : Option ℕ) → lacks (tck_text tck) ≡ true
 tck-lacks None = refl
 tck-lacks (Some tck) = hex-lacks (tck ∷ [])
 
-rate-lacks : (rate : Option ℕ) → lacks (rate_text rate) ≡ true
+rate-lacks : (rate : Option ℕ) → lacks (rate_or (codes "reserved") rate) ≡ true
 rate-lacks None = refl
 rate-lacks (Some rate) = decimal-lacks rate
 
@@ -194,8 +195,8 @@ t1-lacks (Err param.Crc) = refl
 
 meaning-lacks : (a : AtrParts) → lacks (meaning_text a) ≡ true
 meaning-lacks a =
-    more (rate_text (rates_of a).0) _ (rate-lacks (rates_of a).0)
-    (more (rate_text (rates_of a).1) _ (rate-lacks (rates_of a).1)
+    more (rate_or (codes "reserved") (rates_of a).0) _ (rate-lacks (rates_of a).0)
+    (more (rate_or (codes "reserved") (rates_of a).1) _ (rate-lacks (rates_of a).1)
     (more (t1_text (t1_params_of a)) _ (t1-lacks (t1_params_of a)) refl))
 
 atr-lacks : (a : AtrParts) → lacks (atr_text a) ≡ true
@@ -261,13 +262,13 @@ shape-lacks shape.LongLe = refl
 shape-lacks shape.LongPart = refl
 shape-lacks shape.LongBoth = refl
 
-le-lacks : (le : Option ℕ) → lacks (le_text le) ≡ true
+le-lacks : (le : Option ℕ) → lacks (le_or (codes "none") le) ≡ true
 le-lacks None = refl
 le-lacks (Some le) = decimal-lacks le
 
 command-lacks : (c : CommandParts) → lacks (command_text c) ≡ true
 command-lacks c = more (shape_text (shape_of c.body)) _ (shape-lacks (shape_of c.body)) (hex-then c.header _
-    (octets-then (part_of c.body) _ (more (le_text (le_of c.body)) _ (le-lacks (le_of c.body)) refl)))
+    (octets-then (part_of c.body) _ (more (le_or (codes "none") (le_of c.body)) _ (le-lacks (le_of c.body)) refl)))
 
 command-reason : (reason : CommandReason) → lacks (command_texts.reason_text reason) ≡ true
 command-reason command.Trailing = refl
@@ -343,7 +344,7 @@ told-lacks : {V R : Type 0} (c : Codec V R) → ((v : V) → lacks (c.lines v) �
 told-lacks c lines names b text ended (accepted v n h is e) = rw is (lines v)
 told-lacks c lines names b text ended (refused stop h is e) = rw is (refused-lacks c.name stop names)
 
-shown-lacks : (k : Kind) (expected : Expected) (b text : List ℕ) (ended : Status) → Shows k expected b text ended
+shown-lacks : (k : Kind) (expected : Expected) (b text : List ℕ) (ended : Status) → Shows Lines k expected b text ended
     → lacks text ≡ true
 shown-lacks kind.Atr expected b text ended h = told-lacks atr_codec atr-lacks atr-reason b text ended h
 shown-lacks kind.Block expected b text ended h = told-lacks (block_codec expected.ifs) block-lacks block-reason b text
@@ -356,7 +357,7 @@ shown-lacks kind.Response expected b text ended h = told-lacks response_codec re
 shown-lacks kind.Tlv expected b text ended h = told-lacks forest_codec forest-lacks tlv-reason b text ended h
 shown-lacks kind.Dol expected b text ended h = told-lacks list_codec dol-lacks dol-reason b text ended h
 
--- no octet of what `show` says is a number sign
-pub no-sign : (k : Kind) (expected : Expected) (b text : List ℕ) (ended : Status) → Shows k expected b text ended
+-- no octet of the lines of `show` is a number sign
+pub no-sign : (k : Kind) (expected : Expected) (b text : List ℕ) (ended : Status) → Shows Lines k expected b text ended
     → All (λ x. x ≢ 35) text
 no-sign k expected b text ended h = passed text (shown-lacks k expected b text ended h)

@@ -1,13 +1,14 @@
 -- That the octets of a kind have one text and one status.
 use Rattle.std.proofs.Common.{◌≡◌, ◌≤◌, ◌∙◌, inl, inr, ℕ, List, Result, Ok, Err, ap, length, subst, sym, refl}
 use Rattle.octet_core.specs.Octets.{AreOctets}
+use Rattle.octet_core.specs.declared.stop.Stop.{Stop}
 use Rattle.octet_core.specs.Grammar.{OneVerdict}
 use Rattle.atr_core.proofs.Goes as atr_goes
 use Rattle.block_core.proofs.Goes.{one-verdict}
 use Rattle.card_kinds.proofs.OneOf.{OneText}
-use Rattle.card_kinds.specs.Verdicts.{Checks, IsFilled, IsFilledBy, Shows, Tells, Tidies, accepted, refused, unknown, duplicate, full, listed, no_list, codec_of}
+use Rattle.card_kinds.specs.Verdicts.{Checks, IsFilled, IsFilledBy, Shows, TellsBy, Tidies, accepted, accepted_in, refused, refused_in, shown_in, unknown, duplicate, full, listed, no_list, codec_of}
 use Rattle.card_kinds.specs.Codec.{Codec}
-use Rattle.card_kinds.specs.Texts.{accepted_text, duplicate_text, refused_text}
+use Rattle.card_kinds.specs.Texts.{duplicate_text, refused_text}
 use Rattle.card_words.specs.Texts.{fault_text}
 use Rattle.card_words.specs.declared.fault.Fault.{Fault}
 use Rattle.tlv_core.proofs.Entries.{dol_verdict}
@@ -23,6 +24,7 @@ use Rattle.card_kinds.specs.ForestTexts.{forest_codec, tidied_text}
 use Rattle.card_kinds.specs.ListTexts as list_texts
 use Rattle.card_kinds.specs.ListTexts.{filled_text}
 use Rattle.card_words.specs.declared.request.Kind.{Kind}
+use Rattle.card_words.specs.declared.request.Layout.{Layout}
 use Rattle.card_words.specs.declared.request.Kind.TheVariants.{Atr, Block, Chain, Command, Response, Tlv, Dol}
 use Rattle.card_words.specs.declared.request.Expected.{Expected}
 use Rattle.card_kinds.specs.declared.status.Status.{Status}
@@ -32,8 +34,10 @@ use Rattle.card_kinds.specs.declared.status.Status.TheVariants as status
 abbrev IsJudged : {V R : Type 0} → Codec V R → List ℕ → Type 0
 IsJudged c b = OneVerdict c.ending c.Spells c.IsReason b
 
-module _ {V R : Type 0} (c : Codec V R) (told : V → ℕ → List ℕ) (b : List ℕ) (verdict : IsJudged c b) where
-  one-told : (t u : List ℕ) (s q : Status) → Tells c told b t s → Tells c told b u q → (t ≡ u) × (s ≡ q)
+module _ {V R : Type 0} (c : Codec V R) (told : V → ℕ → List ℕ) (untold : Stop R → List ℕ) (b : List ℕ)
+    (verdict : IsJudged c b) where
+  one-told : (t u : List ℕ) (s q : Status) → TellsBy c told untold b t s → TellsBy c told untold b u q
+      → (t ≡ u) × (s ≡ q)
   one-told t u s q (accepted v n h text ended) (accepted w m g other different) =
       let same = verdict.one_value v w n m h g in
       let value : v ≡ w = same.0 in
@@ -42,15 +46,15 @@ module _ {V R : Type 0} (c : Codec V R) (told : V → ℕ → List ℕ) (b : Lis
   one-told t u s q (accepted v n h text ended) (refused stop g other different) = absurd (verdict.not_both v n stop h g)
   one-told t u s q (refused stop h text ended) (accepted w m g other different) = absurd (verdict.not_both w m stop g h)
   one-told t u s q (refused stop h text ended) (refused halt g other different) =
-      (text ∙ ap (refused_text c.name) (verdict.one_refusal stop halt h g) ∙ sym other, ended ∙ sym different)
+      (text ∙ ap untold (verdict.one_refusal stop halt h g) ∙ sym other, ended ∙ sym different)
 
-  some-told : (t : List ℕ) × (s : Status) × Tells c told b t s
+  some-told : (t : List ℕ) × (s : Status) × TellsBy c told untold b t s
   some-told = elim verdict.some [
     | inl h ↦ (told h.0 h.1, status.Accepted, accepted h.0 h.1 h.2 refl refl)
-    | inr h ↦ (refused_text c.name h.0, status.Refused, refused h.0 h.1 refl refl)
+    | inr h ↦ (untold h.0, status.Refused, refused h.0 h.1 refl refl)
   ]
 
-  told-once : OneText (Tells c told b)
+  told-once : OneText (TellsBy c told untold b)
   told-once = record { one = one-told; some = some-told }
 
 -- ---- the kinds
@@ -66,18 +70,22 @@ judged Response expected b small octets = response-one_verdict b octets
 judged Tlv expected b small octets = forest_verdict largest b octets
 judged Dol expected b small octets = dol_verdict b octets
 
-pub checked : (kind : Kind) (expected : Expected) (b : List ℕ) → expected.ifs ≤ 254 → AreOctets b
-    → OneText (Checks kind expected b)
-checked kind expected b small octets = told-once (codec_of kind expected).codec (λ v n. accepted_text n) b
+pub checked : (layout : Layout) (kind : Kind) (expected : Expected) (b : List ℕ) → expected.ifs ≤ 254 → AreOctets b
+    → OneText (Checks layout kind expected b)
+checked layout kind expected b small octets =
+    let c = (codec_of kind expected).codec in
+    told-once c (λ v n. accepted_in layout kind n) (refused_in layout kind c.name) b
     (judged kind expected b small octets)
 
-pub shown : (kind : Kind) (expected : Expected) (b : List ℕ) → expected.ifs ≤ 254 → AreOctets b
-    → OneText (Shows kind expected b)
-shown kind expected b small octets = told-once (codec_of kind expected).codec
-    (λ v n. (codec_of kind expected).codec.lines v) b (judged kind expected b small octets)
+pub shown : (layout : Layout) (kind : Kind) (expected : Expected) (b : List ℕ) → expected.ifs ≤ 254 → AreOctets b
+    → OneText (Shows layout kind expected b)
+shown layout kind expected b small octets =
+    let c = (codec_of kind expected).codec in
+    told-once c (shown_in layout kind c) (refused_in layout kind c.name) b (judged kind expected b small octets)
 
 pub tidied : (b : List ℕ) → AreOctets b → OneText (Tidies b)
-tidied b octets = told-once forest_codec (λ v n. tidied_text v) b (forest_verdict largest b octets)
+tidied b octets = told-once forest_codec (λ v n. tidied_text v) (refused_text forest_codec.name) b
+    (forest_verdict largest b octets)
 
 -- ---- filling
 

@@ -7,9 +7,8 @@ use Rattle.block_core.specs.Block.{Parts, front_of, spelling}
 use Rattle.octet_core.specs.declared.stop.Refused.{Refused}
 use Rattle.octet_core.specs.declared.stop.Refused.TheVariants as refusal
 use Rattle.octet_core.specs.declared.stop.Stop.{Stop}
-use Rattle.card_kinds.specs.Verdicts.{Tells, refused}
+use Rattle.card_kinds.specs.Verdicts.{TellsBy, refused}
 use Rattle.card_kinds.specs.Codec.{Codec, Stops, StopsUnlessMemory}
-use Rattle.card_kinds.specs.Texts.{refused_text}
 use Rattle.card_kinds.specs.declared.answer.Answer.{Answer}
 use Rattle.card_kinds.specs.declared.status.Status.{Status}
 use Rattle.card_kinds.specs.declared.status.Status.TheVariants as status
@@ -22,12 +21,13 @@ answered P (Ok a) text ended h e f = rw (e, f) h
 answered P (Err e) text ended h f g = tt
 
 -- what is told where a call refused the octets, and its reasons have these names
-pub is-refused : {V R : Type 0} (c : Codec V R) (told : V → ℕ → List ℕ) (b : List ℕ) (name : R → List ℕ)
-    (answer : Refused R) (stop : Stop R) (text : List ℕ) (ended : Status) → c.name ≡ name → answer ≡ refusal.Stop stop
-    → StopsUnlessMemory c b answer → text ≡ refused_text name stop → ended ≡ status.Refused → Tells c told b text ended
-is-refused {V} {R} c told b name answer stop text ended named is h same over =
+pub is-refused : {V R : Type 0} (c : Codec V R) (told : V → ℕ → List ℕ) (untold : (R → List ℕ) → Stop R → List ℕ)
+    (b : List ℕ) (name : R → List ℕ) (answer : Refused R) (stop : Stop R) (text : List ℕ) (ended : Status)
+    → c.name ≡ name → answer ≡ refusal.Stop stop → StopsUnlessMemory c b answer → text ≡ untold name stop
+    → ended ≡ status.Refused → TellsBy c told (untold c.name) b text ended
+is-refused {V} {R} c told untold b name answer stop text ended named is h same over =
     refused stop (subst (StopsUnlessMemory c b) is h)
-    (same ∙ ap (λ (n : R → List ℕ). refused_text n stop) (sym named)) over
+    (same ∙ ap (λ (n : R → List ℕ). untold n stop) (sym named)) over
 
 -- and the verdict of that call
 pub of-stop : {V R : Type 0} (c : Codec V R) (b : List ℕ) (answer : Refused R) (stop : Stop R)

@@ -12,6 +12,7 @@ use Rattle.atr_core.specs.declared.params.ParamFault.{ParamFault}
 pub use Rattle.atr_core.specs.Names.{reason_name as reason_text}
 use Rattle.atr_core.specs.Names.{param_fault_name}
 use Rattle.card_kinds.specs.Texts.{octets_text}
+use Rattle.card_kinds.specs.Json.{with_item}
 use Rattle.octet_core.specs.Grammar.{self_ended}
 use Rattle.atr_core.specs.declared.reason.AtrReason.{AtrReason}
 use Rattle.card_kinds.specs.Codec.{Codec}
@@ -42,9 +43,10 @@ abbrev pub tck_text : Option ℕ → List ℕ
 tck_text None = codes "absent"
 tck_text (Some tck) = encode_upper (tck ∷ [])
 
-abbrev pub rate_text : Option ℕ → List ℕ
-rate_text None = codes "reserved"
-rate_text (Some rate) = decimal rate
+-- F or D as a number, or a word where the index is reserved
+abbrev pub rate_or : List ℕ → Option ℕ → List ℕ
+rate_or reserved None = reserved
+rate_or reserved (Some rate) = decimal rate
 
 abbrev pub t1_text : Result T1Values ParamFault → List ℕ
 t1_text (Ok values) = codes "ifsc " ++ (decimal values.ifsc
@@ -57,8 +59,8 @@ interface_text a = bytes_text 1 a.first ++ tds_text 1 a.indicated
 
 -- the rates, and the parameters of T=1
 abbrev pub meaning_text : AtrParts → List ℕ
-meaning_text a = codes "F " ++ (rate_text (rates_of a).0
-    ++ (codes "\nD " ++ (rate_text (rates_of a).1 ++ (codes "\nt1 " ++ (t1_text (t1_params_of a) ++ codes "\n")))))
+meaning_text a = codes "F " ++ (rate_or (codes "reserved") (rates_of a).0
+    ++ (codes "\nD " ++ (rate_or (codes "reserved") (rates_of a).1 ++ (codes "\nt1 " ++ (t1_text (t1_params_of a) ++ codes "\n")))))
 
 -- an answer to reset, line by line
 abbrev pub atr_text : AtrParts → List ℕ
@@ -67,5 +69,63 @@ atr_text a = codes "convention " ++ (convention_text a.convention
     (codes "historical " ++ (octets_text a.historical
     ++ (codes "\ntck " ++ (tck_text (tck_of a) ++ (codes "\n" ++ meaning_text a))))))))
 
+-- ---- as members of an object
+
+-- an interface byte as an object
+abbrev pub byte_object : List ℕ → ℕ → ℕ → List ℕ
+byte_object name number byte = codes "{\"name\":\"" ++ (name ++ (decimal number
+    ++ (codes "\",\"value\":\"" ++ (encode_upper (byte ∷ []) ++ codes "\"}"))))
+
+-- the same after other items, where it stands
+abbrev pub with_byte : List ℕ → List ℕ → ℕ → Option ℕ → List ℕ
+with_byte items name number None = items
+with_byte items name number (Some byte) = with_item items (byte_object name number byte)
+
+abbrev pub with_bytes : List ℕ → ℕ → Interface → List ℕ
+with_bytes items number bytes = with_byte (with_byte (with_byte items (codes "TA") number bytes.ta) (codes "TB") number
+    bytes.tb) (codes "TC") number bytes.tc
+
+-- a TD and the bytes that it announces
+abbrev pub with_td : List ℕ → ℕ → Interface → ℕ → List ℕ
+with_td items number bytes octet = with_bytes (with_byte items (codes "TD") number (Some octet)) (number + 1) bytes
+
+abbrev pub with_tds : List ℕ → ℕ → List Indicated → List ℕ
+with_tds items number [] = items
+with_tds items number (x ∷ xs) = with_tds (with_td items number x.bytes (announcing x.bytes (goes_on xs) x.protocol))
+    (number + 1) xs
+
+-- each interface byte that stands, in its order
+abbrev pub interface_items : AtrParts → List ℕ
+interface_items a = with_tds (with_bytes [] 1 a.first) 1 a.indicated
+
+abbrev pub tck_value : Option ℕ → List ℕ
+tck_value None = codes "null"
+tck_value (Some tck) = codes "\"" ++ (encode_upper (tck ∷ []) ++ codes "\"")
+
+-- the parameters of T=1, or why there are none
+abbrev pub t1_object : Result T1Values ParamFault → List ℕ
+t1_object (Ok values) = codes "{\"ifsc\":" ++ (decimal values.ifsc
+    ++ (codes ",\"bwi\":" ++ (decimal values.bwi ++ (codes ",\"cwi\":" ++ (decimal values.cwi ++ codes "}")))))
+t1_object (Err fault) = codes "{\"reason\":\"" ++ (param_fault_name fault ++ codes "\"}")
+
+-- the rates, and the parameters of T=1
+abbrev pub meaning_members : AtrParts → List ℕ
+meaning_members a = codes ",\"F\":" ++ (rate_or (codes "null") (rates_of a).0
+    ++ (codes ",\"D\":" ++ (rate_or (codes "null") (rates_of a).1 ++ (codes ",\"t1\":" ++ t1_object (t1_params_of a)))))
+
+-- an answer to reset
+abbrev pub atr_members : AtrParts → List ℕ
+atr_members a = codes ",\"convention\":\"" ++ (convention_text a.convention
+    ++ (codes "\",\"interface\":[" ++ (interface_items a ++
+    (codes "],\"historical\":\"" ++ (encode_upper a.historical
+    ++ (codes "\",\"tck\":" ++ (tck_value (tck_of a) ++ meaning_members a)))))))
+
 abbrev pub atr_codec : Codec AtrParts AtrReason
-atr_codec = record { ending = self_ended; Spells = IsAtr; IsReason = IsReason; name = reason_text; lines = atr_text }
+atr_codec = record {
+  ending = self_ended;
+  Spells = IsAtr;
+  IsReason = IsReason;
+  name = reason_text;
+  lines = atr_text;
+  members = atr_members;
+}

@@ -38,6 +38,22 @@ block_text v = codes "nad " ++ (encode_upper (v.nad ∷ [])
     ++ (codes "\ninf " ++ (octets_text v.inf
     ++ (codes "\nlrc " ++ (encode_upper (xor_of (front_of v) ∷ []) ++ codes "\n")))))))
 
+-- what a PCB says, as an object
+abbrev pub pcb_object : Pcb → List ℕ
+pcb_object (Info number more) = codes "{\"kind\":\"I\",\"number\":"
+    ++ (decimal (number_bit number 1) ++ (codes ",\"more\":" ++ (decimal (more_number more) ++ codes "}")))
+pcb_object (Ready number fault) = codes "{\"kind\":\"R\",\"number\":"
+    ++ (decimal (number_bit number 1) ++ (codes ",\"error\":" ++ (decimal (fault_code fault) ++ codes "}")))
+pcb_object (Request about) = codes "{\"kind\":\"S\",\"request\":\"" ++ (supervisory_text about ++ codes "\"}")
+pcb_object (Response about) = codes "{\"kind\":\"S\",\"response\":\"" ++ (supervisory_text about ++ codes "\"}")
+
+-- a block as members of an object
+abbrev pub block_members : Parts → List ℕ
+block_members v = codes ",\"nad\":\"" ++ (encode_upper (v.nad ∷ [])
+    ++ (codes "\",\"pcb\":" ++ (pcb_object v.pcb
+    ++ (codes ",\"inf\":\"" ++ (encode_upper v.inf
+    ++ (codes "\",\"lrc\":\"" ++ (encode_upper (xor_of (front_of v) ∷ []) ++ codes "\"")))))))
+
 -- of an information size
 abbrev pub block_codec : ℕ → Codec Parts BlockReason
 block_codec ifs = record {
@@ -47,4 +63,5 @@ block_codec ifs = record {
   name =
       reason_text;
   lines = block_text;
+  members = block_members;
 }

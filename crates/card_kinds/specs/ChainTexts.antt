@@ -22,6 +22,11 @@ abbrev pub chain_text : List (List ℕ) → List ℕ
 chain_text fields = codes "blocks " ++ (decimal (length fields)
     ++ (codes "\nmessage " ++ (octets_text (message_of fields) ++ codes "\n")))
 
+-- the same as members of an object
+abbrev pub chain_members : List (List ℕ) → List ℕ
+chain_members fields = codes ",\"blocks\":" ++ (decimal (length fields)
+    ++ (codes ",\"message\":\"" ++ (encode_upper (message_of fields) ++ codes "\"")))
+
 -- the receiver r has taken the chain with which the octets b begin, which takes n of them
 pub record IsReceived (ifs : ℕ) (number : Number) (b : List ℕ) (r : Taking) (n : ℕ) : Type 0 where
   pub fields : List (List ℕ)
@@ -40,4 +45,5 @@ chain_codec ifs number = record {
       IsReason ifs number longest_message;
   name = reason_text;
   lines = chain_text;
+  members = chain_members;
 }

@@ -3,15 +3,23 @@ use Rattle.std.specs.Prelude.{ℕ, List, Result, Ok, Err}
 use Rattle.octet_core.specs.Grammar.{Ending, Accepts, Refuses, RefusesUnlessMemory}
 use Rattle.octet_core.specs.declared.stop.Refused.{Refused}
 use Rattle.octet_core.specs.declared.stop.Stop.{Stop}
+use Rattle.card_words.specs.declared.request.Layout.{Layout}
+use Rattle.card_words.specs.declared.request.Layout.TheVariants.{Lines, Json}
 
--- where a value V ends, which octets spell it, why octets are refused, the names of these reasons R, and the lines that
--- a value is shown by
+-- where a value V ends, which octets spell it, why octets are refused, the names of these reasons R, the lines that a
+-- value is shown by, and the members of an object of JSON that say it, each after a comma
 pub record Codec (V R : Type 0) : Type 1 where
   pub ending : Ending
   pub Spells : V → List ℕ → Type 0
   pub IsReason : R → List ℕ → Type 0
   pub name : R → List ℕ
   pub lines : V → List ℕ
+  pub members : V → List ℕ
+
+-- a value as lines, or as members of an object
+abbrev pub said_in : {V R : Type 0} → Layout → Codec V R → V → List ℕ
+said_in Lines c v = c.lines v
+said_in Json c v = c.members v
 
 -- the first n octets of b spell v
 abbrev pub Takes : {V R : Type 0} → Codec V R → List ℕ → V → ℕ → Type 0

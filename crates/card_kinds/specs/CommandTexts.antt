@@ -20,16 +20,34 @@ shape_text LongLe = codes "case 2 extended"
 shape_text LongPart = codes "case 3 extended"
 shape_text LongBoth = codes "case 4 extended"
 
-abbrev pub le_text : Option ℕ → List ℕ
-le_text None = codes "none"
-le_text (Some le) = decimal le
+-- Le as a number, or a word where it is absent
+abbrev pub le_or : List ℕ → Option ℕ → List ℕ
+le_or absent None = absent
+le_or absent (Some le) = decimal le
 
 -- a command, line by line
 abbrev pub command_text : CommandParts → List ℕ
 command_text c =
     shape_text (shape_of c.body) ++ (codes "\nheader "
     ++ (encode_upper c.header ++ (codes "\npart "
-    ++ (octets_text (part_of c.body) ++ (codes "\nle " ++ (le_text (le_of c.body) ++ codes "\n"))))))
+    ++ (octets_text (part_of c.body) ++ (codes "\nle " ++ (le_or (codes "none") (le_of c.body) ++ codes "\n"))))))
+
+-- the case that a shape is of, and its kind of length fields
+abbrev pub shape_members : Shape → List ℕ
+shape_members Empty = codes ",\"case\":1"
+shape_members ShortLe = codes ",\"case\":2,\"length\":\"short\""
+shape_members ShortPart = codes ",\"case\":3,\"length\":\"short\""
+shape_members ShortBoth = codes ",\"case\":4,\"length\":\"short\""
+shape_members LongLe = codes ",\"case\":2,\"length\":\"extended\""
+shape_members LongPart = codes ",\"case\":3,\"length\":\"extended\""
+shape_members LongBoth = codes ",\"case\":4,\"length\":\"extended\""
+
+-- a command as members of an object
+abbrev pub command_members : CommandParts → List ℕ
+command_members c =
+    shape_members (shape_of c.body) ++ (codes ",\"header\":\""
+    ++ (encode_upper c.header ++ (codes "\",\"part\":\""
+    ++ (encode_upper (part_of c.body) ++ (codes "\",\"le\":" ++ le_or (codes "null") (le_of c.body))))))
 
 abbrev pub command_codec : Codec CommandParts CommandReason
 command_codec = record {
@@ -37,6 +55,6 @@ command_codec = record {
   Spells = IsCommand;
   IsReason = IsReason;
   name = reason_text;
-  lines =
-      command_text;
+  lines = command_text;
+  members = command_members;
 }

@@ -1,5 +1,5 @@
 -- What the program says of a forest of data objects.
-use Rattle.std.specs.Prelude.{ℕ, List, [], ◌∷◌, ◌++◌, ◌-◌, ◌==◌, length, codes, decimal, if◌then◌else◌}
+use Rattle.std.specs.Prelude.{ℕ, List, [], ◌∷◌, ◌++◌, ◌+◌, ◌-◌, ◌==◌, length, codes, decimal, if◌then◌else◌}
 use Rattle.std.specs.List.{repeat}
 use Rattle.hex.specs.Hex.{encode_upper}
 use Rattle.tlv_core.specs.Tag.{constructed_bit, length_field}
@@ -9,6 +9,7 @@ use Rattle.tlv_core.specs.Forest.{largest, spelling, IsForest}
 use Rattle.tlv_core.specs.Tidy.{tidy}
 pub use Rattle.tlv_core.specs.Names.{reason_name as reason_text}
 use Rattle.card_kinds.specs.Texts.{octets_text}
+use Rattle.card_kinds.specs.Json.{with_item}
 use Rattle.octet_core.specs.Grammar.{whole}
 use Rattle.tlv_core.specs.Reasons.{IsReason}
 use Rattle.tlv_core.specs.declared.reason.TlvReason.{TlvReason}
@@ -36,6 +37,43 @@ lines_text (p ∷ parts) = part_text p ++ lines_text parts
 abbrev pub parts_text : List PartValue → List ℕ
 parts_text parts = codes "objects " ++ (decimal (length parts) ++ (codes "\n" ++ lines_text parts))
 
+-- the place of the header of an object
+abbrev pub header_place : PartValue → ℕ
+header_place p = p.place - (length p.tag + length (length_field p.form (length p.value)))
+
+-- that an object is constructed, or the octets of its value
+abbrev pub value_member : PartValue → List ℕ
+value_member p = if constructed_bit p.tag == 1 then codes ",\"constructed\":true"
+    else codes ",\"value\":\"" ++ (encode_upper p.value ++ codes "\"")
+
+-- the depth of an object from 1, and the places of its header and of its value
+abbrev pub place_members : PartValue → List ℕ
+place_members p = codes "\"depth\":" ++ (decimal p.depth
+    ++ (codes ",\"at\":" ++ (decimal (header_place p) ++ (codes ",\"value_at\":" ++ decimal p.place))))
+
+-- an object as one of JSON: these, its tag, its length field and its value
+abbrev pub part_object : PartValue → List ℕ
+part_object p = codes "{" ++ (place_members p
+    ++ (codes ",\"tag\":\"" ++ (encode_upper p.tag
+    ++ (codes "\",\"length\":\"" ++ (encode_upper (length_field p.form (length p.value))
+    ++ (codes "\"" ++ (value_member p ++ codes "}")))))))
+
+-- objects after other items
+abbrev pub with_objects : List ℕ → List PartValue → List ℕ
+with_objects items [] = items
+with_objects items (p ∷ parts) = with_objects (with_item items (part_object p)) parts
+
+-- the count of objects, and where their array begins
+abbrev pub objects_head : ℕ → List ℕ
+objects_head count = codes ",\"count\":" ++ (decimal count ++ codes ",\"objects\":[")
+
+-- the count of objects, and each of them, as members of an object
+abbrev pub parts_members : List PartValue → List ℕ
+parts_members parts = objects_head (length parts) ++ (with_objects [] parts ++ codes "]")
+
+abbrev pub forest_members : Tree → List ℕ
+forest_members t = parts_members (parts_of 1 0 t)
+
 -- the objects of a forest, each before those inside it
 abbrev pub forest_text : Tree → List ℕ
 forest_text t = parts_text (parts_of 1 0 t)
@@ -48,4 +86,5 @@ forest_codec = record {
   name =
       reason_text;
   lines = forest_text;
+  members = forest_members;
 }

@@ -1,5 +1,6 @@
 pub mod Statuses
 pub mod Texts
+pub mod Json
 pub mod Codec
 pub mod AtrTexts
 pub mod ChainTexts

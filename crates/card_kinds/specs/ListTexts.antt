@@ -3,6 +3,7 @@ use Rattle.std.specs.Prelude.{ℕ, List, [], ◌∷◌, ◌++◌, length, codes,
 use Rattle.hex.specs.Hex.{encode_upper}
 pub use Rattle.tlv_core.specs.Names.{dol_reason_name as reason_text}
 use Rattle.card_kinds.specs.Texts.{octets_text}
+use Rattle.card_kinds.specs.Json.{with_item}
 use Rattle.octet_core.specs.Grammar.{whole}
 use Rattle.tlv_core.specs.Dol.{IsDol, IsDolReason}
 use Rattle.tlv_core.specs.declared.reason.DolReason.{DolReason}
@@ -20,9 +21,30 @@ entries_text (e ∷ entries) = entry_text e ++ entries_text entries
 abbrev pub dol_text : List (List ℕ × ℕ) → List ℕ
 dol_text entries = codes "entries " ++ (decimal (length entries) ++ (codes "\n" ++ entries_text entries))
 
+-- an entry as an object
+abbrev pub entry_object : List ℕ × ℕ → List ℕ
+entry_object e = codes "{\"tag\":\"" ++ (encode_upper e.0 ++ (codes "\",\"length\":" ++ (decimal e.1 ++ codes "}")))
+
+-- entries after other items
+abbrev pub with_entries : List ℕ → List (List ℕ × ℕ) → List ℕ
+with_entries items [] = items
+with_entries items (e ∷ entries) = with_entries (with_item items (entry_object e)) entries
+
+-- a list as members of an object
+abbrev pub dol_members : List (List ℕ × ℕ) → List ℕ
+dol_members entries = codes ",\"count\":" ++ (decimal (length entries) ++ (codes ",\"entries\":[" ++
+    (with_entries [] entries ++ codes "]")))
+
 -- the octets that fill a list
 abbrev pub filled_text : List ℕ → List ℕ
 filled_text octets = octets_text octets ++ codes "\n"
 
 abbrev pub list_codec : Codec (List (List ℕ × ℕ)) DolReason
-list_codec = record { ending = whole; Spells = IsDol; IsReason = IsDolReason; name = reason_text; lines = dol_text }
+list_codec = record {
+  ending = whole;
+  Spells = IsDol;
+  IsReason = IsDolReason;
+  name = reason_text;
+  lines = dol_text;
+  members = dol_members;
+}

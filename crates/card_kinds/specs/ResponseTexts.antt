@@ -29,12 +29,21 @@ response_text r =
     (codes "\nstatus " ++ (encode_upper (r.sw1 ∷ r.sw2 ∷ [])
     ++ (codes " " ++ (class_text r.sw1 r.sw2 ++ codes "\n")))))
 
+-- two status bytes and their class as members of an object
+abbrev pub status_members : ℕ → ℕ → List ℕ
+status_members sw1 sw2 = codes ",\"status\":\"" ++ (encode_upper (sw1 ∷ sw2 ∷ [])
+    ++ (codes "\",\"class\":\"" ++ (class_text sw1 sw2 ++ codes "\"")))
+
+-- a response as members of an object
+abbrev pub response_members : ResponseParts → List ℕ
+response_members r = codes ",\"part\":\"" ++ (encode_upper r.part ++ (codes "\"" ++ status_members r.sw1 r.sw2))
+
 abbrev pub response_codec : Codec ResponseParts ResponseReason
 response_codec = record {
   ending = whole;
   Spells = IsResponse;
   IsReason = IsReason;
   name = reason_text;
-  lines =
-      response_text;
+  lines = response_text;
+  members = response_members;
 }

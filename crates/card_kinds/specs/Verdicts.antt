@@ -1,9 +1,10 @@
 -- What the program says of octets: the verdict on them as a text and a status.
-use Rattle.std.specs.Prelude.{◌≡◌, ℕ, List, Result, Ok, Err}
+use Rattle.std.specs.Prelude.{◌≡◌, ◌++◌, ℕ, List, Result, Ok, Err, codes}
 use Rattle.octet_core.specs.declared.stop.Stop.{Stop}
 use Rattle.octet_core.specs.Grammar.{whole, Refuses}
 use Rattle.card_kinds.specs.Texts.{accepted_text, duplicate_text, refused_text}
-use Rattle.card_kinds.specs.Codec.{Codec, Stops, Takes}
+use Rattle.card_kinds.specs.Json.{accepted_members, object_line, refused_members}
+use Rattle.card_kinds.specs.Codec.{Codec, said_in, Stops, Takes}
 use Rattle.card_kinds.specs.AtrTexts.{atr_codec}
 use Rattle.card_kinds.specs.BlockTexts.{block_codec}
 use Rattle.card_kinds.specs.ChainTexts.{chain_codec}
@@ -23,12 +24,20 @@ use Rattle.card_words.specs.declared.fault.Fault.{Fault}
 use Rattle.card_words.specs.declared.request.Kind.{Kind}
 use Rattle.card_words.specs.declared.request.Kind.TheVariants.{Atr, Block, Chain, Command, Response, Tlv, Dol}
 use Rattle.card_words.specs.declared.request.Expected.{Expected}
+use Rattle.card_words.specs.declared.request.Layout.{Layout}
+use Rattle.card_words.specs.declared.request.Layout.TheVariants.{Lines, Json}
 
--- the text and the status that the verdict on octets has, where a value is told so
-pub data Tells {V R : Type 0} (c : Codec V R) (told : V → ℕ → List ℕ) (b text : List ℕ) (ended : Status) : Type 0 where
-  accepted : (v : V) (n : ℕ) → Takes c b v n → text ≡ told v n → ended ≡ status.Accepted → Tells c told b text ended
-  refused : (stop : Stop R) → Stops c b stop → text ≡ refused_text c.name stop → ended ≡ status.Refused
-      → Tells c told b text ended
+-- the text and the status that the verdict on octets has, where a value and a refusal are told so
+pub data TellsBy {V R : Type 0} (c : Codec V R) (told : V → ℕ → List ℕ) (untold : Stop R → List ℕ) (b text : List ℕ)
+    (ended : Status) : Type 0 where
+  accepted : (v : V) (n : ℕ) → Takes c b v n → text ≡ told v n → ended ≡ status.Accepted
+      → TellsBy c told untold b text ended
+  refused : (stop : Stop R) → Stops c b stop → text ≡ untold stop → ended ≡ status.Refused
+      → TellsBy c told untold b text ended
+
+-- the same, where a refusal is told by its line
+abbrev pub Tells : {V R : Type 0} → Codec V R → (V → ℕ → List ℕ) → List ℕ → List ℕ → Status → Type 0
+Tells c told b text ended = TellsBy c told (refused_text c.name) b text ended
 
 -- a codec of some values and reasons
 pub record Row : Type 1 where
@@ -49,13 +58,50 @@ codec_of Response expected = row response_codec
 codec_of Tlv expected = row forest_codec
 codec_of Dol expected = row list_codec
 
--- how many octets the value takes
-abbrev pub Checks : Kind → Expected → List ℕ → List ℕ → Status → Type 0
-Checks kind expected b = Tells (codec_of kind expected).codec (λ v n. accepted_text n) b
+-- ---- in each layout
+
+-- a kind by its name
+abbrev pub kind_name : Kind → List ℕ
+kind_name Atr = codes "atr"
+kind_name Block = codes "block"
+kind_name Chain = codes "chain"
+kind_name Command = codes "command"
+kind_name Response = codes "response"
+kind_name Tlv = codes "tlv"
+kind_name Dol = codes "dol"
+
+-- a value takes n octets
+abbrev pub accepted_in : Layout → Kind → ℕ → List ℕ
+accepted_in Lines kind n = accepted_text n
+accepted_in Json kind n = object_line (kind_name kind) (accepted_members n)
+
+-- a value that takes n octets, where it is said so
+abbrev pub laid_out : Layout → Kind → List ℕ → ℕ → List ℕ
+laid_out Lines kind said n = said
+laid_out Json kind said n = object_line (kind_name kind) (accepted_members n ++ said)
+
+abbrev pub shown_in : {V R : Type 0} → Layout → Kind → Codec V R → V → ℕ → List ℕ
+shown_in layout kind c v n = laid_out layout kind (said_in layout c v) n
+
+-- a refusal
+abbrev pub refused_in : {R : Type 0} → Layout → Kind → (R → List ℕ) → Stop R → List ℕ
+refused_in Lines kind name stop = refused_text name stop
+refused_in Json kind name stop = object_line (kind_name kind) (refused_members name stop)
+
+-- what is said of octets by a codec: how many of them the value takes
+abbrev pub ChecksBy : {V R : Type 0} → Layout → Kind → Codec V R → List ℕ → List ℕ → Status → Type 0
+ChecksBy layout kind c b = TellsBy c (λ v n. accepted_in layout kind n) (refused_in layout kind c.name) b
 
 -- the value itself
-abbrev pub Shows : Kind → Expected → List ℕ → List ℕ → Status → Type 0
-Shows kind expected b = Tells (codec_of kind expected).codec (λ v n. (codec_of kind expected).codec.lines v) b
+abbrev pub ShowsBy : {V R : Type 0} → Layout → Kind → Codec V R → List ℕ → List ℕ → Status → Type 0
+ShowsBy layout kind c b = TellsBy c (shown_in layout kind c) (refused_in layout kind c.name) b
+
+-- and both by a kind
+abbrev pub Checks : Layout → Kind → Expected → List ℕ → List ℕ → Status → Type 0
+Checks layout kind expected b = ChecksBy layout kind (codec_of kind expected).codec b
+
+abbrev pub Shows : Layout → Kind → Expected → List ℕ → List ℕ → Status → Type 0
+Shows layout kind expected b = ShowsBy layout kind (codec_of kind expected).codec b
 
 -- the forest in the fewest octets that say the same
 abbrev pub Tidies : List ℕ → List ℕ → Status → Type 0

@@ -6,13 +6,14 @@ ghost use Rattle.chain_core.specs.Chain.{chain_blocks, message_of, IsChain, IsRe
 ghost use Rattle.chain_core.specs.Cut.{cut_of};
 ghost use Rattle.hex.specs.Hex.{encode_upper};
 ghost use Rattle.block_core.specs.Block.{spelling};
-ghost use Rattle.card_kinds.specs.ChainTexts.{blocks_text, chain_codec, chain_text, longest_message, IsReceived};
+ghost use Rattle.card_kinds.specs.ChainTexts.{blocks_text, chain_codec, chain_members, chain_text, longest_message, IsReceived};
 
-use crate::codec::{Codec, Outcome};
+use crate::codec::{Codec, Outcome, Shown, on_line};
 use crate::text::octets_word;
 use block_core::{Block, Number, encode};
-use card_words::Expected;
+use card_words::{Expected, Layout};
 use chain_core::{ChainReason, LONGEST_MESSAGE, Receiver, cut};
+use notes::{chain_notes, chain_refusal_note};
 use octet_core::{Refused, Stop, hex_upper};
 use std::alloc::{AllocError, Global};
 
@@ -34,9 +35,44 @@ impl Codec for Receiver {
         alloc: Global,
         octets: &[u8],
         expected: Expected,
-    ) -> Outcome<(String, usize), ChainReason> {
+        layout: Layout,
+        noted: bool,
+    ) -> Outcome<Shown, ChainReason> {
         let (receiver, taken) = received(alloc, octets, expected.ifs, expected.number)?;
-        Ok((lines(alloc, &receiver)?, taken))
+        let notes = notes_if(alloc, noted, &receiver)?;
+        match layout {
+            Layout::Lines => Ok(Shown {
+                said: lines(alloc, &receiver)?,
+                taken,
+                notes,
+            }),
+            Layout::Json => Ok(Shown {
+                said: members(alloc, &receiver)?,
+                taken,
+                notes,
+            }),
+        }
+    }
+
+    fn refusal_notes(
+        alloc: Global,
+        octets: &[u8],
+        stop: Stop<ChainReason>,
+        expected: Expected,
+    ) -> Result<Vec<String>, AllocError> {
+        match expected.ifs {
+            ifs @ 1..=254 => on_line(alloc, chain_refusal_note(alloc, octets, stop, ifs)),
+            _ => Ok(Vec::new(alloc)),
+        }
+    }
+}
+
+/// The notes on the lines of a value, where they are asked for.
+fn notes_if(alloc: Global, noted: bool, receiver: &Receiver) -> Result<Vec<String>, AllocError> {
+    if noted {
+        chain_notes(alloc, receiver.message().unwrap_or(&[]))
+    } else {
+        Ok(Vec::new(alloc))
     }
 }
 
@@ -76,6 +112,18 @@ fn lines(alloc: Global, receiver: &Receiver) -> Result<String, AllocError>
     let blocks = receiver.blocks();
     let message = octets_word(alloc, receiver.message().unwrap_or(&[]))?;
     format!(in alloc; "blocks {blocks}\nmessage {message}\n")
+}
+
+/// A chain as members of an object.
+fn members(alloc: Global, receiver: &Receiver) -> Result<String, AllocError>
+    ensures { (fields : List (List ℕ)) → receiver.now.blocks ≡ length fields
+        → receiver.now.joined ≡ message_of fields → receiver.now.done ≡ true
+        → receiver.now.refusal ≡ None
+        → IfOk result (λ text. string_bytes text ≡ chain_members fields) }
+{
+    let blocks = receiver.blocks();
+    let message = hex_upper(alloc, receiver.message().unwrap_or(&[]))?;
+    format!(in alloc; ",\"blocks\":{blocks},\"message\":\"{message}\"")
 }
 
 /// The blocks of the chain into which a message is cut, a line a block.

@@ -1,13 +1,12 @@
 //! The codecs of the kinds, and what the program says of octets by each.
 
-ghost use Rattle.std.specs.Prelude.{◌≡◌, ◌≤◌, ℕ, IfOk, IfErr, string_bytes};
+ghost use Rattle.std.specs.Prelude.{◌≡◌, ◌≤◌, ℕ, IfOk, IfErr, length, string_bytes};
 ghost use Rattle.card_words.specs.declared.request.Expected.{Expected as AnyExpected};
-ghost use Rattle.card_kinds.specs.Verdicts.{Tells};
-ghost use Rattle.card_kinds.specs.Codec.{Codec as AnyCodec, IsVerdict, StopsUnlessMemory, Takes};
-ghost use Rattle.card_kinds.specs.Texts.{accepted_text};
+ghost use Rattle.card_kinds.specs.Verdicts.{ChecksBy, ShowsBy};
+ghost use Rattle.card_kinds.specs.Codec.{Codec as AnyCodec, said_in, IsVerdict, StopsUnlessMemory, Takes};
 
 use crate::answer::Answer;
-use card_words::Expected;
+use card_words::{Expected, Layout};
 use octet_core::{Named, Refused, Stop};
 use std::alloc::{AllocError, Global};
 
@@ -17,11 +16,24 @@ pub type Outcome<T, R> = Result<T, Refused<R>>;
 /// What octets come to: how many the value takes that they spell, or why they are refused.
 pub type Verdict<R> = Result<usize, Stop<R>>;
 
+/// A value as it is shown.
+#[derive(Debug, Drop)]
+pub struct Shown {
+    /// Its lines, or its members of an object of JSON.
+    pub said: String,
+    /// How many octets it takes.
+    pub taken: usize,
+    /// Where they are asked for, the notes on its lines, an empty one on a line without any.
+    pub notes: Vec<String>,
+}
+
 /// What the program says of octets, and the verdict on them by which it does.
 #[derive(Debug, Drop)]
 pub struct Judged<R> {
     pub answer: Answer,
     pub verdict: Verdict<R>,
+    /// Where they are asked for, the notes on the lines of the answer.
+    pub notes: Vec<String>,
 }
 
 /// The codec of a kind of octets.
@@ -42,18 +54,28 @@ pub trait Codec {
         ensures found { IfOk result (λ n. (v : Value) × Takes (codec expected) octets.now v n) }
         ensures refused { IfErr result (StopsUnlessMemory (codec expected) octets.now) };
 
-    /// The lines that the value is shown by, and how many octets it takes.
+    /// The value as lines, or as members of an object of JSON, and the notes on its lines where it is `noted`.
     fn shown(
         alloc: Global,
         octets: &[u8],
         expected: Expected,
-    ) -> Outcome<(String, usize), Self::Reason>
+        layout: Layout,
+        noted: bool,
+    ) -> Outcome<Shown, Self::Reason>
         requires least { 1 ≤ expected.ifs }
         requires most { expected.ifs ≤ 254 }
         ensures found { IfOk result
-            (λ x. (v : Value) × Takes (codec expected) octets.now v x.1
-            × (string_bytes x.0 ≡ (codec expected).lines v)) }
+            (λ x. (v : Value) × Takes (codec expected) octets.now v x.taken
+            × (string_bytes x.said ≡ said_in layout (codec expected) v)) }
         ensures refused { IfErr result (StopsUnlessMemory (codec expected) octets.now) };
+
+    /// The note on the line of a refusal, if there is one.
+    fn refusal_notes(
+        alloc: Global,
+        octets: &[u8],
+        stop: Stop<Self::Reason>,
+        expected: Expected,
+    ) -> Result<Vec<String>, AllocError>;
 
     /// A reason is called by its name.
     ghost named: { (expected : AnyExpected) → (codec expected).name ≡ Self.Reason.text };
@@ -62,93 +84,129 @@ pub trait Codec {
 /// What `check` says of octets, and the verdict on them.
 pub fn check_with_verdict<C: Codec>(
     alloc: Global,
+    layout: Layout,
     octets: &[u8],
     expected: Expected,
 ) -> Result<Judged<C::Reason>, AllocError>
     requires least { 1 ≤ expected.ifs }
     requires most { expected.ifs ≤ 254 }
-    ensures told { IfOk result (λ judged.
-        Tells (C.codec expected) (λ v n. accepted_text n) octets.now judged.answer.text
-        judged.answer.status) }
+    ensures told { IfOk result (λ judged. ChecksBy layout expected.kind (C.codec expected)
+        octets.now judged.answer.text judged.answer.status) }
     ensures verdict { IfOk result (λ judged.
         IsVerdict (C.codec expected) octets.now judged.verdict) }
 {
     match C::taken(alloc, octets, expected) {
         Ok(taken) => {
-            let answer = Answer::accepted(alloc, taken)?;
+            let answer = Answer::accepted(alloc, layout, expected.kind, taken)?;
             Ok(Judged {
                 answer,
                 verdict: Ok(taken),
+                notes: Vec::new(alloc),
             })
         }
         Err(Refused::Stop(stop)) => {
-            let answer = Answer::refused(alloc, stop)?;
+            let answer = Answer::refused_in(alloc, layout, expected.kind, stop)?;
             Ok(Judged {
                 answer,
                 verdict: Err(stop),
+                notes: Vec::new(alloc),
             })
         }
         Err(Refused::Memory) => Err(AllocError),
     }
 }
 
-/// What `show` says of octets, and the verdict on them.
+/// What `show` says of octets, and the verdict on them, with the notes on its lines where it is `noted`. The octets are
+/// decoded once.
 pub fn show_with_verdict<C: Codec>(
     alloc: Global,
+    layout: Layout,
+    noted: bool,
     octets: &[u8],
     expected: Expected,
 ) -> Result<Judged<C::Reason>, AllocError>
     requires least { 1 ≤ expected.ifs }
     requires most { expected.ifs ≤ 254 }
-    ensures told { IfOk result (λ judged.
-        Tells (C.codec expected) (λ v n. (C.codec expected).lines v) octets.now judged.answer.text
-        judged.answer.status) }
+    ensures told { IfOk result (λ judged. ShowsBy layout expected.kind (C.codec expected)
+        octets.now judged.answer.text judged.answer.status) }
     ensures verdict { IfOk result (λ judged.
         IsVerdict (C.codec expected) octets.now judged.verdict) }
 {
-    match C::shown(alloc, octets, expected) {
-        Ok((text, taken)) => Ok(Judged {
-            answer: Answer::told(text),
-            verdict: Ok(taken),
-        }),
+    match C::shown(alloc, octets, expected, layout, noted) {
+        Ok(Shown { said, taken, notes }) => {
+            let answer = Answer::shown(alloc, layout, expected.kind, said, taken)?;
+            Ok(Judged {
+                answer,
+                verdict: Ok(taken),
+                notes,
+            })
+        }
         Err(Refused::Stop(stop)) => {
-            let answer = Answer::refused(alloc, stop)?;
+            let notes = refusal_notes::<C>(alloc, noted, octets, stop, expected)?;
+            let answer = Answer::refused_in(alloc, layout, expected.kind, stop)?;
             Ok(Judged {
                 answer,
                 verdict: Err(stop),
+                notes,
             })
         }
         Err(Refused::Memory) => Err(AllocError),
     }
 }
 
+/// The note on the line of a refusal, if there is one and it is asked for.
+fn refusal_notes<C: Codec>(
+    alloc: Global,
+    noted: bool,
+    octets: &[u8],
+    stop: Stop<C::Reason>,
+    expected: Expected,
+) -> Result<Vec<String>, AllocError> {
+    if noted {
+        C::refusal_notes(alloc, octets, stop, expected)
+    } else {
+        Ok(Vec::new(alloc))
+    }
+}
+
+/// The note on a text of one line.
+pub(crate) fn on_line(
+    alloc: Global,
+    note: Result<String, AllocError>,
+) -> Result<Vec<String>, AllocError>
+    ensures { IfOk result (λ notes. length notes.items ≡ 1) }
+{
+    Ok(vec![in alloc; note?]?)
+}
+
 /// How many octets the value takes.
 pub(crate) fn check<C: Codec>(
     alloc: Global,
+    layout: Layout,
     octets: &[u8],
     expected: Expected,
 ) -> Result<Answer, AllocError>
     requires least { 1 ≤ expected.ifs }
     requires most { expected.ifs ≤ 254 }
-    ensures { IfOk result (λ answer.
-        Tells (C.codec expected) (λ v n. accepted_text n) octets.now answer.text answer.status) }
+    ensures { IfOk result (λ answer. ChecksBy layout expected.kind (C.codec expected) octets.now
+        answer.text answer.status) }
 {
-    let judged = check_with_verdict::<C>(alloc, octets, expected)?;
+    let judged = check_with_verdict::<C>(alloc, layout, octets, expected)?;
     Ok(judged.answer)
 }
 
 /// The value itself.
 pub(crate) fn show<C: Codec>(
     alloc: Global,
+    layout: Layout,
     octets: &[u8],
     expected: Expected,
 ) -> Result<Answer, AllocError>
     requires least { 1 ≤ expected.ifs }
     requires most { expected.ifs ≤ 254 }
-    ensures { IfOk result (λ answer.
-        Tells (C.codec expected) (λ v n. (C.codec expected).lines v) octets.now answer.text
-        answer.status) }
+    ensures { IfOk result (λ answer. ShowsBy layout expected.kind (C.codec expected) octets.now
+        answer.text answer.status) }
 {
-    let judged = show_with_verdict::<C>(alloc, octets, expected)?;
+    let judged = show_with_verdict::<C>(alloc, layout, false, octets, expected)?;
     Ok(judged.answer)
 }

@@ -8,43 +8,53 @@ use crate::codec;
 use apdu_core::{Command, Response};
 use atr_core::Atr;
 use block_core::Block;
-use card_words::{Expected, Kind};
+use card_words::{Expected, Kind, Layout};
 use chain_core::Receiver;
 use std::alloc::{AllocError, Global};
 use tlv_core::{Dol, Forest};
 
 /// How many octets the value takes.
-pub fn check(alloc: Global, expected: Expected, octets: &[u8]) -> Result<Answer, AllocError>
+pub fn check(
+    alloc: Global,
+    layout: Layout,
+    expected: Expected,
+    octets: &[u8],
+) -> Result<Answer, AllocError>
     requires least { 1 ≤ expected.ifs }
     requires most { expected.ifs ≤ 254 }
     ensures { IfOk result (λ answer.
-        Checks expected.kind expected octets.now answer.text answer.status) }
+        Checks layout expected.kind expected octets.now answer.text answer.status) }
 {
     match expected.kind {
-        Kind::Atr => codec::check::<Atr>(alloc, octets, expected),
-        Kind::Block => codec::check::<Block>(alloc, octets, expected),
-        Kind::Chain => codec::check::<Receiver>(alloc, octets, expected),
-        Kind::Command => codec::check::<Command>(alloc, octets, expected),
-        Kind::Response => codec::check::<Response>(alloc, octets, expected),
-        Kind::Tlv => codec::check::<Forest>(alloc, octets, expected),
-        Kind::Dol => codec::check::<Dol>(alloc, octets, expected),
+        Kind::Atr => codec::check::<Atr>(alloc, layout, octets, expected),
+        Kind::Block => codec::check::<Block>(alloc, layout, octets, expected),
+        Kind::Chain => codec::check::<Receiver>(alloc, layout, octets, expected),
+        Kind::Command => codec::check::<Command>(alloc, layout, octets, expected),
+        Kind::Response => codec::check::<Response>(alloc, layout, octets, expected),
+        Kind::Tlv => codec::check::<Forest>(alloc, layout, octets, expected),
+        Kind::Dol => codec::check::<Dol>(alloc, layout, octets, expected),
     }
 }
 
 /// The value itself.
-pub fn show(alloc: Global, expected: Expected, octets: &[u8]) -> Result<Answer, AllocError>
+pub fn show(
+    alloc: Global,
+    layout: Layout,
+    expected: Expected,
+    octets: &[u8],
+) -> Result<Answer, AllocError>
     requires least { 1 ≤ expected.ifs }
     requires most { expected.ifs ≤ 254 }
     ensures { IfOk result (λ answer.
-        Shows expected.kind expected octets.now answer.text answer.status) }
+        Shows layout expected.kind expected octets.now answer.text answer.status) }
 {
     match expected.kind {
-        Kind::Atr => codec::show::<Atr>(alloc, octets, expected),
-        Kind::Block => codec::show::<Block>(alloc, octets, expected),
-        Kind::Chain => codec::show::<Receiver>(alloc, octets, expected),
-        Kind::Command => codec::show::<Command>(alloc, octets, expected),
-        Kind::Response => codec::show::<Response>(alloc, octets, expected),
-        Kind::Tlv => codec::show::<Forest>(alloc, octets, expected),
-        Kind::Dol => codec::show::<Dol>(alloc, octets, expected),
+        Kind::Atr => codec::show::<Atr>(alloc, layout, octets, expected),
+        Kind::Block => codec::show::<Block>(alloc, layout, octets, expected),
+        Kind::Chain => codec::show::<Receiver>(alloc, layout, octets, expected),
+        Kind::Command => codec::show::<Command>(alloc, layout, octets, expected),
+        Kind::Response => codec::show::<Response>(alloc, layout, octets, expected),
+        Kind::Tlv => codec::show::<Forest>(alloc, layout, octets, expected),
+        Kind::Dol => codec::show::<Dol>(alloc, layout, octets, expected),
     }
 }

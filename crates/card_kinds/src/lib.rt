@@ -15,6 +15,7 @@ pub mod chain;
 pub mod codec;
 mod command;
 pub mod forest;
+pub mod json;
 pub mod kinds;
 pub mod list;
 mod response;
@@ -23,8 +24,11 @@ mod text;
 
 pub use answer::Answer;
 pub use chain::blocks;
-pub use codec::{Codec, Judged, Outcome, Verdict, check_with_verdict, show_with_verdict};
+pub use codec::{
+    Codec, Judged, Outcome, Shown, Verdict, check_with_verdict, show_with_verdict,
+};
 pub use forest::{tidy, tidy_with_verdict};
+pub use json::{kind_name, object_head};
 pub use kinds::{check, show};
 pub use list::{fill, fill_with_verdict};
 pub use status::Status;

@@ -2,13 +2,14 @@
 
 ghost use Rattle.std.specs.Prelude.{◌≡◌, IfOk, refl, string_bytes};
 ghost use Rattle.apdu_core.specs.Response.{ResponseParts};
-ghost use Rattle.card_kinds.specs.ResponseTexts.{class_text, name_of, response_codec, response_text};
+ghost use Rattle.card_kinds.specs.ResponseTexts.{class_text, name_of, response_codec, response_members, response_text, status_members};
 
-use crate::codec::{Codec, Outcome};
+use crate::codec::{Codec, Outcome, Shown};
 use crate::text::octets_word;
 use apdu_core::{Response, ResponseReason, ResponseRef, StatusClass, status_class};
-use card_words::Expected;
-use octet_core::hex_upper;
+use card_words::{Expected, Layout};
+use notes::response_notes;
+use octet_core::{Stop, hex_upper};
 use std::alloc::{AllocError, Global};
 
 impl Codec for Response {
@@ -29,9 +30,41 @@ impl Codec for Response {
         alloc: Global,
         octets: &[u8],
         _expected: Expected,
-    ) -> Outcome<(String, usize), ResponseReason> {
+        layout: Layout,
+        noted: bool,
+    ) -> Outcome<Shown, ResponseReason> {
         let response = ResponseRef::decode(octets)?;
-        Ok((lines(alloc, &response)?, octets.len()))
+        let notes = notes_if(alloc, noted, &response)?;
+        match layout {
+            Layout::Lines => Ok(Shown {
+                said: lines(alloc, &response)?,
+                taken: octets.len(),
+                notes,
+            }),
+            Layout::Json => Ok(Shown {
+                said: members(alloc, &response)?,
+                taken: octets.len(),
+                notes,
+            }),
+        }
+    }
+
+    fn refusal_notes(
+        alloc: Global,
+        _octets: &[u8],
+        _stop: Stop<ResponseReason>,
+        _expected: Expected,
+    ) -> Result<Vec<String>, AllocError> {
+        Ok(Vec::new(alloc))
+    }
+}
+
+/// The notes on the lines of a value, where they are asked for.
+fn notes_if(alloc: Global, noted: bool, response: &ResponseRef<'_>) -> Result<Vec<String>, AllocError> {
+    if noted {
+        response_notes(alloc, response)
+    } else {
+        Ok(Vec::new(alloc))
     }
 }
 
@@ -45,6 +78,24 @@ fn lines(alloc: Global, response: &ResponseRef<'_>) -> Result<String, AllocError
     let status = hex_upper(alloc, &[sw1, sw2])?;
     let class = class_name(sw1, sw2);
     format!(in alloc; "part {part}\nstatus {status} {class}\n")
+}
+
+/// A response as members of an object.
+fn members(alloc: Global, response: &ResponseRef<'_>) -> Result<String, AllocError>
+    ensures { IfOk result (λ text. string_bytes text ≡ response_members response.now) }
+{
+    let part = hex_upper(alloc, response.part())?;
+    let status = status_members(alloc, response.sw1(), response.sw2())?;
+    format!(in alloc; ",\"part\":\"{part}\"{status}")
+}
+
+/// Two status bytes and their class as members of an object.
+fn status_members(alloc: Global, sw1: u8, sw2: u8) -> Result<String, AllocError>
+    ensures { IfOk result (λ text. string_bytes text ≡ status_members sw1 sw2) }
+{
+    let status = hex_upper(alloc, &[sw1, sw2])?;
+    let class = class_name(sw1, sw2);
+    format!(in alloc; ",\"status\":\"{status}\",\"class\":\"{class}\"")
 }
 
 /// The name of the class of two status bytes.

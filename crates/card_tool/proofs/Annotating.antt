@@ -6,12 +6,13 @@ use Rattle.card_kinds.specs.declared.status.Status.{Status}
 use Rattle.card_kinds.specs.declared.status.Status.TheVariants as status
 use Rattle.card_tool.specs.Answers.{ShowsNoted}
 use Rattle.card_words.specs.declared.request.Expected.{Expected}
+use Rattle.card_words.specs.declared.request.Layout.TheVariants.{Lines}
 use Rattle.notes.proofs.Cutting.{cut-noted, noted-by-none}
 use Rattle.notes.specs.Noted.{IsNoted}
 
 -- a value or a refusal with notes
 pub some-noted : (expected : Expected) (b plain lent text : List ℕ) (ended : Status) → (ended ≡ status.Fault → ⊥)
-    → Shows expected.kind expected b plain ended → lent ≡ plain → IsNoted lent text
+    → Shows Lines expected.kind expected b plain ended → lent ≡ plain → IsNoted lent text
     → ShowsNoted expected.kind expected b text ended
 some-noted expected b plain lent text ended faultless shown is noted =
     let after : IsNoted plain text = subst (λ (l : List ℕ). IsNoted l text) is noted in
@@ -24,7 +25,7 @@ some-noted expected b plain lent text ended faultless shown is noted =
     }
 
 -- what has none
-pub none-noted : (expected : Expected) (b text : List ℕ) (ended : Status) → Shows expected.kind expected b text ended
+pub none-noted : (expected : Expected) (b text : List ℕ) (ended : Status) → Shows Lines expected.kind expected b text ended
     → ShowsNoted expected.kind expected b text ended
 none-noted expected b text ended shown = record {
   plain = text;

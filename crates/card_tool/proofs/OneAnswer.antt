@@ -10,7 +10,7 @@ use Rattle.card_tool.specs.JudgeTexts.{JudgesTrace}
 use Rattle.card_tool.proofs.Judgments.{judged-once}
 use Rattle.card_tool.proofs.Simulations.{simulated-once, lines-once}
 use Rattle.card_tool.specs.SimulationTexts.{SimulatesLines}
-use Rattle.card_tool.specs.Answers.{line_text, plain_aim, plain_asked, plain_request, plain_task, plain_text, plain_told, AreLinesTold, IsAnswerAsked, IsAnswerTo, IsLineTold, IsTold, IsToldOf, Tells}
+use Rattle.card_tool.specs.Answers.{answer_text, line_text, plain_aim, plain_asked, plain_request, plain_task, plain_text, plain_told, AreLinesTold, IsAnswerAsked, IsAnswerTo, IsLineTold, IsTold, IsToldOf, Tells}
 use Rattle.card_kinds.specs.Verdicts.{Shows, Tidies}
 use Rattle.card_tool.proofs.Annotating.{none-noted}
 use Rattle.notes.proofs.Cutting.{cut-apart}
@@ -32,7 +32,10 @@ use Rattle.card_words.specs.Words.{AreSized, HasOctets, HaveOctets, IsOnce, IsSi
 use Rattle.card_words.proofs.Givens.{octets-given}
 use Rattle.command_line.specs.Version.{version_line}
 use Rattle.card_words.specs.declared.request.Aim.{Aim}
-use Rattle.card_words.specs.declared.request.Aim.TheVariants.{Check, Show, Note, CheckJson, ShowJson}
+use Rattle.card_words.specs.declared.request.Aim.TheVariants.{Check, Show, Note}
+use Rattle.card_words.specs.declared.request.Kind.{Kind}
+use Rattle.card_words.specs.declared.request.Layout.{Layout}
+use Rattle.card_words.specs.declared.request.Layout.TheVariants as layout
 use Rattle.card_words.specs.declared.request.Asked.{Asked}
 use Rattle.card_words.specs.declared.request.Asked.TheVariants.{Once, Lines}
 use Rattle.card_words.specs.declared.request.Expected.{Expected}
@@ -65,26 +68,28 @@ told-of Told once (Ok octets) = once octets
 told-of Told once (Err fault) = ended-by (fault_text fault) status.Fault
 
 -- what is told of octets without notes
-tells-once : (aim : Aim) (expected : Expected) → expected.ifs ≤ 254 → (b : List ℕ) → AreOctets b
-    → OneText (Tells (plain_aim aim) expected b)
-tells-once Check expected small b = checked expected.kind expected b small
-tells-once Show expected small b = shown expected.kind expected b small
-tells-once Note expected small b = shown expected.kind expected b small
-tells-once CheckJson expected small b = checked expected.kind expected b small
-tells-once ShowJson expected small b = shown expected.kind expected b small
+tells-once : (aim : Aim) (how : Layout) (expected : Expected) → expected.ifs ≤ 254 → (b : List ℕ) → AreOctets b
+    → OneText (Tells (plain_aim aim) how expected b)
+tells-once Check how expected small b = checked how expected.kind expected b small
+tells-once Show how expected small b = shown how expected.kind expected b small
+tells-once Note how expected small b = shown how expected.kind expected b small
 
 -- a line's text without notes
 line-once : (task : Task) → task.expected.ifs ≤ 254 → (line : List ℕ) → OneText (IsLineTold (plain_task task) line)
 line-once task small line =
-    let told = told-octets (IsTold (plain_task task)) (tells-once task.aim task.expected small) (line_octets line)
-    (line-octets line)
+    let told = told-octets (IsTold (plain_task task)) (tells-once task.aim task.layout task.expected small)
+    (line_octets line) (line-octets line)
     in
     record {
       one = λ t u s q h g.
           let same = told.one h.told g.told s q h.is_told g.is_told in
-          (h.is_text ∙ ap (line_text (plain_aim task.aim)) same.0 ∙ sym g.is_text, same.1);
+          (
+            h.is_text ∙ ap (answer_text (plain_task task) s) same.0
+                ∙ ap (λ (e : Status). answer_text (plain_task task) e g.told) same.1 ∙ sym g.is_text,
+            same.1,
+          );
       some = (
-        line_text (plain_aim task.aim) told.some.0,
+        answer_text (plain_task task) told.some.1 told.some.0,
         told.some.1,
         record { told = told.some.0; is_told = told.some.2; is_text = refl },
       );
@@ -131,7 +136,7 @@ module _ (Line : List ℕ → List ℕ → Status → Type 0) (once : (line : Li
 one-answer : (request : Request) (file : Result (List ℕ) Fault) → IsSized request → HasOctets request
     → (NeedsOctets request → IfOk file AreOctets) → OneText (IsAnswerTo (plain_request request) file)
 one-answer (Tell task given) file sized octets as_read =
-    told-octets (IsTold (plain_task task)) (tells-once task.aim task.expected sized.1) (octets_given given file)
+    told-octets (IsTold (plain_task task)) (tells-once task.aim task.layout task.expected sized.1) (octets_given given file)
     (octets-given given file octets as_read)
 one-answer (BuildChain ifs number message) file sized octets as_read =
     plain (blocks_text (chain_blocks number (cut_of ifs message)))
@@ -159,32 +164,31 @@ one-asked (Lines task) file sized octets as_read =
 -- ---- with notes
 
 -- what is told without notes is right with them too, where none is put
-noted-too : (aim : Aim) (expected : Expected) (b text : List ℕ) (ended : Status)
-    → Tells (plain_aim aim) expected b text ended → Tells aim expected b text ended
-noted-too Check expected b text ended h = h
-noted-too Show expected b text ended h = h
-noted-too Note expected b text ended h = none-noted expected b text ended h
-noted-too CheckJson expected b text ended h = h
-noted-too ShowJson expected b text ended h = h
+noted-too : (aim : Aim) (how : Layout) (expected : Expected) (b text : List ℕ) (ended : Status)
+    → Tells (plain_aim aim) how expected b text ended → Tells aim how expected b text ended
+noted-too Check how expected b text ended h = h
+noted-too Show how expected b text ended h = h
+noted-too Note layout.Lines expected b text ended h = none-noted expected b text ended h
+noted-too Note layout.Json expected b text ended h = h
 
 told-too : (task : Task) (r : Result (List ℕ) Fault) (text : List ℕ) (ended : Status)
     → IsToldOf (IsTold (plain_task task)) r text ended → IsToldOf (IsTold task) r text ended
-told-too task (Ok b) text ended h = noted-too task.aim task.expected b text ended h
+told-too task (Ok b) text ended h = noted-too task.aim task.layout task.expected b text ended h
 told-too task (Err fault) text ended h = h
 
-same-line : (aim : Aim) (told : List ℕ) → line_text (plain_aim aim) told ≡ line_text aim told
-same-line Check told = refl
-same-line Show told = refl
-same-line Note told = refl
-same-line CheckJson told = refl
-same-line ShowJson told = refl
+same-line : (aim : Aim) (how : Layout) (kind : Kind) (ended : Status) (told : List ℕ)
+    → line_text (plain_aim aim) how kind ended told ≡ line_text aim how kind ended told
+same-line Check how kind ended told = refl
+same-line Show how kind ended told = refl
+same-line Note layout.Lines kind ended told = refl
+same-line Note layout.Json kind ended told = refl
 
 line-too : (task : Task) (line text : List ℕ) (ended : Status) → IsLineTold (plain_task task) line text ended
     → IsLineTold task line text ended
 line-too task line text ended h = record {
   told = h.told;
   is_told = told-too task (line_octets line) h.told ended h.is_told;
-  is_text = h.is_text ∙ same-line task.aim h.told;
+  is_text = h.is_text ∙ same-line task.aim task.layout task.expected.kind ended h.told;
 }
 
 lines-too : (task : Task) (lines : List (List ℕ)) (text : List ℕ) (ended : Status)
@@ -220,69 +224,68 @@ asked-too (Lines task) (Err fault) text ended h = h
 -- ---- cut at the notes
 
 -- a text that is told of octets with notes is the one without them once it is cut
-cut-told : (aim : Aim) (expected : Expected) (b text : List ℕ) (ended : Status) → Tells aim expected b text ended
-    → Tells (plain_aim aim) expected b (plain_told aim text) ended
-cut-told Check expected b text ended h = h
-cut-told Show expected b text ended h = h
-cut-told Note expected b text ended h =
-    subst (λ (l : List ℕ). Shows expected.kind expected b l ended) (sym h.is_cut) h.is_shown
-cut-told CheckJson expected b text ended h = h
-cut-told ShowJson expected b text ended h = h
+cut-told : (aim : Aim) (how : Layout) (expected : Expected) (b text : List ℕ) (ended : Status)
+    → Tells aim how expected b text ended → Tells (plain_aim aim) how expected b (plain_told aim how text) ended
+cut-told Check how expected b text ended h = h
+cut-told Show how expected b text ended h = h
+cut-told Note layout.Lines expected b text ended h =
+    subst (λ (l : List ℕ). Shows layout.Lines expected.kind expected b l ended) (sym h.is_cut) h.is_shown
+cut-told Note layout.Json expected b text ended h = h
 
 -- no line of a fault has a note
-cut-fault : (aim : Aim) (fault : Fault) → plain_told aim (fault_text fault) ≡ fault_text fault
-cut-fault Check fault = refl
-cut-fault Show fault = refl
-cut-fault Note Words = refl
-cut-fault Note Hex = refl
-cut-fault Note Memory = refl
-cut-fault Note Read = refl
-cut-fault Note TooLarge = refl
-cut-fault CheckJson fault = refl
-cut-fault ShowJson fault = refl
+cut-fault : (aim : Aim) (how : Layout) (fault : Fault) → plain_told aim how (fault_text fault) ≡ fault_text fault
+cut-fault Check how fault = refl
+cut-fault Show how fault = refl
+cut-fault Note layout.Lines Words = refl
+cut-fault Note layout.Lines Hex = refl
+cut-fault Note layout.Lines Memory = refl
+cut-fault Note layout.Lines Read = refl
+cut-fault Note layout.Lines TooLarge = refl
+cut-fault Note layout.Json fault = refl
 
 cut-octets : (task : Task) (r : Result (List ℕ) Fault) (text : List ℕ) (ended : Status)
-    → IsToldOf (IsTold task) r text ended → IsToldOf (IsTold (plain_task task)) r (plain_told task.aim text) ended
-cut-octets task (Ok b) text ended h = cut-told task.aim task.expected b text ended h
-cut-octets task (Err fault) text ended h = (ap (plain_told task.aim) h.0 ∙ cut-fault task.aim fault, h.1)
+    → IsToldOf (IsTold task) r text ended
+    → IsToldOf (IsTold (plain_task task)) r (plain_told task.aim task.layout text) ended
+cut-octets task (Ok b) text ended h = cut-told task.aim task.layout task.expected b text ended h
+cut-octets task (Err fault) text ended h =
+    (ap (plain_told task.aim task.layout) h.0 ∙ cut-fault task.aim task.layout fault, h.1)
 
 -- what comes after the answer to a line is cut apart from it
-cut-line : (aim : Aim) (told more : List ℕ)
-    → plain_told aim (line_text aim told ++ more) ≡ line_text (plain_aim aim) (plain_told aim told)
-    ++ plain_told aim more
-cut-line Check told more = refl
-cut-line Show told more = refl
-cut-line Note told more =
+cut-line : (aim : Aim) (how : Layout) (kind : Kind) (ended : Status) (told more : List ℕ)
+    → plain_told aim how (line_text aim how kind ended told ++ more)
+    ≡ line_text (plain_aim aim) how kind ended (plain_told aim how told) ++ plain_told aim how more
+cut-line Check how kind ended told more = refl
+cut-line Show how kind ended told more = refl
+cut-line Note layout.Lines kind ended told more =
     ap without_notes (append_assoc told (10 ∷ []) more) ∙ cut-apart false told more
     ∙ sym (append_assoc (without_notes told) (10 ∷ []) (without_notes more))
-cut-line CheckJson told more = refl
-cut-line ShowJson told more = refl
+cut-line Note layout.Json kind ended told more = refl
 
-cut-nothing : (aim : Aim) → plain_told aim [] ≡ []
-cut-nothing Check = refl
-cut-nothing Show = refl
-cut-nothing Note = refl
-cut-nothing CheckJson = refl
-cut-nothing ShowJson = refl
+cut-nothing : (aim : Aim) (how : Layout) → plain_told aim how [] ≡ []
+cut-nothing Check how = refl
+cut-nothing Show how = refl
+cut-nothing Note layout.Lines = refl
+cut-nothing Note layout.Json = refl
 
 cut-lines : (task : Task) (lines : List (List ℕ)) (text : List ℕ) (ended : Status)
-    → AreLinesTold task lines text ended → AreLinesTold (plain_task task) lines (plain_told task.aim text) ended
-cut-lines task [] text ended h = (ap (plain_told task.aim) h.0 ∙ cut-nothing task.aim, h.1)
+    → AreLinesTold task lines text ended → AreLinesTold (plain_task task) lines
+    (plain_told task.aim task.layout text) ended
+cut-lines task [] text ended h = (ap (plain_told task.aim task.layout) h.0 ∙ cut-nothing task.aim task.layout, h.1)
 cut-lines task (line ∷ lines) text ended h =
     let one = h.is_first in
     record {
-      first = line_text (plain_aim task.aim) (plain_told task.aim one.told);
+      first = answer_text (plain_task task) h.one (plain_told task.aim task.layout one.told);
       one = h.one;
-      more = plain_told task.aim h.more;
+      more = plain_told task.aim task.layout h.more;
       others = h.others;
       is_first = record {
-        told = plain_told task.aim one.told;
+        told = plain_told task.aim task.layout one.told;
         is_told = cut-octets task (line_octets line) one.told h.one one.is_told;
         is_text = refl;
       };
       is_more = cut-lines task lines h.more h.others h.is_more;
-      is_text = ap (plain_told task.aim) (h.is_text ∙ ap (λ (l : List ℕ). l ++ h.more) one.is_text)
-          ∙ cut-line task.aim one.told h.more;
+      is_text = ap (plain_told task.aim task.layout) (h.is_text ∙ ap (λ (l : List ℕ). l ++ h.more) one.is_text)
+          ∙ cut-line task.aim task.layout task.expected.kind h.one one.told h.more;
       is_ended = h.is_ended;
     }
 
@@ -301,7 +304,7 @@ notes-cut (Once (SimulateLines session)) file text ended h = h
 notes-cut (Once (Help help)) file text ended h = h
 notes-cut (Once Version) file text ended h = h
 notes-cut (Lines task) (Ok b) text ended h = cut-lines task (all_lines b) text ended h
-notes-cut (Lines task) (Err fault) text ended h = (ap (plain_told task.aim) h.0 ∙ cut-fault task.aim fault, h.1)
+notes-cut (Lines task) (Err fault) text ended h = (ap (plain_told task.aim task.layout) h.0 ∙ cut-fault task.aim task.layout fault, h.1)
 
 -- ---- both
 

@@ -19,7 +19,9 @@ use Rattle.command_line.specs.Version.{asks_for_version}
 use Rattle.card_words.specs.declared.request.Asked.{Asked}
 use Rattle.card_words.specs.declared.request.Asked.TheVariants.{Once, Lines}
 use Rattle.card_words.specs.declared.request.Aim.{Aim}
-use Rattle.card_words.specs.declared.request.Aim.TheVariants.{Check, Show, Note, CheckJson, ShowJson}
+use Rattle.card_words.specs.declared.request.Aim.TheVariants.{Check, Show, Note}
+use Rattle.card_words.specs.declared.request.Layout.{Layout}
+use Rattle.card_words.specs.declared.request.Layout.TheVariants as layout
 use Rattle.card_words.specs.declared.request.Request.TheVariants.{BuildChain, BuildTidy, BuildFill, Tell, File, Record, Judge, Simulate, SimulateLines, Help, Version}
 use Rattle.card_tool.specs.Answers.{plain_text, plain_told, AsksForNotes, AskForNotes, IsAnswer, IsAnswerAsked, IsSameText}
 use Rattle.notes.specs.Noted.{without_notes}
@@ -37,17 +39,16 @@ one-fault : (fault : Fault) (text other : List ℕ) (ended different : Status) �
 one-fault fault text other ended different h g = (h.0 ∙ sym g.0, h.1 ∙ sym g.1)
 
 -- two texts that are one once they are cut are one, or notes are asked for
-by-aim : (aim : Aim) (text other : List ℕ) → plain_told aim text ≡ plain_told aim other
-    → (text ≡ other) ⊎ ((aim ≡ Note) × (without_notes text ≡ without_notes other))
-by-aim Check text other h = inl h
-by-aim Show text other h = inl h
-by-aim Note text other h = inr (refl, h)
-by-aim CheckJson text other h = inl h
-by-aim ShowJson text other h = inl h
+by-aim : (aim : Aim) (how : Layout) (text other : List ℕ) → plain_told aim how text ≡ plain_told aim how other
+    → (text ≡ other) ⊎ (((aim ≡ Note) × (how ≡ layout.Lines)) × (without_notes text ≡ without_notes other))
+by-aim Check how text other h = inl h
+by-aim Show how text other h = inl h
+by-aim Note layout.Lines text other h = inr ((refl, refl), h)
+by-aim Note layout.Json text other h = inl h
 
 same-or-noted : (asked : Asked) (text other : List ℕ) → plain_text asked text ≡ plain_text asked other
     → (text ≡ other) ⊎ (AsksForNotes asked × (without_notes text ≡ without_notes other))
-same-or-noted (Once (Tell task given)) text other h = by-aim task.aim text other h
+same-or-noted (Once (Tell task given)) text other h = by-aim task.aim task.layout text other h
 same-or-noted (Once (BuildChain ifs number message)) text other h = inl h
 same-or-noted (Once (BuildTidy given)) text other h = inl h
 same-or-noted (Once (BuildFill list known)) text other h = inl h
@@ -58,7 +59,7 @@ same-or-noted (Once (Simulate session)) text other h = inl h
 same-or-noted (Once (SimulateLines session)) text other h = inl h
 same-or-noted (Once (Help help)) text other h = inl h
 same-or-noted (Once Version) text other h = inl h
-same-or-noted (Lines task) text other h = by-aim task.aim text other h
+same-or-noted (Lines task) text other h = by-aim task.aim task.layout text other h
 
 asks-notes : (words : List (List ℕ)) (asked : Asked) → IsRead words (Ok asked) → AsksForNotes asked
     → AskForNotes words

@@ -1,8 +1,8 @@
 -- What the program answers: one text and one status.
-use Rattle.std.specs.Prelude.{◌≡◌, ◌<◌, ◌++◌, ℕ, ◌⊎◌, List, Option, codes, length, take, Result, Ok, Err, MatchResult}
+use Rattle.std.specs.Prelude.{◌≡◌, ◌<◌, ◌++◌, ℕ, ◌⊎◌, List, Option, codes, drop, length, take, Result, Ok, Err, MatchResult}
 use Rattle.std.specs.Io.KnownBytes.{Appends}
 use Rattle.octet_core.specs.Failures.{HasFailed}
-use Rattle.card_kinds.specs.Verdicts.{Checks, Shows, Tidies, IsFilled}
+use Rattle.card_kinds.specs.Verdicts.{Checks, Shows, Tidies, IsFilled, kind_name}
 use Rattle.chain_core.specs.Chain.{chain_blocks}
 use Rattle.card_kinds.specs.ChainTexts.{blocks_text}
 use Rattle.card_words.specs.Texts.{fault_text}
@@ -12,6 +12,7 @@ use Rattle.card_tool.specs.SimulationTexts.{Simulates, SimulatesLines}
 use Rattle.card_tool.specs.RecordTexts.{Records}
 use Rattle.card_tool.specs.JudgeTexts.{JudgesTrace}
 use Rattle.json_lines.specs.Answers.{json_text}
+use Rattle.card_kinds.specs.Json.{object_head}
 use Rattle.card_tool.specs.Files.{ReadsWhole}
 use Rattle.card_tool.specs.Lines.{all_lines, line_octets, AreTold}
 use Rattle.card_words.specs.Given.{octets_given}
@@ -25,7 +26,9 @@ use Rattle.card_words.specs.declared.fault.Fault.{Fault}
 use Rattle.card_words.specs.declared.fault.Fault.TheVariants.{Memory}
 use Rattle.card_kinds.specs.declared.answer.Answer.{Answer}
 use Rattle.card_words.specs.declared.request.Aim.{Aim}
-use Rattle.card_words.specs.declared.request.Aim.TheVariants.{Check, Show, Note, CheckJson, ShowJson}
+use Rattle.card_words.specs.declared.request.Aim.TheVariants.{Check, Show, Note}
+use Rattle.card_words.specs.declared.request.Layout.{Layout}
+use Rattle.card_words.specs.declared.request.Layout.TheVariants as layout
 use Rattle.card_words.specs.declared.request.Asked.{Asked}
 use Rattle.card_words.specs.declared.request.Asked.TheVariants.{Once, Lines}
 use Rattle.card_words.specs.declared.request.Expected.{Expected}
@@ -44,36 +47,48 @@ IsToldOf Told octets text ended = MatchResult octets (λ b. Told b text ended)
 -- them, and a fault has none. Which words the notes have is open.
 pub record ShowsNoted (kind : Kind) (expected : Expected) (b text : List ℕ) (ended : Status) : Type 0 where
   pub plain : List ℕ
-  pub is_shown : Shows kind expected b plain ended
+  pub is_shown : Shows layout.Lines kind expected b plain ended
   pub is_noted : IsNoted plain text
   pub is_cut : without_notes text ≡ plain
   pub unnoted : ended ≡ status.Fault → text ≡ plain
 
--- what is told of octets, of which an object of JSON may still be made
-abbrev pub Tells : Aim → Expected → List ℕ → List ℕ → Status → Type 0
-Tells Check expected = Checks expected.kind expected
-Tells Show expected = Shows expected.kind expected
-Tells Note expected = ShowsNoted expected.kind expected
-Tells CheckJson expected = Checks expected.kind expected
-Tells ShowJson expected = Shows expected.kind expected
+-- what is told of octets; an object of JSON has no notes
+abbrev pub Tells : Aim → Layout → Expected → List ℕ → List ℕ → Status → Type 0
+Tells Check how expected = Checks how expected.kind expected
+Tells Show how expected = Shows how expected.kind expected
+Tells Note layout.Lines expected = ShowsNoted expected.kind expected
+Tells Note layout.Json expected = Shows layout.Json expected.kind expected
 
 abbrev pub IsTold : Task → List ℕ → List ℕ → Status → Type 0
-IsTold task = Tells task.aim task.expected
+IsTold task = Tells task.aim task.layout task.expected
+
+-- lines as an object of JSON about something
+abbrev pub json_object : List ℕ → List ℕ → List ℕ
+json_object about lines = object_head about ++ drop 1 (json_text lines)
+
+-- an object of JSON about octets of a kind: what is told of them is one, and the line of a fault becomes one
+abbrev pub object_of : Kind → Status → List ℕ → List ℕ
+object_of kind status.Accepted told = told
+object_of kind status.Refused told = told
+object_of kind status.Fault told = json_object (kind_name kind) told
 
 -- how a line is answered by what is told of it: a check by one line, a value by several and an empty one, and each by
 -- one as an object of JSON
-abbrev pub line_text : Aim → List ℕ → List ℕ
-line_text Check told = told
-line_text Show told = told ++ codes "\n"
-line_text Note told = told ++ codes "\n"
-line_text CheckJson told = json_text told
-line_text ShowJson told = json_text told
+abbrev pub line_text : Aim → Layout → Kind → Status → List ℕ → List ℕ
+line_text Check layout.Lines kind ended told = told
+line_text Show layout.Lines kind ended told = told ++ codes "\n"
+line_text Note layout.Lines kind ended told = told ++ codes "\n"
+line_text aim layout.Json kind ended told = object_of kind ended told
+
+-- the same by a task
+abbrev pub answer_text : Task → Status → List ℕ → List ℕ
+answer_text task ended told = line_text task.aim task.layout task.expected.kind ended told
 
 -- the text and the status of one line
 pub record IsLineTold (task : Task) (line text : List ℕ) (ended : Status) : Type 0 where
   pub told : List ℕ
   pub is_told : IsToldOf (IsTold task) (line_octets line) told ended
-  pub is_text : text ≡ line_text task.aim told
+  pub is_text : text ≡ answer_text task ended told
 
 abbrev pub AreLinesTold : Task → List (List ℕ) → List ℕ → Status → Type 0
 AreLinesTold task lines text ended = AreTold (IsLineTold task) lines text ended
@@ -105,8 +120,6 @@ abbrev pub plain_aim : Aim → Aim
 plain_aim Check = Check
 plain_aim Show = Show
 plain_aim Note = Show
-plain_aim CheckJson = CheckJson
-plain_aim ShowJson = ShowJson
 
 abbrev pub plain_task : Task → Task
 plain_task task = record task { aim = plain_aim task.aim }
@@ -119,24 +132,29 @@ abbrev pub plain_asked : Asked → Asked
 plain_asked (Once request) = Once (plain_request request)
 plain_asked (Lines task) = Lines (plain_task task)
 
--- a text that is told, with each line cut at its first note where notes are asked for
-abbrev pub plain_told : Aim → List ℕ → List ℕ
-plain_told Note text = without_notes text
-plain_told _ text = text
+-- a text that is told, with each line cut at its first note where notes are put
+abbrev pub plain_told : Aim → Layout → List ℕ → List ℕ
+plain_told Check how text = text
+plain_told Show how text = text
+plain_told Note layout.Lines text = without_notes text
+plain_told Note layout.Json text = text
 
 abbrev pub plain_answer : Request → List ℕ → List ℕ
-plain_answer (Tell task given) text = plain_told task.aim text
+plain_answer (Tell task given) text = plain_told task.aim task.layout text
 plain_answer _ text = text
 
 abbrev pub plain_text : Asked → List ℕ → List ℕ
 plain_text (Once request) text = plain_answer request text
-plain_text (Lines task) text = plain_told task.aim text
+plain_text (Lines task) text = plain_told task.aim task.layout text
 
--- notes are asked for
+-- notes are put
+abbrev pub HasNotes : Task → Type 0
+HasNotes task = (task.aim ≡ Note) × (task.layout ≡ layout.Lines)
+
 abbrev pub AsksForNotes : Asked → Type 0
-AsksForNotes (Once (Tell task given)) = task.aim ≡ Note
+AsksForNotes (Once (Tell task given)) = HasNotes task
 AsksForNotes (Once _) = ⊥
-AsksForNotes (Lines task) = task.aim ≡ Note
+AsksForNotes (Lines task) = HasNotes task
 
 abbrev pub AskForNotes : List (List ℕ) → Type 0
 AskForNotes words = AreTaken words × MatchResult (asked_of (subcommand_of scard words)) AsksForNotes (λ _. ⊥)

@@ -4,7 +4,7 @@ use Rattle.command_line.specs.Asked.{asks_for_json, asks_to_explain}
 use Rattle.card_words.specs.declared.fault.Fault.{Fault}
 use Rattle.card_words.specs.declared.request.Task.{Task}
 use Rattle.card_kinds.specs.declared.status.Status.{Status}
-use Rattle.card_tool.specs.Answers.{line_text, IsTold, IsToldOf}
+use Rattle.card_tool.specs.Answers.{answer_text, IsTold, IsToldOf}
 use Rattle.card_tool.specs.Explained.{IsFaultNote}
 use Rattle.card_tool.specs.Judged.{IsKindNote}
 use Rattle.card_tool.specs.Lines.{line_octets, AreTold}
@@ -47,7 +47,7 @@ pub record IsLineExplained (telling : Telling) (octets : Result (List ℕ) Fault
 pub record IsLineSaid (telling : Telling) (line text : List ℕ) (ended : Status) : Type 0 where
   pub explained : List ℕ
   pub is_explained : IsLineExplained telling (line_octets line) explained ended
-  pub is_text : text ≡ line_text telling.task.aim explained
+  pub is_text : text ≡ answer_text telling.task ended explained
 
 abbrev pub AreLinesSaid : Telling → List (List ℕ) → List ℕ → Status → Type 0
 AreLinesSaid telling lines text ended = AreTold (IsLineSaid telling) lines text ended

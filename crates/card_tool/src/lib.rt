@@ -26,7 +26,7 @@ mod simulation;
 pub mod telling;
 
 pub use card_kinds::Status;
-pub use card_words::{Aim, Expected, Fault, Task};
+pub use card_words::{Aim, Expected, Fault, Layout, Task};
 pub use conversation::{Conversation, Streams};
 pub use exchange_core::{
     Arrival, Exchange, ExchangeFault, Line, Lines, ReplayFault, Side, Version, migrate,

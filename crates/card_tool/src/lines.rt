@@ -1,7 +1,7 @@
 //! Lines of octets, each of which is answered as it comes.
 
 ghost use Rattle.std.specs.Prelude.{◌≡◌, ◌≤◌, ◌++◌, ◌∷◌, [], ℕ, List, IfOk, IfErr, OnOk, OnErr};
-ghost use Rattle.card_tool.specs.Answers.{line_text, IsTold, IsToldOf};
+ghost use Rattle.card_tool.specs.Answers.{answer_text, IsTold, IsToldOf};
 ghost use Rattle.card_tool.specs.Conversations.{Event, Happens, told, untold};
 ghost use Rattle.card_tool.specs.LineAnswers.{AreTelling, HasAnswered, HasBegun, HasSaid, IsRest, Tells, WritesLines};
 ghost use Rattle.card_tool.specs.LineNotes.{AreLinesSaid, IsLineSaid};
@@ -12,11 +12,11 @@ ghost use Rattle.card_kinds.specs.declared.status.Status.{Status as AnyStatus};
 
 use crate::conversation::{Conversation, Streams};
 use crate::file::LARGEST_FILE;
-use crate::json::in_json;
+use crate::json::object_told;
 use crate::judged::answer_about;
 use crate::telling::{Telling, line_explained};
 use card_kinds::{Answer, Status};
-use card_words::{Aim, Fault, Task, loose_octets};
+use card_words::{Aim, Fault, Layout, Task, loose_octets};
 use octet_core::{Octets, Sink, Source, WriteFault};
 use std::alloc::{AllocError, Global};
 
@@ -241,23 +241,28 @@ fn line_answer(alloc: Global, telling: Telling, line: &[u8]) -> Result<Answer, A
     ensures { IfOk result (λ answer. IsLineSaid telling line.now answer.text answer.status) }
 {
     let Answer { text, status } = line_explained(alloc, telling, line)?;
-    let text = line_text(alloc, telling.task.aim, text)?;
+    let text = answer_text(alloc, telling.task, status, text)?;
     Ok(Answer { text, status })
 }
 
 /// How a line is answered by its text: an empty line comes after a value, which has several lines, and none
 /// after an object of JSON.
-fn line_text(alloc: Global, aim: Aim, told: Octets) -> Result<Octets, AllocError>
-    ensures { IfOk result (λ text. text ≡ line_text aim told) }
+fn answer_text(
+    alloc: Global,
+    task: Task,
+    status: Status,
+    told: Octets,
+) -> Result<Octets, AllocError>
+    ensures { IfOk result (λ text. text ≡ answer_text task status told) }
 {
-    match aim {
-        Aim::Check => Ok(told),
-        Aim::Show | Aim::Note => {
+    match (task.layout, task.aim) {
+        (Layout::Lines, Aim::Check) => Ok(told),
+        (Layout::Lines, Aim::Show | Aim::Note) => {
             let mut text = told.into_inner();
             text.push(b'\n')?;
             Ok(Octets::of(text))
         }
-        Aim::CheckJson | Aim::ShowJson => in_json(alloc, told.get()),
+        (Layout::Json, _) => object_told(alloc, task.expected.kind, status, told),
     }
 }
 

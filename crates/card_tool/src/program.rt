@@ -17,7 +17,7 @@ ghost use Rattle.card_kinds.specs.declared.status.Status.TheVariants as ended;
 
 use crate::explained::explained;
 use crate::file::{octets_given, read_whole};
-use crate::json::in_json;
+use crate::json::{in_json, object_by};
 use crate::judged::answer_about;
 use crate::lines::tell_lines;
 use crate::telling::Telling;
@@ -156,12 +156,11 @@ fn answer_in_json<R: Source>(
     ensures unread { (AskForFile (texts words.now) → ⊥) → reader.new ≡ reader.old }
     ensures few { IsBegun (R.remaining reader.old) (R.remaining reader.new) 4194305 }
 {
+    let object = object_by(&read);
     let told = whole_answer(alloc, words, read, reader)?;
-    let text = in_json(alloc, told.text.get())?;
-    Ok(Answer {
-        text,
-        status: told.status,
-    })
+    let status = told.status;
+    let text = in_json(alloc, object, told)?;
+    Ok(Answer { text, status })
 }
 
 /// The text and the status of what the words ask for, a fault's too, as lines that nothing is added to.

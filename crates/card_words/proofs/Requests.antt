@@ -12,7 +12,7 @@ use Rattle.card_words.specs.Given.{asks_for_lines, form_of, given_of, GivesOctet
 use Rattle.card_words.specs.PairLines.{are_lines}
 use Rattle.card_words.specs.Session.{blocks_of, pair_of, pairs_of, AreOctetPairs, IsSize}
 use Rattle.card_words.specs.Value.{◌>>=◌, hex_octets, octets_of_word, parted, UnlessMemory}
-use Rattle.card_words.specs.Words.{byte_or, size_of, number_of, number_of_word, needed, kind_of, expected_of, short_message, told_by, told_of, chain_by, chain_of, tidy_of, fill_of, build_words, build_of, end_of_word, atr_of, clock_of, judge_of, judged_ends, record_of, replay_of, all_or_none, asked_size, session_of, drawing_of, request_by, check_aim, show_aim, asked_by, asked_of, HasOctets, HaveOctets, IsRead, AreSized, IsSized, IsTaskSized, called_for_version, taken, called_for_help, not_taken, session_by, simulate_by, simulate_of}
+use Rattle.card_words.specs.Words.{byte_or, size_of, number_of, number_of_word, needed, kind_of, expected_of, short_message, told_by, told_of, chain_by, chain_of, tidy_of, fill_of, build_words, build_of, end_of_word, atr_of, clock_of, judge_of, judged_ends, record_of, replay_of, all_or_none, asked_size, session_of, drawing_of, layout_of, request_by, show_aim, asked_by, asked_of, HasOctets, HaveOctets, IsRead, AreSized, IsSized, IsTaskSized, called_for_version, taken, called_for_help, not_taken, session_by, simulate_by, simulate_of}
 use Rattle.command_line.specs.Form.{scard}
 use Rattle.card_words.specs.declared.fault.Fault.{Fault}
 use Rattle.card_words.specs.declared.fault.Fault.TheVariants.{Words}
@@ -21,6 +21,7 @@ use Rattle.card_words.specs.declared.session.Session.{Session}
 use Rattle.card_words.specs.declared.given.OctetSource.{OctetSource}
 use Rattle.card_words.specs.declared.request.Expected.{Expected}
 use Rattle.card_words.specs.declared.request.Aim.{Aim}
+use Rattle.card_words.specs.declared.request.Aim.TheVariants.{Check}
 use Rattle.card_words.specs.declared.request.Task.{Task}
 use Rattle.card_words.specs.declared.request.Asked.{Asked}
 use Rattle.card_words.specs.declared.request.Asked.TheVariants.{Once, Lines}
@@ -112,7 +113,7 @@ told-proper task hex form asked small h =
 aimed-proper : (aim : Aim) (rows : List Row) (asked : Asked) → told_of aim rows ≡ Ok asked → AreProper asked
 aimed-proper aim rows asked h =
     let expected = both-steps (expected_of rows) _ asked h in
-    told-proper (record { aim = aim; expected = expected.0 }) (first_of (codes "hex") rows)
+    told-proper (record { aim = aim; layout = layout_of rows; expected = expected.0 }) (first_of (codes "hex") rows)
     (first_of (codes "stdin") rows) asked (expected-sized rows expected.0 expected.1) expected.2
 
 short-by : (b : List ℕ) (message : List ℕ) (t : Bool) → nat_le (length b) 131072 ≡ t
@@ -312,8 +313,8 @@ request-proper name rows request h =
 
 named-proper : (name : List ℕ) (rows : List Row) (asked : Asked) → asked_by name rows ≡ Ok asked → AreProper asked
 named-proper name rows asked h =
-    elim (one-of (bytes_eq name (codes "check")) (told_of (check_aim rows) rows) _ asked h) [
-      | inl check ↦ aimed-proper (check_aim rows) rows asked check
+    elim (one-of (bytes_eq name (codes "check")) (told_of Check rows) _ asked h) [
+      | inl check ↦ aimed-proper Check rows asked check
       | inr other ↦
           elim (one-of (bytes_eq name (codes "show")) (told_of (show_aim rows) rows) _ asked other) [
             | inl show ↦ aimed-proper (show_aim rows) rows asked show

@@ -28,7 +28,9 @@ use Rattle.card_words.specs.declared.request.Drawing.TheVariants.{Ladder, Pictur
 use Rattle.card_words.specs.declared.request.FileTask.TheVariants.{Replay, Migrate, Apdus, Draw}
 use Rattle.card_words.specs.declared.request.Expected.{Expected}
 use Rattle.card_words.specs.declared.request.Aim.{Aim}
-use Rattle.card_words.specs.declared.request.Aim.TheVariants.{Check, Show, Note, CheckJson, ShowJson}
+use Rattle.card_words.specs.declared.request.Aim.TheVariants.{Check, Show, Note}
+use Rattle.card_words.specs.declared.request.Layout.{Layout}
+use Rattle.card_words.specs.declared.request.Layout.TheVariants as layout
 use Rattle.card_words.specs.declared.request.Task.{Task}
 use Rattle.card_words.specs.declared.request.Asked.{Asked}
 use Rattle.card_words.specs.declared.request.Asked.TheVariants.{Once, Lines}
@@ -94,11 +96,6 @@ told_by task hex form =
     if asks_for_lines hex form then Ok (Lines task)
     else given_of hex form >>= (λ given. Ok (Once (Tell task given)))
 
--- what is expected, and then the octets
-abbrev pub told_of : Aim → List Row → Result Asked Fault
-told_of aim rows = expected_of rows >>= (λ expected.
-    told_by (record { aim = aim; expected = expected }) (first_of (codes "hex") rows) (first_of (codes "stdin") rows))
-
 -- an option without a value is there
 abbrev pub is_true : Option (List ℕ) → Bool
 is_true None = false
@@ -107,16 +104,19 @@ is_true (Some word) = bytes_eq word (codes "true")
 abbrev pub has_flag : List ℕ → List Row → Bool
 has_flag name rows = is_true (first_of name rows)
 
--- what `check` tells, as lines or as JSON
-abbrev pub check_aim : List Row → Aim
-check_aim rows = if has_flag (codes "json") rows then CheckJson else Check
+-- how what is told is laid out
+abbrev pub layout_of : List Row → Layout
+layout_of rows = if has_flag (codes "json") rows then layout.Json else layout.Lines
 
--- what `show` tells: the value, as JSON or with notes where one of these is asked for, and JSON has no notes
+-- what is expected, and then the octets
+abbrev pub told_of : Aim → List Row → Result Asked Fault
+told_of aim rows = expected_of rows >>= (λ expected.
+    told_by (record { aim = aim; layout = layout_of rows; expected = expected }) (first_of (codes "hex") rows)
+    (first_of (codes "stdin") rows))
+
+-- what `show` tells: the value, with notes where these are asked for
 abbrev pub show_aim : List Row → Aim
-show_aim rows =
-    if has_flag (codes "json") rows then ShowJson
-    else (if has_flag (codes "notes") rows then Note
-    else Show)
+show_aim rows = if has_flag (codes "notes") rows then Note else Show
 
 -- a message that a chain can carry
 abbrev pub short_message : List ℕ → Result (List ℕ) Fault
@@ -264,7 +264,7 @@ once_of read = read >>= (λ request. Ok (Once request))
 
 abbrev pub asked_by : List ℕ → List Row → Result Asked Fault
 asked_by name rows =
-    if bytes_eq name (codes "check") then told_of (check_aim rows) rows
+    if bytes_eq name (codes "check") then told_of Check rows
     else (if bytes_eq name (codes "show") then told_of (show_aim rows) rows
     else once_of (request_by name rows))
 

@@ -88,16 +88,22 @@ pub enum Aim {
     Show,
     /// The value that they spell, with notes after its lines.
     Note,
-    /// As `Check`, as an object of JSON.
-    CheckJson,
-    /// As `Show`, as an object of JSON.
-    ShowJson,
+}
+
+/// How an answer is laid out.
+#[derive(Clone, Copy, Debug, PartialEq, Eq)]
+pub enum Layout {
+    /// As lines of text.
+    Lines,
+    /// As an object of JSON on one line.
+    Json,
 }
 
 /// What is told of octets, and what they are taken for.
 #[derive(Clone, Copy, Debug, PartialEq, Eq)]
 pub struct Task {
     pub aim: Aim,
+    pub layout: Layout,
     pub expected: Expected,
 }
 

@@ -4,7 +4,7 @@ ghost use Rattle.std.specs.Prelude.{◌≡◌, ◌⊎◌, ◌≤◌, [], Err, If
 ghost use Rattle.clap.specs.Words.{all_of, fault_of, first_of, found_of, rows_of, subcommand_of, subcommand_rows_of};
 ghost use Rattle.clap.specs.Kinds.{HasKind};
 ghost use Rattle.clap.specs.Values.{kind_of as error_kind};
-ghost use Rattle.card_words.specs.Words.{asked_of, atr_of, build_of, build_words, chain_of, check_aim, clock_of, end_of_word, drawing_of, expected_of, session_of, has_flag, hertz_of, judge_of, judged_ends, kind_of, one_end, record_of, replay_of, show_aim, request_by, tidy_of, told_of, fill_of, HaveOctets, IsHelpOrFault, IsRead, AreSized, IsSized, simulate_of};
+ghost use Rattle.card_words.specs.Words.{asked_of, atr_of, build_of, build_words, chain_of, clock_of, end_of_word, drawing_of, expected_of, session_of, has_flag, hertz_of, judge_of, judged_ends, kind_of, layout_of, one_end, record_of, replay_of, show_aim, request_by, tidy_of, told_of, fill_of, HaveOctets, IsHelpOrFault, IsRead, AreSized, IsSized, simulate_of};
 ghost use Rattle.command_line.specs.Form.{scard, texts};
 ghost use Rattle.card_words.specs.Session.{IsSize};
 ghost use Rattle.card_words.specs.Value.{UnlessMemory};
@@ -14,7 +14,9 @@ use crate::given::{asks_for_lines, read_given};
 use crate::known::knowns;
 use crate::numerals::{asked_size, number, number_or_zero, size};
 use crate::pair_lines::are_lines;
-use crate::request::{Aim, Asked, Drawing, Ends, Expected, FileTask, Judging, Kind, Request, Task};
+use crate::request::{
+    Aim, Asked, Drawing, Ends, Expected, FileTask, Judging, Kind, Layout, Request, Task,
+};
 use crate::session::{Session, read_blocks, read_pairs};
 use crate::value::octets;
 use chain_core::LONGEST_MESSAGE;
@@ -51,7 +53,7 @@ fn asked(alloc: Global, matches: &ArgMatches) -> Result<Asked, Fault>
         return Err(Fault::Words);
     };
     match name {
-        "check" => told(alloc, check_aim(entered), entered),
+        "check" => told(alloc, Aim::Check, entered),
         "show" => told(alloc, show_aim(entered), entered),
         _ => Ok(Asked::Once(request(alloc, name, entered)?)),
     }
@@ -89,7 +91,11 @@ fn told(alloc: Global, aim: Aim, matches: &ArgMatches) -> Result<Asked, Fault>
     ensures sized { IfOk result AreSized }
 {
     let expected = expected(matches)?;
-    let task = Task { aim, expected };
+    let task = Task {
+        aim,
+        layout: layout(matches),
+        expected,
+    };
     let hex = word(matches, "hex");
     let form = word(matches, "stdin");
     if asks_for_lines(hex, form) {
@@ -99,24 +105,22 @@ fn told(alloc: Global, aim: Aim, matches: &ArgMatches) -> Result<Asked, Fault>
     Ok(Asked::Once(Request::Tell(task, given)))
 }
 
-/// What `check` tells, as lines or as JSON.
-fn check_aim(matches: &ArgMatches) -> Aim
-    ensures { result ≡ check_aim (rows_of (found_of matches.now)) }
+/// How what is told is laid out.
+fn layout(matches: &ArgMatches) -> Layout
+    ensures { result ≡ layout_of (rows_of (found_of matches.now)) }
 {
     if has_flag(matches, "json") {
-        Aim::CheckJson
+        Layout::Json
     } else {
-        Aim::Check
+        Layout::Lines
     }
 }
 
-/// What `show` tells: the value, as JSON or with notes where one of these is asked for, and JSON has no notes.
+/// What `show` tells: the value, with notes where these are asked for.
 fn show_aim(matches: &ArgMatches) -> Aim
     ensures { result ≡ show_aim (rows_of (found_of matches.now)) }
 {
-    if has_flag(matches, "json") {
-        Aim::ShowJson
-    } else if has_flag(matches, "notes") {
+    if has_flag(matches, "notes") {
         Aim::Note
     } else {
         Aim::Show

@@ -16,7 +16,7 @@ const LINES: [(&str, &str, &str); 22] = [
     ("tck", "tck {tck|absent}", ""),
     ("F", "F {F|reserved}", ""),
     ("D", "D {D|reserved}", ""),
-    ("t1", "t1 {t1}", ""),
+    ("t1", "", ""),
     ("nad", "nad {nad}", ""),
     ("pcb", "", ""),
     ("inf", "inf {inf}", ""),
@@ -44,12 +44,24 @@ const LINES: [(&str, &str, &str); 22] = [
 ];
 
 /// The forms of a line that has an object of its own, each with a member that this has.
-const INNER: [(&str, &str); 5] = [
+const INNER: [(&str, &str); 6] = [
     ("ifsc", "t1 ifsc {ifsc} bwi {bwi} cwi {cwi}"),
+    ("reason", "t1 {reason}"),
     ("more", "pcb {kind} number {number} more {more}"),
     ("error", "pcb {kind} number {number} error {error}"),
     ("request", "pcb {kind} request {request}"),
     ("response", "pcb {kind} response {response}"),
+];
+
+/// A member of each value that is shown.
+const VALUES: [&str; 7] = [
+    "convention",
+    "nad",
+    "message",
+    "case",
+    "class",
+    "objects",
+    "entries",
 ];
 
 /// The lines for which a text in JSON stands, or none where it is no JSON.
@@ -77,10 +89,16 @@ pub(crate) fn lines_of(alloc: Global, json: &str) -> Result<Option<String>, Allo
     Ok(Some(text))
 }
 
+/// Whether an object says a value, whose lines have no verdict.
+fn is_value(object: &Value) -> bool {
+    VALUES.iter().any(|&name| object.get(name).is_some())
+}
+
 /// The form of the line that has the verdict, or none for a value that is shown.
 fn verdict_form(object: &Value) -> &'static str {
     let is_there = |name| object.get(name).is_some();
     match object.get("verdict").and_then(Value::as_str) {
+        Some("ok") if is_value(object) => "",
         Some("ok") if is_there("octets") => "ok {octets} octets",
         Some("ok") if is_there("lines") => "ok {lines} lines",
         Some("short") => "short at {at}",

@@ -15,9 +15,35 @@ use std::alloc::{AllocError, Global};
 pub fn words_note(alloc: Global, words: &[String]) -> Result<String, AllocError> {
     let shown = shown_words(alloc, words)?;
     match parser_message(alloc, shown.as_slice())? {
-        Some(message) => without_advice(alloc, message.as_str()),
+        Some(message) => parser_note(alloc, shown.as_slice(), message.as_str()),
         None => word_note(alloc, shown.as_slice()),
     }
+}
+
+/// What the parser says of words that it refuses, and how what they may mean is asked for. It says nothing of words
+/// after the word `help` that are no subcommand.
+fn parser_note(alloc: Global, words: &[String], message: &str) -> Result<String, AllocError> {
+    if words.iter().any(|word| word.as_str() == "--version") {
+        return String::from_str(alloc, "--version takes no other word: scard --version\n");
+    }
+    if message.is_empty() {
+        let text = "after help comes one subcommand, or no word: scard help check\n";
+        return String::from_str(alloc, text);
+    }
+    let mut note = without_advice(alloc, message)?;
+    let is_one_more = message.contains("argument '") && !message.contains("argument '-");
+    if is_one_more && reads_a_file(word_at(words, subcommand_place(words))) {
+        note.push_str("standard input takes a file: <FILE\n")?;
+    }
+    Ok(note)
+}
+
+/// Whether a subcommand reads a file from standard input, and takes no word for it.
+fn reads_a_file(subcommand: &str) -> bool {
+    matches!(
+        subcommand,
+        "replay" | "migrate" | "apdus" | "draw" | "record" | "judge"
+    )
 }
 
 /// The first word that is wrong, of words that the parser takes.
@@ -77,12 +103,14 @@ fn octets_note(alloc: Global, number: usize, word: &str) -> Result<String, Alloc
     Ok(note)
 }
 
-/// How standard input takes what a word looks like that isn't hexadecimal: octets with blanks or `0x`, or the name of a
-/// file.
+/// How standard input takes what a word looks like that isn't hexadecimal: octets with blanks or `0x`, octets with
+/// colons, dashes or commas, or the name of a file.
 fn way_in(word: &str) -> &'static str {
     let octets = word.as_bytes();
     if octets.iter().any(|octet| is_blank(*octet)) || has_mark(octets) {
         "standard input takes octets with blanks or 0x: --stdin hex\n"
+    } else if octets.iter().any(|octet| matches!(*octet, b':' | b'-' | b',')) {
+        "standard input takes octets with colons, dashes or commas: --stdin source\n"
     } else if octets.iter().any(|octet| matches!(*octet, b'.' | b'/')) {
         "standard input takes a file: --stdin hex <FILE\n"
     } else {

@@ -5,12 +5,12 @@ ghost use Rattle.notes.specs.Says.{nad_says, pcb_says, said, supervisory_says, t
 
 use crate::note::Note;
 use crate::text::some_counted;
-use block_core::Block;
+use block_core::BlockRef;
 use std::alloc::{AllocError, Global};
 
 /// The notes of a block, one a line: the addresses in its NAD where it has some, what its PCB says (ISO/IEC 7816-3,
 /// 11.3.2.1 and 11.3.2.2), how many octets its field has, and what its LRC is.
-pub fn block_notes(alloc: Global, block: &Block) -> Result<Vec<String>, AllocError>
+pub fn block_notes(alloc: Global, block: &BlockRef) -> Result<Vec<String>, AllocError>
     ensures { IfOk result (λ notes. length notes.items ≡ 4) }
 {
     let nad = nad_note(block.nad()).text(alloc)?;

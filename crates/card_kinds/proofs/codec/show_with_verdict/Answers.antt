@@ -1,13 +1,15 @@
-use Rattle.std.proofs.Common.{◌∙◌}
-use Rattle.card_kinds.specs.Verdicts.{accepted}
+use Rattle.std.proofs.Common.{◌∙◌, ℕ, List, ap}
+use Rattle.card_kinds.specs.Verdicts.{accepted, laid_out, refused_in, shown_in}
 use Rattle.card_kinds.proofs.Telling.{is-refused, of-stop}
 use Rattle.card_kinds.proofs.codec.show_with_verdict.Goals as goal
 
-pub returns-in-Ok : goal.returns-in-Ok
-returns-in-Ok g c =
+pub returns-in_ok-answer-in-Ok : goal.returns-in_ok-answer-in-Ok
+returns-in_ok-answer-in-Ok g c =
     let found = c.in-Ok.ensures.found in
     record {
-      told = accepted found.0 c.in-Ok.taken found.1 (c.told.ensures.text ∙ found.2) c.told.ensures.status;
+      told = accepted found.0 c.in-Ok.field-0.taken found.1 (c.in_ok-answer-in-Ok.ensures.text
+          ∙ ap (λ (said : List ℕ). laid_out c.args.layout c.args.expected.kind said c.in-Ok.field-0.taken) found.2)
+          c.in_ok-answer-in-Ok.ensures.status;
       verdict = (found.0, found.1);
     }
 
@@ -15,9 +17,11 @@ pub returns-in_ok-answer-in-Err-Stop : goal.returns-in_ok-answer-in-Err-Stop
 returns-in_ok-answer-in-Err-Stop g c =
     let codec = g.C.Codec.codec c.args.expected in
     record {
-      told = is-refused codec (λ v n. codec.lines v) c.args.octets.now _ c.in-Err-Stop.field-0 c.in-Err-Stop.stop _ _
-          (g.met.C.Codec.named c.args.expected) c.in-Err-Stop.field-0-is c.in-Err-Stop.ensures.refused
-          c.in_ok-answer-in-Err-Stop.ensures.text c.in_ok-answer-in-Err-Stop.ensures.status;
+      told = is-refused codec (shown_in c.args.layout c.args.expected.kind codec)
+          (refused_in c.args.layout c.args.expected.kind) c.args.octets.now _ c.in-Err-Stop.field-0
+          c.in-Err-Stop.stop _ _ (g.met.C.Codec.named c.args.expected) c.in-Err-Stop.field-0-is
+          c.in-Err-Stop.ensures.refused c.in_ok-answer-in-Err-Stop.ensures.text
+          c.in_ok-answer-in-Err-Stop.ensures.status;
       verdict = of-stop codec c.args.octets.now c.in-Err-Stop.field-0 c.in-Err-Stop.stop c.in-Err-Stop.field-0-is
           c.in-Err-Stop.ensures.refused;
     }

@@ -1,4 +1,10 @@
 use Rattle.card_tool.proofs.judged.answer_with_note.Goals as goal
 
-pub returns-in_ok-answer-in-Note-2 : goal.returns-in_ok-answer-in-Note-2
-returns-in_ok-answer-in-Note-2 c = (rw c.in-Note.is c.in_ok-answer-in-Note-2.ensures, c.in_ok-answer-in-Note.ensures.1)
+pub returns-in-Check : goal.returns-in-Check
+returns-in-Check c = rw c.in-Check.is c.checked.ensures
+
+pub returns-in_ok-shown-in-Show : goal.returns-in_ok-shown-in-Show
+returns-in_ok-shown-in-Show c = rw c.in-Show.is c.in_ok-shown-in-Show.ensures
+
+pub returns-in-Note : goal.returns-in-Note
+returns-in-Note c = rw c.in-Note.is c.noted_in.ensures

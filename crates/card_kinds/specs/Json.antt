@@ -1,0 +1,42 @@
+-- What the program says of octets as an object of JSON: its members, in their order, with a comma between two.
+use Rattle.std.specs.Prelude.{ℕ, List, [], ◌∷◌, ◌++◌, codes, decimal}
+use Rattle.octet_core.specs.declared.stop.Stop.{Stop}
+use Rattle.octet_core.specs.declared.stop.Stop.TheVariants.{Short, At}
+
+-- what comes between the items of an array and one more
+abbrev pub separator : List ℕ → List ℕ
+separator [] = []
+separator (x ∷ items) = codes ","
+
+-- the items of an array, and one more
+abbrev pub with_item : List ℕ → List ℕ → List ℕ
+with_item items item = items ++ (separator items ++ item)
+
+-- n octets are a value
+abbrev pub accepted_members : ℕ → List ℕ
+accepted_members n = codes "\"verdict\":\"ok\",\"octets\":" ++ decimal n
+
+-- the octets end too early
+abbrev pub short_members : ℕ → List ℕ
+short_members place = codes "\"verdict\":\"short\",\"at\":" ++ decimal place
+
+-- the octet at a place is refused, with a reason that has this name
+abbrev pub refused_at_members : ℕ → List ℕ → List ℕ
+refused_at_members place reason =
+    codes "\"verdict\":\"refused\",\"at\":" ++ (decimal place ++ (codes ",\"reason\":\"" ++ (reason ++ codes "\"")))
+
+abbrev pub refused_members : {R : Type 0} → (R → List ℕ) → Stop R → List ℕ
+refused_members name (Short place) = short_members place
+refused_members name (At place reason) = refused_at_members place (name reason)
+
+-- what was given can't be read, by this name
+abbrev pub fault_members : List ℕ → List ℕ
+fault_members name = codes "\"verdict\":\"fault\",\"fault\":\"" ++ (name ++ codes "\"")
+
+-- what every object begins with: the version of these forms, and what it is about
+abbrev pub object_head : List ℕ → List ℕ
+object_head kind = codes "{\"version\":1,\"kind\":\"" ++ (kind ++ codes "\",")
+
+-- the line of the object with these members
+abbrev pub object_line : List ℕ → List ℕ → List ℕ
+object_line kind members = object_head kind ++ (members ++ codes "}\n")

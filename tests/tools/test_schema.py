@@ -1,0 +1,66 @@
+#!/usr/bin/env python3
+"""Tests the schema of the program's objects in JSON, docs/answers.schema.json: each object of the vectors fits it, and
+mistakes in them don't. Where Python's package jsonschema isn't installed, only that the schema is JSON."""
+
+import copy
+import json
+import pathlib
+import re
+import sys
+import unittest
+
+TOP = pathlib.Path(__file__).resolve().parents[2]
+SCHEMA = json.loads((TOP / "docs" / "answers.schema.json").read_text(encoding="utf-8"))
+try:
+    import jsonschema
+except ImportError:
+    jsonschema = None
+    print("test_schema: Python's package jsonschema isn't installed, so no object is compared", file=sys.stderr)
+
+
+def answers():
+    """The objects of the vectors: each line of a text of words with --json."""
+    for path in sorted((TOP / "vectors").glob("*")):
+        for line in path.read_text(encoding="ascii").split("\n"):
+            fields = line.split("\t")
+            if line.startswith("#") or len(fields) != 4 or "--json" not in fields[0].split(" "):
+                continue
+            text = re.sub(r"\\x(..)", lambda found: chr(int(found[1], 16)), fields[3].replace("\\s", " "))
+            for one in text.split("\\n"):
+                if one.startswith("{"):
+                    yield fields[0], json.loads(one)
+
+
+@unittest.skipUnless(jsonschema, "no package jsonschema")
+class Schema(unittest.TestCase):
+    def setUp(self):
+        self.validator = jsonschema.Draft202012Validator(SCHEMA)
+
+    def test_each_object_of_the_vectors_fits(self):
+        found = list(answers())
+        self.assertGreater(len(found), 60)
+        for words, answer in found:
+            errors = [error.message for error in self.validator.iter_errors(answer)]
+            self.assertEqual((words, errors[:1]), (words, []))
+
+    def test_mistakes_do_not_fit(self):
+        block = {
+            "version": 1, "kind": "block", "verdict": "ok", "octets": 9, "nad": "00",
+            "pcb": {"kind": "I", "number": 0, "more": 0}, "inf": "00A4040000", "lrc": "A5",
+        }
+        self.assertTrue(self.validator.is_valid(block))
+        for name, value in (
+            ("version", 2), ("kind", "atr"), ("verdict", "refused"), ("octets", "9"), ("nad", "0"), ("lrc", None),
+            ("pcb", {"kind": "I", "number": 0}), ("inf", "00a4"), ("other", []),
+        ):
+            wrong = copy.deepcopy(block)
+            wrong[name] = value
+            self.assertFalse(self.validator.is_valid(wrong), name)
+        for name in block:
+            wrong = copy.deepcopy(block)
+            del wrong[name]
+            self.assertFalse(self.validator.is_valid(wrong), name)
+
+
+if __name__ == "__main__":
+    unittest.main()
