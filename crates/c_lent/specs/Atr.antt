@@ -1,5 +1,5 @@
 -- Answers to reset as C sees them.
-use Rattle.std.specs.Prelude.{◌≡◌, ◌≤◌, ℕ, ◌==◌, List, map, take, if◌then◌else◌, Option, None, Some, unwrap_or, Result, Ok, Err}
+use Rattle.std.specs.Prelude.{◌≡◌, ◌≤◌, ℕ, ◌-◌, ◌==◌, List, ◌++◌, length, map, replicate, take, if◌then◌else◌, Option, None, Some, unwrap_or, Result, Ok, Err}
 use Rattle.octet_core.specs.Grammar.{self_ended, Accepts}
 use Rattle.atr_core.specs.declared.atr.Convention.{Convention}
 use Rattle.atr_core.specs.declared.atr.Convention.TheVariants.{Direct, Inverse}
@@ -44,6 +44,51 @@ atr_of c = record {
   indicated = map indicated_of (take c.indicated_count c.indicated);
   historical = take c.historical_count c.historical;
 }
+
+-- ---- the struct that the library writes
+
+-- a mark that is 0 or 1, and a byte that is 0 where there is none
+abbrev pub mark_told : Option ℕ → ℕ
+mark_told None = 0
+mark_told (Some byte) = 1
+
+abbrev pub byte_told : Option ℕ → ℕ
+byte_told None = 0
+byte_told (Some byte) = byte
+
+abbrev pub interface_told : Interface → CInterface
+interface_told i = record {
+  has_ta = mark_told i.ta;
+  ta = byte_told i.ta;
+  has_tb = mark_told i.tb;
+  tb = byte_told i.tb;
+  has_tc = mark_told i.tc;
+  tc = byte_told i.tc;
+}
+
+abbrev pub indicated_told : Indicated → CIndicated
+indicated_told x = record { protocol = x.protocol; bytes = interface_told x.bytes }
+
+abbrev pub convention_told : Convention → ℕ
+convention_told Direct = 0
+convention_told Inverse = 1
+
+-- what is after the last TD
+abbrev pub no_indicated : CIndicated
+no_indicated = indicated_told (record { protocol = 0; bytes = record { ta = None; tb = None; tc = None } })
+
+-- The struct says this answer: each mark is 0 or 1, the counts are those of the answer, and what isn't there is 0.
+pub record IsTold (a : AtrParts) (c : CAtr) : Type 0 where
+  pub convention : c.convention ≡ convention_told a.convention
+  pub first : c.first ≡ interface_told a.first
+  pub indicated_count : c.indicated_count ≡ length a.indicated
+  pub indicated : c.indicated ≡ map indicated_told a.indicated ++ replicate (31 - length a.indicated) no_indicated
+  pub historical_count : c.historical_count ≡ length a.historical
+  pub historical : c.historical ≡ a.historical ++ replicate (15 - length a.historical) 0
+  pub has_tck : c.has_tck ≡ mark_told (tck_of a)
+  pub tck : c.tck ≡ byte_told (tck_of a)
+
+-- ---- verdicts
 
 -- the struct says an answer: the counts fit into its arrays, and the answer has a spelling
 pub record SaysAtr (c : CAtr) : Type 0 where

@@ -49,6 +49,11 @@ header_of h =
     else (if h.kind == 3 then Some (header.Tagged (tag_of h))
     else (if h.kind == 4 then sized_from h (form_of h.form) else None))))
 
+-- the numbers of a length field are 0 where none is under way
+abbrev pub IsUnused : Header → CHeader → Type 0
+IsUnused (header.Sized tag form read number) h = Unit {0}
+IsUnused _ h = (h.form ≡ 0) × (h.read ≡ 0) × (h.number ≡ 0)
+
 abbrev pub check_from : CCheck → Option Header → Option (Option TlvReason) → Option LentCheck
 check_from c (Some header) (Some refused) = Some (record {
   max = c.max;

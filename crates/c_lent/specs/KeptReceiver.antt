@@ -1,5 +1,5 @@
 -- The state of a receiver of a chain as C keeps it.
-use Rattle.std.specs.Prelude.{◌≡◌, ℕ, ◌==◌, if◌then◌else◌, List, length, Bool, Option, Some, None}
+use Rattle.std.specs.Prelude.{◌≡◌, ℕ, ◌==◌, if◌then◌else◌, List, length, Bool, false, Option, Some, None}
 use Rattle.octet_core.specs.declared.stop.Refusal.{Refusal}
 use Rattle.block_core.specs.declared.pcb.Number.{Number}
 use Rattle.chain_core.specs.declared.stage.BlockStage.{BlockStage}
@@ -20,6 +20,13 @@ stage_of kind more len =
     else (if kind == 1 then Some Pcb
     else (if kind == 2 then Some (Len more)
     else (if kind == 3 then Some (Rest more len) else None)))
+
+-- and these numbers, 0 or no where they say nothing
+abbrev pub stage_told : BlockStage → ℕ × Bool × ℕ
+stage_told Nad = (0, false, 0)
+stage_told Pcb = (1, false, 0)
+stage_told (Len more) = (2, more, 0)
+stage_told (Rest more len) = (3, more, len)
 
 -- a refusal at this place
 abbrev pub refused_at : ChainReason → ℕ → Option (Option (Refusal ChainReason))

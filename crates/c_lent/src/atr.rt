@@ -1,12 +1,12 @@
 //! Answers to reset (ISO/IEC 7816-3, clause 8).
 
-ghost use Rattle.std.specs.Prelude.{◌≡◌, ◌≢◌, ◌≤◌, length, map, SomeIff};
+ghost use Rattle.std.specs.Prelude.{◌≡◌, ◌≢◌, ◌≤◌, ◌-◌, ◌++◌, length, map, replicate, take, SomeIff};
 ghost use Rattle.octet_core.specs.Grammar.{self_ended, Accepts, Refuses};
 ghost use Rattle.atr_core.specs.Atr.{AtrParts, IsAtr, IsReason, tck_of};
 ghost use Rattle.atr_core.specs.T1.{t1_params_of};
 ghost use Rattle.atr_core.specs.Rates.{rates_of};
 ghost use Rattle.c_lent.specs.Verdict.{Tells, Puts, ok_at, wrong_argument};
-ghost use Rattle.c_lent.specs.Atr.{atr_reason, byte_of, interface_of, indicated_of, convention_of, atr_of, SaysAtr, IsDecoded, IsT1, rates_seen};
+ghost use Rattle.c_lent.specs.Atr.{atr_reason, byte_of, interface_of, indicated_of, convention_of, atr_of, convention_told, indicated_told, interface_told, no_indicated, SaysAtr, IsDecoded, IsT1, IsTold, rates_seen};
 
 use crate::output::put;
 use crate::verdict::{ARGUMENT, Numbered, Verdict};
@@ -89,6 +89,7 @@ pub fn atr_check(octets: &[u8]) -> Verdict
 /// The answer to reset with which the octets begin.
 pub fn atr_decode(octets: &[u8], out: &mut CAtr) -> Verdict
     ensures ok { result.status ≡ 0 → IsDecoded octets.now result out.new }
+    ensures told { result.status ≡ 0 → IsTold (atr_of out.new) out.new }
     ensures place { result.status ≡ 0 → result ≡ ok_at result.place }
     ensures refused { result.status ≢ 0 →
         Tells atr_reason (Refuses self_ended IsAtr IsReason octets.now) result }
@@ -221,32 +222,60 @@ fn listed(given: &[CIndicated]) -> ArrayVec<Indicated, 31>
 /// An answer as C sees it.
 pub fn seen(atr: &Atr) -> CAtr
     ensures atr { atr_of result ≡ atr.now }
+    ensures told { IsTold atr.now result }
     ensures tck { byte_of result.has_tck result.tck ≡ tck_of atr.now }
     ensures indicated { result.indicated_count ≤ 31 }
     ensures historical { result.historical_count ≤ 15 }
 {
     let listed = listed_seen(atr.indicated());
-    let mut indicated = [CIndicated::default(); 31];
-    indicated[..listed.len()].copy_from_slice(listed.as_slice());
-    let mut historical = [0; 15];
     let octets = atr.historical();
-    historical[..octets.len()].copy_from_slice(octets);
     let tck = atr.tck();
     CAtr {
         convention: convention_seen(atr.convention()),
         first: interface_seen(atr.first()),
         indicated_count: listed.len() as u8,
-        indicated,
+        indicated: indicated_array(listed.as_slice()),
         historical_count: octets.len() as u8,
-        historical,
+        historical: historical_array(octets),
         has_tck: u8::from(tck.is_some()),
         tck: tck.unwrap_or(0),
     }
 }
 
+/// The TDs, and then others that say nothing.
+fn indicated_array(listed: &[CIndicated]) -> [CIndicated; 31]
+    requires { length listed.now ≤ 31 }
+    ensures front { take (length listed.now) result ≡ listed.now }
+    ensures all { result ≡ listed.now ++ replicate (31 - length listed.now) no_indicated }
+{
+    let none = CIndicated {
+        protocol: 0,
+        bytes: interface_seen(Interface {
+            ta: None,
+            tb: None,
+            tc: None,
+        }),
+    };
+    let mut array = [none; 31];
+    array[..listed.len()].copy_from_slice(listed);
+    array
+}
+
+/// The historical bytes, and then 0.
+fn historical_array(octets: &[u8]) -> [u8; 15]
+    requires { length octets.now ≤ 15 }
+    ensures front { take (length octets.now) result ≡ octets.now }
+    ensures all { result ≡ octets.now ++ replicate (15 - length octets.now) 0 }
+{
+    let mut array = [0; 15];
+    array[..octets.len()].copy_from_slice(octets);
+    array
+}
+
 fn listed_seen(indicated: &[Indicated]) -> ArrayVec<CIndicated, 31>
     requires { length indicated.now ≤ 31 }
-    ensures { map indicated_of result.items ≡ indicated.now }
+    ensures said { map indicated_of result.items ≡ indicated.now }
+    ensures told { result.items ≡ map indicated_told indicated.now }
 {
     let mut seen = ArrayVec::new();
     for x in indicated {
@@ -259,7 +288,8 @@ fn listed_seen(indicated: &[Indicated]) -> ArrayVec<CIndicated, 31>
 }
 
 fn convention_seen(convention: Convention) -> u8
-    ensures { convention_of result ≡ convention }
+    ensures said { convention_of result ≡ convention }
+    ensures told { result ≡ convention_told convention }
 {
     match convention {
         Convention::Direct => 0,
@@ -268,7 +298,8 @@ fn convention_seen(convention: Convention) -> u8
 }
 
 fn interface_seen(bytes: Interface) -> CInterface
-    ensures { interface_of result ≡ bytes }
+    ensures said { interface_of result ≡ bytes }
+    ensures told { result ≡ interface_told bytes }
 {
     CInterface {
         has_ta: u8::from(bytes.ta.is_some()),

@@ -1,12 +1,12 @@
 //! The states of both ends, where the caller keeps them and has no allocator.
 
-ghost use Rattle.std.specs.Prelude.{◌≡◌, IfSome, IfNone, Some};
+ghost use Rattle.std.specs.Prelude.{◌≡◌, IfSome, IfNone, None, Some};
 ghost use Rattle.t1_core.specs.declared.lent.LentTerminal.{LentTerminal};
 ghost use Rattle.t1_core.specs.declared.lent.LentCard.{LentCard};
 ghost use Rattle.t1_core.specs.Views.{IsLentTerminal};
 ghost use Rattle.t1_core.specs.CardViews.{IsLentCard};
 ghost use Rattle.c_lent.specs.Number.{number_of};
-ghost use Rattle.c_lent.specs.Kept.{mark_of, saved_from, cut_at, terminal_wait_of, terminal_of, card_wait_of, card_of};
+ghost use Rattle.c_lent.specs.Kept.{mark_of, saved_from, saved_told, cut_at, terminal_wait_of, terminal_wait_told, terminal_of, card_wait_of, card_wait_told, card_of};
 
 use crate::number::number_of;
 use block_core::Number;
@@ -100,7 +100,8 @@ fn terminal_wait_of(kind: u8, size: u8, place: usize) -> Option<TerminalWait>
 
 /// Its number, a size or a count, and a place.
 fn terminal_waiting(wait: TerminalWait) -> (u8, u8, usize)
-    ensures { terminal_wait_of result.0 result.1 result.2 ≡ Some wait }
+    ensures told { result ≡ terminal_wait_told wait }
+    ensures kept { terminal_wait_of result.0 result.1 result.2 ≡ Some wait }
 {
     match wait {
         TerminalWait::Idle => (0, 0, 0),
@@ -130,7 +131,8 @@ fn card_wait_of(kind: u8, size: u8, place: usize) -> Option<CardWait>
 
 /// Its number, a size or a multiple, and a place.
 fn card_waiting(wait: CardWait) -> (u8, u8, usize)
-    ensures { card_wait_of result.0 result.1 result.2 ≡ Some wait }
+    ensures told { result ≡ card_wait_told wait }
+    ensures kept { card_wait_of result.0 result.1 result.2 ≡ Some wait }
 {
     match wait {
         CardWait::Command => (0, 0, 0),
@@ -155,7 +157,8 @@ fn saved_from(has_saved: bool, place: usize, size: u8) -> Option<Cut>
 
 /// Whether a block is saved, and its place and size.
 fn saving(saved: Option<Cut>) -> (bool, usize, u8)
-    ensures { saved_from result.0 (cut_at result.1 result.2) ≡ saved }
+    ensures told { result ≡ saved_told saved }
+    ensures kept { saved_from result.0 (cut_at result.1 result.2) ≡ saved }
 {
     match saved {
         Some(cut) => (true, cut.place, cut.size),
@@ -166,7 +169,9 @@ fn saving(saved: Option<Cut>) -> (bool, usize, u8)
 impl CTerminal {
     /// The state of a terminal.
     pub fn of(end: &LentTerminal) -> CTerminal
-        ensures { terminal_of result ≡ Some end.now }
+        ensures kept { terminal_of result ≡ Some end.now }
+        ensures unused { (result.wait, result.size, result.place)
+            ≡ terminal_wait_told end.now.wait }
     {
         let (wait, size, place) = terminal_waiting(end.wait);
         CTerminal {
@@ -227,7 +232,10 @@ impl CTerminal {
 impl CCard {
     /// The state of a card.
     pub fn of(end: &LentCard) -> CCard
-        ensures { card_of result ≡ Some end.now }
+        ensures kept { card_of result ≡ Some end.now }
+        ensures unused { (result.wait, result.size, result.place) ≡ card_wait_told end.now.wait }
+        ensures unsaved { end.now.saved ≡ None → (result.saved_place ≡ 0)
+            × (result.saved_size ≡ 0) }
     {
         let (wait, size, place) = card_waiting(end.wait);
         let (has_saved, saved_place, saved_size) = saving(end.saved);

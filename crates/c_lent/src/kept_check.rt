@@ -1,12 +1,12 @@
 //! The state of a check of a forest, where the caller keeps it and has no allocator.
 
-ghost use Rattle.std.specs.Prelude.{◌≡◌, ◌≤◌, length, IfSome, IfNone, MatchOption, Some};
+ghost use Rattle.std.specs.Prelude.{◌≡◌, ◌≤◌, ◌-◌, ◌++◌, length, replicate, IfSome, IfNone, MatchOption, Some};
 ghost use Rattle.tlv_core.specs.declared.header.Header.{Header};
 ghost use Rattle.tlv_core.specs.declared.lent.LentCheck.{LentCheck};
 ghost use Rattle.tlv_core.specs.Header.{IsWell};
 ghost use Rattle.tlv_core.specs.Lent.{IsLentCheck};
 ghost use Rattle.tlv_core.specs.Tag.{IsTag};
-ghost use Rattle.c_lent.specs.KeptCheck.{refused_of, form_of, tag_of, header_of, check_of};
+ghost use Rattle.c_lent.specs.KeptCheck.{refused_of, form_of, tag_of, header_of, check_of, IsUnused};
 
 use crate::verdict::Numbered;
 use tlv_core::{Form, Header, LentCheck, Tag, TlvReason};
@@ -93,7 +93,8 @@ fn octets_of(form: Form) -> u8
 impl CHeader {
     /// The state of this header.
     fn of(header: Header) -> CHeader
-        ensures { header_of result ≡ Some header }
+        ensures kept { header_of result ≡ Some header }
+        ensures unused { IsUnused header result }
     {
         match header {
             Header::Nothing => CHeader::tagged(0, &[]),
@@ -119,6 +120,8 @@ impl CHeader {
         requires { length octets.now ≤ 3 }
         ensures kind { result.kind ≡ kind }
         ensures tag { tag_of result ≡ octets.now }
+        ensures unused { (result.form ≡ 0) × (result.read ≡ 0) × (result.number ≡ 0) }
+        ensures zeros { result.tag ≡ octets.now ++ replicate (3 - length octets.now) 0 }
     {
         let mut tag = [0; 3];
         tag[..octets.len()].copy_from_slice(octets);
@@ -167,7 +170,8 @@ impl CHeader {
 impl CCheck {
     /// The state of a check.
     pub fn of(check: &LentCheck) -> CCheck
-        ensures { check_of result ≡ Some check.now }
+        ensures kept { check_of result ≡ Some check.now }
+        ensures unused { IsUnused check.now.header result.header }
     {
         CCheck {
             max: check.max,

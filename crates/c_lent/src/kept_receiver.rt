@@ -1,12 +1,12 @@
 //! The state of a receiver of a chain, where the caller keeps it and has no allocator.
 
-ghost use Rattle.std.specs.Prelude.{◌≡◌, IfSome, IfNone, Some};
+ghost use Rattle.std.specs.Prelude.{◌≡◌, IfSome, IfNone, None, Some};
 ghost use Rattle.octet_core.specs.declared.stop.Refusal.{Refusal};
 ghost use Rattle.chain_core.specs.declared.stage.BlockStage.{BlockStage};
 ghost use Rattle.chain_core.specs.declared.reason.ChainReason.{ChainReason};
 ghost use Rattle.chain_core.specs.declared.lent.LentReceiver.{LentReceiver};
 ghost use Rattle.chain_core.specs.Lent.{IsLentReceiver};
-ghost use Rattle.c_lent.specs.KeptReceiver.{stage_of, refusal_from, receiver_of};
+ghost use Rattle.c_lent.specs.KeptReceiver.{stage_of, stage_told, refusal_from, receiver_of};
 
 use crate::kept::{mark, mark_of, octet};
 use crate::number::number_of;
@@ -48,7 +48,8 @@ fn stage_of(kind: u8, more: bool, len: u8) -> Option<BlockStage>
 
 /// Its number, whether more blocks follow, and the length of the field.
 fn stage_number(stage: BlockStage) -> (u8, bool, u8)
-    ensures { stage_of result.0 result.1 result.2 ≡ Some stage }
+    ensures told { result ≡ stage_told stage }
+    ensures kept { stage_of result.0 result.1 result.2 ≡ Some stage }
 {
     match stage {
         BlockStage::Nad => (0, false, 0),
@@ -80,7 +81,8 @@ fn refusal_from(number: u8, place: usize) -> Option<Option<Refusal<ChainReason>>
 
 /// The number and the place of a refusal, both 0 where there is none.
 fn refusal_number(refusal: Option<Refusal<ChainReason>>) -> (u8, usize)
-    ensures { refusal_from result.0 result.1 ≡ Some refusal }
+    ensures none { refusal ≡ None → result ≡ (0, 0) }
+    ensures kept { refusal_from result.0 result.1 ≡ Some refusal }
 {
     match refusal {
         None => (0, 0),
@@ -91,7 +93,11 @@ fn refusal_number(refusal: Option<Refusal<ChainReason>>) -> (u8, usize)
 impl CReceiver {
     /// The state of a receiver.
     pub fn of(receiver: &LentReceiver) -> CReceiver
-        ensures { receiver_of result ≡ Some receiver.now }
+        ensures kept { receiver_of result ≡ Some receiver.now }
+        ensures unused { (result.part ≡ (stage_told receiver.now.stage).0)
+            × (result.len ≡ (stage_told receiver.now.stage).2) }
+        ensures unrefused { receiver.now.refusal ≡ None
+            → (result.refused ≡ 0) × (result.refused_at ≡ 0) }
     {
         let (part, more, len) = stage_number(receiver.stage);
         let (refused, refused_at) = refusal_number(receiver.refusal);

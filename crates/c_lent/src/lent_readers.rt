@@ -2,12 +2,13 @@
 //! state, which is the octets that were taken.
 
 ghost use Rattle.std.specs.Prelude.{◌≡◌, ◌≢◌, ◌≤◌, ◌++◌, [], length, take, min};
+ghost use Rattle.octet_core.specs.Grammar.{self_ended, Refuses};
 ghost use Rattle.octet_core.specs.Sizes.{IsReserved};
 ghost use Rattle.atr_core.specs.Atr.{IsAtr, IsReason as IsAtrReason};
 ghost use Rattle.block_core.specs.Block.{IsBlock, IsReason as IsBlockReason};
-ghost use Rattle.c_lent.specs.Atr.{atr_reason};
+ghost use Rattle.c_lent.specs.Atr.{atr_reason, IsDecoded};
 ghost use Rattle.c_lent.specs.Block.{block_reason};
-ghost use Rattle.c_lent.specs.Verdict.{ok_at, wrong_argument};
+ghost use Rattle.c_lent.specs.Verdict.{ok_at, wrong_argument, Tells};
 ghost use Rattle.c_lent.specs.LentReaders.{atr_held, block_held, Reads, AtrFed, AtrEnded, AtrGiven, BlockFed, BlockEnded, BlockGiven};
 
 use crate::atr::{CAtr, atr_decode};
@@ -209,5 +210,16 @@ pub fn lent_atr_reader_finish(state: &CAtrReader) -> Verdict
 pub fn lent_atr_reader_value(state: &CAtrReader, out: &mut CAtr) -> Verdict
     ensures { AtrGiven state.now out.old out.new result }
 {
-    told_whole(atr_decode(state.octets(), out))
+    told_whole(decoded(state.octets(), out))
+}
+
+/// The answer to reset with which octets begin.
+fn decoded(octets: &[u8], out: &mut CAtr) -> Verdict
+    ensures ok { result.status ≡ 0 → IsDecoded octets.now result out.new }
+    ensures place { result.status ≡ 0 → result ≡ ok_at result.place }
+    ensures refused { result.status ≢ 0 →
+        Tells atr_reason (Refuses self_ended IsAtr IsAtrReason octets.now) result }
+    ensures stays { result.status ≢ 0 → out.new ≡ out.old }
+{
+    atr_decode(octets, out)
 }

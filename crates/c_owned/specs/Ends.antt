@@ -4,6 +4,7 @@ use Rattle.t1_core.specs.Terminal.{TerminalState, TerminalInput, terminal_turn, 
 use Rattle.t1_core.specs.Card as card
 use Rattle.t1_core.specs.Card.{CardState, CardInput}
 use Rattle.t1_core.specs.CardViews.{owed}
+use Rattle.chain_core.specs.Longest.{longest_command, longest_response}
 use Rattle.c_lent.specs.Verdict.{put_verdict, put_into, wrong_argument}
 use Rattle.c_lent.specs.declared.verdict.Verdict.{Verdict}
 use Rattle.c_lent.specs.declared.turn.CTurn.{CTurn}
@@ -11,6 +12,15 @@ use Rattle.c_owned.specs.declared.engine.Engine.{Engine}
 use Rattle.c_owned.specs.declared.engine.Engine.TheVariants.{Terminal, Card, InPieces}
 use Rattle.c_owned.specs.declared.reader.Reader.TheVariants.{Atr, Block, Chain, Forest}
 use Rattle.c_lent.specs.Turns.{IsCardTurn, IsTerminalTurn, joined_of, no_end}
+
+-- a handle holds a terminal, or a card, that takes the longest messages, as each call that opens one makes it
+abbrev pub HoldsTerminal : Option Engine → Type 0
+HoldsTerminal (Some (Terminal t)) = (t.limits.command ≡ longest_command) × (t.limits.answer ≡ longest_response)
+HoldsTerminal _ = ⊥
+
+abbrev pub HoldsCard : Option Engine → Type 0
+HoldsCard (Some (Card c)) = (c.limits.command ≡ longest_command) × (c.limits.answer ≡ longest_response)
+HoldsCard _ = ⊥
 
 -- a call on the wrong kind of handle changes nothing
 pub record IsNoEnd (engine now : Option Engine) (old new : List ℕ) (turn : CTurn) : Type 0 where

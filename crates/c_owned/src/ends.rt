@@ -9,7 +9,7 @@ ghost use Rattle.c_owned.specs.declared.engine.Engine.TheVariants.{Terminal as T
 ghost use Rattle.c_lent.specs.Verdict.{wrong_argument, no_memory, ok_at};
 ghost use Rattle.c_owned.specs.Calls.{Takes};
 ghost use Rattle.c_lent.specs.Turns.{no_room};
-ghost use Rattle.c_owned.specs.Ends.{TerminalTakes, CardTakes, message_of, PutsMessage};
+ghost use Rattle.c_owned.specs.Ends.{TerminalTakes, CardTakes, HoldsTerminal, HoldsCard, message_of, PutsMessage};
 
 use crate::call::Call;
 use crate::engine::Engine;
@@ -24,13 +24,15 @@ use std::alloc::Global;
 use t1_core::{Card, Terminal};
 
 /// Opens a terminal for a card with these parameters of T=1. A terminal that the handle holds is made a new one, in the
-/// memory that it has, where what it held is overwritten; anything else is freed.
+/// memory that it has, where what it held is overwritten: that never fails. Anything else is freed.
 pub fn terminal_open(alloc: Global, handle: &mut Handle, ifsc: u8, bwi: u8, cwi: u8) -> Verdict
     ensures ok { result.status ≡ 0 →
         (result ≡ ok_at 0) × (handle.new.engine ≡ Some (TerminalEnd (new_terminal ifsc))) }
     ensures stays { result.status ≢ 0 → handle.new.engine ≡ handle.old.engine }
     ensures argument { (IsUsable (record { ifsc = ifsc; bwi = bwi; cwi = cwi }) → ⊥)
         → result ≡ wrong_argument 0 }
+    ensures again { IsUsable (record { ifsc = ifsc; bwi = bwi; cwi = cwi }) →
+        HoldsTerminal handle.old.engine → result ≡ ok_at 0 }
     ensures memory { IsUsable (record { ifsc = ifsc; bwi = bwi; cwi = cwi }) →
         result.status ≢ 0 → result ≡ no_memory }
 {
@@ -47,13 +49,15 @@ pub fn terminal_open(alloc: Global, handle: &mut Handle, ifsc: u8, bwi: u8, cwi:
 }
 
 /// Opens a card with these parameters of T=1. A card that the handle holds is made a new one, in the memory that it
-/// has, where what it held is overwritten; anything else is freed.
+/// has, where what it held is overwritten: that never fails. Anything else is freed.
 pub fn card_open(alloc: Global, handle: &mut Handle, ifsc: u8, bwi: u8, cwi: u8) -> Verdict
     ensures ok { result.status ≡ 0 →
         (result ≡ ok_at 0) × (handle.new.engine ≡ Some (CardEnd (new_card ifsc))) }
     ensures stays { result.status ≢ 0 → handle.new.engine ≡ handle.old.engine }
     ensures argument { (IsUsable (record { ifsc = ifsc; bwi = bwi; cwi = cwi }) → ⊥)
         → result ≡ wrong_argument 0 }
+    ensures again { IsUsable (record { ifsc = ifsc; bwi = bwi; cwi = cwi }) →
+        HoldsCard handle.old.engine → result ≡ ok_at 0 }
     ensures memory { IsUsable (record { ifsc = ifsc; bwi = bwi; cwi = cwi }) →
         result.status ≢ 0 → result ≡ no_memory }
 {
@@ -71,6 +75,7 @@ pub fn card_open(alloc: Global, handle: &mut Handle, ifsc: u8, bwi: u8, cwi: u8)
 
 /// Makes the terminal that a handle holds a new one; whether there is one for the longest messages.
 fn begins_terminal(alloc: Global, handle: &mut Handle, params: T1Params) -> bool
+    ensures longest { HoldsTerminal handle.old.engine → result ≡ true }
     ensures begun { result ≡ true → handle.new.engine ≡ Some
         (TerminalEnd (new_terminal params.ifsc)) }
     ensures stays { result ≡ false → handle.new.engine ≡ handle.old.engine }
@@ -85,6 +90,7 @@ fn begins_terminal(alloc: Global, handle: &mut Handle, params: T1Params) -> bool
 
 /// Makes the card that a handle holds a new one; whether there is one for the longest messages.
 fn begins_card(alloc: Global, handle: &mut Handle, params: T1Params) -> bool
+    ensures longest { HoldsCard handle.old.engine → result ≡ true }
     ensures begun { result ≡ true → handle.new.engine ≡ Some (CardEnd (new_card params.ifsc)) }
     ensures stays { result ≡ false → handle.new.engine ≡ handle.old.engine }
 {

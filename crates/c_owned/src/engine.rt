@@ -28,7 +28,7 @@ impl Engine {
     ghost use Rattle.t1_core.specs.Views.{IsSlice};
     ghost use Rattle.c_owned.specs.Calls.{Takes};
     ghost use Rattle.c_lent.specs.Calls.{terminal_input, card_input};
-    ghost use Rattle.c_owned.specs.Ends.{TerminalTakes, CardTakes, message_of};
+    ghost use Rattle.c_owned.specs.Ends.{TerminalTakes, CardTakes, HoldsTerminal, HoldsCard, message_of};
     ghost use Rattle.c_owned.specs.Readers.{Feeds, Ends};
 
     /// A call of an end; nothing where this isn't the end that is called.
@@ -69,6 +69,7 @@ impl Engine {
 
     /// Makes a terminal a new one, in the memory that it has; whether this is one for the longest messages.
     pub(crate) fn begins_terminal(&mut self, params: T1Params) -> bool
+        ensures longest { HoldsTerminal (Some self.old) → result ≡ true }
         ensures begun { result ≡ true → self.new ≡ TerminalEnd (new_terminal params.ifsc) }
         ensures stays { result ≡ false → self.new ≡ self.old }
     {
@@ -83,6 +84,7 @@ impl Engine {
 
     /// Makes a card a new one, in the memory that it has; whether this is one for the longest messages.
     pub(crate) fn begins_card(&mut self, params: T1Params) -> bool
+        ensures longest { HoldsCard (Some self.old) → result ≡ true }
         ensures begun { result ≡ true → self.new ≡ CardEnd (new_card params.ifsc) }
         ensures stays { result ≡ false → self.new ≡ self.old }
     {
@@ -130,7 +132,8 @@ impl Engine {
 
 /// Whether an end with room for so many octets takes the longest messages.
 fn is_longest(command: usize, answer: usize) -> bool
-    ensures { result ≡ true → (command ≡ longest_command) × (answer ≡ longest_response) }
+    ensures longest { result ≡ true → (command ≡ longest_command) × (answer ≡ longest_response) }
+    ensures found { command ≡ longest_command → answer ≡ longest_response → result ≡ true }
 {
     command == LONGEST_COMMAND && answer == LONGEST_RESPONSE
 }

@@ -41,6 +41,11 @@ impl Fault {
 
 /// The line that the program prints, without its end.
 impl Display for Fault {
+    ghost use Rattle.std.specs.Prelude.{Some};
+    ghost use Rattle.card_words.specs.Faults.{fault_shown};
+
+    ghost output = { λ fault. Some (fault_shown fault) };
+
     fn fmt<W: Write>(&self, f: &mut Formatter<W>) -> fmt::Result {
         f.write_str(self.text().trim_end())
     }

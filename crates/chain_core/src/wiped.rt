@@ -2,7 +2,7 @@
 
 ghost use Rattle.std.specs.Prelude.{◌≡◌, ◌+◌, ◌≤◌, ◌++◌, [], length, replicate, vec_len, vec_capacity, IfOk};
 ghost use Rattle.std.specs.Borrow.{sem};
-ghost use Rattle.chain_core.specs.Wiped.{held_in, count_in, room_in, LendsOctets};
+ghost use Rattle.chain_core.specs.Wiped.{held_in, count_in, room_in, LendsHeld, LendsOctets};
 
 use std::alloc::{AllocError, Global};
 
@@ -11,13 +11,13 @@ use std::alloc::{AllocError, Global};
 /// The memory for them is taken once. They never move to other memory, which would leave them behind. No proof
 /// reaches what a compiler keeps of them elsewhere.
 pub struct Wiped {
-    octets: Vec<u8>,
+    memory: Memory,
 }
 
 impl Drop for Wiped {
     fn drop(self) {
-        let Wiped { octets } = self;
-        give_back(zeroed(octets));
+        let Wiped { memory } = self;
+        drop(zeroed(memory));
     }
 }
 
@@ -28,7 +28,9 @@ impl Wiped {
         ensures count { IfOk result (λ wiped. count_in wiped ≡ count) }
     {
         let octets = vec![in alloc; 0; count]?;
-        Ok(Wiped { octets })
+        Ok(Wiped {
+            memory: Memory { octets },
+        })
     }
 
     /// No octet, and room for so many; `Err` out of memory.
@@ -37,7 +39,9 @@ impl Wiped {
         ensures room { IfOk result (λ wiped. room_in wiped ≡ count) }
     {
         let octets = Vec::with_capacity(alloc, count)?;
-        Ok(Wiped { octets })
+        Ok(Wiped {
+            memory: Memory { octets },
+        })
     }
 
     /// The octets.
@@ -45,7 +49,7 @@ impl Wiped {
         ensures value { result.now ≡ held_in self.now }
         ensures count { length result.now ≡ count_in self.now }
     {
-        self.octets.as_slice()
+        self.memory.octets.as_slice()
     }
 
     /// The octets, to be changed.
@@ -54,7 +58,7 @@ impl Wiped {
         ensures value { result.now ≡ held_in self.old }
         ensures count { length result.now ≡ count_in self.old }
     {
-        self.octets.as_mut_slice()
+        self.memory.as_mut_slice()
     }
 
     /// Adds octets for which there is room.
@@ -63,7 +67,7 @@ impl Wiped {
         ensures octets { held_in self.new ≡ held_in self.old ++ octets.now }
         ensures room { room_in self.old ≤ room_in self.new }
     {
-        self.octets.extend_from_slice(octets).unwrap();
+        self.memory.octets.extend_from_slice(octets).unwrap();
     }
 
     /// Sets each octet to 0, and holds none then.
@@ -71,8 +75,8 @@ impl Wiped {
         ensures none { held_in self.new ≡ [] }
         ensures room { room_in self.new ≡ room_in self.old }
     {
-        overwrite(self.octets.as_mut_slice());
-        forget(&mut self.octets);
+        overwrite(self.memory.octets.as_mut_slice());
+        forget(&mut self.memory.octets);
     }
 }
 
@@ -84,20 +88,38 @@ pub fn overwrite(octets: &mut [u8])
     octets.fill(0);
 }
 
-/// The same vector with each octet set to 0.
-fn zeroed(octets: Vec<u8>) -> Vec<u8>
-    ensures { result.items ≡ replicate (vec_len octets) 0 }
-{
-    let mut held = octets;
-    overwrite(held.as_mut_slice());
-    held
+/// Memory for octets, which is given back only where each octet in it is 0.
+struct Memory {
+    octets: Vec<u8>,
 }
 
-/// Gives the memory of octets back that were overwritten.
-fn give_back(octets: Vec<u8>)
-    requires { octets.items ≡ replicate (vec_len octets) 0 }
+impl Drop for Memory {
+    fn drop(self)
+        requires { self.octets.items ≡ replicate (vec_len self.octets) 0 }
+    {
+        let Memory { octets } = self;
+        drop(octets);
+    }
+}
+
+impl Memory {
+    /// The octets, to be changed.
+    fn as_mut_slice(&mut self) -> &mut [u8]
+        ensures* writes_back { sem 𝓛 (LendsHeld self.entry result) }
+        ensures value { result.now ≡ self.old.octets.items }
+        ensures count { length result.now ≡ vec_len self.old.octets }
+    {
+        self.octets.as_mut_slice()
+    }
+}
+
+/// The same memory with each octet set to 0.
+fn zeroed(memory: Memory) -> Memory
+    ensures { result.octets.items ≡ replicate (vec_len result.octets) 0 }
 {
-    drop(octets);
+    let mut held = memory;
+    overwrite(held.octets.as_mut_slice());
+    held
 }
 
 /// Leaves octets out that were overwritten.

@@ -1,6 +1,7 @@
 //! What the parser of command lines says of words.
 
-ghost use Rattle.std.specs.Prelude.{◌≡◌, [], IfOk, is_some, false};
+ghost use Rattle.std.specs.Prelude.{◌≡◌, ◌≢◌, [], IfOk, is_some, false};
+ghost use Rattle.clap.specs.Values.{kind_of};
 ghost use Rattle.clap.specs.Words.{fault_of};
 ghost use Rattle.command_line.specs.Form.{scard, texts};
 
@@ -12,7 +13,10 @@ use std::alloc::{AllocError, Global};
 /// What the parser of command lines says of words that it refuses, with the form that it takes; nothing where it
 /// takes them.
 pub fn parser_message(alloc: Global, words: &[String]) -> Result<Option<String>, AllocError>
-    ensures { IfOk result (λ said. is_some said ≡ false → fault_of scard (texts words.now) ≡ []) }
+    ensures none { IfOk result
+        (λ said. is_some said ≡ false → fault_of scard (texts words.now) ≡ []) }
+    ensures taken { IfOk result
+        (λ said. fault_of scard (texts words.now) ≡ [] → is_some said ≡ false) }
 {
     match matches_of(alloc, words) {
         Ok(_matches) => Ok(None),
@@ -21,7 +25,9 @@ pub fn parser_message(alloc: Global, words: &[String]) -> Result<Option<String>,
 }
 
 /// What an error says, and the form of the words.
-fn message(alloc: Global, error: &Error) -> Result<String, AllocError> {
+fn message(alloc: Global, error: &Error) -> Result<String, AllocError>
+    ensures { IfOk result (λ _. kind_of error.now ≢ ErrorKind.OutOfMemory) }
+{
     match error.kind() {
         ErrorKind::OutOfMemory => Err(AllocError),
         _ => format!(in alloc; "{error}"),

@@ -4,13 +4,19 @@ use Rattle.exchange_text.specs.Exchange.{ExchangeParts}
 use Rattle.exchange_text.specs.declared.exchange.Version.{Version}
 use Rattle.drawings.specs.Ladder.{version_words}
 use Rattle.drawings.specs.Rows.{rows_of}
-use Rattle.drawings.specs.declared.picture.TheConstants.{ROW, TOP, OPEN, STYLE, LINES, CARD_LINE, LINES_END, ROW_OPEN, ROW_AT, ROW_END, NUMBER_OPEN, TEXT_END, CLOSE}
 use Rattle.drawings.specs.declared.row.Course.{Course}
 use Rattle.drawings.specs.declared.row.Course.TheVariants.{Arrives, Lost, Added}
 use Rattle.drawings.specs.declared.row.Row.{Row}
 use Rattle.drawings.specs.declared.row.Row.TheVariants.{Said, Between, Block}
 use Rattle.drawings.specs.declared.row.Side.{Side}
 use Rattle.drawings.specs.declared.row.Side.TheVariants.{Terminal, Card}
+
+-- how high a row is, in units of the picture, and where the first row begins
+abbrev pub row_height : ℕ
+row_height = 24
+
+abbrev pub first_row : ℕ
+first_row = 36
 
 -- a character as SVG wants it
 abbrev pub escape : ℕ → List ℕ
@@ -30,7 +36,7 @@ enclosed before number after = before ++ (decimal number ++ after)
 
 -- a label as text, after what says where it is
 abbrev pub label_text : List ℕ → List ℕ → List ℕ
-label_text before label = before ++ (escaped label ++ TEXT_END.now)
+label_text before label = before ++ (escaped label ++ codes "</text>")
 
 abbrev pub at_side : Side → List ℕ
 at_side Terminal = codes "<text x=\"92\" y=\"14\">"
@@ -45,29 +51,56 @@ arrow Card Arrives = codes "<path d=\"M780 19H80m7-4-7 4 7 4\"/>"
 arrow Card Lost = codes "<path class=\"lost\" d=\"M780 19H220m-5-5 10 10m0-10-10 10\"/>"
 arrow Card Added = codes "<path class=\"lost\" stroke-dasharray=\"2 4\" d=\"M780 19H220m-5-5 10 10m0-10-10 10\"/>"
 
+-- the number of a block
+unfoldable pub number_text : ℕ → List ℕ
+number_text number = enclosed (codes "<text class=\"number\" x=\"68\" y=\"16\">") number (codes "</text>")
+
 -- what a row has
 abbrev pub parts_text : Row → List ℕ
 parts_text (Said side label) = label_text (at_side side) label
 parts_text (Between label) = label_text (codes "<text class=\"middle\" x=\"430\" y=\"14\">") label
-parts_text (Block number from course label) = enclosed NUMBER_OPEN.now number TEXT_END.now
-    ++ (arrow from course ++ label_text (at_side from) label)
+parts_text (Block number from course label) =
+    number_text number ++ (arrow from course ++ label_text (at_side from) label)
 
 -- a row that begins here
 abbrev pub row_text : ℕ → Row → List ℕ
-row_text top row = enclosed ROW_OPEN.now top ROW_AT.now ++ (parts_text row ++ ROW_END.now)
+row_text top row =
+    enclosed (codes "<g transform=\"translate(0 ") top (codes ")\">") ++ (parts_text row ++ codes "</g>\n")
 
 -- each row, below the one before
 abbrev pub rows_text : ℕ → List Row → List ℕ
 rows_text top [] = []
-rows_text top (row ∷ rows) = row_text top row ++ rows_text (top + ROW) rows
+rows_text top (row ∷ rows) = row_text top row ++ rows_text (top + row_height) rows
 
 -- the lines of both sides, of this length
-abbrev pub lines_text : ℕ → List ℕ
-lines_text len = enclosed LINES.now len [] ++ enclosed CARD_LINE.now len LINES_END.now
+unfoldable pub lines_text : ℕ → List ℕ
+lines_text len =
+    enclosed (codes "</text>\n<path d=\"M80 26v") len [] ++ enclosed (codes "M780 26v") len (codes "\"/>\n")
+
+-- how the picture looks, dark where the browser is, and both sides
+unfoldable pub style_text : List ℕ
+style_text = codes "\">\n"
+    ++ (codes "<title>A recorded exchange between terminal and card</title>\n"
+    ++ (codes "<style>\n"
+    ++ (codes "svg { background: #fff; color: #222; font: 12px monospace; }\n"
+    ++ (codes "text { fill: currentColor; white-space: pre; }\n"
+    ++ (codes "path { fill: none; stroke: currentColor; }\n"
+    ++ (codes ".number, .card { text-anchor: end; }\n"
+    ++ (codes ".middle { text-anchor: middle; }\n"
+    ++ (codes ".lost { stroke: #c00; }\n"
+    ++ (codes "@media (prefers-color-scheme: dark) { svg { background: #111; color: #ddd; } .lost { stroke: #f66; } }\n"
+    ++ (codes "</style>\n"
+    ++ (codes "<text class=\"middle\" x=\"80\" y=\"18\">terminal</text>\n"
+    ++ (codes "<text class=\"middle\" x=\"780\" y=\"18\">card</text>\n"
+    ++ (codes "<text class=\"middle\" x=\"430\" y=\"18\">")))))))))))))
+
+-- what comes before the height of the picture
+unfoldable pub before_height : List ℕ
+before_height = codes "<svg xmlns=\"http://www.w3.org/2000/svg\" role=\"img\" width=\"860\" height=\""
 
 -- the begin of the picture, by the height of its rows
 unfoldable pub open_text : ℕ → List ℕ
-open_text height = enclosed OPEN.now (height + TOP) STYLE.now
+open_text height = enclosed before_height (height + first_row) style_text
 
 -- what comes before the rows
 abbrev pub head_text : Version → ℕ → List ℕ
@@ -75,7 +108,7 @@ head_text version height = open_text height ++ (version_words version ++ lines_t
 
 -- the picture of rows of this height
 abbrev pub rows_picture : Version → ℕ → List Row → List ℕ
-rows_picture version height rows = head_text version height ++ (rows_text TOP rows ++ CLOSE.now)
+rows_picture version height rows = head_text version height ++ (rows_text first_row rows ++ codes "</svg>\n")
 
 abbrev pub picture_text : ExchangeParts → List ℕ
-picture_text e = rows_picture e.version (length (rows_of e) * ROW) (rows_of e)
+picture_text e = rows_picture e.version (length (rows_of e) * row_height) (rows_of e)

@@ -121,7 +121,7 @@ fn push_picture(
 
 /// How high so many rows are; more of them than memory has room for may be none.
 fn height_of(count: usize) -> Result<usize, AllocError>
-    ensures { IfOk result (λ height. height ≡ count * ROW) }
+    ensures { IfOk result (λ height. height ≡ count * picture.row_height) }
 {
     count.checked_mul(ROW).ok_or(AllocError)
 }
@@ -146,10 +146,27 @@ fn push_open(alloc: Global, text: &mut Vec<u8>, height: usize) -> Result<(), All
     ensures { OnOk result (text.new.items ≡ text.old.items ++ picture.open_text height) }
 {
     let whole = height.checked_add(TOP).ok_or(AllocError)?;
-    push_enclosed(alloc, text, OPEN, whole, STYLE)
+    push_enclosed(alloc, text, before_height(), whole, style())
+}
+
+/// What comes before the height of the picture.
+#[tactic(auto, unfolding(crate::specs::Picture::before_height))]
+fn before_height() -> &'static str
+    ensures { result.now ≡ picture.before_height }
+{
+    OPEN
+}
+
+/// What comes after it.
+#[tactic(auto, unfolding(crate::specs::Picture::style_text))]
+fn style() -> &'static str
+    ensures { result.now ≡ picture.style_text }
+{
+    STYLE
 }
 
 /// Adds the lines of both sides, of this length.
+#[tactic(auto, unfolding(crate::specs::Picture::lines_text))]
 fn push_lines(alloc: Global, text: &mut Vec<u8>, len: usize) -> Result<(), AllocError>
     ensures { OnOk result (text.new.items ≡ text.old.items ++ picture.lines_text len) }
 {
@@ -160,7 +177,7 @@ fn push_lines(alloc: Global, text: &mut Vec<u8>, len: usize) -> Result<(), Alloc
 /// Adds each row, below the one before.
 fn push_rows(alloc: Global, text: &mut Vec<u8>, rows: &[Row]) -> Result<(), AllocError>
     ensures { OnOk result (text.new.items
-        ≡ text.old.items ++ picture.rows_text TOP rows.now) }
+        ≡ text.old.items ++ picture.rows_text picture.first_row rows.now) }
 {
     let mut top = TOP;
     for row in rows {
@@ -192,11 +209,19 @@ fn push_parts(alloc: Global, text: &mut Vec<u8>, row: &Row) -> Result<(), AllocE
             course,
             label,
         } => {
-            push_enclosed(alloc, text, NUMBER_OPEN, *number, TEXT_END)?;
+            push_number(alloc, text, *number)?;
             push(text, arrow(*from, *course))?;
             push_label(text, at_side(*from), label.get())
         }
     }
+}
+
+/// Adds the number of a block.
+#[tactic(auto, unfolding(crate::specs::Picture::number_text))]
+fn push_number(alloc: Global, text: &mut Vec<u8>, number: usize) -> Result<(), AllocError>
+    ensures { OnOk result (text.new.items ≡ text.old.items ++ picture.number_text number) }
+{
+    push_enclosed(alloc, text, NUMBER_OPEN, number, TEXT_END)
 }
 
 /// What comes before a label at a side.

@@ -4,3 +4,4 @@ pub mod Octets
 pub mod Sources
 pub mod SourceOctets
 pub mod NoSource
+pub mod NoDump

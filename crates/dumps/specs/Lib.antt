@@ -4,4 +4,5 @@ pub mod Taking
 pub mod Words
 pub mod Source
 pub mod SourceStop
+pub mod DumpStop
 pub mod Faults

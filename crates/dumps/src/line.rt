@@ -1,7 +1,8 @@
 //! The lines of a dump, taken one after another.
 
-ghost use Rattle.std.specs.Prelude.{◌≡◌, ◌++◌, Some, IfOk, length};
+ghost use Rattle.std.specs.Prelude.{◌≡◌, ◌++◌, Some, IfOk};
 ghost use Rattle.dumps.specs.Dump.{copies, ended, is_offset, line_of, nothing_taken, starred, up_to, with_line, with_row, Becomes, ComesTo};
+ghost use Rattle.dumps.specs.DumpStop.{may_be_at, may_repeat};
 ghost use Rattle.dumps.specs.Taking.{taken};
 ghost use Rattle.dumps.specs.declared.line.Before.TheVariants as before;
 
@@ -51,11 +52,16 @@ impl Dump {
         }
     }
 
-    /// How many octets the lines so far gave.
-    pub(crate) fn count(&self) -> usize
-        ensures { result ≡ length self.now.octets.items }
+    /// Whether an offset may be in front of the next line: that of the octets so far or, after a `*`, one up to which
+    /// the last row can be repeated.
+    pub(crate) fn may_be_at(&self, at: usize) -> bool
+        ensures { result ≡ may_be_at at (taken self.now) }
     {
-        self.octets.len()
+        match self.before {
+            Before::Star => may_repeat(self.octets.len(), at),
+            Before::End => false,
+            Before::Nothing | Before::Row(_) => at == self.octets.len(),
+        }
     }
 
     /// Takes one more line, without its end. One that doesn't go on the dump is `Form`.
@@ -116,14 +122,13 @@ impl Dump {
     }
 
     /// Repeats the last row up to an offset, where a `*` asks for that. Else the offset is that of the octets.
-    pub(crate) fn come_to(&mut self, at: usize) -> Result<(), DumpFault>
+    fn come_to(&mut self, at: usize) -> Result<(), DumpFault>
         ensures { ComesTo (up_to at self.old.before (taken self.old)) (taken self.old)
             (taken self.new) result }
     {
         let is_there = match self.before {
             Before::Star => return self.repeat(at),
-            Before::End => false,
-            Before::Nothing | Before::Row(_) => at == self.octets.len(),
+            Before::End | Before::Nothing | Before::Row(_) => self.may_be_at(at),
         };
         if is_there {
             Ok(())
@@ -137,11 +142,11 @@ impl Dump {
         ensures { ComesTo (up_to at before.Star (taken self.old)) (taken self.old) (taken self.new)
             result }
     {
-        let more = at.saturating_sub(self.octets.len());
-        if at > GREATEST_OFFSET || more == 0 || more % WHOLE != 0 {
+        let count = self.octets.len();
+        if !may_repeat(count, at) {
             return Err(DumpFault::Form);
         }
-        self.copy(more / WHOLE)?;
+        self.copy(at.saturating_sub(count) / WHOLE)?;
         Ok(())
     }
 
@@ -169,6 +174,14 @@ impl Dump {
         self.before = Before::Row(style);
         Ok(())
     }
+}
+
+/// Whether copies of a row of 16 octets, at least one, come from so many octets up to an offset.
+fn may_repeat(count: usize, at: usize) -> bool
+    ensures { result ≡ may_repeat count at }
+{
+    let more = at.saturating_sub(count);
+    at <= GREATEST_OFFSET && more >= 1 && more % WHOLE == 0
 }
 
 /// Whether an offset of so many digits may be there, with this text after it. One alone ends a dump as `od` and

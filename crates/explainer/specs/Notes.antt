@@ -1,5 +1,5 @@
 -- What is said of octets after the line of their verdict.
-use Rattle.std.specs.Prelude.{◌≡◌, ℕ, nat_le, nat_lt, true, false, ◌+◌, ◌-◌, ◌*◌, List, ◌++◌, [], ◌∷◌, codes, decimal, drop, encode_utf8, length, take, ◌==◌, Option, Some, None, if◌then◌else◌, Result, Ok, Err}
+use Rattle.std.specs.Prelude.{◌≡◌, ℕ, nat_le, nat_lt, max, not, Bool, true, false, ◌&&◌, ◌||◌, ◌<◌, ◌+◌, ◌-◌, ◌*◌, List, ◌++◌, [], ◌∷◌, codes, decimal, drop, encode_utf8, length, take, ◌==◌, Option, Some, None, if◌then◌else◌, Result, Ok, Err}
 use Rattle.std.specs.List.{list_any, repeat}
 use Rattle.hex.specs.Hex.{encode_upper}
 use Rattle.octet_core.specs.declared.stop.Stop.{Stop}
@@ -9,10 +9,19 @@ use Rattle.atr_core.specs.Atr.{AtrParts, IsAtr, IsReason}
 use Rattle.atr_core.specs.T1.{t1_params_of, T1Values}
 use Rattle.atr_core.specs.declared.params.ParamFault.{ParamFault}
 use Rattle.atr_core.specs.declared.reason.AtrReason.{AtrReason}
+use Rattle.tlv_core.specs.Tag.{is_tag}
 use Rattle.card_words.specs.Given.{octets_in}
 use Rattle.card_words.specs.declared.fault.Fault.{Fault}
+use Rattle.card_words.specs.declared.given.Form.{Form}
 use Rattle.card_words.specs.declared.given.Form.TheVariants as form
 use Rattle.card_words.specs.declared.session.Session.{Session}
+use Rattle.dumps.specs.Dump.{begins_with_offset}
+use Rattle.dumps.specs.DumpStop.{dump_stop}
+use Rattle.dumps.specs.SourceStop.{source_stop}
+use Rattle.dumps.specs.declared.no_dump.DumpWrong.{DumpWrong}
+use Rattle.dumps.specs.declared.no_source.SourceWrong.{SourceWrong}
+use Rattle.dumps.specs.declared.no_source.SourceWrong.TheVariants as source
+use Rattle.explainer.specs.Sentences.{atr_sentence, dump_sentence, form_text, lack_sentence, source_sentence}
 
 -- the place of the first octet that is shown: at most 16 octets stand before the one that is marked
 abbrev pub first_shown : ℕ → ℕ
@@ -54,11 +63,32 @@ abbrev pub command_has : List ℕ → ℕ
 command_has (cla ∷ ins ∷ p1 ∷ p2 ∷ lc ∷ more) = if lc == 0 then extended_has more else 5 + lc
 command_has octets = 4
 
+-- the octets of a tag under way after others of a data object list, or a whole one whose length comes next
+abbrev pub begun_after : List ℕ → List ℕ → List ℕ
+begun_after tag [] = tag
+begun_after tag (x ∷ more) = begun_after (if is_tag tag then [] else tag ++ x ∷ []) more
+
+-- how many octets a list that is short wants at least: the length after a whole tag, else one more octet of the tag as
+-- well (EMV 4.3 Book 3, 5.4)
+abbrev pub list_wants : List ℕ → ℕ
+list_wants b = if is_tag (begun_after [] b) then 1 else 2
+
 -- how many octets are left after a value that ends by itself
 abbrev pub left_note : ℕ → List ℕ
 left_note count = if count == 0 then [] else (codes "octets left after it: " ++ (decimal count ++ codes "\n"))
 
--- The note of a refusal. Which words the sentence has, and how many octets are known to be wanting, is open.
+-- the note of a refusal, by the sentence of each reason, and by how many octets are known to be wanting
+abbrev pub stop_text : {R : Type 0} → (R → List ℕ) → List ℕ → Option ℕ → Stop R → List ℕ
+stop_text says b least (At place reason) = refused_note b place (says reason)
+stop_text says b least (Short place) = short_note (length b) least
+
+-- that on a verdict: of a value that takes so many octets it tells how many are left
+abbrev pub verdict_text : {R : Type 0} → (R → List ℕ) → List ℕ → Option ℕ → Result ℕ (Stop R) → List ℕ
+verdict_text says b least (Ok n) = left_note (length b - n)
+verdict_text says b least (Err stop) = stop_text says b least stop
+
+-- The note of a refusal. Which words the sentence has, and how many octets are known to be wanting, is open here:
+-- `stop_text` has both.
 pub data IsStopNote {R : Type 0} (b : List ℕ) (stop : Stop R) (note : List ℕ) : Type 0 where
   refused : (place : ℕ) (reason : R) (sentence : List ℕ) → stop ≡ At place reason → note ≡ refused_note b place sentence
       → IsStopNote b stop note
@@ -82,11 +112,10 @@ abbrev pub longer_note : ℕ → ℕ → List ℕ
 longer_note taken left = codes "octets of the answer to reset: "
     ++ (decimal taken ++ (codes "; octets left after it: " ++ (decimal left ++ codes "\n")))
 
--- The note on an answer to reset by its parameters of T=1: none where it has them, else what it lacks. Which words the
--- sentence has is open.
+-- The note on an answer to reset by its parameters of T=1: none where it has them, else what it lacks.
 pub data IsLackNote (a : AtrParts) (note : List ℕ) : Type 0 where
   has_all : (values : T1Values) → t1_params_of a ≡ Ok values → note ≡ [] → IsLackNote a note
-  lacks : (fault : ParamFault) (sentence : List ℕ) → t1_params_of a ≡ Err fault → note ≡ lack_note sentence
+  lacks : (fault : ParamFault) → t1_params_of a ≡ Err fault → note ≡ lack_note (lack_sentence fault)
       → IsLackNote a note
 
 -- The note on the octets that a session is to begin from: that on the answer to reset which they all are, how many are
@@ -95,8 +124,8 @@ pub data IsSessionNote (b note : List ℕ) : Type 0 where
   whole : (a : AtrParts) → Accepts self_ended IsAtr b a (length b) → IsLackNote a note → IsSessionNote b note
   longer : (a : AtrParts) (n : ℕ) → Accepts self_ended IsAtr b a n → (n ≡ length b → ⊥)
       → note ≡ longer_note n (length b - n) → IsSessionNote b note
-  no_atr : (stop : Stop AtrReason) → Refuses self_ended IsAtr IsReason b stop → IsStopNote b stop note
-      → IsSessionNote b note
+  no_atr : (stop : Stop AtrReason) → Refuses self_ended IsAtr IsReason b stop
+      → note ≡ stop_text atr_sentence b None stop → IsSessionNote b note
 
 -- a list that names blocks which were never sent, which these are, and how many were sent
 abbrev pub unsent_line : List ℕ → List ℕ → ℕ → List ℕ
@@ -171,6 +200,87 @@ place_note number column what line before =
     codes "line " ++ (decimal number ++ (codes ", column " ++ (decimal column
     ++ (codes ": " ++ (what ++ (codes "\n" ++ (line ++ (codes "\n"
     ++ (repeat before (codes " ") ++ codes "^\n")))))))))
+
+-- the number of the line that has a place, from 1, and where it begins: after the octets up to here it was this line
+abbrev pub line_from : ℕ → ℕ × ℕ → ℕ → List ℕ → ℕ × ℕ
+line_from at line place [] = line
+line_from at line place (x ∷ more) =
+    line_from (at + 1) (if x == 10 && nat_lt at place then (line.0 + 1, at + 1) else line) place more
+
+-- an octet as a character, a question mark where it isn't printable
+abbrev pub character : ℕ → ℕ
+character x = if nat_le 32 x && nat_le x 126 then x else 63
+
+-- the characters of a line up to its end
+abbrev pub line_shown : List ℕ → List ℕ
+line_shown [] = []
+line_shown (x ∷ more) = if x == 10 || x == 13 then [] else encode_utf8 (character x) ++ line_shown more
+
+-- of a line that begins here, at most 40 characters before a place are shown
+abbrev pub shown_from : ℕ → ℕ → ℕ
+shown_from start place = max start (place - 40)
+
+-- a place of a text, in this line, with what is said of it
+abbrev pub marked_in : List ℕ → ℕ → List ℕ → ℕ × ℕ → List ℕ
+marked_in text place what (number, start) = place_note number (place - start + 1) what
+    (line_shown (take 60 (drop (shown_from start place) text))) (place - shown_from start place)
+
+abbrev pub marked_text : List ℕ → ℕ → List ℕ → List ℕ
+marked_text text place what = marked_in text place what (line_from 0 (1, 0) place text)
+
+-- a place of a text with what is said of it; of its end, one after its last character that isn't blank
+pub record IsPlaceNote (text : List ℕ) (place : ℕ) (what note : List ℕ) : Type 0 where
+  pub at : ℕ
+  pub here : place < length text → at ≡ place
+  pub is : note ≡ marked_text text at what
+
+-- the note on a text by where it stops being a dump
+abbrev pub IsDumpNote : List ℕ → Option (ℕ × DumpWrong) → List ℕ → Type 0
+IsDumpNote text None note = note ≡ []
+IsDumpNote text (Some (place, wrong)) note = IsPlaceNote text place (dump_sentence wrong) note
+
+-- and by where it stops being a source: which words tell a character that may not be there is open
+abbrev pub IsSourceNote : List ℕ → Option (ℕ × SourceWrong) → List ℕ → Type 0
+IsSourceNote text None note = note ≡ []
+IsSourceNote text (Some (place, source.Character)) note = (what : List ℕ) × (note ≡ marked_text text place what)
+IsSourceNote text (Some (place, wrong)) note = IsPlaceNote text place (source_sentence wrong) note
+
+-- what is said first of a text that isn't in its form: of hexadecimal it is open
+abbrev pub IsFirstNote : Form → List ℕ → List ℕ → Type 0
+IsFirstNote form.Hex text note = Unit {0}
+IsFirstNote form.Octets text note = note ≡ []
+IsFirstNote form.Dump text note = IsDumpNote text (dump_stop text) note
+IsFirstNote form.Source text note = IsSourceNote text (source_stop text) note
+
+abbrev pub is_form : Form → Form → Bool
+is_form form.Hex form.Hex = true
+is_form form.Octets form.Octets = true
+is_form form.Dump form.Dump = true
+is_form form.Source form.Source = true
+is_form _ _ = false
+
+-- a text is in a form
+abbrev pub is_taken : Result (List ℕ) Fault → Bool
+is_taken (Ok octets) = true
+is_taken (Err fault) = false
+
+abbrev pub takes : Form → List ℕ → Bool
+takes other text = is_taken (octets_in other text)
+
+-- The option for another form that takes a text, as a line. Hexadecimal has no offsets: it would take them for octets.
+abbrev pub other_text : Form → List ℕ → List ℕ
+other_text given text =
+    if not (is_form given form.Hex) && (not (begins_with_offset text) && takes form.Hex text)
+    then codes "--stdin hex takes this text\n"
+    else (if not (is_form given form.Dump) && takes form.Dump text then codes "--stdin dump takes this text\n"
+    else (if not (is_form given form.Source) && takes form.Source text then codes "--stdin source takes this text\n"
+    else []))
+
+-- that first, what the form is, and which other one takes the text
+pub record IsTextNote (given : Form) (text note : List ℕ) : Type 0 where
+  pub first : List ℕ
+  pub says : IsFirstNote given text first
+  pub is : note ≡ first ++ (form_text given ++ other_text given text)
 
 -- that a text which is taken for hexadecimal is a dump of some octets too
 abbrev pub offsets_said : Result (List ℕ) Fault → List ℕ

@@ -1,7 +1,7 @@
 //! The notes on octets: a refused octet with a mark under it, how many are wanting, how many are left.
 
 ghost use Rattle.std.specs.Prelude.{◌≡◌, ◌++◌, IfOk, drop, length, string_bytes, take};
-ghost use Rattle.explainer.specs.Notes.{left_note, mark_text, refused_note, short_note, IsStopNote};
+ghost use Rattle.explainer.specs.Notes.{left_note, mark_text, refused_note, short_note, stop_text};
 
 use crate::reason::Explained;
 use octet_core::{Stop, hex_upper};
@@ -20,7 +20,8 @@ pub(crate) fn stop_note<R: Explained>(
     stop: Stop<R>,
     least: Option<usize>,
 ) -> Result<String, AllocError>
-    ensures { IfOk result (λ text. IsStopNote octets.now stop (string_bytes text)) }
+    ensures { IfOk result (λ text.
+        string_bytes text ≡ stop_text R.says octets.now least stop) }
 {
     match stop {
         Stop::Short { .. } => short(alloc, octets.len(), least),
@@ -51,7 +52,7 @@ fn mark(alloc: Global, place: usize) -> Result<String, AllocError>
 }
 
 /// So many octets from a place on, or as many as there are.
-fn part(octets: &[u8], from: usize, count: usize) -> &[u8]
+pub(crate) fn part(octets: &[u8], from: usize, count: usize) -> &[u8]
     ensures { result.now ≡ take count (drop from octets.now) }
 {
     let rest = &octets[from.min(octets.len())..];

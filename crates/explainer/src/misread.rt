@@ -1,18 +1,28 @@
 //! The notes on texts that are no dump, or no source.
 
+ghost use Rattle.std.specs.Prelude.{◌≡◌, ℕ, List, IfOk, string_bytes};
+ghost use Rattle.dumps.specs.DumpStop.{dump_stop};
+ghost use Rattle.dumps.specs.SourceStop.{source_stop};
+ghost use Rattle.explainer.specs.Notes.{marked_text, IsDumpNote, IsPlaceNote, IsSourceNote};
+ghost use Rattle.explainer.specs.Sentences.{dump_sentence, source_sentence};
+
 use crate::text::{is_printable, marked_place};
 use dumps::{DumpWrong, SourceWrong, dump_stop, source_stop};
 use std::alloc::{AllocError, Global};
 
 /// The first place of a text that is wrong in a dump.
-pub(crate) fn dump_note(alloc: Global, text: &[u8]) -> Result<String, AllocError> {
+pub(crate) fn dump_note(alloc: Global, text: &[u8]) -> Result<String, AllocError>
+    ensures { IfOk result (λ note. IsDumpNote text.now (dump_stop text.now) (string_bytes note)) }
+{
     match dump_stop(alloc, text)? {
         Some((place, wrong)) => at_place(alloc, text, place, dump_sentence(wrong)),
         None => Ok(String::new(alloc)),
     }
 }
 
-fn dump_sentence(wrong: DumpWrong) -> &'static str {
+fn dump_sentence(wrong: DumpWrong) -> &'static str
+    ensures { result.now ≡ dump_sentence wrong }
+{
     match wrong {
         DumpWrong::Offset => "an offset has four hexadecimal digits or more",
         DumpWrong::Place => "this offset isn't the number of octets before it",
@@ -23,7 +33,10 @@ fn dump_sentence(wrong: DumpWrong) -> &'static str {
 }
 
 /// The first place of a text that is wrong in a source.
-pub(crate) fn source_note(alloc: Global, text: &[u8]) -> Result<String, AllocError> {
+pub(crate) fn source_note(alloc: Global, text: &[u8]) -> Result<String, AllocError>
+    ensures { IfOk result (λ note.
+        IsSourceNote text.now (source_stop text.now) (string_bytes note)) }
+{
     match source_stop(text) {
         Some((place, SourceWrong::Character)) => stray_note(alloc, text, place),
         Some((place, wrong)) => at_place(alloc, text, place, source_sentence(wrong)),
@@ -31,7 +44,9 @@ pub(crate) fn source_note(alloc: Global, text: &[u8]) -> Result<String, AllocErr
     }
 }
 
-fn source_sentence(wrong: SourceWrong) -> &'static str {
+fn source_sentence(wrong: SourceWrong) -> &'static str
+    ensures { result.now ≡ source_sentence wrong }
+{
     match wrong {
         SourceWrong::Character => "a character that may not be here",
         SourceWrong::Word => "no octet, or one that is written in another way than those before",
@@ -41,7 +56,10 @@ fn source_sentence(wrong: SourceWrong) -> &'static str {
 }
 
 /// A character that may not be where it is.
-fn stray_note(alloc: Global, text: &[u8], place: usize) -> Result<String, AllocError> {
+fn stray_note(alloc: Global, text: &[u8], place: usize) -> Result<String, AllocError>
+    ensures { IfOk result (λ note. (what : List ℕ)
+        × (string_bytes note ≡ marked_text text.now place what)) }
+{
     let octet = text.get(place).copied().unwrap_or(0);
     let what = if is_printable(octet) {
         format!(in alloc; "'{}' may not be here", char::from(octet))?
@@ -52,7 +70,9 @@ fn stray_note(alloc: Global, text: &[u8], place: usize) -> Result<String, AllocE
 }
 
 /// A place of a text, or for its end the one after its last character that isn't blank.
-fn at_place(alloc: Global, text: &[u8], place: usize, what: &str) -> Result<String, AllocError> {
+fn at_place(alloc: Global, text: &[u8], place: usize, what: &str) -> Result<String, AllocError>
+    ensures { IfOk result (λ note. IsPlaceNote text.now place what.now (string_bytes note)) }
+{
     let place = if place < text.len() {
         place
     } else {

@@ -1,8 +1,9 @@
 //! Notes on octets, by the verdict on them.
 
-ghost use Rattle.std.specs.Prelude.{◌≡◌, ◌-◌, Some, length, IfOk, string_bytes};
-ghost use Rattle.card_words.specs.declared.request.Kind.TheVariants.{Block, Command, Response};
-ghost use Rattle.explainer.specs.Notes.{block_has, command_has, IsVerdictNote};
+ghost use Rattle.std.specs.Prelude.{◌≡◌, ◌-◌, None, Some, length, IfOk, string_bytes};
+ghost use Rattle.card_words.specs.declared.request.Kind.TheVariants.{Atr, Block, Chain, Command, Dol, Response, Tlv};
+ghost use Rattle.tlv_core.specs.Tag.{is_tag};
+ghost use Rattle.explainer.specs.Notes.{block_has, command_has, list_wants, verdict_text, IsVerdictNote};
 
 use crate::mark::{left, stop_note};
 use crate::reason::Explained;
@@ -10,7 +11,7 @@ use block_core::block_len;
 use card_words::Kind;
 use octet_core::Stop;
 use std::alloc::{AllocError, Global};
-use tlv_core::{EntryWalk, Tag};
+use tlv_core::Tag;
 
 /// The explanation of octets, by the verdict on them: where they are refused and why, how many are
 /// wanting, or how many are left after the value, which takes so many; else nothing. `least` is how many octets must
@@ -21,7 +22,21 @@ pub fn verdict_note<R: Explained>(
     verdict: Result<usize, Stop<R>>,
     least: Option<usize>,
 ) -> Result<String, AllocError>
-    ensures { IfOk result (λ note. IsVerdictNote octets.now verdict (string_bytes note)) }
+    ensures text { IfOk result (λ note.
+        string_bytes note ≡ verdict_text R.says octets.now least verdict) }
+    ensures note { IfOk result (λ note. IsVerdictNote octets.now verdict (string_bytes note)) }
+{
+    verdict_said(alloc, octets, verdict, least)
+}
+
+fn verdict_said<R: Explained>(
+    alloc: Global,
+    octets: &[u8],
+    verdict: Result<usize, Stop<R>>,
+    least: Option<usize>,
+) -> Result<String, AllocError>
+    ensures { IfOk result (λ note.
+        string_bytes note ≡ verdict_text R.says octets.now least verdict) }
 {
     match verdict {
         Ok(taken) => left(alloc, octets.len().saturating_sub(taken)),
@@ -34,6 +49,10 @@ pub fn least_wanting(kind: Kind, octets: &[u8]) -> Option<usize>
     ensures block { kind ≡ Block → result ≡ Some (block_has octets.now - length octets.now) }
     ensures command { kind ≡ Command → result ≡ Some (command_has octets.now - length octets.now) }
     ensures response { kind ≡ Response → result ≡ Some (2 - length octets.now) }
+    ensures list { kind ≡ Dol → result ≡ Some (list_wants octets.now) }
+    ensures atr { kind ≡ Atr → result ≡ None }
+    ensures chain { kind ≡ Chain → result ≡ None }
+    ensures forest { kind ≡ Tlv → result ≡ None }
 {
     match kind {
         Kind::Block => Some(wanting_of_block(octets)),
@@ -69,15 +88,21 @@ fn wanting_of_command(octets: &[u8]) -> usize
 
 /// How many octets a data object list that is short wants at least: after a whole tag its length, else one more octet
 /// of the tag as well.
-fn wanting_of_list(octets: &[u8]) -> usize {
-    let mut walk = EntryWalk::new();
-    let mut place = 0_usize;
-    for _ in 0..octets.len() {
-        match walk.next_entry(octets) {
-            Ok(Some((tag, _))) => place = place.saturating_add(tag.octets().len() + 1),
-            _ => break,
+fn wanting_of_list(octets: &[u8]) -> usize
+    ensures { result ≡ list_wants octets.now }
+{
+    let mut start = 0;
+    for at in 0..octets.len() {
+        if is_tag(&octets[start..at]) {
+            start = at + 1;
         }
     }
-    let rest = &octets[place.min(octets.len())..];
-    if Tag::new(rest).is_some() { 1 } else { 2 }
+    if is_tag(&octets[start..]) { 1 } else { 2 }
+}
+
+/// Whether octets are one whole tag.
+fn is_tag(octets: &[u8]) -> bool
+    ensures { result ≡ is_tag octets.now }
+{
+    Tag::new(octets).is_some()
 }

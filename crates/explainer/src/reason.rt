@@ -1,4 +1,6 @@
-//! What was expected where octets are refused, a sentence for each reason.
+//! What was expected where octets are refused: the sentence that `specs/Sentences.antt` has for each reason.
+
+ghost use Rattle.std.specs.Prelude.{◌≡◌, ℕ, List};
 
 use apdu_core::{CommandReason, ResponseReason};
 use atr_core::AtrReason;
@@ -8,11 +10,19 @@ use tlv_core::{DolReason, TlvReason};
 
 /// A reason why octets are refused, with what was expected in their place.
 pub trait Explained {
+    /// The sentence of each reason.
+    ghost says: { Self → List ℕ };
+
     /// What was expected.
-    fn sentence(self) -> &'static str;
+    fn sentence(self) -> &'static str
+        ensures { result.now ≡ says self };
 }
 
 impl Explained for AtrReason {
+    ghost use Rattle.explainer.specs.Sentences.{atr_sentence};
+
+    ghost says = { atr_sentence };
+
     fn sentence(self) -> &'static str {
         match self {
             AtrReason::BadTs => "TS, the first octet, is 3B (direct) or 3F (inverse)",
@@ -23,6 +33,10 @@ impl Explained for AtrReason {
 }
 
 impl Explained for BlockReason {
+    ghost use Rattle.explainer.specs.Sentences.{block_sentence};
+
+    ghost says = { block_sentence };
+
     fn sentence(self) -> &'static str {
         match self {
             BlockReason::BadPcb => "this PCB is of no I-block, R-block or S-block",
@@ -37,6 +51,10 @@ impl Explained for BlockReason {
 }
 
 impl Explained for ChainReason {
+    ghost use Rattle.explainer.specs.Sentences.{chain_sentence};
+
+    ghost says = { chain_sentence };
+
     fn sentence(self) -> &'static str {
         match self {
             ChainReason::BadNad => "NAD of each block is 00",
@@ -57,6 +75,10 @@ impl Explained for ChainReason {
 }
 
 impl Explained for CommandReason {
+    ghost use Rattle.explainer.specs.Sentences.{command_sentence};
+
+    ghost says = { command_sentence };
+
     fn sentence(self) -> &'static str {
         match self {
             CommandReason::Trailing => "the length fields allow no octet here",
@@ -65,6 +87,10 @@ impl Explained for CommandReason {
 }
 
 impl Explained for ResponseReason {
+    ghost use Rattle.explainer.specs.Sentences.{response_sentence};
+
+    ghost says = { response_sentence };
+
     fn sentence(self) -> &'static str {
         match self {
             ResponseReason::TooLong => "a response has at most 65538 octets",
@@ -73,6 +99,10 @@ impl Explained for ResponseReason {
 }
 
 impl Explained for TlvReason {
+    ghost use Rattle.explainer.specs.Sentences.{tlv_sentence};
+
+    ghost says = { tlv_sentence };
+
     fn sentence(self) -> &'static str {
         match self {
             TlvReason::TooDeep => "objects stand at most 16 deep, and one more begins here",
@@ -86,6 +116,10 @@ impl Explained for TlvReason {
 }
 
 impl Explained for DolReason {
+    ghost use Rattle.explainer.specs.Sentences.{dol_sentence};
+
+    ghost says = { dol_sentence };
+
     fn sentence(self) -> &'static str {
         match self {
             DolReason::TagZero => "a tag doesn't begin with 00",

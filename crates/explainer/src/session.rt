@@ -2,6 +2,7 @@
 
 ghost use Rattle.std.specs.Prelude.{◌≡◌, IfOk, string_bytes};
 ghost use Rattle.explainer.specs.Notes.{lack_note, large_note, longer_note, IsLackNote, IsSessionNote};
+ghost use Rattle.explainer.specs.Sentences.{lack_sentence};
 
 use crate::mark::stop_note;
 use atr_core::{Atr, ParamFault, t1_params};
@@ -47,7 +48,10 @@ fn longer(alloc: Global, taken: usize, count: usize) -> Result<String, AllocErro
     format!(in alloc; "octets of the answer to reset: {taken}; octets left after it: {count}\n")
 }
 
-fn sentence(fault: ParamFault) -> &'static str {
+/// What an answer to reset lacks, as what follows its name.
+fn sentence(fault: ParamFault) -> &'static str
+    ensures { result.now ≡ lack_sentence fault }
+{
     match fault {
         ParamFault::NoT1 => "has no TD that offers T=1",
         ParamFault::ReservedIfsc =>

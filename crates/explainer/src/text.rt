@@ -1,8 +1,9 @@
 //! The notes on a text of standard input: that it isn't in its form, or that it is a dump too.
 
-ghost use Rattle.std.specs.Prelude.{◌≡◌, IfOk, IfSome, Some, slice_get, string_bytes};
-ghost use Rattle.explainer.specs.Notes.{offsets_note, place_note};
+ghost use Rattle.std.specs.Prelude.{◌≡◌, ◌+◌, ◌&&◌, nat_le, IfOk, IfSome, Some, slice_get, string_bytes, if◌then◌else◌};
+ghost use Rattle.explainer.specs.Notes.{character, line_from, line_shown, marked_text, offsets_note, place_note, is_form, other_text, takes, IsFirstNote, IsTextNote};
 
+use crate::mark::part;
 use crate::misread::{dump_note, source_note};
 use crate::words::what_form;
 use card_words::{Fault, Form};
@@ -38,35 +39,61 @@ enum Wrong {
 /// The explanation of a text that isn't in its form: the first place that is wrong, by its line and column,
 /// counted from 1, with its line and a mark under it; what the form is; and the option for another form that takes the
 /// text, where one does.
-pub fn text_note(alloc: Global, form: Form, text: &[u8]) -> Result<String, AllocError> {
-    let mut note = match form {
-        Form::Hex => hexadecimal_note(alloc, text)?,
-        Form::Dump => dump_note(alloc, text)?,
-        Form::Source => source_note(alloc, text)?,
-        Form::Octets => String::new(alloc),
-    };
+pub fn text_note(alloc: Global, form: Form, text: &[u8]) -> Result<String, AllocError>
+    ensures { IfOk result (λ note. IsTextNote form text.now (string_bytes note)) }
+{
+    let mut note = first_note(alloc, form, text)?;
     note.push_str(what_form(form))?;
     note.push_str(other_form(alloc, form, text)?)?;
     Ok(note)
 }
 
+/// The first place of a text that is wrong in its form.
+fn first_note(alloc: Global, form: Form, text: &[u8]) -> Result<String, AllocError>
+    ensures { IfOk result (λ note. IsFirstNote form text.now (string_bytes note)) }
+{
+    match form {
+        Form::Hex => hexadecimal_note(alloc, text),
+        Form::Dump => dump_note(alloc, text),
+        Form::Source => source_note(alloc, text),
+        Form::Octets => Ok(String::new(alloc)),
+    }
+}
+
 /// The option for another form that takes the text, as a line. Hexadecimal has no offsets: it would take them for
 /// octets.
-fn other_form(alloc: Global, form: Form, text: &[u8]) -> Result<&'static str, AllocError> {
-    if form != Form::Hex && !begins_with_offset(text) && takes(alloc, Form::Hex, text)? {
+fn other_form(alloc: Global, form: Form, text: &[u8]) -> Result<&'static str, AllocError>
+    ensures { IfOk result (λ other. other.now ≡ other_text form text.now) }
+{
+    if !is_form(form, Form::Hex) && !begins_with_offset(text) && takes(alloc, Form::Hex, text)? {
         return Ok("--stdin hex takes this text\n");
     }
-    if form != Form::Dump && takes(alloc, Form::Dump, text)? {
+    if !is_form(form, Form::Dump) && takes(alloc, Form::Dump, text)? {
         return Ok("--stdin dump takes this text\n");
     }
-    if form != Form::Source && takes(alloc, Form::Source, text)? {
+    if !is_form(form, Form::Source) && takes(alloc, Form::Source, text)? {
         return Ok("--stdin source takes this text\n");
     }
     Ok("")
 }
 
+/// Whether two forms are the same.
+fn is_form(form: Form, other: Form) -> bool
+    ensures { result ≡ is_form form other }
+{
+    matches!(
+        (form, other),
+        (Form::Hex, Form::Hex)
+            | (Form::Octets, Form::Octets)
+            | (Form::Dump, Form::Dump)
+            | (Form::Source, Form::Source)
+    )
+}
+
 /// Whether a text is in a form.
-fn takes(alloc: Global, form: Form, text: &[u8]) -> Result<bool, AllocError> {
+fn takes(alloc: Global, form: Form, text: &[u8]) -> Result<bool, AllocError>
+    ensures { IfOk result (λ is_so. is_so ≡ takes form text.now) }
+{
     match form.octets(alloc, Octets::of(text.to_vec(alloc)?)) {
         Ok(_) => Ok(true),
         Err(Fault::Memory) => Err(AllocError),
@@ -224,11 +251,14 @@ pub(crate) fn marked_place(
     text: &[u8],
     place: usize,
     what: &str,
-) -> Result<String, AllocError> {
-    let (number, start) = line_of(text, place);
-    let column = place.saturating_sub(start).saturating_add(1);
+) -> Result<String, AllocError>
+    ensures { IfOk result (λ note.
+        string_bytes note ≡ marked_text text.now place what.now) }
+{
+    let (number, start) = line_of(text, place)?;
+    let column = one_more(place.saturating_sub(start))?;
     let first = start.max(place.saturating_sub(BEFORE));
-    let line = shown(alloc, text, first)?;
+    let line = shown(alloc, part(text, first, SHOWN))?;
     let before = place.saturating_sub(first);
     placed(alloc, number, column, what, line.as_str(), before)
 }
@@ -250,16 +280,34 @@ fn placed(
 }
 
 /// The number of the line that has a place, from 1, and where it begins.
-fn line_of(text: &[u8], place: usize) -> (usize, usize) {
-    let mut number = 1_usize;
-    let mut start = 0_usize;
-    for (at, octet) in text.iter().enumerate() {
-        if *octet == b'\n' && at < place {
-            number = number.saturating_add(1);
-            start = at.saturating_add(1);
-        }
+fn line_of(text: &[u8], place: usize) -> Result<(usize, usize), AllocError>
+    ensures { IfOk result (λ line. line ≡ line_from 0 (1, 0) place text.now) }
+{
+    let mut line = (1, 0);
+    let mut at = 0;
+    for octet in text {
+        line = line_after(line, at, *octet == b'\n' && at < place)?;
+        at += 1;
     }
-    (number, start)
+    Ok(line)
+}
+
+/// The line after an octet at this place, which ends the line before or not.
+fn line_after(line: (usize, usize), at: usize, is_end: bool) -> Result<(usize, usize), AllocError>
+    ensures { IfOk result (λ next. next ≡ (if is_end then (line.0 + 1, at + 1) else line)) }
+{
+    if is_end {
+        Ok((one_more(line.0)?, one_more(at)?))
+    } else {
+        Ok(line)
+    }
+}
+
+/// One more; no text in memory has so many characters that there is none.
+fn one_more(count: usize) -> Result<usize, AllocError>
+    ensures { IfOk result (λ next. next ≡ count + 1) }
+{
+    count.checked_add(1).ok_or(AllocError)
 }
 
 fn sentence(alloc: Global, wrong: Wrong) -> Result<String, AllocError> {
@@ -275,19 +323,33 @@ fn sentence(alloc: Global, wrong: Wrong) -> Result<String, AllocError> {
     }
 }
 
-/// The characters of a line from a place on, a question mark for each that isn't printable.
-fn shown(alloc: Global, text: &[u8], first: usize) -> Result<String, AllocError> {
+/// The characters of a line up to its end, a question mark for each that isn't printable.
+fn shown(alloc: Global, octets: &[u8]) -> Result<String, AllocError>
+    ensures { IfOk result (λ line. string_bytes line ≡ line_shown octets.now) }
+{
     let mut line = String::new(alloc);
-    for octet in text.iter().skip(first).take(SHOWN) {
-        match *octet {
-            b'\n' | b'\r' => break,
-            octet if is_printable(octet) => line.push(char::from(octet))?,
-            _ => line.push('?')?,
+    for octet in octets {
+        if matches!(*octet, b'\n' | b'\r') {
+            return Ok(line);
         }
+        line.push(character(*octet))?;
     }
     Ok(line)
 }
 
-pub(crate) fn is_printable(octet: u8) -> bool {
+/// An octet as a character, a question mark where it isn't printable.
+fn character(octet: u8) -> char
+    ensures { result ≡ character octet }
+{
+    if is_printable(octet) {
+        char::from(octet)
+    } else {
+        '?'
+    }
+}
+
+pub(crate) fn is_printable(octet: u8) -> bool
+    ensures { result ≡ (nat_le 32 octet && nat_le octet 126) }
+{
     0x20 <= octet && octet <= 0x7E
 }

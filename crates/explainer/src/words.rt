@@ -1,5 +1,8 @@
 //! Notes on words that are no request.
 
+ghost use Rattle.std.specs.Prelude.{◌≡◌};
+ghost use Rattle.explainer.specs.Sentences.{form_text};
+
 use crate::message::{shown_words, without_advice};
 use crate::place::{option_place, option_value, place_of, subcommand_place, word_at};
 use crate::word::{hex_note, said};
@@ -143,7 +146,9 @@ fn text_of_form(word: &str) -> Option<&'static str> {
 }
 
 /// What a text in a form is, as a line; nothing of octets, which any text is.
-pub(crate) fn what_form(form: Form) -> &'static str {
+pub(crate) fn what_form(form: Form) -> &'static str
+    ensures { result.now ≡ form_text form }
+{
     match form {
         Form::Hex => {
             "standard input: octets are two hexadecimal digits each, in groups that blanks part\n"

@@ -8,7 +8,7 @@ ghost use Rattle.t1_core.specs.Card.{new_card, replies, more_time, ask_ifs as ca
 ghost use Rattle.c_owned.specs.declared.engine.Engine.TheVariants.{Terminal as TerminalEnd, Card as CardEnd};
 ghost use Rattle.c_lent.specs.Verdict.{wrong_argument, no_memory, ok_at};
 ghost use Rattle.c_lent.specs.Turns.{no_room};
-ghost use Rattle.c_owned.specs.Ends.{TerminalTakes, CardTakes, message_of, PutsMessage};
+ghost use Rattle.c_owned.specs.Ends.{TerminalTakes, CardTakes, HoldsTerminal, HoldsCard, message_of, PutsMessage};
 
 use c_lent::turn::CTurn;
 use c_lent::verdict::Verdict;
@@ -32,6 +32,8 @@ pub extern "C" fn scard_terminal_open(
     ensures stays { result.status ≢ 0 → handle.new.engine ≡ handle.old.engine }
     ensures argument { (IsUsable (record { ifsc = ifsc; bwi = bwi; cwi = cwi }) → ⊥)
         → result ≡ wrong_argument 0 }
+    ensures again { IsUsable (record { ifsc = ifsc; bwi = bwi; cwi = cwi }) →
+        HoldsTerminal handle.old.engine → result ≡ ok_at 0 }
     ensures memory { IsUsable (record { ifsc = ifsc; bwi = bwi; cwi = cwi }) →
         result.status ≢ 0 → result ≡ no_memory }
 {
@@ -55,6 +57,8 @@ pub extern "C" fn scard_card_open(
     ensures stays { result.status ≢ 0 → handle.new.engine ≡ handle.old.engine }
     ensures argument { (IsUsable (record { ifsc = ifsc; bwi = bwi; cwi = cwi }) → ⊥)
         → result ≡ wrong_argument 0 }
+    ensures again { IsUsable (record { ifsc = ifsc; bwi = bwi; cwi = cwi }) →
+        HoldsCard handle.old.engine → result ≡ ok_at 0 }
     ensures memory { IsUsable (record { ifsc = ifsc; bwi = bwi; cwi = cwi }) →
         result.status ≢ 0 → result ≡ no_memory }
 {

@@ -6,7 +6,7 @@ ghost use Rattle.atr_core.specs.Atr.{AtrParts, IsAtr, IsReason};
 ghost use Rattle.atr_core.specs.T1.{t1_params_of};
 ghost use Rattle.atr_core.specs.Rates.{rates_of};
 ghost use Rattle.c_lent.specs.Verdict.{Tells, Puts, ok_at, wrong_argument};
-ghost use Rattle.c_lent.specs.Atr.{atr_reason, atr_of, SaysAtr, IsDecoded, IsT1, rates_seen};
+ghost use Rattle.c_lent.specs.Atr.{atr_reason, atr_of, SaysAtr, IsDecoded, IsT1, IsTold, rates_seen};
 
 use c_lent::atr::{CAtr, CRates, CT1};
 use c_lent::verdict::Verdict;
@@ -27,6 +27,7 @@ pub extern "C" fn scard_atr_check(octets: &[u8]) -> Verdict
 #[unsafe(no_mangle)]
 pub extern "C" fn scard_atr_decode(octets: &[u8], out: &mut CAtr) -> Verdict
     ensures ok { result.status ≡ 0 → IsDecoded octets.now result out.new }
+    ensures told { result.status ≡ 0 → IsTold (atr_of out.new) out.new }
     ensures place { result.status ≡ 0 → result ≡ ok_at result.place }
     ensures refused { result.status ≢ 0 →
         Tells atr_reason (Refuses self_ended IsAtr IsReason octets.now) result }

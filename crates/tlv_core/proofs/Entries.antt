@@ -132,7 +132,8 @@ one_entry_reason r s b h g =
 
 -- ---- some verdict
 
-part_begun : (p : TagPart) → IsTagPart p → IsBegunEntry (part_octets p)
+-- a part of a tag is a part of an entry
+pub part_begun : (p : TagPart) → IsTagPart p → IsBegunEntry (part_octets p)
 part_begun Nothing h = begun_nil
 part_begun (First x) h = record {
   entry = (x ∷ 1 ∷ [], 0);

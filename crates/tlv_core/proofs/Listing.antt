@@ -3,7 +3,7 @@ use Rattle.std.proofs.Common.{◌≡◌, ℕ, ◌+◌, ◌%◌, ◌<◌, ◌≤�
 use Rattle.std.proofs.lemmas.Bool.{false≢true}
 use Rattle.std.specs.Prelude.{Option, Some, None, MatchOption, IfNone, Result, IfErr}
 use Rattle.std.specs.Option.{ok_or}
-use Rattle.std.proofs.lemmas.List.{take_more}
+use Rattle.std.proofs.lemmas.List.{take_all, take_more}
 use Rattle.octet_core.specs.Grammar.{IsFirst, Refuses, whole}
 use Rattle.octet_core.specs.declared.stop.Stop.TheVariants.{At, Short}
 use Rattle.tlv_core.specs.declared.tag_part.TagPart.{TagPart}
@@ -12,8 +12,8 @@ use Rattle.tlv_core.specs.declared.reason.DolReason.{DolReason}
 use Rattle.tlv_core.specs.declared.reason.DolReason.TheVariants.{TagZero, TagSecond, TagLong}
 use Rattle.tlv_core.specs.Tag.{IsTag, IsLong}
 use Rattle.tlv_core.specs.TagPart.{part_octets, IsTagPart}
-use Rattle.tlv_core.specs.Dol.{entry_octets, AreEntries, dol_spelling, IsDol, HasListed, place_after, IsPartAfter, IsWrongEntry, IsDolReason, dol_reasons}
-use Rattle.tlv_core.proofs.Entries.{Entry, Stands, entries_append, spelling_append, refuses_at, short_entry}
+use Rattle.tlv_core.specs.Dol.{AreAllBefore, entry_octets, AreEntries, dol_spelling, IsDol, HasListed, place_after, IsPartAfter, IsWrongEntry, IsDolReason, dol_reasons}
+use Rattle.tlv_core.proofs.Entries.{Entry, Stands, part_begun, entries_append, spelling_append, refuses_at, short_entry}
 
 -- ---- the line of the table
 
@@ -115,6 +115,16 @@ pub listing_refused : (b : List ℕ) (i : ℕ) (entries : List Entry) (p : TagPa
     → Listing (take i b) entries p → IsFirst dol_reasons (IsWrongEntry (part_octets p) (get_or b i 0)) r
     → Refuses whole IsDol IsDolReason b (At i r)
 listing_refused b i entries p r lt l first = refuses_at i b r lt (stands_of (take i b) entries p l) first
+
+-- the octets before a refusal are the entries and the part
+pub before_at : (b : List ℕ) (place : ℕ) (entries : List Entry) (p : TagPart) → Listing (take place b) entries p
+    → AreAllBefore b entries place
+before_at b place entries p l = (part_octets p, part_begun p l.part, l.is)
+
+-- also at the end
+pub before_end : (b : List ℕ) (entries : List Entry) (p : TagPart) → Listing b entries p
+    → AreAllBefore b entries (length b)
+before_end b entries p l = (part_octets p, part_begun p l.part, take_all (length b) b (omega arith) ∙ l.is)
 
 -- entries with no part of a tag after them are a list
 pub listing_whole : (b : List ℕ) (entries : List Entry) (p : TagPart) → Listing b entries p → p ≡ part.Nothing

@@ -73,6 +73,10 @@ abbrev pub IsPartAfter : TagPart → ℕ → TagPart → Type 0
 IsPartAfter (part.Tagged tag) x next = next ≡ part.Nothing
 IsPartAfter begun x next = IsTagPart next × (part_octets next ≡ part_octets begun ++ x ∷ [])
 
+-- the octets before a place are these entries, and a part of one more
+abbrev pub AreAllBefore : List ℕ → List (List ℕ × ℕ) → ℕ → Type 0
+AreAllBefore b entries place = (h : List ℕ) × IsBegunEntry h × (take place b ≡ dol_spelling entries ++ h)
+
 -- b is whole entries, a part of one, and an octet
 pub record EndsInEntry (b : List ℕ) : Type 0 where
   pub done : List (List ℕ × ℕ)

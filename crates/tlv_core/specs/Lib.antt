@@ -37,3 +37,4 @@ pub mod Names
 pub mod TreeCode
 pub mod NodesFall
 pub mod WellProp
+pub mod Stops

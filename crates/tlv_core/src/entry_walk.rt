@@ -1,9 +1,10 @@
 //! A walk over the entries of a data object list, whose caller keeps it.
 
-ghost use Rattle.std.specs.Prelude.{ℕ, ◌<◌, ◌≤◌, ◌++◌, ◌∷◌, [], List, length, IfOk, IfErr, IfSome, IfNone};
+ghost use Rattle.std.specs.Prelude.{◌≡◌, ℕ, ◌<◌, ◌≤◌, ◌++◌, ◌∷◌, [], List, length, IfOk, IfErr, IfSome, IfNone};
 ghost use Rattle.octet_core.specs.Grammar.{Refuses, IsFirst, whole};
 ghost use Rattle.tlv_core.specs.TagPart.{part_octets, IsTagPart};
-ghost use Rattle.tlv_core.specs.Dol.{IsDol, IsDolReason, IsPartAfter, IsWrongEntry, HasListed, listed_by, place_after, dol_reasons};
+ghost use Rattle.tlv_core.specs.Stops.{stop_place};
+ghost use Rattle.tlv_core.specs.Dol.{AreAllBefore, IsDol, IsDolReason, IsPartAfter, IsWrongEntry, HasListed, listed_by, place_after, dol_reasons};
 
 use crate::reason::DolReason;
 use crate::tag::Tag;
@@ -37,7 +38,8 @@ impl EntryWalk {
 
     /// The next entry, its tag and its length, or `None` after the last where all the octets are a list; or why they
     /// are none: `Short` at their end where one goes on, `At` the first octet after which none does. The octets are
-    /// the same in each call. After the last entry, and after a refusal, each call answers the same.
+    /// the same in each call. A refusal comes after each whole entry before its place was given. After the last entry,
+    /// and after a refusal, the walk stays where it is, so each call answers the same.
     pub fn next_entry(&mut self, octets: &[u8]) -> Result<Option<(Tag, u8)>, Stop<DolReason>>
         ensures more { IfOk result (λ next. IfSome next (λ _. self.old < self.new)) }
         ensures given { (entries : List (List ℕ × ℕ)) → HasListed octets.now self.old entries
@@ -47,6 +49,10 @@ impl EntryWalk {
             → IfOk result (λ next. IfNone next (IsDol entries octets.now)) }
         ensures refused { (entries : List (List ℕ × ℕ)) → HasListed octets.now self.old entries
             → IfErr result (Refuses whole IsDol IsDolReason octets.now) }
+        ensures before { (entries : List (List ℕ × ℕ)) → HasListed octets.now self.old entries
+            → IfErr result (λ stop. AreAllBefore octets.now entries (stop_place stop)) }
+        ensures over { IfOk result (λ next. IfNone next (self.new ≡ self.old)) }
+        ensures stays { IfErr result (λ _. self.new ≡ self.old) }
     {
         match entry_at(octets, self.place)? {
             Some((tag, length)) => {
@@ -69,6 +75,8 @@ fn entry_at(octets: &[u8], from: usize) -> Result<Option<(Tag, u8)>, Stop<DolRea
         → IfOk result (λ next. IfNone next (IsDol entries octets.now)) }
     ensures refused { (entries : List (List ℕ × ℕ)) → HasListed octets.now from entries
         → IfErr result (Refuses whole IsDol IsDolReason octets.now) }
+    ensures before { (entries : List (List ℕ × ℕ)) → HasListed octets.now from entries
+        → IfErr result (λ stop. AreAllBefore octets.now entries (stop_place stop)) }
 {
     let mut part = TagPart::Nothing;
     for place in from..octets.len() {

@@ -6,6 +6,7 @@ ghost use Rattle.tlv_core.specs.Forest.{IsForest};
 ghost use Rattle.tlv_core.specs.Parts.{Placed};
 ghost use Rattle.tlv_core.specs.Reasons.{IsReason};
 ghost use Rattle.tlv_core.specs.Progress.{kept_of};
+ghost use Rattle.tlv_core.specs.Stops.{stop_place};
 ghost use Rattle.tlv_core.specs.Flat.{HasGiven, AreAllParts, IsInside, given_by, placed_of};
 
 use crate::part::PlacedPart;
@@ -47,7 +48,8 @@ impl PartWalk {
 
     /// The next object by its place, or `None` after the last where all the octets are a forest; or why they are none:
     /// `Short` at their end where a forest goes on, `At` the first octet after which none does. The octets are the same
-    /// in each call. After the last object, and after a refusal, each call answers the same.
+    /// in each call. A refusal comes after each object whose header is before its place was given, with the walk at that
+    /// place. After the last object, and after a refusal, each call answers the same.
     #[inline(always)]
     pub fn next_part(&mut self, octets: &[u8]) -> Result<Option<PlacedPart>, Stop<TlvReason>>
         ensures limit { self.new.max ≡ self.old.max }
@@ -60,6 +62,7 @@ impl PartWalk {
             → IfOk result (λ next. IfNone next (AreAllParts self.old.max octets.now parts)) }
         ensures refused { (parts : List Placed) → HasGiven octets.now self.old parts
             → IfErr result (Refuses whole (IsForest self.old.max) (IsReason self.old.max) octets.now) }
+        ensures at { IfErr result (λ stop. self.new.count ≡ stop_place stop) }
     {
         next_part(&mut self.progress, octets)
     }
@@ -80,6 +83,7 @@ fn next_part(progress: &mut Progress, octets: &[u8]) -> Result<Option<PlacedPart
     ensures refused { (parts : List Placed) → HasGiven octets.now (kept_of progress.old) parts
         → IfErr result (Refuses whole
         (IsForest progress.old.ends.max) (IsReason progress.old.ends.max) octets.now) }
+    ensures at { IfErr result (λ stop. progress.new.ends.count ≡ stop_place stop) }
 {
     while progress.count() < octets.len() {
         if let Some(part) = advance(progress, octets)? {
@@ -107,6 +111,7 @@ fn advance(progress: &mut Progress, octets: &[u8]) -> Result<Option<PlacedPart>,
     ensures refused { (parts : List Placed) → HasGiven octets.now (kept_of progress.old) parts
         → IfErr result (Refuses whole
         (IsForest progress.old.ends.max) (IsReason progress.old.ends.max) octets.now) }
+    ensures at { IfErr result (λ stop. progress.new.ends.count ≡ stop_place stop) }
 {
     let left = progress.value_left();
     if left > 0 {
@@ -153,6 +158,7 @@ fn take_first(progress: &mut Progress, octets: &[u8]) -> Result<Option<PlacedPar
     ensures refused { (parts : List Placed) → HasGiven octets.now (kept_of progress.old) parts
         → IfErr result (Refuses whole
         (IsForest progress.old.ends.max) (IsReason progress.old.ends.max) octets.now) }
+    ensures at { IfErr result (λ stop. progress.new.ends.count ≡ stop_place stop) }
 {
     let depth = progress.level() + 1;
     match progress.take(octets[progress.count()]) {

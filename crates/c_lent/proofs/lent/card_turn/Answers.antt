@@ -27,7 +27,7 @@ returns c =
           (record {
             state = record {
               end = c.lend-put.new.end;
-              spelled = c.of-2.ensures;
+              spelled = c.of-2.ensures.kept;
               fit = c.lend-put.ensures.fit;
               held = sym c.lend-put.ensures.state;
             };

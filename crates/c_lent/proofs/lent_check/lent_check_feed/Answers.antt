@@ -32,7 +32,7 @@ returns c =
             new = new;
             is = record {
               check = c.feed-answer.new.self;
-              spelled = c.of.ensures;
+              spelled = c.of.ensures.kept;
               fit =
                   c.feed-answer.ensures.fit;
               held = refl;

@@ -17,7 +17,7 @@ returns-clause-ok c = λ _.
       c.ok.ensures,
       λ message room. record {
         receiver = c.begin.result;
-        spelled = c.of.ensures;
+        spelled = c.of.ensures.kept;
         fit = c.begin.ensures.fit (length message) room;
         held = sym (c.begin.ensures.fresh message);
       },

@@ -24,7 +24,7 @@ returns c =
             new = received_at c.feed-answer.new.self after;
             is = record {
               receiver = c.feed-answer.new.self;
-              spelled = c.of.ensures;
+              spelled = c.of.ensures.kept;
               fit =
                   c.feed-answer.ensures.fit;
               held = refl;

@@ -6,5 +6,5 @@ returns g c = (
   c.in_ok-answer.ensures.told,
   by-verdict (g.C.Codec.codec c.args.expected) c.args.octets.now _ c.verdict_note-note.result
       c.in_ok-answer.ensures.verdict
-      c.verdict_note-note.ensures,
+      c.verdict_note-note.ensures.note,
 )

@@ -6,5 +6,5 @@ pub returns : goal.returns
 returns c = (
   c.in_ok-answer.ensures.told,
   by-verdict forest_codec c.args.octets.now _ c.verdict_note-note.result c.in_ok-answer.ensures.verdict
-      c.verdict_note-note.ensures,
+      c.verdict_note-note.ensures.note,
 )

@@ -1,6 +1,6 @@
-use Rattle.std.proofs.Common.{◌∙◌, sym}
+use Rattle.std.proofs.Common.{◌∙◌, ap, sym}
 use Rattle.std.proofs.lemmas.Result.{IfOk-weaker}
-use Rattle.explainer.specs.Notes.{has_all, lacks}
+use Rattle.explainer.specs.Notes.{has_all, lack_note, lacks}
 use Rattle.explainer.proofs.session.lack_of.Goals as goal
 
 pub returns-in-Ok : goal.returns-in-Ok
@@ -8,4 +8,5 @@ returns-in-Ok c = has_all c.in-Ok.field-0 (sym c.t1_params.ensures ∙ c.in-Ok.i
 
 pub returns-in-Err : goal.returns-in-Err
 returns-in-Err c = IfOk-weaker c.lack.result _ _
-    (λ text h. lacks c.in-Err.fault c.sentence.result.now (sym c.t1_params.ensures ∙ c.in-Err.is) h) c.lack.ensures
+    (λ text h. lacks c.in-Err.fault (sym c.t1_params.ensures ∙ c.in-Err.is)
+    (h ∙ ap lack_note c.sentence.ensures)) c.lack.ensures

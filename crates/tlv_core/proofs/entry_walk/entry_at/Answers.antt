@@ -1,7 +1,7 @@
 use Rattle.std.proofs.Common.{◌<◌, ◌≤◌, List, ℕ, length, take, get_or, subst, arith}
 use Rattle.std.proofs.lemmas.List.{take_all}
 use Rattle.tlv_core.specs.declared.tag_part.TagPart.{TagPart}
-use Rattle.tlv_core.proofs.Listing.{Listing, listed_more, listing_refused, listing_short}
+use Rattle.tlv_core.proofs.Listing.{Listing, before_at, before_end, listed_more, listing_refused, listing_short}
 use Rattle.tlv_core.proofs.Entries.{Entry}
 use Rattle.tlv_core.proofs.entry_walk.entry_at.Goals as goal
 
@@ -24,6 +24,7 @@ returns-in-Err c =
       refused = λ entries h.
           listing_refused b l.place entries l.part c.in-Err.reason c.loop-place-test.true
           (l.invariant.listed entries h) c.in-Err.ensures.err;
+      before = λ entries h. before_at b l.place entries l.part (l.invariant.listed entries h);
     }
 
 -- all octets were looked at
@@ -43,4 +44,6 @@ returns c =
           listing_short b entries l.part
           (all_is l.place b entries l.part c.loop-place-test.false (l.invariant.listed entries h))
           c.in_default-part.not-Nothing;
+      before = λ entries h. before_end b entries l.part
+          (all_is l.place b entries l.part c.loop-place-test.false (l.invariant.listed entries h));
     }
