@@ -8,7 +8,7 @@ _scard_before() {
     for ((at = 1; at < COMP_CWORD; at++)); do
         before=${COMP_WORDS[at]}
         case $before in
-        = | -- | --explain | --notes | --json | --svg | --help | --version | --*=*) ;;
+        = | -- | --explain | --notes | --json | --svg | --rules | --help | --version | --*=*) ;;
         --*) value=comes ;;
         *)
             if [ "$value" ]; then
@@ -34,7 +34,7 @@ _scard_words() {
     apdus) words='--json --explain --help' ;;
     draw) words='--svg --explain --help' ;;
     record) words='--explain --help' ;;
-    judge) words='--end --clock --json --explain --help' ;;
+    judge) words='--end --clock --rules --json --explain --help' ;;
     simulate) words='--stdin --ifsd --lose --damage --spoil --explain --help' ;;
     esac
     [ "$command $what" != 'build tidy' ] || words="$words --stdin"

@@ -16,10 +16,12 @@ use Rattle.card_words.specs.declared.request.Request.{Request}
 use Rattle.card_tool.specs.Answers.{AnswersTo, Gives, IsAnswerTo, IsRight, IsRightTo, IsToldOf}
 use Rattle.card_tool.specs.Explained.{differs, form_note, octets_of, text_note, Fits, GivesExplained, IsAdded, IsExplained, IsDifferenceNote, IsFaulted, IsFaultNote, IsFillNote, IsNoted, IsNotedTo, IsNoteOn, IsNoteTo, IsRightWith, IsTakenWith, on_fault, silent}
 use Rattle.card_tool.specs.FileNotes.{IsLineNote, Shows}
+use Rattle.card_tool.specs.TracePlaces.{trace_place, IsPlacedNote}
 use Rattle.card_tool.specs.Files.{ReadsWhole}
 use Rattle.card_tool.specs.declared.explained.Taken.{Taken}
 use Rattle.card_tool.specs.ExchangeTexts.{IsOutcome}
 use Rattle.exchange_text.specs.Exchange.{ExchangeParts}
+use Rattle.exchange_text.specs.declared.line.Line.{Line}
 use Rattle.exchange_core.specs.Replay.{IfDiffers, Replays}
 use Rattle.exchange_core.specs.declared.replaying.ReplayFault.{ReplayFault}
 use Rattle.exchange_core.specs.declared.replaying.Side.{Side}
@@ -58,13 +60,22 @@ pub shows-line : {E : Type 0} (r : Result (String Global) E) (number : ℕ) (wha
 shows-line (Ok text) number what h = (h.0, what, h.1)
 shows-line (Err e) number what h = tt
 
+-- a note that says why, and where the line is
+pub placed-line : {E : Type 0} (r : Result (String Global) E) (number : ℕ) (what why place : List ℕ)
+    → what ≡ why ++ place → IfOk r (λ text. Shows number what (string_bytes text))
+    → IfOk r (λ text. IsPlacedNote number place (string_bytes text))
+placed-line (Ok text) number what why place is h = (h.0, why, h.1 ∙ ap (line_note number h.0) is)
+placed-line (Err e) number what why place is h = tt
+
 -- and where an end does the line otherwise, it is the note on the exchange
 pub on-difference : {E : Type 0} (r : Result (String Global) E) (e : ExchangeParts) (which : Side)
-    (line : ℕ) (gives : List ℕ) → Replays e.atr e.lines which (Some (line, gives))
-    → IfOk r (λ text. IsLineNote line (string_bytes text))
+    (line : ℕ) (gives : List ℕ) (lines : List Line) → Replays e.atr e.lines which (Some (line, gives))
+    → lines ≡ e.lines → IfOk r (λ text. IsPlacedNote line (trace_place lines line) (string_bytes text))
     → IfOk r (λ text. IsDifferenceNote e which (string_bytes text))
-on-difference (Ok text) e which line gives replays h = differs line gives replays h
-on-difference (Err fault) e which line gives replays h = tt
+on-difference (Ok text) e which line gives lines replays same h =
+    differs line gives replays
+    (subst (λ (l : List Line). IsPlacedNote line (trace_place l line) (string_bytes text)) same h)
+on-difference (Err fault) e which line gives lines replays same h = tt
 
 -- what replay says of an exchange
 pub outcome : {A : Type 0} (r : Result A ReplayFault) (e : ExchangeParts) (which : Side)

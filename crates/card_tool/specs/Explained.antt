@@ -39,17 +39,19 @@ use Rattle.card_tool.specs.Files.{largest_file, IsTaken, ReadsWhole}
 use Rattle.card_tool.specs.Judged.{IsKindNote, IsNoteBy}
 use Rattle.card_tool.specs.declared.explained.Taken.{Taken}
 use Rattle.card_tool.specs.FileNotes.{line_of, IsLineNote}
+use Rattle.card_tool.specs.TracePlaces.{trace_place, IsPlacedNote}
 use Rattle.card_tool.specs.RecordTexts.{IsRecordNote}
 use Rattle.card_tool.specs.JudgeTexts.{IsJudgeNote}
 use Rattle.card_tool.specs.SimulationTexts.{IsLinesNote, IsSimulationNote}
 
 -- ---- notes on files
 
--- the note on an exchange that is replayed: on the first line that the end does otherwise
+-- the note on an exchange that is replayed: on the first line that the end does otherwise, and where that is in the trace
+-- of which the exchange was recorded
 pub data IsDifferenceNote (e : ExchangeParts) (which : Side) (note : List ℕ) : Type 0 where
   agrees : replay.Replays e.atr e.lines which None → note ≡ [] → IsDifferenceNote e which note
   differs : (line : ℕ) (gives : List ℕ) → replay.Replays e.atr e.lines which (Some (line, gives))
-      → IsLineNote line note → IsDifferenceNote e which note
+      → IsPlacedNote line (trace_place e.lines line) note → IsDifferenceNote e which note
 
 -- the notes on one that is replayed at both ends: the terminal's, and then the card's
 pub record AreDifferenceNotes (e : ExchangeParts) (note : List ℕ) : Type 0 where

@@ -29,7 +29,7 @@ only_of end.Both = None
 
 -- what is judged of a trace
 abbrev pub scope_of : Judging → Scope
-scope_of judging = record { only = only_of judging.ends; clock = judging.clock }
+scope_of judging = record { only = only_of judging.ends; clock = judging.clock; rules = judging.rules }
 
 -- Octets that are one whole answer to reset, with parameters of T=1, offer these, and F and D.
 pub record IsOffer (atr : List ℕ) (offered : Offered) : Type 0 where

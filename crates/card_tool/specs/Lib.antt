@@ -3,6 +3,7 @@ pub mod Lines
 pub mod ExchangeTexts
 pub mod SimulationTexts
 pub mod FileNotes
+pub mod TracePlaces
 pub mod RecordTexts
 pub mod JudgeTexts
 pub mod Conversations

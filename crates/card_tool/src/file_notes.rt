@@ -1,13 +1,15 @@
 //! Notes on the file of a recorded exchange: the line that is wrong, with its text, and what is expected there.
 
 ghost use Rattle.std.specs.Prelude.{◌≡◌, ◌≢◌, IfOk, string_bytes};
+ghost use Rattle.card_tool.specs.TracePlaces.{trace_place, IsPlacedNote};
 ghost use Rattle.card_tool.specs.ExchangeTexts.{IsOutcome};
 ghost use Rattle.card_tool.specs.Explained.{IsDifferenceNote};
 ghost use Rattle.card_tool.specs.FileNotes.{line_of, IsLineNote, Shows};
 ghost use Rattle.exchange_text.specs.declared.fault.ExchangeFault.TheVariants.{Memory};
 ghost use Rattle.explainer.specs.Notes.{line_note};
 
-use exchange_core::{Exchange, ExchangeFault, ReplayFault, Side};
+use crate::trace_place::push_place;
+use exchange_core::{Exchange, ExchangeFault, Line, ReplayFault, Side};
 use explainer::session_note;
 use std::alloc::{AllocError, Global};
 
@@ -71,7 +73,7 @@ pub(crate) fn trace_note(
 }
 
 /// The first line that an end does otherwise, and why, by what replaying the exchange came to; nothing where the end
-/// does all of it.
+/// does all of it. Of a file that was recorded of a trace it also says where in the trace the line is.
 pub(crate) fn difference_note(
     alloc: Global,
     text: &[u8],
@@ -85,15 +87,37 @@ pub(crate) fn difference_note(
     match outcome {
         Ok(()) => Ok(String::new(alloc)),
         Err(ReplayFault::Differs { line, gives }) => {
-            let lines = exchange.lines().get().len().saturating_add(ATR_LINE);
-            if *line == ATR_LINE {
-                let note = session_note(alloc, exchange.atr())?;
-                return noted(alloc, text, *line, note.as_str().trim_end());
-            }
-            noted(alloc, text, *line, reason(gives.get(), *line > lines))
+            let said = why(alloc, exchange, *line, gives.get())?;
+            placed(alloc, text, *line, said, exchange.lines().get())
         }
         Err(ReplayFault::Memory) => Err(AllocError),
     }
+}
+
+/// Why an end differs from a line, by what it gives there.
+fn why(alloc: Global, exchange: &Exchange, line: usize, gives: &str) -> Result<String, AllocError> {
+    if line == ATR_LINE {
+        let note = session_note(alloc, exchange.atr())?;
+        return String::from_str(alloc, note.as_str().trim_end());
+    }
+    let lines = exchange.lines().get().len().saturating_add(ATR_LINE);
+    String::from_str(alloc, reason(gives, line > lines))
+}
+
+/// A line of a text, what is to be said of it, and where in the trace it is that these lines were recorded of.
+fn placed(
+    alloc: Global,
+    text: &[u8],
+    number: usize,
+    why: String,
+    lines: &[Line],
+) -> Result<String, AllocError>
+    ensures { IfOk result (λ note.
+        IsPlacedNote number (trace_place lines.now number) (string_bytes note)) }
+{
+    let mut what = why;
+    push_place(alloc, &mut what, lines, number)?;
+    shown_at(alloc, text, number, what.as_str())
 }
 
 /// Why an end differs from a line after that of the answer to reset, by what it gives there.

@@ -82,6 +82,7 @@ fn scope_of(judging: Judging) -> Scope
     Scope {
         only: only_of(judging.ends),
         clock: judging.clock,
+        rules: judging.rules,
     }
 }
 

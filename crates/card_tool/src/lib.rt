@@ -24,6 +24,7 @@ pub mod program;
 mod recording;
 mod simulation;
 pub mod telling;
+mod trace_place;
 
 pub use card_kinds::Status;
 pub use card_words::{Aim, Expected, Fault, Layout, Task};

@@ -12,7 +12,7 @@ use Rattle.card_words.specs.Given.{asks_for_lines, form_of, given_of, GivesOctet
 use Rattle.card_words.specs.PairLines.{are_lines}
 use Rattle.card_words.specs.Session.{blocks_of, pair_of, pairs_of, AreOctetPairs, IsSize}
 use Rattle.card_words.specs.Value.{◌>>=◌, hex_octets, octets_of_word, parted, UnlessMemory}
-use Rattle.card_words.specs.Words.{byte_or, size_of, number_of, number_of_word, needed, kind_of, expected_of, short_message, told_by, told_of, chain_by, chain_of, tidy_of, fill_of, build_words, build_of, end_of_word, atr_of, clock_of, judge_of, judged_ends, record_of, replay_of, all_or_none, asked_size, session_of, drawing_of, layout_of, request_by, show_aim, asked_by, asked_of, HasOctets, HaveOctets, IsRead, AreSized, IsSized, IsTaskSized, called_for_version, taken, called_for_help, not_taken, session_by, simulate_by, simulate_of}
+use Rattle.card_words.specs.Words.{byte_or, size_of, number_of, number_of_word, needed, kind_of, expected_of, short_message, told_by, told_of, chain_by, chain_of, tidy_of, fill_of, build_words, build_of, end_of_word, atr_of, clock_of, judge_of, judged_ends, record_of, replay_of, all_or_none, asked_size, session_of, drawing_of, layout_of, request_by, show_aim, asked_by, asked_of, HasOctets, HaveOctets, IsRead, AreSized, IsSized, IsTaskSized, called_for_version, taken, called_for_help, not_taken, session_by, simulate_by, simulate_of, has_flag}
 use Rattle.command_line.specs.Form.{scard}
 use Rattle.card_words.specs.declared.fault.Fault.{Fault}
 use Rattle.card_words.specs.declared.fault.Fault.TheVariants.{Words}
@@ -25,6 +25,7 @@ use Rattle.card_words.specs.declared.request.Aim.TheVariants.{Check}
 use Rattle.card_words.specs.declared.request.Task.{Task}
 use Rattle.card_words.specs.declared.request.Asked.{Asked}
 use Rattle.card_words.specs.declared.request.Asked.TheVariants.{Once, Lines}
+use Rattle.card_words.specs.declared.request.Judging.{Judging}
 use Rattle.card_words.specs.declared.request.Request.{Request}
 use Rattle.card_words.specs.declared.request.Request.TheVariants.{BuildTidy, File, Record, Judge, Help, Version}
 use Rattle.card_words.specs.declared.request.FileTask.TheVariants.{Migrate, Apdus, Draw}
@@ -256,7 +257,8 @@ judge-proper rows request h =
     let ends = both-steps (judged_ends (first_of (codes "end") rows)) _ request h in
     let clock = both-steps (clock_of (first_of (codes "clock") rows)) _ request ends.2 in
     let atr = both-steps (atr_of rows) _ request clock.2 in
-    subst IsProper (same (Judge atr.0 (record { ends = ends.0; clock = clock.0 })) request atr.2)
+    let judging : Judging = record { ends = ends.0; clock = clock.0; rules = has_flag (codes "rules") rows } in
+    subst IsProper (same (Judge atr.0 judging) request atr.2)
     (tt, atr-octets rows atr.0 atr.1)
 
 seen-proper : (name : List ℕ) (rows : List Row) (request : Request)

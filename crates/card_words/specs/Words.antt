@@ -214,7 +214,7 @@ judge_of rows = do
   ends ← judged_ends (first_of (codes "end") rows)
   clock ← clock_of (first_of (codes "clock") rows)
   atr ← atr_of rows
-  Ok (Judge atr (record { ends = ends; clock = clock }))
+  Ok (Judge atr (record { ends = ends; clock = clock; rules = has_flag (codes "rules") rows }))
 
 -- an information size that is asked for, where there is a word
 abbrev pub asked_size : Option (List ℕ) → Result (Option ℕ) Fault

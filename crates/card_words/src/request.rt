@@ -45,6 +45,8 @@ pub struct Judging {
     pub ends: Ends,
     /// The frequency of the card's clock in hertz, 1 to 1,000,000,000, where the times of its blocks are judged.
     pub clock: Option<u64>,
+    /// Whether it is counted how often each end kept each rule and broke it, and what was due.
+    pub rules: bool,
 }
 
 /// What octets are taken for.

@@ -211,7 +211,8 @@ fn judge(alloc: Global, matches: &ArgMatches) -> Result<Request, Fault>
     let ends = judged_ends(word(matches, "end"))?;
     let clock = clock(word(matches, "clock"))?;
     let atr = atr(alloc, matches)?;
-    let judging = Judging { ends, clock };
+    let rules = has_flag(matches, "rules");
+    let judging = Judging { ends, clock, rules };
     Ok(Request::Judge { atr, judging })
 }
 

@@ -108,12 +108,16 @@ judged_rule = option_rule (codes "end")
 abbrev pub clock_rule : Rule
 clock_rule = option_rule (codes "clock")
 
+-- the option by which rules and states are counted
+abbrev pub rules_rule : Rule
+rules_rule = flag_rule (codes "rules")
+
 -- the subcommand that judges the blocks that were seen on a line, first with its words and the end
 abbrev pub judged_app : App
 judged_app = with_rule (with_rule (begun_app (codes "judge")) atr_rule) judged_rule
 
 abbrev pub judge_app : App
-judge_app = with_rule (with_rule judged_app clock_rule) json_rule
+judge_app = with_rule (with_rule (with_rule judged_app clock_rule) rules_rule) json_rule
 
 abbrev pub pairs_rule : Rule
 pairs_rule = record (new_rule (codes "pairs")) { value_names = 1; action = Some Append }

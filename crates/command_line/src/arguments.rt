@@ -2,7 +2,7 @@
 
 ghost use Rattle.std.specs.Prelude.{◌≡◌, false};
 ghost use Rattle.clap.specs.Words.{rule_of};
-ghost use Rattle.command_line.specs.Form.{atr_rule, clock_rule, end_rule, explain_rule, flag_rule, hex_rule, ifs_rule, ifsd_rule, judged_rule, json_rule, kind_rule, notes_rule, number_rule, option_rule, pairs_rule, required_rule, stdin_rule, svg_rule, what_rule, words_rule};
+ghost use Rattle.command_line.specs.Form.{atr_rule, clock_rule, end_rule, explain_rule, flag_rule, hex_rule, ifs_rule, ifsd_rule, judged_rule, json_rule, kind_rule, notes_rule, number_rule, option_rule, pairs_rule, required_rule, rules_rule, stdin_rule, svg_rule, what_rule, words_rule};
 
 use clap::{Arg, ArgAction, value_parser};
 use std::alloc::Global;
@@ -178,6 +178,17 @@ pub(crate) fn clock_arg<'a>(alloc: Global) -> Arg<'a>
         "clock",
         "HZ",
         "Judge also when a card's block comes, at a card with this clock, 1 to 1000000000 hertz",
+    )
+}
+
+pub(crate) fn rules_arg<'a>(alloc: Global) -> Arg<'a>
+    ensures rule { rule_of result ≡ rules_rule }
+    ensures local { result.global ≡ false }
+{
+    flag_arg(
+        alloc,
+        "rules",
+        "List how often each end kept and broke each rule, and how often each block was due",
     )
 }
 

@@ -5,8 +5,8 @@ ghost use Rattle.command_line.specs.Form.{apdus_app, begun_app, build_app, draw_
 
 use crate::arguments::{
     atr_arg, clock_arg, end_arg, explain_arg, hex_arg, ifs_arg, ifsd_arg, json_arg, judged_arg,
-    kind_arg, lines_arg, list_arg, notes_arg, number_arg, pairs_arg, stdin_arg, svg_arg, what_arg,
-    words_arg,
+    kind_arg, lines_arg, list_arg, notes_arg, number_arg, pairs_arg, rules_arg, stdin_arg, svg_arg,
+    what_arg, words_arg,
 };
 use crate::help::{
     APDUS, BUILD, CHECK, DRAW, JUDGE, MIGRATE, PROGRAM, Page, RECORD, REPLAY, SHOW, SIMULATE,
@@ -164,7 +164,8 @@ fn judge_command<'a>(alloc: Global) -> Built<'a>
 {
     let judged = judged_command(alloc);
     let clock = asking(judged, clock_arg(alloc));
-    asking(clock, json_arg(alloc))
+    let rules = asking(clock, rules_arg(alloc));
+    asking(rules, json_arg(alloc))
 }
 
 /// The same with the answer to reset and the end alone.

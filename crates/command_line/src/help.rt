@@ -249,7 +249,7 @@ Examples:
 /// The page of `judge`.
 pub(crate) const JUDGE: Page<'static> = Page {
     about: "Say which blocks that were seen on a line the standard doesn't permit, and of which end",
-    usage: "scard judge <ATR> [--end <END>] [--clock <HZ>] [--json]",
+    usage: "scard judge <ATR> [--end <END>] [--clock <HZ>] [--rules] [--json]",
     after: "Standard input has a line for each block, in the order of time:
   t HEX         the terminal sends a block, in hexadecimal, in either case
   c HEX         the card sends one
@@ -262,7 +262,8 @@ pub(crate) const JUDGE: Page<'static> = Page {
 Each block is judged by ISO/IEC 7816-3:2006, clause 11, and by what its sender may have heard before. A line comes for
 each deviation: the block, its sender, what it breaks, what was due, and the clause. An exchange of PPS may come first.
 With --clock a block of the card is late where it began after the block waiting time that the answer to reset and the
-last request for time give. With --json an object of JSON comes in place of the lines.
+last request for time give. With --rules a line for each rule says how often each end kept it and broke it, and a line for
+each state how often that was due from each end, or never. With --json an object of JSON comes in place of the lines.
 
 Exit status:
   0  ok N blocks: the standard permits all of them
@@ -272,7 +273,8 @@ Exit status:
 Examples:
   printf 't 00000500A4040000A5\\nc 000002900092\\n' | scard judge 3B808131204555
   printf 't 00400500A4040000E5\\nc 00820082\\n' | scard judge 3B808131204555 --end card
-  printf 'at 0\\nt 00C000C0\\nat 1600000\\nc 00E000E0\\n' | scard judge 3B808131204555 --clock 3571200",
+  printf 'at 0\\nt 00C000C0\\nat 1600000\\nc 00E000E0\\n' | scard judge 3B808131204555 --clock 3571200
+  printf 't 00000500A4040000A5\\nc 000002900092\\n' | scard judge 3B808131204555 --rules",
 };
 
 /// The page of `simulate`.

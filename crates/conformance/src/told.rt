@@ -37,7 +37,9 @@ pub(crate) fn add_judgment(
 /// The form of the line of what was told.
 fn told_form(one: &Value) -> &'static str {
     let has_block = one.get("block").is_some();
-    if is(one, "kind", "pps") {
+    if is(one, "kind", "rule") || is(one, "kind", "state") {
+        counts_form(one)
+    } else if is(one, "kind", "pps") {
         "pps F {F|reserved} D {D|reserved}"
     } else if is(one, "kind", "neither") {
         "line {line}: neither PPS nor a block"
@@ -51,6 +53,18 @@ fn told_form(one: &Value) -> &'static str {
         "block {block} {end}: {rule}, due {due}  ({clause})"
     } else {
         "{end}: no answer to block {before}, which it got  ({clause})"
+    }
+}
+
+/// The form of the line of a rule, or of a state.
+fn counts_form(one: &Value) -> &'static str {
+    match (is(one, "kind", "rule"), one.get("never").is_some()) {
+        (true, true) => "rule {rule}: never",
+        (true, false) => {
+            "rule {rule}: terminal kept {terminal_kept} broken {terminal_broken}, card kept {card_kept} broken {card_broken}"
+        }
+        (false, true) => "state {state}: never",
+        (false, false) => "state {state}: terminal {terminal}, card {card}",
     }
 }
 

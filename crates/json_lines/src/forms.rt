@@ -121,7 +121,7 @@ impl Place {
 pub(crate) type Row = (Place, &'static str);
 
 /// The forms of all lines. The first that a line has counts; those of which an answer may have many come first.
-pub(crate) const ROWS: [Row; 62] = [
+pub(crate) const ROWS: [Row; 66] = [
     (
         Item(Objects),
         "{>depth}{$tag} {$length} {!constructed:constructed}",
@@ -167,6 +167,23 @@ pub(crate) const ROWS: [Row; 62] = [
     (
         FirstItem(Told),
         "line {#line}: neither PPS nor a block{+kind:neither}",
+    ),
+    (
+        FirstItem(Told),
+        "{=kind:rule} {@rule:: never}: {!never:never}",
+    ),
+    (
+        FirstItem(Told),
+        "{=kind:rule} {@rule:: terminal}: terminal kept {#terminal_kept} broken {#terminal_broken}, \
+            card kept {#card_kept} broken {#card_broken}",
+    ),
+    (
+        FirstItem(Told),
+        "{=kind:state} {@state:: never}: {!never:never}",
+    ),
+    (
+        FirstItem(Told),
+        "{=kind:state} {@state:: terminal}: terminal {#terminal}, card {#card}",
     ),
     (Closes(Told), "{=verdict:ok} {#blocks} block"),
     (Closes(Told), "{=verdict:ok} {#blocks} blocks"),

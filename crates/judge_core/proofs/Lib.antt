@@ -6,3 +6,7 @@ pub mod Cards
 pub mod Links
 pub mod Taps
 pub mod Refuted
+pub mod AtStake
+pub mod Staked
+pub mod Places
+pub mod Breakable

@@ -6,5 +6,7 @@ pub mod Followed
 pub mod Watched
 pub mod Monitored
 pub mod Rules
+pub mod States
+pub mod Stakes
 -- what code makes of octets
 pub mod Classes

@@ -1,6 +1,6 @@
 -- The names of the rules, and their clauses in ISO/IEC 7816-3:2006. The numbers of rules within 11.6.2.3 and 11.6.3.2 are
 -- from memory of the standard, whose text isn't at hand.
-use Rattle.std.specs.Prelude.{ℕ, List, codes}
+use Rattle.std.specs.Prelude.{ℕ, List, [], ◌∷◌, codes}
 use Rattle.judge_core.specs.declared.rule.Rule.{Rule}
 use Rattle.judge_core.specs.declared.rule.Rule.TheVariants as rule
 
@@ -51,3 +51,36 @@ rule_clause rule.NoChain = codes "11.6.3.2 rule 9"
 rule_clause rule.EarlyResynch = codes "11.6.3.2 rule 6"
 rule_clause rule.TooManyRepeats = codes "11.6.3.2 rule 7.4"
 rule_clause rule.Silence = codes "11.6.2.3 rule 1"
+
+-- all of them
+abbrev pub rules : List Rule
+rules =
+    rule.NodeAddress ∷ rule.ControlOctet ∷ rule.Length ∷ rule.ReservedSize ∷ rule.FieldSize ∷ rule.Turn ∷
+        rule.ForeignRequest ∷ rule.SequenceNumber ∷ rule.BlockDue ∷ rule.AcknowledgmentDue ∷ rule.ErrorCode ∷
+        rule.RepeatDue ∷ rule.RepeatedOctets ∷ rule.CorrectionDue ∷ rule.RequestDue ∷ rule.ResponseDue ∷
+        rule.ResponseOctet ∷ rule.Unasked ∷ rule.NoChain ∷ rule.EarlyResynch ∷ rule.TooManyRepeats ∷ rule.Silence ∷ []
+
+-- the place of a rule among them, from 0
+abbrev pub rule_place : Rule → ℕ
+rule_place rule.NodeAddress = 0
+rule_place rule.ControlOctet = 1
+rule_place rule.Length = 2
+rule_place rule.ReservedSize = 3
+rule_place rule.FieldSize = 4
+rule_place rule.Turn = 5
+rule_place rule.ForeignRequest = 6
+rule_place rule.SequenceNumber = 7
+rule_place rule.BlockDue = 8
+rule_place rule.AcknowledgmentDue = 9
+rule_place rule.ErrorCode = 10
+rule_place rule.RepeatDue = 11
+rule_place rule.RepeatedOctets = 12
+rule_place rule.CorrectionDue = 13
+rule_place rule.RequestDue = 14
+rule_place rule.ResponseDue = 15
+rule_place rule.ResponseOctet = 16
+rule_place rule.Unasked = 17
+rule_place rule.NoChain = 18
+rule_place rule.EarlyResynch = 19
+rule_place rule.TooManyRepeats = 20
+rule_place rule.Silence = 21

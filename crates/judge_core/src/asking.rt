@@ -10,7 +10,7 @@ use block_core::{Pcb, S};
 use t1_core::{MOST_REPEATS, MOST_RESYNCHS};
 
 /// How many repeats come before RESYNCH.
-const LEAST_REPEATS: u8 = 2;
+pub(crate) const LEAST_REPEATS: u8 = 2;
 
 impl End {
     /// The same request once more, or RESYNCH; another request breaks this rule.
@@ -131,7 +131,7 @@ fn first_tries(side: Side) -> u8
 }
 
 /// How often a terminal may send a request in a row.
-fn most_asked(about: S) -> u8
+pub(crate) fn most_asked(about: S) -> u8
     ensures { result ≡ most_asked about }
 {
     match about {
@@ -140,7 +140,7 @@ fn most_asked(about: S) -> u8
     }
 }
 
-fn is_between(owed: Owed) -> bool
+pub(crate) fn is_between(owed: Owed) -> bool
     ensures { result ≡ is_between owed }
 {
     matches!(
@@ -149,7 +149,7 @@ fn is_between(owed: Owed) -> bool
     )
 }
 
-fn is_within(owed: Owed) -> bool
+pub(crate) fn is_within(owed: Owed) -> bool
     ensures { result ≡ is_within owed }
 {
     matches!(owed, Owed::NextBlock | Owed::Acknowledgment)

@@ -43,7 +43,7 @@ pub struct Judged {
 }
 
 /// What comes of a block on a course, where there is one.
-type Attempt = Option<Result<End, Rule>>;
+pub(crate) type Attempt = Option<Result<End, Rule>>;
 
 impl End {
     /// What the judge says of a block with this field, where the end's last I-block had the field `last`.
@@ -118,7 +118,7 @@ impl End {
     }
 }
 
-fn attempted(due: Option<After>, last: &[u8], pcb: Pcb, inf: &[u8]) -> Attempt
+pub(crate) fn attempted(due: Option<After>, last: &[u8], pcb: Pcb, inf: &[u8]) -> Attempt
     ensures { result ≡ attempted due last.now pcb inf.now }
 {
     due.map(|due| due.end.sends(due.owed, last, pcb, inf))

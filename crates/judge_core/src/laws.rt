@@ -1,6 +1,6 @@
 //! What holds of the judge's decision, and of the ends of `t1_core` before it, as contracts.
 
-ghost use Rattle.std.specs.Prelude.{◌≡◌, ◌↔◌, ℕ, List, Some};
+ghost use Rattle.std.specs.Prelude.{◌≡◌, ◌≤◌, ◌↔◌, ℕ, List, Option, Some, length, true};
 ghost use Rattle.block_core.specs.declared.pcb.Pcb.{Pcb};
 ghost use Rattle.judge_core.specs.declared.end.End.{End};
 ghost use Rattle.judge_core.specs.declared.courses.Heard.{Heard};
@@ -9,6 +9,14 @@ ghost use Rattle.judge_core.specs.Courses.{Permits, judges, judgment};
 ghost use Rattle.t1_core.specs.Link.{tables};
 ghost use Rattle.judge_core.specs.Watched.{EndsArePermitted, NobodyIsAccused};
 ghost use Rattle.judge_core.specs.Followed.{Follows, PermitsSurely, Sending, followed, permitted};
+ghost use Rattle.judge_core.specs.declared.end.Side.{Side};
+ghost use Rattle.judge_core.specs.declared.exercise.Exercise.TheVariants.{Breaks};
+ghost use Rattle.judge_core.specs.declared.monitor.Monitor.{Monitor};
+ghost use Rattle.judge_core.specs.declared.rule.Rule.{Rule};
+ghost use Rattle.judge_core.specs.declared.state.State.{State};
+ghost use Rattle.judge_core.specs.Monitored.{IsSeen, Seen};
+ghost use Rattle.judge_core.specs.Stakes.{at_stake, can_break, exercise_of, sender, stakes_of, CanBeSent, IsBreakable};
+ghost use Rattle.judge_core.specs.declared.end.Owed.{Owed};
 
 /// The decision is exact: a block is no deviation where some course permits it, and only there. All
 /// such courses lead to one end, which the judge goes on from. The verdict is [`Permitted`] where no
@@ -39,4 +47,17 @@ pub fn ends_are_permitted()
 /// them, whatever is lost or damaged on the way.
 pub fn nobody_is_accused()
     ensures { NobodyIsAccused tables }
+{}
+
+/// The rule that a block breaks is one of those that were at stake, which a permitted block keeps.
+pub fn broken_was_at_stake()
+    ensures { (m : Monitor) (from : Side) (octets : List ℕ) (seen : Seen) (broken : Rule)
+        (state : Option State) → IsSeen octets seen → exercise_of m from seen ≡ Breaks broken state
+        → at_stake (stakes_of m.nad (sender m from) seen) broken ≡ true }
+{}
+
+/// No other rule is said to be at stake: some block breaks each rule that an end can break by what is due from it.
+pub fn stakes_are_real()
+    ensures { (e : End) (owed : Owed) (last : List ℕ) (broken : Rule) → length last ≤ 254
+        → CanBeSent e.asked → can_break e owed broken ≡ true → IsBreakable e owed last broken }
 {}

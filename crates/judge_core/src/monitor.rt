@@ -99,7 +99,7 @@ impl Watched {
     }
 
     /// What the end owes, on the first course there is.
-    fn due(&self) -> After
+    pub(crate) fn due(&self) -> After
         ensures { result ≡ due self.now }
     {
         let whole = self.end.got_whole(self.heard);
@@ -355,7 +355,7 @@ fn silence_of(heard: Heard, number: u64) -> Silence
 }
 
 /// Whether a block has the node address that the first one set.
-fn addressed_by(from: Side, nad: Option<u8>, class: &Class<'_>) -> bool
+pub(crate) fn addressed_by(from: Side, nad: Option<u8>, class: &Class<'_>) -> bool
     ensures { result ≡ addressed_by from nad (seen_of class.now) }
 {
     match (class, nad) {

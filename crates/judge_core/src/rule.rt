@@ -1,7 +1,7 @@
 //! The rules that a block can break.
 
-ghost use Rattle.std.specs.Prelude.{◌≡◌};
-ghost use Rattle.judge_core.specs.Rules.{rule_clause, rule_name};
+ghost use Rattle.std.specs.Prelude.{◌≡◌, ◌<◌};
+ghost use Rattle.judge_core.specs.Rules.{rule_clause, rule_name, rule_place};
 
 use octet_core::Named;
 
@@ -54,7 +54,41 @@ pub enum Rule {
     Silence,
 }
 
+/// All rules, in the order of their places.
+pub const RULES: [Rule; 22] = [
+    Rule::NodeAddress,
+    Rule::ControlOctet,
+    Rule::Length,
+    Rule::ReservedSize,
+    Rule::FieldSize,
+    Rule::Turn,
+    Rule::ForeignRequest,
+    Rule::SequenceNumber,
+    Rule::BlockDue,
+    Rule::AcknowledgmentDue,
+    Rule::ErrorCode,
+    Rule::RepeatDue,
+    Rule::RepeatedOctets,
+    Rule::CorrectionDue,
+    Rule::RequestDue,
+    Rule::ResponseDue,
+    Rule::ResponseOctet,
+    Rule::Unasked,
+    Rule::NoChain,
+    Rule::EarlyResynch,
+    Rule::TooManyRepeats,
+    Rule::Silence,
+];
+
 impl Rule {
+    /// Its place among [`RULES`], from 0.
+    pub fn place(self) -> usize
+        ensures place { result ≡ rule_place self }
+        ensures below { result < 22 }
+    {
+        self as usize
+    }
+
     /// Its clause in ISO/IEC 7816-3:2006.
     pub fn clause(self) -> &'static str
         ensures { result.now ≡ rule_clause self }

@@ -16,7 +16,10 @@ use Rattle.judge_core.specs.declared.end.Side.{Side}
 use Rattle.judge_core.specs.declared.end.Side.TheVariants as side
 use Rattle.judge_core.specs.declared.monitor.Monitor.{Monitor}
 use Rattle.judge_core.specs.declared.monitor.Report.{Report}
+use Rattle.judge_core.specs.declared.exercise.Exercise.{Exercise}
+use Rattle.judge_core.specs.declared.exercise.Exercise.TheVariants.{Unknown}
 use Rattle.judge_core.specs.Monitored.{monitor_after, report_of}
+use Rattle.judge_core.specs.Stakes.{exercise_of}
 use Rattle.trace_judge.specs.declared.entry.Entry.{Entry}
 use Rattle.trace_judge.specs.declared.entry.Entry.TheVariants.{Nothing, Block, Quiet, Reset, Moment}
 use Rattle.trace_judge.specs.declared.entry.Reach.{Reach}
@@ -24,9 +27,10 @@ use Rattle.trace_judge.specs.declared.entry.Reach.TheVariants.{Unsaid, Lost}
 use Rattle.trace_judge.specs.declared.standing.Judgment.{Judgment}
 use Rattle.trace_judge.specs.declared.standing.Scope.{Scope}
 use Rattle.trace_judge.specs.Waiting.{Offered}
+use Rattle.trace_judge.specs.Coverage.{coverage_part}
 use Rattle.trace_judge.specs.Reading.{◌>>=◌, block_said, entry_said, hex_said, is_empty, moment_by, named_said, octets_by, reach_said, words_of, Words}
-use Rattle.trace_judge.specs.Judging.{at_moment, deviations, ended, is_before, is_line_end, start, summary, told_before, told_block, Concludes, Fails, IsBlockTold, IsEntered, IsFalling, IsTold, Judges, JudgesLine, JudgesLines, Standing}
-use Rattle.trace_judge.proofs.SeenOnce.{one-taking, some-arrival, some-seen, IsOfOctets}
+use Rattle.trace_judge.specs.Judging.{at_moment, deviations, ended, is_before, is_line_end, start, summary, told_before, told_block, Concludes, ExercisesIf, Fails, IsBlockTold, IsEntered, IsFalling, IsTold, Judges, JudgesLine, JudgesLines, Standing}
+use Rattle.trace_judge.proofs.SeenOnce.{one-seen, one-taking, some-arrival, some-seen, IsOfOctets}
 
 -- ---- what a line says
 
@@ -92,14 +96,28 @@ entry-read number w = either HasOctets _ (Ok Nothing) (named_said number w) tt (
 
 -- ---- a line
 
+one-exercise : (counted : Bool) (m : Monitor) (from : Side) (b : List ℕ) → AreOctets b → (x y : Exercise)
+    → ExercisesIf counted m from b x → ExercisesIf counted m from b y → x ≡ y
+one-exercise true m from b octets x y h g =
+    h.2 ∙ ap (exercise_of m from) (one-seen b octets h.0 g.0 h.1 g.1) ∙ sym g.2
+one-exercise false m from b octets x y h g = h ∙ sym g
+
+some-exercise : (counted : Bool) (m : Monitor) (from : Side) (b : List ℕ) → AreOctets b
+    → (x : Exercise) × ExercisesIf counted m from b x
+some-exercise true m from b octets =
+    let seen = some-seen b octets in (exercise_of m from seen.0, (seen.0, seen.1, refl))
+some-exercise false m from b octets = (Unknown, refl)
+
 one-told : (s : Standing) (from : Side) (b : List ℕ) → AreOctets b → (reach : Reach) → IsOfOctets reach
     → (t u : Standing) → IsTold s from b reach t → IsTold s from b reach u → t ≡ u
 one-told s from b octets reach came t u h g =
     let both = one-taking s.monitor from b octets reach came h.arrival g.arrival h.monitor g.monitor h.report g.report
     h.is_arrival g.is_arrival h.takes g.takes in
+    let exercise = one-exercise s.scope.rules s.monitor from b octets h.exercise g.exercise h.exercises g.exercises in
     h.told
-    ∙ ap (λ (m : Monitor). told_block s m from (length b) h.report) both.0
-    ∙ ap (λ (r : Report). told_block s g.monitor from (length b) r) both.1
+    ∙ ap (λ (m : Monitor). told_block s m from (length b) h.exercise h.report) both.0
+    ∙ ap (λ (x : Exercise). told_block s g.monitor from (length b) x h.report) exercise
+    ∙ ap (λ (r : Report). told_block s g.monitor from (length b) g.exercise r) both.1
     ∙ sym g.told
 
 one-block : (before : Bool) (s : Standing) (from : Side) (b : List ℕ) → AreOctets b → (reach : Reach)
@@ -124,8 +142,9 @@ some-block false s from b octets reach came =
     let seen = some-seen b octets in
     let arrival = some-arrival reach came in
     let after = monitor_after s.monitor from seen.0 arrival.2 in
-    let says = report_of s.monitor from seen.0 in (
-      told_block s after from (length b) says,
+    let says = report_of s.monitor from seen.0 in
+    let exercise = some-exercise s.scope.rules s.monitor from b octets in (
+      told_block s after from (length b) exercise.0 says,
       record {
         arrival = arrival.0;
         is_arrival = arrival.1;
@@ -139,6 +158,8 @@ some-block false s from b octets reach came =
           after = refl;
           reports = refl;
         };
+        exercise = exercise.0;
+        exercises = exercise.1;
         told = refl;
       },
     )
@@ -318,7 +339,8 @@ module _ (offered : Offered) (scope : Scope) (text : List ℕ) where
       ⊎ ((x : ExchangeFault) × (x ≢ Memory) × Judges offered scope text (Err x))
   some-concluded (Ok s) h =
       let judgment : Judgment = record {
-        text = (ended s).text ++ summary (ended s).monitor.blocks (ended s).tally;
+        text = (ended s).text ++ coverage_part (ended s).scope.rules (ended s).coverage
+            ++ summary (ended s).monitor.blocks (ended s).tally;
         deviates = not (deviations (ended s).tally == 0);
       } in
       inl (judgment, inr (Ok s, h, record { text = refl; deviates = refl }))

@@ -18,6 +18,10 @@ use Rattle.judge_core.specs.declared.monitor.Silence.{Silence}
 use Rattle.judge_core.specs.declared.monitor.Silence.TheVariants.{No, Possible, Certain}
 use Rattle.judge_core.specs.declared.monitor.Arrival.{Arrival}
 use Rattle.judge_core.specs.declared.monitor.Arrival.TheVariants as arrived
+use Rattle.judge_core.specs.declared.rule.Rule.TheVariants.{Silence as SilenceRule}
+use Rattle.judge_core.specs.declared.exercise.Exercise.{Exercise}
+use Rattle.judge_core.specs.declared.exercise.Exercise.TheVariants.{Unknown, Breaks}
+use Rattle.judge_core.specs.Stakes.{Exercises}
 use Rattle.judge_core.specs.Monitored.{Takes, new_monitor, number_after, quiet_after, reset_after, silence_of}
 use Rattle.trace_judge.specs.declared.entry.Entry.{Entry}
 use Rattle.trace_judge.specs.declared.entry.Entry.TheVariants.{Nothing, Block, Quiet, Reset, Moment}
@@ -29,6 +33,8 @@ use Rattle.trace_judge.specs.declared.standing.Scope.{Scope}
 use Rattle.trace_judge.specs.declared.timing.Late.{Late}
 use Rattle.trace_judge.specs.declared.timing.Timing.{Timing}
 use Rattle.trace_judge.specs.declared.standing.Judgment.{Judgment}
+use Rattle.trace_judge.specs.declared.coverage.Coverage.{Coverage}
+use Rattle.trace_judge.specs.Coverage.{coverage_part, covered, nothing_covered}
 use Rattle.trace_judge.specs.Reading.{entry_said, words_of}
 use Rattle.trace_judge.specs.Saying.{certain_text, deviation_text, late_text, neither_text, possible_text, unseen_text}
 use Rattle.trace_judge.specs.Waiting.{lateness, new_timing, past, timed, Offered, Rates}
@@ -48,6 +54,8 @@ pub record Standing : Type 0 where
   -- what is known of the time on the line
   pub timing : Timing
   pub tally : Tally
+  -- which rules and states were exercised
+  pub coverage : Coverage
   pub text : List ℕ
 
 abbrev pub nothing_told : Tally
@@ -63,6 +71,7 @@ start offered scope = record {
   number = 1;
   timing = new_timing offered.rates;
   tally = nothing_told;
+  coverage = nothing_covered;
   text = [];
 }
 
@@ -95,11 +104,17 @@ abbrev pub tells : Standing → Side → Tally → List ℕ → Standing
 tells s side tally line =
     if is_judged s.scope.only side then record s { tally = tally; text = s.text ++ line } else s
 
+-- what a block of an end exercised, where this end is judged
+abbrev pub told_exercise : Standing → Side → Exercise → Standing
+told_exercise s side exercise =
+    if is_judged s.scope.only side then record s { coverage = covered side exercise s.coverage } else s
+
 -- a card that sent no block
 abbrev pub told_silence : Standing → Silence → Standing
 told_silence s No = s
 told_silence s (Possible number) = tells s Card (unseen_in s.tally) (possible_text number)
-told_silence s (Certain number) = tells s Card (deviation_of Card s.tally) (certain_text number)
+told_silence s (Certain number) =
+    told_exercise (tells s Card (deviation_of Card s.tally) (certain_text number)) Card (Breaks SilenceRule None)
 
 -- a block of an end
 abbrev pub told_verdict : Standing → Side → ℕ → Verdict → Standing
@@ -173,10 +188,16 @@ IsArrival Unsaid arrival = arrival ≡ arrived.Unsaid
 IsArrival Lost arrival = arrival ≡ arrived.Lost
 IsArrival (Came octets) arrival = (slice : Bor (List ℕ)) × (slice.now ≡ octets) × (arrival ≡ arrived.Came slice)
 
--- What the monitor says is told, and then whether it was late.
-abbrev pub told_block : Standing → Monitor → Side → ℕ → Report → Standing
-told_block s monitor from octets report = told_late
-    (told_report (record s { monitor = monitor; begun = true; timing = timed s.timing from octets }) from report)
+-- what octets of an end exercise, if that is counted
+abbrev pub ExercisesIf : Bool → Monitor → Side → List ℕ → Exercise → Type 0
+ExercisesIf true monitor from octets exercise = Exercises monitor from octets exercise
+ExercisesIf false monitor from octets exercise = exercise ≡ Unknown
+
+-- What the block exercised is counted, what the monitor says is told, and then whether it was late.
+abbrev pub told_block : Standing → Monitor → Side → ℕ → Exercise → Report → Standing
+told_block s monitor from octets exercise report = told_late
+    (told_report (told_exercise (record s { monitor = monitor; begun = true; timing = timed s.timing from octets })
+    from exercise) from report)
     s.monitor.terminal.number (late_from s from)
 
 -- The monitor takes octets of an end, and what it says is told.
@@ -186,7 +207,9 @@ pub record IsTold (s : Standing) (from : Side) (octets : List ℕ) (reach : Reac
   pub monitor : Monitor
   pub report : Report
   pub takes : Takes s.monitor from octets arrival monitor report
-  pub told : s' ≡ told_block s monitor from (length octets) report
+  pub exercise : Exercise
+  pub exercises : ExercisesIf s.scope.rules s.monitor from octets exercise
+  pub told : s' ≡ told_block s monitor from (length octets) exercise report
 
 abbrev pub IsBlockTold : Bool → Standing → Side → List ℕ → Reach → Standing → Type 0
 IsBlockTold true s from octets reach s' = s' ≡ told_before s from octets
@@ -273,7 +296,8 @@ abbrev pub ended : Standing → Standing
 ended s = told_silence s (silence_of s.monitor.card.heard s.monitor.terminal.number)
 
 pub record IsConcluded (s : Standing) (judgment : Judgment) : Type 0 where
-  pub text : judgment.text ≡ (ended s).text ++ summary (ended s).monitor.blocks (ended s).tally
+  pub text : judgment.text ≡ (ended s).text ++ coverage_part (ended s).scope.rules (ended s).coverage
+      ++ summary (ended s).monitor.blocks (ended s).tally
   pub deviates : judgment.deviates ≡ not (deviations (ended s).tally == 0)
 
 abbrev pub Concludes : Result Standing ExchangeFault → Result Judgment ExchangeFault → Type 0

@@ -2,4 +2,5 @@
 pub mod Reading
 pub mod Saying
 pub mod Waiting
+pub mod Coverage
 pub mod Judging

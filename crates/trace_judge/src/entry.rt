@@ -2,12 +2,13 @@
 
 ghost use Rattle.std.specs.Prelude.{◌≡◌};
 ghost use Rattle.trace_judge.specs.Reading.{block_said, entry_said, hex_said, moment_by, named_said, reach_said, is_empty, UnlessMemory};
+ghost use Rattle.trace_judge.specs.Judging.{IsArrival};
 ghost use Rattle.octet_core.specs.Decimal.{decimal_number};
 
 use crate::line_words::LineWords;
 use exchange_text::{ExchangeFault, Name};
 use hex::FromHexError;
-use judge_core::Side;
+use judge_core::{Arrival, Side};
 use octet_core::{Octets, decimal_of};
 use std::alloc::Global;
 
@@ -29,6 +30,19 @@ pub(crate) enum Reach {
     Lost,
     /// As these octets.
     Came(Octets),
+}
+
+impl Reach {
+    /// The same, as the monitor takes it.
+    pub(crate) fn arrival(&self) -> Arrival<'_>
+        ensures { IsArrival self.now result }
+    {
+        match self {
+            Reach::Unsaid => Arrival::Unsaid,
+            Reach::Lost => Arrival::Lost,
+            Reach::Came(octets) => Arrival::Came(octets.get()),
+        }
+    }
 }
 
 /// What a line says.

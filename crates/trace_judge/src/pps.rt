@@ -1,7 +1,7 @@
 //! The exchange of PPS, which may come before the first block (ISO/IEC 7816-3:2006, clause 9).
 
 ghost use Rattle.std.specs.Prelude.{◌≡◌, ◌++◌, OnOk, string_bytes, slice_index};
-ghost use Rattle.trace_judge.specs.Judging.{is_pps, pps1_of, pps_text, pps_timed, rate_text, rates_at};
+ghost use Rattle.trace_judge.specs.Judging.{is_pps, pps1_of, pps_said, pps_text, pps_timed, rate_text, rates_at};
 
 use crate::saying::push_number;
 use crate::timing::{Rates, Timing};
@@ -28,7 +28,7 @@ pub(crate) fn is_pps(octets: &[u8]) -> bool
 }
 
 /// PPS1, or the value of one that says nothing new.
-pub(crate) fn pps1_of(octets: &[u8]) -> u8
+fn pps1_of(octets: &[u8]) -> u8
     ensures { result ≡ pps1_of octets.now }
 {
     if octet_at(octets, 1) & HAS_PPS1 == 0 {
@@ -39,7 +39,7 @@ pub(crate) fn pps1_of(octets: &[u8]) -> u8
 }
 
 /// Adds the line of F and D that PPS1 says, by the tables of TA1.
-pub(crate) fn push_pps(alloc: Global, text: &mut String, pps1: u8) -> Result<(), AllocError>
+fn push_pps(alloc: Global, text: &mut String, pps1: u8) -> Result<(), AllocError>
     ensures { OnOk result (string_bytes text.new ≡ string_bytes text.old ++ pps_text pps1) }
 {
     let (fi, di) = rates_of(pps1);
@@ -48,6 +48,22 @@ pub(crate) fn push_pps(alloc: Global, text: &mut String, pps1: u8) -> Result<(),
     text.push_str(" D ")?;
     push_rate(alloc, text, di)?;
     text.push_str("\n")
+}
+
+/// Adds what a card's answer to a PPS request says, and nothing of the request.
+pub(crate) fn push_answered_pps(
+    alloc: Global,
+    text: &mut String,
+    from: Side,
+    octets: &[u8],
+) -> Result<(), AllocError>
+    ensures { OnOk result (string_bytes text.new ≡ string_bytes text.old
+        ++ pps_said from octets.now) }
+{
+    match from {
+        Side::Terminal => Ok(()),
+        Side::Card => push_pps(alloc, text, pps1_of(octets)),
+    }
 }
 
 /// What is known of the time after a PPS request or its answer: that has F and D from now on.

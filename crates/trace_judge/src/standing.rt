@@ -3,18 +3,19 @@
 ghost use Rattle.std.specs.Prelude.{◌≡◌, ◌⊎◌, ◌++◌, ◌+◌, ◌<◌, ◌^◌, IfErr, MatchResult, OnOk, string_bytes};
 ghost use Rattle.exchange_text.specs.declared.fault.ExchangeFault.TheVariants.{Falls, Memory};
 ghost use Rattle.trace_judge.specs.declared.entry.Entry.TheVariants.{Moment};
-ghost use Rattle.trace_judge.specs.Judging.{is_before, is_judged, late_from, pps_said, pps_timed, quietened, renewed, same_side, start, told_before, told_late, told_report, told_silence, told_verdict, Fails, IsArrival, IsBlockTold, IsConcluded, IsEntered, IsFalling, IsTold, JudgesLine, Judges};
+ghost use Rattle.trace_judge.specs.Judging.{is_before, is_judged, late_from, pps_timed, quietened, renewed, same_side, start, told_before, told_exercise, told_late, told_report, told_silence, told_verdict, ExercisesIf, Fails, IsBlockTold, IsConcluded, IsEntered, IsFalling, IsTold, JudgesLine, Judges};
 
+use crate::coverage::Coverage;
 use crate::entry::{Entry, Reach, entry_said};
 use crate::line_words::LineWords;
-use crate::pps::{is_pps, octet_at, pps_timed, pps1_of, push_pps};
+use crate::pps::{is_pps, octet_at, pps_timed, push_answered_pps};
 use crate::saying::{
     push_certain, push_deviation, push_late, push_neither, push_possible, push_unseen,
 };
 use crate::tally::Tally;
 use crate::timing::{Late, Offer, Timing, lateness};
 use exchange_text::ExchangeFault;
-use judge_core::{Arrival, Monitor, Report, Said, Side, Silence, Verdict};
+use judge_core::{Exercise, Monitor, Report, Rule, Said, Side, Silence, Verdict};
 use octet_core::{Octets, Text};
 use std::alloc::{AllocError, Global};
 use std::marker::Model;
@@ -26,12 +27,14 @@ pub struct Scope {
     pub only: Option<Side>,
     /// The frequency of the card's clock in hertz, where the times of its blocks are judged.
     pub clock: Option<u64>,
+    /// Whether it is counted how often each end kept each rule and broke it, and what was due.
+    pub rules: bool,
 }
 
 /// What is said of a trace.
 #[derive(Debug, Drop)]
 pub struct Judgment {
-    /// A line for each deviation, and the last one with the counts.
+    /// A line for each deviation; one for each rule and each state, if they are counted; and the last one with the counts.
     pub text: Text,
     /// Whether there was a deviation.
     pub deviates: bool,
@@ -78,6 +81,7 @@ struct Standing {
     number: usize,
     timing: Timing,
     tally: Tally,
+    coverage: Coverage,
     text: String,
 }
 
@@ -96,6 +100,7 @@ impl Model for Standing {
       number = s.number;
       timing = s.timing;
       tally = s.tally;
+      coverage = s.coverage;
       text = string_bytes s.text;
     } };
 }
@@ -115,6 +120,7 @@ impl Standing {
             number: 1,
             timing,
             tally: Tally::new(),
+            coverage: Coverage::new(),
             text: String::new(alloc),
         }
     }
@@ -221,12 +227,35 @@ impl Standing {
         let arrival = reach.arrival();
         let late = self.late_from(from);
         let before = self.monitor.terminal.number;
+        let exercise = self.exercise(from, octets);
         let report = self.monitor.block(from, octets, arrival);
         self.begun = true;
         self.timing = self.timing.timed(from, octets.len());
+        self.cover(from, &exercise);
         self.report(alloc, from, report)?;
         self.late(alloc, before, late)?;
         Ok(())
+    }
+
+    /// What the octets of an end exercise, if that is counted.
+    fn exercise(&self, from: Side, octets: &[u8]) -> Exercise
+        ensures { ExercisesIf self.now.scope.rules self.now.monitor from octets.now result }
+    {
+        if self.scope.rules {
+            self.monitor.exercise(from, octets)
+        } else {
+            Exercise::Unknown
+        }
+    }
+
+    /// Counts what a block of this end exercised.
+    fn cover(&mut self, side: Side, exercise: &Exercise)
+        ensures said { self.new ≡ told_exercise self.old side exercise.now }
+        ensures number { self.new.number ≡ self.old.number }
+    {
+        if self.is_judged(side) {
+            self.coverage.cover(side, exercise);
+        }
     }
 
     /// Octets with FF in place of a node address, before the first block.
@@ -266,6 +295,8 @@ impl Standing {
             }
             Silence::Certain(number) if self.is_judged(Side::Card) => {
                 self.tally.deviation_of(Side::Card);
+                let exercise = Exercise::Breaks(Rule::Silence, None);
+                self.coverage.cover(Side::Card, &exercise);
                 push_certain(alloc, &mut self.text, number)
             }
             Silence::No | Silence::Possible(_) | Silence::Certain(_) => Ok(()),
@@ -340,40 +371,14 @@ impl Standing {
     {
         let silence = self.monitor.silence();
         self.silence(alloc, silence)?;
+        self.coverage
+            .push_if(alloc, &mut self.text, self.scope.rules)?;
         self.tally
             .push_summary(alloc, &mut self.text, self.monitor.blocks)?;
         Ok(Judgment {
             text: Text::of(self.text),
             deviates: self.tally.deviations() > 0,
         })
-    }
-}
-
-impl Reach {
-    fn arrival(&self) -> Arrival<'_>
-        ensures { IsArrival self.now result }
-    {
-        match self {
-            Reach::Unsaid => Arrival::Unsaid,
-            Reach::Lost => Arrival::Lost,
-            Reach::Came(octets) => Arrival::Came(octets.get()),
-        }
-    }
-}
-
-/// Adds what a card's answer to a PPS request says, and nothing of the request.
-fn push_answered_pps(
-    alloc: Global,
-    text: &mut String,
-    from: Side,
-    octets: &[u8],
-) -> Result<(), AllocError>
-    ensures { OnOk result (string_bytes text.new ≡ string_bytes text.old
-        ++ pps_said from octets.now) }
-{
-    match from {
-        Side::Terminal => Ok(()),
-        Side::Card => push_pps(alloc, text, pps1_of(octets)),
     }
 }
 

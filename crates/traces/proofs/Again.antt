@@ -1,5 +1,5 @@
 -- What a recorder recorded is made again from what was on its line.
-use Rattle.std.proofs.Common.{◌≡◌, ◌∙◌, ap, sym, subst, refl, ℕ, List, [], ◌∷◌, ◌++◌, Bool, true, false, not, if◌then◌else◌, None, Result, Ok, Err, append_assoc, length}
+use Rattle.std.proofs.Common.{◌≡◌, ◌∙◌, ap, sym, subst, refl, ℕ, List, [], ◌∷◌, ◌++◌, Bool, true, false, not, ◌+◌, if◌then◌else◌, None, Result, Ok, Err, append_assoc, length}
 use Rattle.std.specs.Prelude.{nat_le}
 use Rattle.std.proofs.lemmas.List.{append-nil}
 use Rattle.block_core.specs.Block.{Parts, spelling}
@@ -39,11 +39,14 @@ use Rattle.traces.specs.declared.standing.Standing.TheVariants.{Waits, Sends}
 use Rattle.traces.specs.declared.trace.Item.{Item}
 use Rattle.traces.specs.declared.trace.Item.TheVariants.{Block}
 use Rattle.traces.specs.Recorded.{lines_of}
-use Rattle.traces.specs.Said.{application_line, at_first, host_line}
-use Rattle.traces.specs.Following.{Following, after_items, begun, ended, numbered}
-use Rattle.traces.specs.Again.{AreTold, IsTold, MadeAgain, items_of, line_items, numbers_over}
+use Rattle.traces.specs.Said.{application_is_cut, application_line, at_first, host_is_cut, host_line}
+use Rattle.traces.specs.Following.{Following, after_items, begun, card_sent, ended, numbered, terminal_sent}
+use Rattle.traces.specs.Again.{AreSeenWhole, AreTold, GetsNoNote, IsSeenWhole, IsTold, MadeAgain, items_of, line_items, numbers_over}
 use Rattle.traces.proofs.Awaiting.{Awaits, awaits}
 use Rattle.traces.proofs.Stepping.{direct-T, called-T, direct-C, called-C, at, shown, follows}
+use Rattle.traces.proofs.Unnoting.{before-C, before-T, before-called-C, before-called-T, notes_of, unnoted-step}
+use Rattle.traces.specs.Marked.{marked}
+use Rattle.traces.specs.Unseen.{unseen_in}
 use Rattle.traces.proofs.Continuing.{Continues, carry-T, carry-C, lose-T, lose-C, begins-rest, waits-rest, shown-rest, stops, end_of}
 
 -- ---- a call
@@ -165,6 +168,12 @@ asked-told (line.Command m) n items h told = told
 asked-told (line.Ifsd v) n items h told = told
 asked-told call n items h told = absurd h
 
+asked-whole : (call : Line) (n : Numbers) (items : List Item) → IsAsked call → IsSeenWhole n items call
+    → application_is_cut n items ≡ false
+asked-whole (line.Command m) n items h whole = whole
+asked-whole (line.Ifsd v) n items h whole = whole
+asked-whole call n items h whole = absurd h
+
 replied-plain : (call : Line) → MayReply call → line_items call ≡ []
 replied-plain (line.Reply m) h = refl
 replied-plain (line.Time n) h = refl
@@ -177,6 +186,13 @@ replied-told (line.Reply m) n items h told = told
 replied-told (line.Time v) n items h told = told
 replied-told (line.Ifsc v) n items h told = told
 replied-told call n items h told = absurd h
+
+replied-whole : (call : Line) (n : Numbers) (items : List Item) → MayReply call → IsSeenWhole n items call
+    → host_is_cut n items ≡ false
+replied-whole (line.Reply m) n items h whole = whole
+replied-whole (line.Time v) n items h whole = whole
+replied-whole (line.Ifsc v) n items h whole = whole
+replied-whole call n items h whole = absurd h
 
 call-T : (final : List Line) (t next : TerminalState) (c : CardState) (b : Parts) (last : LastTurn) (lines : List Line)
     (call : Line) (mark : Mark)
@@ -205,6 +221,24 @@ call-T final t next c b last lines call mark rests aw it is turns k =
           ∙ sym (ap (λ (l : List Item). end_of (at next c (Sends b) Waits n added) l) s.is)
           ∙ k.made n (subst (λ (l : List Item). AreTold (numbers_over n l) k.more) plain told.1)
           ∙ append_assoc lines (call ∷ []) k.more;
+      unnoted = λ n told whole.
+          let sent : Following =
+          numbered (terminal_sent (at next c (Sends b) Waits n added) s.octets s.lost) item in
+          let called = asked-told call n its is (subst (λ (l : List Item). IsTold n l call) s.is told.0) in
+          ap (λ (l : List Item). notes_of (follows t c last n lines) l [])
+          (ap (λ (l : List Item). l ++ items_of k.more) plain ∙ s.is)
+          ∙ ap (λ (g : Following). notes_of g its []) (waits-rest t c last n lines rests)
+          ∙ unnoted-step (at t c Waits Waits n lines) sent item s.rest
+          (before-called-T t c n lines next b s.octets its call mark aw it called
+          (asked-whole call n its is (subst (λ (l : List Item). IsSeenWhole n l call) s.is whole.0)) turns s.fits)
+          (ap (λ (g : Following). numbered g item)
+          (called-T t next c b n lines s.octets s.lost its call mark aw it called turns s.fits))
+          ∙ sym (unnoted-step (at next c (Sends b) Waits n added) sent item s.rest
+          (before-T next c n added b s.octets its aw s.fits)
+          (ap (λ (g : Following). numbered g item) (direct-T next c b n added s.octets s.lost its aw s.fits)))
+          ∙ sym (ap (λ (l : List Item). notes_of (at next c (Sends b) Waits n added) l []) s.is)
+          ∙ k.unnoted n (subst (λ (l : List Item). AreTold (numbers_over n l) k.more) plain told.1)
+          (subst (λ (l : List Item). AreSeenWhole (numbers_over n l) k.more) plain whole.1);
     }
 
 call-C : (final : List Line) (t : TerminalState) (c next : CardState) (b : Parts) (last : LastTurn) (lines : List Line)
@@ -234,6 +268,24 @@ call-C final t c next b last lines call rests aw is turns k =
           ∙ sym (ap (λ (l : List Item). end_of (at t next Waits (Sends b) n added) l) s.is)
           ∙ k.made n (subst (λ (l : List Item). AreTold (numbers_over n l) k.more) plain told.1)
           ∙ append_assoc lines (call ∷ []) k.more;
+      unnoted = λ n told whole.
+          let sent : Following =
+          numbered (card_sent (at t next Waits (Sends b) n added) s.octets s.lost) item in
+          ap (λ (l : List Item). notes_of (follows t c last n lines) l [])
+          (ap (λ (l : List Item). l ++ items_of k.more) plain ∙ s.is)
+          ∙ ap (λ (g : Following). notes_of g its []) (waits-rest t c last n lines rests)
+          ∙ unnoted-step (at t c Waits Waits n lines) sent item s.rest
+          (before-called-C t c n lines its aw
+          (replied-whole call n its is (subst (λ (l : List Item). IsSeenWhole n l call) s.is whole.0)))
+          (ap (λ (g : Following). numbered g item)
+          (called-C t c next b n lines s.octets s.lost its call aw
+          (replied-told call n its is (subst (λ (l : List Item). IsTold n l call) s.is told.0)) turns))
+          ∙ sym (unnoted-step (at t next Waits (Sends b) n added) sent item s.rest
+          (before-C t next n added b its)
+          (ap (λ (g : Following). numbered g item) (direct-C t next b n added s.octets s.lost its)))
+          ∙ sym (ap (λ (l : List Item). notes_of (at t next Waits (Sends b) n added) l []) s.is)
+          ∙ k.unnoted n (subst (λ (l : List Item). AreTold (numbers_over n l) k.more) plain told.1)
+          (subst (λ (l : List Item). AreSeenWhole (numbers_over n l) k.more) plain whole.1);
     }
 
 -- ---- every event
@@ -418,3 +470,27 @@ made-again atr ifsc events found octets told =
     (begun-recording atr ifsc found) in
     subst (λ (l : List Line). (ended (after_items (begun ifsc) (items_of l))).lines ≡ l) (sym k.is)
     (k.made at_first (subst (λ (l : List Line). AreTold at_first l) k.is told))
+
+none-seen : (atr : List ℕ) (ifsc : ℕ) (events : List Event) → IsFound atr (Ok ifsc) → AllHandOctets events
+    → AreTold at_first (closed (after_events events (begun_recording atr ifsc)))
+    → AreSeenWhole at_first (closed (after_events events (begun_recording atr ifsc)))
+    → unseen_in ifsc (items_of (closed (after_events events (begun_recording atr ifsc)))) ≡ []
+unfolding unseen_in
+none-seen atr ifsc events found octets told whole =
+    let k = goes-on events octets (begun_recording atr ifsc) (new_terminal ifsc) (new_card ifsc)
+    (begun-recording atr ifsc found) in
+    subst (λ (l : List Line). notes_of (begun ifsc) (items_of l) [] ≡ []) (sym k.is)
+    (k.unnoted at_first (subst (λ (l : List Line). AreTold at_first l) k.is told)
+    (subst (λ (l : List Line). AreSeenWhole at_first l) k.is whole))
+
+-- no note is put before a line
+unmarked : (place : ℕ) (lines : List Line) → marked place [] lines ≡ lines
+unmarked place [] = refl
+unmarked place (line ∷ lines) = ap (λ (l : List Line). line ∷ l) (unmarked (place + 1) lines)
+
+pub gets-no-note : GetsNoNote
+gets-no-note atr ifsc events found octets told whole =
+    let all : List Line = closed (after_events events (begun_recording atr ifsc)) in
+    ap (λ (places : List ℕ). marked 0 places (lines_of ifsc (items_of all)))
+    (none-seen atr ifsc events found octets told whole)
+    ∙ unmarked 0 (lines_of ifsc (items_of all)) ∙ made-again atr ifsc events found octets told

@@ -28,9 +28,10 @@ use Rattle.traces.specs.declared.trace.Item.{Item}
 use Rattle.traces.specs.declared.trace.Item.TheVariants.{Block, Quiet}
 use Rattle.traces.specs.Said.{numbers_after}
 use Rattle.traces.specs.Following.{Following, after_items, ended, from_card, from_terminal, meets, numbered}
-use Rattle.traces.specs.Again.{AreTold, block_items, items_of, line_items, numbers_over}
+use Rattle.traces.specs.Again.{AreSeenWhole, AreTold, block_items, items_of, line_items, numbers_over}
 use Rattle.traces.proofs.Awaiting.{Awaits}
 use Rattle.traces.proofs.Changing.{arrival-arrived, meets-arrived}
+use Rattle.traces.proofs.Unnoting.{before-C, before-Q, before-T, ends-unnoted, notes_of, unnoted-step}
 use Rattle.traces.proofs.Stepping.{terminal-hears, card-hears, direct-T, direct-C, sends-T, sends-C, card-reached, card-missed, terminal-reached, terminal-missed, quiet-after, ends, at, shown, follows}
 
 -- ---- what is still to come
@@ -56,6 +57,9 @@ pub record Continues (final : List Line) (t : TerminalState) (c : CardState) (la
   pub begins : Begins last (items_of more)
   pub made : (n : Numbers) → AreTold n more
       → (ended (after_items (follows t c last n lines) (items_of more))).lines ≡ lines ++ more
+  -- and no note comes before one of them
+  pub unnoted : (n : Numbers) → AreTold n more → AreSeenWhole n more
+      → notes_of (follows t c last n lines) (items_of more) [] ≡ []
 
 pub shown-items : (t : TerminalState) (c : CardState) (last : LastTurn) (more : List Line)
     → items_of (shown t c last ++ more) ≡ items_of more
@@ -78,6 +82,17 @@ shown-told t c (Terminal GivenUp) n more h = h.1
 shown-told t c (Terminal Dead) n more h = h.1
 shown-told t c (Card (CardSend block)) n more h = h
 shown-told t c (Card Asked) n more h = h.1
+
+pub shown-whole : (t : TerminalState) (c : CardState) (last : LastTurn) (n : Numbers) (more : List Line)
+    → AreSeenWhole n (shown t c last ++ more) → AreSeenWhole n more
+shown-whole t c Nothing n more h = h
+shown-whole t c (Terminal (Send block)) n more h = h
+shown-whole t c (Terminal Answered) n more h = h.1
+shown-whole t c (Terminal IfsSet) n more h = h.1
+shown-whole t c (Terminal GivenUp) n more h = h.1
+shown-whole t c (Terminal Dead) n more h = h.1
+shown-whole t c (Card (CardSend block)) n more h = h
+shown-whole t c (Card Asked) n more h = h.1
 
 pub rejoins : (lines : List Line) (call : Line) (s more : List Line)
     → ((lines ++ call ∷ []) ++ s) ++ more ≡ lines ++ call ∷ (s ++ more)
@@ -135,6 +150,20 @@ carry-T final t c next b a turn lines aw nad be turns k =
           ∙ k.made (numbers_after n item) (shown-told t next (Card turn) (numbers_after n item) k.more
           (subst (λ (l : List Item). AreTold (numbers_over n l) (s ++ k.more)) own told.1))
           ∙ joined;
+      unnoted = λ n told whole.
+          let after = numbers_after n item in
+          let all : List Line = (lines ++ call ∷ []) ++ s in
+          ap (λ (l : List Item). notes_of (at t c (Sends b) Waits n lines) l []) items
+          ∙ unnoted-step (at t c (Sends b) Waits n lines) (follows t next (Card turn) after all) item (items_of k.more)
+          (before-T t c n lines b octets (item ∷ items_of k.more) aw (meets-arrived b a be))
+          (ap (λ (g : Following). numbered g item)
+          (direct-T t c b n lines octets false (item ∷ items_of k.more) aw (meets-arrived b a be)
+          ∙ sends-T t c b n lines octets false a (meets-arrived b a be) (arrival-arrived b a nad be)
+          ∙ card-reached t c n lines call ∙ card-hears t c next Waits n lines call turn turns))
+          ∙ k.unnoted after (shown-told t next (Card turn) after k.more
+          (subst (λ (l : List Item). AreTold (numbers_over n l) (s ++ k.more)) own told.1))
+          (shown-whole t next (Card turn) after k.more
+          (subst (λ (l : List Item). AreSeenWhole (numbers_over n l) (s ++ k.more)) own whole.1));
     }
 
 pub carry-C : (final : List Line) (t next : TerminalState) (c : CardState) (b : Parts) (a : Arrival)
@@ -174,6 +203,21 @@ carry-C final t next c b a turn mark lines nad be turns k =
           ∙ k.made (numbers_after n item) (shown-told next c (Terminal turn) (numbers_after n item) k.more
           (subst (λ (l : List Item). AreTold (numbers_over n l) (s ++ k.more)) own told.1))
           ∙ joined;
+      unnoted = λ n told whole.
+          let after = numbers_after n item in
+          let all : List Line = (lines ++ call ∷ []) ++ s in
+          ap (λ (l : List Item). notes_of (at t c Waits (Sends b) n lines) l []) items
+          ∙ unnoted-step (at t c Waits (Sends b) n lines) (follows next c (Terminal turn) after all) item
+          (items_of k.more)
+          (before-C t c n lines b (item ∷ items_of k.more))
+          (ap (λ (g : Following). numbered g item)
+          (direct-C t c b n lines octets false (item ∷ items_of k.more)
+          ∙ sends-C t c b n lines octets false a (meets-arrived b a be) (arrival-arrived b a nad be)
+          ∙ terminal-reached t c n lines call ∙ terminal-hears t next c Waits n lines call turn mark turns))
+          ∙ k.unnoted after (shown-told next c (Terminal turn) after k.more
+          (subst (λ (l : List Item). AreTold (numbers_over n l) (s ++ k.more)) own told.1))
+          (shown-whole next c (Terminal turn) after k.more
+          (subst (λ (l : List Item). AreSeenWhole (numbers_over n l) (s ++ k.more)) own whole.1));
     }
 
 -- ---- a block that is lost
@@ -216,6 +260,29 @@ after-loss final t next c lost turn mark lines aw turns k n told =
     (shown-items next c (Terminal turn) k.more)
     ∙ k.made n (shown-told next c (Terminal turn) n k.more told)
 
+pub unnoted-after-loss : (final : List Line) (t next : TerminalState) (c : CardState) (lost : Line)
+    (turn : TerminalTurn) (mark : Mark) (lines : List Line)
+    → card_awaits_block c.waits ≡ true → terminal_turn t (takes quiet) ≡ Ok (turn, next, mark)
+    → (k : Continues final next c (Terminal turn)
+    ((lines ++ lost ∷ line.Quiet ∷ []) ++ shown next c (Terminal turn)))
+    → (n : Numbers) → AreTold n (shown next c (Terminal turn) ++ k.more)
+    → AreSeenWhole n (shown next c (Terminal turn) ++ k.more)
+    → notes_of (at t c Waits Waits n (lines ++ lost ∷ []))
+    (Quiet ∷ items_of (shown next c (Terminal turn) ++ k.more)) [] ≡ []
+unnoted-after-loss final t next c lost turn mark lines aw turns k n told whole =
+    let s : List Line = shown next c (Terminal turn) in
+    let rest : List Item = items_of (s ++ k.more) in
+    unnoted-step (at t c Waits Waits n (lines ++ lost ∷ []))
+    (follows next c (Terminal turn) n (((lines ++ lost ∷ []) ++ line.Quiet ∷ []) ++ s)) Quiet rest
+    (before-Q t c n (lines ++ lost ∷ []) (Quiet ∷ rest) aw)
+    (quiet-after t c n (lines ++ lost ∷ []) (Quiet ∷ rest) aw
+    ∙ terminal-hears t next c Waits n (lines ++ lost ∷ []) line.Quiet turn mark turns)
+    ∙ ap (λ (l : List Line). notes_of (follows next c (Terminal turn) n (l ++ s)) rest [])
+    (append_assoc lines (lost ∷ []) (line.Quiet ∷ []))
+    ∙ ap (λ (l : List Item). notes_of (follows next c (Terminal turn) n ((lines ++ lost ∷ line.Quiet ∷ []) ++ s)) l [])
+    (shown-items next c (Terminal turn) k.more)
+    ∙ k.unnoted n (shown-told next c (Terminal turn) n k.more told) (shown-whole next c (Terminal turn) n k.more whole)
+
 pub rejoins-two : (lines : List Line) (lost q : Line) (s more : List Line)
     → ((lines ++ lost ∷ q ∷ []) ++ s) ++ more ≡ lines ++ lost ∷ q ∷ (s ++ more)
 rejoins-two lines lost q s more =
@@ -241,6 +308,12 @@ lose-T final t next c b turn mark lines aw turns k =
       made = λ n told.
           ap (λ (g : Following). end_of (numbered g item) rest) (loses-T t c b n lines (item ∷ rest) aw)
           ∙ after-loss final t next c lost turn mark lines aw turns k (numbers_after n item) told.1.1 ∙ joined;
+      unnoted = λ n told whole.
+          unnoted-step (at t c (Sends b) Waits n lines)
+          (at t c Waits Waits (numbers_after n item) (lines ++ lost ∷ [])) item rest
+          (before-T t c n lines b (spelling b) (item ∷ rest) aw (own-meets b))
+          (ap (λ (g : Following). numbered g item) (loses-T t c b n lines (item ∷ rest) aw))
+          ∙ unnoted-after-loss final t next c lost turn mark lines aw turns k (numbers_after n item) told.1.1 whole.1.1;
     }
 
 pub lose-C : (final : List Line) (t next : TerminalState) (c : CardState) (b : Parts) (turn : TerminalTurn)
@@ -263,6 +336,12 @@ lose-C final t next c b turn mark lines aw turns k =
       made = λ n told.
           ap (λ (g : Following). end_of (numbered g item) rest) (loses-C t c b n lines (item ∷ rest))
           ∙ after-loss final t next c lost turn mark lines aw turns k (numbers_after n item) told.1.1 ∙ joined;
+      unnoted = λ n told whole.
+          unnoted-step (at t c Waits (Sends b) n lines)
+          (at t c Waits Waits (numbers_after n item) (lines ++ lost ∷ [])) item rest
+          (before-C t c n lines b (item ∷ rest))
+          (ap (λ (g : Following). numbered g item) (loses-C t c b n lines (item ∷ rest)))
+          ∙ unnoted-after-loss final t next c lost turn mark lines aw turns k (numbers_after n item) told.1.1 whole.1.1;
     }
 
 -- ---- the end
@@ -279,6 +358,12 @@ ends-lost-T t c b lines aw =
       made = λ n told.
           ap (λ (g : Following). end_of (numbered g item) []) (loses-T t c b n lines (item ∷ []) aw)
           ∙ ap (λ (g : Following). g.lines) (ends t c (numbers_after n item) (lines ++ lost ∷ []));
+      unnoted = λ n told whole.
+          unnoted-step (at t c (Sends b) Waits n lines)
+          (at t c Waits Waits (numbers_after n item) (lines ++ lost ∷ [])) item []
+          (before-T t c n lines b (spelling b) (item ∷ []) aw (own-meets b))
+          (ap (λ (g : Following). numbered g item) (loses-T t c b n lines (item ∷ []) aw))
+          ∙ ends-unnoted t c (numbers_after n item) (lines ++ lost ∷ []);
     }
 
 pub ends-lost-C : (t : TerminalState) (c : CardState) (b : Parts) (lines : List Line)
@@ -293,6 +378,12 @@ ends-lost-C t c b lines =
       made = λ n told.
           ap (λ (g : Following). end_of (numbered g item) []) (loses-C t c b n lines (item ∷ []))
           ∙ ap (λ (g : Following). g.lines) (ends t c (numbers_after n item) (lines ++ lost ∷ []));
+      unnoted = λ n told whole.
+          unnoted-step (at t c Waits (Sends b) n lines)
+          (at t c Waits Waits (numbers_after n item) (lines ++ lost ∷ [])) item []
+          (before-C t c n lines b (item ∷ []))
+          (ap (λ (g : Following). numbered g item) (loses-C t c b n lines (item ∷ [])))
+          ∙ ends-unnoted t c (numbers_after n item) (lines ++ lost ∷ []);
     }
 
 pub begins-rest : (last : LastTurn) (items : List Item) → under_way_of last ≡ nothing → Begins last items
@@ -338,6 +429,8 @@ ends-rest t c last lines e =
       made = λ n told.
           ap (λ (g : Following). (ended g).lines) (waits-rest t c last n all e)
           ∙ ap (λ (g : Following). g.lines) (ends t c n all) ∙ sym (append-nil all);
+      unnoted = λ n told whole.
+          ap (λ (g : Following). notes_of g [] []) (waits-rest t c last n all e) ∙ ends-unnoted t c n all;
     }
 
 pub stops : (t : TerminalState) (c : CardState) (last : LastTurn) (lines : List Line)

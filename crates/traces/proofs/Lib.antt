@@ -8,6 +8,7 @@ pub mod Followed
 pub mod Awaiting
 pub mod Changing
 pub mod Stepping
+pub mod Unnoting
 pub mod Continuing
 pub mod Again
 pub mod Noted

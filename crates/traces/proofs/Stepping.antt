@@ -160,22 +160,31 @@ direct-T t c b n lines octets lost items e m =
     ∙ ap (λ (g : Following). terminal_sent g octets lost) (releases t c (Sends b) Waits n lines)
 
 -- the terminal has none, and its application calls it
+pub begins-call : (t next : TerminalState) (c : CardState) (b : Parts) (n : Numbers) (lines : List Line)
+    (items : List Item) (call : Line) (mark : Mark)
+    → terminal_awaits_block t.waits ≡ false → application_line n items ≡ call
+    → terminal_turn t (terminal_input t call) ≡ Ok (Send b, next, mark)
+    → after_begins (at t c Waits Waits n lines) items ≡ at next c (Sends b) Waits n (lines ++ call ∷ [])
+unfolding after_begins
+begins-call t next c b n lines items call mark e told turns =
+    let f : Following = at t c Waits Waits n lines in
+    if-false (terminal_awaits_block t.waits) (terminal_hears f line.Quiet)
+    (terminal_hears f (application_line n items)) e
+    ∙ ap (λ (l : Line). terminal_hears f l) told
+    ∙ terminal-hears t next c Waits n lines call (Send b) mark turns
+    ∙ ap (λ (l : List Line). at next c (Sends b) Waits n l) (append-nil (lines ++ call ∷ []))
+
 pub moves-call : (t next : TerminalState) (c : CardState) (b : Parts) (n : Numbers) (lines : List Line)
     (octets : List ℕ)
     (items : List Item) (call : Line) (mark : Mark)
     → terminal_awaits_block t.waits ≡ false → application_line n items ≡ call
     → terminal_turn t (terminal_input t call) ≡ Ok (Send b, next, mark) → meets b octets ≡ true
     → after_moves (at t c Waits Waits n lines) octets items ≡ at next c (Sends b) Waits n (lines ++ call ∷ [])
-unfolding after_moves after_begins
+unfolding after_moves
 moves-call t next c b n lines octets items call mark e told turns m =
-    let f : Following = at t c Waits Waits n lines in
     let g : Following = at next c (Sends b) Waits n (lines ++ call ∷ []) in
     ap (λ (h : Following). goes_again h (terminal_awaits_block t.waits) octets)
-    (if-false (terminal_awaits_block t.waits) (terminal_hears f line.Quiet)
-    (terminal_hears f (application_line n items)) e
-    ∙ ap (λ (l : Line). terminal_hears f l) told
-    ∙ terminal-hears t next c Waits n lines call (Send b) mark turns
-    ∙ ap (λ (l : List Line). at next c (Sends b) Waits n l) (append-nil (lines ++ call ∷ [])))
+    (begins-call t next c b n lines items call mark e told turns)
     ∙ ap (λ (w : Bool). goes_again g w octets) e
     ∙ if-false (misses (Sends b) octets) _ g (no-miss b octets m)
 

@@ -14,8 +14,8 @@ use Rattle.exchange_core.specs.declared.replaying.Side.TheVariants as side
 use Rattle.traces.specs.declared.said.Numbers.{Numbers}
 use Rattle.traces.specs.declared.trace.Item.{Item}
 use Rattle.traces.specs.declared.trace.Item.TheVariants.{Block, Quiet, Moment}
-use Rattle.traces.specs.Recorded.{lines_of}
-use Rattle.traces.specs.Said.{application_line, at_first, host_line, numbers_after}
+use Rattle.traces.specs.Recorded.{lines_of, noted_lines}
+use Rattle.traces.specs.Said.{application_is_cut, application_line, at_first, host_is_cut, host_line, numbers_after}
 
 -- what was seen of a block: of a changed one the octets that arrived
 abbrev pub block_items : Side → List ℕ → Arrival → List Item
@@ -56,10 +56,33 @@ abbrev pub AreTold : Numbers → List Line → Type 0
 AreTold n [] = Unit {0}
 AreTold n (line ∷ lines) = IsTold n (items_of lines) line × AreTold (numbers_over n (line_items line)) lines
 
+-- The message of a call was seen to its end, where these items come after it: no octet stands for what nobody saw.
+abbrev pub IsSeenWhole : Numbers → List Item → Line → Type 0
+IsSeenWhole n items (line.Command octets) = application_is_cut n items ≡ false
+IsSeenWhole n items (line.Ifsd size) = application_is_cut n items ≡ false
+IsSeenWhole n items (line.Reply octets) = host_is_cut n items ≡ false
+IsSeenWhole n items (line.Time multiple) = host_is_cut n items ≡ false
+IsSeenWhole n items (line.Ifsc size) = host_is_cut n items ≡ false
+IsSeenWhole n items line = Unit {0}
+
+-- each call of these lines is
+abbrev pub AreSeenWhole : Numbers → List Line → Type 0
+AreSeenWhole n [] = Unit {0}
+AreSeenWhole n (line ∷ lines) =
+    IsSeenWhole n (items_of lines) line × AreSeenWhole (numbers_over n (line_items line)) lines
+
 -- Whatever happened to a recorder, what it recorded is what is recorded of the trace of its line, where the blocks tell
 -- what both applications called.
 abbrev pub MadeAgain : Type 0
 MadeAgain = (atr : List ℕ) (ifsc : ℕ) (events : List Event) → IsFound atr (Ok ifsc) → AllHandOctets events
     → AreTold at_first (closed (records.after_events events (records.begun atr ifsc)))
     → lines_of ifsc (items_of (closed (records.after_events events (records.begun atr ifsc))))
+    ≡ closed (records.after_events events (records.begun atr ifsc))
+
+-- And nobody needs to be told what nobody saw: no note is added, where each message was seen to its end too.
+abbrev pub GetsNoNote : Type 0
+GetsNoNote = (atr : List ℕ) (ifsc : ℕ) (events : List Event) → IsFound atr (Ok ifsc) → AllHandOctets events
+    → AreTold at_first (closed (records.after_events events (records.begun atr ifsc)))
+    → AreSeenWhole at_first (closed (records.after_events events (records.begun atr ifsc)))
+    → noted_lines ifsc (items_of (closed (records.after_events events (records.begun atr ifsc))))
     ≡ closed (records.after_events events (records.begun atr ifsc))

@@ -1,7 +1,7 @@
 //! What holds of each recording, as contracts of functions that a caller may call to know it.
 
 ghost use Rattle.std.specs.Prelude.{◌≡◌, ℕ, List};
-ghost use Rattle.traces.specs.Again.{MadeAgain};
+ghost use Rattle.traces.specs.Again.{GetsNoNote, MadeAgain};
 ghost use Rattle.traces.specs.Arrived.{arrived_in, arrived_of};
 ghost use Rattle.traces.specs.Followed.{FollowedReplays};
 ghost use Rattle.traces.specs.Recorded.{noted_lines};
@@ -27,4 +27,10 @@ pub fn followed_end_replays()
 /// sent.
 pub fn recorded_is_made_again()
     ensures { MadeAgain }
+{}
+
+/// Where each message was seen to its end too (`AreSeenWhole` in `specs/Again.antt`), the recording adds no note: the
+/// file of that trace is line for line the one that the recorder wrote.
+pub fn recorded_gets_no_note()
+    ensures { GetsNoNote }
 {}

@@ -1,5 +1,5 @@
-use Rattle.std.proofs.Common.{subst}
-use Rattle.trace_judge.specs.Judging.{IsTold, Standing}
+use Rattle.std.proofs.Common.{subst, sym}
+use Rattle.trace_judge.specs.Judging.{ExercisesIf, IsTold, Standing}
 use Rattle.trace_judge.proofs.Steps.{told-by}
 use Rattle.trace_judge.proofs.standing.Standing.block.Goals as goal
 
@@ -12,7 +12,11 @@ returns-clause-said c =
       monitor = c.block-report.new.self;
       report = c.block-report.result;
       takes = c.block-report.ensures;
-      told = told-by _ c.args.self.now _ _ c.block-report.new.self c.args.from _ c.block-report.result _ _
-          c.self.view_is
-          c.timed-self-inside.ensures c.in_ok-report.ensures.said c.late_from-late.ensures c.in_ok-late.ensures.said;
+      exercise = c.exercise-exercise.result;
+      exercises = subst (λ (s : Standing). ExercisesIf s.scope.rules s.monitor c.args.from c.args.octets.now
+          c.exercise-exercise.result) (sym c.self.view_is) c.exercise-exercise.ensures;
+      told = told-by _ c.args.self.now _ _ _ c.block-report.new.self c.args.from _ c.exercise-exercise.result
+          c.block-report.result _ _ c.self.view_is
+          c.timed-self-inside.ensures c.cover.ensures.said c.in_ok-report.ensures.said c.late_from-late.ensures
+              c.in_ok-late.ensures.said;
     })

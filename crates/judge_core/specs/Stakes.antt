@@ -1,0 +1,275 @@
+-- Which rules an end can keep or break by the block that it sends next, and which of them a block kept or broke.
+use Rattle.std.specs.Prelude.{◌≡◌, ℕ, ◌&&◌, ◌||◌, ◌==◌, not, nat_le, nat_lt, List, Bool, true, false, if◌then◌else◌, Option, Some, None, Ok, Err}
+use Rattle.octet_core.specs.Sizes.{IsFieldSize}
+use Rattle.block_core.specs.Block.{Suits}
+use Rattle.block_core.specs.declared.pcb.Pcb.{Pcb}
+use Rattle.block_core.specs.declared.pcb.S.{S}
+use Rattle.block_core.specs.declared.pcb.S.TheVariants.{Resynch, Ifs, Abort, Wtx}
+use Rattle.t1_core.specs.Terminal.{most_repeats}
+use Rattle.judge_core.specs.declared.end.Side.{Side}
+use Rattle.judge_core.specs.declared.end.Side.TheVariants.{Terminal, Card}
+use Rattle.judge_core.specs.declared.end.Pending.{Pending}
+use Rattle.judge_core.specs.declared.end.Pending.TheVariants.{Settled, Chain, Last}
+use Rattle.judge_core.specs.declared.end.Asked.{Asked}
+use Rattle.judge_core.specs.declared.end.Asked.TheVariants.{Size, Time, Stop, Anew}
+use Rattle.judge_core.specs.declared.end.Owed.{Owed}
+use Rattle.judge_core.specs.declared.end.Owed.TheVariants.{NewMessage, NextBlock, Acknowledgment, SameBlock, Correction, Refusal, SameRequest, Answer, EitherBlock, MessageOrCorrection, MessageOrRefusal, AcknowledgmentOrRefusal, AnyBlock}
+use Rattle.judge_core.specs.declared.end.End.{End}
+use Rattle.judge_core.specs.declared.end.After.{After}
+use Rattle.judge_core.specs.declared.rule.Rule.{Rule}
+use Rattle.judge_core.specs.declared.rule.Rule.TheVariants as rule
+use Rattle.judge_core.specs.declared.state.State.{State}
+use Rattle.judge_core.specs.declared.courses.Heard.{Heard}
+use Rattle.judge_core.specs.declared.courses.Heard.TheVariants.{Beginning, Whole, Perhaps, Broken, Nothing}
+use Rattle.judge_core.specs.declared.courses.Verdict.TheVariants.{Permitted, Unseen, Deviates}
+use Rattle.judge_core.specs.declared.monitor.Watched.{Watched}
+use Rattle.judge_core.specs.declared.monitor.Monitor.{Monitor}
+use Rattle.judge_core.specs.declared.monitor.Said.{Said}
+use Rattle.judge_core.specs.declared.monitor.Said.TheVariants.{Damage, Block}
+use Rattle.judge_core.specs.declared.stakes.Stakes.{Stakes}
+use Rattle.judge_core.specs.declared.exercise.Exercise.{Exercise}
+use Rattle.judge_core.specs.declared.exercise.Exercise.TheVariants as exercise
+use Rattle.judge_core.specs.Sends.{Sent, is_between, is_within, is_waiting, least_repeats, most_asked, sends}
+use Rattle.judge_core.specs.Courses.{attempted, got_none, got_whole}
+use Rattle.judge_core.specs.Monitored.{addressed_by, due, said_of, IsSeen, Seen, whole, malformed, damage}
+use Rattle.judge_core.specs.States.{state_of}
+
+abbrev pub is_terminal : Side → Bool
+is_terminal Terminal = true
+is_terminal Card = false
+
+abbrev pub is_card : Side → Bool
+is_card Terminal = false
+is_card Card = true
+
+-- ---- what an end can break that owes something
+
+-- a block can have more octets than the other end takes (11.4.2)
+abbrev pub takes_less : End → Bool
+takes_less e = nat_lt e.room 254
+
+-- only a terminal has limits, and asks for RESYNCH (rules 6.1 and 7.4)
+abbrev pub is_corrected_out : End → Bool
+is_corrected_out e = is_terminal e.side && not (nat_lt e.row.corrections most_repeats)
+
+abbrev pub is_unsettled : Pending → Bool
+is_unsettled Settled = false
+is_unsettled Chain = true
+is_unsettled Last = true
+
+abbrev pub is_repeated_out : End → Bool
+is_repeated_out e = is_terminal e.side && (not (nat_lt e.row.repeats most_repeats) && is_unsettled e.pending)
+
+abbrev pub asked_so_often : End → S → Bool
+asked_so_often e s = is_terminal e.side && not (nat_lt e.tries (most_asked s))
+
+-- a terminal asks for no time
+abbrev pub is_asked_out : End → Option Asked → Bool
+is_asked_out e None = false
+is_asked_out e (Some (Size n)) = asked_so_often e Ifs
+is_asked_out e (Some (Time n)) = false
+is_asked_out e (Some Stop) = asked_so_often e Abort
+is_asked_out e (Some Anew) = asked_so_often e Resynch
+
+abbrev pub is_early : End → Bool
+is_early e = is_terminal e.side && not (nat_le least_repeats e.tries)
+
+-- a request is sent again at once, and RESYNCH may come in its place
+abbrev pub is_early_alone : End → Bool
+is_early_alone e = is_early e && not (is_waiting e.asked)
+
+-- a message that begins or goes on
+abbrev pub message_breaks : End → Owed → Rule → Bool
+message_breaks e owed rule.FieldSize = takes_less e
+message_breaks e owed rule.SequenceNumber = true
+message_breaks e owed rule.BlockDue = true
+message_breaks e owed rule.Unasked = true
+message_breaks e owed rule.NoChain = not (is_within owed)
+message_breaks e owed rule.EarlyResynch = is_terminal e.side && not (is_between owed)
+message_breaks e owed r = false
+
+abbrev pub acknowledgment_breaks : End → Rule → Bool
+acknowledgment_breaks e rule.SequenceNumber = true
+acknowledgment_breaks e rule.AcknowledgmentDue = true
+acknowledgment_breaks e rule.ErrorCode = true
+acknowledgment_breaks e rule.Unasked = true
+acknowledgment_breaks e rule.EarlyResynch = is_terminal e.side
+acknowledgment_breaks e r = false
+
+abbrev pub repeat_breaks : End → Rule → Bool
+repeat_breaks e rule.SequenceNumber = true
+repeat_breaks e rule.RepeatDue = true
+repeat_breaks e rule.RepeatedOctets = true
+repeat_breaks e rule.Unasked = true
+repeat_breaks e rule.EarlyResynch = is_early e
+repeat_breaks e rule.TooManyRepeats = is_repeated_out e
+repeat_breaks e r = false
+
+abbrev pub correction_breaks : End → Rule → Bool
+correction_breaks e rule.SequenceNumber = true
+correction_breaks e rule.CorrectionDue = true
+correction_breaks e rule.Unasked = true
+correction_breaks e rule.EarlyResynch = is_early e
+correction_breaks e rule.TooManyRepeats = is_corrected_out e
+correction_breaks e r = false
+
+abbrev pub refusal_breaks : End → Rule → Bool
+refusal_breaks e rule.SequenceNumber = true
+refusal_breaks e rule.CorrectionDue = true
+refusal_breaks e rule.EarlyResynch = is_early_alone e
+refusal_breaks e rule.TooManyRepeats = is_corrected_out e || is_asked_out e e.asked
+refusal_breaks e r = false
+
+abbrev pub request_breaks : End → Rule → Bool
+request_breaks e rule.RequestDue = true
+request_breaks e rule.EarlyResynch = is_early_alone e
+request_breaks e rule.TooManyRepeats = is_asked_out e e.asked
+request_breaks e r = false
+
+-- whether such a block carries an octet
+abbrev pub carries : S → Bool
+carries Resynch = false
+carries Ifs = true
+carries Abort = false
+carries Wtx = true
+
+-- one that carries none counts as carrying 0
+abbrev pub response_breaks : S → ℕ → Rule → Bool
+response_breaks s octet rule.ResponseDue = true
+response_breaks s octet rule.ResponseOctet = carries s || not (octet == 0)
+response_breaks s octet r = false
+
+-- after ABORT
+abbrev pub either_breaks : End → Rule → Bool
+either_breaks e rule.FieldSize = takes_less e
+either_breaks e rule.SequenceNumber = true
+either_breaks e rule.ErrorCode = true
+either_breaks e rule.Unasked = true
+either_breaks e rule.NoChain = true
+either_breaks e r = false
+
+-- after an R-block that either hands over or asks for the last R-block again
+abbrev pub begun_or_corrected_breaks : End → Rule → Bool
+begun_or_corrected_breaks e rule.FieldSize = takes_less e
+begun_or_corrected_breaks e rule.SequenceNumber = true
+begun_or_corrected_breaks e rule.Unasked = true
+begun_or_corrected_breaks e rule.NoChain = true
+begun_or_corrected_breaks e rule.TooManyRepeats = is_corrected_out e
+begun_or_corrected_breaks e r = false
+
+-- an end that may refuse too can correct too often
+abbrev pub or_refusal_breaks : End → Rule → Bool → Bool
+or_refusal_breaks e rule.TooManyRepeats breaks = is_corrected_out e
+or_refusal_breaks e r breaks = breaks
+
+abbrev pub any_breaks : End → Rule → Bool
+any_breaks e rule.FieldSize = takes_less e
+any_breaks e r = false
+
+abbrev pub owed_breaks : End → Owed → Rule → Bool
+owed_breaks e NewMessage r = message_breaks e NewMessage r
+owed_breaks e NextBlock r = message_breaks e NextBlock r
+owed_breaks e Acknowledgment r = acknowledgment_breaks e r
+owed_breaks e SameBlock r = repeat_breaks e r
+owed_breaks e Correction r = correction_breaks e r
+owed_breaks e Refusal r = refusal_breaks e r
+owed_breaks e SameRequest r = request_breaks e r
+owed_breaks e (Answer s octet) r = response_breaks s octet r
+owed_breaks e EitherBlock r = either_breaks e r
+owed_breaks e MessageOrCorrection r = begun_or_corrected_breaks e r
+owed_breaks e MessageOrRefusal r = or_refusal_breaks e r (message_breaks e MessageOrRefusal r)
+owed_breaks e AcknowledgmentOrRefusal r = or_refusal_breaks e r (acknowledgment_breaks e r)
+owed_breaks e AnyBlock r = any_breaks e r
+
+-- Whether some block of an end that owes this breaks the rule. Each end has a request that only the other one makes.
+abbrev pub can_break : End → Owed → Rule → Bool
+can_break e owed rule.ForeignRequest = true
+can_break e owed r = owed_breaks e owed r
+
+-- A request that can be on the line: about a size that is none of the reserved ones (11.4.2).
+abbrev pub CanBeSent : Option Asked → Type 0
+CanBeSent None = Unit {0}
+CanBeSent (Some (Size n)) = IsFieldSize n
+CanBeSent (Some (Time n)) = Unit {0}
+CanBeSent (Some Stop) = Unit {0}
+CanBeSent (Some Anew) = Unit {0}
+
+-- some block breaks the rule, of an end that owes this and whose last I-block had the field last
+pub record IsBreakable (e : End) (owed : Owed) (last : List ℕ) (r : Rule) : Type 0 where
+  pub pcb : Pcb
+  pub inf : List ℕ
+  pub suits : Suits 254 pcb inf
+  pub breaks : sends e owed last pcb inf ≡ Err r
+
+-- ---- what is at stake
+
+-- it is the other end's turn
+abbrev pub is_nothing : Heard → Bool
+is_nothing Beginning = false
+is_nothing (Whole pcb octet) = false
+is_nothing (Perhaps pcb octet) = false
+is_nothing Broken = false
+is_nothing Nothing = true
+
+-- a block certainly came whole
+abbrev pub is_whole : Heard → Bool
+is_whole Beginning = false
+is_whole (Whole pcb octet) = true
+is_whole (Perhaps pcb octet) = false
+is_whole Broken = false
+is_whole Nothing = false
+
+-- Whether an end that sends keeps the rule or breaks it. A card can send out of turn, and owes a block where it got one.
+abbrev pub at_stake : Stakes → Rule → Bool
+at_stake s rule.NodeAddress = s.addressed
+at_stake s rule.ControlOctet = true
+at_stake s rule.Length = true
+at_stake s rule.ReservedSize = true
+at_stake s rule.Turn = is_card s.due.«end».side || is_nothing s.heard
+at_stake s rule.Silence = is_card s.due.«end».side && is_whole s.heard
+at_stake s r = not (is_nothing s.heard) && can_break s.due.«end» s.due.owed r
+
+-- ---- what a block did
+
+-- The course on which a block is judged: the first, unless that doesn't permit it and the other does.
+abbrev pub fitting : After → Option After → Option Sent → Option Sent → After
+fitting first second (Some (Ok e)) other = first
+fitting first (Some second) course (Some (Ok e)) = second
+fitting first second course other = first
+
+abbrev pub course_of : Watched → Seen → After
+course_of w (whole block) = fitting (due w) (got_none w.«end» w.heard)
+    (attempted (got_whole w.«end» w.heard) w.last.items block.pcb block.inf)
+    (attempted (got_none w.«end» w.heard) w.last.items block.pcb block.inf)
+course_of w (malformed broken) = due w
+course_of w damage = due w
+
+abbrev pub is_set : Option ℕ → Bool
+is_set None = false
+is_set (Some nad) = true
+
+abbrev pub stakes_of : Option ℕ → Watched → Seen → Stakes
+stakes_of nad w seen = record { addressed = is_set nad; heard = w.heard; due = course_of w seen }
+
+-- what was due, at an end whose turn it is
+abbrev pub came_in : Stakes → Option State
+came_in s = if is_nothing s.heard then None else Some (state_of s.due.owed)
+
+-- A block that is permitted keeps each rule that was at stake; another one breaks the rule that is named.
+abbrev pub exercise_by : Stakes → Said → Exercise
+exercise_by s Damage = exercise.Unknown
+exercise_by s (Block Permitted) = exercise.Keeps s
+exercise_by s (Block Unseen) = exercise.Keeps s
+exercise_by s (Block (Deviates broken owed)) = exercise.Breaks broken (came_in s)
+
+abbrev pub sender : Monitor → Side → Watched
+sender m Terminal = m.terminal
+sender m Card = m.card
+
+-- what octets of an end do, before the monitor takes them
+abbrev pub exercise_of : Monitor → Side → Seen → Exercise
+exercise_of m from seen = exercise_by (stakes_of m.nad (sender m from) seen)
+    (said_of (sender m from) (addressed_by from m.nad seen) seen)
+
+abbrev pub Exercises : Monitor → Side → List ℕ → Exercise → Type 0
+Exercises m from octets x = (seen : Seen) × IsSeen octets seen × (x ≡ exercise_of m from seen)

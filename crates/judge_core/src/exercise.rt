@@ -1,0 +1,105 @@
+//! Which rules and states a block of a trace exercises.
+
+ghost use Rattle.std.specs.Prelude.{◌≡◌};
+ghost use Rattle.judge_core.specs.Classes.{seen_of};
+ghost use Rattle.judge_core.specs.Monitored.{said_of};
+ghost use Rattle.judge_core.specs.Stakes.{course_of, exercise_by, exercise_of, fitting, stakes_of, Exercises};
+
+use crate::class::{Class, class_of};
+use crate::courses::{Attempt, Verdict, attempted};
+use crate::end::{After, Side};
+use crate::monitor::{Monitor, Said, Watched, addressed_by};
+use crate::rule::Rule;
+use crate::stakes::Stakes;
+use crate::state::State;
+
+/// What a block of a trace exercises.
+#[derive(Clone, Copy, Debug)]
+pub enum Exercise {
+    /// Nothing is known of it: it is damage.
+    Unknown,
+    /// The standard permits it, so it keeps each rule that was at stake.
+    Keeps(Stakes),
+    /// It breaks this rule, where this was due, if it was its sender's turn.
+    Breaks(Rule, Option<State>),
+}
+
+impl Monitor {
+    /// What the octets of an end exercise that come next. [`Monitor::block`] takes them.
+    pub fn exercise(&self, from: Side, octets: &[u8]) -> Exercise
+        ensures { Exercises self.now from octets.now result }
+    {
+        let class = class_of(octets);
+        self.exercise_of(from, &class)
+    }
+
+    fn exercise_of(&self, from: Side, class: &Class<'_>) -> Exercise
+        ensures { result ≡ exercise_of self.now from (seen_of class.now) }
+    {
+        let addressed = addressed_by(from, self.nad, class);
+        match from {
+            Side::Terminal => self.terminal.exercise(self.nad, addressed, class),
+            Side::Card => self.card.exercise(self.nad, addressed, class),
+        }
+    }
+}
+
+impl Watched {
+    fn exercise(&self, nad: Option<u8>, addressed: bool, class: &Class<'_>) -> Exercise
+        ensures { result ≡ exercise_by (stakes_of nad self.now (seen_of class.now))
+            (said_of self.now addressed (seen_of class.now)) }
+    {
+        let stakes = Stakes {
+            addressed: nad.is_some(),
+            heard: self.heard,
+            due: self.course(class),
+        };
+        match self.said(addressed, class) {
+            Said::Damage => Exercise::Unknown,
+            Said::Block(Verdict::Permitted | Verdict::Unseen) => Exercise::Keeps(stakes),
+            Said::Block(Verdict::Deviates(broken, _)) => Exercise::Breaks(broken, stakes.state()),
+        }
+    }
+
+    /// The end and what was due from it, on the course on which the block is judged.
+    fn course(&self, class: &Class<'_>) -> After
+        ensures { result ≡ course_of self.now (seen_of class.now) }
+    {
+        let Class::Whole(block) = class else {
+            return self.due();
+        };
+        let last = self.last.as_slice();
+        let whole = self.end.got_whole(self.heard);
+        let none = self.end.got_none(self.heard);
+        let by_whole = attempted(whole, last, block.pcb(), block.inf());
+        let by_none = attempted(none, last, block.pcb(), block.inf());
+        fitting(self.due(), none, by_whole, by_none)
+    }
+
+    /// What is said of the octets.
+    fn said(&self, addressed: bool, class: &Class<'_>) -> Said
+        ensures { result ≡ said_of self.now addressed (seen_of class.now) }
+    {
+        match class {
+            Class::Whole(block) if addressed => {
+                let last = self.last.as_slice();
+                let judged = self.end.judges(self.heard, last, block.pcb(), block.inf());
+                Said::Block(judged.verdict)
+            }
+            Class::Whole(_) => Said::Block(Verdict::Deviates(Rule::NodeAddress, self.due())),
+            Class::Malformed(broken) => Said::Block(Verdict::Deviates(*broken, self.due())),
+            Class::Damage => Said::Damage,
+        }
+    }
+}
+
+/// The first course, unless that doesn't permit the block and the second does.
+fn fitting(first: After, second: Option<After>, by_first: Attempt, by_second: Attempt) -> After
+    ensures { result ≡ fitting first second by_first by_second }
+{
+    match (by_first, second, by_second) {
+        (Some(Ok(_)), _, _) => first,
+        (_, Some(second), Some(Ok(_))) => second,
+        _ => first,
+    }
+}

@@ -1,0 +1,98 @@
+-- How often each end of a trace kept each rule and broke it, how often what was due from it was this, and the lines that
+-- say so.
+use Rattle.std.specs.Prelude.{ℕ, ◌==◌, ◌&&◌, List, [], ◌∷◌, ◌++◌, codes, decimal, replicate, slice_index, slice_set, Bool, true, false, Option, Some, None, if◌then◌else◌}
+use Rattle.judge_core.specs.declared.end.Side.{Side}
+use Rattle.judge_core.specs.declared.end.Side.TheVariants.{Terminal, Card}
+use Rattle.judge_core.specs.declared.rule.Rule.{Rule}
+use Rattle.judge_core.specs.declared.state.State.{State}
+use Rattle.judge_core.specs.declared.stakes.Stakes.{Stakes}
+use Rattle.judge_core.specs.declared.exercise.Exercise.{Exercise}
+use Rattle.judge_core.specs.declared.exercise.Exercise.TheVariants.{Unknown, Keeps, Breaks}
+use Rattle.judge_core.specs.Monitored.{number_after}
+use Rattle.judge_core.specs.Rules.{rule_name, rule_place, rules}
+use Rattle.judge_core.specs.Stakes.{at_stake, came_in}
+use Rattle.judge_core.specs.States.{state_name, state_place, states}
+use Rattle.trace_judge.specs.declared.coverage.Counts.{Counts}
+use Rattle.trace_judge.specs.declared.coverage.Coverage.{Coverage}
+
+-- ---- counting
+
+abbrev pub no_counts : Counts
+no_counts = record { kept = replicate 22 0; broken = replicate 22 0; states = replicate 16 0 }
+
+abbrev pub nothing_covered : Coverage
+nothing_covered = record { terminal = no_counts; card = no_counts }
+
+-- one more at a place
+abbrev pub bumped : ℕ → List ℕ → List ℕ
+bumped place counts = slice_set counts place (number_after (slice_index counts place))
+
+-- one more at the place of a rule that was at stake
+abbrev pub kept_one : Stakes → Rule → List ℕ → List ℕ
+kept_one stakes r counts = if at_stake stakes r then bumped (rule_place r) counts else counts
+
+abbrev pub kept_of : Stakes → List Rule → List ℕ → List ℕ
+kept_of stakes [] counts = counts
+kept_of stakes (r ∷ more) counts = kept_of stakes more (kept_one stakes r counts)
+
+abbrev pub came : Option State → List ℕ → List ℕ
+came None counts = counts
+came (Some state) counts = bumped (state_place state) counts
+
+-- what a block of an end adds
+abbrev pub counted_by : Exercise → Counts → Counts
+counted_by Unknown counts = counts
+counted_by (Keeps stakes) counts = record counts {
+  kept = kept_of stakes rules counts.kept;
+  states = came (came_in stakes) counts.states;
+}
+counted_by (Breaks broken state) counts = record counts {
+  broken = bumped (rule_place broken) counts.broken;
+  states = came state counts.states;
+}
+
+abbrev pub covered : Side → Exercise → Coverage → Coverage
+covered Terminal exercise coverage = record coverage { terminal = counted_by exercise coverage.terminal }
+covered Card exercise coverage = record coverage { card = counted_by exercise coverage.card }
+
+-- ---- the lines
+
+abbrev pub kept_and_broken : ℕ → ℕ → List ℕ
+kept_and_broken kept broken = codes " kept " ++ (decimal kept ++ (codes " broken " ++ decimal broken))
+
+-- a rule that nobody kept or broke was never exercised
+abbrev pub of_rule : ℕ → ℕ → ℕ → ℕ → List ℕ
+of_rule terminal_kept terminal_broken card_kept card_broken =
+    if (terminal_kept == 0 && terminal_broken == 0) && (card_kept == 0 && card_broken == 0) then codes ": never\n"
+    else codes ": terminal" ++ (kept_and_broken terminal_kept terminal_broken
+    ++ (codes ", card" ++ (kept_and_broken card_kept card_broken ++ codes "\n")))
+
+abbrev pub rule_line : Coverage → Rule → List ℕ
+rule_line coverage r = codes "rule " ++ (rule_name r ++ of_rule
+    (slice_index coverage.terminal.kept (rule_place r)) (slice_index coverage.terminal.broken (rule_place r))
+    (slice_index coverage.card.kept (rule_place r)) (slice_index coverage.card.broken (rule_place r)))
+
+abbrev pub rule_lines : Coverage → List Rule → List ℕ
+rule_lines coverage [] = []
+rule_lines coverage (r ∷ more) = rule_line coverage r ++ rule_lines coverage more
+
+abbrev pub of_state : ℕ → ℕ → List ℕ
+of_state terminal card =
+    if terminal == 0 && card == 0 then codes ": never\n"
+    else codes ": terminal " ++ (decimal terminal ++ (codes ", card " ++ (decimal card ++ codes "\n")))
+
+abbrev pub state_line : Coverage → State → List ℕ
+state_line coverage state = codes "state " ++ (state_name state ++ of_state
+    (slice_index coverage.terminal.states (state_place state)) (slice_index coverage.card.states (state_place state)))
+
+abbrev pub state_lines : Coverage → List State → List ℕ
+state_lines coverage [] = []
+state_lines coverage (state ∷ more) = state_line coverage state ++ state_lines coverage more
+
+abbrev pub coverage_text : Coverage → List ℕ
+coverage_text coverage = rule_lines coverage rules ++ state_lines coverage states
+
+-- these lines, if rules and states are counted
+abbrev pub coverage_part : Bool → Coverage → List ℕ
+coverage_part true coverage = coverage_text coverage
+coverage_part false coverage = []

@@ -1,0 +1,256 @@
+//! How often a trace exercises each rule and each state.
+
+ghost use Rattle.std.specs.Prelude.{◌≡◌, ◌++◌, ◌==◌, ◌&&◌, OnOk, slice_index, string_bytes};
+ghost use Rattle.judge_core.specs.Rules.{rule_place};
+ghost use Rattle.judge_core.specs.States.{state_place};
+ghost use Rattle.trace_judge.specs.Coverage.{bumped, came, counted_by, coverage_part, coverage_text, covered, kept_and_broken, kept_of, kept_one, no_counts, nothing_covered, of_rule, of_state, rule_line, rule_lines, state_line, state_lines};
+
+use crate::saying::push_number;
+use judge_core::{Exercise, RULES, Rule, STATES, Side, Stakes, State};
+use octet_core::Named;
+use std::alloc::{AllocError, Global};
+
+/// How often an end kept each rule and broke it, and how often each state came, in the order of their places.
+#[derive(Clone, Copy, Debug)]
+pub(crate) struct Counts {
+    pub(crate) kept: [u64; 22],
+    pub(crate) broken: [u64; 22],
+    pub(crate) states: [u64; 16],
+}
+
+impl Counts {
+    fn new() -> Counts
+        ensures { result ≡ no_counts }
+    {
+        Counts {
+            kept: [0; 22],
+            broken: [0; 22],
+            states: [0; 16],
+        }
+    }
+
+    /// What a block of the end adds.
+    fn count(&mut self, exercise: &Exercise)
+        ensures { self.new ≡ counted_by exercise.now self.old }
+    {
+        match exercise {
+            Exercise::Unknown => (),
+            Exercise::Keeps(stakes) => {
+                keep(&mut self.kept, stakes, &RULES);
+                come(&mut self.states, stakes.state());
+            }
+            Exercise::Breaks(broken, state) => {
+                bump_rule(&mut self.broken, *broken);
+                come(&mut self.states, *state);
+            }
+        }
+    }
+
+    /// How often the end kept this rule, and how often it broke it.
+    fn of(&self, rule: Rule) -> (u64, u64)
+        ensures kept { result.0 ≡ slice_index self.now.kept (rule_place rule) }
+        ensures broken { result.1 ≡ slice_index self.now.broken (rule_place rule) }
+    {
+        (self.kept[rule.place()], self.broken[rule.place()])
+    }
+
+    fn came_in(&self, state: State) -> u64
+        ensures { result ≡ slice_index self.now.states (state_place state) }
+    {
+        self.states[state.place()]
+    }
+}
+
+/// What both ends exercised.
+#[derive(Clone, Copy, Debug)]
+pub(crate) struct Coverage {
+    pub(crate) terminal: Counts,
+    pub(crate) card: Counts,
+}
+
+impl Coverage {
+    /// Nothing yet.
+    pub(crate) fn new() -> Coverage
+        ensures { result ≡ nothing_covered }
+    {
+        Coverage {
+            terminal: Counts::new(),
+            card: Counts::new(),
+        }
+    }
+
+    /// Counts what a block of this end exercised.
+    pub(crate) fn cover(&mut self, side: Side, exercise: &Exercise)
+        ensures { self.new ≡ covered side exercise.now self.old }
+    {
+        match side {
+            Side::Terminal => self.terminal.count(exercise),
+            Side::Card => self.card.count(exercise),
+        }
+    }
+
+    /// Adds a line for each rule, and one for each state.
+    fn push(&self, alloc: Global, text: &mut String) -> Result<(), AllocError>
+        ensures { OnOk result (string_bytes text.new
+            ≡ string_bytes text.old ++ coverage_text self.now) }
+    {
+        self.push_rules(alloc, text, &RULES)?;
+        self.push_states(alloc, text, &STATES)
+    }
+
+    /// The same, if rules and states are counted.
+    pub(crate) fn push_if(
+        &self,
+        alloc: Global,
+        text: &mut String,
+        are_counted: bool,
+    ) -> Result<(), AllocError>
+        ensures { OnOk result (string_bytes text.new
+            ≡ string_bytes text.old ++ coverage_part are_counted self.now) }
+    {
+        if are_counted {
+            self.push(alloc, text)
+        } else {
+            Ok(())
+        }
+    }
+
+    fn push_rules(&self, alloc: Global, text: &mut String, rules: &[Rule]) -> Result<(), AllocError>
+        ensures { OnOk result (string_bytes text.new
+            ≡ string_bytes text.old ++ rule_lines self.now rules.now) }
+    {
+        for rule in rules {
+            self.push_rule(alloc, text, *rule)?;
+        }
+        Ok(())
+    }
+
+    fn push_rule(&self, alloc: Global, text: &mut String, rule: Rule) -> Result<(), AllocError>
+        ensures { OnOk result (string_bytes text.new
+            ≡ string_bytes text.old ++ rule_line self.now rule) }
+    {
+        text.push_str("rule ")?;
+        text.push_str(rule.name())?;
+        push_of_rule(alloc, text, self.terminal.of(rule), self.card.of(rule))
+    }
+
+    fn push_states(
+        &self,
+        alloc: Global,
+        text: &mut String,
+        states: &[State],
+    ) -> Result<(), AllocError>
+        ensures { OnOk result (string_bytes text.new
+            ≡ string_bytes text.old ++ state_lines self.now states.now) }
+    {
+        for state in states {
+            self.push_state(alloc, text, *state)?;
+        }
+        Ok(())
+    }
+
+    fn push_state(&self, alloc: Global, text: &mut String, state: State) -> Result<(), AllocError>
+        ensures { OnOk result (string_bytes text.new
+            ≡ string_bytes text.old ++ state_line self.now state) }
+    {
+        text.push_str("state ")?;
+        text.push_str(state.name())?;
+        let terminal = self.terminal.came_in(state);
+        let card = self.card.came_in(state);
+        push_of_state(alloc, text, terminal, card)
+    }
+}
+
+/// One more at the place of each of these rules that was at stake.
+fn keep(kept: &mut [u64; 22], stakes: &Stakes, rules: &[Rule])
+    ensures { kept.new ≡ kept_of stakes.now rules.now kept.old }
+{
+    for rule in rules {
+        keep_one(kept, stakes, *rule);
+    }
+}
+
+fn keep_one(kept: &mut [u64; 22], stakes: &Stakes, rule: Rule)
+    ensures { kept.new ≡ kept_one stakes.now rule kept.old }
+{
+    if stakes.has(rule) {
+        bump_rule(kept, rule);
+    }
+}
+
+/// One more at the place of the state, if there is one.
+fn come(counts: &mut [u64; 16], state: Option<State>)
+    ensures { counts.new ≡ came state counts.old }
+{
+    if let Some(state) = state {
+        let count = &mut counts[state.place()];
+        *count = count.saturating_add(1);
+    }
+}
+
+fn bump_rule(counts: &mut [u64; 22], rule: Rule)
+    ensures { counts.new ≡ bumped (rule_place rule) counts.old }
+{
+    let count = &mut counts[rule.place()];
+    *count = count.saturating_add(1);
+}
+
+/// Adds how often both ends kept a rule and broke it, and the end of its line.
+fn push_of_rule(
+    alloc: Global,
+    text: &mut String,
+    terminal: (u64, u64),
+    card: (u64, u64),
+) -> Result<(), AllocError>
+    ensures { OnOk result (string_bytes text.new ≡ string_bytes text.old
+        ++ of_rule terminal.0 terminal.1 card.0 card.1) }
+{
+    if is_never(terminal) && is_never(card) {
+        return text.push_str(": never\n");
+    }
+    text.push_str(": terminal")?;
+    push_kept_and_broken(alloc, text, terminal)?;
+    text.push_str(", card")?;
+    push_kept_and_broken(alloc, text, card)?;
+    text.push_str("\n")
+}
+
+fn is_never(counts: (u64, u64)) -> bool
+    ensures { result ≡ (counts.0 == 0 && counts.1 == 0) }
+{
+    counts.0 == 0 && counts.1 == 0
+}
+
+fn push_kept_and_broken(
+    alloc: Global,
+    text: &mut String,
+    counts: (u64, u64),
+) -> Result<(), AllocError>
+    ensures { OnOk result (string_bytes text.new ≡ string_bytes text.old
+        ++ kept_and_broken counts.0 counts.1) }
+{
+    text.push_str(" kept ")?;
+    push_number(alloc, text, counts.0)?;
+    text.push_str(" broken ")?;
+    push_number(alloc, text, counts.1)
+}
+
+/// Adds how often a state came at both ends, and the end of its line.
+fn push_of_state(
+    alloc: Global,
+    text: &mut String,
+    terminal: u64,
+    card: u64,
+) -> Result<(), AllocError>
+    ensures { OnOk result (string_bytes text.new ≡ string_bytes text.old
+        ++ of_state terminal card) }
+{
+    if terminal == 0 && card == 0 {
+        return text.push_str(": never\n");
+    }
+    text.push_str(": terminal ")?;
+    push_number(alloc, text, terminal)?;
+    text.push_str(", card ")?;
+    push_number(alloc, text, card)?;
+    text.push_str("\n")
+}
