@@ -19,9 +19,10 @@ pub enum Form {
     Hex,
     /// The octets themselves.
     Octets,
-    /// A dump as `xxd`, `hexdump -C`, `od -Ax -tx1` or Wireshark writes it.
+    /// A dump as `xxd`, `hexdump -C`, `od -tx1`, Wireshark, gdb, HxD or PowerShell writes it.
     Dump,
-    /// Octets as programs write them: `0x3B`, `\x3b`, `3Bh` or `3B`, in brackets or quotes, with comments.
+    /// Octets as programs write them: `0x3B`, `\x3b`, `3Bh` or `3B`, in brackets or quotes, with comments, after a label
+    /// or in a declaration; or the characters of Python's strings of octets.
     Source,
 }
 

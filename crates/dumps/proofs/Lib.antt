@@ -4,4 +4,5 @@ pub mod Octets
 pub mod Sources
 pub mod SourceOctets
 pub mod NoSource
-pub mod NoDump
+pub mod Readings
+pub mod Tabs

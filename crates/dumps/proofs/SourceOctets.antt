@@ -1,10 +1,14 @@
 -- That what a source gives are octets.
-use Rattle.std.proofs.Common.{◌≡◌, ◌<◌, ◌≤◌, ◌++◌, ◌==◌, ◌&&◌, ◌||◌, ◌+◌, ◌*◌, ℕ, List, [], ◌∷◌, Bool, true, false, Option, Some, None, Result, Ok, refl, subst, arith, if◌then◌else◌}
+use Rattle.std.proofs.Common.{◌≡◌, ◌<◌, ◌≤◌, ◌++◌, ◌==◌, ◌&&◌, ◌||◌, ◌+◌, ◌*◌, not, ℕ, List, [], ◌∷◌, Bool, true, false, Option, Some, None, Result, Ok, refl, subst, arith, if◌then◌else◌}
+use Rattle.std.proofs.lemmas.Bool.Decides.{nat_tests}
 use Rattle.octet_core.specs.Octets.{AreOctets}
 use Rattle.octet_core.proofs.Lists.{octets-append}
-use Rattle.dumps.specs.Characters.{digit, is_pair}
-use Rattle.dumps.specs.Source.{after_slash, after_star, and_octet, and_then, at_first, begun, ended, ended_by, fits, in_block, in_code, in_line, in_quotes, is_cut, is_one_way, is_part, is_quote, last_octets, longer_by, mark_in_code, mark_in_quotes, may_end_at, octets_from, placed, source_octets, taken_octet, then_now, those, turn_at, with_prefix, Turn}
-use Rattle.dumps.specs.Words.{is_escape, is_mark, is_prefix, longer, marked, octet_of, pair_of, suffixed, written}
+use Rattle.dumps.specs.Characters.{digit, is_digit, is_pair, is_within, octet_at}
+use Rattle.dumps.specs.Source.{after_slash, after_star, among_octets, and_then, at_first, in_block, in_code, in_line, in_quotes, is_done, is_one_way, last_octets, mark_in_code, begun, mark_in_quotes, may_end_at, octets_from, part_in_code, placed, source_octets, those, turn_at}
+use Rattle.dumps.specs.Turns.{and_octet, ended, ended_by, fits, is_cut, is_letter, is_part, is_quote, is_skipped, is_space, longer_by, taken_octet, then_now, with_character, with_place, with_word, Turn}
+use Rattle.dumps.specs.Heads.{after_declaration, in_count, in_head, in_name, in_size, is_name, is_octets, mark_in_head, may_name, named}
+use Rattle.dumps.specs.Strings.{character, escaped, in_string, is_of_pairs, plain_character}
+use Rattle.dumps.specs.Words.{all_digits, first_of, is_escape, is_mark, is_prefix, longer, marked, octet_of, pair_of, suffixed, written}
 use Rattle.dumps.specs.declared.fault.DumpFault.{DumpFault}
 use Rattle.dumps.specs.declared.turn.Now.{Now}
 use Rattle.dumps.specs.declared.turn.Place.{Place}
@@ -67,12 +71,17 @@ taken : (now : Now) (read : Option (Writing × ℕ)) → IsOctet read → OfOcte
 taken now (Some (writing, octet)) h = fitting (fits now.writing writing) _ octet h
 taken now None h = tt
 
+some-word : (skipped : Bool) (now : Now) (word : Word)
+    → OfOctets (if skipped then Some (with_word Empty now, None) else taken_octet now (octet_of word))
+some-word true now word = no-octets
+some-word false now word = taken now (octet_of word) (word-octet word)
+
 by-word : (now : Now) (word : Word) → OfOctets (ended_by now word)
 by-word now Empty = no-octets
-by-word now (One a) = taken now (octet_of (One a)) (word-octet (One a))
-by-word now (Two a b) = taken now (octet_of (Two a b)) (word-octet (Two a b))
-by-word now (Three a b c) = taken now (octet_of (Three a b c)) (word-octet (Three a b c))
-by-word now (Four a b c d) = taken now (octet_of (Four a b c d)) (word-octet (Four a b c d))
+by-word now (One a) = some-word (is_skipped now (One a)) now (One a)
+by-word now (Two a b) = some-word (is_skipped now (Two a b)) now (Two a b)
+by-word now (Three a b c) = some-word (is_skipped now (Three a b c)) now (Three a b c)
+by-word now (Four a b c d) = some-word (is_skipped now (Four a b c d)) now (Four a b c d)
 
 ended-octets : (now : Now) → OfOctets (ended now)
 ended-octets now = by-word now now.word
@@ -97,10 +106,97 @@ one-of-three true c x y z hx hy hz = hx
 one-of-three false true x y z hx hy hz = hy
 one-of-three false false x y z hx hy hz = hz
 
+-- ---- heads and strings, which give no octet or a character
+
+no-octet : (now : Option Now) → OfOctets (named now)
+no-octet (Some now) = no-octets
+no-octet None = tt
+
+one-of-two : (b : Bool) (x y : Turn) → OfOctets x → OfOctets y → OfOctets (if b then x else y)
+one-of-two true x y hx hy = hx
+one-of-two false x y hx hy = hy
+
+none-ends : OfOctets None
+none-ends = tt
+
+head-octets : (now : Now) (x : ℕ) → OfOctets (in_head now x)
+head-octets now x = one-of-three (is_part x) (is_octets now.word) _ _ _ no-octets none-ends
+    (no-octet (mark_in_head x (all_digits now.word) (with_word Empty now)))
+
+size-octets : (now : Now) (x : ℕ) → OfOctets (in_size now x)
+size-octets now x = one-of-three (is_part x || (x == 95 || is_space x)) (x == 93 || x == 62) _ _ _ no-octets no-octets
+    none-ends
+
+done-octets : (now : Now) (x : ℕ) → OfOctets (after_declaration now x)
+done-octets now x = one-of-three (is_space x || x == 59) (is_letter x) _ _ _ no-octets no-octets
+    (one-of-three (x == 47) (x == 35) _ _ _ no-octets no-octets none-ends)
+
+name-octets : (now : Now) (x : ℕ) → OfOctets (in_name now x)
+name-octets now x = one-of-three (is_part x || (x == 95 || is_space x)) (x == 61) _ _ _ no-octets no-octets none-ends
+
+count-octets : (now : Now) (x : ℕ) → OfOctets (in_count now x)
+count-octets now x = one-of-three (is_within 48 57 x || is_space x) (x == 59) _ _ _ no-octets no-octets none-ends
+
+character-octets : (now : Now) (octet : Option ℕ) → AreOctets (those octet) → OfOctets (character now octet)
+character-octets now (Some octet) h = h
+character-octets now None h = tt
+
+shown-octet : (b : Bool) (now : Now) (x : ℕ) → is_within 32 126 x ≡ b
+    → OfOctets (let t : Turn = (if b then Some (now, Some x) else None) in t)
+shown-octet true now x h = one-octet x (printable x h)
+  where
+    printable : (x : ℕ) → is_within 32 126 x ≡ true → x < 256
+    printable x h = grind (arith, nat_tests)
+shown-octet false now x h = tt
+
+plain-octets : (quote : ℕ) (now : Now) (x : ℕ) → OfOctets (plain_character quote now x)
+plain-octets quote now x = one-of-three (x == quote) (x == 92) _ _ _ no-octets no-octets
+    (shown-octet (is_within 32 126 x) (with_character (not (is_of_pairs x)) now) x refl)
+
+escaped-octet : (n r t s : Bool) (x : ℕ) → s ≡ (x == 92 || (x == 39 || x == 34))
+    → AreOctets (those (if n then Some 10 else (if r then Some 13 else (if t then Some 9
+    else (if s then Some x else None)))))
+escaped-octet true r t s x h = one-octet 10 (omega arith)
+escaped-octet false true t s x h = one-octet 13 (omega arith)
+escaped-octet false false true s x h = one-octet 9 (omega arith)
+escaped-octet false false false true x h = one-octet x (small x h)
+  where
+    small : (x : ℕ) → true ≡ (x == 92 || (x == 39 || x == 34)) → x < 256
+    small x h = grind (arith, nat_tests)
+escaped-octet false false false false x h = no-octets
+
+pair-octets : (b : Bool) (high x : ℕ) → is_pair high x ≡ b
+    → AreOctets (those (if b then Some (octet_at high x) else None))
+pair-octets true high x h = one-octet (octet_at high x) (pair-octet high x h)
+pair-octets false high x h = no-octets
+
+string-octets : (quote : ℕ) (word : Word) (now : Now) (x : ℕ) → OfOctets (in_string quote word now x)
+string-octets quote Empty now x = plain-octets quote now x
+string-octets quote (One a) now x = one-of-two (x == 120) _ _ no-octets
+    (character-octets now (escaped x)
+    (escaped-octet (x == 110) (x == 114) (x == 116) (x == 92 || (x == 39 || x == 34)) x refl))
+string-octets quote (Two a b) now x = one-of-two (is_digit x) _ _ no-octets none-ends
+string-octets quote (Three a b high) now x =
+    character-octets now (if is_pair high x then Some (octet_at high x) else None)
+    (pair-octets (is_pair high x) high x refl)
+string-octets quote (Four a b c d) now x = tt
+
+-- ---- code
+
+part-octets : (now : Now) (x : ℕ) (word : Option Word) → OfOctets (part_in_code now x word)
+part-octets now x (Some word) = no-octets
+part-octets now x None = one-of-two
+    (may_name now && (is_letter (first_of now.word) && not (all_digits now.word && is_digit x))) _ _ no-octets
+    none-ends
+
+among-octets : (now : Now) (x : ℕ) → OfOctets (among_octets now x)
+among-octets now x = one-of-three (is_part x) (is_quote x && is_prefix now.word) _ _ _
+    (part-octets now x (longer now.word x)) no-octets
+    (one-of-two (is_name now) _ _ (head-octets (with_place place.Head now) x)
+    (then-octets (ended now) (mark_in_code x) (ended-octets now)))
+
 code-octets : (now : Now) (x : ℕ) → OfOctets (in_code now x)
-code-octets now x = one-of-three (is_part x) (is_quote x && is_prefix now.word) _ _ _
-    (longer-octets now (longer now.word x)) (with-now None (mark_in_code x (with_prefix now)) no-octets)
-    (then-octets (ended now) (mark_in_code x) (ended-octets now))
+code-octets now x = one-of-two (is_done now.around) _ _ (done-octets now x) (among-octets now x)
 
 quoted-octets : (quote : ℕ) (now : Now) (x : ℕ) → OfOctets (in_quotes quote now x)
 quoted-octets quote now x = one-of-three (is_cut now.word x) (is_part x) _ _ _
@@ -115,6 +211,12 @@ turn-octets : (p : Place) (now : Now) (x : ℕ) → OfOctets (turn_at p now x)
 turn-octets place.Code now x = code-octets now x
 turn-octets place.Double now x = quoted-octets 34 now x
 turn-octets place.Single now x = quoted-octets 39 now x
+turn-octets place.DoubleString now x = string-octets 34 now.word now x
+turn-octets place.SingleString now x = string-octets 39 now.word now x
+turn-octets place.Head now x = head-octets now x
+turn-octets place.Size now x = size-octets now x
+turn-octets place.Name now x = name-octets now x
+turn-octets place.Count now x = count-octets now x
 turn-octets place.Slash now x = placed-octets now (after_slash x)
 turn-octets place.Line now x = placed-octets now (Some (in_line x))
 turn-octets place.Block now x = placed-octets now (Some (in_block x))

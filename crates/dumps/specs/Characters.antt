@@ -1,5 +1,5 @@
 -- Characters of a text, from the front: digits, groups of them, blanks, and a column that shows octets.
-use Rattle.std.specs.Prelude.{ℕ, ◌+◌, ◌-◌, ◌*◌, ◌==◌, ◌&&◌, ◌||◌, nat_le, not, min, List, [], ◌∷◌, ◌++◌, Bool, drop, true, false, Option, Some, None, if◌then◌else◌}
+use Rattle.std.specs.Prelude.{ℕ, ◌+◌, ◌-◌, ◌*◌, ◌==◌, ◌&&◌, ◌||◌, nat_le, not, List, [], ◌∷◌, ◌++◌, Bool, drop, true, false, Option, Some, None, if◌then◌else◌}
 
 -- a character from the first to the last of these
 abbrev pub is_within : ℕ → ℕ → ℕ → Bool
@@ -22,13 +22,6 @@ is_pair x y = is_digit x && is_digit y
 
 abbrev pub octet_at : ℕ → ℕ → ℕ
 octet_at x y = digit x * 16 + digit y
-
--- the number that the digits in front of a text write after a number, and what is after them; one above
--- the most octets of an input, 4194304, counts as 4194305
-abbrev pub offset_from : ℕ → List ℕ → ℕ × List ℕ
-offset_from number [] = (number, [])
-offset_from number (x ∷ more) =
-    if is_digit x then offset_from (min (number * 16 + digit x) 4194305) more else (number, x ∷ more)
 
 -- ---- groups
 

@@ -1,8 +1,13 @@
 pub mod Characters
+pub mod Bases
+pub mod Words
+pub mod OctalWords
+pub mod Editor
 pub mod Dump
 pub mod Taking
-pub mod Words
+pub mod Turns
+pub mod Heads
+pub mod Strings
 pub mod Source
 pub mod SourceStop
-pub mod DumpStop
 pub mod Faults

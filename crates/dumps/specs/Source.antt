@@ -1,173 +1,76 @@
 -- Octets as programs write them: what each character of a source says at its place.
-use Rattle.std.specs.Prelude.{ℕ, ◌==◌, ◌&&◌, ◌||◌, not, List, [], ◌∷◌, ◌++◌, Bool, true, false, Option, Some, None, Result, Ok, Err, if◌then◌else◌}
-use Rattle.dumps.specs.Characters.{is_digit, is_pair, is_within}
+use Rattle.std.specs.Prelude.{ℕ, ◌==◌, ◌&&◌, ◌||◌, not, List, [], ◌∷◌, ◌++◌, Bool, true, false, Option, Some, None, is_some, Result, Ok, Err, if◌then◌else◌}
+use Rattle.dumps.specs.Characters.{is_digit}
 use Rattle.dumps.specs.Dump.{◌>>=◌}
-use Rattle.dumps.specs.Words.{has_letter, is_prefix, longer, octet_of}
+use Rattle.dumps.specs.Heads.{after_declaration, in_count, in_head, in_name, in_size, is_name, long, may_name}
+use Rattle.dumps.specs.Strings.{in_string}
+pub use Rattle.dumps.specs.Turns.{and_octet, ended, ended_by, fits, is_between, is_cut, is_letter, is_listing, is_part, is_quote, is_same, is_skipped, is_space, longer_by, taken_octet, then_now, with_declaration, with_end, with_list, with_octet, with_parts, with_place, with_prefix, with_word, Turn}
+use Rattle.dumps.specs.Words.{all_digits, first_of, is_prefix, longer}
 use Rattle.dumps.specs.declared.fault.DumpFault.{DumpFault}
 use Rattle.dumps.specs.declared.fault.DumpFault.TheVariants.{Form}
 use Rattle.dumps.specs.declared.turn.Now.{Now}
+use Rattle.dumps.specs.declared.turn.Around.{Around}
+use Rattle.dumps.specs.declared.turn.Around.TheVariants.{Nothing, Label, Typed, Declared, Done}
 use Rattle.dumps.specs.declared.turn.Place.{Place}
 use Rattle.dumps.specs.declared.turn.Place.TheVariants as place
 use Rattle.dumps.specs.declared.word.Word.{Word}
-use Rattle.dumps.specs.declared.word.Word.TheVariants.{Empty, One, Two}
+use Rattle.dumps.specs.declared.word.Word.TheVariants.{Empty, One}
 use Rattle.dumps.specs.declared.word.Writing.{Writing}
-use Rattle.dumps.specs.declared.word.Writing.TheVariants.{Plain, Marked, Suffixed, Escaped}
-
--- ---- characters
-
--- a letter or a decimal digit
-abbrev pub is_part : ℕ → Bool
-is_part x = is_within 48 57 x || (is_within 65 90 x || is_within 97 122 x)
-
--- a blank, what ends a line, : - or _
-abbrev pub is_between : ℕ → Bool
-is_between x = x == 32 || (x == 9 || (x == 10 || (x == 13 || (x == 58 || (x == 45 || x == 95)))))
-
--- what lists are written with: , ; { } [ ] ( )
-abbrev pub is_listing : ℕ → Bool
-is_listing x = x == 44 || (x == 59 || (x == 123 || (x == 125 || (x == 91 || (x == 93 || (x == 40 || x == 41))))))
-
-abbrev pub is_quote : ℕ → Bool
-is_quote x = x == 34 || x == 39
-
--- ---- where a text is, and what it had so far
-
-abbrev pub with_word : Word → Now → Now
-with_word word now = record {
-  word = word;
-  place = now.place;
-  writing = now.writing;
-  listed = now.listed;
-  lettered = now.lettered;
-  parted = now.parted;
-  prefixed = now.prefixed;
-}
-
-abbrev pub with_place : Place → Now → Now
-with_place place now = record {
-  word = now.word;
-  place = place;
-  writing = now.writing;
-  listed = now.listed;
-  lettered = now.lettered;
-  parted = now.parted;
-  prefixed = now.prefixed;
-}
-
-abbrev pub with_list : Now → Now
-with_list now = record {
-  word = now.word;
-  place = now.place;
-  writing = now.writing;
-  listed = true;
-  lettered = now.lettered;
-  parted = now.parted;
-  prefixed = now.prefixed;
-}
-
-abbrev pub with_parts : Now → Now
-with_parts now = record {
-  word = now.word;
-  place = now.place;
-  writing = now.writing;
-  listed = now.listed;
-  lettered = now.lettered;
-  parted = true;
-  prefixed = now.prefixed;
-}
-
-abbrev pub with_prefix : Now → Now
-with_prefix now = record {
-  word = Empty;
-  place = now.place;
-  writing = now.writing;
-  listed = now.listed;
-  lettered = now.lettered;
-  parted = now.parted;
-  prefixed = true;
-}
-
-abbrev pub with_octet : Writing → Now → Now
-with_octet writing now = record {
-  word = Empty;
-  place = now.place;
-  writing = Some writing;
-  listed = now.listed;
-  lettered = now.lettered || has_letter now.word;
-  parted = now.parted;
-  prefixed = now.prefixed;
-}
-
--- ---- words
-
-abbrev pub is_same : Writing → Writing → Bool
-is_same Plain Plain = true
-is_same Marked Marked = true
-is_same Suffixed Suffixed = true
-is_same Escaped Escaped = true
-is_same _ _ = false
-
--- all octets of a text are written in one way
-abbrev pub fits : Option Writing → Writing → Bool
-fits (Some writing) other = is_same writing other
-fits None other = true
-
--- what a character makes of where a text is, and the octet that ended before it
-abbrev pub Turn : Type 0
-Turn = Option (Now × Option ℕ)
-
-abbrev pub taken_octet : Now → Option (Writing × ℕ) → Turn
-taken_octet now (Some (writing, octet)) =
-    if fits now.writing writing then Some (with_octet writing now, Some octet) else None
-taken_octet now None = None
-
--- a word ends
-abbrev pub ended_by : Now → Word → Turn
-ended_by now Empty = Some (now, None)
-ended_by now word = taken_octet now (octet_of word)
-
-abbrev pub ended : Now → Turn
-ended now = ended_by now now.word
-
--- a word is longer by a character
-abbrev pub longer_by : Now → Option Word → Turn
-longer_by now (Some word) = Some (with_word word now, None)
-longer_by now None = None
-
--- in quotes pairs may follow one another
-abbrev pub is_cut : Word → ℕ → Bool
-is_cut (Two a b) x = is_pair a b && is_digit x
-is_cut _ x = false
-
--- an octet, and what follows it
-abbrev pub and_octet : Option ℕ → Option Now → Turn
-and_octet octet (Some now) = Some (now, octet)
-and_octet octet None = None
-
--- where a word has ended, what follows
-abbrev pub then_now : Turn → (Now → Option Now) → Turn
-then_now (Some (now, octet)) f = and_octet octet (f now)
-then_now None f = None
+use Rattle.dumps.specs.declared.word.Writing.TheVariants.{Plain, Escaped}
 
 -- ---- at each place
+
+abbrev pub is_labelled : Around → Bool
+is_labelled Label = true
+is_labelled Typed = true
+is_labelled _ = false
+
+abbrev pub is_typed : Around → Bool
+is_typed Typed = true
+is_typed _ = false
+
+abbrev pub is_declared : Around → Bool
+is_declared Declared = true
+is_declared _ = false
+
+abbrev pub is_done : Around → Bool
+is_done Done = true
+is_done _ = false
 
 -- a character that is no part of a word, after a word
 abbrev pub mark_in_code : ℕ → Now → Option Now
 mark_in_code x now =
     if is_between x then Some now
-    else (if is_listing x then Some (with_list now)
+    else (if x == 59 && is_declared now.around then Some (with_end now)
+    else (if x == 61 && (is_labelled now.around && not (is_some now.writing)) then Some (with_declaration now)
+    else (if is_listing x || x == 38 then Some (with_list now)
     else (if x == 92 then Some (with_word (One 92) now)
     else (if x == 34 then Some (with_place place.Double now)
     else (if x == 39 then Some (with_place place.Single now)
     else (if x == 47 then Some (with_place place.Slash now)
     else (if x == 35 then Some (with_place place.Line now)
-    else None))))))
+    else None))))))))
+
+-- a word is longer by a character; one that gets longer than an octet may begin a head
+abbrev pub part_in_code : Now → ℕ → Option Word → Turn
+part_in_code now x (Some word) = Some (with_word word now, None)
+part_in_code now x None = if may_name now
+    && (is_letter (first_of now.word) && not (all_digits now.word && is_digit x))
+    then Some (with_word long (with_place place.Head now), None) else None
+
+-- the string of octets that a quote begins
+abbrev pub string_at : ℕ → Place
+string_at x = if x == 34 then place.DoubleString else place.SingleString
+
+abbrev pub among_octets : Now → ℕ → Turn
+among_octets now x =
+    if is_part x then part_in_code now x (longer now.word x)
+    else (if is_quote x && is_prefix now.word then Some (with_prefix (string_at x) now, None)
+    else (if is_name now then in_head (with_place place.Head now) x
+    else then_now (ended now) (mark_in_code x)))
 
 abbrev pub in_code : Now → ℕ → Turn
-in_code now x =
-    if is_part x then longer_by now (longer now.word x)
-    else (if is_quote x && is_prefix now.word then and_octet None (mark_in_code x (with_prefix now))
-    else then_now (ended now) (mark_in_code x))
+in_code now x = if is_done now.around then after_declaration now x else among_octets now x
 
 abbrev pub mark_in_quotes : ℕ → ℕ → Now → Option Now
 mark_in_quotes quote x now =
@@ -207,6 +110,12 @@ abbrev pub turn_at : Place → Now → ℕ → Turn
 turn_at place.Code now x = in_code now x
 turn_at place.Double now x = in_quotes 34 now x
 turn_at place.Single now x = in_quotes 39 now x
+turn_at place.DoubleString now x = in_string 34 now.word now x
+turn_at place.SingleString now x = in_string 39 now.word now x
+turn_at place.Head now x = in_head now x
+turn_at place.Size now x = in_size now x
+turn_at place.Name now x = in_name now x
+turn_at place.Count now x = in_count now x
 turn_at place.Slash now x = placed now (after_slash x)
 turn_at place.Line now x = placed now (Some (in_line x))
 turn_at place.Block now x = placed now (Some (in_block x))
@@ -219,13 +128,13 @@ may_end_at place.Code = true
 may_end_at place.Line = true
 may_end_at _ = false
 
--- a list of pairs without a letter could be decimal numbers, pairs in a string of octets are characters, and so are
--- blanks between escapes
+-- a list of pairs without a letter could be decimal numbers, blanks between escapes are characters, and the characters
+-- of a string of octets could be pairs
 abbrev pub is_one_way : Option Writing → Now → Bool
 is_one_way None now = true
-is_one_way (Some Plain) now = not now.prefixed && (not now.listed || now.lettered)
-is_one_way (Some Escaped) now = not now.parted
-is_one_way (Some _) now = not now.prefixed
+is_one_way (Some Plain) now = not (is_typed now.around) && (not now.prefixed && (not now.listed || now.lettered))
+is_one_way (Some Escaped) now = not (is_typed now.around) && (not now.parted && (not now.prefixed || now.lettered))
+is_one_way (Some _) now = not (is_typed now.around) && not now.prefixed
 
 abbrev pub those : Option ℕ → List ℕ
 those (Some octet) = octet ∷ []
@@ -256,6 +165,7 @@ at_first = record {
   lettered = false;
   parted = false;
   prefixed = false;
+  around = Nothing;
 }
 
 abbrev pub source_octets : List ℕ → Result (List ℕ) DumpFault

@@ -3,4 +3,11 @@ use Rattle.dumps.specs.Dump.{Taken}
 use Rattle.dumps.specs.declared.line.Dump.{Dump}
 
 abbrev pub taken : Dump → Taken
-taken dump = record { octets = dump.octets.items; row = dump.row.items; before = dump.before }
+taken dump = record {
+  octets = dump.octets.items;
+  row = dump.row.items;
+  before = dump.before;
+  base = dump.base;
+  start =
+      dump.start;
+}

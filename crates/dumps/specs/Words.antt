@@ -1,6 +1,6 @@
 -- The words of octets in a source, of at most four characters.
 use Rattle.std.specs.Prelude.{ℕ, ◌==◌, ◌&&◌, ◌||◌, nat_le, Bool, true, false, Option, Some, None, if◌then◌else◌}
-use Rattle.dumps.specs.Characters.{digit, is_pair, octet_at}
+use Rattle.dumps.specs.Characters.{digit, is_digit, is_pair, octet_at}
 use Rattle.dumps.specs.declared.word.Word.{Word}
 use Rattle.dumps.specs.declared.word.Word.TheVariants.{Empty, One, Two, Three, Four}
 use Rattle.dumps.specs.declared.word.Writing.{Writing}
@@ -57,3 +57,34 @@ has_letter _ = false
 abbrev pub is_prefix : Word → Bool
 is_prefix (One a) = a == 98 || a == 66
 is_prefix _ = false
+
+-- the first character of a word, 0 of none
+abbrev pub first_of : Word → ℕ
+first_of Empty = 0
+first_of (One a) = a
+first_of (Two a b) = a
+first_of (Three a b c) = a
+first_of (Four a b c d) = a
+
+-- hexadecimal digits alone
+abbrev pub all_digits : Word → Bool
+all_digits Empty = false
+all_digits (One a) = is_digit a
+all_digits (Two a b) = is_digit a && is_digit b
+all_digits (Three a b c) = is_digit a && (is_digit b && is_digit c)
+all_digits (Four a b c d) = is_digit a && (is_digit b && (is_digit c && is_digit d))
+
+abbrev pub is_one : Word → Bool
+is_one (One a) = true
+is_one _ = false
+
+-- byte or new
+abbrev pub is_type : Word → Bool
+is_type (Three a b c) = a == 110 && (b == 101 && c == 119)
+is_type (Four a b c d) = a == 98 && (b == 121 && (c == 116 && d == 101))
+is_type _ = false
+
+-- u8
+abbrev pub is_suffix : Word → Bool
+is_suffix (Two a b) = a == 117 && b == 56
+is_suffix _ = false

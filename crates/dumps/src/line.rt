@@ -1,16 +1,20 @@
 //! The lines of a dump, taken one after another.
 
-ghost use Rattle.std.specs.Prelude.{◌≡◌, ◌++◌, Some, IfOk};
-ghost use Rattle.dumps.specs.Dump.{copies, ended, is_offset, line_of, nothing_taken, starred, up_to, with_line, with_row, Becomes, ComesTo};
-ghost use Rattle.dumps.specs.DumpStop.{may_be_at, may_repeat};
+ghost use Rattle.std.specs.Prelude.{◌≡◌, ◌++◌, [], Some, IfOk, length, option_map};
+ghost use Rattle.dumps.specs.Dump.{bare_row, copies, counted, ended, headed_row, is_heading, is_next, is_offset, line_of, nothing_taken, row_after, starred, style_of, up_to, with_address, with_line, with_octets, with_rest, with_row, Becomes, ComesTo};
 ghost use Rattle.dumps.specs.Taking.{taken};
 ghost use Rattle.dumps.specs.declared.line.Before.TheVariants as before;
 
+use crate::base::Base;
+use crate::editor::{addressed, is_title};
 use crate::fault::DumpFault;
 use crate::row::{DIGITS_OF_OD, Style, read_row, style_of};
-use crate::text::{GREATEST_OFFSET, offset};
+use crate::text::{after_blanks, offset};
 use octet_core::Octets;
 use std::alloc::{AllocError, Global};
+
+/// The most octets of an input.
+const MOST: usize = 4_194_304;
 
 /// The octets of a row that a `*` may repeat.
 const WHOLE: usize = 16;
@@ -18,11 +22,16 @@ const WHOLE: usize = 16;
 /// The fewest digits of an offset.
 pub(crate) const FEWEST_DIGITS: usize = 4;
 
+/// The fewest digits of an offset under a heading.
+const DIGITS_OF_EDITORS: usize = 8;
+
 /// What the line before was, empty ones left out.
 #[derive(Clone, Copy)]
 pub(crate) enum Before {
     /// There was none.
     Nothing,
+    /// One of a heading.
+    Heading,
     /// A row.
     Row(Style),
     /// A `*`, for rows like the last one.
@@ -38,40 +47,49 @@ pub(crate) struct Dump {
     /// The octets of the last row.
     row: Vec<u8>,
     before: Before,
+    /// The base of the offsets.
+    base: Base,
+    /// The offset from which they count.
+    start: usize,
 }
 
 impl Dump {
-    /// What no line gives.
-    pub(crate) fn new(alloc: Global) -> Self
-        ensures { taken result ≡ nothing_taken }
+    /// What no line gives, where offsets of a base count from `start`.
+    pub(crate) fn new(alloc: Global, base: Base, start: usize) -> Self
+        ensures { taken result ≡ nothing_taken base start }
     {
         Dump {
             octets: Vec::new(alloc),
             row: Vec::new(alloc),
             before: Before::Nothing,
+            base,
+            start,
         }
     }
 
-    /// Whether an offset may be in front of the next line: that of the octets so far or, after a `*`, one up to which
-    /// the last row can be repeated.
-    pub(crate) fn may_be_at(&self, at: usize) -> bool
-        ensures { result ≡ may_be_at at (taken self.now) }
+    /// How many octets the lines so far gave.
+    pub(crate) fn count(&self) -> usize
+        ensures { result ≡ length self.now.octets.items }
     {
-        match self.before {
-            Before::Star => may_repeat(self.octets.len(), at),
-            Before::End => false,
-            Before::Nothing | Before::Row(_) => at == self.octets.len(),
-        }
+        self.octets.len()
     }
 
     /// Takes one more line, without its end. One that doesn't go on the dump is `Form`.
     pub(crate) fn take(&mut self, line: &[u8]) -> Result<(), DumpFault>
         ensures { Becomes (with_line (taken self.old) line.now) (taken self.new) result }
     {
+        if self.is_heading(line) {
+            self.before = Before::Heading;
+            return Ok(());
+        }
         match line {
             [] => Ok(()),
+            [b' ', row @ ..] => self.take_bare(row),
             [b'*'] => self.star(),
-            _ => self.take_offset(line),
+            _ => match addressed(line) {
+                Some((at, row)) => self.take_gdb(at, row),
+                None => self.take_offset(line),
+            },
         }
     }
 
@@ -79,13 +97,14 @@ impl Dump {
     pub(crate) fn end(self) -> Result<Octets, DumpFault>
         ensures { result ≡ ended (taken self) }
     {
-        if self.octets.len() > GREATEST_OFFSET {
+        if self.octets.len() > MOST {
             return Err(DumpFault::Form);
         }
         match self.before {
-            Before::Nothing | Before::Row(Style::Xxd | Style::Wireshark) | Before::End => {
-                Ok(Octets::of(self.octets))
-            }
+            Before::Nothing
+            | Before::Heading
+            | Before::Row(Style::Xxd | Style::Wireshark | Style::Bare | Style::Editor | Style::Gdb)
+            | Before::End => { Ok(Octets::of(self.octets)) }
             Before::Row(_) | Before::Star => Err(DumpFault::Form),
         }
     }
@@ -95,6 +114,7 @@ impl Dump {
         ensures { Becomes (starred self.old.before (taken self.old)) (taken self.new) result }
     {
         match self.before {
+            Before::Row(Style::Bare | Style::Editor | Style::Gdb) => Err(DumpFault::Form),
             Before::Row(_) if self.row.len() == WHOLE => {
                 self.before = Before::Star;
                 Ok(())
@@ -107,28 +127,36 @@ impl Dump {
     fn take_offset(&mut self, line: &[u8]) -> Result<(), DumpFault>
         ensures { Becomes (line_of line.now (taken self.old)) (taken self.new) result }
     {
-        let (at, text) = offset(line);
+        let (at, text) = offset(self.base, line);
         let digits = line.len().saturating_sub(text.len());
         if !is_offset(digits, text, self.before) {
             return Err(DumpFault::Form);
         }
         self.come_to(at)?;
+        self.take_rest(digits, text)
+    }
+
+    /// Takes what is after an offset of so many digits: a row, or nothing, which ends the dump.
+    fn take_rest(&mut self, digits: usize, text: &[u8]) -> Result<(), DumpFault>
+        ensures { Becomes (with_rest (taken self.old) digits text.now) (taken self.new) result }
+    {
         if text.is_empty() {
             self.before = Before::End;
             return Ok(());
         }
-        let (style, row) = style_of(digits, text).ok_or(DumpFault::Form)?;
+        let (style, row) = self.row_of(digits, text).ok_or(DumpFault::Form)?;
         self.take_row(style, row)
     }
 
     /// Repeats the last row up to an offset, where a `*` asks for that. Else the offset is that of the octets.
-    fn come_to(&mut self, at: usize) -> Result<(), DumpFault>
+    pub(crate) fn come_to(&mut self, at: usize) -> Result<(), DumpFault>
         ensures { ComesTo (up_to at self.old.before (taken self.old)) (taken self.old)
             (taken self.new) result }
     {
         let is_there = match self.before {
             Before::Star => return self.repeat(at),
-            Before::End | Before::Nothing | Before::Row(_) => self.may_be_at(at),
+            Before::End | Before::Row(Style::Bare | Style::Gdb) => false,
+            Before::Nothing | Before::Heading | Before::Row(_) => self.is_next(at),
         };
         if is_there {
             Ok(())
@@ -142,17 +170,18 @@ impl Dump {
         ensures { ComesTo (up_to at before.Star (taken self.old)) (taken self.old) (taken self.new)
             result }
     {
-        let count = self.octets.len();
-        if !may_repeat(count, at) {
+        let count = at.saturating_sub(self.start);
+        let more = count.saturating_sub(self.octets.len());
+        if count > MOST || more == 0 || more % WHOLE != 0 {
             return Err(DumpFault::Form);
         }
-        self.copy(at.saturating_sub(count) / WHOLE)?;
+        self.copy(more / WHOLE)?;
         Ok(())
     }
 
     /// Adds so many copies of the last row.
     fn copy(&mut self, count: usize) -> Result<(), AllocError>
-        ensures row { self.new.row.items ≡ self.old.row.items }
+        ensures rest { taken self.new ≡ with_octets self.new.octets.items (taken self.old) }
         ensures octets { IfOk result
             (λ _. self.new.octets.items ≡ self.old.octets.items
             ++ copies count self.old.row.items) }
@@ -164,9 +193,59 @@ impl Dump {
         Ok(())
     }
 
+    /// Whether an offset is where the octets so far end.
+    fn is_next(&self, at: usize) -> bool
+        ensures { result ≡ is_next at (taken self.now) }
+    {
+        at >= self.start && at - self.start == self.octets.len()
+    }
+
+    /// Whether a line is one of a heading, before all rows.
+    fn is_heading(&self, line: &[u8]) -> bool
+        ensures { result ≡ is_heading self.now.base self.now.before line.now }
+    {
+        matches!(self.base, Base::Headed)
+            && matches!(self.before, Before::Nothing | Before::Heading)
+            && is_title(after_blanks(line))
+    }
+
+    /// Which program's row has this after an offset of so many digits, where the program writes it in this base.
+    fn row_of<'a>(&self, digits: usize, text: &'a [u8]) -> Option<(Style, &'a [u8])>
+        ensures { option_map (λ row. (row.0, row.1.now)) result
+            ≡ row_after self.now.base digits self.now.before text.now }
+    {
+        match self.base {
+            Base::Headed => headed_row(digits, self.before, text),
+            base => counted(base, digits, text),
+        }
+    }
+
+    /// Takes a row of gdb, which begins with an address.
+    fn take_gdb(&mut self, at: usize, text: &[u8]) -> Result<(), DumpFault>
+        ensures { Becomes (with_address (Some (at, text.now)) [] (taken self.old))
+            (taken self.new) result }
+    {
+        let may_be = matches!(self.before, Before::Nothing | Before::Row(Style::Gdb));
+        if !may_be || !self.is_next(at) {
+            return Err(DumpFault::Form);
+        }
+        self.take_row(Style::Gdb, text)
+    }
+
+    /// Takes a row without an offset, after the blank that it begins with.
+    fn take_bare(&mut self, text: &[u8]) -> Result<(), DumpFault>
+        ensures { Becomes (with_row (taken self.old) (bare_row self.old.before text.now))
+            (taken self.new) result }
+    {
+        match self.before {
+            Before::Nothing | Before::Row(Style::Bare) => self.take_row(Style::Bare, text),
+            _ => Err(DumpFault::Form),
+        }
+    }
+
     /// Takes a row that is after the octets so far.
     fn take_row(&mut self, style: Style, text: &[u8]) -> Result<(), DumpFault>
-        ensures { Becomes (with_row self.old.octets.items (taken self.old) (Some (style, text.now)))
+        ensures { Becomes (with_row (taken self.old) (Some (style, text.now)))
             (taken self.new) result }
     {
         read_row(&mut self.row, style, text)?;
@@ -176,12 +255,26 @@ impl Dump {
     }
 }
 
-/// Whether copies of a row of 16 octets, at least one, come from so many octets up to an offset.
-fn may_repeat(count: usize, at: usize) -> bool
-    ensures { result ≡ may_repeat count at }
+/// Which program's row has this after an offset of so many digits in a base.
+fn counted(base: Base, digits: usize, text: &[u8]) -> Option<(Style, &[u8])>
+    ensures { option_map (λ row. (row.0, row.1.now)) result
+        ≡ counted base digits (style_of digits text.now) }
 {
-    let more = at.saturating_sub(count);
-    at <= GREATEST_OFFSET && more >= 1 && more % WHOLE == 0
+    match style_of(digits, text) {
+        Some((style, row)) if base.counts(digits, style) => Some((style, row)),
+        _ => None,
+    }
+}
+
+/// A row under a heading, after its offset and blanks.
+fn headed_row(digits: usize, before: Before, text: &[u8]) -> Option<(Style, &[u8])>
+    ensures { option_map (λ row. (row.0, row.1.now)) result ≡ headed_row digits before text.now }
+{
+    match (before, text) {
+        (Before::Heading | Before::Row(Style::Editor), [b' ', ..]) if digits >= DIGITS_OF_EDITORS =>
+            { Some((Style::Editor, after_blanks(text))) }
+        _ => None,
+    }
 }
 
 /// Whether an offset of so many digits may be there, with this text after it. One alone ends a dump as `od` and
@@ -193,7 +286,7 @@ fn is_offset(digits: usize, text: &[u8], before: Before) -> bool
         return digits >= FEWEST_DIGITS;
     }
     match before {
-        Before::Row(Style::Wireshark) => false,
+        Before::Row(Style::Wireshark | Style::Editor) => false,
         _ => digits >= DIGITS_OF_OD,
     }
 }

@@ -1,11 +1,10 @@
 //! Where a text isn't a dump any more.
 
-ghost use Rattle.std.specs.Prelude.{◌≡◌, ◌+◌, length, IfOk};
-ghost use Rattle.dumps.specs.Dump.{begins_with_offset, dump_octets, ended, is_gap, style_of, with_line};
-ghost use Rattle.dumps.specs.DumpStop.{Agrees, StopsAt, dump_stop, end_stop, line_stop, row_left, stop_at};
-ghost use Rattle.dumps.specs.Taking.{taken};
+ghost use Rattle.std.specs.Prelude.{◌≡◌};
+ghost use Rattle.dumps.specs.Dump.{begins_with_offset, is_gap};
 
-use crate::dump::is_line_end;
+use crate::base::Base;
+use crate::dump::{dump_octets, is_line_end, start_of};
 use crate::fault::DumpFault;
 use crate::line::{Dump, FEWEST_DIGITS};
 use crate::row::{push_row, style_of};
@@ -26,39 +25,55 @@ pub enum DumpWrong {
     Row,
     /// The text ends there without the offset that ends a dump, or with too many octets.
     End,
+    /// The text ends there, and its offsets give other octets in another base.
+    TwoWays,
 }
 
-/// The first place at which a text isn't a dump any more, and what is wrong there; `None` where it is one.
-///
-/// Every line before that place goes on the dump. In the line of the place, `Offset` is after the digits in front,
-/// `Place` and `Star` are at the line's first character, and `Row` is after the octets that a row has. `End` is at the
-/// end of the text.
-pub fn dump_stop(alloc: Global, text: &[u8]) -> Result<Option<(usize, DumpWrong)>, AllocError>
-    ensures place { IfOk result (λ stop. stop ≡ dump_stop text.now) }
-    ensures agrees { IfOk result (λ stop. Agrees stop (dump_octets text.now)) }
-{
-    stop_of(alloc, text)
+/// The first place at which a text isn't a dump any more, and what is wrong there; `None` where it is one. Of several
+/// bases in which its offsets can be read it is the one that goes furthest.
+pub fn dump_stop(alloc: Global, text: &[u8]) -> Result<Option<(usize, DumpWrong)>, AllocError> {
+    match dump_octets(alloc, text) {
+        Ok(_) => Ok(None),
+        Err(DumpFault::Memory) => Err(AllocError),
+        Err(DumpFault::Form) => Ok(Some(furthest_stop(alloc, text)?)),
+    }
 }
 
-fn stop_of(alloc: Global, text: &[u8]) -> Result<Option<(usize, DumpWrong)>, AllocError>
-    ensures { IfOk result (λ stop. stop ≡ dump_stop text.now) }
-{
-    let mut dump = Dump::new(alloc);
-    let mut start = 0;
-    for line in text.split(|x| is_line_end(*x)) {
-        match stop_in(alloc, &mut dump, line)? {
-            Some((column, wrong)) => return Ok(Some((moved(start, column)?, wrong))),
-            None => start = moved(moved(start, line.len())?, 1)?,
+/// The same of a text that is no dump. Of a line whose offset is too short in another base the hexadecimal one tells.
+fn furthest_stop(alloc: Global, text: &[u8]) -> Result<(usize, DumpWrong), AllocError> {
+    let end = (text.len(), DumpWrong::TwoWays);
+    let mut furthest = stop_by(alloc, Base::Hexadecimal, text)?.unwrap_or(end);
+    for base in [Base::Decimal, Base::Octal, Base::Headed] {
+        let stop = stop_by(alloc, base, text)?.unwrap_or(end);
+        if stop.0 > furthest.0 && stop.1 != DumpWrong::Offset {
+            furthest = stop;
         }
     }
-    Ok(stop_at_end(dump, text.len()))
+    Ok(furthest)
 }
 
-/// The place so many characters after another one; no text in memory is that long where there is none.
-fn moved(place: usize, count: usize) -> Result<usize, AllocError>
-    ensures { IfOk result (λ next. next ≡ place + count) }
-{
-    place.checked_add(count).ok_or(AllocError)
+/// The first place at which a text isn't a dump any more whose offsets are in a base.
+fn stop_by(
+    alloc: Global,
+    base: Base,
+    text: &[u8],
+) -> Result<Option<(usize, DumpWrong)>, AllocError> {
+    let mut dump = Dump::new(alloc, base, start_of(base, text));
+    let mut start = 0_usize;
+    for line in text.split(|x| is_line_end(*x)) {
+        let count = dump.count();
+        match dump.take(line) {
+            Ok(()) => {}
+            Err(DumpFault::Memory) => return Err(AllocError),
+            Err(DumpFault::Form) => {
+                let is_reached = dump.count() != count;
+                let (column, wrong) = stop_in(alloc, base, dump, is_reached, line)?;
+                return Ok(Some((start.saturating_add(column), wrong)));
+            }
+        }
+        start = start.saturating_add(line.len()).saturating_add(1);
+    }
+    Ok(stop_at_end(dump, text.len()))
 }
 
 /// Whether a text begins as a row does, after blanks and empty lines: with an offset, and a blank or a tab after it.
@@ -67,7 +82,7 @@ pub fn begins_with_offset(text: &[u8]) -> bool
     ensures { result ≡ begins_with_offset text.now }
 {
     let row = after_blanks(text);
-    let (_, rest) = offset(row);
+    let (_, rest) = offset(Base::Hexadecimal, row);
     row.len().saturating_sub(rest.len()) >= FEWEST_DIGITS && is_gap(rest)
 }
 
@@ -79,57 +94,44 @@ fn is_gap(text: &[u8]) -> bool
 }
 
 /// What is wrong at the end of a text, if anything.
-fn stop_at_end(dump: Dump, place: usize) -> Option<(usize, DumpWrong)>
-    ensures { result ≡ end_stop place (ended (taken dump)) }
-{
+fn stop_at_end(dump: Dump, place: usize) -> Option<(usize, DumpWrong)> {
     match dump.end() {
         Ok(_) => None,
         Err(_) => Some((place, DumpWrong::End)),
     }
 }
 
-/// Takes a line, or says where it is wrong first, and what is wrong there.
+/// What is wrong in a line that a dump didn't take. `is_reached` says that it took more octets up to the line's offset.
 fn stop_in(
     alloc: Global,
-    dump: &mut Dump,
+    base: Base,
+    dump: Dump,
+    is_reached: bool,
     line: &[u8],
-) -> Result<Option<(usize, DumpWrong)>, AllocError>
-    ensures { IfOk result (StopsAt (with_line (taken dump.old) line.now)
-        (line_stop (taken dump.old) line.now) (taken dump.new)) }
-{
-    let is_there = dump.may_be_at(offset(line).0);
-    match dump.take(line) {
-        Ok(()) => Ok(None),
-        Err(DumpFault::Memory) => Err(AllocError),
-        Err(DumpFault::Form) => Ok(Some(stop_at(alloc, is_there, line)?)),
-    }
-}
-
-/// The first column that is wrong in a line that a dump didn't take. `is_there` says whether the offset in front of it
-/// may be there.
-fn stop_at(alloc: Global, is_there: bool, line: &[u8]) -> Result<(usize, DumpWrong), AllocError>
-    ensures { IfOk result (λ stop. stop ≡ stop_at is_there line.now) }
-{
+) -> Result<(usize, DumpWrong), AllocError> {
     if matches!(line, [b'*']) {
         return Ok((0, DumpWrong::Star));
     }
-    let (_, text) = offset(line);
+    let (at, text) = offset(base, line);
     let digits = line.len().saturating_sub(text.len());
     if digits < FEWEST_DIGITS {
         return Ok((digits, DumpWrong::Offset));
     }
-    if !is_there {
+    if !is_reached && !is_at(dump, at) {
         return Ok((0, DumpWrong::Place));
     }
     let left = row_left(alloc, digits, text)?;
     Ok((line.len().saturating_sub(left), DumpWrong::Row))
 }
 
+/// Whether a dump may go on at this offset.
+fn is_at(dump: Dump, at: usize) -> bool {
+    let mut dump = dump;
+    dump.come_to(at).is_ok()
+}
+
 /// How many characters of a row are left after its octets, or all where no row has this after its offset.
-fn row_left(alloc: Global, digits: usize, text: &[u8]) -> Result<usize, AllocError>
-    ensures { IfOk result (λ left.
-        left ≡ row_left (style_of digits text.now) (length text.now)) }
-{
+fn row_left(alloc: Global, digits: usize, text: &[u8]) -> Result<usize, AllocError> {
     match style_of(digits, text) {
         Some((style, row)) => {
             let mut octets = Vec::new(alloc);

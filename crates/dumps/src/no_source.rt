@@ -4,7 +4,8 @@ ghost use Rattle.std.specs.Prelude.{◌≡◌, ◌&&◌, ◌||◌, not, is_some}
 ghost use Rattle.dumps.specs.SourceStop.{Agrees, is_begun, is_wrong_word, source_stop, stop_at, stop_at_end, stop_from, word_len};
 ghost use Rattle.dumps.specs.Source.{ended, is_part, source_octets};
 
-use crate::turn::{Now, is_part};
+use crate::marks::is_part;
+use crate::turn::Now;
 use crate::word::Word;
 
 /// What is wrong at the first place at which a text isn't a source any more.

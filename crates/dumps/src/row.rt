@@ -1,12 +1,17 @@
 //! A row of a dump, after its offset.
 
-ghost use Rattle.std.specs.Prelude.{◌≡◌, ◌-◌, [], false, true, length, option_map, IfOk};
-ghost use Rattle.dumps.specs.Dump.{after_two_blanks, halves, has_column, is_bare, is_marked, is_row, row_groups, row_of, style_of, IsRow};
+ghost use Rattle.std.specs.Prelude.{◌≡◌, ◌-◌, [], false, true, length, take, option_map, IfOk};
+ghost use Rattle.dumps.specs.Dump.{after_two_blanks, field_end, fielded, halves, has_column, is_bare, is_marked, is_row, is_shown, row_groups, row_of, style_of, IsRow};
 ghost use Rattle.dumps.specs.Characters.{groups};
+ghost use Rattle.dumps.specs.Editor.{characters};
 
+use crate::editor::{after_column, characters, push_tabbed};
 use crate::fault::DumpFault;
 use crate::text::{after_blanks, after_shown, push_groups};
 use std::alloc::AllocError;
+
+/// How many characters the columns of 16 octets have, and the blank after them.
+const FIELD: usize = 48;
 
 /// The fewest digits of an offset of `od`.
 pub(crate) const DIGITS_OF_OD: usize = 6;
@@ -23,6 +28,12 @@ pub(crate) enum Style {
     /// `0000  3b 80 80 01 01                                    ;....`, as Wireshark writes it with two or three
     /// blanks after the offset, or without the characters.
     Wireshark,
+    /// ` 3b 80 80 01 01`, as `od -An -tx1` writes it, or with `>;....<` at the end.
+    Bare,
+    /// `00000000  3B 80 80 01 01                                   ;€€..`, as HxD and PowerShell write it.
+    Editor,
+    /// `0x555555558010 <atr>:`, and `0x3b` and such after tabs, as `x/16xb` of gdb writes it.
+    Gdb,
 }
 
 /// Which program's row has this after an offset of so many digits, and what is after the blanks there.
@@ -73,8 +84,10 @@ pub(crate) fn push_row<'a>(
 {
     match style {
         Style::Xxd => push_groups(row, text, true, true),
-        Style::Od | Style::Wireshark => push_groups(row, text, false, true),
+        Style::Od | Style::Wireshark | Style::Bare => push_groups(row, text, false, true),
+        Style::Editor => push_field(row, text),
         Style::Hexdump => push_halves(row, text),
+        Style::Gdb => push_tabbed(row, text),
     }
 }
 
@@ -89,6 +102,21 @@ fn push_halves<'a>(row: &mut Vec<u8>, text: &'a [u8]) -> Result<&'a [u8], AllocE
         return push_groups(row, rest, false, false);
     }
     Ok(rest)
+}
+
+/// The same of a row of 16 columns for octets, with blanks in those that it doesn't need.
+fn push_field<'a>(row: &mut Vec<u8>, text: &'a [u8]) -> Result<&'a [u8], AllocError>
+    requires { row.old.items ≡ [] }
+    ensures { IfOk result (λ rest. (row.new.items, rest.now)
+        ≡ fielded text.now (groups false true (take (field_end text.now) text.now))) }
+{
+    let (field, column) = text.split_at(text.len().min(FIELD));
+    let rest = push_groups(row, field, false, true)?;
+    if after_blanks(rest).is_empty() {
+        return Ok(column);
+    }
+    row.clear();
+    Ok(text)
 }
 
 /// Whether there is an octet, and the column that shows them.
@@ -106,11 +134,13 @@ fn has_column(style: Style, octets: &[u8], text: &[u8]) -> bool
         Style::Xxd => is_bare(octets, text),
         Style::Hexdump => text.starts_with(b" ")
             && is_marked(b'|', b'|', octets, after_blanks(text)),
-        Style::Od => {
+        Style::Od | Style::Bare => {
             text.is_empty()
                 || text.starts_with(b" ") && is_marked(b'>', b'<', octets, after_blanks(text))
         }
         Style::Wireshark => after_blanks(text).is_empty() || is_bare(octets, text),
+        Style::Editor => is_shown(octets, text),
+        Style::Gdb => text.is_empty(),
     }
 }
 
@@ -121,6 +151,15 @@ fn is_bare(octets: &[u8], text: &[u8]) -> bool
     let pad = text.len().saturating_sub(octets.len());
     let (blanks, column) = text.split_at(pad);
     pad >= 1 && after_blanks(blanks).is_empty() && matches!(after_shown(octets, column), Some([]))
+}
+
+/// Whether blanks are there, and then one character in UTF-8 for each octet.
+fn is_shown(octets: &[u8], text: &[u8]) -> bool
+    ensures { result ≡ is_shown (characters text.now - length octets.now) octets.now text.now }
+{
+    let pad = characters(text).saturating_sub(octets.len());
+    let (blanks, column) = text.split_at(pad);
+    after_blanks(blanks).is_empty() && matches!(after_column(octets, column), Some([]))
 }
 
 /// Whether a mark, one character for each octet and a mark are there.

@@ -1,15 +1,17 @@
 //! Characters of a text, from the front: digits, groups of them, blanks.
 
 ghost use Rattle.std.specs.Prelude.{◌≡◌, ℕ, List, Option, Some, None, IfOk, option_map, if◌then◌else◌};
-ghost use Rattle.dumps.specs.Characters.{after_blanks, after_shown, digit, front_octet, groups, is_pair, joined_to, octet_at, offset_from, shown, step};
+ghost use Rattle.dumps.specs.Characters.{after_blanks, after_shown, digit, front_octet, groups, is_pair, joined_to, octet_at, shown, step};
+ghost use Rattle.dumps.specs.Bases.{offset_from};
 
+use crate::base::Base;
 use std::alloc::AllocError;
 
 /// What stands for a character that is no digit.
 pub(crate) const NO_DIGIT: u8 = 16;
 
-/// The greatest offset that is told from others: the most octets of an input.
-pub(crate) const GREATEST_OFFSET: usize = 4_194_304;
+/// What stands for all offsets from here on, 2 ^ 49.
+const BEYOND: usize = 562_949_953_421_312;
 
 /// The value of a digit in either case, 16 for any other character.
 pub(crate) fn digit(x: u8) -> u8
@@ -36,19 +38,19 @@ pub(crate) fn pair(x: u8, y: u8) -> Option<u8>
     }
 }
 
-/// The number that the digits in front of a text write, and what is after them. A number that is greater
-/// than the greatest offset counts as one more than that.
-pub(crate) fn offset(text: &[u8]) -> (usize, &[u8])
-    ensures { (result.0, result.1.now) ≡ offset_from 0 text.now }
+/// The number that the digits of a base in front of a text write, and what is after them. A number from 2 ^ 49 on
+/// counts as 2 ^ 49.
+pub(crate) fn offset(base: Base, text: &[u8]) -> (usize, &[u8])
+    ensures { (result.0, result.1.now) ≡ offset_from base 0 text.now }
 {
     let mut number = 0;
     let mut rest = text;
     while let [x, after @ ..] = rest {
         let value = digit(*x);
-        if value == NO_DIGIT {
+        if value >= base.radix() {
             break;
         }
-        number = (number * 16 + usize::from(value)).min(GREATEST_OFFSET + 1);
+        number = (base.shifted(number) + usize::from(value)).min(BEYOND);
         rest = after;
     }
     (number, rest)
@@ -123,7 +125,7 @@ pub(crate) fn after_blanks(text: &[u8]) -> &[u8]
 }
 
 /// The character by which a column shows an octet.
-fn shown(octet: u8) -> u8
+pub(crate) fn shown(octet: u8) -> u8
     ensures { result ≡ shown octet }
 {
     match octet {

@@ -1,11 +1,14 @@
 //! What each character of a source says at its place.
 
 ghost use Rattle.std.specs.Prelude.{◌≡◌, ◌&&◌};
-ghost use Rattle.dumps.specs.Source.{after_slash, after_star, and_octet, at_first, ended, fits, in_block, in_code, in_line, in_quotes, is_between, is_cut, is_listing, is_one_way, is_part, is_quote, longer_by, mark_in_code, mark_in_quotes, may_end_at, placed, taken_octet, turn_at, with_place};
-ghost use Rattle.dumps.specs.Characters.{is_digit};
+ghost use Rattle.dumps.specs.Source.{among_octets, at_first, in_code, in_quotes, is_one_way, mark_in_code, mark_in_quotes, may_end_at, part_in_code, placed, turn_at};
+ghost use Rattle.dumps.specs.Turns.{and_octet, ended, fits, is_cut, is_skipped, longer_by, taken_octet, with_place, with_word};
 ghost use Rattle.dumps.specs.Words.{longer};
 
-use crate::text::{NO_DIGIT, digit};
+use crate::comments::{after_slash, after_star, in_block, in_line};
+use crate::heads::LONG;
+use crate::marks::{is_between, is_digit, is_letter, is_listing, is_part, is_quote};
+use crate::strings::string_at;
 use crate::word::{Word, Writing};
 
 /// Where a text is.
@@ -17,6 +20,18 @@ pub(crate) enum Place {
     Double,
     /// In single quotes.
     Single,
+    /// In double quotes after a `b`.
+    DoubleString,
+    /// In single quotes after a `b`.
+    SingleString,
+    /// In a label or a declaration, before its `:` or `=`.
+    Head,
+    /// In a size in such a head, up to `]` or `>`.
+    Size,
+    /// In another declaration after that of the octets, before its `=`.
+    Name,
+    /// In the number of such a one.
+    Count,
     /// After a `/` that begins a comment.
     Slash,
     /// In a comment up to the end of the line.
@@ -27,26 +42,43 @@ pub(crate) enum Place {
     Star,
 }
 
+/// What stands around the octets.
+#[derive(Clone, Copy)]
+pub(crate) enum Around {
+    /// Nothing so far.
+    Nothing,
+    /// A label came, or what may be the front of a declaration, up to a `:`.
+    Label,
+    /// A `=` came, and the octets after it.
+    Declared,
+    /// A `:` came after a digit, which could be an octet: a `=` has to come before the octets.
+    Typed,
+    /// The `;` came that ends them.
+    Done,
+}
+
 /// Where a text is, and what it had so far.
 #[derive(Clone, Copy)]
 pub(crate) struct Now {
     /// The word under way.
-    word: Word,
-    place: Place,
+    pub(crate) word: Word,
+    pub(crate) place: Place,
     /// How the octets so far are written.
-    writing: Option<Writing>,
+    pub(crate) writing: Option<Writing>,
     /// There was a mark of a list.
-    listed: bool,
+    pub(crate) listed: bool,
     /// There was an octet with a letter.
-    lettered: bool,
+    pub(crate) lettered: bool,
     /// There was something between octets in quotes.
-    parted: bool,
+    pub(crate) parted: bool,
     /// There was a string of octets.
-    prefixed: bool,
+    pub(crate) prefixed: bool,
+    /// What stands around the octets.
+    pub(crate) around: Around,
 }
 
 /// What a character makes of where a text is, and the octet that ended before it.
-type Turn = Option<(Now, Option<u8>)>;
+pub(crate) type Turn = Option<(Now, Option<u8>)>;
 
 impl Now {
     /// At the front of a text.
@@ -61,6 +93,7 @@ impl Now {
             lettered: false,
             parted: false,
             prefixed: false,
+            around: Around::Nothing,
         }
     }
 
@@ -72,6 +105,12 @@ impl Now {
             Place::Code => self.in_code(x),
             Place::Double => self.in_quotes(b'"', x),
             Place::Single => self.in_quotes(b'\'', x),
+            Place::DoubleString => self.in_string(b'"', x),
+            Place::SingleString => self.in_string(b'\'', x),
+            Place::Head => self.in_head(x),
+            Place::Size => self.in_size(x),
+            Place::Name => self.in_name(x),
+            Place::Count => self.in_count(x),
             Place::Slash => self.placed(after_slash(x)),
             Place::Line => self.placed(Some(in_line(x))),
             Place::Block => self.placed(Some(in_block(x))),
@@ -85,6 +124,7 @@ impl Now {
     {
         match self.word {
             Word::Empty => Some((self, None)),
+            word if self.is_skipped(word) => Some((self.with_word(Word::Empty), None)),
             word => self.with_octet(word.octet()),
         }
     }
@@ -110,15 +150,18 @@ impl Now {
         self.is_outside() && self.is_one_way()
     }
 
-    /// Whether the octets can be read in one way. A list of pairs without a letter could be decimal numbers,
-    /// pairs in a string of octets are characters, and so are blanks between escapes.
+    /// Whether the octets can be read in one way. A list of pairs without a letter could be decimal numbers, blanks
+    /// between escapes are characters, and the characters of a string of octets could be pairs.
     fn is_one_way(self) -> bool
         ensures { result ≡ is_one_way self.writing self }
     {
+        if matches!(self.around, Around::Typed) {
+            return self.writing.is_none();
+        }
         match self.writing {
             None => true,
             Some(Writing::Plain) => !self.prefixed && (!self.listed || self.lettered),
-            Some(Writing::Escaped) => !self.parted,
+            Some(Writing::Escaped) => !self.parted && (!self.prefixed || self.lettered),
             Some(_) => !self.prefixed,
         }
     }
@@ -127,19 +170,49 @@ impl Now {
     fn in_code(self, x: u8) -> Turn
         ensures { result ≡ in_code self x }
     {
+        match self.around {
+            Around::Done => self.after_declaration(x),
+            _ => self.among_octets(x),
+        }
+    }
+
+    /// Outside of quotes and comments, before a declaration has ended.
+    fn among_octets(self, x: u8) -> Turn
+        ensures { result ≡ among_octets self x }
+    {
         if is_part(x) {
-            return self.longer(x);
+            return self.part_in_code(x);
         }
         if is_quote(x) && self.word.is_prefix() {
             let now = Now {
                 word: Word::Empty,
+                place: string_at(x),
                 prefixed: true,
                 ..self
             };
-            return and_octet(None, now.mark_in_code(x));
+            return Some((now, None));
+        }
+        if self.is_name() {
+            return self.at(Place::Head).in_head(x);
         }
         let (now, octet) = self.ended()?;
         and_octet(octet, now.mark_in_code(x))
+    }
+
+    /// A letter or a digit there. A word that gets longer than an octet may begin a label or a declaration.
+    fn part_in_code(self, x: u8) -> Turn
+        ensures { result ≡ part_in_code self x (longer self.word x) }
+    {
+        match self.word.longer(x) {
+            Some(word) => Some((self.with_word(word), None)),
+            None
+                if self.may_name()
+                    && is_letter(self.word.first())
+                    && !(self.word.all_digits() && is_digit(x)) => {
+                Some((self.at(Place::Head).with_word(LONG), None))
+            }
+            None => None,
+        }
     }
 
     /// A character that is no part of a word, outside of quotes and comments.
@@ -149,7 +222,14 @@ impl Now {
         if is_between(x) {
             return Some(self);
         }
-        if is_listing(x) {
+        match (x, self.around) {
+            (b';', Around::Declared) => return Some(self.ending()),
+            (b'=', Around::Label | Around::Typed) if self.writing.is_none() => return Some(
+                self.declaring(),
+            ),
+            _ => {}
+        }
+        if is_listing(x) || x == b'&' {
             return Some(Now {
                 listed: true,
                 ..self
@@ -257,8 +337,22 @@ impl Now {
         }
     }
 
+    /// Whether a word is there that gives no octet: `byte` or `new`, or Rust's `u8` after one.
+    pub(crate) fn is_skipped(self, word: Word) -> bool
+        ensures { result ≡ is_skipped self word }
+    {
+        word.is_type() || (word.is_suffix() && self.writing.is_some())
+    }
+
+    /// The same with this word under way.
+    pub(crate) fn with_word(self, word: Word) -> Now
+        ensures { result ≡ with_word word self }
+    {
+        Now { word, ..self }
+    }
+
     /// The same at a place.
-    fn at(self, place: Place) -> Now
+    pub(crate) fn at(self, place: Place) -> Now
         ensures { result ≡ with_place place self }
     {
         Now { place, ..self }
@@ -292,79 +386,5 @@ fn is_cut(word: Word, x: u8) -> bool
     match word {
         Word::Two(a, b) => is_digit(a) && is_digit(b) && is_digit(x),
         _ => false,
-    }
-}
-
-fn is_digit(x: u8) -> bool
-    ensures { result ≡ is_digit x }
-{
-    digit(x) != NO_DIGIT
-}
-
-/// Whether it is a letter or a decimal digit.
-pub(crate) fn is_part(x: u8) -> bool
-    ensures { result ≡ is_part x }
-{
-    matches!(x, b'0'..=b'9' | b'A'..=b'Z' | b'a'..=b'z')
-}
-
-/// Whether it may stand between octets: a blank, what ends a line, `:`, `-` or `_`.
-fn is_between(x: u8) -> bool
-    ensures { result ≡ is_between x }
-{
-    matches!(x, b' ' | b'\t' | b'\n' | b'\r' | b':' | b'-' | b'_')
-}
-
-/// Whether lists are written with it.
-fn is_listing(x: u8) -> bool
-    ensures { result ≡ is_listing x }
-{
-    matches!(x, b',' | b';' | b'{' | b'}' | b'[' | b']' | b'(' | b')')
-}
-
-fn is_quote(x: u8) -> bool
-    ensures { result ≡ is_quote x }
-{
-    matches!(x, b'"' | b'\'')
-}
-
-/// What follows a `/` outside of quotes and comments.
-fn after_slash(x: u8) -> Option<Place>
-    ensures { result ≡ after_slash x }
-{
-    match x {
-        b'/' => Some(Place::Line),
-        b'*' => Some(Place::Block),
-        _ => None,
-    }
-}
-
-/// The place after a character of a comment up to the end of the line.
-fn in_line(x: u8) -> Place
-    ensures { result ≡ in_line x }
-{
-    match x {
-        b'\n' | b'\r' => Place::Code,
-        _ => Place::Line,
-    }
-}
-
-/// The place after a character of a comment up to `*/`.
-fn in_block(x: u8) -> Place
-    ensures { result ≡ in_block x }
-{
-    match x {
-        b'*' => Place::Star,
-        _ => Place::Block,
-    }
-}
-
-/// The place after a character that follows a `*` there.
-fn after_star(x: u8) -> Place
-    ensures { result ≡ after_star x }
-{
-    match x {
-        b'/' => Place::Code,
-        _ => in_block(x),
     }
 }

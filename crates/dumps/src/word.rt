@@ -1,8 +1,9 @@
 //! The words of octets in a source, of at most four characters.
 
 ghost use Rattle.std.specs.Prelude.{◌≡◌};
-ghost use Rattle.dumps.specs.Words.{has_letter, is_prefix, longer, marked, octet_of, suffixed, written};
+ghost use Rattle.dumps.specs.Words.{all_digits, first_of, has_letter, is_one, is_prefix, is_suffix, is_type, longer, marked, octet_of, suffixed, written};
 
+use crate::marks::is_digit;
 use crate::text::{NO_DIGIT, digit, pair};
 
 /// How an octet is written.
@@ -77,6 +78,53 @@ impl Word {
         ensures { result ≡ is_prefix self }
     {
         matches!(self, Word::One(b'b' | b'B'))
+    }
+
+    /// Its first character, 0 of none.
+    pub(crate) fn first(self) -> u8
+        ensures { result ≡ first_of self }
+    {
+        match self {
+            Word::Empty => 0,
+            Word::One(a) | Word::Two(a, _) | Word::Three(a, ..) | Word::Four(a, ..) => a,
+        }
+    }
+
+    /// Whether it is hexadecimal digits alone.
+    pub(crate) fn all_digits(self) -> bool
+        ensures { result ≡ all_digits self }
+    {
+        match self {
+            Word::Empty => false,
+            Word::One(a) => is_digit(a),
+            Word::Two(a, b) => is_digit(a) && is_digit(b),
+            Word::Three(a, b, c) => is_digit(a) && is_digit(b) && is_digit(c),
+            Word::Four(a, b, c, d) => is_digit(a) && is_digit(b) && is_digit(c) && is_digit(d),
+        }
+    }
+
+    /// Whether it is one character.
+    pub(crate) fn is_one(self) -> bool
+        ensures { result ≡ is_one self }
+    {
+        matches!(self, Word::One(_))
+    }
+
+    /// Whether it is `byte` or `new`, of which no octet is made.
+    pub(crate) fn is_type(self) -> bool
+        ensures { result ≡ is_type self }
+    {
+        matches!(
+            self,
+            Word::Three(b'n', b'e', b'w') | Word::Four(b'b', b'y', b't', b'e')
+        )
+    }
+
+    /// Whether it is `u8`, which Rust may write after a number.
+    pub(crate) fn is_suffix(self) -> bool
+        ensures { result ≡ is_suffix self }
+    {
+        matches!(self, Word::Two(b'u', b'8'))
     }
 }
 

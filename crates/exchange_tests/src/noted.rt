@@ -1,6 +1,7 @@
 //! What notes say of some octets of each kind, and how they come after lines.
 
 use apdu_core::{CommandRef, ResponseRef};
+use block_core::BlockRef;
 use notes::{atr_notes, block_notes, command_notes, forest_notes, noted, response_notes};
 use std::alloc::Global;
 use std::process::Abort;
@@ -129,7 +130,7 @@ fn of_commands(rt: HostRuntime) {
 
 /// The notes on a block.
 fn on_block(rt: &impl Abort, alloc: Global, octets: &[u8]) -> Vec<String> {
-    let (block, _) = block_core::decode(octets, 254).expect(rt, "a block");
+    let (block, _) = BlockRef::decode(octets, 254).expect(rt, "a block");
     block_notes(alloc, &block).expect(rt, "notes")
 }
 

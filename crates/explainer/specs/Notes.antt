@@ -16,12 +16,11 @@ use Rattle.card_words.specs.declared.given.Form.{Form}
 use Rattle.card_words.specs.declared.given.Form.TheVariants as form
 use Rattle.card_words.specs.declared.session.Session.{Session}
 use Rattle.dumps.specs.Dump.{begins_with_offset}
-use Rattle.dumps.specs.DumpStop.{dump_stop}
+use Rattle.dumps.specs.OctalWords.{is_octal_words}
 use Rattle.dumps.specs.SourceStop.{source_stop}
-use Rattle.dumps.specs.declared.no_dump.DumpWrong.{DumpWrong}
 use Rattle.dumps.specs.declared.no_source.SourceWrong.{SourceWrong}
 use Rattle.dumps.specs.declared.no_source.SourceWrong.TheVariants as source
-use Rattle.explainer.specs.Sentences.{atr_sentence, dump_sentence, form_text, lack_sentence, source_sentence}
+use Rattle.explainer.specs.Sentences.{atr_sentence, form_text, lack_sentence, source_sentence}
 
 -- the place of the first octet that is shown: at most 16 octets stand before the one that is marked
 abbrev pub first_shown : ℕ → ℕ
@@ -234,22 +233,17 @@ pub record IsPlaceNote (text : List ℕ) (place : ℕ) (what note : List ℕ) : 
   pub here : place < length text → at ≡ place
   pub is : note ≡ marked_text text at what
 
--- the note on a text by where it stops being a dump
-abbrev pub IsDumpNote : List ℕ → Option (ℕ × DumpWrong) → List ℕ → Type 0
-IsDumpNote text None note = note ≡ []
-IsDumpNote text (Some (place, wrong)) note = IsPlaceNote text place (dump_sentence wrong) note
-
--- and by where it stops being a source: which words tell a character that may not be there is open
+-- the note on a text by where it stops being a source: which words tell a character that may not be there is open
 abbrev pub IsSourceNote : List ℕ → Option (ℕ × SourceWrong) → List ℕ → Type 0
 IsSourceNote text None note = note ≡ []
 IsSourceNote text (Some (place, source.Character)) note = (what : List ℕ) × (note ≡ marked_text text place what)
 IsSourceNote text (Some (place, wrong)) note = IsPlaceNote text place (source_sentence wrong) note
 
--- what is said first of a text that isn't in its form: of hexadecimal it is open
+-- what is said first of a text that isn't in its form: of hexadecimal and of a dump it is open
 abbrev pub IsFirstNote : Form → List ℕ → List ℕ → Type 0
 IsFirstNote form.Hex text note = Unit {0}
 IsFirstNote form.Octets text note = note ≡ []
-IsFirstNote form.Dump text note = IsDumpNote text (dump_stop text) note
+IsFirstNote form.Dump text note = Unit {0}
 IsFirstNote form.Source text note = IsSourceNote text (source_stop text) note
 
 abbrev pub is_form : Form → Form → Bool
@@ -267,20 +261,36 @@ is_taken (Err fault) = false
 abbrev pub takes : Form → List ℕ → Bool
 takes other text = is_taken (octets_in other text)
 
--- The option for another form that takes a text, as a line. Hexadecimal has no offsets: it would take them for octets.
+-- a byte order mark of UTF-8 or UTF-16
+abbrev pub begins_with_mark : List ℕ → Bool
+begins_with_mark (a ∷ b ∷ c ∷ more) = (a == 239 && (b == 187 && c == 191))
+    || ((a == 254 && b == 255) || (a == 255 && b == 254))
+begins_with_mark (a ∷ b ∷ []) = (a == 254 && b == 255) || (a == 255 && b == 254)
+begins_with_mark _ = false
+
+abbrev pub mark_said : List ℕ → List ℕ
+mark_said text = if begins_with_mark text
+    then codes "standard input: this text begins with a byte order mark, which is in no form\n" else []
+
+-- the offsets or the words of a text would be taken for other octets in hexadecimal
+abbrev pub has_other_octets : List ℕ → Bool
+has_other_octets text = begins_with_offset text || is_octal_words text
+
+-- The option for another form that takes a text, as a line. Hexadecimal has no offsets, nor octal words: it would take
+-- them for other octets.
 abbrev pub other_text : Form → List ℕ → List ℕ
 other_text given text =
-    if not (is_form given form.Hex) && (not (begins_with_offset text) && takes form.Hex text)
+    if not (is_form given form.Hex) && (not (has_other_octets text) && takes form.Hex text)
     then codes "--stdin hex takes this text\n"
     else (if not (is_form given form.Dump) && takes form.Dump text then codes "--stdin dump takes this text\n"
     else (if not (is_form given form.Source) && takes form.Source text then codes "--stdin source takes this text\n"
     else []))
 
--- that first, what the form is, and which other one takes the text
+-- that first, a byte order mark, what the form is, and which other one takes the text
 pub record IsTextNote (given : Form) (text note : List ℕ) : Type 0 where
   pub first : List ℕ
   pub says : IsFirstNote given text first
-  pub is : note ≡ first ++ (form_text given ++ other_text given text)
+  pub is : note ≡ first ++ (mark_said text ++ (form_text given ++ other_text given text))
 
 -- that a text which is taken for hexadecimal is a dump of some octets too
 abbrev pub offsets_said : Result (List ℕ) Fault → List ℕ
@@ -288,8 +298,17 @@ offsets_said (Ok octets) = if length octets == 0 then [] else codes
     "standard input: this text is a dump too, and its offsets are taken for octets here; --stdin dump leaves them out\n"
 offsets_said (Err fault) = []
 
+-- that a text which is taken for hexadecimal is words of od
+abbrev pub words_said : List ℕ
+words_said = codes
+    "standard input: six octal digits are two octets of od, and are taken for three here; od -tx1 writes octets\n"
+
+-- a dump without offsets has no others in hexadecimal
 abbrev pub offsets_note : List ℕ → List ℕ
-offsets_note text = offsets_said (octets_in form.Dump text)
+offsets_note text =
+    if is_octal_words text then words_said
+    else (if begins_with_offset text then offsets_said (octets_in form.Dump text)
+    else [])
 
 -- ---- files
 

@@ -80,12 +80,13 @@ dump_sentence dump.Place = codes "this offset isn't the number of octets before 
 dump_sentence dump.Star = codes "a * follows a row of 16 octets"
 dump_sentence dump.Row = codes "here come octets, and the characters that show them"
 dump_sentence dump.End = codes "the offset that ends the dump is missing, or there are too many octets"
+dump_sentence dump.TwoWays = codes "in another base these offsets give another number of octets; od -v has no *"
 
 -- of a text that is no source
 abbrev pub source_sentence : SourceWrong → List ℕ
 source_sentence source.Character = codes "a character that may not be here"
 source_sentence source.Word = codes "no octet, or one that is written in another way than those before"
-source_sentence source.Open = codes "a string or a comment isn't closed"
+source_sentence source.Open = codes "a string, a comment or a declaration isn't closed"
 source_sentence source.TwoWays = codes "these octets can be read in two ways"
 
 -- of an answer to reset from which no session begins: what it lacks
@@ -99,5 +100,5 @@ abbrev pub form_text : Form → List ℕ
 form_text form.Hex = codes "standard input: octets are two hexadecimal digits each, in groups that blanks part\n"
 form_text form.Octets = []
 form_text form.Dump =
-    codes "standard input: a dump is what xxd, hexdump -C, od -Ax -tx1 or tshark -x writes, whole\n"
+    codes "standard input: a dump is what xxd, hexdump -C, od -tx1, tshark -x, gdb, HxD or Format-Hex writes, whole\n"
 form_text form.Source = codes "standard input: octets are 0x3B, \\x3b, 3Bh or 3B, all written in one way\n"

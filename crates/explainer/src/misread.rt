@@ -1,9 +1,8 @@
 //! The notes on texts that are no dump, or no source.
 
 ghost use Rattle.std.specs.Prelude.{◌≡◌, ℕ, List, IfOk, string_bytes};
-ghost use Rattle.dumps.specs.DumpStop.{dump_stop};
 ghost use Rattle.dumps.specs.SourceStop.{source_stop};
-ghost use Rattle.explainer.specs.Notes.{marked_text, IsDumpNote, IsPlaceNote, IsSourceNote};
+ghost use Rattle.explainer.specs.Notes.{marked_text, IsPlaceNote, IsSourceNote};
 ghost use Rattle.explainer.specs.Sentences.{dump_sentence, source_sentence};
 
 use crate::text::{is_printable, marked_place};
@@ -11,9 +10,7 @@ use dumps::{DumpWrong, SourceWrong, dump_stop, source_stop};
 use std::alloc::{AllocError, Global};
 
 /// The first place of a text that is wrong in a dump.
-pub(crate) fn dump_note(alloc: Global, text: &[u8]) -> Result<String, AllocError>
-    ensures { IfOk result (λ note. IsDumpNote text.now (dump_stop text.now) (string_bytes note)) }
-{
+pub(crate) fn dump_note(alloc: Global, text: &[u8]) -> Result<String, AllocError> {
     match dump_stop(alloc, text)? {
         Some((place, wrong)) => at_place(alloc, text, place, dump_sentence(wrong)),
         None => Ok(String::new(alloc)),
@@ -29,6 +26,9 @@ fn dump_sentence(wrong: DumpWrong) -> &'static str
         DumpWrong::Star => "a * follows a row of 16 octets",
         DumpWrong::Row => "here come octets, and the characters that show them",
         DumpWrong::End => "the offset that ends the dump is missing, or there are too many octets",
+        DumpWrong::TwoWays => {
+            "in another base these offsets give another number of octets; od -v has no *"
+        }
     }
 }
 
@@ -50,7 +50,7 @@ fn source_sentence(wrong: SourceWrong) -> &'static str
     match wrong {
         SourceWrong::Character => "a character that may not be here",
         SourceWrong::Word => "no octet, or one that is written in another way than those before",
-        SourceWrong::Open => "a string or a comment isn't closed",
+        SourceWrong::Open => "a string, a comment or a declaration isn't closed",
         SourceWrong::TwoWays => "these octets can be read in two ways",
     }
 }

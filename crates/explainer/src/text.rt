@@ -1,13 +1,13 @@
 //! The notes on a text of standard input: that it isn't in its form, or that it is a dump too.
 
 ghost use Rattle.std.specs.Prelude.{◌≡◌, ◌+◌, ◌&&◌, nat_le, IfOk, IfSome, Some, slice_get, string_bytes, if◌then◌else◌};
-ghost use Rattle.explainer.specs.Notes.{character, line_from, line_shown, marked_text, offsets_note, place_note, is_form, other_text, takes, IsFirstNote, IsTextNote};
+ghost use Rattle.explainer.specs.Notes.{character, line_from, line_shown, marked_text, offsets_note, place_note, is_form, other_text, takes, IsFirstNote, IsTextNote, begins_with_mark, has_other_octets, mark_said};
 
 use crate::mark::part;
 use crate::misread::{dump_note, source_note};
 use crate::words::what_form;
 use card_words::{Fault, Form};
-use dumps::begins_with_offset;
+use dumps::{begins_with_offset, is_octal_words};
 use octet_core::{Octets, is_blank};
 use std::alloc::{AllocError, Global};
 
@@ -20,6 +20,14 @@ const SHOWN: usize = 60;
 /// What is said of a dump that is taken for hexadecimal.
 const OFFSETS: &str =
     "standard input: this text is a dump too, and its offsets are taken for octets here; --stdin dump leaves them out\n";
+
+/// What is said of words of `od` that are taken for hexadecimal.
+const WORDS: &str =
+    "standard input: six octal digits are two octets of od, and are taken for three here; od -tx1 writes octets\n";
+
+/// What is said of a byte order mark, which is in no form.
+const ORDER_MARK: &str =
+    "standard input: this text begins with a byte order mark, which is in no form\n";
 
 /// What is wrong at a place of a text in hexadecimal.
 #[derive(Clone, Copy)]
@@ -43,6 +51,7 @@ pub fn text_note(alloc: Global, form: Form, text: &[u8]) -> Result<String, Alloc
     ensures { IfOk result (λ note. IsTextNote form text.now (string_bytes note)) }
 {
     let mut note = first_note(alloc, form, text)?;
+    note.push_str(mark_said(text))?;
     note.push_str(what_form(form))?;
     note.push_str(other_form(alloc, form, text)?)?;
     Ok(note)
@@ -60,12 +69,40 @@ fn first_note(alloc: Global, form: Form, text: &[u8]) -> Result<String, AllocErr
     }
 }
 
-/// The option for another form that takes the text, as a line. Hexadecimal has no offsets: it would take them for
-/// octets.
+/// What is said of a text that begins with a byte order mark.
+fn mark_said(text: &[u8]) -> &'static str
+    ensures { result.now ≡ mark_said text.now }
+{
+    if begins_with_mark(text) {
+        ORDER_MARK
+    } else {
+        ""
+    }
+}
+
+/// Whether a text begins with a byte order mark, of UTF-8 or UTF-16.
+fn begins_with_mark(text: &[u8]) -> bool
+    ensures { result ≡ begins_with_mark text.now }
+{
+    matches!(
+        text,
+        [0xEF, 0xBB, 0xBF, ..] | [0xFE, 0xFF, ..] | [0xFF, 0xFE, ..]
+    )
+}
+
+/// Whether the offsets or the words of a text would be taken for other octets in hexadecimal.
+fn has_other_octets(text: &[u8]) -> bool
+    ensures { result ≡ has_other_octets text.now }
+{
+    begins_with_offset(text) || is_octal_words(text)
+}
+
+/// The option for another form that takes the text, as a line. Hexadecimal has no offsets, nor octal words: it would
+/// take them for other octets.
 fn other_form(alloc: Global, form: Form, text: &[u8]) -> Result<&'static str, AllocError>
     ensures { IfOk result (λ other. other.now ≡ other_text form text.now) }
 {
-    if !is_form(form, Form::Hex) && !begins_with_offset(text) && takes(alloc, Form::Hex, text)? {
+    if !is_form(form, Form::Hex) && !has_other_octets(text) && takes(alloc, Form::Hex, text)? {
         return Ok("--stdin hex takes this text\n");
     }
     if !is_form(form, Form::Dump) && takes(alloc, Form::Dump, text)? {
@@ -130,11 +167,17 @@ fn column_said(alloc: Global, column: usize, wrong: Wrong) -> Result<String, All
     format!(in alloc; "column {column}: {what}\n")
 }
 
-/// The explanation of a text in hexadecimal that is a dump of some octets too: that its offsets are taken
-/// for octets. Nothing of any other.
+/// The explanation of a text in hexadecimal that means other octets: that it begins with an offset and is a dump of
+/// some octets too, so that its offsets are taken for octets, or that it is octal words of `od`. Nothing of any other.
 pub fn offsets_note(alloc: Global, text: Octets) -> Result<String, AllocError>
     ensures { IfOk result (λ note. string_bytes note ≡ offsets_note text) }
 {
+    if is_octal_words(text.get()) {
+        return String::from_str(alloc, WORDS);
+    }
+    if !begins_with_offset(text.get()) {
+        return Ok(String::new(alloc));
+    }
     match Form::Dump.octets(alloc, text) {
         Ok(octets) if !octets.get().is_empty() => String::from_str(alloc, OFFSETS),
         Err(Fault::Memory) => Err(AllocError),

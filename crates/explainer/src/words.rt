@@ -155,7 +155,7 @@ pub(crate) fn what_form(form: Form) -> &'static str
         }
         Form::Octets => "",
         Form::Dump =>
-            "standard input: a dump is what xxd, hexdump -C, od -Ax -tx1 or tshark -x writes, whole\n",
+            "standard input: a dump is what xxd, hexdump -C, od -tx1, tshark -x, gdb, HxD or Format-Hex writes, whole\n",
         Form::Source =>
             "standard input: octets are 0x3B, \\x3b, 3Bh or 3B, all written in one way\n",
     }
