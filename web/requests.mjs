@@ -73,7 +73,8 @@ export function withoutRefusalNotes(said) {
 
 // What the page should say: the program's words, without its options.
 export function wanted({ said }, { subcommand, end }) {
-  if (end || subcommand === "judge") return said;
+  if (subcommand === "judge") return said;
+  if (end) return said.replace(/; in the trace it .*/g, "");
   return withoutRefusalNotes(said).replace(" (--ifs)", "").replace("from that of --number", "from the first that is given")
-    .replace(/octets there: .*\n/, "").replace(/standard input: this text is a dump too.*\n/, "");
+    .replace(/octets there: .*\n/, "").replace(/standard input: (this text is a dump too|six octal digits are).*\n/, "");
 }

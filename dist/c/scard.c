@@ -1810,19 +1810,19 @@ static void c_lent_atr_atr_decode(struct call *m, u64 v0, u64 v1, u64 v2, u64 v3
     u8 *p663 = NULL;
     u8 *p760 = NULL;
     u8 *p777 = NULL;
-    u8 *p912 = NULL;
-    u8 *p913 = NULL;
-    u8 *p1166 = NULL;
-    u8 *p1274 = NULL;
-    u8 *p1368 = NULL;
+    u8 *p924 = NULL;
+    u8 *p925 = NULL;
+    u8 *p1109 = NULL;
+    u8 *p1306 = NULL;
+    u8 *p1404 = NULL;
     u64 n34;
     const u8 *q34;
     u64 n35;
     const u8 *q35;
-    u64 n47;
-    const u8 *q47;
-    u64 n48;
-    const u8 *q48;
+    u64 n44;
+    const u8 *q44;
+    u64 n45;
+    const u8 *q45;
     v25 = m->g0 - 1552ull;
     f25 = at(m, v25, 1552);
     v4 = v25;
@@ -2105,152 +2105,158 @@ after4:;
     put8(f25 + 512, v7);
     put64(f25 + 504, v1);
     copy(m, v25 + 513ull, v25 + 241ull, 247ull);
+    memset(f25 + 1040, (int)(0u & 255u), 217);
+    v10 = 0ull;
+    put64(f25 + 1311, 0ull);
+    put64(f25 + 1304, 0ull);
     v15 = get64(f25 + 728);
     memset(f25 + 1320, (int)(0u & 255u), 232);
     if (v15 == 0) { goto after36; }
-    v10 = 0ull;
     v8 = 0ull;
 again37:;
     v2 = (v25 + 1320ull) + v10;
     v1 = (v25 + 496ull) + v10;
-    p912 = held(m, v1 + 8ull, 7);
-    p913 = held(m, v2, 7);
-    put_held8(p913, 0, m, v2, held8(p912, 0, m, v1 + 8ull));
-    v7 = (u32)(held8(p912, 5, m, v1 + 8ull) == 1u);
-    put_held8(p913, 5, m, v2, v7);
-    v6 = (u32)(held8(p912, 3, m, v1 + 8ull) == 1u);
-    put_held8(p913, 3, m, v2, v6);
-    v9 = (u32)(held8(p912, 1, m, v1 + 8ull) == 1u);
-    put_held8(p913, 1, m, v2, v9);
-    put_held8(p913, 6, m, v2, v7 ? held8(p912, 6, m, v1 + 8ull) : 0u);
-    put_held8(p913, 4, m, v2, v6 ? held8(p912, 4, m, v1 + 8ull) : 0u);
-    put_held8(p913, 2, m, v2, v9 ? held8(p912, 2, m, v1 + 8ull) : 0u);
+    p924 = held(m, v1 + 8ull, 7);
+    p925 = held(m, v2, 7);
+    put_held8(p925, 0, m, v2, held8(p924, 0, m, v1 + 8ull));
+    v7 = (u32)(held8(p924, 5, m, v1 + 8ull) == 1u);
+    put_held8(p925, 5, m, v2, v7);
+    v6 = (u32)(held8(p924, 3, m, v1 + 8ull) == 1u);
+    put_held8(p925, 3, m, v2, v6);
+    v9 = (u32)(held8(p924, 1, m, v1 + 8ull) == 1u);
+    put_held8(p925, 1, m, v2, v9);
+    put_held8(p925, 6, m, v2, v7 ? held8(p924, 6, m, v1 + 8ull) : 0u);
+    put_held8(p925, 4, m, v2, v6 ? held8(p924, 4, m, v1 + 8ull) : 0u);
+    put_held8(p925, 2, m, v2, v9 ? held8(p924, 2, m, v1 + 8ull) : 0u);
     v8 = v8 + 1ull;
     put64(f25 + 1544, v8);
     v10 = v10 + 7ull;
     if (v15 != v8) { goto again37; }
 after36:;
-    memset(f25 + 760, (int)(0u & 255u), 217);
-    v18 = get64(f25 + 1544);
-    v2 = v18 * 7ull;
-    if (((v25 + 760ull) - (v25 + 1320ull)) >= v2) { goto after39; }
-    if (v18 == 0) { goto after38; }
-    if (v2 == 0) { goto after38; }
-    copy(m, v25 + 760ull, v25 + 1320ull, v2);
-    goto after38;
-after39:;
-    if (v2 == 0) { goto after38; }
-    copy(m, v25 + 760ull, v25 + 1320ull, v2);
-after38:;
-    put64(f25 + 1311, 0ull);
-    put64(f25 + 1304, 0ull);
-    v19 = get64(f25 + 752);
-    if (v19 == 0) { goto after40; }
-    copy(m, v25 + 1304ull, v25 + 736ull, v19);
-after40:;
     v2 = v25 + 504ull;
     v1 = v15 + 1ull;
-again42:;
+    v15 = get64(f25 + 752);
+again39:;
     v1 = v1 + 0xFFFFFFFFFFFFFFFFull;
-    if (v1) { goto after43; }
+    if (v1) { goto after40; }
     v7 = 0u;
-    goto after41;
-after43:;
+    goto after38;
+after40:;
     v7 = load8(m, v2, 0);
     v2 = v2 + 7ull;
-    if (v7 == 0) { goto again42; }
-    put64(f25 + 1072, 0ull);
-    put64(f25 + 1064, 0ull);
-    put64(f25 + 1056, 0ull);
-    put64(f25 + 1048, 0ull);
-    put64(f25 + 1040, 0ull);
-    atr_core_encoding_checked_octets(m, v25 + 1040ull, v25 + 496ull);
-    v2 = get64(f25 + 1072);
-    if (v2) { goto after44; }
+    if (v7 == 0) { goto again39; }
+    put64(f25 + 792, 0ull);
+    put64(f25 + 784, 0ull);
+    put64(f25 + 776, 0ull);
+    put64(f25 + 768, 0ull);
+    put64(f25 + 760, 0ull);
+    atr_core_encoding_checked_octets(m, v25 + 760ull, v25 + 496ull);
+    v2 = get64(f25 + 792);
+    if (v2) { goto after41; }
     v7 = 0u;
-    goto after41;
-after44:;
+    goto after38;
+after41:;
     v10 = v2 & 7ull;
-    if (v2 >= 8ull) { goto after46; }
-    v2 = v25 + 1040ull;
+    if (v2 >= 8ull) { goto after43; }
+    v2 = v25 + 760ull;
     v7 = 0u;
-    goto after45;
-after46:;
+    goto after42;
+after43:;
     v8 = v2 & 0xFFFFFFFFFFFFFFF8ull;
-    v2 = v25 + 1040ull;
+    v2 = v25 + 760ull;
     v7 = 0u;
-    n47 = v8 - 8ull;
-    q47 = span(m, v2, n47, 8, 8);
-    if (q47) {
-        n47 /= 8;
-        v7 ^= exclusive_or(q47, (n47 + 1u) * 8);
-        v2 = v2 + 8ull + 8ull * n47;
-        v8 = v8 - 8ull + 0xFFFFFFFFFFFFFFF8ull * n47;
+    n44 = v8 - 8ull;
+    q44 = span(m, v2, n44, 8, 8);
+    if (q44) {
+        n44 /= 8;
+        v7 ^= exclusive_or(q44, (n44 + 1u) * 8);
+        v2 = v2 + 8ull + 8ull * n44;
+        v8 = v8 - 8ull + 0xFFFFFFFFFFFFFFF8ull * n44;
     } else {
-again47:;
-        p1166 = held(m, v2, 8);
-        t4 = held8(p1166, 3, m, v2) ^ (held8(p1166, 2, m, v2) ^ (held8(p1166, 1, m, v2) ^ (held8(p1166, 0, m, v2) ^
+again44:;
+        p1109 = held(m, v2, 8);
+        t4 = held8(p1109, 3, m, v2) ^ (held8(p1109, 2, m, v2) ^ (held8(p1109, 1, m, v2) ^ (held8(p1109, 0, m, v2) ^
             v7)));
-        t0 = held8(p1166, 7, m, v2) ^ (held8(p1166, 6, m, v2) ^ (held8(p1166, 5, m, v2) ^ (held8(p1166, 4, m, v2) ^
+        t0 = held8(p1109, 7, m, v2) ^ (held8(p1109, 6, m, v2) ^ (held8(p1109, 5, m, v2) ^ (held8(p1109, 4, m, v2) ^
             t4)));
         v7 = t0;
         v2 = v2 + 8ull;
         v8 = v8 + 0xFFFFFFFFFFFFFFF8ull;
-        if (v8 != 0ull) { goto again47; }
+        if (v8 != 0ull) { goto again44; }
     }
-    if (v10 == 0) { goto after41; }
-after45:;
-    n48 = v10 - 1ull;
-    q48 = span(m, v2, n48, 1, 1);
-    if (q48) {
-        v7 ^= exclusive_or(q48, (n48 + 1u) * 1);
-        v2 = v2 + 1ull + 1ull * n48;
-        v10 = v10 - 1ull + 0xFFFFFFFFFFFFFFFFull * n48;
+    if (v10 == 0) { goto after38; }
+after42:;
+    n45 = v10 - 1ull;
+    q45 = span(m, v2, n45, 1, 1);
+    if (q45) {
+        v7 ^= exclusive_or(q45, (n45 + 1u) * 1);
+        v2 = v2 + 1ull + 1ull * n45;
+        v10 = v10 - 1ull + 0xFFFFFFFFFFFFFFFFull * n45;
     } else {
-again48:;
+again45:;
         v7 = load8(m, v2, 0) ^ v7;
         v2 = v2 + 1ull;
         v10 = v10 + 0xFFFFFFFFFFFFFFFFull;
-        if (v10 != 0ull) { goto again48; }
+        if (v10 != 0ull) { goto again45; }
     }
-after41:;
-    v6 = get8(f25 + 498);
-    v9 = get8(f25 + 497);
+after38:;
+    v6 = get8(f25 + 502);
+    v9 = get8(f25 + 501);
     v11 = get8(f25 + 500);
     v14 = get8(f25 + 499);
-    v16 = get8(f25 + 502);
-    v13 = get8(f25 + 501);
-    copy(m, v25 + 24ull, v25 + 760ull, 217ull);
+    v16 = get8(f25 + 498);
+    v13 = get8(f25 + 497);
+    v10 = get64(f25 + 1544);
+    memset(f25 + 760, (int)(0u & 255u), 217);
+    v2 = v10 * 7ull;
+    if (((v25 + 760ull) - (v25 + 1320ull)) >= v2) { goto after47; }
+    if (v10 == 0) { goto after46; }
+    if (v2 == 0) { goto after46; }
+    copy(m, v25 + 760ull, v25 + 1320ull, v2);
+    goto after46;
+after47:;
+    if (v2 == 0) { goto after46; }
+    copy(m, v25 + 760ull, v25 + 1320ull, v2);
+after46:;
+    copy(m, v25 + 1040ull, v25 + 760ull, 217ull);
+    v2 = 0ull;
+    put64(f25 + 767, 0ull);
+    put64(f25 + 760, 0ull);
+    if (v15 == 0) { goto after48; }
+    copy(m, v25 + 760ull, v25 + 736ull, v15);
+after48:;
+    put64(f25 + 1311, get64(f25 + 767));
+    put64(f25 + 1304, get64(f25 + 760));
+    copy(m, v25 + 24ull, v25 + 1040ull, 217ull);
     put64(f25 + 15, get64(f25 + 1311));
     put64(f25 + 8, get64(f25 + 1304));
-    p1274 = held(m, v3, 243);
-    put_held8(p1274, 7, m, v3, (u32)v18);
-    v13 = (u32)(v13 == 1u);
-    put_held8(p1274, 6, m, v3, v13 ? v16 : 0u);
-    put_held8(p1274, 5, m, v3, v13);
-    v14 = (u32)(v14 == 1u);
-    put_held8(p1274, 4, m, v3, v14 ? v11 : 0u);
-    put_held8(p1274, 3, m, v3, v14);
-    v9 = (u32)(v9 == 1u);
-    put_held8(p1274, 2, m, v3, v9 ? v6 : 0u);
-    put_held8(p1274, 1, m, v3, v9);
-    put_held8(p1274, 0, m, v3, v12);
+    p1306 = held(m, v3, 243);
+    put_held8(p1306, 7, m, v3, (u32)v10);
+    v9 = (u32)((v9 & 255u) == 1u);
+    put_held8(p1306, 6, m, v3, v9 ? v6 : 0u);
+    put_held8(p1306, 5, m, v3, v9);
+    v6 = (u32)((v14 & 255u) == 1u);
+    put_held8(p1306, 4, m, v3, v6 ? v11 : 0u);
+    put_held8(p1306, 3, m, v3, v6);
+    v6 = (u32)((v13 & 255u) == 1u);
+    put_held8(p1306, 2, m, v3, v6 ? v16 : 0u);
+    put_held8(p1306, 1, m, v3, v6);
+    put_held8(p1306, 0, m, v3, v12);
     copy(m, v3 + 8ull, v25 + 24ull, 217ull);
-    put_held8(p1274, 225, m, v3, (u32)v19);
-    put_held8(p1274, 242, m, v3, v7);
-    v2 = 0ull;
-    put_held8(p1274, 241, m, v3, (u32)(v1 != 0ull));
-    put_held64(p1274, 226, m, v3, get64(f25 + 8));
-    put_held64(p1274, 233, m, v3, get64(f25 + 15));
+    put_held8(p1306, 225, m, v3, (u32)v15);
+    put_held8(p1306, 242, m, v3, v7);
+    put_held8(p1306, 241, m, v3, (u32)(v1 != 0ull));
+    put_held64(p1306, 226, m, v3, get64(f25 + 8));
+    put_held64(p1306, 233, m, v3, get64(f25 + 15));
     goto after2;
 after3:;
     t0 = v7 + 1u;
     v7 = v12 & 255u;
     v2 = ((((u64)(v7 ? t0 : 0u)) & 255ull) << 8) | (v7 ? 2ull : 1ull);
 after2:;
-    p1368 = held(m, v0, 16);
-    put_held64(p1368, 8, m, v0, v17);
-    put_held64(p1368, 0, m, v0, v2);
+    p1404 = held(m, v0, 16);
+    put_held64(p1404, 8, m, v0, v17);
+    put_held64(p1404, 0, m, v0, v2);
     m->g0 = v25 + 1552ull;
     return;
 after1:;
@@ -15116,18 +15122,20 @@ static void rattle_export_scard_lent_atr_reader_value(struct call *m, u64 v0, u6
     u64 v5 = 0;
     u32 v4 = 0;
     u8 *f5 = NULL;
-    u8 *p62 = NULL;
+    u8 *p73 = NULL;
     v5 = m->g0 - 32ull;
     f5 = at(m, v5, 32);
     v3 = v5;
     m->g0 = v3;
-    put64(f5 + 8, 0ull);
-    put64(f5, 0ull);
     v4 = load32(m, v1, 0);
-    c_lent_atr_atr_decode(m, v5, v1 + 4ull, (u64)((v4 < 33u) ? v4 : 33u), v2);
-    if (get8(f5)) { goto after2; }
-    put64(f5 + 23, get64(f5 + 8));
-    put64(f5 + 16, get64(f5 + 1));
+    put64(f5 + 24, 0ull);
+    put64(f5 + 16, 0ull);
+    c_lent_atr_atr_decode(m, v5 + 16ull, v1 + 4ull, (u64)((v4 < 33u) ? v4 : 33u), v2);
+    put64(f5, get64(f5 + 17));
+    put64(f5 + 7, get64(f5 + 24));
+    if (get8(f5 + 16)) { goto after2; }
+    put64(f5 + 23, get64(f5 + 7));
+    put64(f5 + 16, get64(f5));
     v4 = 0u;
     goto after1;
 after2:;
@@ -15135,10 +15143,10 @@ after2:;
     put64(f5 + 16, 0ull);
     v4 = 4u;
 after1:;
-    p62 = held(m, v0, 16);
-    put_held8(p62, 0, m, v0, v4);
-    put_held64(p62, 1, m, v0, get64(f5 + 16));
-    put_held64(p62, 8, m, v0, get64(f5 + 23));
+    p73 = held(m, v0, 16);
+    put_held8(p73, 0, m, v0, v4);
+    put_held64(p73, 1, m, v0, get64(f5 + 16));
+    put_held64(p73, 8, m, v0, get64(f5 + 23));
     m->g0 = v5 + 32ull;
 }
 
@@ -19321,7 +19329,7 @@ static u32 module_scard_version(struct call *m)
 after1:;
     rattle_export_scard_version(m);
     rattle_leave(m);
-    return 0xF4DF8u;
+    return 0xF51E0u;
 }
 
 static void rattle_export_scard_version(struct call *m)

@@ -8,7 +8,6 @@ use Rattle.hex.specs.Hex.{encode_upper, encode_with, upper_digits}
 use Rattle.octet_core.specs.declared.stop.Stop.{Stop}
 use Rattle.octet_core.specs.declared.stop.Stop.TheVariants.{Short, At}
 use Rattle.atr_core.specs.Atr.{AtrParts, announcing, goes_on, tck_of}
-use Rattle.atr_core.specs.Names.{param_fault_name}
 use Rattle.atr_core.specs.Rates.{rates_of}
 use Rattle.atr_core.specs.T1.{T1Values, t1_params_of}
 use Rattle.atr_core.specs.declared.atr.Convention.{Convention}

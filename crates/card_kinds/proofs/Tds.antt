@@ -20,7 +20,8 @@ pub first-td : (items : List ℕ) (number : ℕ) (rest : List Indicated) (otherw
 first-td items number [] otherwise octet empty some none is = absurd (omega arith)
 first-td items number (x ∷ xs) otherwise octet empty some none is =
     let after : take (suc (length xs) - 1) xs ≡ xs = take_all (suc (length xs) - 1) xs (omega arith) in
-    let goes : not empty ≡ goes_on xs = ap not (none ∙ ap (λ (l : List Indicated). length l == 0) after) ∙ more-come xs in
+    let goes : not empty ≡ goes_on xs = ap not (none ∙ ap (λ (l : List Indicated). length l == 0) after)
+    ∙ more-come xs in
     rw (after, is, goes) refl
 
 -- what holds of all holds of all but the first

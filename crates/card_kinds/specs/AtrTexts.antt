@@ -60,7 +60,8 @@ interface_text a = bytes_text 1 a.first ++ tds_text 1 a.indicated
 -- the rates, and the parameters of T=1
 abbrev pub meaning_text : AtrParts → List ℕ
 meaning_text a = codes "F " ++ (rate_or (codes "reserved") (rates_of a).0
-    ++ (codes "\nD " ++ (rate_or (codes "reserved") (rates_of a).1 ++ (codes "\nt1 " ++ (t1_text (t1_params_of a) ++ codes "\n")))))
+    ++ (codes "\nD " ++ (rate_or (codes "reserved") (rates_of a).1
+    ++ (codes "\nt1 " ++ (t1_text (t1_params_of a) ++ codes "\n")))))
 
 -- an answer to reset, line by line
 abbrev pub atr_text : AtrParts → List ℕ

@@ -112,11 +112,7 @@ fn interface_items(alloc: Global, atr: &Atr) -> Result<String, AllocError>
 }
 
 /// Adds the TDs and the interface bytes that they announce.
-fn push_tds(
-    alloc: Global,
-    items: &mut String,
-    indicated: &[Indicated],
-) -> Result<(), AllocError>
+fn push_tds(alloc: Global, items: &mut String, indicated: &[Indicated]) -> Result<(), AllocError>
     requires few { length indicated.now ≤ 31 }
     requires protocols { AllByRecursion (λ x. x.protocol < 16) indicated.now }
     ensures { OnOk result (string_bytes items.new

@@ -60,7 +60,11 @@ impl Codec for Command {
 }
 
 /// The notes on the lines of a value, where they are asked for.
-fn notes_if(alloc: Global, noted: bool, command: &CommandRef<'_>) -> Result<Vec<String>, AllocError> {
+fn notes_if(
+    alloc: Global,
+    noted: bool,
+    command: &CommandRef<'_>,
+) -> Result<Vec<String>, AllocError> {
     if noted {
         command_notes(alloc, command)
     } else {

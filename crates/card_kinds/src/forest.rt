@@ -63,7 +63,10 @@ impl Codec for Forest {
         stop: Stop<TlvReason>,
         _expected: Expected,
     ) -> Result<Vec<String>, AllocError> {
-        on_line(alloc, forest_refusal_note(alloc, octets, stop, LARGEST_FOREST))
+        on_line(
+            alloc,
+            forest_refusal_note(alloc, octets, stop, LARGEST_FOREST),
+        )
     }
 }
 

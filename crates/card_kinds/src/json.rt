@@ -31,11 +31,7 @@ pub fn object_head(alloc: Global, about: &str) -> Result<String, AllocError>
 }
 
 /// The line of an object about octets of a kind, with these members.
-pub(crate) fn object_line(
-    alloc: Global,
-    kind: Kind,
-    members: String,
-) -> Result<String, AllocError>
+pub(crate) fn object_line(alloc: Global, kind: Kind, members: String) -> Result<String, AllocError>
     ensures { IfOk result (λ text. string_bytes text
         ≡ object_line (kind_name kind) (string_bytes members)) }
 {
@@ -93,10 +89,7 @@ pub(crate) fn accepted_members(alloc: Global, taken: usize) -> Result<String, Al
 }
 
 /// The members that say why octets are refused.
-pub(crate) fn refused_members<R: Named>(
-    alloc: Global,
-    stop: Stop<R>,
-) -> Result<String, AllocError>
+pub(crate) fn refused_members<R: Named>(alloc: Global, stop: Stop<R>) -> Result<String, AllocError>
     ensures { IfOk result (λ text. string_bytes text ≡ refused_members R.text stop) }
 {
     match stop {

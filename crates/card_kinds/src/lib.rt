@@ -24,9 +24,7 @@ mod text;
 
 pub use answer::Answer;
 pub use chain::blocks;
-pub use codec::{
-    Codec, Judged, Outcome, Shown, Verdict, check_with_verdict, show_with_verdict,
-};
+pub use codec::{Codec, Judged, Outcome, Shown, Verdict, check_with_verdict, show_with_verdict};
 pub use forest::{tidy, tidy_with_verdict};
 pub use json::{kind_name, object_head};
 pub use kinds::{check, show};

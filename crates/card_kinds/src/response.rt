@@ -60,7 +60,11 @@ impl Codec for Response {
 }
 
 /// The notes on the lines of a value, where they are asked for.
-fn notes_if(alloc: Global, noted: bool, response: &ResponseRef<'_>) -> Result<Vec<String>, AllocError> {
+fn notes_if(
+    alloc: Global,
+    noted: bool,
+    response: &ResponseRef<'_>,
+) -> Result<Vec<String>, AllocError> {
     if noted {
         response_notes(alloc, response)
     } else {

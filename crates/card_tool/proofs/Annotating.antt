@@ -25,7 +25,8 @@ some-noted expected b plain lent text ended faultless shown is noted =
     }
 
 -- what has none
-pub none-noted : (expected : Expected) (b text : List ℕ) (ended : Status) → Shows Lines expected.kind expected b text ended
+pub none-noted : (expected : Expected) (b text : List ℕ) (ended : Status)
+    → Shows Lines expected.kind expected b text ended
     → ShowsNoted expected.kind expected b text ended
 none-noted expected b text ended shown = record {
   plain = text;

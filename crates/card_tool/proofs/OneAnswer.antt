@@ -82,8 +82,7 @@ line-once task small line =
     in
     record {
       one = λ t u s q h g.
-          let same = told.one h.told g.told s q h.is_told g.is_told in
-          (
+          let same = told.one h.told g.told s q h.is_told g.is_told in (
             h.is_text ∙ ap (answer_text (plain_task task) s) same.0
                 ∙ ap (λ (e : Status). answer_text (plain_task task) e g.told) same.1 ∙ sym g.is_text,
             same.1,
@@ -136,7 +135,8 @@ module _ (Line : List ℕ → List ℕ → Status → Type 0) (once : (line : Li
 one-answer : (request : Request) (file : Result (List ℕ) Fault) → IsSized request → HasOctets request
     → (NeedsOctets request → IfOk file AreOctets) → OneText (IsAnswerTo (plain_request request) file)
 one-answer (Tell task given) file sized octets as_read =
-    told-octets (IsTold (plain_task task)) (tells-once task.aim task.layout task.expected sized.1) (octets_given given file)
+    told-octets (IsTold (plain_task task)) (tells-once task.aim task.layout task.expected sized.1)
+    (octets_given given file)
     (octets-given given file octets as_read)
 one-answer (BuildChain ifs number message) file sized octets as_read =
     plain (blocks_text (chain_blocks number (cut_of ifs message)))
@@ -304,7 +304,8 @@ notes-cut (Once (SimulateLines session)) file text ended h = h
 notes-cut (Once (Help help)) file text ended h = h
 notes-cut (Once Version) file text ended h = h
 notes-cut (Lines task) (Ok b) text ended h = cut-lines task (all_lines b) text ended h
-notes-cut (Lines task) (Err fault) text ended h = (ap (plain_told task.aim task.layout) h.0 ∙ cut-fault task.aim task.layout fault, h.1)
+notes-cut (Lines task) (Err fault) text ended h =
+    (ap (plain_told task.aim task.layout) h.0 ∙ cut-fault task.aim task.layout fault, h.1)
 
 -- ---- both
 

@@ -64,11 +64,7 @@ fn file_subject(task: FileTask) -> &'static str
 }
 
 /// An answer as an object of JSON.
-pub(crate) fn in_json(
-    alloc: Global,
-    object: Object,
-    answer: Answer,
-) -> Result<Octets, AllocError>
+pub(crate) fn in_json(alloc: Global, object: Object, answer: Answer) -> Result<Octets, AllocError>
     ensures { IfOk result (λ text. text ≡ object_as object answer.status answer.text) }
 {
     match object {

@@ -102,11 +102,7 @@ fn noted_in(
 }
 
 /// The value itself with notes on its lines, and a note.
-fn noted_value(
-    alloc: Global,
-    expected: Expected,
-    octets: &[u8],
-) -> Result<WithNote, AllocError>
+fn noted_value(alloc: Global, expected: Expected, octets: &[u8]) -> Result<WithNote, AllocError>
     requires least { 1 ≤ expected.ifs }
     requires most { expected.ifs ≤ 254 }
     ensures { IfOk result (AreOf (ShowsNoted expected.kind expected octets.now)
@@ -180,7 +176,9 @@ where
         (IsNoteBy (C.codec expected) octets.now)) }
 {
     let Judged {
-        answer, verdict, ..
+        answer,
+        verdict,
+        ..
     } = check_with_verdict::<C>(alloc, layout, octets, expected)?;
     let note = verdict_note(alloc, octets, verdict, least_wanting(expected.kind, octets));
     Ok(WithNote { answer, note })
@@ -221,7 +219,9 @@ pub(crate) fn tidied(alloc: Global, octets: &[u8]) -> Result<WithNote, AllocErro
     ensures { IfOk result (AreOf (Tidies octets.now) (IsNoteBy forest_codec octets.now)) }
 {
     let Judged {
-        answer, verdict, ..
+        answer,
+        verdict,
+        ..
     } = tidy_with_verdict(alloc, octets)?;
     let note = verdict_note(alloc, octets, verdict, None);
     Ok(WithNote { answer, note })
@@ -237,7 +237,9 @@ pub(crate) fn filled(
     ensures { IfOk result (AreOf (IsFilled list.now known.now) (IsFillNote list.now known.now)) }
 {
     let Judged {
-        answer, verdict, ..
+        answer,
+        verdict,
+        ..
     } = fill_with_verdict(alloc, list, known)?;
     let note = fill_note(alloc, words, list, known, verdict);
     Ok(WithNote { answer, note })

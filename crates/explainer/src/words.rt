@@ -112,7 +112,10 @@ fn way_in(word: &str) -> &'static str {
     let octets = word.as_bytes();
     if octets.iter().any(|octet| is_blank(*octet)) || has_mark(octets) {
         "standard input takes octets with blanks or 0x: --stdin hex\n"
-    } else if octets.iter().any(|octet| matches!(*octet, b':' | b'-' | b',')) {
+    } else if octets
+        .iter()
+        .any(|octet| matches!(*octet, b':' | b'-' | b','))
+    {
         "standard input takes octets with colons, dashes or commas: --stdin source\n"
     } else if octets.iter().any(|octet| matches!(*octet, b'.' | b'/')) {
         "standard input takes a file: --stdin hex <FILE\n"

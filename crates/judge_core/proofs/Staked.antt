@@ -109,7 +109,7 @@ module _ (addressed : Bool) (e : End) (last : List ℕ) (pcb : Pcb) (inf : List 
 
   two-courses : (heard : Heard) → is_nothing heard ≡ false → (d f : After)
       → IsStaked (chosen heard d pcb (carried inf) (attempted (Some d) last pcb inf)
-          (attempted (Some f) last pcb inf)).verdict
+      (attempted (Some f) last pcb inf)).verdict
       (stakes addressed heard (fitting d (Some f) (attempted (Some d) last pcb inf) (attempted (Some f) last pcb inf)))
   two-courses heard turn d f = two-staked addressed heard turn pcb (carried inf) d f (sent d) (sent f) (known d)
 

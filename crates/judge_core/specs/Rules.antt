@@ -56,9 +56,9 @@ rule_clause rule.Silence = codes "11.6.2.3 rule 1"
 abbrev pub rules : List Rule
 rules =
     rule.NodeAddress ∷ rule.ControlOctet ∷ rule.Length ∷ rule.ReservedSize ∷ rule.FieldSize ∷ rule.Turn ∷
-        rule.ForeignRequest ∷ rule.SequenceNumber ∷ rule.BlockDue ∷ rule.AcknowledgmentDue ∷ rule.ErrorCode ∷
-        rule.RepeatDue ∷ rule.RepeatedOctets ∷ rule.CorrectionDue ∷ rule.RequestDue ∷ rule.ResponseDue ∷
-        rule.ResponseOctet ∷ rule.Unasked ∷ rule.NoChain ∷ rule.EarlyResynch ∷ rule.TooManyRepeats ∷ rule.Silence ∷ []
+    rule.ForeignRequest ∷ rule.SequenceNumber ∷ rule.BlockDue ∷ rule.AcknowledgmentDue ∷ rule.ErrorCode ∷
+    rule.RepeatDue ∷ rule.RepeatedOctets ∷ rule.CorrectionDue ∷ rule.RequestDue ∷ rule.ResponseDue ∷
+    rule.ResponseOctet ∷ rule.Unasked ∷ rule.NoChain ∷ rule.EarlyResynch ∷ rule.TooManyRepeats ∷ rule.Silence ∷ []
 
 -- the place of a rule among them, from 0
 abbrev pub rule_place : Rule → ℕ

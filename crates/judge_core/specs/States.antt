@@ -51,8 +51,8 @@ state_name state.Any = codes "any block"
 abbrev pub states : List State
 states =
     state.Message ∷ state.Chain ∷ state.Acknowledgment ∷ state.Repeat ∷ state.Correction ∷ state.Refusal ∷ state.Request
-        ∷ state.Resynch ∷ state.Size ∷ state.Abort ∷ state.Time ∷ state.AfterAbort ∷ state.MessageOrCorrection ∷
-        state.MessageOrRefusal ∷ state.AcknowledgmentOrRefusal ∷ state.Any ∷ []
+    ∷ state.Resynch ∷ state.Size ∷ state.Abort ∷ state.Time ∷ state.AfterAbort ∷ state.MessageOrCorrection ∷
+    state.MessageOrRefusal ∷ state.AcknowledgmentOrRefusal ∷ state.Any ∷ []
 
 -- the place of a state among them, from 0
 abbrev pub state_place : State → ℕ

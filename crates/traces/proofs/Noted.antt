@@ -1,5 +1,5 @@
 -- Notes before lines change neither what an end replays, nor which blocks arrive, nor whether lines may come in a file.
-use Rattle.std.proofs.Common.{◌≡◌, ◌∙◌, ap, sym, refl, subst, ℕ, ◌+◌, nat_eq, List, [], ◌∷◌, ◌++◌, Bool, true, false, ◌&&◌, if◌then◌else◌, Option, Some, None, Result, Ok, Err, arith, length, ◌==◌}
+use Rattle.std.proofs.Common.{◌≡◌, ◌∙◌, ap, sym, refl, subst, ℕ, ◌+◌, nat_eq, List, [], ◌∷◌, ◌++◌, Bool, true, false, if◌then◌else◌, Option, Some, None, Result, Ok, Err, arith, length, ◌==◌}
 use Rattle.std.proofs.lemmas.Bool.Decides.{Decides-eqb}
 use Rattle.exchange_text.specs.Exchange.{added_note, are_proper, may_follow, moment_after}
 use Rattle.exchange_text.specs.declared.exchange.Version.{Version}
@@ -8,7 +8,7 @@ use Rattle.exchange_text.specs.declared.line.Line.{Line}
 use Rattle.exchange_text.specs.declared.line.Line.TheVariants as line
 use Rattle.exchange_text.proofs.Naming.{both}
 use Rattle.exchange_text.proofs.Sequel.{both-true}
-use Rattle.exchange_core.specs.Replay.{End, Role, passes, goes_on, replay_from, replay_line, replay_lines, terminal_end, card_end}
+use Rattle.exchange_core.specs.Replay.{End, passes, goes_on, replay_from, replay_line, replay_lines, terminal_end, card_end}
 use Rattle.exchange_core.specs.declared.replaying.Side.{Side}
 use Rattle.exchange_core.specs.declared.replaying.Side.TheVariants.{Terminal, Card}
 use Rattle.traces.specs.declared.trace.Item.{Item}

@@ -1,5 +1,5 @@
 -- The exchange that is recorded of what was seen on a line.
-use Rattle.std.specs.Prelude.{◌≡◌, ℕ, List, [], ◌∷◌, Option, Some, None, Result, Ok, Err}
+use Rattle.std.specs.Prelude.{◌≡◌, ℕ, List, [], ◌∷◌, Some, None, Result, Ok, Err}
 use Rattle.exchange_text.specs.Exchange.{ExchangeParts}
 use Rattle.exchange_text.specs.declared.exchange.Version.{Version}
 use Rattle.exchange_text.specs.declared.exchange.Version.TheVariants.{One, Two}

@@ -1,4 +1,4 @@
-use Rattle.std.proofs.Common.{◌∙◌, ◌≡◌, ◌+◌, ◌<◌, ◌-◌, List, ℕ, ap, arith, drop, length, rules, take}
+use Rattle.std.proofs.Common.{◌∙◌, ◌+◌, ◌<◌, ◌-◌, List, ℕ, ap, drop, length, rules, take}
 use Rattle.atr_core.specs.declared.atr.Indicated.{Indicated}
 use Rattle.card_kinds.specs.AtrTexts.{with_tds}
 use Rattle.card_kinds.proofs.Tds.{all-after, first-td}

@@ -7,7 +7,8 @@ use Rattle.card_kinds.proofs.forest.members.Goals as goal
 
 pub returns : goal.returns
 returns c =
-    let count : length (map part_seen c.args.parts.now) ≡ length c.args.parts.now = length-map c.args.parts.now part_seen
+    let count : length (map part_seen c.args.parts.now) ≡ length c.args.parts.now =
+    length-map c.args.parts.now part_seen
     in
     let head : c.as_str.result.now ≡ objects_head (length c.args.parts.now) =
     c.as_str.ensures.value ∙ c.in_ok-head.ensures.ok in

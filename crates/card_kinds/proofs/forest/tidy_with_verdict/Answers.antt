@@ -14,7 +14,8 @@ returns-in_ok-tidied-in-Ok c = record {
 
 pub returns-in_ok-answer-in-Err-Stop : goal.returns-in_ok-answer-in-Err-Stop
 returns-in_ok-answer-in-Err-Stop c = record {
-  told = is-refused forest_codec (λ v n. tidied_text v) refused_text c.args.octets.now forest_codec.name c.in-Err-Stop.field-0
+  told = is-refused forest_codec (λ v n. tidied_text v) refused_text c.args.octets.now forest_codec.name
+      c.in-Err-Stop.field-0
       c.in-Err-Stop.stop _ _ refl c.in-Err-Stop.field-0-is c.in-Err-Stop.ensures.refused
       c.in_ok-answer-in-Err-Stop.ensures.text c.in_ok-answer-in-Err-Stop.ensures.status;
   verdict = of-stop forest_codec c.args.octets.now c.in-Err-Stop.field-0 c.in-Err-Stop.stop c.in-Err-Stop.field-0-is

@@ -1,5 +1,4 @@
-use Rattle.std.proofs.Common.{◌≡◌, ◌∙◌, List, ap, sym, subst, true}
-use Rattle.exchange_text.specs.Exchange.{are_proper}
+use Rattle.std.proofs.Common.{◌≡◌, List, sym, subst, true}
 use Rattle.traces.specs.Rising.{rises}
 use Rattle.traces.specs.declared.trace.Item.{Item}
 use Rattle.traces.proofs.Noted.{noted-proper}

@@ -18,5 +18,5 @@ returns-clause-said c =
       told = told-by _ c.args.self.now _ _ _ c.block-report.new.self c.args.from _ c.exercise-exercise.result
           c.block-report.result _ _ c.self.view_is
           c.timed-self-inside.ensures c.cover.ensures.said c.in_ok-report.ensures.said c.late_from-late.ensures
-              c.in_ok-late.ensures.said;
+          c.in_ok-late.ensures.said;
     })
