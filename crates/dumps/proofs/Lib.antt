@@ -5,4 +5,5 @@ pub mod Sources
 pub mod SourceOctets
 pub mod NoSource
 pub mod Readings
+pub mod Stops
 pub mod Tabs

@@ -4,6 +4,7 @@ pub mod Words
 pub mod OctalWords
 pub mod Editor
 pub mod Dump
+pub mod DumpStop
 pub mod Taking
 pub mod Turns
 pub mod Heads

@@ -1,8 +1,10 @@
 //! The lines of a dump, taken one after another.
 
-ghost use Rattle.std.specs.Prelude.{◌≡◌, ◌++◌, [], Some, IfOk, length, option_map};
+ghost use Rattle.std.specs.Prelude.{◌≡◌, ◌++◌, [], Some, Ok, Err, IfOk, IfSome, IfNone, option_map};
 ghost use Rattle.dumps.specs.Dump.{bare_row, copies, counted, ended, headed_row, is_heading, is_next, is_offset, line_of, nothing_taken, row_after, starred, style_of, up_to, with_address, with_line, with_octets, with_rest, with_row, Becomes, ComesTo};
+ghost use Rattle.dumps.specs.DumpStop.{is_reached};
 ghost use Rattle.dumps.specs.Taking.{taken};
+ghost use Rattle.dumps.specs.declared.fault.DumpFault.TheVariants.{Form};
 ghost use Rattle.dumps.specs.declared.line.Before.TheVariants as before;
 
 use crate::base::Base;
@@ -67,11 +69,22 @@ impl Dump {
         }
     }
 
-    /// How many octets the lines so far gave.
-    pub(crate) fn count(&self) -> usize
-        ensures { result ≡ length self.now.octets.items }
+    /// The base in which its offsets are.
+    pub(crate) fn base(&self) -> Base
+        ensures { result ≡ self.now.base }
     {
-        self.octets.len()
+        self.base
+    }
+
+    /// Whether it goes on at this offset: the one of the octets so far, or after `*` one up to which rows are repeated.
+    pub(crate) fn reaches(&self, at: usize) -> bool
+        ensures { result ≡ is_reached (up_to at self.now.before (taken self.now)) }
+    {
+        match self.before {
+            Before::Star => self.copies_to(at).is_some(),
+            Before::End | Before::Row(Style::Bare | Style::Gdb) => false,
+            Before::Nothing | Before::Heading | Before::Row(_) => self.is_next(at),
+        }
     }
 
     /// Takes one more line, without its end. One that doesn't go on the dump is `Form`.
@@ -149,7 +162,7 @@ impl Dump {
     }
 
     /// Repeats the last row up to an offset, where a `*` asks for that. Else the offset is that of the octets.
-    pub(crate) fn come_to(&mut self, at: usize) -> Result<(), DumpFault>
+    fn come_to(&mut self, at: usize) -> Result<(), DumpFault>
         ensures { ComesTo (up_to at self.old.before (taken self.old)) (taken self.old)
             (taken self.new) result }
     {
@@ -170,13 +183,25 @@ impl Dump {
         ensures { ComesTo (up_to at before.Star (taken self.old)) (taken self.old) (taken self.new)
             result }
     {
+        let Some(count) = self.copies_to(at) else {
+            return Err(DumpFault::Form);
+        };
+        self.copy(count)?;
+        Ok(())
+    }
+
+    /// How many copies of the last row are missing up to an offset, at least one; `None` where it is no such offset.
+    fn copies_to(&self, at: usize) -> Option<usize>
+        ensures some { IfSome result (λ count. up_to at before.Star (taken self.now)
+            ≡ Ok (self.now.octets.items ++ copies count self.now.row.items)) }
+        ensures none { IfNone result (up_to at before.Star (taken self.now) ≡ Err Form) }
+    {
         let count = at.saturating_sub(self.start);
         let more = count.saturating_sub(self.octets.len());
         if count > MOST || more == 0 || more % WHOLE != 0 {
-            return Err(DumpFault::Form);
+            return None;
         }
-        self.copy(more / WHOLE)?;
-        Ok(())
+        Some(more / WHOLE)
     }
 
     /// Adds so many copies of the last row.
