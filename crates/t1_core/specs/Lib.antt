@@ -11,4 +11,5 @@ pub mod CardViews
 pub mod Sending
 pub mod Put
 pub mod Awaited
+pub mod Shown
 pub mod Names

@@ -22,7 +22,7 @@ use std::marker::Model;
 /// A card and its host's side of it. Contracts see its state, `CardState` in `specs/Card.antt`, and each
 /// call does what `card_turn` says there; a refused call changes nothing (ISO/IEC 7816-3, clause 11.6).
 ///
-/// Where a card is dropped, its buffers are overwritten before their memory is given back.
+/// Dropping a card overwrites its buffers before it frees their memory.
 #[derive(Drop)]
 pub struct Card {
     state: LentCard,

@@ -1,4 +1,4 @@
-//! Whether a lent end is one with buffers of these sizes: for one that was kept where anything may have written to it.
+//! Whether a lent end fits buffers of given sizes: for an end that something else may have written to.
 
 ghost use Rattle.std.specs.Prelude.{◌≡◌, true};
 ghost use Rattle.t1_core.specs.Views.{IsLentTerminal, IsSize, IsInner, IsLast, IsWait};

@@ -20,6 +20,7 @@ pub mod laws;
 mod lent;
 mod replying;
 mod sending;
+mod shown;
 pub mod terminal;
 pub mod turns;
 

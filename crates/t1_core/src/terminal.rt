@@ -32,7 +32,7 @@ pub const MOST_RESYNCHS: u8 = 3;
 /// The terminal of one card. Contracts see its state, `TerminalState` in `specs/Terminal.antt`, and each
 /// call does what `terminal_turn` says there; a refused call changes nothing (ISO/IEC 7816-3, clause 11.6).
 ///
-/// Where a terminal is dropped, its buffers are overwritten before their memory is given back.
+/// Dropping a terminal overwrites its buffers before it frees their memory.
 #[derive(Drop)]
 pub struct Terminal {
     state: LentTerminal,

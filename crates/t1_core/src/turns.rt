@@ -7,7 +7,7 @@ use crate::sending::Short;
 use block_core::{Block, Pcb, S};
 use octet_core::Named;
 use std::error::Error;
-use std::fmt::{self, Display, Formatter, Write};
+use std::fmt::{self, Debug, Display, Formatter, Write};
 
 /// What the terminal does next.
 #[derive(Debug, PartialEq, Eq, Drop)]
@@ -25,7 +25,7 @@ pub enum TerminalTurn {
 }
 
 impl TerminalTurn {
-    /// How many block waiting times may go by after this turn before the terminal is told `quiet`: the
+    /// How many block waiting times may go by after this turn before `quiet` is called: the
     /// multiple that the card asked for where this turn grants it, else 1. A multiple of 0 counts as 1.
     ///
     /// One such time is `T1Params::bwt` (ISO/IEC 7816-3, clause 11.4).
@@ -170,7 +170,7 @@ impl Display for CardFault {
 impl Error for CardFault {}
 
 /// What the terminal waits for, without the octets that it holds.
-#[derive(Clone, Copy, Debug, PartialEq, Eq)]
+#[derive(Clone, Copy, PartialEq, Eq)]
 pub enum TerminalAwaits {
     /// A call: nothing is under way.
     Call,
@@ -189,8 +189,27 @@ pub enum TerminalAwaits {
     Nothing,
 }
 
+impl Debug for TerminalAwaits {
+    ghost use Rattle.std.specs.Prelude.{Some};
+    ghost use Rattle.t1_core.specs.Shown.{terminal_awaits_text};
+
+    ghost debug_output = { λ awaits. Some (terminal_awaits_text awaits) };
+
+    fn fmt<W: Write>(&self, f: &mut Formatter<W>) -> fmt::Result {
+        match self {
+            TerminalAwaits::Call => f.write_str("Call"),
+            TerminalAwaits::Acknowledgement => f.write_str("Acknowledgement"),
+            TerminalAwaits::Answer => f.write_str("Answer"),
+            TerminalAwaits::MoreAnswer => f.write_str("MoreAnswer"),
+            TerminalAwaits::Size(size) => write!(f, "Size({size})"),
+            TerminalAwaits::Resynch(asked) => write!(f, "Resynch({asked})"),
+            TerminalAwaits::Nothing => f.write_str("Nothing"),
+        }
+    }
+}
+
 /// What the card waits for, without the octets that it holds.
-#[derive(Clone, Copy, Debug, PartialEq, Eq)]
+#[derive(Clone, Copy, PartialEq, Eq)]
 pub enum CardAwaits {
     /// An I-block of a command.
     Command,
@@ -202,6 +221,23 @@ pub enum CardAwaits {
     Size(u8),
     /// The response to its host's request for this multiple of the waiting time.
     Time(u8),
+}
+
+impl Debug for CardAwaits {
+    ghost use Rattle.std.specs.Prelude.{Some};
+    ghost use Rattle.t1_core.specs.Shown.{card_awaits_text};
+
+    ghost debug_output = { λ awaits. Some (card_awaits_text awaits) };
+
+    fn fmt<W: Write>(&self, f: &mut Formatter<W>) -> fmt::Result {
+        match self {
+            CardAwaits::Command => f.write_str("Command"),
+            CardAwaits::Host => f.write_str("Host"),
+            CardAwaits::Acknowledgement => f.write_str("Acknowledgement"),
+            CardAwaits::Size(size) => write!(f, "Size({size})"),
+            CardAwaits::Time(multiple) => write!(f, "Time({multiple})"),
+        }
+    }
 }
 
 /// Where the I-block under way begins in its message, and the information size under which it was cut.

@@ -1,13 +1,15 @@
-//! What a driver, and whoever looks at a session that hangs, reads of the card: never an octet of a message
-//! but the command that its host owes the reply to.
+//! The state of a card, for a driver and for whoever looks at a session that hangs. It shows no octet of a message,
+//! but for the command that its host owes the reply to.
 
-ghost use Rattle.std.specs.Prelude.{◌≡◌, ◌≤◌, List, ℕ, length};
+ghost use Rattle.std.specs.Prelude.{◌≡◌, ◌≤◌, ◌+◌, List, ℕ, length, is_some};
 ghost use Rattle.t1_core.specs.Views.{IsSlice};
-ghost use Rattle.t1_core.specs.CardViews.{card_held, owed};
+ghost use Rattle.t1_core.specs.CardViews.{card_held, owed, taken_of};
+ghost use Rattle.t1_core.specs.Shown.{octets_of_reply};
 ghost use Rattle.t1_core.specs.Awaited.{awaited_by_card, card_awaits_block};
 
 use crate::card::Card;
 use crate::lent::LentCard;
+use crate::shown::{CardMessages, Sizes};
 use crate::turns::{CardAsked, CardAwaits, CardWait};
 use std::fmt;
 
@@ -101,20 +103,76 @@ impl LentCard {
     }
 }
 
+impl Card {
+    /// How many octets of a command it holds.
+    fn command_octets(&self) -> usize
+        ensures { result ≡ length self.now.command + length (taken_of self.now.waits) }
+    {
+        self.command.as_slice()[..self.state.command_len].len()
+    }
+
+    /// How many octets of the reply the terminal has yet to acknowledge, while its last block isn't sent.
+    fn reply_octets(&self) -> usize
+        ensures { result ≡ octets_of_reply self.now }
+    {
+        match self.state.wait {
+            CardWait::Reply(cut) => self.state.reply_len - cut.place,
+            CardWait::Command | CardWait::Joining | CardWait::Host | CardWait::Asking(_) => 0,
+        }
+    }
+
+    /// Whether it keeps its last I-block.
+    fn is_saved(&self) -> bool
+        ensures { result ≡ is_some self.now.saved }
+    {
+        self.state.saved.is_some()
+    }
+
+    /// The numbers and the sizes that it prints.
+    fn sizes(&self) -> Sizes
+        ensures number { result.number ≡ self.now.number }
+        ensures expected { result.expected ≡ self.now.expected }
+        ensures ifsc { result.ifsc ≡ self.now.ifsc }
+        ensures ifsd { result.ifsd ≡ self.now.ifsd }
+    {
+        Sizes {
+            number: self.state.number,
+            expected: self.state.expected,
+            ifsc: self.state.ifsc,
+            ifsd: self.state.ifsd,
+        }
+    }
+
+    /// What it prints of its messages.
+    fn messages(&self) -> CardMessages
+        ensures command { result.command ≡ length self.now.command + length
+            (taken_of self.now.waits) }
+        ensures reply { result.reply ≡ octets_of_reply self.now }
+        ensures is_saved { result.is_saved ≡ is_some self.now.saved }
+        ensures most_command { result.most_command ≡ self.now.limits.command }
+        ensures most_reply { result.most_reply ≡ self.now.limits.answer }
+    {
+        CardMessages {
+            command: self.command_octets(),
+            reply: self.reply_octets(),
+            is_saved: self.is_saved(),
+            most_command: self.most_command(),
+            most_reply: self.most_reply(),
+        }
+    }
+}
+
 /// States, sizes, limits and how many octets are held. A command may carry a PIN, so no octet is shown.
 impl fmt::Debug for Card {
+    ghost use Rattle.std.specs.Prelude.{Some};
+    ghost use Rattle.t1_core.specs.Shown.{card_text};
+
+    ghost debug_output = { λ c. Some (card_text c) };
+
     fn fmt<W: fmt::Write>(&self, f: &mut fmt::Formatter<W>) -> fmt::Result {
-        f.debug_struct("Card")
-            .field("awaits", &self.awaits())
-            .field("number", &self.state.number)
-            .field("expected", &self.state.expected)
-            .field("ifsc", &self.state.ifsc)
-            .field("ifsd", &self.state.ifsd)
-            .field("command_octets", &self.state.command_len)
-            .field("reply_octets", &self.state.reply_len)
-            .field("is_saved", &self.state.saved.is_some())
-            .field("most_command", &self.state.most_command)
-            .field("most_reply", &self.state.most_reply)
-            .finish()
+        let awaits = self.awaits();
+        let sizes = self.sizes();
+        let messages = self.messages();
+        write!(f, "Card {{ awaits: {awaits:?}, {sizes}, {messages} }}")
     }
 }

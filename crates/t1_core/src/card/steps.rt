@@ -79,7 +79,7 @@ impl LentCard {
         Ok(CardAct::Send(next.sent))
     }
 
-    /// The host wants more waiting time.
+    /// The host asks for more waiting time.
     pub(super) fn asks_time(
         &mut self,
         command_buffer: &[u8],
@@ -100,7 +100,7 @@ impl LentCard {
         Ok(CardAct::Send(Sent::Other(request.block())))
     }
 
-    /// The host wants the card to take fields of this size.
+    /// The host asks the card to take fields of this size.
     pub(super) fn asks_ifs(
         &mut self,
         command_buffer: &[u8],

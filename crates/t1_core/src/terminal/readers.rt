@@ -1,11 +1,13 @@
-//! What a driver, and whoever looks at a session that hangs, reads of the terminal: never an octet of a
+//! The state of a terminal, for a driver and for whoever looks at a session that hangs. It shows no octet of a
 //! message.
 
-ghost use Rattle.std.specs.Prelude.{◌≡◌, ◌≤◌, List, ℕ, length};
+ghost use Rattle.std.specs.Prelude.{◌≡◌, ◌≤◌, List, ℕ, length, is_some};
 ghost use Rattle.t1_core.specs.Views.{terminal_held, IsSlice};
+ghost use Rattle.t1_core.specs.Shown.{octets_of_answer};
 ghost use Rattle.t1_core.specs.Awaited.{awaited_by_terminal, terminal_awaits_block, is_dead};
 
 use crate::lent::LentTerminal;
+use crate::shown::{Sizes, TerminalMessages};
 use crate::terminal::Terminal;
 use crate::turns::{TerminalAwaits, TerminalWait};
 use std::fmt;
@@ -126,21 +128,86 @@ impl LentTerminal {
     }
 }
 
+impl Terminal {
+    /// How many octets of a command it holds.
+    fn command_octets(&self) -> usize
+        ensures { result ≡ length self.now.command }
+    {
+        self.command.as_slice()[..self.state.command_len].len()
+    }
+
+    /// How many octets of the answer came so far, or of the whole answer while there is one.
+    fn answer_octets(&self) -> usize
+        ensures { result ≡ octets_of_answer self.now.answered self.now.waits }
+    {
+        let held = self.answer.as_slice()[..self.state.answer_len].len();
+        match self.state.wait {
+            _ if self.state.is_answered => held,
+            TerminalWait::More => held,
+            TerminalWait::Idle
+            | TerminalWait::Ack(_)
+            | TerminalWait::Answer(_)
+            | TerminalWait::Ifs(_)
+            | TerminalWait::Resynch(_)
+            | TerminalWait::Dead => 0,
+        }
+    }
+
+    /// Whether there is a whole answer.
+    fn is_answered(&self) -> bool
+        ensures { result ≡ is_some self.now.answered }
+    {
+        self.state.is_answered
+    }
+
+    /// The numbers and the sizes that it prints.
+    fn sizes(&self) -> Sizes
+        ensures number { result.number ≡ self.now.number }
+        ensures expected { result.expected ≡ self.now.expected }
+        ensures ifsc { result.ifsc ≡ self.now.ifsc }
+        ensures ifsd { result.ifsd ≡ self.now.ifsd }
+    {
+        Sizes {
+            number: self.state.number,
+            expected: self.state.expected,
+            ifsc: self.state.ifsc,
+            ifsd: self.state.ifsd,
+        }
+    }
+
+    /// What it prints of its messages.
+    fn messages(&self) -> TerminalMessages
+        ensures command { result.command ≡ length self.now.command }
+        ensures answer { result.answer ≡ octets_of_answer self.now.answered self.now.waits }
+        ensures is_answered { result.is_answered ≡ is_some self.now.answered }
+        ensures most_command { result.most_command ≡ self.now.limits.command }
+        ensures most_answer { result.most_answer ≡ self.now.limits.answer }
+    {
+        TerminalMessages {
+            command: self.command_octets(),
+            answer: self.answer_octets(),
+            is_answered: self.is_answered(),
+            most_command: self.most_command(),
+            most_answer: self.most_answer(),
+        }
+    }
+}
+
 /// States, sizes, limits and how many octets are held. A command may carry a PIN, so no octet is shown.
 impl fmt::Debug for Terminal {
+    ghost use Rattle.std.specs.Prelude.{Some};
+    ghost use Rattle.t1_core.specs.Shown.{terminal_text};
+
+    ghost debug_output = { λ t. Some (terminal_text t) };
+
     fn fmt<W: fmt::Write>(&self, f: &mut fmt::Formatter<W>) -> fmt::Result {
-        f.debug_struct("Terminal")
-            .field("awaits", &self.awaits())
-            .field("failures", &self.state.failures)
-            .field("number", &self.state.number)
-            .field("expected", &self.state.expected)
-            .field("ifsc", &self.state.ifsc)
-            .field("ifsd", &self.state.ifsd)
-            .field("command_octets", &self.state.command_len)
-            .field("answer_octets", &self.state.answer_len)
-            .field("is_answered", &self.state.is_answered)
-            .field("most_command", &self.state.most_command)
-            .field("most_answer", &self.state.most_answer)
-            .finish()
+        let awaits = self.awaits();
+        let failures = self.failures();
+        let sizes = self.sizes();
+        let messages = self.messages();
+        write!(
+            f,
+            "Terminal {{ awaits: {awaits:?}, failures: {failures}, {sizes}, {messages} }}"
+        )
     }
 }

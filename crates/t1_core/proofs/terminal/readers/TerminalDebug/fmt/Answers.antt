@@ -1,0 +1,19 @@
+use Rattle.t1_core.proofs.terminal.readers.TerminalDebug.fmt.Goals as goal
+
+pub returns : goal.returns
+returns g c = record {
+  writes = λ plain ok. rw (
+    ← c.awaits-awaits.ensures,
+    ← c.failures-failures.ensures,
+    ← c.sizes-sizes.ensures.number,
+    ← c.sizes-sizes.ensures.expected,
+    ← c.sizes-sizes.ensures.ifsc,
+    ← c.sizes-sizes.ensures.ifsd,
+    ← c.messages-messages.ensures.command,
+    ← c.messages-messages.ensures.answer,
+    ← c.messages-messages.ensures.is_answered,
+    ← c.messages-messages.ensures.most_command,
+    ← c.messages-messages.ensures.most_answer,
+  )
+      (c.write.ensures.writes plain ok);
+}
