@@ -11,6 +11,8 @@ use Rattle.line_core.specs.declared.line.Received.TheVariants.{Octets, Nothing}
 use Rattle.line_core.specs.Line.{Arrival, block, nothing, failure, Talk}
 use Rattle.line_core.specs.Service.{Event}
 use Rattle.line_core.specs.Service as at_card
+use Rattle.line_core.specs.declared.streaming.AfterRead.{AfterRead}
+use Rattle.line_core.specs.declared.streaming.AfterRead.TheVariants.{More, Over}
 use Rattle.line_core.specs.declared.streaming.UntimedLine.{UntimedLine}
 
 -- The octets that are left to read and those that were written, where they are known, and how many calls of the reader
@@ -53,6 +55,11 @@ abbrev pub IsBrokenOff : ℕ → Error → Result Received Error → Type 0
 IsBrokenOff count fault (Ok (Octets heard)) = (heard ≡ count) × (0 < count)
 IsBrokenOff count fault (Ok Nothing) = (count ≡ 0) × IsSilence (error_kind fault)
 IsBrokenOff count fault (Err own) = (own ≡ fault) × (count ≡ 0) × (IsSilence (error_kind fault) → ⊥)
+
+-- No more octets of the block come, by an error for which P holds.
+abbrev pub EndsBlock : ℕ → (Error → Type 0) → AfterRead → Type 0
+EndsBlock count P (More more) = ⊥
+EndsBlock count P (Over heard) = (fault : Error) × P fault × IsBrokenOff count fault heard
 
 -- The reader ended, and no call of it failed.
 abbrev pub HasEnded : ℕ → ℕ → Option (List ℕ) → Type 0

@@ -35,8 +35,8 @@ pub fn exchange_command<L: TerminalLine>(
     send_command(terminal, line, &buffer[..count], most_blocks)
 }
 
-/// The response that the terminal's answer is, after [`exchange_command`] or [`resume`](crate::resume), or
-/// why it is none; `None` where the terminal has no answer. Its data field is lent from the answer.
+/// The terminal's answer after [`exchange_command`] or [`resume`](crate::resume), decoded as a response, or why
+/// it isn't one; `None` where the terminal has no answer. The data field is lent from the answer.
 pub fn response_of(terminal: &Terminal) -> Option<Result<ResponseRef<'_>, Stop<ResponseReason>>>
     ensures { IsResponseOf terminal.now.answered result }
 {

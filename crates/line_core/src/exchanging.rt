@@ -22,8 +22,8 @@ pub const LONGEST_ARRIVAL: usize = 259;
 /// Sends a command over the line and gives the answer, which the terminal lends (ISO/IEC 7816-3, clause
 /// 11.6). It has at most 65,538 octets.
 ///
-/// Each block that the terminal's table says is sent, and nothing else; what comes after it is told to the
-/// terminal, until the table says how the exchange ends. At most `most_blocks` blocks are sent: a card may
+/// The call sends each block that the terminal's table gives, and nothing else. It passes what comes after a block to
+/// the terminal, until the table ends the exchange. At most `most_blocks` blocks are sent: a card may
 /// ask for more time again and again. One that takes no such requests, and loses nothing, needs a block for
 /// each information field of the command and of the answer.
 ///
@@ -69,8 +69,8 @@ pub fn ask_ifs<L: TerminalLine>(
     run(terminal, line, first, &mut out, most_blocks)
 }
 
-/// Goes on with an exchange, or a question about a size, that a line's failure or the budget cut short: the
-/// terminal is told that nothing came, and asks for the block that it waits for again. At `Ok` an exchange
+/// Goes on with an exchange, or a question about a size, that a line's failure or the budget cut short. The call tells
+/// the terminal that nothing came, and the terminal asks again for the block that it waits for. At `Ok` an exchange
 /// has its answer, which [`Terminal::answer`] lends.
 ///
 /// So it counts as one more failure of the line; where that is the fourth in a row, both ends are

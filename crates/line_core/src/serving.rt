@@ -17,8 +17,8 @@ use t1_core::{Card, CardFault, EncodedCardTurn};
 
 /// The line of a card: what a card, or a simulator of one, has.
 ///
-/// Contracts see what was on it since it was another line, as of a [`TerminalLine`](crate::TerminalLine). A line of which nothing is
-/// known, such as a device, has for `said` what always holds, `λ _ _ _. Unit {0}`.
+/// Contracts see what was on it since it was another line, as of a [`TerminalLine`](crate::TerminalLine). A line of which
+/// nothing is known, such as a device, has for `said` what always holds, `λ _ _ _. Unit {0}`.
 pub trait CardLine {
     /// These may be the events that were on the line since it was another line (the second).
     ghost said: { Self → Self → List Event → Type 0 };
@@ -96,8 +96,8 @@ impl From<CardFault> for ServeFault {
 /// Serves what comes over the line to a card, by its host, until the line says that no more comes (ISO/IEC
 /// 7816-3, clause 11.6).
 ///
-/// What comes is told to the card. The block that its table says is sent, and nothing else; where the table
-/// says that a command is complete, the host acts on it once and its reply is handed over. At most
+/// The call passes what comes to the card. It sends the block that the card's table gives, and nothing else. Where the
+/// table says that a command is complete, the host acts on it once, and the call passes its reply to the card. At most
 /// `most_blocks` blocks are waited for. After `UsedUp` each is answered, and a further call goes on.
 ///
 /// `Line` comes where the line fails: as it waits, or as it sends, and then the block that wasn't sent is

@@ -4,9 +4,10 @@ ghost use Rattle.std.specs.Prelude.{◌≡◌, ◌≢◌, ◌≤◌, ◌<◌, �
 ghost use Rattle.octet_core.specs.Failures.{Counts, ReadFails, HasFailed, next_count, most_failures};
 ghost use Rattle.std.specs.IoError.{error_kind};
 ghost use Rattle.std.specs.Io.KnownBytes.{Consumes, Appends, IsAtEnd};
+ghost use Rattle.line_core.specs.declared.streaming.AfterRead.TheVariants.{More};
 ghost use Rattle.line_core.specs.Line.{Adds, FitsRoom, arrival_of};
 ghost use Rattle.line_core.specs.Service.{Happens, came, sending};
-ghost use Rattle.line_core.specs.Streams.{Moves, Carries, HasCarried, HasServed, IsBrokenOff, IsFramed, IsHeard, IsTold, IsWholeBlock, MovesOn, came_of, wire_of, source_of, sink_of};
+ghost use Rattle.line_core.specs.Streams.{EndsBlock, Moves, Carries, HasCarried, HasServed, IsBrokenOff, IsFramed, IsHeard, IsTold, IsWholeBlock, MovesOn, came_of, wire_of, source_of, sink_of};
 
 use crate::line::{Received, TerminalLine};
 use crate::serving::CardLine;
@@ -38,7 +39,8 @@ use std::io::{self, ErrorKind};
 /// has to wait for the next block as long as it takes, and to time out only where no more comes.
 ///
 /// Contracts see what each call wrote and read, and which of it was whole, by the calls of the reader and the
-/// writer that failed: `said` has it of every talk, so the clauses of `exchange` and `serve` do.
+/// writer that failed: `said` has it of every talk, so the clauses of `exchange` and `serve` do. They don't see by
+/// which error a call failed, since a `Source` doesn't state it.
 #[derive(Debug, Drop)]
 pub struct UntimedLine<R, W> {
     source: R,
@@ -191,13 +193,21 @@ fn read_block<R: Source>(source: &mut R, room: &mut [u8]) -> io::Result<Received
 {
     let mut count = 0;
     while count < end_of(&room[..count]) {
-        match read_more(source, room, count) {
-            Ok(0) => return broken_off(count, ErrorKind::UnexpectedEof.into()),
-            Ok(more) => count += more,
-            Err(fault) => return broken_off(count, fault),
+        match after_read(count, read_more(source, room, count)) {
+            AfterRead::More(more) => count += more,
+            AfterRead::Over(heard) => return heard,
         }
     }
     Ok(Received::Octets(count))
+}
+
+/// What one call of the reader leads to.
+#[derive(Drop)]
+enum AfterRead {
+    /// So many octets more came, at least one.
+    More(usize),
+    /// No more octets of the block come, and this is heard of it.
+    Over(io::Result<Received>),
 }
 
 /// Reads octets of the block by one call, after those at the front of the buffer.
@@ -216,6 +226,21 @@ fn read_more<R: Source>(source: &mut R, room: &mut [u8], count: usize) -> io::Re
 {
     let end = end_of(&room[..count]);
     source.read(&mut room[count..end])
+}
+
+/// What a call of the reader leads to, where `count` octets of the block came before it. The end of its octets
+/// counts as the error `UnexpectedEof`.
+fn after_read(count: usize, read: io::Result<usize>) -> AfterRead
+    ensures more { IfOk read (λ more. more ≢ 0 → result ≡ More more) }
+    ensures ended { IfOk read (λ more. more ≡ 0
+        → EndsBlock count (λ fault. error_kind fault ≡ ErrorKind.UnexpectedEof) result) }
+    ensures failed { IfErr read (λ fault. EndsBlock count (λ own. own ≡ fault) result) }
+{
+    match read {
+        Ok(0) => AfterRead::Over(broken_off(count, ErrorKind::UnexpectedEof.into())),
+        Ok(more) => AfterRead::More(more),
+        Err(fault) => AfterRead::Over(broken_off(count, fault)),
+    }
 }
 
 /// What is heard of a block of which no more octets come.
