@@ -102,6 +102,7 @@ fn run(
 fn refused(fault: EventFault) -> Result<(), SimulationFault>
     ensures other { OnOk result (fault ≢ EventFault.Memory) }
     ensures memory { IfErr result (λ why. why ≡ SimulationFault.Memory) }
+    ensures cause { IfErr result (λ _. fault ≡ EventFault.Memory) }
 {
     match fault {
         EventFault::Memory => Err(SimulationFault::Memory),

@@ -41,11 +41,11 @@ exchange_of ifsc atr items = record {
   lines = noted_lines ifsc items;
 }
 
--- What is recorded: the exchange, or why there is none.
+-- What is recorded: the exchange, or why there is none. Memory can run out only where nothing is wrong.
 abbrev pub IsRecorded : List ℕ → List Item → Result ExchangeParts RecordFault → Type 0
 IsRecorded atr items (Ok e) =
     (ifsc : ℕ) × IsFound atr (Ok ifsc) × (unfit_in items ≡ None) × (e ≡ exchange_of ifsc atr items)
 IsRecorded atr items (Err (Refused fault)) = IsFound atr (Err (atr_fault_name fault))
 IsRecorded atr items (Err (Unfit place why)) =
     (ifsc : ℕ) × IsFound atr (Ok ifsc) × (unfit_in items ≡ Some (place, why))
-IsRecorded atr items (Err Memory) = Unit {0}
+IsRecorded atr items (Err Memory) = (ifsc : ℕ) × IsFound atr (Ok ifsc) × (unfit_in items ≡ None)

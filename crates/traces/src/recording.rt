@@ -59,9 +59,10 @@ impl From<AllocError> for RecordFault {
 /// command or a reply whose last octet 00 stands for the rest. It is of version 2 where the trace has a moment or a note
 /// is added.
 ///
-/// An answer to reset that can't be used is refused first, then what can't be recorded ([`Unfit`]). A new terminal and a new card take what the trace has for them. A block that is no block, where its end was to send
-/// another one, counts as damaged on its way. An end that does otherwise than it should isn't called any more, and no
-/// line of its application is added from there on; replay of the exchange names that line.
+/// The call refuses an answer to reset that can't be used first, and then what can't be recorded ([`Unfit`]). `Memory`
+/// comes only where neither is wrong. A new terminal and a new card take what the trace has for them. A block that is no
+/// block, where its end was to send another one, counts as damaged on its way. An end that does otherwise than it should
+/// isn't called any more, and no line of its application is added from there on; replay of the exchange names that line.
 pub fn record_trace(alloc: Global, atr: &[u8], trace: &Trace) -> Result<Exchange, RecordFault>
     ensures { IsRecorded atr.now trace.now result }
 {

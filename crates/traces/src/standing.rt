@@ -95,7 +95,7 @@ impl Standing {
     }
 }
 
-/// Whether octets are a block of RESYNCH, by which both ends begin anew.
+/// Whether octets are a block of RESYNCH, after which both ends start again.
 fn begins_anew(octets: &[u8]) -> bool
     ensures { result ≡ following.begins_anew (seen octets.now) }
 {
