@@ -6,3 +6,4 @@ pub mod Duplicates
 pub mod OneVerdict
 pub mod NoSign
 pub mod Tds
+pub mod Pushes

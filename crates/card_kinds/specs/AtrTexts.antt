@@ -63,12 +63,15 @@ meaning_text a = codes "F " ++ (rate_or (codes "reserved") (rates_of a).0
     ++ (codes "\nD " ++ (rate_or (codes "reserved") (rates_of a).1
     ++ (codes "\nt1 " ++ (t1_text (t1_params_of a) ++ codes "\n")))))
 
+-- what comes after the interface bytes
+abbrev pub tail_text : AtrParts → List ℕ
+tail_text a = codes "historical " ++ (octets_text a.historical
+    ++ (codes "\ntck " ++ (tck_text (tck_of a) ++ (codes "\n" ++ meaning_text a))))
+
 -- an answer to reset, line by line
 abbrev pub atr_text : AtrParts → List ℕ
 atr_text a = codes "convention " ++ (convention_text a.convention
-    ++ (codes "\n" ++ (interface_text a ++
-    (codes "historical " ++ (octets_text a.historical
-    ++ (codes "\ntck " ++ (tck_text (tck_of a) ++ (codes "\n" ++ meaning_text a))))))))
+    ++ (codes "\n" ++ (interface_text a ++ tail_text a)))
 
 -- ---- as members of an object
 
@@ -114,12 +117,15 @@ abbrev pub meaning_members : AtrParts → List ℕ
 meaning_members a = codes ",\"F\":" ++ (rate_or (codes "null") (rates_of a).0
     ++ (codes ",\"D\":" ++ (rate_or (codes "null") (rates_of a).1 ++ (codes ",\"t1\":" ++ t1_object (t1_params_of a)))))
 
+-- what comes after the interface bytes
+abbrev pub tail_members : AtrParts → List ℕ
+tail_members a = codes "],\"historical\":\"" ++ (encode_upper a.historical
+    ++ (codes "\",\"tck\":" ++ (tck_value (tck_of a) ++ meaning_members a)))
+
 -- an answer to reset
 abbrev pub atr_members : AtrParts → List ℕ
 atr_members a = codes ",\"convention\":\"" ++ (convention_text a.convention
-    ++ (codes "\",\"interface\":[" ++ (interface_items a ++
-    (codes "],\"historical\":\"" ++ (encode_upper a.historical
-    ++ (codes "\",\"tck\":" ++ (tck_value (tck_of a) ++ meaning_members a)))))))
+    ++ (codes "\",\"interface\":[" ++ (interface_items a ++ tail_members a)))
 
 abbrev pub atr_codec : Codec AtrParts AtrReason
 atr_codec = record {

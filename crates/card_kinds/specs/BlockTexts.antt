@@ -31,12 +31,16 @@ pcb_text (Ready number fault) = codes "R number "
 pcb_text (Request about) = codes "S request " ++ supervisory_text about
 pcb_text (Response about) = codes "S response " ++ supervisory_text about
 
--- a block, line by line
-abbrev pub block_text : Parts → List ℕ
-block_text v = codes "nad " ++ (encode_upper (v.nad ∷ [])
+-- a block with this LRC, line by line
+abbrev pub block_lines : Parts → ℕ → List ℕ
+block_lines v lrc = codes "nad " ++ (encode_upper (v.nad ∷ [])
     ++ (codes "\npcb " ++ (pcb_text v.pcb
     ++ (codes "\ninf " ++ (octets_text v.inf
-    ++ (codes "\nlrc " ++ (encode_upper (xor_of (front_of v) ∷ []) ++ codes "\n")))))))
+    ++ (codes "\nlrc " ++ (encode_upper (lrc ∷ []) ++ codes "\n")))))))
+
+-- a block, line by line
+abbrev pub block_text : Parts → List ℕ
+block_text v = block_lines v (xor_of (front_of v))
 
 -- what a PCB says, as an object
 abbrev pub pcb_object : Pcb → List ℕ
@@ -47,12 +51,16 @@ pcb_object (Ready number fault) = codes "{\"kind\":\"R\",\"number\":"
 pcb_object (Request about) = codes "{\"kind\":\"S\",\"request\":\"" ++ (supervisory_text about ++ codes "\"}")
 pcb_object (Response about) = codes "{\"kind\":\"S\",\"response\":\"" ++ (supervisory_text about ++ codes "\"}")
 
--- a block as members of an object
-abbrev pub block_members : Parts → List ℕ
-block_members v = codes ",\"nad\":\"" ++ (encode_upper (v.nad ∷ [])
+-- a block with this LRC as members of an object
+abbrev pub lrc_members : Parts → ℕ → List ℕ
+lrc_members v lrc = codes ",\"nad\":\"" ++ (encode_upper (v.nad ∷ [])
     ++ (codes "\",\"pcb\":" ++ (pcb_object v.pcb
     ++ (codes ",\"inf\":\"" ++ (encode_upper v.inf
-    ++ (codes "\",\"lrc\":\"" ++ (encode_upper (xor_of (front_of v) ∷ []) ++ codes "\"")))))))
+    ++ (codes "\",\"lrc\":\"" ++ (encode_upper (lrc ∷ []) ++ codes "\"")))))))
+
+-- a block as members of an object
+abbrev pub block_members : Parts → List ℕ
+block_members v = lrc_members v (xor_of (front_of v))
 
 -- of an information size
 abbrev pub block_codec : ℕ → Codec Parts BlockReason

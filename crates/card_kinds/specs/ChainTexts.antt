@@ -17,15 +17,23 @@ abbrev pub blocks_text : List Parts → List ℕ
 blocks_text [] = []
 blocks_text (b ∷ blocks) = encode_upper (spelling b) ++ (codes "\n" ++ blocks_text blocks)
 
+-- so many blocks and their message, line by line
+abbrev pub joined_text : ℕ → List ℕ → List ℕ
+joined_text blocks message = codes "blocks " ++ (decimal blocks
+    ++ (codes "\nmessage " ++ (octets_text message ++ codes "\n")))
+
 -- a chain with these fields, line by line
 abbrev pub chain_text : List (List ℕ) → List ℕ
-chain_text fields = codes "blocks " ++ (decimal (length fields)
-    ++ (codes "\nmessage " ++ (octets_text (message_of fields) ++ codes "\n")))
+chain_text fields = joined_text (length fields) (message_of fields)
+
+-- so many blocks and their message as members of an object
+abbrev pub joined_members : ℕ → List ℕ → List ℕ
+joined_members blocks message = codes ",\"blocks\":" ++ (decimal blocks
+    ++ (codes ",\"message\":\"" ++ (encode_upper message ++ codes "\"")))
 
 -- the same as members of an object
 abbrev pub chain_members : List (List ℕ) → List ℕ
-chain_members fields = codes ",\"blocks\":" ++ (decimal (length fields)
-    ++ (codes ",\"message\":\"" ++ (encode_upper (message_of fields) ++ codes "\"")))
+chain_members fields = joined_members (length fields) (message_of fields)
 
 -- the receiver r has taken the chain with which the octets b begin, which takes n of them
 pub record IsReceived (ifs : ℕ) (number : Number) (b : List ℕ) (r : Taking) (n : ℕ) : Type 0 where

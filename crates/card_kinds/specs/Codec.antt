@@ -16,10 +16,14 @@ pub record Codec (V R : Type 0) : Type 1 where
   pub lines : V → List ℕ
   pub members : V → List ℕ
 
+-- lines, or members of an object
+abbrev pub said_by : Layout → List ℕ → List ℕ → List ℕ
+said_by Lines lines members = lines
+said_by Json lines members = members
+
 -- a value as lines, or as members of an object
 abbrev pub said_in : {V R : Type 0} → Layout → Codec V R → V → List ℕ
-said_in Lines c v = c.lines v
-said_in Json c v = c.members v
+said_in layout c v = said_by layout (c.lines v) (c.members v)
 
 -- the first n octets of b spell v
 abbrev pub Takes : {V R : Type 0} → Codec V R → List ℕ → V → ℕ → Type 0

@@ -51,12 +51,14 @@ abbrev pub place_members : PartValue → List ℕ
 place_members p = codes "\"depth\":" ++ (decimal p.depth
     ++ (codes ",\"at\":" ++ (decimal (header_place p) ++ (codes ",\"value_at\":" ++ decimal p.place))))
 
--- an object as one of JSON: these, its tag, its length field and its value
+-- its tag and its length field
+abbrev pub header_members : PartValue → List ℕ
+header_members p = codes ",\"tag\":\"" ++ (encode_upper p.tag
+    ++ (codes "\",\"length\":\"" ++ (encode_upper (length_field p.form (length p.value)) ++ codes "\"")))
+
+-- an object as one of JSON: these, and its value
 abbrev pub part_object : PartValue → List ℕ
-part_object p = codes "{" ++ (place_members p
-    ++ (codes ",\"tag\":\"" ++ (encode_upper p.tag
-    ++ (codes "\",\"length\":\"" ++ (encode_upper (length_field p.form (length p.value))
-    ++ (codes "\"" ++ (value_member p ++ codes "}")))))))
+part_object p = codes "{" ++ (place_members p ++ (header_members p ++ (value_member p ++ codes "}")))
 
 -- objects after other items
 abbrev pub with_objects : List ℕ → List PartValue → List ℕ

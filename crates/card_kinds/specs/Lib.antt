@@ -10,3 +10,4 @@ pub mod ForestTexts
 pub mod ListTexts
 pub mod BlockTexts
 pub mod Verdicts
+pub mod Notes

@@ -3,10 +3,10 @@
 ghost use Rattle.std.specs.Prelude.{◌≡◌, ◌++◌, IfOk, string_bytes, codes, decimal};
 ghost use Rattle.card_words.specs.Texts.{fault_text};
 ghost use Rattle.card_kinds.specs.Texts.{duplicate_text, refused_as_text, refused_at_text, refused_text, short_text};
-ghost use Rattle.card_kinds.specs.Verdicts.{accepted_in, laid_out, refused_in};
+ghost use Rattle.card_kinds.specs.Verdicts.{accepted_in, refused_in};
 ghost use Rattle.card_kinds.specs.declared.status.Status.TheVariants as ended;
 
-use crate::json::{accepted_line, accepted_members, object_line, refused_members};
+use crate::json::{accepted_object, refused_object};
 use crate::status::Status;
 use card_words::{Fault, Kind, Layout};
 use octet_core::{Named, Octets, Stop};
@@ -44,26 +44,7 @@ impl Answer {
     {
         let text = match layout {
             Layout::Lines => format!(in alloc; "ok {taken} octets\n")?,
-            Layout::Json => object_line(alloc, kind, accepted_members(alloc, taken)?)?,
-        };
-        Ok(Answer::of(text, Status::Accepted))
-    }
-
-    /// A value of a kind, which takes `taken` octets, as lines or as members of an object.
-    pub(crate) fn shown(
-        alloc: Global,
-        layout: Layout,
-        kind: Kind,
-        said: String,
-        taken: usize,
-    ) -> Result<Answer, AllocError>
-        ensures text { IfOk result (λ answer. answer.text
-            ≡ laid_out layout kind (string_bytes said) taken) }
-        ensures status { IfOk result (λ answer. answer.status ≡ ended.Accepted) }
-    {
-        let text = match layout {
-            Layout::Lines => said,
-            Layout::Json => accepted_line(alloc, kind, taken, said)?,
+            Layout::Json => accepted_object(alloc, kind, taken)?,
         };
         Ok(Answer::of(text, Status::Accepted))
     }
@@ -81,8 +62,7 @@ impl Answer {
         match layout {
             Layout::Lines => Answer::refused(alloc, stop),
             Layout::Json => {
-                let members = refused_members(alloc, stop)?;
-                let text = object_line(alloc, kind, members)?;
+                let text = refused_object(alloc, kind, stop)?;
                 Ok(Answer::of(text, Status::Refused))
             }
         }

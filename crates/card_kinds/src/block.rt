@@ -1,15 +1,17 @@
 //! What the program says of a block.
 
-ghost use Rattle.std.specs.Prelude.{◌≡◌, IfOk, refl, string_bytes};
-ghost use Rattle.block_core.specs.Block.{fault_code, number_bit, spelling, Parts};
-ghost use Rattle.card_kinds.specs.BlockTexts.{block_codec, block_members, block_text, more_number, pcb_object, pcb_text, supervisory_text};
+ghost use Rattle.std.specs.Prelude.{◌≡◌, ◌++◌, OnOk, refl, string_bytes};
+ghost use Rattle.block_core.specs.Block.{fault_code, front_of, number_bit, spelling, Parts};
+ghost use Rattle.octet_core.specs.Octets.{xor_of};
+ghost use Rattle.card_kinds.specs.BlockTexts.{block_codec, block_lines, lrc_members, more_number, pcb_object, pcb_text, supervisory_text};
 
-use crate::codec::{Codec, Outcome, Shown, on_line};
-use crate::text::octets_word;
+use crate::codec::{Codec, Outcome, on_line};
+use crate::shown::{Showable, Shown};
+use crate::text::{push_hex, push_octet, push_word};
 use block_core::{Block, BlockReason, BlockRef, Fault, Number, Pcb, S};
 use card_words::{Expected, Layout};
 use notes::{block_notes, block_refusal_note};
-use octet_core::{Stop, hex_upper};
+use octet_core::Stop;
 use std::alloc::{AllocError, Global};
 
 impl Codec for Block {
@@ -34,20 +36,9 @@ impl Codec for Block {
         noted: bool,
     ) -> Outcome<Shown, BlockReason> {
         let (block, taken) = BlockRef::decode(octets, expected.ifs)?;
-        let whole = &octets[..taken];
-        let notes = notes_if(alloc, noted, &block)?;
-        match layout {
-            Layout::Lines => Ok(Shown {
-                said: lines(alloc, &block, whole)?,
-                taken,
-                notes,
-            }),
-            Layout::Json => Ok(Shown {
-                said: members(alloc, &block, whole)?,
-                taken,
-                notes,
-            }),
-        }
+        let lrc = last(&block, &octets[..taken]);
+        let checked = Checked { block, lrc };
+        Ok(Shown::of(alloc, &checked, taken, expected.kind, layout, noted)?)
     }
 
     fn refusal_notes(
@@ -60,87 +51,127 @@ impl Codec for Block {
     }
 }
 
-/// The notes on the lines of a value, where they are asked for.
-fn notes_if(alloc: Global, noted: bool, block: &BlockRef) -> Result<Vec<String>, AllocError> {
-    if noted {
-        block_notes(alloc, block)
-    } else {
-        Ok(Vec::new(alloc))
+/// A block with its check octet.
+#[derive(Drop)]
+struct Checked<'a> {
+    block: BlockRef<'a>,
+    lrc: u8,
+}
+
+impl Showable for Checked<'_> {
+    ghost lines = { λ checked. block_lines checked.block checked.lrc };
+
+    ghost members = { λ checked. lrc_members checked.block checked.lrc };
+
+    ghost are_notes = { λ _ _. Unit {0} };
+
+    fn push_lines(&self, _alloc: Global, text: &mut String) -> Result<(), AllocError> {
+        push_lines(text, &self.block, self.lrc)
+    }
+
+    fn push_members(&self, _alloc: Global, text: &mut String) -> Result<(), AllocError> {
+        push_members(text, &self.block, self.lrc)
+    }
+
+    fn notes(&self, alloc: Global) -> Result<Vec<String>, AllocError> {
+        block_notes(alloc, &self.block)
     }
 }
 
-/// A block as members of an object.
-fn members(alloc: Global, block: &BlockRef, octets: &[u8]) -> Result<String, AllocError>
+/// The LRC of a block, the last of its octets.
+fn last(block: &BlockRef<'_>, octets: &[u8]) -> u8
     requires { octets.now ≡ spelling block.now }
-    ensures { IfOk result (λ text. string_bytes text ≡ block_members block.now) }
+    ensures { result ≡ xor_of (front_of block.now) }
 {
-    let nad = hex_upper(alloc, &[block.nad()])?;
-    let pcb = pcb_object(alloc, block.pcb())?;
-    let inf = hex_upper(alloc, block.inf())?;
-    let lrc = hex_upper(alloc, &octets[octets.len() - 1..])?;
-    format!(in alloc; ",\"nad\":\"{nad}\",\"pcb\":{pcb},\"inf\":\"{inf}\",\"lrc\":\"{lrc}\"")
+    octets[octets.len() - 1]
 }
 
-/// What a block is, as an object.
-fn pcb_object(alloc: Global, pcb: Pcb) -> Result<String, AllocError>
-    ensures { IfOk result (λ text. string_bytes text ≡ pcb_object pcb) }
+/// Adds a block, line by line: its node address, what it is, its information field and its LRC.
+fn push_lines(text: &mut String, block: &BlockRef<'_>, lrc: u8) -> Result<(), AllocError>
+    ensures { OnOk result (string_bytes text.new
+        ≡ string_bytes text.old ++ block_lines block.now lrc) }
+{
+    text.push_str("nad ")?;
+    push_octet(text, block.nad())?;
+    text.push_str("\npcb ")?;
+    push_pcb(text, block.pcb())?;
+    text.push_str("\ninf ")?;
+    push_word(text, block.inf())?;
+    text.push_str("\nlrc ")?;
+    push_octet(text, lrc)?;
+    text.push_str("\n")
+}
+
+/// Adds a block as members of an object.
+fn push_members(text: &mut String, block: &BlockRef<'_>, lrc: u8) -> Result<(), AllocError>
+    ensures { OnOk result (string_bytes text.new
+        ≡ string_bytes text.old ++ lrc_members block.now lrc) }
+{
+    text.push_str(",\"nad\":\"")?;
+    push_octet(text, block.nad())?;
+    text.push_str("\",\"pcb\":")?;
+    push_object(text, block.pcb())?;
+    text.push_str(",\"inf\":\"")?;
+    push_hex(text, block.inf())?;
+    text.push_str("\",\"lrc\":\"")?;
+    push_octet(text, lrc)?;
+    text.push_str("\"")
+}
+
+/// Adds what a block is, as an object.
+fn push_object(text: &mut String, pcb: Pcb) -> Result<(), AllocError>
+    ensures { OnOk result (string_bytes text.new ≡ string_bytes text.old ++ pcb_object pcb) }
 {
     match pcb {
         Pcb::Info { number, more } => {
             let number = number_digit(number);
             let more = more_digit(more);
-            format!(in alloc; "{{\"kind\":\"I\",\"number\":{number},\"more\":{more}}}")
+            write!(
+                text,
+                "{{\"kind\":\"I\",\"number\":{number},\"more\":{more}}}"
+            )
         }
         Pcb::Ready { number, fault } => {
             let number = number_digit(number);
             let error = error_digit(fault);
-            format!(in alloc; "{{\"kind\":\"R\",\"number\":{number},\"error\":{error}}}")
+            write!(
+                text,
+                "{{\"kind\":\"R\",\"number\":{number},\"error\":{error}}}"
+            )
         }
         Pcb::Request(about) => {
             let name = supervisory_name(about);
-            format!(in alloc; "{{\"kind\":\"S\",\"request\":\"{name}\"}}")
+            write!(text, "{{\"kind\":\"S\",\"request\":\"{name}\"}}")
         }
         Pcb::Response(about) => {
             let name = supervisory_name(about);
-            format!(in alloc; "{{\"kind\":\"S\",\"response\":\"{name}\"}}")
+            write!(text, "{{\"kind\":\"S\",\"response\":\"{name}\"}}")
         }
     }
 }
 
-/// A block, line by line: its node address, what it is, its information field and its LRC, the last of its octets.
-fn lines(alloc: Global, block: &BlockRef, octets: &[u8]) -> Result<String, AllocError>
-    requires { octets.now ≡ spelling block.now }
-    ensures { IfOk result (λ text. string_bytes text ≡ block_text block.now) }
-{
-    let nad = hex_upper(alloc, &[block.nad()])?;
-    let pcb = pcb_words(alloc, block.pcb())?;
-    let inf = octets_word(alloc, block.inf())?;
-    let lrc = hex_upper(alloc, &octets[octets.len() - 1..])?;
-    format!(in alloc; "nad {nad}\npcb {pcb}\ninf {inf}\nlrc {lrc}\n")
-}
-
-/// What a block is, in words.
-fn pcb_words(alloc: Global, pcb: Pcb) -> Result<String, AllocError>
-    ensures { IfOk result (λ text. string_bytes text ≡ pcb_text pcb) }
+/// Adds what a block is, in words.
+fn push_pcb(text: &mut String, pcb: Pcb) -> Result<(), AllocError>
+    ensures { OnOk result (string_bytes text.new ≡ string_bytes text.old ++ pcb_text pcb) }
 {
     match pcb {
         Pcb::Info { number, more } => {
             let number = number_digit(number);
             let more = more_digit(more);
-            format!(in alloc; "I number {number} more {more}")
+            write!(text, "I number {number} more {more}")
         }
         Pcb::Ready { number, fault } => {
             let number = number_digit(number);
             let error = error_digit(fault);
-            format!(in alloc; "R number {number} error {error}")
+            write!(text, "R number {number} error {error}")
         }
         Pcb::Request(about) => {
             let name = supervisory_name(about);
-            format!(in alloc; "S request {name}")
+            write!(text, "S request {name}")
         }
         Pcb::Response(about) => {
             let name = supervisory_name(about);
-            format!(in alloc; "S response {name}")
+            write!(text, "S response {name}")
         }
     }
 }

@@ -1,20 +1,21 @@
 //! What the program says of a chain.
 
-ghost use Rattle.std.specs.Prelude.{◌≡◌, ◌≤◌, ℕ, List, length, true, None, refl, IfOk, IfErr, string_bytes};
+ghost use Rattle.std.specs.Prelude.{◌≡◌, ◌≤◌, ◌++◌, ℕ, List, length, true, None, refl, IfOk, IfErr, OnOk, string_bytes};
 ghost use Rattle.octet_core.specs.Grammar.{self_ended, RefusesUnlessMemory};
 ghost use Rattle.chain_core.specs.Chain.{chain_blocks, message_of, IsChain, IsReason};
 ghost use Rattle.chain_core.specs.Cut.{cut_of};
 ghost use Rattle.hex.specs.Hex.{encode_upper};
 ghost use Rattle.block_core.specs.Block.{spelling};
-ghost use Rattle.card_kinds.specs.ChainTexts.{blocks_text, chain_codec, chain_members, chain_text, longest_message, IsReceived};
+ghost use Rattle.card_kinds.specs.ChainTexts.{blocks_text, chain_codec, joined_members, joined_text, longest_message, IsReceived};
 
-use crate::codec::{Codec, Outcome, Shown, on_line};
-use crate::text::octets_word;
+use crate::codec::{Codec, Outcome, on_line};
+use crate::shown::{Showable, Shown};
+use crate::text::{push_hex, push_word};
 use block_core::{Block, Number, encode};
 use card_words::{Expected, Layout};
 use chain_core::{ChainReason, LONGEST_MESSAGE, Receiver, cut};
 use notes::{chain_notes, chain_refusal_note};
-use octet_core::{Refused, Stop, hex_upper};
+use octet_core::{Refused, Stop};
 use std::alloc::{AllocError, Global};
 
 impl Codec for Receiver {
@@ -39,19 +40,8 @@ impl Codec for Receiver {
         noted: bool,
     ) -> Outcome<Shown, ChainReason> {
         let (receiver, taken) = received(alloc, octets, expected.ifs, expected.number)?;
-        let notes = notes_if(alloc, noted, &receiver)?;
-        match layout {
-            Layout::Lines => Ok(Shown {
-                said: lines(alloc, &receiver)?,
-                taken,
-                notes,
-            }),
-            Layout::Json => Ok(Shown {
-                said: members(alloc, &receiver)?,
-                taken,
-                notes,
-            }),
-        }
+        let joined = Joined::of(&receiver);
+        Ok(Shown::of(alloc, &joined, taken, expected.kind, layout, noted)?)
     }
 
     fn refusal_notes(
@@ -67,12 +57,49 @@ impl Codec for Receiver {
     }
 }
 
-/// The notes on the lines of a value, where they are asked for.
-fn notes_if(alloc: Global, noted: bool, receiver: &Receiver) -> Result<Vec<String>, AllocError> {
-    if noted {
-        chain_notes(alloc, receiver.message().unwrap_or(&[]))
-    } else {
-        Ok(Vec::new(alloc))
+/// The count of the blocks of a chain, and its message.
+#[derive(Clone, Copy)]
+struct Joined<'a> {
+    blocks: u32,
+    message: &'a [u8],
+}
+
+impl Showable for Joined<'_> {
+    ghost lines = { λ joined. joined_text joined.blocks joined.message.now };
+
+    ghost members = { λ joined. joined_members joined.blocks joined.message.now };
+
+    ghost are_notes = { λ _ _. Unit {0} };
+
+    fn push_lines(&self, _alloc: Global, text: &mut String) -> Result<(), AllocError> {
+        write!(text, "blocks {}\nmessage ", self.blocks)?;
+        push_word(text, self.message)?;
+        text.push_str("\n")
+    }
+
+    fn push_members(&self, _alloc: Global, text: &mut String) -> Result<(), AllocError> {
+        write!(text, ",\"blocks\":{},\"message\":\"", self.blocks)?;
+        push_hex(text, self.message)?;
+        text.push_str("\"")
+    }
+
+    fn notes(&self, alloc: Global) -> Result<Vec<String>, AllocError> {
+        chain_notes(alloc, self.message)
+    }
+}
+
+impl<'a> Joined<'a> {
+    /// What a receiver that has taken a chain has of it.
+    fn of(receiver: &'a Receiver) -> Joined<'a>
+        ensures { (fields : List (List ℕ)) → receiver.now.blocks ≡ length fields
+            → receiver.now.joined ≡ message_of fields → receiver.now.done ≡ true
+            → receiver.now.refusal ≡ None
+            → (result.blocks ≡ length fields) × (result.message.now ≡ message_of fields) }
+    {
+        Joined {
+            blocks: receiver.blocks(),
+            message: receiver.message().unwrap_or(&[]),
+        }
     }
 }
 
@@ -102,30 +129,6 @@ fn received(
     }
 }
 
-/// A chain, line by line: the count of its blocks and its message.
-fn lines(alloc: Global, receiver: &Receiver) -> Result<String, AllocError>
-    ensures { (fields : List (List ℕ)) → receiver.now.blocks ≡ length fields
-        → receiver.now.joined ≡ message_of fields → receiver.now.done ≡ true
-        → receiver.now.refusal ≡ None
-        → IfOk result (λ text. string_bytes text ≡ chain_text fields) }
-{
-    let blocks = receiver.blocks();
-    let message = octets_word(alloc, receiver.message().unwrap_or(&[]))?;
-    format!(in alloc; "blocks {blocks}\nmessage {message}\n")
-}
-
-/// A chain as members of an object.
-fn members(alloc: Global, receiver: &Receiver) -> Result<String, AllocError>
-    ensures { (fields : List (List ℕ)) → receiver.now.blocks ≡ length fields
-        → receiver.now.joined ≡ message_of fields → receiver.now.done ≡ true
-        → receiver.now.refusal ≡ None
-        → IfOk result (λ text. string_bytes text ≡ chain_members fields) }
-{
-    let blocks = receiver.blocks();
-    let message = hex_upper(alloc, receiver.message().unwrap_or(&[]))?;
-    format!(in alloc; ",\"blocks\":{blocks},\"message\":\"{message}\"")
-}
-
 /// The blocks of the chain into which a message is cut, a line a block.
 pub fn blocks(alloc: Global, message: &[u8], ifs: u8, number: Number) -> Result<String, AllocError>
     requires least { 1 ≤ ifs }
@@ -135,15 +138,16 @@ pub fn blocks(alloc: Global, message: &[u8], ifs: u8, number: Number) -> Result<
 {
     let mut lines = String::new(alloc);
     for block in cut(message, ifs, number) {
-        let hex = block_hex(alloc, &block)?;
-        lines.push_str(hex.as_str())?;
+        push_block(&mut lines, &block)?;
         lines.push_str("\n")?;
     }
     Ok(lines)
 }
 
-fn block_hex(alloc: Global, block: &Block) -> Result<String, AllocError>
-    ensures { IfOk result (λ text. string_bytes text ≡ encode_upper (spelling block.now)) }
+/// Adds the octets of a block.
+fn push_block(lines: &mut String, block: &Block) -> Result<(), AllocError>
+    ensures { OnOk result (string_bytes lines.new
+        ≡ string_bytes lines.old ++ encode_upper (spelling block.now)) }
 {
-    hex_upper(alloc, encode(block).as_slice())
+    push_hex(lines, encode(block).as_slice())
 }

@@ -2,10 +2,11 @@
 
 ghost use Rattle.std.specs.Prelude.{◌≡◌, ◌≤◌, ℕ, IfOk, IfErr, length, string_bytes};
 ghost use Rattle.card_words.specs.declared.request.Expected.{Expected as AnyExpected};
-ghost use Rattle.card_kinds.specs.Verdicts.{ChecksBy, ShowsBy};
-ghost use Rattle.card_kinds.specs.Codec.{Codec as AnyCodec, said_in, IsVerdict, StopsUnlessMemory, Takes};
+ghost use Rattle.card_kinds.specs.Verdicts.{ChecksBy, ShowsBy, shown_in};
+ghost use Rattle.card_kinds.specs.Codec.{Codec as AnyCodec, IsVerdict, StopsUnlessMemory, Takes};
 
 use crate::answer::Answer;
+use crate::shown::Shown;
 use card_words::{Expected, Layout};
 use octet_core::{Named, Refused, Stop};
 use std::alloc::{AllocError, Global};
@@ -15,17 +16,6 @@ pub type Outcome<T, R> = Result<T, Refused<R>>;
 
 /// What octets come to: how many the value takes that they spell, or why they are refused.
 pub type Verdict<R> = Result<usize, Stop<R>>;
-
-/// A value as it is shown.
-#[derive(Debug, Drop)]
-pub struct Shown {
-    /// Its lines, or its members of an object of JSON.
-    pub said: String,
-    /// How many octets it takes.
-    pub taken: usize,
-    /// Where they are asked for, the notes on its lines, an empty one on a line without any.
-    pub notes: Vec<String>,
-}
 
 /// What the program says of octets, and the verdict on them by which it does.
 #[derive(Debug, Drop)]
@@ -54,7 +44,7 @@ pub trait Codec {
         ensures found { IfOk result (λ n. (v : Value) × Takes (codec expected) octets.now v n) }
         ensures refused { IfErr result (StopsUnlessMemory (codec expected) octets.now) };
 
-    /// The value as lines, or as members of an object of JSON, and the notes on its lines where it is `noted`.
+    /// The value as lines, or as the line of an object of JSON, and the notes on its lines where it is `noted`.
     fn shown(
         alloc: Global,
         octets: &[u8],
@@ -66,7 +56,7 @@ pub trait Codec {
         requires most { expected.ifs ≤ 254 }
         ensures found { IfOk result
             (λ x. (v : Value) × Takes (codec expected) octets.now v x.taken
-            × (string_bytes x.said ≡ said_in layout (codec expected) v)) }
+            × (string_bytes x.text ≡ shown_in layout expected.kind (codec expected) v x.taken)) }
         ensures refused { IfErr result (StopsUnlessMemory (codec expected) octets.now) };
 
     /// The note on the line of a refusal, if there is one.
@@ -133,14 +123,11 @@ pub fn show_with_verdict<C: Codec>(
         IsVerdict (C.codec expected) octets.now judged.verdict) }
 {
     match C::shown(alloc, octets, expected, layout, noted) {
-        Ok(Shown { said, taken, notes }) => {
-            let answer = Answer::shown(alloc, layout, expected.kind, said, taken)?;
-            Ok(Judged {
-                answer,
-                verdict: Ok(taken),
-                notes,
-            })
-        }
+        Ok(Shown { text, taken, notes }) => Ok(Judged {
+            answer: Answer::told(text),
+            verdict: Ok(taken),
+            notes,
+        }),
         Err(Refused::Stop(stop)) => {
             let notes = refusal_notes::<C>(alloc, noted, octets, stop, expected)?;
             let answer = Answer::refused_in(alloc, layout, expected.kind, stop)?;

@@ -1,15 +1,16 @@
 //! What the program says of a command.
 
-ghost use Rattle.std.specs.Prelude.{◌≡◌, IfOk, refl, string_bytes};
+ghost use Rattle.std.specs.Prelude.{◌≡◌, ◌++◌, OnOk, refl, string_bytes};
 ghost use Rattle.apdu_core.specs.Command.{CommandParts};
 ghost use Rattle.card_kinds.specs.CommandTexts.{command_codec, command_members, command_text, le_or, shape_members, shape_text};
 
-use crate::codec::{Codec, Outcome, Shown};
-use crate::text::octets_word;
+use crate::codec::{Codec, Outcome};
+use crate::shown::{Showable, Shown};
+use crate::text::{push_hex, push_word};
 use apdu_core::{Command, CommandReason, CommandRef, Shape};
 use card_words::{Expected, Layout};
 use notes::command_notes;
-use octet_core::{Stop, hex_upper};
+use octet_core::Stop;
 use std::alloc::{AllocError, Global};
 
 impl Codec for Command {
@@ -29,24 +30,12 @@ impl Codec for Command {
     fn shown(
         alloc: Global,
         octets: &[u8],
-        _expected: Expected,
+        expected: Expected,
         layout: Layout,
         noted: bool,
     ) -> Outcome<Shown, CommandReason> {
         let command = CommandRef::decode(octets)?;
-        let notes = notes_if(alloc, noted, &command)?;
-        match layout {
-            Layout::Lines => Ok(Shown {
-                said: lines(alloc, &command)?,
-                taken: octets.len(),
-                notes,
-            }),
-            Layout::Json => Ok(Shown {
-                said: members(alloc, &command)?,
-                taken: octets.len(),
-                notes,
-            }),
-        }
+        Ok(Shown::of(alloc, &command, octets.len(), expected.kind, layout, noted)?)
     }
 
     fn refusal_notes(
@@ -59,39 +48,53 @@ impl Codec for Command {
     }
 }
 
-/// The notes on the lines of a value, where they are asked for.
-fn notes_if(
-    alloc: Global,
-    noted: bool,
-    command: &CommandRef<'_>,
-) -> Result<Vec<String>, AllocError> {
-    if noted {
-        command_notes(alloc, command)
-    } else {
-        Ok(Vec::new(alloc))
+impl Showable for CommandRef<'_> {
+    ghost lines = { command_text };
+
+    ghost members = { command_members };
+
+    ghost are_notes = { λ _ _. Unit {0} };
+
+    fn push_lines(&self, _alloc: Global, text: &mut String) -> Result<(), AllocError> {
+        push_lines(text, self)
+    }
+
+    fn push_members(&self, _alloc: Global, text: &mut String) -> Result<(), AllocError> {
+        push_members(text, self)
+    }
+
+    fn notes(&self, alloc: Global) -> Result<Vec<String>, AllocError> {
+        command_notes(alloc, self)
     }
 }
 
-/// A command, line by line: its case, its header, its data field and Le.
-fn lines(alloc: Global, command: &CommandRef<'_>) -> Result<String, AllocError>
-    ensures { IfOk result (λ text. string_bytes text ≡ command_text command.now) }
+/// Adds a command, line by line: its case, its header, its data field and Le.
+fn push_lines(text: &mut String, command: &CommandRef<'_>) -> Result<(), AllocError>
+    ensures { OnOk result (string_bytes text.new
+        ≡ string_bytes text.old ++ command_text command.now) }
 {
-    let case = shape_name(command.shape());
-    let header = hex_upper(alloc, &command.header())?;
-    let part = octets_word(alloc, command.part())?;
-    let le = le_or(alloc, command.le(), "none")?;
-    format!(in alloc; "{case}\nheader {header}\npart {part}\nle {le}\n")
+    text.push_str(shape_name(command.shape()))?;
+    text.push_str("\nheader ")?;
+    push_hex(text, &command.header())?;
+    text.push_str("\npart ")?;
+    push_word(text, command.part())?;
+    text.push_str("\nle ")?;
+    push_le(text, command.le(), "none")?;
+    text.push_str("\n")
 }
 
-/// A command as members of an object.
-fn members(alloc: Global, command: &CommandRef<'_>) -> Result<String, AllocError>
-    ensures { IfOk result (λ text. string_bytes text ≡ command_members command.now) }
+/// Adds a command as members of an object.
+fn push_members(text: &mut String, command: &CommandRef<'_>) -> Result<(), AllocError>
+    ensures { OnOk result (string_bytes text.new
+        ≡ string_bytes text.old ++ command_members command.now) }
 {
-    let case = shape_members(command.shape());
-    let header = hex_upper(alloc, &command.header())?;
-    let part = hex_upper(alloc, command.part())?;
-    let le = le_or(alloc, command.le(), "null")?;
-    format!(in alloc; "{case},\"header\":\"{header}\",\"part\":\"{part}\",\"le\":{le}")
+    text.push_str(shape_members(command.shape()))?;
+    text.push_str(",\"header\":\"")?;
+    push_hex(text, &command.header())?;
+    text.push_str("\",\"part\":\"")?;
+    push_hex(text, command.part())?;
+    text.push_str("\",\"le\":")?;
+    push_le(text, command.le(), "null")
 }
 
 /// The case that a shape is of, and its kind of length fields, as members.
@@ -124,12 +127,12 @@ fn shape_name(shape: Shape) -> &'static str
     }
 }
 
-/// Le as a number, or a word where it is absent.
-fn le_or(alloc: Global, le: Option<u32>, absent: &str) -> Result<String, AllocError>
-    ensures { IfOk result (λ text. string_bytes text ≡ le_or absent.now le) }
+/// Adds Le as a number, or a word where it is absent.
+fn push_le(text: &mut String, le: Option<u32>, absent: &str) -> Result<(), AllocError>
+    ensures { OnOk result (string_bytes text.new ≡ string_bytes text.old ++ le_or absent.now le) }
 {
     match le {
-        Some(le) => format!(in alloc; "{le}"),
-        None => String::from_str(alloc, absent),
+        Some(le) => write!(text, "{le}"),
+        None => text.push_str(absent),
     }
 }

@@ -1,6 +1,6 @@
 //! What the program says of a forest of data objects.
 
-ghost use Rattle.std.specs.Prelude.{◌≡◌, [], List, ℕ, IfOk, MatchResult, map, refl, string_bytes};
+ghost use Rattle.std.specs.Prelude.{◌≡◌, ◌++◌, [], List, ℕ, IfOk, MatchResult, OnOk, map, refl, string_bytes};
 ghost use Rattle.octet_core.specs.Grammar.{whole, Refuses};
 ghost use Rattle.tlv_core.specs.Tree.{Tree};
 ghost use Rattle.tlv_core.specs.Forest.{largest, IsForest};
@@ -8,15 +8,17 @@ ghost use Rattle.tlv_core.specs.Reasons.{IsReason};
 ghost use Rattle.tlv_core.specs.Flat.{part_seen};
 ghost use Rattle.card_kinds.specs.Codec.{IsVerdict};
 ghost use Rattle.card_kinds.specs.Verdicts.{Tells};
-ghost use Rattle.card_kinds.specs.ForestTexts.{forest_codec, header_place, lines_text, part_object, part_text, parts_members, parts_text, place_members, tidied_text, value_member, value_text, with_objects};
+ghost use Rattle.card_kinds.specs.ForestTexts.{forest_codec, header_members, header_place, lines_text, objects_head, part_object, part_text, parts_members, parts_text, place_members, tidied_text, value_member, value_text, with_objects};
+ghost use Rattle.card_kinds.specs.Json.{with_item};
 
 use crate::answer::Answer;
-use crate::codec::{Codec, Judged, Outcome, Shown, on_line};
-use crate::json::{enclosed, push_item};
-use crate::text::octets_word;
+use crate::codec::{Codec, Judged, Outcome, on_line};
+use crate::json::push_separator;
+use crate::shown::{Showable, Shown};
+use crate::text::{octets_word, push_hex, push_word};
 use card_words::{Expected, Layout};
 use notes::{forest_notes, forest_refusal_note};
-use octet_core::{Refused, Stop, hex_upper};
+use octet_core::{Refused, Stop};
 use std::alloc::{AllocError, Global};
 use tlv_core::{FlatForest, Forest, ForestCheck, LARGEST_FOREST, Part, TlvReason, decode, encode};
 
@@ -37,24 +39,12 @@ impl Codec for Forest {
     fn shown(
         alloc: Global,
         octets: &[u8],
-        _expected: Expected,
+        expected: Expected,
         layout: Layout,
         noted: bool,
     ) -> Outcome<Shown, TlvReason> {
         let forest = FlatForest::read(alloc, octets, LARGEST_FOREST)?;
-        let notes = notes_if(alloc, noted, forest.parts())?;
-        match layout {
-            Layout::Lines => Ok(Shown {
-                said: lines(alloc, forest.parts())?,
-                taken: octets.len(),
-                notes,
-            }),
-            Layout::Json => Ok(Shown {
-                said: members(alloc, forest.parts())?,
-                taken: octets.len(),
-                notes,
-            }),
-        }
+        Ok(Shown::of(alloc, &forest, octets.len(), expected.kind, layout, noted)?)
     }
 
     fn refusal_notes(
@@ -70,12 +60,23 @@ impl Codec for Forest {
     }
 }
 
-/// The notes on the lines of a value, where they are asked for.
-fn notes_if(alloc: Global, noted: bool, parts: &[Part<'_>]) -> Result<Vec<String>, AllocError> {
-    if noted {
-        forest_notes(alloc, parts)
-    } else {
-        Ok(Vec::new(alloc))
+impl Showable for FlatForest<'_> {
+    ghost lines = { parts_text };
+
+    ghost members = { parts_members };
+
+    ghost are_notes = { λ _ _. Unit {0} };
+
+    fn push_lines(&self, alloc: Global, text: &mut String) -> Result<(), AllocError> {
+        push_lines(alloc, text, self.parts())
+    }
+
+    fn push_members(&self, alloc: Global, text: &mut String) -> Result<(), AllocError> {
+        push_members(alloc, text, self.parts())
+    }
+
+    fn notes(&self, alloc: Global) -> Result<Vec<String>, AllocError> {
+        forest_notes(alloc, self.parts())
     }
 }
 
@@ -131,14 +132,22 @@ fn tidied(alloc: Global, forest: &Forest) -> Result<String, AllocError>
     format!(in alloc; "{word}\n")
 }
 
-/// The count of objects, and each of them, as members of an object.
-fn members(alloc: Global, parts: &[Part<'_>]) -> Result<String, AllocError>
-    ensures { IfOk result (λ text. string_bytes text ≡ parts_members (map part_seen parts.now)) }
+/// Adds the count of objects, and each of them, as members of an object.
+fn push_members(alloc: Global, text: &mut String, parts: &[Part<'_>]) -> Result<(), AllocError>
+    ensures { OnOk result (string_bytes text.new
+        ≡ string_bytes text.old ++ parts_members (map part_seen parts.now)) }
 {
-    let count = parts.len();
-    let head = format!(in alloc; ",\"count\":{count},\"objects\":[")?;
+    push_head(text, parts.len())?;
     let items = part_items(alloc, parts)?;
-    enclosed(head.as_str(), items, "]")
+    text.push_str(items.as_str())?;
+    text.push_str("]")
+}
+
+/// Adds the count of objects, and where their array begins.
+fn push_head(text: &mut String, count: usize) -> Result<(), AllocError>
+    ensures { OnOk result (string_bytes text.new ≡ string_bytes text.old ++ objects_head count) }
+{
+    write!(text, ",\"count\":{count},\"objects\":[")
 }
 
 /// Objects as the items of an array.
@@ -148,31 +157,54 @@ fn part_items(alloc: Global, parts: &[Part<'_>]) -> Result<String, AllocError>
 {
     let mut items = String::new(alloc);
     for part in parts {
-        push_item(&mut items, part_object(alloc, part)?.as_str())?;
+        push_part_item(&mut items, part)?;
     }
     Ok(items)
 }
 
-/// An object as one of JSON: its depth, the places of its header and of its value, its tag, its length field and its
-/// value.
-fn part_object(alloc: Global, part: &Part<'_>) -> Result<String, AllocError>
-    ensures { IfOk result (λ text. string_bytes text ≡ part_object (part_seen part.now)) }
+/// Adds an object to the items of an array.
+fn push_part_item(items: &mut String, part: &Part<'_>) -> Result<(), AllocError>
+    ensures { OnOk result (string_bytes items.new
+        ≡ with_item (string_bytes items.old) (part_object (part_seen part.now))) }
 {
-    let places = place_members(alloc, part)?;
-    let tag = hex_upper(alloc, part.tag.octets())?;
-    let length = hex_upper(alloc, part.length_field().as_slice())?;
-    let value = value_member(alloc, part)?;
-    format!(in alloc; "{{{places},\"tag\":\"{tag}\",\"length\":\"{length}\"{value}}}")
+    push_separator(items)?;
+    push_object(items, part)
 }
 
-/// The depth of an object, and the places of its header and of its value.
-fn place_members(alloc: Global, part: &Part<'_>) -> Result<String, AllocError>
-    ensures { IfOk result (λ text. string_bytes text ≡ place_members (part_seen part.now)) }
+/// Adds an object as one of JSON: its depth, the places of its header and of its value, its tag, its length field and
+/// its value.
+fn push_object(text: &mut String, part: &Part<'_>) -> Result<(), AllocError>
+    ensures { OnOk result (string_bytes text.new
+        ≡ string_bytes text.old ++ part_object (part_seen part.now)) }
+{
+    text.push_str("{")?;
+    push_places(text, part)?;
+    push_header(text, part)?;
+    push_value_member(text, part)?;
+    text.push_str("}")
+}
+
+/// Adds the tag and the length field of an object.
+fn push_header(text: &mut String, part: &Part<'_>) -> Result<(), AllocError>
+    ensures { OnOk result (string_bytes text.new
+        ≡ string_bytes text.old ++ header_members (part_seen part.now)) }
+{
+    text.push_str(",\"tag\":\"")?;
+    push_hex(text, part.tag.octets())?;
+    text.push_str("\",\"length\":\"")?;
+    push_hex(text, part.length_field().as_slice())?;
+    text.push_str("\"")
+}
+
+/// Adds the depth of an object, and the places of its header and of its value.
+fn push_places(text: &mut String, part: &Part<'_>) -> Result<(), AllocError>
+    ensures { OnOk result (string_bytes text.new
+        ≡ string_bytes text.old ++ place_members (part_seen part.now)) }
 {
     let depth = part.depth;
     let at = header_place(part);
     let place = part.place;
-    format!(in alloc; "\"depth\":{depth},\"at\":{at},\"value_at\":{place}")
+    write!(text, "\"depth\":{depth},\"at\":{at},\"value_at\":{place}")
 }
 
 /// The place of the header of an object.
@@ -183,56 +215,62 @@ fn header_place(part: &Part<'_>) -> usize
     part.place.saturating_sub(header)
 }
 
-/// That an object is constructed, or the octets of its value.
-fn value_member(alloc: Global, part: &Part<'_>) -> Result<String, AllocError>
-    ensures { IfOk result (λ text. string_bytes text ≡ value_member (part_seen part.now)) }
+/// Adds that an object is constructed, or the octets of its value.
+fn push_value_member(text: &mut String, part: &Part<'_>) -> Result<(), AllocError>
+    ensures { OnOk result (string_bytes text.new
+        ≡ string_bytes text.old ++ value_member (part_seen part.now)) }
 {
     if part.tag.is_constructed() {
-        String::from_str(alloc, ",\"constructed\":true")
+        text.push_str(",\"constructed\":true")
     } else {
-        let value = hex_upper(alloc, part.value)?;
-        format!(in alloc; ",\"value\":\"{value}\"")
+        text.push_str(",\"value\":\"")?;
+        push_hex(text, part.value)?;
+        text.push_str("\"")
     }
 }
 
-/// The count of objects, and each of them.
-fn lines(alloc: Global, parts: &[Part<'_>]) -> Result<String, AllocError>
-    ensures { IfOk result (λ text. string_bytes text ≡ parts_text (map part_seen parts.now)) }
+/// Adds the count of objects, and each of them.
+fn push_lines(alloc: Global, text: &mut String, parts: &[Part<'_>]) -> Result<(), AllocError>
+    ensures { OnOk result (string_bytes text.new
+        ≡ string_bytes text.old ++ parts_text (map part_seen parts.now)) }
 {
-    let count = parts.len();
-    let lines = part_lines(alloc, parts)?;
-    format!(in alloc; "objects {count}\n{lines}")
+    write!(text, "objects {}\n", parts.len())?;
+    push_parts(alloc, text, parts)
 }
 
-fn part_lines(alloc: Global, parts: &[Part<'_>]) -> Result<String, AllocError>
-    ensures { IfOk result (λ text. string_bytes text ≡ lines_text (map part_seen parts.now)) }
+fn push_parts(alloc: Global, text: &mut String, parts: &[Part<'_>]) -> Result<(), AllocError>
+    ensures { OnOk result (string_bytes text.new
+        ≡ string_bytes text.old ++ lines_text (map part_seen parts.now)) }
 {
-    let mut lines = String::new(alloc);
     for part in parts {
-        let line = part_line(alloc, part)?;
-        lines.push_str(line.as_str())?;
+        push_part(alloc, text, part)?;
     }
-    Ok(lines)
+    Ok(())
 }
 
-/// An object, after two spaces for each depth above 1: its tag, its length field and its value.
-fn part_line(alloc: Global, part: &Part<'_>) -> Result<String, AllocError>
-    ensures { IfOk result (λ text. string_bytes text ≡ part_text (part_seen part.now)) }
+/// Adds an object, after two spaces for each depth above 1: its tag, its length field and its value.
+fn push_part(alloc: Global, text: &mut String, part: &Part<'_>) -> Result<(), AllocError>
+    ensures { OnOk result (string_bytes text.new
+        ≡ string_bytes text.old ++ part_text (part_seen part.now)) }
 {
     let indent = "  ".repeat(alloc, part.depth.saturating_sub(1))?;
-    let tag = hex_upper(alloc, part.tag.octets())?;
-    let length = hex_upper(alloc, part.length_field().as_slice())?;
-    let value = value_word(alloc, part)?;
-    format!(in alloc; "{indent}{tag} {length} {value}\n")
+    text.push_str(indent.as_str())?;
+    push_hex(text, part.tag.octets())?;
+    text.push_str(" ")?;
+    push_hex(text, part.length_field().as_slice())?;
+    text.push_str(" ")?;
+    push_value(text, part)?;
+    text.push_str("\n")
 }
 
-/// The octets of a value, or that it is constructed.
-fn value_word(alloc: Global, part: &Part<'_>) -> Result<String, AllocError>
-    ensures { IfOk result (λ text. string_bytes text ≡ value_text (part_seen part.now)) }
+/// Adds the octets of a value, or that it is constructed.
+fn push_value(text: &mut String, part: &Part<'_>) -> Result<(), AllocError>
+    ensures { OnOk result (string_bytes text.new
+        ≡ string_bytes text.old ++ value_text (part_seen part.now)) }
 {
     if part.tag.is_constructed() {
-        String::from_str(alloc, "constructed")
+        text.push_str("constructed")
     } else {
-        octets_word(alloc, part.value)
+        push_word(text, part.value)
     }
 }

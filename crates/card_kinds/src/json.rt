@@ -1,7 +1,7 @@
 //! Objects of JSON that say what the program says of octets.
 
 ghost use Rattle.std.specs.Prelude.{◌≡◌, ◌++◌, IfOk, OnOk, string_bytes};
-ghost use Rattle.card_kinds.specs.Json.{accepted_members, object_head, object_line, refused_at_members, refused_members, separator, short_members, with_item};
+ghost use Rattle.card_kinds.specs.Json.{accepted_members, object_head, object_line, refused_at_members, refused_members, separator, short_members};
 ghost use Rattle.card_kinds.specs.Verdicts.{kind_name};
 
 use card_words::Kind;
@@ -27,69 +27,55 @@ pub fn kind_name(kind: Kind) -> &'static str
 pub fn object_head(alloc: Global, about: &str) -> Result<String, AllocError>
     ensures { IfOk result (λ text. string_bytes text ≡ object_head about.now) }
 {
-    format!(in alloc; "{{\"version\":1,\"kind\":\"{about}\",")
-}
-
-/// The line of an object about octets of a kind, with these members.
-pub(crate) fn object_line(alloc: Global, kind: Kind, members: String) -> Result<String, AllocError>
-    ensures { IfOk result (λ text. string_bytes text
-        ≡ object_line (kind_name kind) (string_bytes members)) }
-{
-    let head = object_head(alloc, kind_name(kind))?;
-    enclosed(head.as_str(), members, "}\n")
-}
-
-/// A text between two others.
-pub(crate) fn enclosed(before: &str, middle: String, after: &str) -> Result<String, AllocError>
-    ensures { IfOk result (λ text. string_bytes text
-        ≡ before.now ++ (string_bytes middle ++ after.now)) }
-{
-    let mut text = middle;
-    text.push_str(after)?;
-    text.insert_str(0, before)?;
+    let mut text = String::new(alloc);
+    push_head(&mut text, about)?;
     Ok(text)
 }
 
-/// Adds an item to those of an array.
-pub(crate) fn push_item(items: &mut String, item: &str) -> Result<(), AllocError>
-    ensures { OnOk result (string_bytes items.new
-        ≡ with_item (string_bytes items.old) item.now) }
+/// Adds what every object begins with.
+pub(crate) fn push_head(text: &mut String, about: &str) -> Result<(), AllocError>
+    ensures { OnOk result (string_bytes text.new ≡ string_bytes text.old ++ object_head about.now) }
 {
-    items.push_str(separator(items.as_str()))?;
-    items.push_str(item)
+    write!(text, "{{\"version\":1,\"kind\":\"{about}\",")
 }
 
-/// What comes between the items of an array and one more.
-fn separator(items: &str) -> &'static str
-    ensures { result.now ≡ separator items.now }
+/// Adds the members that say how many octets a value takes.
+pub(crate) fn push_accepted(text: &mut String, taken: usize) -> Result<(), AllocError>
+    ensures { OnOk result (string_bytes text.new ≡ string_bytes text.old
+        ++ accepted_members taken) }
 {
-    if items.is_empty() { "" } else { "," }
+    write!(text, "\"verdict\":\"ok\",\"octets\":{taken}")
 }
 
-/// The line of an object about a value of a kind that takes `taken` octets, with these members of the value.
-pub(crate) fn accepted_line(
+/// The line of an object about octets of a kind that are a value, which takes `taken` octets.
+pub(crate) fn accepted_object(alloc: Global, kind: Kind, taken: usize) -> Result<String, AllocError>
+    ensures { IfOk result (λ text. string_bytes text
+        ≡ object_line (kind_name kind) (accepted_members taken)) }
+{
+    let mut text = object_head(alloc, kind_name(kind))?;
+    push_accepted(&mut text, taken)?;
+    text.push_str("}\n")?;
+    Ok(text)
+}
+
+/// The line of an object about octets of a kind that are refused.
+pub(crate) fn refused_object<R: Named>(
     alloc: Global,
     kind: Kind,
-    taken: usize,
-    members: String,
+    stop: Stop<R>,
 ) -> Result<String, AllocError>
     ensures { IfOk result (λ text. string_bytes text
-        ≡ object_line (kind_name kind) (accepted_members taken ++ string_bytes members)) }
+        ≡ object_line (kind_name kind) (refused_members R.text stop)) }
 {
-    let mut head = object_head(alloc, kind_name(kind))?;
-    head.push_str(accepted_members(alloc, taken)?.as_str())?;
-    enclosed(head.as_str(), members, "}\n")
-}
-
-/// The members that say how many octets a value takes.
-pub(crate) fn accepted_members(alloc: Global, taken: usize) -> Result<String, AllocError>
-    ensures { IfOk result (λ text. string_bytes text ≡ accepted_members taken) }
-{
-    format!(in alloc; "\"verdict\":\"ok\",\"octets\":{taken}")
+    let members = refused_members(alloc, stop)?;
+    let mut text = object_head(alloc, kind_name(kind))?;
+    text.push_str(members.as_str())?;
+    text.push_str("}\n")?;
+    Ok(text)
 }
 
 /// The members that say why octets are refused.
-pub(crate) fn refused_members<R: Named>(alloc: Global, stop: Stop<R>) -> Result<String, AllocError>
+fn refused_members<R: Named>(alloc: Global, stop: Stop<R>) -> Result<String, AllocError>
     ensures { IfOk result (λ text. string_bytes text ≡ refused_members R.text stop) }
 {
     match stop {
@@ -108,4 +94,19 @@ fn refused_at_members(alloc: Global, place: usize, reason: &str) -> Result<Strin
     ensures { IfOk result (λ text. string_bytes text ≡ refused_at_members place reason.now) }
 {
     format!(in alloc; "\"verdict\":\"refused\",\"at\":{place},\"reason\":\"{reason}\"")
+}
+
+/// Adds what comes between the items of an array and one more.
+pub(crate) fn push_separator(items: &mut String) -> Result<(), AllocError>
+    ensures { OnOk result (string_bytes items.new
+        ≡ string_bytes items.old ++ separator (string_bytes items.old)) }
+{
+    items.push_str(separator(items.as_str()))
+}
+
+/// What comes between the items of an array and one more.
+fn separator(items: &str) -> &'static str
+    ensures { result.now ≡ separator items.now }
+{
+    if items.is_empty() { "" } else { "," }
 }

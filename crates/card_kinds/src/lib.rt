@@ -10,6 +10,8 @@
 
 pub mod answer;
 mod atr;
+mod atr_lines;
+mod atr_members;
 mod block;
 pub mod chain;
 pub mod codec;
@@ -19,14 +21,16 @@ pub mod json;
 pub mod kinds;
 pub mod list;
 mod response;
+pub mod shown;
 pub mod status;
 mod text;
 
 pub use answer::Answer;
 pub use chain::blocks;
-pub use codec::{Codec, Judged, Outcome, Shown, Verdict, check_with_verdict, show_with_verdict};
+pub use codec::{Codec, Judged, Outcome, Verdict, check_with_verdict, show_with_verdict};
 pub use forest::{tidy, tidy_with_verdict};
 pub use json::{kind_name, object_head};
 pub use kinds::{check, show};
 pub use list::{fill, fill_with_verdict};
+pub use shown::Shown;
 pub use status::Status;

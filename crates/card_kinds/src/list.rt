@@ -1,18 +1,20 @@
 //! What the program says of a data object list.
 
-ghost use Rattle.std.specs.Prelude.{◌≡◌, [], List, ℕ, IfOk, length, refl, string_bytes};
+ghost use Rattle.std.specs.Prelude.{◌≡◌, ◌++◌, [], List, ℕ, IfOk, OnOk, refl, string_bytes};
 ghost use Rattle.tlv_core.specs.Fill.{filled, HasDuplicate};
 ghost use Rattle.card_kinds.specs.Codec.{IsVerdict};
 ghost use Rattle.card_kinds.specs.Verdicts.{IsFilled, IsFilledBy};
 ghost use Rattle.card_kinds.specs.ListTexts.{dol_members, dol_text, entries_text, entry_object, entry_text, filled_text, list_codec, with_entries};
+ghost use Rattle.card_kinds.specs.Json.{with_item};
 
 use crate::answer::Answer;
-use crate::codec::{Codec, Judged, Outcome, Shown};
-use crate::json::push_item;
-use crate::text::octets_word;
+use crate::codec::{Codec, Judged, Outcome};
+use crate::json::push_separator;
+use crate::shown::{Showable, Shown};
+use crate::text::{octets_word, push_hex};
 use card_words::{Expected, Fault, Knowns, Layout};
 use notes::dol_notes;
-use octet_core::{Refused, Stop, hex_upper};
+use octet_core::{Refused, Stop};
 use std::alloc::{AllocError, Global};
 use tlv_core::{Dol, DolReason, FillFault, Tag};
 
@@ -33,24 +35,12 @@ impl Codec for Dol {
     fn shown(
         alloc: Global,
         octets: &[u8],
-        _expected: Expected,
+        expected: Expected,
         layout: Layout,
         noted: bool,
     ) -> Outcome<Shown, DolReason> {
         let dol = Dol::decode(alloc, octets)?;
-        let notes = notes_if(alloc, noted, &dol)?;
-        match layout {
-            Layout::Lines => Ok(Shown {
-                said: lines(alloc, &dol)?,
-                taken: octets.len(),
-                notes,
-            }),
-            Layout::Json => Ok(Shown {
-                said: members(alloc, &dol)?,
-                taken: octets.len(),
-                notes,
-            }),
-        }
+        Ok(Shown::of(alloc, &dol, octets.len(), expected.kind, layout, noted)?)
     }
 
     fn refusal_notes(
@@ -63,12 +53,23 @@ impl Codec for Dol {
     }
 }
 
-/// The notes on the lines of a value, where they are asked for.
-fn notes_if(alloc: Global, noted: bool, dol: &Dol) -> Result<Vec<String>, AllocError> {
-    if noted {
-        dol_notes(alloc, dol)
-    } else {
-        Ok(Vec::new(alloc))
+impl Showable for Dol {
+    ghost lines = { dol_text };
+
+    ghost members = { dol_members };
+
+    ghost are_notes = { λ _ _. Unit {0} };
+
+    fn push_lines(&self, _alloc: Global, text: &mut String) -> Result<(), AllocError> {
+        push_lines(text, self.entries())
+    }
+
+    fn push_members(&self, alloc: Global, text: &mut String) -> Result<(), AllocError> {
+        push_members(alloc, text, self.entries())
+    }
+
+    fn notes(&self, alloc: Global) -> Result<Vec<String>, AllocError> {
+        dol_notes(alloc, self)
     }
 }
 
@@ -141,14 +142,15 @@ fn line(alloc: Global, octets: &[u8]) -> Result<String, AllocError>
     format!(in alloc; "{word}\n")
 }
 
-/// The count of entries, and each of them, as members of an object.
-fn members(alloc: Global, dol: &Dol) -> Result<String, AllocError>
-    ensures { IfOk result (λ text. string_bytes text ≡ dol_members dol.now) }
+/// Adds the count of entries, and each of them, as members of an object.
+fn push_members(alloc: Global, text: &mut String, entries: &[(Tag, u8)]) -> Result<(), AllocError>
+    ensures { OnOk result (string_bytes text.new ≡ string_bytes text.old
+        ++ dol_members entries.now) }
 {
-    let entries = dol.entries();
-    let count = entries.len();
+    write!(text, ",\"count\":{},\"entries\":[", entries.len())?;
     let items = entry_items(alloc, entries)?;
-    format!(in alloc; ",\"count\":{count},\"entries\":[{items}]")
+    text.push_str(items.as_str())?;
+    text.push_str("]")
 }
 
 /// Entries as the items of an array.
@@ -157,43 +159,52 @@ fn entry_items(alloc: Global, entries: &[(Tag, u8)]) -> Result<String, AllocErro
 {
     let mut items = String::new(alloc);
     for (tag, length) in entries {
-        push_item(&mut items, entry_object(alloc, tag, *length)?.as_str())?;
+        push_entry_item(&mut items, tag, *length)?;
     }
     Ok(items)
 }
 
-/// An entry as an object.
-fn entry_object(alloc: Global, tag: &Tag, length: u8) -> Result<String, AllocError>
-    ensures { IfOk result (λ text. string_bytes text ≡ entry_object (tag.now, length)) }
+/// Adds an entry to the items of an array.
+fn push_entry_item(items: &mut String, tag: &Tag, length: u8) -> Result<(), AllocError>
+    ensures { OnOk result (string_bytes items.new
+        ≡ with_item (string_bytes items.old) (entry_object (tag.now, length))) }
 {
-    let tag = hex_upper(alloc, tag.octets())?;
-    format!(in alloc; "{{\"tag\":\"{tag}\",\"length\":{length}}}")
+    push_separator(items)?;
+    push_object(items, tag, length)
 }
 
-/// A list, line by line: the count of its entries, and the tag and the length of each.
-fn lines(alloc: Global, dol: &Dol) -> Result<String, AllocError>
-    ensures { IfOk result (λ text. string_bytes text ≡ dol_text dol.now) }
+/// Adds an entry as an object.
+fn push_object(text: &mut String, tag: &Tag, length: u8) -> Result<(), AllocError>
+    ensures { OnOk result (string_bytes text.new
+        ≡ string_bytes text.old ++ entry_object (tag.now, length)) }
 {
-    let entries = dol.entries();
-    let count = entries.len();
-    let lines = entry_lines(alloc, entries)?;
-    format!(in alloc; "entries {count}\n{lines}")
+    text.push_str("{\"tag\":\"")?;
+    push_hex(text, tag.octets())?;
+    write!(text, "\",\"length\":{length}}}")
 }
 
-fn entry_lines(alloc: Global, entries: &[(Tag, u8)]) -> Result<String, AllocError>
-    ensures { IfOk result (λ text. string_bytes text ≡ entries_text entries.now) }
+/// Adds a list, line by line: the count of its entries, and the tag and the length of each.
+fn push_lines(text: &mut String, entries: &[(Tag, u8)]) -> Result<(), AllocError>
+    ensures { OnOk result (string_bytes text.new ≡ string_bytes text.old ++ dol_text entries.now) }
 {
-    let mut lines = String::new(alloc);
+    write!(text, "entries {}\n", entries.len())?;
+    push_entries(text, entries)
+}
+
+fn push_entries(text: &mut String, entries: &[(Tag, u8)]) -> Result<(), AllocError>
+    ensures { OnOk result (string_bytes text.new
+        ≡ string_bytes text.old ++ entries_text entries.now) }
+{
     for (tag, length) in entries {
-        let line = entry_line(alloc, tag, *length)?;
-        lines.push_str(line.as_str())?;
+        push_entry(text, tag, *length)?;
     }
-    Ok(lines)
+    Ok(())
 }
 
-fn entry_line(alloc: Global, tag: &Tag, length: u8) -> Result<String, AllocError>
-    ensures { IfOk result (λ text. string_bytes text ≡ entry_text (tag.now, length)) }
+fn push_entry(text: &mut String, tag: &Tag, length: u8) -> Result<(), AllocError>
+    ensures { OnOk result (string_bytes text.new
+        ≡ string_bytes text.old ++ entry_text (tag.now, length)) }
 {
-    let tag = hex_upper(alloc, tag.octets())?;
-    format!(in alloc; "{tag} {length}\n")
+    push_hex(text, tag.octets())?;
+    write!(text, " {length}\n")
 }

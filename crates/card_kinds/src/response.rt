@@ -1,15 +1,16 @@
 //! What the program says of a response.
 
-ghost use Rattle.std.specs.Prelude.{◌≡◌, IfOk, refl, string_bytes};
+ghost use Rattle.std.specs.Prelude.{◌≡◌, ◌++◌, OnOk, refl, string_bytes};
 ghost use Rattle.apdu_core.specs.Response.{ResponseParts};
 ghost use Rattle.card_kinds.specs.ResponseTexts.{class_text, name_of, response_codec, response_members, response_text, status_members};
 
-use crate::codec::{Codec, Outcome, Shown};
-use crate::text::octets_word;
+use crate::codec::{Codec, Outcome};
+use crate::shown::{Showable, Shown};
+use crate::text::{push_hex, push_word};
 use apdu_core::{Response, ResponseReason, ResponseRef, StatusClass, status_class};
 use card_words::{Expected, Layout};
 use notes::response_notes;
-use octet_core::{Stop, hex_upper};
+use octet_core::Stop;
 use std::alloc::{AllocError, Global};
 
 impl Codec for Response {
@@ -29,24 +30,12 @@ impl Codec for Response {
     fn shown(
         alloc: Global,
         octets: &[u8],
-        _expected: Expected,
+        expected: Expected,
         layout: Layout,
         noted: bool,
     ) -> Outcome<Shown, ResponseReason> {
         let response = ResponseRef::decode(octets)?;
-        let notes = notes_if(alloc, noted, &response)?;
-        match layout {
-            Layout::Lines => Ok(Shown {
-                said: lines(alloc, &response)?,
-                taken: octets.len(),
-                notes,
-            }),
-            Layout::Json => Ok(Shown {
-                said: members(alloc, &response)?,
-                taken: octets.len(),
-                notes,
-            }),
-        }
+        Ok(Shown::of(alloc, &response, octets.len(), expected.kind, layout, noted)?)
     }
 
     fn refusal_notes(
@@ -59,47 +48,63 @@ impl Codec for Response {
     }
 }
 
-/// The notes on the lines of a value, where they are asked for.
-fn notes_if(
-    alloc: Global,
-    noted: bool,
-    response: &ResponseRef<'_>,
-) -> Result<Vec<String>, AllocError> {
-    if noted {
-        response_notes(alloc, response)
-    } else {
-        Ok(Vec::new(alloc))
+impl Showable for ResponseRef<'_> {
+    ghost lines = { response_text };
+
+    ghost members = { response_members };
+
+    ghost are_notes = { λ _ _. Unit {0} };
+
+    fn push_lines(&self, _alloc: Global, text: &mut String) -> Result<(), AllocError> {
+        push_lines(text, self)
+    }
+
+    fn push_members(&self, _alloc: Global, text: &mut String) -> Result<(), AllocError> {
+        push_members(text, self)
+    }
+
+    fn notes(&self, alloc: Global) -> Result<Vec<String>, AllocError> {
+        response_notes(alloc, self)
     }
 }
 
-/// A response, line by line: its data field, its status bytes and their class.
-fn lines(alloc: Global, response: &ResponseRef<'_>) -> Result<String, AllocError>
-    ensures { IfOk result (λ text. string_bytes text ≡ response_text response.now) }
+/// Adds a response, line by line: its data field, its status bytes and their class.
+fn push_lines(text: &mut String, response: &ResponseRef<'_>) -> Result<(), AllocError>
+    ensures { OnOk result (string_bytes text.new
+        ≡ string_bytes text.old ++ response_text response.now) }
 {
-    let part = octets_word(alloc, response.part())?;
     let sw1 = response.sw1();
     let sw2 = response.sw2();
-    let status = hex_upper(alloc, &[sw1, sw2])?;
-    let class = class_name(sw1, sw2);
-    format!(in alloc; "part {part}\nstatus {status} {class}\n")
+    text.push_str("part ")?;
+    push_word(text, response.part())?;
+    text.push_str("\nstatus ")?;
+    push_hex(text, &[sw1, sw2])?;
+    text.push_str(" ")?;
+    text.push_str(class_name(sw1, sw2))?;
+    text.push_str("\n")
 }
 
-/// A response as members of an object.
-fn members(alloc: Global, response: &ResponseRef<'_>) -> Result<String, AllocError>
-    ensures { IfOk result (λ text. string_bytes text ≡ response_members response.now) }
+/// Adds a response as members of an object.
+fn push_members(text: &mut String, response: &ResponseRef<'_>) -> Result<(), AllocError>
+    ensures { OnOk result (string_bytes text.new
+        ≡ string_bytes text.old ++ response_members response.now) }
 {
-    let part = hex_upper(alloc, response.part())?;
-    let status = status_members(alloc, response.sw1(), response.sw2())?;
-    format!(in alloc; ",\"part\":\"{part}\"{status}")
+    text.push_str(",\"part\":\"")?;
+    push_hex(text, response.part())?;
+    text.push_str("\"")?;
+    push_status(text, response.sw1(), response.sw2())
 }
 
-/// Two status bytes and their class as members of an object.
-fn status_members(alloc: Global, sw1: u8, sw2: u8) -> Result<String, AllocError>
-    ensures { IfOk result (λ text. string_bytes text ≡ status_members sw1 sw2) }
+/// Adds two status bytes and their class as members of an object.
+fn push_status(text: &mut String, sw1: u8, sw2: u8) -> Result<(), AllocError>
+    ensures { OnOk result (string_bytes text.new ≡ string_bytes text.old
+        ++ status_members sw1 sw2) }
 {
-    let status = hex_upper(alloc, &[sw1, sw2])?;
-    let class = class_name(sw1, sw2);
-    format!(in alloc; ",\"status\":\"{status}\",\"class\":\"{class}\"")
+    text.push_str(",\"status\":\"")?;
+    push_hex(text, &[sw1, sw2])?;
+    text.push_str("\",\"class\":\"")?;
+    text.push_str(class_name(sw1, sw2))?;
+    text.push_str("\"")
 }
 
 /// The name of the class of two status bytes.

@@ -1,15 +1,13 @@
-use Rattle.std.proofs.Common.{◌∙◌, ℕ, List, ap}
-use Rattle.card_kinds.specs.Verdicts.{accepted, laid_out, refused_in, shown_in}
+use Rattle.std.proofs.Common.{◌∙◌}
+use Rattle.card_kinds.specs.Verdicts.{accepted, refused_in, shown_in}
 use Rattle.card_kinds.proofs.Telling.{is-refused, of-stop}
 use Rattle.card_kinds.proofs.codec.show_with_verdict.Goals as goal
 
-pub returns-in_ok-answer-in-Ok : goal.returns-in_ok-answer-in-Ok
-returns-in_ok-answer-in-Ok g c =
+pub returns-in-Ok : goal.returns-in-Ok
+returns-in-Ok g c =
     let found = c.in-Ok.ensures.found in
     record {
-      told = accepted found.0 c.in-Ok.field-0.taken found.1 (c.in_ok-answer-in-Ok.ensures.text
-          ∙ ap (λ (said : List ℕ). laid_out c.args.layout c.args.expected.kind said c.in-Ok.field-0.taken) found.2)
-          c.in_ok-answer-in-Ok.ensures.status;
+      told = accepted found.0 c.in-Ok.field-0.taken found.1 (c.told.ensures.text ∙ found.2) c.told.ensures.status;
       verdict = (found.0, found.1);
     }
 

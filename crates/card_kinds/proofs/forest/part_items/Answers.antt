@@ -1,7 +1,6 @@
 use Rattle.std.proofs.Common.{◌≡◌, ◌<◌, ◌∙◌, ◌∷◌, ◌+◌, ℕ, List, suc, add-one, ap, drop, drop-cons, length, map, string_bytes, sym}
 use Rattle.tlv_core.specs.Flat.{part_seen}
 use Rattle.tlv_core.specs.declared.part.Part.{Part}
-use Rattle.card_kinds.specs.Json.{with_item}
 use Rattle.card_kinds.specs.ForestTexts.{with_objects}
 use Rattle.card_kinds.proofs.forest.part_items.Goals as goal
 
@@ -15,5 +14,5 @@ loop-part-preserved c =
     rw (add-one, drop-cons parts i item) (ap (λ (x : Part). x ∷ drop (suc i) parts) (sym c.part-item.is)) in
     let old : List ℕ = string_bytes c.loop-part.items in
     ap (λ (l : List ℕ). with_objects l (map part_seen (drop (i + 1) parts)))
-    (c.in_ok-push_item.ensures ∙ ap (with_item old) (c.as_str.ensures.value ∙ c.in_ok-part_object.ensures))
+    c.in_ok-push_part_item.ensures
     ∙ ap (λ (l : List Part). with_objects old (map part_seen l)) (sym step) ∙ c.loop-part.invariant

@@ -1,5 +1,4 @@
 use Rattle.std.proofs.Common.{◌≡◌, ◌<◌, ◌∙◌, ◌∷◌, ◌+◌, ℕ, List, suc, add-one, ap, drop, drop-cons, length, string_bytes, sym}
-use Rattle.card_kinds.specs.Json.{with_item}
 use Rattle.card_kinds.specs.ListTexts.{with_entries}
 use Rattle.card_kinds.proofs.list.entry_items.Goals as goal
 
@@ -14,5 +13,5 @@ loop-tag-preserved c =
     in
     let old : List ℕ = string_bytes c.loop-tag.items in
     ap (λ (l : List ℕ). with_entries l (drop (i + 1) entries))
-    (c.in_ok-push_item.ensures ∙ ap (with_item old) (c.as_str.ensures.value ∙ c.in_ok-entry_object.ensures))
+    c.in_ok-push_entry_item.ensures
     ∙ ap (λ (l : List (List ℕ × ℕ)). with_entries old l) (sym step) ∙ c.loop-tag.invariant

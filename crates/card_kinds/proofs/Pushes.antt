@@ -1,0 +1,20 @@
+-- Texts to which some others were added in turn.
+use Rattle.std.proofs.Common.{◌≡◌, ◌∙◌, ◌++◌, List, ℕ, Result, Ok, Err, append_assoc, if◌then◌else◌, refl}
+use Rattle.std.specs.Prelude.{OnOk, is_ok}
+
+-- where the last call succeeds it adds its own
+pub last-added : {T E : Type 0} (r : Result T E) (text more whole : List ℕ) → more ≡ whole → OnOk r (text ≡ more)
+    → OnOk r (text ≡ whole)
+last-added (Ok v) text more whole is h = h ∙ is
+last-added (Err e) text more whole is h = tt
+
+-- the same, and else the text stays
+pub last-pushed : {T E : Type 0} (r : Result T E) (old text more whole : List ℕ) → more ≡ whole
+    → text ≡ (if is_ok r then more else old) → OnOk r (text ≡ whole)
+last-pushed (Ok v) old text more whole is h = h ∙ is
+last-pushed (Err e) old text more whole is h = tt
+
+-- the parts of a line in turn: what indents it, a tag and a length field with a blank after each, a value and the end
+pub line-of : (t0 t1 t2 t3 a b c d e f g : List ℕ) → t1 ≡ t0 ++ a → t2 ≡ t1 ++ (b ++ (c ++ (d ++ e)))
+    → t3 ≡ t2 ++ f → t3 ++ g ≡ t0 ++ (a ++ (b ++ (c ++ (d ++ (e ++ (f ++ g))))))
+line-of t0 t1 t2 t3 a b c d e f g first header value = rw (value, header, first) (simp append_assoc refl)

@@ -1,0 +1,146 @@
+//! An answer to reset, line by line.
+
+ghost use Rattle.std.specs.Prelude.{◌≡◌, ◌≤◌, ◌<◌, ◌++◌, OnOk, length, string_bytes};
+ghost use Rattle.std.specs.List.{AllByRecursion};
+ghost use Rattle.card_kinds.specs.AtrTexts.{atr_text, byte_text, bytes_text, meaning_text, rate_or, t1_text, tail_text, tck_text, td_text, tds_text};
+
+use crate::atr::convention_name;
+use crate::text::{push_octet, push_word};
+use atr_core::{Atr, Indicated, Interface, ParamFault, T1Params, rates, t1_params};
+use octet_core::Named;
+use std::alloc::AllocError;
+
+/// Adds an answer to reset, line by line: its convention, each interface byte that is there, the historical
+/// bytes, TCK, the rates, and the parameters of T=1 or why there are none.
+pub(crate) fn push_lines(text: &mut String, atr: &Atr) -> Result<(), AllocError>
+    ensures { OnOk result (string_bytes text.new ≡ string_bytes text.old ++ atr_text atr.now) }
+{
+    text.push_str("convention ")?;
+    text.push_str(convention_name(atr.convention()))?;
+    text.push_str("\n")?;
+    push_bytes(text, 1, atr.first())?;
+    push_tds(text, atr.indicated())?;
+    push_tail(text, atr)
+}
+
+/// Adds the lines after those of the interface bytes.
+fn push_tail(text: &mut String, atr: &Atr) -> Result<(), AllocError>
+    ensures { OnOk result (string_bytes text.new ≡ string_bytes text.old ++ tail_text atr.now) }
+{
+    text.push_str("historical ")?;
+    push_word(text, atr.historical())?;
+    text.push_str("\ntck ")?;
+    push_tck(text, atr.tck())?;
+    text.push_str("\n")?;
+    push_meaning(text, atr)
+}
+
+/// Adds the lines of the TDs and of the interface bytes that they announce.
+fn push_tds(text: &mut String, indicated: &[Indicated]) -> Result<(), AllocError>
+    requires few { length indicated.now ≤ 31 }
+    requires protocols { AllByRecursion (λ x. x.protocol < 16) indicated.now }
+    ensures { OnOk result (string_bytes text.new
+        ≡ string_bytes text.old ++ tds_text 1 indicated.now) }
+{
+    let mut number = 1;
+    let mut rest = indicated;
+    while let [x, after @ ..] = rest {
+        let octet = x.octet(!after.is_empty());
+        push_td(text, number, x.bytes, octet)?;
+        number += 1;
+        rest = after;
+    }
+    Ok(())
+}
+
+/// Adds the line of a TD and those of the interface bytes that it announces.
+fn push_td(text: &mut String, number: usize, bytes: Interface, octet: u8) -> Result<(), AllocError>
+    requires { number < 100 }
+    ensures { OnOk result (string_bytes text.new
+        ≡ string_bytes text.old ++ td_text number bytes octet) }
+{
+    push_byte(text, "TD", number, Some(octet))?;
+    push_bytes(text, number + 1, bytes)
+}
+
+/// Adds the lines of the TA, TB and TC that stand.
+fn push_bytes(text: &mut String, number: usize, bytes: Interface) -> Result<(), AllocError>
+    ensures { OnOk result (string_bytes text.new
+        ≡ string_bytes text.old ++ bytes_text number bytes) }
+{
+    push_byte(text, "TA", number, bytes.ta)?;
+    push_byte(text, "TB", number, bytes.tb)?;
+    push_byte(text, "TC", number, bytes.tc)
+}
+
+/// Adds the line of an interface byte, where it stands.
+fn push_byte(
+    text: &mut String,
+    name: &str,
+    number: usize,
+    byte: Option<u8>,
+) -> Result<(), AllocError>
+    ensures { OnOk result (string_bytes text.new
+        ≡ string_bytes text.old ++ byte_text name.now number byte) }
+{
+    let Some(byte) = byte else {
+        return Ok(());
+    };
+    write!(text, "{name}{number} ")?;
+    push_octet(text, byte)?;
+    text.push_str("\n")
+}
+
+/// Adds TCK, or a word where it is absent.
+fn push_tck(text: &mut String, tck: Option<u8>) -> Result<(), AllocError>
+    ensures { OnOk result (string_bytes text.new ≡ string_bytes text.old ++ tck_text tck) }
+{
+    match tck {
+        Some(tck) => push_octet(text, tck),
+        None => text.push_str("absent"),
+    }
+}
+
+/// Adds the rates, and the parameters of T=1 or why there are none.
+fn push_meaning(text: &mut String, atr: &Atr) -> Result<(), AllocError>
+    ensures { OnOk result (string_bytes text.new ≡ string_bytes text.old ++ meaning_text atr.now) }
+{
+    let (fi, di) = rates(atr);
+    text.push_str("F ")?;
+    push_rate(text, fi, "reserved")?;
+    text.push_str("\nD ")?;
+    push_rate(text, di, "reserved")?;
+    text.push_str("\nt1 ")?;
+    push_t1(text, t1_params(atr))?;
+    text.push_str("\n")
+}
+
+/// Adds F or D as a number, or a word where the index is reserved.
+pub(crate) fn push_rate(
+    text: &mut String,
+    rate: Option<u16>,
+    reserved: &str,
+) -> Result<(), AllocError>
+    ensures { OnOk result (string_bytes text.new
+        ≡ string_bytes text.old ++ rate_or reserved.now rate) }
+{
+    match rate {
+        Some(rate) => write!(text, "{rate}"),
+        None => text.push_str(reserved),
+    }
+}
+
+/// Adds the parameters of T=1 in words, or the name of their fault.
+fn push_t1(text: &mut String, params: Result<T1Params, ParamFault>) -> Result<(), AllocError>
+    ensures { OnOk result (string_bytes text.new ≡ string_bytes text.old ++ t1_text params) }
+{
+    match params {
+        Ok(params) => {
+            let ifsc = params.ifsc();
+            let bwi = params.bwi();
+            let cwi = params.cwi();
+            write!(text, "ifsc {ifsc} bwi {bwi} cwi {cwi}")
+        }
+        Err(fault) => text.push_str(fault.name()),
+    }
+}
