@@ -48,8 +48,8 @@ const NUMBERS = {
 
 const LACKS = {
   NoT1: "has no TD that offers T=1",
-  ReservedIfsc: "has 00 or FF for the card's information size, in the first TA for T=1",
-  Crc: "asks for the CRC, in the first TC for T=1, and only the LRC is done",
+  ReservedIfsc: "gives the reserved value 00 or FF for IFSC, in the first TA for T=1",
+  Crc: "asks for the CRC, in the first TC for T=1, and scard has only the LRC",
 };
 const REFUSED = "the end refuses this call in the state that it is in";
 const NOTHING = "this line has a turn of the end, which has none to give here";
@@ -331,6 +331,6 @@ function atrWhy(scard, atr, name) {
   if (Object.hasOwn(LACKS, name)) return [`the answer to reset ${LACKS[name]}`];
   const told = { octets: atr, ...finished(scard.telling("atr", atr)) };
   const taken = atr.length - told.left;
-  if (told.is === "ok") return [`octets of the answer to reset: ${taken}; octets left after it: ${told.left}`];
+  if (told.is === "ok") return [`octets of the answer to reset: ${taken}; octets after it: ${told.left}`];
   return told.is === "refused" ? [told.sentence, ...aroundLines(told)] : [told.sentence];
 }

@@ -66,7 +66,7 @@ function shown(answer) {
   if (answer.sentence) found.push(made("p", answer.sentence));
   if (answer.is === "refused") found.push(marked(answer));
   if (answer.is === "ok" && answer.lines) found.push(block("The value", answer.lines.join("\n")));
-  if (answer.is === "ok" && answer.left) found.push(made("p", `octets left after it: ${answer.left}`));
+  if (answer.is === "ok" && answer.left) found.push(made("p", `octets after the value: ${answer.left}`));
   return found;
 }
 

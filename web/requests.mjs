@@ -61,7 +61,7 @@ export function answered({ scard, aroundLines, finished }, request) {
   if (form === "lines") return ended([...scard.answers(kind, text, ifs, first, notes)].flatMap(ofLine));
   const told = finished(scard.answering(kind, text, ifs, first, notes));
   const lines = subcommand === "show" && told.lines ? told.lines : [told.check];
-  if (explain && told.is === "ok" && told.left) lines.push(`octets left after it: ${told.left}`);
+  if (explain && told.is === "ok" && told.left) lines.push(`octets after the value: ${told.left}`);
   if (explain && told.is === "refused") lines.push(told.sentence, ...aroundLines(told));
   return told.is === "fault" && explain ? null : ended(lines);
 }
@@ -75,6 +75,6 @@ export function withoutRefusalNotes(said) {
 export function wanted({ said }, { subcommand, end }) {
   if (subcommand === "judge") return said;
   if (end) return said.replace(/; in the trace it .*/g, "");
-  return withoutRefusalNotes(said).replace(" (--ifs)", "").replace("from that of --number", "from the first that is given")
-    .replace(/octets there: .*\n/, "").replace(/standard input: (this text is a dump too|six octal digits are).*\n/, "");
+  return withoutRefusalNotes(said).replace(" (--ifs)", "").replace("from --number", "from the first number given")
+    .replace(/octets so far: .*\n/, "").replace(/standard input: (this text is also a dump|od wrote two octets).*\n/, "");
 }

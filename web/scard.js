@@ -26,47 +26,47 @@ const CLASSES = ["", "normal", "warning", "execution", "checking", "proprietary"
 const NO_T1 = ["", "NoT1", "ReservedIfsc", "Crc"];
 
 const TOO_LARGE = `a text has at most ${LONGEST_TEXT} characters`;
-const FORM = "octets are two hexadecimal digits each, in groups that blanks part";
+const FORM = "an octet is two hexadecimal digits, and blanks separate groups of octets";
 
 // What is expected where an octet is refused, by the kind and the name that the module has for the reason.
 const SENTENCES = {
   atr: {
-    BadTs: "TS, the first octet, is 3B (direct) or 3F (inverse)",
-    TooLong: "the bytes that are announced so far make more than 33 octets",
-    BadTck: "TCK makes the exclusive-or of all octets from T0 to TCK 00",
+    BadTs: "TS must be 3B (direct convention) or 3F (inverse convention)",
+    TooLong: "an answer to reset has at most 33 octets, and the bytes announced so far exceed that",
+    BadTck: "the exclusive-or of all octets from T0 to TCK must be 00",
   },
   block: {
-    BadPcb: "this PCB is of no I-block, R-block or S-block",
-    BadLen: "LEN is at most FE in an I-block, 00 in an R-block, RESYNCH and ABORT, 01 in IFS and WTX",
-    OverIfs: "LEN of an I-block is at most the information size",
-    BadIfs: "an IFS request or response has a size from 01 to FE",
-    BadLrc: "the LRC makes the exclusive-or of all octets of the block 00",
+    BadPcb: "no I-block, R-block or S-block has this PCB",
+    BadLen: "LEN must be 00 to FE in an I-block, 00 in an R-block, RESYNCH and ABORT, 01 in IFS and WTX",
+    OverIfs: "LEN of an I-block must not exceed the information field size",
+    BadIfs: "the size in an IFS request or response must be 01 to FE",
+    BadLrc: "the exclusive-or of all octets of the block must be 00",
   },
   chain: {
-    BadNad: "NAD of each block is 00",
-    BadPcb: "this PCB is of no I-block, R-block or S-block",
-    NotInfo: "each block is an I-block, and this PCB is of another block",
-    BadSequence: "the numbers of the blocks alternate, from 0 or from the first that is given",
-    TooManyBlocks: "a chain has at most 131072 blocks, and this one says that more follow",
-    BadLen: "LEN is at most FE",
-    OverIfs: "LEN is at most the information size",
+    BadNad: "NAD of each block must be 00",
+    BadPcb: "no I-block, R-block or S-block has this PCB",
+    NotInfo: "a chain has only I-blocks, and this PCB is that of another block",
+    BadSequence: "the block numbers must alternate, from 0 or from the first number given",
+    TooManyBlocks: "a chain has at most 131072 blocks, and this one is followed by more",
+    BadLen: "LEN must be 00 to FE",
+    OverIfs: "LEN must not exceed the information field size",
     TooLong: "a message has at most 131072 octets",
-    BadLrc: "the LRC makes the exclusive-or of all octets of the block 00",
+    BadLrc: "the exclusive-or of all octets of the block must be 00",
   },
-  command: { Trailing: "the length fields allow no octet here" },
+  command: { Trailing: "the length fields end the command before this octet" },
   response: { TooLong: "a response has at most 65538 octets" },
   tlv: {
-    TooDeep: "objects stand at most 16 deep, and one more begins here",
-    TagSecond: "the low seven bits of a second tag octet aren't all 0",
-    TagLong: "a tag has at most three octets, so its third is at most 7F",
-    LengthForm: "a length begins with 00 to 7F or 81 to 84",
-    Overrun: "this says more octets than are left in the object around it",
-    TooLong: "a forest has at most 1048576 octets",
+    TooDeep: "objects nest at most 16 deep, and one more begins here",
+    TagSecond: "in the second octet of a tag the low seven bits must not all be 0",
+    TagLong: "a tag has at most three octets, so the third must be at most 7F",
+    LengthForm: "a length field must begin with 00 to 7F or 81 to 84",
+    Overrun: "this object needs more octets than the object around it has left",
+    TooLong: "a forest of data objects has at most 1048576 octets",
   },
   dol: {
-    TagZero: "a tag doesn't begin with 00",
-    TagSecond: "the low seven bits of a second tag octet aren't all 0",
-    TagLong: "a tag has at most three octets, so its third is at most 7F",
+    TagZero: "a tag must not begin with 00",
+    TagSecond: "in the second octet of a tag the low seven bits must not all be 0",
+    TagLong: "a tag has at most three octets, so the third must be at most 7F",
   },
 };
 
@@ -236,7 +236,7 @@ class Scard {
     }
     if (status === SHORT) {
       const check = `short at ${place}`;
-      return { is: "short", check, lines: [check], place, sentence: `octets there: ${octets.length}; more must come` };
+      return { is: "short", check, lines: [check], place, sentence: `octets so far: ${octets.length}; more must come` };
     }
     if (status !== AT) throw new Error(`status ${status}`);
     const name = this.name("scard_reason_text", CODECS[kind], reason);
@@ -318,13 +318,13 @@ class Scard {
     }
     const historical = [memory.value + 226, atr[225]];
     lines.push(say(`historical ${wordOf(memory.at(...historical))}`, () => this.quoted(...historical)));
-    lines.push(atr[241] ? say(`tck ${PAIRS[atr[242]]}`, () => "exclusive-or of T0 to here is 00") : say("tck absent"));
+    lines.push(atr[241] ? say(`tck ${PAIRS[atr[242]]}`, () => "exclusive-or of T0 to TCK is 00") : say("tck absent"));
     const [f, d] = this.decodedRates();
     lines.push(say(`F ${f}`), say(`D ${d}`));
     const { refused, ifsc, bwi, cwi } = this.t1();
     const params = `ifsc ${ifsc} bwi ${bwi} cwi ${cwi}`;
-    const alone = atr[7] ? "" : "offers T=0 alone";
-    lines.push(say(`t1 ${refused ?? params}`, () => (refused ? alone : "redundancy code LRC")));
+    const alone = atr[7] ? "" : "offers only T=0";
+    lines.push(say(`t1 ${refused ?? params}`, () => (refused ? alone : "error detection by LRC")));
     return lines;
   }
 
@@ -416,7 +416,7 @@ class Scard {
         say(SHAPES[command[4]]),
         say(`header ${hexOf(command.subarray(0, 4))}`, () => this.headerNote(command[0], command[1])),
         say(`part ${wordOf(part)}`, () => (count ? `Lc ${count}` : "")),
-        say(`le ${le}`, () => (command[5] ? `at most ${counted(le)} in the answer` : "")),
+        say(`le ${le}`, () => (command[5] ? `at most ${counted(le)} of response data` : "")),
       ];
     };
     return { verdict, lines };

@@ -29,13 +29,13 @@ static void responses(void)
 {
     SAYS(STATUS, 0x90, 0x00, "no further qualification");
     SAYS(STATUS, 0x6A, 0x82, "file or application not found");
-    SAYS(STATUS, 0x61, 0x00, "256 octets to read");
-    SAYS(STATUS, 0x61, 0x01, "1 octet to read");
-    SAYS(STATUS, 0x6C, 0x08, "wrong Le: 8 octets there");
-    SAYS(STATUS, 0x62, 0x80, "the card has 128 octets to be asked for");
-    SAYS(STATUS, 0x64, 0x02, "the card has 2 octets to be asked for");
+    SAYS(STATUS, 0x61, 0x00, "256 octets available");
+    SAYS(STATUS, 0x61, 0x01, "1 octet available");
+    SAYS(STATUS, 0x6C, 0x08, "wrong Le: 8 octets available");
+    SAYS(STATUS, 0x62, 0x80, "the card has a query of 128 octets");
+    SAYS(STATUS, 0x64, 0x02, "the card has a query of 2 octets");
     SAYS(STATUS, 0x64, 0x01, "immediate response required by the card");
-    SAYS(STATUS, 0x63, 0xCF, "counter at 15, as of tries left");
+    SAYS(STATUS, 0x63, 0xCF, "counter at 15, such as the tries left");
     SAYS(STATUS, 0x63, 0xD0, "");
     SAYS(STATUS, 0x9F, 0x10, "");
 }
@@ -63,10 +63,10 @@ static void blocks(void)
     SAYS(PCB, 0x00, 0, "I-block 0, the last of its chain");
     SAYS(PCB, 0x60, 0, "I-block 1, more blocks of its chain follow");
     SAYS(PCB, 0x90, 0, "no error, asks for block 1");
-    SAYS(PCB, 0x81, 0, "asks for block 0 again: parity or LRC");
+    SAYS(PCB, 0x81, 0, "parity or LRC error, asks for block 0 again");
     SAYS(PCB, 0xC1, 32, "asks for an information field size of 32");
     SAYS(PCB, 0xE3, 5, "grants 5 times the block waiting time");
-    SAYS(PCB, 0xE2, 5, "ends the chain");
+    SAYS(PCB, 0xE2, 5, "aborts the chain");
     SAYS(NAD, 0x00, 0, "");
     SAYS(NAD, 0x21, 0, "from 1 to 2");
     SAYS(NAD, 0xF8, 0, "from 0 to 7");

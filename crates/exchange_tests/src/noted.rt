@@ -11,11 +11,11 @@ use tlv_core::FlatForest;
 /// Octets and the notes on them, each of which a bar ends.
 const RESPONSES: [[&str; 2]; 7] = [
     ["9000", "|no further qualification|"],
-    ["6100", "|256 octets to read|"],
-    ["6110", "|16 octets to read|"],
-    ["63C2", "|counter at 2, as of tries left|"],
+    ["6100", "|256 octets available|"],
+    ["6110", "|16 octets available|"],
+    ["63C2", "|counter at 2, such as the tries left|"],
     ["6A82", "|file or application not found|"],
-    ["6C08", "|wrong Le: 8 octets there|"],
+    ["6C08", "|wrong Le: 8 octets available|"],
     ["01029F00", "||"],
 ];
 
@@ -23,15 +23,15 @@ const COMMANDS: [[&str; 2]; 4] = [
     ["00A40400", "|SELECT, no secure messaging, channel 0|||"],
     [
         "00A4040002AABB00",
-        "|SELECT, no secure messaging, channel 0|Lc 2|at most 256 octets in the answer|",
+        "|SELECT, no secure messaging, channel 0|Lc 2|at most 256 octets of response data|",
     ],
     [
         "80CA9F1700",
-        "|proprietary class||at most 256 octets in the answer|",
+        "|proprietary class||at most 256 octets of response data|",
     ],
     [
         "4CB0000000",
-        "|READ BINARY, no secure messaging, channel 16||at most 256 octets in the answer|",
+        "|READ BINARY, no secure messaging, channel 16||at most 256 octets of response data|",
     ],
 ];
 
@@ -46,7 +46,7 @@ const BLOCKS: [[&str; 2]; 4] = [
     ],
     [
         "00910091",
-        "|asks for block 1 again: parity or LRC||exclusive-or of the octets before it|",
+        "|parity or LRC error, asks for block 1 again||exclusive-or of the octets before it|",
     ],
     [
         "00C10120E0",
@@ -68,9 +68,9 @@ const FORESTS: [[&str; 2]; 2] = [
 const ANSWERS: [[&str; 2]; 2] = [
     [
         "3B808131204555",
-        "|offers T=1|offers T=1||||exclusive-or of T0 to here is 00|||redundancy code LRC|",
+        "|offers T=1|offers T=1||||exclusive-or of T0 to TCK is 00|||error detection by LRC|",
     ],
-    ["3B024142", "|\"AB\"||||offers T=0 alone|"],
+    ["3B024142", "|\"AB\"||||offers only T=0|"],
 ];
 
 /// Whether the notes are these, each of which a bar ends.

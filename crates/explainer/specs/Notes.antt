@@ -44,9 +44,9 @@ refused_note b place sentence =
 
 -- how many octets are there, and at least how many must come, where that is known
 abbrev pub short_note : ℕ → Option ℕ → List ℕ
-short_note count None = codes "octets there: " ++ (decimal count ++ codes "; more must come\n")
-short_note count (Some least) = codes "octets there: "
-    ++ (decimal count ++ (codes "; still to come, at least: " ++ (decimal least ++ codes "\n")))
+short_note count None = codes "octets so far: " ++ (decimal count ++ codes "; more must come\n")
+short_note count (Some least) = codes "octets so far: "
+    ++ (decimal count ++ (codes "; at least " ++ (decimal least ++ codes " more must come\n")))
 
 -- how many octets a block has by its LEN, or at least without one (ISO/IEC 7816-3, 11.3)
 abbrev pub block_has : List ℕ → ℕ
@@ -74,7 +74,7 @@ list_wants b = if is_tag (begun_after [] b) then 1 else 2
 
 -- how many octets are left after a value that ends by itself
 abbrev pub left_note : ℕ → List ℕ
-left_note count = if count == 0 then [] else (codes "octets left after it: " ++ (decimal count ++ codes "\n"))
+left_note count = if count == 0 then [] else (codes "octets after the value: " ++ (decimal count ++ codes "\n"))
 
 -- the note of a refusal, by the sentence of each reason, and by how many octets are known to be wanting
 abbrev pub stop_text : {R : Type 0} → (R → List ℕ) → List ℕ → Option ℕ → Stop R → List ℕ
@@ -109,7 +109,7 @@ lack_note sentence = codes "the answer to reset " ++ (sentence ++ codes "\n")
 -- how many octets an answer to reset takes, and how many are left after it
 abbrev pub longer_note : ℕ → ℕ → List ℕ
 longer_note taken left = codes "octets of the answer to reset: "
-    ++ (decimal taken ++ (codes "; octets left after it: " ++ (decimal left ++ codes "\n")))
+    ++ (decimal taken ++ (codes "; octets after it: " ++ (decimal left ++ codes "\n")))
 
 -- The note on an answer to reset by its parameters of T=1: none where it has them, else what it lacks.
 pub data IsLackNote (a : AtrParts) (note : List ℕ) : Type 0 where
@@ -129,8 +129,8 @@ pub data IsSessionNote (b note : List ℕ) : Type 0 where
 -- a list that names blocks which were never sent, which these are, and how many were sent
 abbrev pub unsent_line : List ℕ → List ℕ → ℕ → List ℕ
 unsent_line option shown sent =
-    option ++ (codes " names blocks that were never sent: " ++ (shown ++ (codes "; "
-    ++ (decimal sent ++ codes " were sent\n"))))
+    option ++ (codes " names blocks that were never sent: " ++ (shown ++ (codes "; blocks sent: "
+    ++ (decimal sent ++ codes "\n"))))
 
 -- numbers that follow one another are a range
 abbrev pub run_text : ℕ → ℕ → List ℕ
@@ -184,12 +184,12 @@ word_note number what = codes "word " ++ (decimal number ++ (codes ": " ++ (what
 -- a character at a place of the word that is no hexadecimal digit
 abbrev pub digit_note : ℕ → ℕ → ℕ → List ℕ
 digit_note number character place = codes "word "
-    ++ (decimal number ++ (codes ": digit "
-    ++ (encode_utf8 character ++ (codes " at place " ++ (decimal place ++ codes "\n")))))
+    ++ (decimal number ++ (codes ": the character '"
+    ++ (encode_utf8 character ++ (codes "' at place " ++ (decimal place ++ codes " isn't a hexadecimal digit\n")))))
 
 abbrev pub odd_note : ℕ → ℕ → List ℕ
 odd_note number count = codes "word " ++ (decimal number
-    ++ (codes ": an odd number of digits, " ++ (decimal count ++ codes "\n")))
+    ++ (codes ": the number of digits must be even, and is " ++ (decimal count ++ codes "\n")))
 
 -- ---- texts of standard input
 
@@ -270,7 +270,7 @@ begins_with_mark _ = false
 
 abbrev pub mark_said : List ℕ → List ℕ
 mark_said text = if begins_with_mark text
-    then codes "standard input: this text begins with a byte order mark, which is in no form\n" else []
+    then codes "standard input: this text begins with a byte order mark, which no form allows\n" else []
 
 -- the offsets or the words of a text would be taken for other octets in hexadecimal
 abbrev pub has_other_octets : List ℕ → Bool
@@ -281,9 +281,9 @@ has_other_octets text = begins_with_offset text || is_octal_words text
 abbrev pub other_text : Form → List ℕ → List ℕ
 other_text given text =
     if not (is_form given form.Hex) && (not (has_other_octets text) && takes form.Hex text)
-    then codes "--stdin hex takes this text\n"
-    else (if not (is_form given form.Dump) && takes form.Dump text then codes "--stdin dump takes this text\n"
-    else (if not (is_form given form.Source) && takes form.Source text then codes "--stdin source takes this text\n"
+    then codes "--stdin hex reads this text\n"
+    else (if not (is_form given form.Dump) && takes form.Dump text then codes "--stdin dump reads this text\n"
+    else (if not (is_form given form.Source) && takes form.Source text then codes "--stdin source reads this text\n"
     else []))
 
 -- that first, a byte order mark, what the form is, and which other one takes the text
@@ -295,13 +295,13 @@ pub record IsTextNote (given : Form) (text note : List ℕ) : Type 0 where
 -- that a text which is taken for hexadecimal is a dump of some octets too
 abbrev pub offsets_said : Result (List ℕ) Fault → List ℕ
 offsets_said (Ok octets) = if length octets == 0 then [] else codes
-    "standard input: this text is a dump too, and its offsets are taken for octets here; --stdin dump leaves them out\n"
+    "standard input: this text is also a dump, and --stdin hex reads its offsets as octets; --stdin dump skips them\n"
 offsets_said (Err fault) = []
 
 -- that a text which is taken for hexadecimal is words of od
 abbrev pub words_said : List ℕ
 words_said = codes
-    "standard input: six octal digits are two octets of od, and are taken for three here; od -tx1 writes octets\n"
+    "standard input: od wrote two octets as six octal digits, which --stdin hex reads as three octets; use od -tx1\n"
 
 -- a dump without offsets has no others in hexadecimal
 abbrev pub offsets_note : List ℕ → List ℕ
@@ -317,6 +317,7 @@ abbrev pub line_note : ℕ → List ℕ → List ℕ → List ℕ
 line_note number line what = codes "line "
     ++ (decimal number ++ (codes " of the file: " ++ (line ++ (codes "\n" ++ (what ++ codes "\n")))))
 
--- how many octets standard input or a session's text may have
+-- how many octets standard input or a session's text may have, and how a longer session is split
 abbrev pub large_note : ℕ → List ℕ
-large_note most = codes "standard input, and the text of a session, has at most " ++ (decimal most ++ codes " octets\n")
+large_note most = codes "standard input and the text of a session have at most " ++ (decimal most
+    ++ codes " octets each\nto split a session, cut it after an answered exchange, where both ends send block 0 next\n")

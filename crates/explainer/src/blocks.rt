@@ -37,7 +37,9 @@ fn list_note(
         return Ok(String::new(alloc));
     }
     let numbers = unsent_numbers(alloc, blocks.get(), sent)?;
-    format!(in alloc; "{option} names blocks that were never sent: {numbers}; {sent} were sent\n")
+    format!(in alloc;
+        "{option} names blocks that were never sent: {numbers}; blocks sent: {sent}\n"
+    )
 }
 
 /// Whether a list names a block above so many.

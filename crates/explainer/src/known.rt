@@ -30,7 +30,7 @@ pub fn known_note(alloc: Global, words: &[String]) -> Result<String, AllocError>
 
 /// What is wrong with a word F:TAG:VALUE.
 fn value_note(alloc: Global, number: usize, word: &str) -> Result<String, AllocError> {
-    let whole = "a known value is F:TAG:VALUE";
+    let whole = "a known value must have the form F:TAG:VALUE";
     let Some((format, rest)) = word.split_once(':') else {
         return said(alloc, number, whole);
     };
@@ -38,7 +38,7 @@ fn value_note(alloc: Global, number: usize, word: &str) -> Result<String, AllocE
         return said(alloc, number, whole);
     };
     if !matches!(format, "n" | "c" | "o") {
-        let what = "F is n (numeric), c (compressed numeric) or o (any other)";
+        let what = "F must be n (numeric), c (compressed numeric) or o (any other)";
         return said(alloc, number, what);
     }
     let note = digits_note(alloc, number, tag)?;
@@ -46,7 +46,7 @@ fn value_note(alloc: Global, number: usize, word: &str) -> Result<String, AllocE
         return Ok(note);
     }
     if !is_tag(alloc, tag)? {
-        return said(alloc, number, "TAG is one whole tag");
+        return said(alloc, number, "TAG must be one whole tag");
     }
     hex_note(alloc, number, value)
 }
@@ -99,5 +99,5 @@ fn both_said(
     let first = place_of(words, first.saturating_add(BEFORE));
     let second = place_of(words, second.saturating_add(BEFORE));
     let tag = hex_upper(alloc, tag.octets())?;
-    format!(in alloc; "words {first} and {second}: both say a value of tag {tag}\n")
+    format!(in alloc; "words {first} and {second}: both give a value for tag {tag}\n")
 }

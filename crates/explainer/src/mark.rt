@@ -64,9 +64,9 @@ fn short(alloc: Global, count: usize, least: Option<usize>) -> Result<String, Al
     ensures { IfOk result (λ text. string_bytes text ≡ short_note count least) }
 {
     match least {
-        None => format!(in alloc; "octets there: {count}; more must come\n"),
+        None => format!(in alloc; "octets so far: {count}; more must come\n"),
         Some(least) => {
-            format!(in alloc; "octets there: {count}; still to come, at least: {least}\n")
+            format!(in alloc; "octets so far: {count}; at least {least} more must come\n")
         }
     }
 }
@@ -78,5 +78,5 @@ pub(crate) fn left(alloc: Global, count: usize) -> Result<String, AllocError>
     if count == 0 {
         return Ok(String::new(alloc));
     }
-    format!(in alloc; "octets left after it: {count}\n")
+    format!(in alloc; "octets after the value: {count}\n")
 }

@@ -21,13 +21,13 @@ fn dump_sentence(wrong: DumpWrong) -> &'static str
     ensures { result.now ≡ dump_sentence wrong }
 {
     match wrong {
-        DumpWrong::Offset => "an offset has four hexadecimal digits or more",
-        DumpWrong::Place => "this offset isn't the number of octets before it",
-        DumpWrong::Star => "a * follows a row of 16 octets",
-        DumpWrong::Row => "here come octets, and the characters that show them",
-        DumpWrong::End => "the offset that ends the dump is missing, or there are too many octets",
+        DumpWrong::Offset => "an offset must have at least four hexadecimal digits",
+        DumpWrong::Place => "this offset must be the number of octets before it",
+        DumpWrong::Star => "a * must follow a row of 16 octets",
+        DumpWrong::Row => "expected octets in hexadecimal, or the characters that show them",
+        DumpWrong::End => "the last offset is missing, or the dump has too many octets",
         DumpWrong::TwoWays => {
-            "in another base these offsets give another number of octets; od -v has no *"
+            "these offsets fit two bases, which give different numbers of octets; od -v writes no *"
         }
     }
 }
@@ -48,8 +48,9 @@ fn source_sentence(wrong: SourceWrong) -> &'static str
     ensures { result.now ≡ source_sentence wrong }
 {
     match wrong {
-        SourceWrong::Character => "a character that may not be here",
-        SourceWrong::Word => "no octet, or one that is written in another way than those before",
+        SourceWrong::Character => "this character isn't allowed here",
+        SourceWrong::Word =>
+            "this isn't an octet, or it is written in another way than those before",
         SourceWrong::Open => "a string, a comment or a declaration isn't closed",
         SourceWrong::TwoWays => "these octets can be read in two ways",
     }
@@ -62,9 +63,9 @@ fn stray_note(alloc: Global, text: &[u8], place: usize) -> Result<String, AllocE
 {
     let octet = text.get(place).copied().unwrap_or(0);
     let what = if is_printable(octet) {
-        format!(in alloc; "'{}' may not be here", char::from(octet))?
+        format!(in alloc; "'{}' isn't allowed here", char::from(octet))?
     } else {
-        format!(in alloc; "the octet {octet:02X} may not be here")?
+        format!(in alloc; "the octet {octet:02X} isn't allowed here")?
     };
     marked_place(alloc, text, place, what.as_str())
 }

@@ -25,9 +25,10 @@ impl Explained for AtrReason {
 
     fn sentence(self) -> &'static str {
         match self {
-            AtrReason::BadTs => "TS, the first octet, is 3B (direct) or 3F (inverse)",
-            AtrReason::TooLong => "the bytes that are announced so far make more than 33 octets",
-            AtrReason::BadTck => "TCK makes the exclusive-or of all octets from T0 to TCK 00",
+            AtrReason::BadTs => "TS must be 3B (direct convention) or 3F (inverse convention)",
+            AtrReason::TooLong =>
+                "an answer to reset has at most 33 octets, and the bytes announced so far exceed that",
+            AtrReason::BadTck => "the exclusive-or of all octets from T0 to TCK must be 00",
         }
     }
 }
@@ -39,13 +40,14 @@ impl Explained for BlockReason {
 
     fn sentence(self) -> &'static str {
         match self {
-            BlockReason::BadPcb => "this PCB is of no I-block, R-block or S-block",
+            BlockReason::BadPcb => "no I-block, R-block or S-block has this PCB",
             BlockReason::BadLen => {
-                "LEN is at most FE in an I-block, 00 in an R-block, RESYNCH and ABORT, 01 in IFS and WTX"
+                "LEN must be 00 to FE in an I-block, 00 in an R-block, RESYNCH and ABORT, 01 in IFS and WTX"
             }
-            BlockReason::OverIfs => "LEN of an I-block is at most the information size (--ifs)",
-            BlockReason::BadIfs => "an IFS request or response has a size from 01 to FE",
-            BlockReason::BadLrc => "the LRC makes the exclusive-or of all octets of the block 00",
+            BlockReason::OverIfs =>
+                "LEN of an I-block must not exceed the information field size (--ifs)",
+            BlockReason::BadIfs => "the size in an IFS request or response must be 01 to FE",
+            BlockReason::BadLrc => "the exclusive-or of all octets of the block must be 00",
         }
     }
 }
@@ -57,19 +59,20 @@ impl Explained for ChainReason {
 
     fn sentence(self) -> &'static str {
         match self {
-            ChainReason::BadNad => "NAD of each block is 00",
-            ChainReason::BadPcb => "this PCB is of no I-block, R-block or S-block",
-            ChainReason::NotInfo => "each block is an I-block, and this PCB is of another block",
+            ChainReason::BadNad => "NAD of each block must be 00",
+            ChainReason::BadPcb => "no I-block, R-block or S-block has this PCB",
+            ChainReason::NotInfo =>
+                "a chain has only I-blocks, and this PCB is that of another block",
             ChainReason::BadSequence => {
-                "the numbers of the blocks alternate, from 0 or from that of --number"
+                "the block numbers must alternate, from 0 or from --number"
             }
             ChainReason::TooManyBlocks => {
-                "a chain has at most 131072 blocks, and this one says that more follow"
+                "a chain has at most 131072 blocks, and this one is followed by more"
             }
-            ChainReason::BadLen => "LEN is at most FE",
-            ChainReason::OverIfs => "LEN is at most the information size (--ifs)",
+            ChainReason::BadLen => "LEN must be 00 to FE",
+            ChainReason::OverIfs => "LEN must not exceed the information field size (--ifs)",
             ChainReason::TooLong => "a message has at most 131072 octets",
-            ChainReason::BadLrc => "the LRC makes the exclusive-or of all octets of the block 00",
+            ChainReason::BadLrc => "the exclusive-or of all octets of the block must be 00",
         }
     }
 }
@@ -81,7 +84,7 @@ impl Explained for CommandReason {
 
     fn sentence(self) -> &'static str {
         match self {
-            CommandReason::Trailing => "the length fields allow no octet here",
+            CommandReason::Trailing => "the length fields end the command before this octet",
         }
     }
 }
@@ -105,12 +108,14 @@ impl Explained for TlvReason {
 
     fn sentence(self) -> &'static str {
         match self {
-            TlvReason::TooDeep => "objects stand at most 16 deep, and one more begins here",
-            TlvReason::TagSecond => "the low seven bits of a second tag octet aren't all 0",
-            TlvReason::TagLong => "a tag has at most three octets, so its third is at most 7F",
-            TlvReason::LengthForm => "a length begins with 00 to 7F or 81 to 84",
-            TlvReason::Overrun => "this says more octets than are left in the object around it",
-            TlvReason::TooLong => "a forest has at most 1048576 octets",
+            TlvReason::TooDeep => "objects nest at most 16 deep, and one more begins here",
+            TlvReason::TagSecond =>
+                "in the second octet of a tag the low seven bits must not all be 0",
+            TlvReason::TagLong => "a tag has at most three octets, so the third must be at most 7F",
+            TlvReason::LengthForm => "a length field must begin with 00 to 7F or 81 to 84",
+            TlvReason::Overrun =>
+                "this object needs more octets than the object around it has left",
+            TlvReason::TooLong => "a forest of data objects has at most 1048576 octets",
         }
     }
 }
@@ -122,9 +127,10 @@ impl Explained for DolReason {
 
     fn sentence(self) -> &'static str {
         match self {
-            DolReason::TagZero => "a tag doesn't begin with 00",
-            DolReason::TagSecond => "the low seven bits of a second tag octet aren't all 0",
-            DolReason::TagLong => "a tag has at most three octets, so its third is at most 7F",
+            DolReason::TagZero => "a tag must not begin with 00",
+            DolReason::TagSecond =>
+                "in the second octet of a tag the low seven bits must not all be 0",
+            DolReason::TagLong => "a tag has at most three octets, so the third must be at most 7F",
         }
     }
 }

@@ -45,7 +45,7 @@ fn lack(alloc: Global, what: &str) -> Result<String, AllocError>
 fn longer(alloc: Global, taken: usize, count: usize) -> Result<String, AllocError>
     ensures { IfOk result (λ text. string_bytes text ≡ longer_note taken count) }
 {
-    format!(in alloc; "octets of the answer to reset: {taken}; octets left after it: {count}\n")
+    format!(in alloc; "octets of the answer to reset: {taken}; octets after it: {count}\n")
 }
 
 /// What an answer to reset lacks, as what follows its name.
@@ -55,14 +55,17 @@ fn sentence(fault: ParamFault) -> &'static str
     match fault {
         ParamFault::NoT1 => "has no TD that offers T=1",
         ParamFault::ReservedIfsc =>
-            "has 00 or FF for the card's information size, in the first TA for T=1",
-        ParamFault::Crc => "asks for the CRC, in the first TC for T=1, and only the LRC is done",
+            "gives the reserved value 00 or FF for IFSC, in the first TA for T=1",
+        ParamFault::Crc => "asks for the CRC, in the first TC for T=1, and scard has only the LRC",
     }
 }
 
-/// How many octets standard input or a session's text may have.
+/// How many octets standard input or a session's text may have, and how a longer session is split: the ends of each part
+/// begin with block number 0.
 pub fn large_note(alloc: Global, most: usize) -> Result<String, AllocError>
     ensures { IfOk result (λ text. string_bytes text ≡ large_note most) }
 {
-    format!(in alloc; "standard input, and the text of a session, has at most {most} octets\n")
+    format!(in alloc;
+        "standard input and the text of a session have at most {most} octets each\nto split a session, cut it after an answered exchange, where both ends send block 0 next\n"
+    )
 }

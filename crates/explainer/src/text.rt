@@ -19,15 +19,15 @@ const SHOWN: usize = 60;
 
 /// What is said of a dump that is taken for hexadecimal.
 const OFFSETS: &str =
-    "standard input: this text is a dump too, and its offsets are taken for octets here; --stdin dump leaves them out\n";
+    "standard input: this text is also a dump, and --stdin hex reads its offsets as octets; --stdin dump skips them\n";
 
 /// What is said of words of `od` that are taken for hexadecimal.
 const WORDS: &str =
-    "standard input: six octal digits are two octets of od, and are taken for three here; od -tx1 writes octets\n";
+    "standard input: od wrote two octets as six octal digits, which --stdin hex reads as three octets; use od -tx1\n";
 
 /// What is said of a byte order mark, which is in no form.
 const ORDER_MARK: &str =
-    "standard input: this text begins with a byte order mark, which is in no form\n";
+    "standard input: this text begins with a byte order mark, which no form allows\n";
 
 /// What is wrong at a place of a text in hexadecimal.
 #[derive(Clone, Copy)]
@@ -103,13 +103,13 @@ fn other_form(alloc: Global, form: Form, text: &[u8]) -> Result<&'static str, Al
     ensures { IfOk result (λ other. other.now ≡ other_text form text.now) }
 {
     if !is_form(form, Form::Hex) && !has_other_octets(text) && takes(alloc, Form::Hex, text)? {
-        return Ok("--stdin hex takes this text\n");
+        return Ok("--stdin hex reads this text\n");
     }
     if !is_form(form, Form::Dump) && takes(alloc, Form::Dump, text)? {
-        return Ok("--stdin dump takes this text\n");
+        return Ok("--stdin dump reads this text\n");
     }
     if !is_form(form, Form::Source) && takes(alloc, Form::Source, text)? {
-        return Ok("--stdin source takes this text\n");
+        return Ok("--stdin source reads this text\n");
     }
     Ok("")
 }
@@ -193,7 +193,7 @@ pub fn pairs_note(alloc: Global, text: &[u8]) -> Result<String, AllocError> {
         None => String::new(alloc),
     };
     note.push_str(
-        "standard input: a line is COMMAND REPLY, in hexadecimal or none, parted by blanks\n",
+        "standard input: a line is COMMAND REPLY, with blanks between; each is in hexadecimal, or none\n",
     )?;
     Ok(note)
 }
@@ -356,13 +356,13 @@ fn one_more(count: usize) -> Result<usize, AllocError>
 fn sentence(alloc: Global, wrong: Wrong) -> Result<String, AllocError> {
     match wrong {
         Wrong::Digit(octet) if is_printable(octet) => {
-            format!(in alloc; "no digit '{}'", char::from(octet))
+            format!(in alloc; "'{}' isn't a hexadecimal digit", char::from(octet))
         }
-        Wrong::Digit(octet) => format!(in alloc; "no digit, but the octet {octet:02X}"),
-        Wrong::Odd => String::from_str(alloc, "a group with an odd number of digits"),
-        Wrong::Mark => String::from_str(alloc, "a 0x with no digits after it"),
-        Wrong::NoReply => String::from_str(alloc, "no reply after the command"),
-        Wrong::Third => String::from_str(alloc, "a word after the command and the reply"),
+        Wrong::Digit(octet) => format!(in alloc; "the octet {octet:02X} isn't a hexadecimal digit"),
+        Wrong::Odd => String::from_str(alloc, "this group has an odd number of digits"),
+        Wrong::Mark => String::from_str(alloc, "digits must follow this 0x"),
+        Wrong::NoReply => String::from_str(alloc, "a reply must follow the command"),
+        Wrong::Third => String::from_str(alloc, "a line has only a command and a reply"),
     }
 }
 

@@ -40,11 +40,13 @@ pub(crate) fn digits_note(alloc: Global, number: usize, word: &str) -> Result<St
 fn digit(alloc: Global, number: usize, character: char, place: usize) -> Result<String, AllocError>
     ensures { IfOk result (λ text. string_bytes text ≡ digit_note number character place) }
 {
-    format!(in alloc; "word {number}: digit {character} at place {place}\n")
+    format!(in alloc;
+        "word {number}: the character '{character}' at place {place} isn't a hexadecimal digit\n"
+    )
 }
 
 fn odd(alloc: Global, number: usize, count: usize) -> Result<String, AllocError>
     ensures { IfOk result (λ text. string_bytes text ≡ odd_note number count) }
 {
-    format!(in alloc; "word {number}: an odd number of digits, {count}\n")
+    format!(in alloc; "word {number}: the number of digits must be even, and is {count}\n")
 }

@@ -23,22 +23,32 @@ pub fn words_note(alloc: Global, words: &[String]) -> Result<String, AllocError>
     }
 }
 
-/// What the parser says of words that it refuses, and how what they may mean is asked for. It says nothing of words
-/// after the word `help` that are no subcommand.
+/// What the parser says of words that it refuses, and how to write what they may mean.
 fn parser_note(alloc: Global, words: &[String], message: &str) -> Result<String, AllocError> {
     if words.iter().any(|word| word.as_str() == "--version") {
         return String::from_str(alloc, "--version takes no other word: scard --version\n");
     }
-    if message.is_empty() {
-        let text = "after help comes one subcommand, or no word: scard help check\n";
-        return String::from_str(alloc, text);
+    let subcommand = word_at(words, subcommand_place(words));
+    if subcommand == "help" || message.is_empty() {
+        return help_note(alloc, words);
     }
     let mut note = without_advice(alloc, message)?;
     let is_one_more = message.contains("argument '") && !message.contains("argument '-");
-    if is_one_more && reads_a_file(word_at(words, subcommand_place(words))) {
-        note.push_str("standard input takes a file: <FILE\n")?;
+    if is_one_more && reads_a_file(subcommand) {
+        note.push_str("give the file on standard input: <FILE\n")?;
     }
     Ok(note)
+}
+
+/// What the word `help` takes, with the subcommand after it as the example, or `check` where none is there.
+fn help_note(alloc: Global, words: &[String]) -> Result<String, AllocError> {
+    let next = word_at(words, subcommand_place(words).saturating_add(1));
+    let topic = if is_subcommand(next) { next } else { "check" };
+    format!(in alloc; "help takes one subcommand and no other word: scard help {topic}\n")
+}
+
+fn is_subcommand(word: &str) -> bool {
+    reads_a_file(word) || matches!(word, "check" | "show" | "build" | "simulate")
 }
 
 /// Whether a subcommand reads a file from standard input, and takes no word for it.
@@ -54,13 +64,13 @@ fn word_note(alloc: Global, words: &[String]) -> Result<String, AllocError> {
     match word_at(words, subcommand_place(words)) {
         "check" | "show" => input_note(alloc, words),
         "build" => build_note(alloc, words),
-        "replay" => option_note(alloc, words, "--end", "an end is terminal, card or both"),
+        "replay" => option_note(alloc, words, "--end", "END must be terminal, card or both"),
         "record" => atr_note(alloc, words),
         "judge" => judge_note(alloc, words),
         "simulate" => session_note(alloc, words),
         _ => String::from_str(
             alloc,
-            "there is no subcommand: check, show, build, replay, migrate, apdus, draw, record, judge or simulate\n",
+            "give a subcommand: check, show, build, replay, migrate, apdus, draw, record, judge or simulate\n",
         ),
     }
 }
@@ -69,7 +79,7 @@ fn word_note(alloc: Global, words: &[String]) -> Result<String, AllocError> {
 fn input_note(alloc: Global, words: &[String]) -> Result<String, AllocError> {
     let kind = place_of(words, 0);
     if !is_kind(word_at(words, kind)) {
-        let what = "a kind is atr, block, chain, command, response, tlv or dol";
+        let what = "KIND must be atr, block, chain, command, response, tlv or dol";
         return said(alloc, kind, what);
     }
     given_note(alloc, words, place_of(words, 1))
@@ -86,7 +96,7 @@ fn is_kind(word: &str) -> bool {
 fn given_note(alloc: Global, words: &[String], hex: usize) -> Result<String, AllocError> {
     let form = option_place(words, "--stdin");
     if form < words.len() && hex < words.len() {
-        return said(alloc, hex, "HEX can't be given beside --stdin");
+        return said(alloc, hex, "give HEX or --stdin, not both");
     }
     if form < words.len() {
         return form_note(alloc, words, form);
@@ -94,7 +104,7 @@ fn given_note(alloc: Global, words: &[String], hex: usize) -> Result<String, All
     if hex < words.len() {
         return octets_note(alloc, hex, word_at(words, hex));
     }
-    String::from_str(alloc, "there is no word HEX, and no --stdin FORM\n")
+    String::from_str(alloc, "give the octets as HEX, or by --stdin FORM\n")
 }
 
 /// What is wrong with a word HEX, and how standard input takes what it looks like.
@@ -111,14 +121,14 @@ fn octets_note(alloc: Global, number: usize, word: &str) -> Result<String, Alloc
 fn way_in(word: &str) -> &'static str {
     let octets = word.as_bytes();
     if octets.iter().any(|octet| is_blank(*octet)) || has_mark(octets) {
-        "standard input takes octets with blanks or 0x: --stdin hex\n"
+        "--stdin hex reads octets with blanks or 0x from standard input\n"
     } else if octets
         .iter()
         .any(|octet| matches!(*octet, b':' | b'-' | b','))
     {
-        "standard input takes octets with colons, dashes or commas: --stdin source\n"
+        "--stdin source reads octets with colons, dashes or commas from standard input\n"
     } else if octets.iter().any(|octet| matches!(*octet, b'.' | b'/')) {
-        "standard input takes a file: --stdin hex <FILE\n"
+        "give the file on standard input: --stdin hex <FILE\n"
     } else {
         ""
     }
@@ -131,9 +141,9 @@ fn form_note(alloc: Global, words: &[String], form: usize) -> Result<String, All
         return String::from_str(alloc, text);
     }
     let what = if matches!(word_at(words, subcommand_place(words)), "check" | "show") {
-        "a form is hex, octets, dump, source or lines"
+        "FORM must be hex, octets, dump, source or lines"
     } else {
-        "a form is hex, octets, dump or source"
+        "FORM must be hex, octets, dump or source"
     };
     said(alloc, form, what)
 }
@@ -154,13 +164,13 @@ pub(crate) fn what_form(form: Form) -> &'static str
 {
     match form {
         Form::Hex => {
-            "standard input: octets are two hexadecimal digits each, in groups that blanks part\n"
+            "standard input: an octet is two hexadecimal digits, and blanks separate groups of octets\n"
         }
         Form::Octets => "",
         Form::Dump =>
-            "standard input: a dump is what xxd, hexdump -C, od -tx1, tshark -x, gdb, HxD or Format-Hex writes, whole\n",
+            "standard input: a dump is the whole output of xxd, hexdump -C, od -tx1, tshark -x, gdb, HxD or Format-Hex\n",
         Form::Source =>
-            "standard input: octets are 0x3B, \\x3b, 3Bh or 3B, all written in one way\n",
+            "standard input: write each octet as 0x3B, \\x3b, 3Bh or 3B, and all in the same way\n",
     }
 }
 
@@ -176,7 +186,7 @@ fn build_note(alloc: Global, words: &[String]) -> Result<String, AllocError> {
     let what = place_of(words, 0);
     match word_at(words, what) {
         "tidy" if place_of(words, 2) < words.len() => {
-            said(alloc, place_of(words, 2), "build tidy takes one word HEX")
+            said(alloc, place_of(words, 2), "build tidy takes one word: HEX")
         }
         "tidy" => given_note(alloc, words, place_of(words, 1)),
         "chain" | "fill" if option_place(words, "--stdin") < words.len() => {
@@ -185,7 +195,7 @@ fn build_note(alloc: Global, words: &[String]) -> Result<String, AllocError> {
         }
         "chain" => chain_note(alloc, words),
         "fill" => list_word_note(alloc, words),
-        _ => said(alloc, what, "what is built is chain, tidy or fill"),
+        _ => said(alloc, what, "WHAT must be chain, tidy or fill"),
     }
 }
 
@@ -197,10 +207,14 @@ fn chain_note(alloc: Global, words: &[String]) -> Result<String, AllocError> {
         return String::from_str(alloc, text);
     }
     if !is_number_in(word_at(words, place_of(words, 1)), 1, 254) {
-        return said(alloc, place_of(words, 1), "IFS is a number from 1 to 254");
+        return said(
+            alloc,
+            place_of(words, 1),
+            "IFS must be a number from 1 to 254",
+        );
     }
     if !is_number_in(word_at(words, place_of(words, 2)), 0, 1) {
-        return said(alloc, place_of(words, 2), "NUMBER is 0 or 1");
+        return said(alloc, place_of(words, 2), "NUMBER must be 0 or 1");
     }
     if word_at(words, hex).len() > 262_144 {
         return said(alloc, hex, "a message has at most 131072 octets");
@@ -223,7 +237,7 @@ fn list_word_note(alloc: Global, words: &[String]) -> Result<String, AllocError>
     }
     String::from_str(
         alloc,
-        "build fill takes a word DOL, and then each F:TAG:VALUE\n",
+        "build fill takes DOL, and then any number of F:TAG:VALUE\n",
     )
 }
 
@@ -232,12 +246,7 @@ fn judge_note(alloc: Global, words: &[String]) -> Result<String, AllocError> {
     let name = "--end";
     let is_given = option_place(words, name) < words.len();
     if is_given && !matches!(option_value(words, name), "terminal" | "card") {
-        return option_note(
-            alloc,
-            words,
-            name,
-            "the end that is judged is terminal or card",
-        );
+        return option_note(alloc, words, name, "END must be terminal or card");
     }
     let is_timed = option_place(words, "--clock") < words.len();
     if is_timed && !is_frequency(option_value(words, "--clock")) {
@@ -245,7 +254,7 @@ fn judge_note(alloc: Global, words: &[String]) -> Result<String, AllocError> {
             alloc,
             words,
             "--clock",
-            "a clock is 1 to 1000000000 hertz, as decimal digits without a leading 0",
+            "HZ must be 1 to 1000000000, in decimal digits without a leading 0",
         );
     }
     atr_note(alloc, words)
@@ -267,10 +276,10 @@ fn session_note(alloc: Global, words: &[String]) -> Result<String, AllocError> {
     let form = option_place(words, "--stdin");
     let pair = place_of(words, 1);
     if form < words.len() && pair < words.len() {
-        return said(alloc, pair, "COMMAND:REPLY can't be given beside --stdin");
+        return said(alloc, pair, "give COMMAND:REPLY or --stdin, not both");
     }
     if form < words.len() && option_value(words, "--stdin") != "lines" {
-        return said(alloc, form, "simulate takes --stdin lines alone");
+        return said(alloc, form, "FORM must be lines");
     }
     session_words_note(alloc, words)
 }
@@ -283,7 +292,7 @@ fn session_words_note(alloc: Global, words: &[String]) -> Result<String, AllocEr
                 alloc,
                 words,
                 name,
-                "a list is numbers from 1, or ranges as 2-5, parted by commas, and its ranges name at most 1000000 blocks",
+                "LIST must be numbers from 1 and ranges such as 2-5, with commas between; ranges name at most 1000000 blocks",
             );
         }
     }
@@ -307,7 +316,7 @@ fn pairs_note(alloc: Global, words: &[String]) -> Result<String, AllocError> {
             break;
         }
         let Some((command, reply)) = word_at(words, place).split_once(':') else {
-            return said(alloc, place, "a pair is COMMAND:REPLY");
+            return said(alloc, place, "a pair must have the form COMMAND:REPLY");
         };
         let note = hex_note(alloc, place, command)?;
         if !note.is_empty() {

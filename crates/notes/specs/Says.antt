@@ -72,12 +72,12 @@ there before sw2 one others =
 -- status bytes
 abbrev pub status_says : ℕ → ℕ → NoteText
 status_says sw1 sw2 =
-    if sw1 == 0x61 then there [] sw2 (codes " octet to read") (codes " octets to read")
-    else if sw1 == 0x6C then there (codes "wrong Le: ") sw2 (codes " octet there") (codes " octets there")
+    if sw1 == 0x61 then there [] sw2 (codes " octet available") (codes " octets available")
+    else if sw1 == 0x6C then there (codes "wrong Le: ") sw2 (codes " octet available") (codes " octets available")
     else if (sw1 == 0x62 || sw1 == 0x64) && (nat_le 0x02 sw2 && nat_le sw2 0x80)
-    then said (codes "the card has ") (Some sw2) (codes " octets to be asked for")
+    then said (codes "the card has a query of ") (Some sw2) (codes " octets")
     else if sw1 == 0x63 && (nat_le 0xC0 sw2 && nat_le sw2 0xCF)
-    then said (codes "counter at ") (Some (sw2 - 0xC0)) (codes ", as of tries left")
+    then said (codes "counter at ") (Some (sw2 - 0xC0)) (codes ", such as the tries left")
     else words (named (λ row. row.0 == sw1 && row.1 == sw2) (λ row. row.2) statuses)
 
 -- ---- blocks (ISO/IEC 7816-3, 11.3.2)
@@ -100,13 +100,13 @@ nad_says nad = if nad == 0 then words [] else said (codes "from ") (Some (nad % 
 -- the PCB of an S-block, with the first octet of its field
 abbrev pub supervisory_says : ℕ → ℕ → NoteText
 supervisory_says pcb first =
-    if pcb == 0xC0 then words (codes "asks to begin again")
+    if pcb == 0xC0 then words (codes "asks to resynchronize")
     else if pcb == 0xC1 then said (codes "asks for an information field size of ") (Some first) []
-    else if pcb == 0xC2 then words (codes "asks to end the chain")
+    else if pcb == 0xC2 then words (codes "asks to abort the chain")
     else if pcb == 0xC3 then said (codes "asks for ") (Some first) (codes " times the block waiting time")
-    else if pcb == 0xE0 then words (codes "begins again")
+    else if pcb == 0xE0 then words (codes "resynchronizes")
     else if pcb == 0xE1 then said (codes "agrees to an information field size of ") (Some first) []
-    else if pcb == 0xE2 then words (codes "ends the chain")
+    else if pcb == 0xE2 then words (codes "aborts the chain")
     else if pcb == 0xE3 then said (codes "grants ") (Some first) (codes " times the block waiting time")
     else words []
 
@@ -118,9 +118,9 @@ pcb_says pcb first =
     then said (codes "I-block ") (Some (pcb / 64)) (codes ", more blocks of its chain follow")
     else if pcb == 0x80 || pcb == 0x90 then said (codes "no error, asks for block ") (Some (pcb / 16 % 2)) []
     else if pcb == 0x81 || pcb == 0x91
-    then said (codes "asks for block ") (Some (pcb / 16 % 2)) (codes " again: parity or LRC")
+    then said (codes "parity or LRC error, asks for block ") (Some (pcb / 16 % 2)) (codes " again")
     else if pcb == 0x82 || pcb == 0x92
-    then said (codes "asks for block ") (Some (pcb / 16 % 2)) (codes " again: another error")
+    then said (codes "another error, asks for block ") (Some (pcb / 16 % 2)) (codes " again")
     else supervisory_says pcb first
 
 -- ---- answers to reset (ISO/IEC 7816-3, 8.2.3 and 8.3)

@@ -80,15 +80,15 @@ fn push_empty(alloc: Global, notes: &mut Vec<String>, bytes: Interface) -> Resul
 
 fn tck_note(alloc: Global, tck: Option<u8>) -> Result<String, AllocError> {
     match tck {
-        Some(_) => String::from_str(alloc, "exclusive-or of T0 to here is 00"),
+        Some(_) => String::from_str(alloc, "exclusive-or of T0 to TCK is 00"),
         None => Ok(String::new(alloc)),
     }
 }
 
 fn t1_note(alloc: Global, atr: &Atr) -> Result<String, AllocError> {
     match t1_params(atr) {
-        Ok(_) => String::from_str(alloc, "redundancy code LRC"),
-        Err(_) if atr.indicated().is_empty() => String::from_str(alloc, "offers T=0 alone"),
+        Ok(_) => String::from_str(alloc, "error detection by LRC"),
+        Err(_) if atr.indicated().is_empty() => String::from_str(alloc, "offers only T=0"),
         Err(_) => Ok(String::new(alloc)),
     }
 }

@@ -54,8 +54,12 @@ pub fn pcb_note(pcb: u8, first: u8) -> Note
         0x00 | 0x40 => Note::with("I-block ", pcb / 64, ", the last of its chain"),
         0x20 | 0x60 => Note::with("I-block ", pcb / 64, ", more blocks of its chain follow"),
         0x80 | 0x90 => Note::with("no error, asks for block ", pcb / 16 % 2, ""),
-        0x81 | 0x91 => Note::with("asks for block ", pcb / 16 % 2, " again: parity or LRC"),
-        0x82 | 0x92 => Note::with("asks for block ", pcb / 16 % 2, " again: another error"),
+        0x81 | 0x91 => Note::with(
+            "parity or LRC error, asks for block ",
+            pcb / 16 % 2,
+            " again",
+        ),
+        0x82 | 0x92 => Note::with("another error, asks for block ", pcb / 16 % 2, " again"),
         _ => supervisory_note(pcb, first),
     }
 }
@@ -64,13 +68,13 @@ fn supervisory_note(pcb: u8, first: u8) -> Note
     ensures { said result.before.now result.number result.after.now ≡ supervisory_says pcb first }
 {
     match pcb {
-        0xC0 => Note::of("asks to begin again"),
+        0xC0 => Note::of("asks to resynchronize"),
         0xC1 => Note::with("asks for an information field size of ", first, ""),
-        0xC2 => Note::of("asks to end the chain"),
+        0xC2 => Note::of("asks to abort the chain"),
         0xC3 => Note::with("asks for ", first, " times the block waiting time"),
-        0xE0 => Note::of("begins again"),
+        0xE0 => Note::of("resynchronizes"),
         0xE1 => Note::with("agrees to an information field size of ", first, ""),
-        0xE2 => Note::of("ends the chain"),
+        0xE2 => Note::of("aborts the chain"),
         0xE3 => Note::with("grants ", first, " times the block waiting time"),
         _ => Note::of(""),
     }

@@ -40,8 +40,8 @@ fn rest_note(alloc: Global, octets: &[u8]) -> Result<String, AllocError> {
         [_, _] => comes_next(alloc, "LEN"),
         [_, _, len, field @ ..] => match field_left(*len, field) {
             0 => would_be(alloc, "LRC", lrc(octets)),
-            1 => String::from_str(alloc, "1 octet of its field is left"),
-            left => format!(in alloc; "{left} octets of its field are left"),
+            1 => String::from_str(alloc, "1 octet of INF must follow"),
+            left => format!(in alloc; "{left} octets of INF must follow"),
         },
     }
 }

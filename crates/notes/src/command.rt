@@ -166,8 +166,8 @@ fn part_note(alloc: Global, len: usize) -> Result<String, AllocError> {
 
 fn le_note(alloc: Global, le: Option<u32>) -> Result<String, AllocError> {
     match le {
-        Some(1) => String::from_str(alloc, "at most 1 octet in the answer"),
-        Some(le) => format!(in alloc; "at most {le} octets in the answer"),
+        Some(1) => String::from_str(alloc, "at most 1 octet of response data"),
+        Some(le) => format!(in alloc; "at most {le} octets of response data"),
         None => Ok(String::new(alloc)),
     }
 }

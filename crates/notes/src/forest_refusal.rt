@@ -81,7 +81,7 @@ fn open_note(alloc: Global, parts: &[PlacedPart], taken: usize) -> Result<String
 
 fn wants(alloc: Global, part: PlacedPart, wanted: usize) -> Result<String, AllocError> {
     let name = named(alloc, part)?;
-    format!(in alloc; "{name} wants {wanted} more")
+    format!(in alloc; "{name} needs {wanted} more")
 }
 
 /// Adds words after a comma, or the first ones.
@@ -101,7 +101,7 @@ fn short_note(
 ) -> Result<String, AllocError> {
     let mut text = open_note(alloc, parts, taken)?;
     if let Some(place) = header_place(front(octets, taken), parts) {
-        let goes_on = format!(in alloc; "the header at {place} goes on")?;
+        let goes_on = format!(in alloc; "the header at {place} is incomplete")?;
         push_parted(&mut text, goes_on.as_str())?;
     }
     Ok(text)
@@ -169,9 +169,9 @@ fn asks(alloc: Global, octets: &[u8], at: usize) -> Result<String, AllocError> {
     match header_said(header) {
         Some((tag, len)) => {
             let tag = hex_upper(alloc, tag)?;
-            format!(in alloc; "{tag} at {at} asks for {len}")
+            format!(in alloc; "{tag} at {at} needs {len}")
         }
-        None => format!(in alloc; "the object at {at} asks for more"),
+        None => format!(in alloc; "the object at {at} needs more"),
     }
 }
 

@@ -10,7 +10,7 @@ pub fn wanting_note(alloc: Global, least: Option<usize>) -> Result<String, Alloc
     match least {
         Some(least) => {
             let counted = octets_counted(alloc, least)?;
-            format!(in alloc; "at least {counted} to come")
+            format!(in alloc; "at least {counted} must follow")
         }
         None => Ok(String::new(alloc)),
     }
@@ -23,7 +23,7 @@ pub(crate) fn comes_next(alloc: Global, name: &str) -> Result<String, AllocError
 
 /// What a check octet of this name would have to be.
 pub(crate) fn would_be(alloc: Global, name: &str, octet: u8) -> Result<String, AllocError> {
-    format!(in alloc; "{name} would be {octet:02X}")
+    format!(in alloc; "{name} must be {octet:02X}")
 }
 
 /// The octets before a place.

@@ -72,13 +72,13 @@ pub fn status_note(sw1: u8, sw2: u8) -> Note
     ensures { said result.before.now result.number result.after.now ≡ status_says sw1 sw2 }
 {
     match sw1 {
-        0x61 => there("", sw2, " octet to read", " octets to read"),
-        0x6C => there("wrong Le: ", sw2, " octet there", " octets there"),
+        0x61 => there("", sw2, " octet available", " octets available"),
+        0x6C => there("wrong Le: ", sw2, " octet available", " octets available"),
         0x62 | 0x64 if 0x02 <= sw2 && sw2 <= 0x80 => {
-            Note::with("the card has ", sw2, " octets to be asked for")
+            Note::with("the card has a query of ", sw2, " octets")
         }
         0x63 if 0xC0 <= sw2 && sw2 <= 0xCF => {
-            Note::with("counter at ", sw2 - 0xC0, ", as of tries left")
+            Note::with("counter at ", sw2 - 0xC0, ", such as the tries left")
         }
         _ => Note::of(status_name(sw1, sw2)),
     }

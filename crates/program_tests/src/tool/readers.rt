@@ -212,7 +212,8 @@ fn a_reader_without_an_end(rt: HostRuntime) {
     all_say(&rt, rt.alloc(), file, 17, After::Repeats, LARGE);
     let reader = Feeder::new(file, 4096, After::Repeats);
     let text =
-        "fault: TooLarge\nstandard input, and the text of a session, has at most 4194304 octets\n";
+        "fault: TooLarge\nstandard input and the text of a session have at most 4194304 octets each\n\
+                to split a session, cut it after an answered exchange, where both ends send block 0 next\n";
     says(
         &rt,
         rt.alloc(),
