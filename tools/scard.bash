@@ -28,14 +28,14 @@ _scard_words() {
     case $command in
     check) words='--stdin --ifs --number --json --explain --help' ;;
     show) words='--stdin --ifs --number --notes --json --explain --help' ;;
-    build) words='--explain --help' ;;
+    build) words='--json --explain --help' ;;
     replay) words='--end --json --explain --help' ;;
-    migrate) words='--explain --help' ;;
+    migrate) words='--json --explain --help' ;;
     apdus) words='--json --explain --help' ;;
-    draw) words='--svg --explain --help' ;;
-    record) words='--explain --help' ;;
+    draw) words='--svg --json --explain --help' ;;
+    record) words='--json --explain --help' ;;
     judge) words='--end --clock --rules --json --explain --help' ;;
-    simulate) words='--stdin --ifsd --lose --damage --spoil --explain --help' ;;
+    simulate) words='--stdin --ifsd --lose --damage --spoil --json --explain --help' ;;
     esac
     [ "$command $what" != 'build tidy' ] || words="$words --stdin"
     case $place:$command in

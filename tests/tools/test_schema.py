@@ -25,10 +25,10 @@ def answers():
             fields = line.split("\t")
             if line.startswith("#") or len(fields) != 4 or "--json" not in fields[0].split(" "):
                 continue
-            text = re.sub(r"\\x(..)", lambda found: chr(int(found[1], 16)), fields[3].replace("\\s", " "))
-            for one in text.split("\\n"):
+            for one in fields[3].split("\\n"):
                 if one.startswith("{"):
-                    yield fields[0], json.loads(one)
+                    text = re.sub(r"\\x(..)", lambda found: chr(int(found[1], 16)), one.replace("\\s", " "))
+                    yield fields[0], json.loads(text)
 
 
 @unittest.skipUnless(jsonschema, "no package jsonschema")

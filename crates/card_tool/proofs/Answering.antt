@@ -14,9 +14,8 @@ use Rattle.card_words.specs.declared.request.Asked.{Asked}
 use Rattle.card_words.specs.declared.request.Asked.TheVariants.{Once}
 use Rattle.card_words.specs.declared.request.Request.{Request}
 use Rattle.card_words.specs.declared.request.Request.TheVariants.{Help, Version}
-use Rattle.card_tool.specs.Answers.{Answers, AnswersTo, IsAnswerTo, IsRight, IsRightTo, IsToldOf}
+use Rattle.card_tool.specs.Answers.{IsAnswerTo, IsRight, IsRightTo, IsToldOf}
 use Rattle.card_tool.specs.Files.{IsTaken, ReadsWhole}
-use Rattle.card_kinds.specs.declared.answer.Answer.{Answer}
 use Rattle.card_kinds.specs.declared.status.Status.{Status}
 use Rattle.card_kinds.specs.declared.status.Status.TheVariants as status
 
@@ -69,12 +68,6 @@ module _ (words : List (List ℕ)) (held left : Option (List ℕ)) (before after
     is_answer = record { read = Ok (Once request); is_read = read; is_answer = to.is_answer };
   })
   right request text ended read (inr wanting) = inr wanting
-
-  -- what answers the request answers the words
-  pub answered-words : (request : Request) (r : Result Answer Fault) → IsRead words (Ok (Once request))
-      → AnswersTo request held left before after r → Answers words held left before after r
-  answered-words request (Ok answer) read h = right request answer.text answer.status read h
-  answered-words request (Err fault) read h = right request (fault_text fault) status.Fault read h
 
 -- the line of the fault of words that were refused, or of memory
 pub refused-words : (words : List (List ℕ)) (held : Option (List ℕ)) (count : ℕ) (fault : Fault)

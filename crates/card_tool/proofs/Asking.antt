@@ -77,11 +77,12 @@ module _ (held : Option (List ℕ)) (count : ℕ) (old new : Option (List ℕ)) 
     is_right = record {
       text = fault_text Memory;
       note = [];
-      is_right = inr (refl, refl, refl);
-      is_noted = inl (inr (refl, refl, refl), silent refl);
-      is_whole =
-          sym (append-nil (fault_text Memory));
-      unasked = λ _. refl;
+      is_said = record {
+        is_right = inr (refl, refl, refl);
+        is_noted = inl (inr (refl, refl, refl), silent refl);
+        unasked = λ _. refl;
+      };
+      is_whole = sym (append-nil (fault_text Memory));
     };
     is_written = is;
   }

@@ -1,5 +1,5 @@
 -- How lines are answered as they come.
-use Rattle.std.proofs.Common.{◌≡◌, ◌≤◌, ◌<◌, ◌∙◌, inl, inr, ◌+◌, ◌++◌, ◌==◌, if◌then◌else◌, nat_le, ℕ, List, [], ◌∷◌, Bool, true, false, Option, Some, None, Result, Ok, Err, OnOk, OnErr, ap, append-nil, append_assoc, arith, length, refl, subst, sym, take, drop}
+use Rattle.std.proofs.Common.{◌≡◌, ◌≤◌, ◌<◌, ◌⊎◌, ◌∙◌, inl, inr, ◌+◌, ◌++◌, ◌==◌, if◌then◌else◌, nat_le, ℕ, List, [], ◌∷◌, Bool, true, false, Option, Some, None, Result, Ok, Err, OnOk, OnErr, ap, append-nil, append_assoc, arith, length, refl, subst, sym, take, drop}
 use Rattle.std.proofs.lemmas.Bool.{cases_order}
 use Rattle.std.proofs.lemmas.Bool.Decides.{nat_tests}
 use Rattle.std.proofs.lemmas.List.{length-append, length-take, take_all, take-append-drop, take-append-le}
@@ -10,8 +10,8 @@ use Rattle.card_words.specs.Loose.{loose_octets}
 use Rattle.card_words.specs.declared.fault.Fault.{Fault}
 use Rattle.card_words.specs.declared.fault.Fault.TheVariants.{TooLarge}
 use Rattle.card_tool.specs.declared.telling.Telling.{Telling}
-use Rattle.card_tool.specs.Answers.{IsWritten, all, cut}
-use Rattle.card_tool.specs.LineNotes.{AreLinesSaid, IsLineExplained, IsLineSaid}
+use Rattle.card_tool.specs.Answers.{IsTold, IsToldOf, IsWritten, all, cut}
+use Rattle.card_tool.specs.LineNotes.{AreLinesSaid, IsLineSaid, IsNoteOfLine}
 use Rattle.card_tool.specs.Files.{largest_file}
 use Rattle.card_tool.specs.Lines.{all_lines, ended_lines, last_line, line_octets, lines_after, rest_after, worse}
 use Rattle.card_tool.specs.LineAnswers.{HasBegun, HasSaid}
@@ -107,9 +107,13 @@ module _ (telling : Telling) where
   kept-told : (line t : List ℕ) (s : Status) → IsLineSaid telling (take (largest_file + 1) line) t s
       → IsLineSaid telling line t s
   kept-told line t s h = record {
-    explained = h.explained;
-    is_explained = subst (λ (r : Result (List ℕ) Fault). IsLineExplained telling r h.explained s) (kept-octets line)
-        h.is_explained;
+    told = h.told;
+    note = h.note;
+    is_told = subst (λ (r : Result (List ℕ) Fault). IsToldOf (IsTold telling.task) r h.told s) (kept-octets line)
+        h.is_told;
+    is_note = subst (λ (r : Result (List ℕ) Fault). (h.note ≡ []) ⊎ IsNoteOfLine telling.task r h.note)
+        (kept-octets line) h.is_note;
+    unasked = h.unasked;
     is_text = h.is_text;
   }
 

@@ -1,5 +1,5 @@
--- How an answer becomes one with an explanation.
-use Rattle.std.proofs.Common.{◌≡◌, ◌⊎◌, ◌∙◌, ◌++◌, inl, inr, ℕ, List, [], Option, Some, None, Result, Ok, Err, IfOk, IfErr, OnOk, IsOkAnd, String, length, string_bytes, true, ap, append-nil, refl, subst, sym}
+-- How answers and the notes on them are those of a request, and of words.
+use Rattle.std.proofs.Common.{◌≡◌, ◌⊎◌, ◌∙◌, ◌++◌, inl, inr, ℕ, List, [], Option, Some, None, Result, Ok, Err, IfOk, IfErr, OnOk, IsOkAnd, String, length, string_bytes, Bool, true, false, ap, append-nil, refl, subst, sym}
 use Rattle.std.specs.declared.alloc.Global.{Global}
 use Rattle.command_line.specs.Asked.{asks_to_explain}
 use Rattle.card_words.specs.Given.{octets_given, octets_in, IsFromReader}
@@ -13,12 +13,13 @@ use Rattle.card_words.specs.declared.fault.Fault.TheVariants.{Memory}
 use Rattle.card_words.specs.declared.given.OctetSource.{OctetSource}
 use Rattle.card_words.specs.declared.request.Asked.TheVariants.{Once}
 use Rattle.card_words.specs.declared.request.Request.{Request}
-use Rattle.card_tool.specs.Answers.{AnswersTo, Gives, IsAnswerTo, IsRight, IsRightTo, IsToldOf}
-use Rattle.card_tool.specs.Explained.{differs, form_note, octets_of, text_note, Fits, GivesExplained, IsAdded, IsExplained, IsDifferenceNote, IsFaulted, IsFaultNote, IsFillNote, IsNoted, IsNotedTo, IsNoteOn, IsNoteTo, IsRightWith, IsTakenWith, on_fault, silent}
+use Rattle.card_tool.specs.Answers.{IsAnswerTo, IsRight, IsRightTo, IsToldOf}
+use Rattle.card_tool.specs.Explained.{differs, form_note, octets_of, said_of, text_note, AreNoted, Fits, IsDifferenceNote, IsFaulted, IsFaultNote, IsFillNote, IsNoted, IsNoteOn, IsNoteTo, IsReplyTo, IsRightWith, IsSaid, IsTakenWith, Replies, RepliesTo, on_fault, silent}
 use Rattle.card_tool.specs.FileNotes.{IsLineNote, Shows}
 use Rattle.card_tool.specs.TracePlaces.{trace_place, IsPlacedNote}
 use Rattle.card_tool.specs.Files.{ReadsWhole}
-use Rattle.card_tool.specs.declared.explained.Taken.{Taken}
+use Rattle.card_tool.specs.declared.judged.WithNote.{WithNote}
+use Rattle.card_tool.specs.declared.replies.Taken.{Taken}
 use Rattle.card_tool.specs.ExchangeTexts.{IsOutcome}
 use Rattle.exchange_text.specs.Exchange.{ExchangeParts}
 use Rattle.exchange_text.specs.declared.line.Line.{Line}
@@ -28,7 +29,7 @@ use Rattle.exchange_core.specs.declared.replaying.Side.{Side}
 use Rattle.octet_core.specs.declared.stop.Stop.{Stop}
 use Rattle.card_kinds.specs.Codec.{Codec, IsVerdict}
 use Rattle.explainer.specs.Notes.{line_note, IsVerdictNote}
-use Rattle.card_tool.specs.Judged.{IsNoteBy}
+use Rattle.card_tool.specs.Judged.{IsNoteBy, SaysIf}
 use Rattle.card_kinds.specs.ListTexts.{list_codec}
 use Rattle.tlv_core.specs.Fill.{HasDuplicate}
 use Rattle.tlv_core.specs.declared.known.Known.{Known}
@@ -114,175 +115,211 @@ on-values (Ok text) list known values silence none h is (inr twice) = inr (
 )
 on-values (Err e) list known values silence none h is told = tt
 
-fits-fault : {E : Type 0} (fault : Fault) (note : Result (String Global) E) (added : List ℕ)
-    → IfOk note (λ text. IsFaultNote fault (string_bytes text)) → IsAdded note added → Fits (fault_text fault) added
-fits-fault fault note added h (inl none) = silent none
-fits-fault fault (Ok own) added h (inr is) = on_fault fault refl (subst (IsFaultNote fault) (sym is) h)
-fits-fault fault (Err e) added h (inr is) = absurd is
+-- ---- a note that is asked for
 
--- the line of a fault with a note after it
-pub faulted : {E : Type 0} (fault : Fault) (answer told : Answer) (note : Result (String Global) E) (added : List ℕ)
-    → answer.text ≡ fault_text fault → answer.status ≡ status.Fault
-    → IfOk note (λ text. IsFaultNote fault (string_bytes text)) → told.text ≡ answer.text ++ added
-    → IsAdded note added → told.status ≡ answer.status → IsFaulted fault (Ok told)
-faulted fault answer told note added is faults h text adds ended =
-    (ended ∙ faults, added, text ∙ ap (λ (l : List ℕ). l ++ added) is, fits-fault fault note added h adds)
+-- where it is asked for it is said
+pub says-asked : {E : Type 0} (explains : Bool) (Note : List ℕ → Type 0) (r : Result (String Global) E)
+    → explains ≡ true → IfOk r (λ text. Note (string_bytes text))
+    → IfOk r (λ text. SaysIf explains Note (string_bytes text))
+says-asked true Note r asks h = h
+says-asked false Note r asks h = cc asks
+
+-- and else nothing
+pub says-nothing : (explains : Bool) (Note : List ℕ → Type 0) (note : List ℕ) → explains ≡ false → note ≡ []
+    → SaysIf explains Note note
+says-nothing false Note note quiet h = h
+says-nothing true Note note quiet h = cc quiet
+
+-- the note of a verdict is one by the codec that the verdict is of
+pub says-by : {V R E : Type 0} (explains : Bool) (c : Codec V R) (b : List ℕ) (verdict : Result ℕ (Stop R))
+    (r : Result (String Global) E) → IsVerdict c b verdict
+    → IfOk r (λ text. SaysIf explains (IsVerdictNote b verdict) (string_bytes text))
+    → IfOk r (λ text. SaysIf explains (IsNoteBy c b) (string_bytes text))
+says-by true c b verdict r is h = by-verdict c b verdict r is h
+says-by false c b verdict r is h = h
+
+-- the line of a fault with a note on it
+pub faulted : (fault : Fault) (made : WithNote) → made.answer.text ≡ fault_text fault
+    → made.answer.status ≡ status.Fault → IfOk made.note (λ text. IsFaultNote fault (string_bytes text))
+    → IsFaulted fault (Ok made)
+faulted fault made is ends says = (ends, is, go made.note says)
+  where
+    go : {F : Type 0} (r : Result (String Global) F) → IfOk r (λ text. IsFaultNote fault (string_bytes text))
+        → IfOk r (λ text. (string_bytes text ≡ []) ⊎ IsFaultNote fault (string_bytes text))
+    go (Ok text) h = inr h
+    go (Err e) h = tt
+
+-- ---- answers to a request
 
 module _ (request : Request) (held left : Option (List ℕ)) (before after : ℕ) where
-  -- an answer with no note
-  pub plain : (text : List ℕ) (ended : Status) → IsRightTo request held left before after text ended
-      → IsExplained (IsNotedTo request held left before after) text ended
-  plain text ended h =
-      record { text = text; note = []; is_noted = inl (h, silent refl); is_whole = sym (append-nil text) }
+  -- an answer of which nothing is said
+  pub alone : (made : WithNote) (file : Result (List ℕ) Fault)
+      → (NeedsFile request → ReadsWhole held left before after file)
+      → IsAnswerTo request file made.answer.text made.answer.status
+      → IfOk made.note (λ note. string_bytes note ≡ []) → IsReplyTo request held left before after made
+  alone made file is_file h none =
+      record { file = file; is_file = is_file; is_answer = h; is_note = left-of made.note none }
+    where
+      left-of : {E : Type 0} (r : Result (String Global) E) → IfOk r (λ note. string_bytes note ≡ [])
+          → IfOk r (λ note. (string_bytes note ≡ []) ⊎ IsNoteTo request file (string_bytes note))
+      left-of (Ok note) h = inl h
+      left-of (Err e) h = tt
 
-  -- what a call answers that explains nothing
-  pub unexplained : (r : Result Answer Fault) → AnswersTo request held left before after r
-      → GivesExplained (IsRightTo request held left before after) (IsNotedTo request held left before after) r
-  unexplained (Ok answer) h = plain answer.text answer.status h
-  unexplained (Err fault) h = h
-
-  -- a note on what was given, or nothing in its place
-  pub with-note : {E : Type 0} (answer told : Answer) (note : Result (String Global) E) (added : List ℕ)
-      (file : Result (List ℕ) Fault) → (NeedsFile request → ReadsWhole held left before after file)
-      → IsAnswerTo request file answer.text answer.status
-      → IfOk note (λ text. IsNoteTo request file (string_bytes text)) → told.text ≡ answer.text ++ added
-      → IsAdded note added → told.status ≡ answer.status
-      → IsExplained (IsNotedTo request held left before after) told.text told.status
-  with-note answer told note added file is_file h fits text (inl none) ended = record {
-    text = answer.text;
-    note = added;
-    is_noted = inl (
-      inl (record {
-        file = file;
-        is_file = is_file;
-        is_answer = subst (IsAnswerTo request file answer.text) (sym ended) h;
-      }),
-      silent none,
-    );
-    is_whole = text;
-  }
-  with-note answer told (Ok own) added file is_file h fits text (inr is) ended = record {
-    text = answer.text;
-    note = added;
-    is_noted = inr (record {
-      file = file;
-      is_file = is_file;
-      is_answer = subst (IsAnswerTo request file answer.text) (sym ended) h;
-      is_note = subst (IsNoteTo request file) (sym is) fits;
-    });
-    is_whole = text;
-  }
-  with-note answer told (Err e) added file is_file h fits text (inr is) ended = absurd is
+  -- an answer with a note
+  pub with-note : (made : WithNote) (file : Result (List ℕ) Fault)
+      → (NeedsFile request → ReadsWhole held left before after file)
+      → IsAnswerTo request file made.answer.text made.answer.status
+      → IfOk made.note (λ note. IsNoteTo request file (string_bytes note))
+      → IsReplyTo request held left before after made
+  with-note made file is_file h note =
+      record { file = file; is_file = is_file; is_answer = h; is_note = right-of made.note note }
+    where
+      right-of : {E : Type 0} (r : Result (String Global) E)
+          → IfOk r (λ note. IsNoteTo request file (string_bytes note))
+          → IfOk r (λ note. (string_bytes note ≡ []) ⊎ IsNoteTo request file (string_bytes note))
+      right-of (Ok note) h = inr h
+      right-of (Err e) h = tt
 
 -- ---- octets that are given
 
 -- a word gave them, and there is no text
-pub word-taken-with : (octets : List ℕ) (made : Taken) (held : Option (List ℕ)) (count : ℕ) → made.octets ≡ octets
-    → IfOk made.note (λ note. string_bytes note ≡ []) → IsTakenWith (Word octets) held held count count (Ok made)
-word-taken-with octets made held count is none = record {
+pub word-taken-with : (explains : Bool) (octets : List ℕ) (made : Taken) (held : Option (List ℕ)) (count : ℕ)
+    → made.octets ≡ octets → IfOk made.note (λ note. string_bytes note ≡ [])
+    → IsTakenWith explains (Word octets) held held count count (Ok made)
+word-taken-with explains octets made held count is none = record {
   taken = record {
     file = Ok [];
     is_file = λ asked. absurd asked;
     is_taken = inl (ap taken-as is);
     count = refl;
   };
-  is_note = none;
+  is_note = nothing explains made.note none;
 }
+  where
+    nothing : {E : Type 0} (asks : Bool) (r : Result (String Global) E) → IfOk r (λ note. string_bytes note ≡ [])
+        → IfOk r (λ note. SaysIf asks (λ said. said ≡ []) (string_bytes note))
+    nothing true r h = h
+    nothing false r h = h
 
 -- or a text was read, and they were taken from it
-pub read-with : (form : Form) (held left : Option (List ℕ)) (before after : ℕ) (text : List ℕ)
-    (result : Result Taken Fault) → ReadsWhole held left before after (Ok text)
-    → UnlessMemory (octets_of result) (octets_in form text)
-    → IfOk result (λ made. IfOk made.note (λ note. string_bytes note ≡ text_note form text))
-    → IsTakenWith (Read form) held left before after result
-read-with form held left before after text result had octets note = record {
-  taken = record {
-    file = Ok text;
-    is_file = λ asked. had;
-    is_taken = elim octets [
-      | inl memory ↦ inr (memory, had.count)
-      | inr same ↦ inl same
-    ];
-    count = counted before after (octets_of result) had.count;
-  };
-  is_note = note;
-}
+module _ (form : Form) (held left : Option (List ℕ)) (before after : ℕ) (text : List ℕ)
+    (result : Result Taken Fault) (had : ReadsWhole held left before after (Ok text))
+    (octets : UnlessMemory (octets_of result) (octets_in form text)) where
+  read-with : (explains : Bool) → IfOk result (λ made. IfOk made.note
+      (λ note. SaysIf explains (λ said. said ≡ text_note form text) (string_bytes note)))
+      → IsTakenWith explains (Read form) held left before after result
+  read-with explains note = record {
+    taken = record {
+      file = Ok text;
+      is_file = λ asked. had;
+      is_taken = elim octets [
+        | inl memory ↦ inr (memory, had.count)
+        | inr same ↦ inl same
+      ];
+      count = counted before after (octets_of result) had.count;
+    };
+    is_note = note;
+  }
+
+  pub read-explained : (explains : Bool) → explains ≡ true
+      → IfOk result (λ made. IfOk made.note (λ note. string_bytes note ≡ text_note form text))
+      → IsTakenWith explains (Read form) held left before after result
+  read-explained true asks note = read-with true note
+  read-explained false asks note = cc asks
+
+  pub read-plainly : (explains : Bool) → explains ≡ false
+      → IfOk result (λ made. IfOk made.note (λ note. string_bytes note ≡ []))
+      → IsTakenWith explains (Read form) held left before after result
+  read-plainly false asks note = read-with false note
+  read-plainly true asks note = cc asks
 
 -- a request that tells of the octets that are given, and has a note on them and on their text
-module _ (request : Request) (given : OctetSource) (Told : List ℕ → List ℕ → Status → Type 0)
+module _ (explains : Bool) (request : Request) (given : OctetSource) (Told : List ℕ → List ℕ → Status → Type 0)
     (Note : List ℕ → List ℕ → Type 0)
     (held left : Option (List ℕ)) (before after : ℕ) (need : NeedsFile request → IsFromReader given)
     (answers : (file : Result (List ℕ) Fault) (text : List ℕ) (ended : Status)
     → IsToldOf Told (octets_given given file) text ended → IsAnswerTo request file text ended)
     (notes : (file : Result (List ℕ) Fault) (note : List ℕ) → IsNoteOn given file Note note
     → IsNoteTo request file note) where
+  both-said : (asks : Bool) (one other note : List ℕ) (file : Result (List ℕ) Fault) (octets : List ℕ)
+      → Ok octets ≡ octets_given given file → SaysIf asks (Note octets) one
+      → SaysIf asks (λ said. said ≡ form_note given file) other → note ≡ one ++ other
+      → (note ≡ []) ⊎ IsNoteTo request file note
+  both-said true one other note file octets same h g is =
+      inr (notes file note (subst (λ (r : Result (List ℕ) Fault). IsOkAnd r (λ b. (front : List ℕ)
+      × Note b front × (note ≡ front ++ form_note given file))) same
+      (one, h, is ∙ ap (λ (l : List ℕ). one ++ l) g)))
+  both-said false one other note file octets same h g is = inl (is ∙ ap (λ (l : List ℕ). l ++ other) h ∙ g)
+
   on-given : {E F : Type 0} (one : Result (String Global) E) (other : Result (String Global) F)
       (note : Result (String Global) E) (file : Result (List ℕ) Fault) (octets : List ℕ)
-      → Ok octets ≡ octets_given given file → IfOk one (λ text. Note octets (string_bytes text))
-      → IfOk other (λ text. string_bytes text ≡ form_note given file)
+      → Ok octets ≡ octets_given given file → IfOk one (λ text. SaysIf explains (Note octets) (string_bytes text))
+      → IfOk other (λ text. SaysIf explains (λ said. said ≡ form_note given file) (string_bytes text))
       → IfOk note (λ text. IsOkAnd one (λ first. IsOkAnd other (λ second.
       string_bytes text ≡ string_bytes first ++ string_bytes second)))
-      → IfOk note (λ text. IsNoteTo request file (string_bytes text))
+      → IfOk note (λ text. (string_bytes text ≡ []) ⊎ IsNoteTo request file (string_bytes text))
   on-given (Ok first) (Ok second) (Ok text) file octets same h g both =
-      notes file (string_bytes text) (subst (λ (r : Result (List ℕ) Fault). IsOkAnd r (λ b. (front : List ℕ)
-      × Note b front × (string_bytes text ≡ front ++ form_note given file))) same
-      (string_bytes first, h, both ∙ ap (λ (l : List ℕ). string_bytes first ++ l) g))
+      both-said explains (string_bytes first) (string_bytes second) (string_bytes text) file octets same h g both
   on-given (Ok first) (Err e) (Ok text) file octets same h g both = absurd both
   on-given (Err e) other (Ok text) file octets same h g both = absurd both
   on-given one other (Err e) file octets same h g both = tt
 
-  pub noted-given : {E : Type 0} (made : Taken) → IsTakenWith given held left before after (Ok made)
-      → (answer told : Answer) (one note : Result (String Global) E) (added : List ℕ)
-      → Told made.octets answer.text answer.status → IfOk one (λ text. Note made.octets (string_bytes text))
-      → IfOk note (λ text. IsOkAnd one (λ first. IsOkAnd made.note (λ second.
+  pub noted-given : (taken : Taken) → IsTakenWith explains given held left before after (Ok taken)
+      → (one made : WithNote) → Told taken.octets one.answer.text one.answer.status
+      → IfOk one.note (λ text. SaysIf explains (Note taken.octets) (string_bytes text))
+      → made.answer ≡ one.answer
+      → IfOk made.note (λ text. IsOkAnd one.note (λ first. IsOkAnd taken.note (λ second.
       string_bytes text ≡ string_bytes first ++ string_bytes second)))
-      → told.text ≡ answer.text ++ added → IsAdded note added → told.status ≡ answer.status
-      → IsExplained (IsNotedTo request held left before after) told.text told.status
-  noted-given made had answer told one note added h fits both text is ended =
+      → IsReplyTo request held left before after made
+  noted-given taken had one made answer fits same both =
       elim had.taken.is_taken [
-        | inl same ↦
-            with-note request held left before after answer told note added had.taken.file
-            (λ asked. had.taken.is_file (need asked))
-            (answers had.taken.file answer.text answer.status
-            (subst (λ (r : Result (List ℕ) Fault). IsToldOf Told r answer.text answer.status) same h))
-            (on-given one made.note note had.taken.file made.octets same fits had.is_note both) text is ended
+        | inl is ↦ record {
+          file = had.taken.file;
+          is_file = λ asked. had.taken.is_file (need asked);
+          is_answer = subst (λ (a : Answer). IsAnswerTo request had.taken.file a.text a.status) (sym same)
+              (answers had.taken.file one.answer.text one.answer.status
+              (subst (λ (r : Result (List ℕ) Fault). IsToldOf Told r one.answer.text one.answer.status) is answer));
+          is_note = on-given one.note taken.note made.note had.taken.file taken.octets is fits had.is_note both;
+        }
         | inr memory ↦ absurd (cc memory.0)
       ]
 
+-- ---- answers to words
+
 module _ (words : List (List ℕ)) (held left : Option (List ℕ)) (before after : ℕ) where
-  noted-words : (request : Request) (text note : List ℕ) (ended : Status) → IsRead words (Ok (Once request))
-      → IsNotedTo request held left before after text note ended → IsNoted words held left before after text note ended
-  noted-words request text note ended read (inl to) =
-      inl (right words held left before after request text ended read to.0, to.1)
-  noted-words request text note ended read (inr from) = inr (request, read, from)
-
   -- what is right of a request is right of the words
-  pub explained-words : (request : Request) (r : Result Answer Fault) → IsRead words (Ok (Once request))
-      → GivesExplained (IsRightTo request held left before after) (IsNotedTo request held left before after) r
-      → GivesExplained (IsRight words held left before after) (IsNoted words held left before after) r
-  explained-words request (Ok answer) read h = record {
-    text = h.text;
-    note = h.note;
-    is_noted = noted-words request h.text h.note answer.status read h.is_noted;
-    is_whole = h.is_whole;
-  }
-  explained-words request (Err fault) read h =
-      right words held left before after request (fault_text fault) status.Fault read h
+  pub noted-words : (request : Request) (made : WithNote) → IsRead words (Ok (Once request))
+      → IsReplyTo request held left before after made
+      → IsNoted words held left before after made.answer.text (said_of made.note) made.answer.status
+  noted-words request made read h = go made.note h.is_note
+    where
+      is-right : IsRight words held left before after made.answer.text made.answer.status
+      is-right = right words held left before after request made.answer.text made.answer.status read
+          (inl (record { file = h.file; is_file = h.is_file; is_answer = h.is_answer }))
 
-  -- a note after the line of a fault
-  pub with-fault : (fault : Fault) (r : Result Answer Fault)
-      → IsRight words held left before after (fault_text fault) status.Fault → IsFaulted fault r
-      → GivesExplained (IsRight words held left before after) (IsNoted words held left before after) r
-  with-fault fault (Ok answer) h told = record {
-    text = fault_text fault;
-    note = told.1;
-    is_noted = inl (subst (IsRight words held left before after (fault_text fault)) (sym told.0) h, told.3);
-    is_whole = told.2;
-  }
-  with-fault fault (Err other) h same =
-      subst (λ (f : Fault). IsRight words held left before after (fault_text f) status.Fault) (sym same) h
+      go : {E : Type 0} (note : Result (String Global) E)
+          → IfOk note (λ n. (string_bytes n ≡ []) ⊎ IsNoteTo request h.file (string_bytes n))
+          → IsNoted words held left before after made.answer.text (said_of note) made.answer.status
+      go (Ok n) (inl none) = inl (is-right, silent none)
+      go (Ok n) (inr is) = inr (
+        request,
+        read,
+        record {
+          file = h.file;
+          is_file = h.is_file;
+          is_answer = h.is_answer;
+          is_note = is;
+        },
+      )
+      go (Err e) is = inl (is-right, silent refl)
 
-  right-noted : (text note : List ℕ) (ended : Status) → IsNoted words held left before after text note ended
+  pub replied-words : (request : Request) (r : Result WithNote Fault) → IsRead words (Ok (Once request))
+      → RepliesTo request held left before after r → AreNoted words held left before after r
+  replied-words request (Ok made) read h = noted-words request made read h
+  replied-words request (Err fault) read h = right words held left before after request (fault_text fault) status.Fault
+      read h
+
+  pub right-noted : (text note : List ℕ) (ended : Status) → IsNoted words held left before after text note ended
       → IsRight words held left before after text ended
   right-noted text note ended (inl to) = to.0
   right-noted text note ended (inr from) = right words held left before after from.0 text ended from.1 (inl (record {
@@ -291,41 +328,64 @@ module _ (words : List (List ℕ)) (held left : Option (List ℕ)) (before after
     is_answer = from.2.is_answer;
   }))
 
-  -- the line of a fault with no note
-  pub unasked-fault : (fault : Fault) → IsRight words held left before after (fault_text fault) status.Fault
+  -- a text of which nothing is said
+  pub said-nothing : (text : List ℕ) (ended : Status) → IsRight words held left before after text ended
+      → IsSaid words held left before after text [] ended
+  said-nothing text ended h =
+      record { is_right = h; is_noted = inl (h, silent refl); unasked = λ _. refl }
+
+  -- or a note, where it is asked for
+  pub said-asked : (text note : List ℕ) (ended : Status) → asks_to_explain words ≡ true
+      → IsNoted words held left before after text note ended → IsSaid words held left before after text note ended
+  said-asked text note ended asks h = record {
+    is_right = right-noted text note ended h;
+    is_noted = h;
+    unasked = λ quiet. absurd (cc (asks, quiet));
+  }
+
+  -- a note on the line of a fault
+  pub said-fault : (fault : Fault) (r : Result WithNote Fault) → asks_to_explain words ≡ true
+      → IsRight words held left before after (fault_text fault) status.Fault → IsFaulted fault r
+      → Replies words held left before after r
+  said-fault fault (Ok made) asks h told = go made.note told.2
+    where
+      is-right : IsRight words held left before after made.answer.text made.answer.status
+      is-right = rw (told.0, told.1) h
+
+      go : {E : Type 0} (note : Result (String Global) E)
+          → IfOk note (λ n. (string_bytes n ≡ []) ⊎ IsFaultNote fault (string_bytes n))
+          → IsSaid words held left before after made.answer.text (said_of note) made.answer.status
+      go (Ok n) (inl none) = said-asked made.answer.text (string_bytes n) made.answer.status asks
+          (inl (is-right, silent none))
+      go (Ok n) (inr is) = said-asked made.answer.text (string_bytes n) made.answer.status asks
+          (inl (is-right, on_fault fault told.1 is))
+      go (Err e) is = said-nothing made.answer.text made.answer.status is-right
+  said-fault fault (Err other) asks h same =
+      rw same (said-nothing (fault_text fault) status.Fault h)
+
+  -- an answer whose note isn't asked for
+  pub said-alone : (made alone : WithNote) → IsNoted words held left before after made.answer.text
+      (said_of made.note) made.answer.status → alone.answer ≡ made.answer → said_of alone.note ≡ []
+      → IsSaid words held left before after alone.answer.text (said_of alone.note) alone.answer.status
+  said-alone made alone h same none = rw (same, none) (said-nothing made.answer.text made.answer.status
+      (right-noted made.answer.text (said_of made.note) made.answer.status h))
+
+  -- ---- as lines
+
+  -- a note after the text, or nothing where memory for that was refused
+  pub printed : (text note added whole : List ℕ) (ended : Status) → IsSaid words held left before after text note ended
+      → whole ≡ text ++ added → (added ≡ []) ⊎ (added ≡ note) → IsRightWith words held left before after whole ended
+  printed text note added whole ended h is (inl none) = record {
+    text = text;
+    note = [];
+    is_said = said-nothing text ended h.is_right;
+    is_whole = is ∙ ap (λ (l : List ℕ). text ++ l) none;
+  }
+  printed text note added whole ended h is (inr same) =
+      record { text = text; note = note; is_said = h; is_whole = is ∙ ap (λ (l : List ℕ). text ++ l) same }
+
+  -- the line of a fault
+  pub printed-fault : (fault : Fault) → IsSaid words held left before after (fault_text fault) [] status.Fault
       → IsRightWith words held left before after (fault_text fault) status.Fault
-  unasked-fault fault h = record {
-    text = fault_text fault;
-    note = [];
-    is_right = h;
-    is_noted = inl (h, silent refl);
-    is_whole = sym (append-nil (fault_text fault));
-    unasked = λ _. refl;
-  }
-
-  -- words that ask for no explanation
-  pub unasked : (r : Result Answer Fault) → Gives (IsRight words held left before after) r
-      → Gives (IsRightWith words held left before after) r
-  unasked (Ok answer) h = record {
-    text = answer.text;
-    note = [];
-    is_right = h;
-    is_noted = inl (h, silent refl);
-    is_whole = sym (append-nil answer.text);
-    unasked = λ _. refl;
-  }
-  unasked (Err fault) h = unasked-fault fault h
-
-  -- words that ask for one
-  pub asked : (r : Result Answer Fault) → (asks_to_explain words ≡ true)
-      → GivesExplained (IsRight words held left before after) (IsNoted words held left before after) r
-      → Gives (IsRightWith words held left before after) r
-  asked (Ok answer) ask h = record {
-    text = h.text;
-    note = h.note;
-    is_right = right-noted h.text h.note answer.status h.is_noted;
-    is_noted = h.is_noted;
-    is_whole = h.is_whole;
-    unasked = λ quiet. absurd (cc (ask, quiet));
-  }
-  asked (Err fault) ask h = unasked-fault fault h
+  printed-fault fault h =
+      record { text = fault_text fault; note = []; is_said = h; is_whole = sym (append-nil (fault_text fault)) }

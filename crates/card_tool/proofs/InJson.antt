@@ -1,5 +1,5 @@
 -- Answers as objects of JSON, and as lines.
-use Rattle.std.proofs.Common.{◌≡◌, ℕ, List, Bool, true, false, Option, Result, Ok, Err, IfOk, refl}
+use Rattle.std.proofs.Common.{◌≡◌, ℕ, List, [], Bool, true, false, Option, Result, Ok, Err, refl}
 use Rattle.command_line.specs.Asked.{asks_for_json}
 use Rattle.card_words.specs.Texts.{fault_text}
 use Rattle.card_words.specs.declared.fault.Fault.{Fault}
@@ -7,9 +7,10 @@ use Rattle.card_words.specs.declared.fault.Fault.TheVariants.{Memory}
 use Rattle.card_kinds.specs.declared.answer.Answer.{Answer}
 use Rattle.card_kinds.specs.declared.status.Status.{Status}
 use Rattle.card_kinds.specs.declared.status.Status.TheVariants as status
-use Rattle.card_tool.specs.Answers.{Gives, IsRight, IsWritten, Writes}
-use Rattle.card_tool.specs.Explained.{IsRightWith}
+use Rattle.card_tool.specs.Answers.{Gives, IsWritten, Writes}
+use Rattle.card_tool.specs.Explained.{said_of, IsRightWith, IsSaid}
 use Rattle.card_tool.specs.InJson.{IsRightAsked, IsRightJson, in_json, in_lines, unmade}
+use Rattle.card_tool.specs.declared.judged.WithNote.{WithNote}
 use Rattle.card_tool.proofs.Asking.{no-words}
 
 module _ (words : List (List ℕ)) (held left : Option (List ℕ)) (before after : ℕ) where
@@ -25,14 +26,14 @@ module _ (words : List (List ℕ)) (held left : Option (List ℕ)) (before after
   lines-asked (Ok answer) ask h = in_lines ask h
   lines-asked (Err fault) ask h = in_lines ask h
 
--- the line of a fault that is right is so as an answer
-pub right-line : {E : Type 0} (words : List (List ℕ)) (held left : Option (List ℕ)) (before after : ℕ) (fault : Fault)
-    (r : Result Answer E) → IsRight words held left before after (fault_text fault) status.Fault
-    → IfOk r (λ answer. answer.text ≡ fault_text fault) → IfOk r (λ answer. answer.status ≡ status.Fault)
-    → IfOk r (λ answer. IsRight words held left before after answer.text answer.status)
-right-line words held left before after fault (Ok answer) h text ended =
-    rw (text, ended) h
-right-line words held left before after fault (Err e) h text ended = tt
+-- the line of a fault that is right is so as an answer of which nothing is said
+pub right-line : (words : List (List ℕ)) (held left : Option (List ℕ)) (before after : ℕ) (fault : Fault)
+    (answer : Answer) (made : WithNote) → IsSaid words held left before after (fault_text fault) [] status.Fault
+    → answer.text ≡ fault_text fault → answer.status ≡ status.Fault
+    → made.answer ≡ answer → said_of made.note ≡ []
+    → IsSaid words held left before after made.answer.text (said_of made.note) made.answer.status
+right-line words held left before after fault answer made h text ended same none =
+    rw (same, none, text, ended) h
 
 -- the line of memory that ran out before the words were read is right of any
 pub no-words-asked : (held : Option (List ℕ)) (count : ℕ) (old new : Option (List ℕ)) (before after : ℕ)

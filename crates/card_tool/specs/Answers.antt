@@ -72,12 +72,15 @@ object_of kind status.Accepted told = told
 object_of kind status.Refused told = told
 object_of kind status.Fault told = json_object (kind_name kind) told
 
--- how a line is answered by what is told of it: a check by one line, a value by several and an empty one, and each by
--- one as an object of JSON
+-- how a line is answered by lines that are told of it: a check by one, and a value by several and an empty one
+abbrev pub lines_text : Aim → List ℕ → List ℕ
+lines_text Check told = told
+lines_text Show told = told ++ codes "\n"
+lines_text Note told = told ++ codes "\n"
+
+-- and how it is answered by one as an object of JSON too
 abbrev pub line_text : Aim → Layout → Kind → Status → List ℕ → List ℕ
-line_text Check layout.Lines kind ended told = told
-line_text Show layout.Lines kind ended told = told ++ codes "\n"
-line_text Note layout.Lines kind ended told = told ++ codes "\n"
+line_text aim layout.Lines kind ended told = lines_text aim told
 line_text aim layout.Json kind ended told = object_of kind ended told
 
 -- the same by a task
@@ -229,9 +232,3 @@ pub record Writes (Right : List ℕ → Status → Type 0) (old new : Option (Li
 abbrev pub Gives : (List ℕ → Status → Type 0) → Result Answer Fault → Type 0
 Gives Right (Ok answer) = Right answer.text answer.status
 Gives Right (Err fault) = Right (fault_text fault) status.Fault
-
-abbrev pub Answers : List (List ℕ) → Option (List ℕ) → Option (List ℕ) → ℕ → ℕ → Result Answer Fault → Type 0
-Answers words held left before after = Gives (IsRight words held left before after)
-
-abbrev pub AnswersTo : Request → Option (List ℕ) → Option (List ℕ) → ℕ → ℕ → Result Answer Fault → Type 0
-AnswersTo request held left before after = Gives (IsRightTo request held left before after)

@@ -1,8 +1,8 @@
--- The text that words have where they ask for an explanation.
+-- What the program says of words: a text, and an explanation of it where they ask for one.
 --
 -- held and left are the octets that the reader held before and after, where they are known; before and after are the
 -- counts of its calls that failed.
-use Rattle.std.specs.Prelude.{◌≡◌, ◌⊎◌, ◌++◌, ℕ, List, [], Option, Some, None, Result, Ok, Err, IfOk, IsOkAnd, MatchResult, String, string_bytes, false}
+use Rattle.std.specs.Prelude.{◌≡◌, ◌⊎◌, ◌++◌, ℕ, List, [], Option, Some, None, Result, Ok, Err, IfOk, IsOkAnd, MatchResult, String, string_bytes, Bool, false}
 use Rattle.std.specs.declared.alloc.Global.{Global}
 use Rattle.command_line.specs.Asked.{asks_to_explain}
 use Rattle.card_words.specs.Given.{octets_given}
@@ -23,7 +23,6 @@ use Rattle.card_words.specs.declared.request.Request.{Request}
 use Rattle.card_words.specs.declared.request.Request.TheVariants.{BuildTidy, BuildFill, Tell, File, Record, Judge, Simulate, SimulateLines}
 use Rattle.card_kinds.specs.ForestTexts.{forest_codec}
 use Rattle.card_kinds.specs.ListTexts.{list_codec}
-use Rattle.card_kinds.specs.declared.answer.Answer.{Answer}
 use Rattle.card_kinds.specs.declared.status.Status.{Status}
 use Rattle.card_kinds.specs.declared.status.Status.TheVariants as status
 use Rattle.exchange_text.specs.Exchange.{ExchangeParts}
@@ -36,8 +35,9 @@ use Rattle.tlv_core.specs.declared.known.Known.{Known}
 use Rattle.explainer.specs.Notes.{large_note, offsets_note}
 use Rattle.card_tool.specs.Answers.{IsAnswerTo, IsRight, IsRightTo}
 use Rattle.card_tool.specs.Files.{largest_file, IsTaken, ReadsWhole}
-use Rattle.card_tool.specs.Judged.{IsKindNote, IsNoteBy}
-use Rattle.card_tool.specs.declared.explained.Taken.{Taken}
+use Rattle.card_tool.specs.Judged.{IsKindNote, IsNoteBy, SaysIf}
+use Rattle.card_tool.specs.declared.judged.WithNote.{WithNote}
+use Rattle.card_tool.specs.declared.replies.Taken.{Taken}
 use Rattle.card_tool.specs.FileNotes.{line_of, IsLineNote}
 use Rattle.card_tool.specs.TracePlaces.{trace_place, IsPlacedNote}
 use Rattle.card_tool.specs.RecordTexts.{IsRecordNote}
@@ -123,7 +123,7 @@ pub data Fits (text note : List ℕ) : Type 0 where
   silent : note ≡ [] → Fits text note
   on_fault : (told : Fault) → text ≡ fault_text told → IsFaultNote told note → Fits text note
 
--- a text and a note that answer a request
+-- an answer to a request and the note on what it was given, which is empty where there is nothing to say
 pub record IsNotedFrom (request : Request) (held left : Option (List ℕ)) (before after : ℕ) (text note : List ℕ)
     (ended : Status) : Type 0 where
   pub file : Result (List ℕ) Fault
@@ -131,13 +131,7 @@ pub record IsNotedFrom (request : Request) (held left : Option (List ℕ)) (befo
   pub is_answer : IsAnswerTo request file text ended
   pub is_note : IsNoteTo request file note
 
--- what is right of a request: the note is that on what it was given, or it fits the text alone
-abbrev pub IsNotedTo : Request → Option (List ℕ) → Option (List ℕ) → ℕ → ℕ → List ℕ → List ℕ → Status → Type 0
-IsNotedTo request held left before after text note ended =
-    (IsRightTo request held left before after text ended × Fits text note)
-    ⊎ IsNotedFrom request held left before after text note ended
-
--- and of words
+-- and of words: the note is that on what a request was given, or it fits the text alone
 abbrev pub IsNoted : List (List ℕ) → Option (List ℕ) → Option (List ℕ) → ℕ → ℕ → List ℕ → List ℕ → Status → Type 0
 IsNoted words held left before after text note ended =
     (IsRight words held left before after text ended × Fits text note)
@@ -150,55 +144,66 @@ abbrev pub octets_of : Result Taken Fault → Result (List ℕ) Fault
 octets_of (Ok taken) = Ok taken.octets
 octets_of (Err fault) = Err fault
 
--- what taking octets gives, and what is said of their text, where memory was there for it
-pub record IsTakenWith (given : OctetSource) (held left : Option (List ℕ)) (before after : ℕ)
+-- what taking octets gives, and what is said of their text where that is asked for and memory was there for it
+pub record IsTakenWith (explains : Bool) (given : OctetSource) (held left : Option (List ℕ)) (before after : ℕ)
     (result : Result Taken Fault) :
     Type 0 where
   pub taken : IsTaken given held left before after (octets_of result)
-  pub is_note : IfOk result
-      (λ made. IfOk made.note (λ note. string_bytes note ≡ form_note given taken.file))
+  pub is_note : IfOk result (λ made. IfOk made.note
+      (λ note. SaysIf explains (λ said. said ≡ form_note given taken.file) (string_bytes note)))
 
--- ---- texts with notes
+-- ---- answers with notes
 
--- a text, and after it the note that it has
-pub record IsExplained (Noted : List ℕ → List ℕ → Status → Type 0) (whole : List ℕ) (ended : Status) : Type 0 where
-  pub text : List ℕ
-  pub note : List ℕ
-  pub is_noted : Noted text note ended
-  pub is_whole : whole ≡ text ++ note
+-- what is said: a note, or nothing where memory for it was refused
+abbrev pub said_of : {E : Type 0} → Result (String Global) E → List ℕ
+said_of (Ok note) = string_bytes note
+said_of (Err _) = []
 
--- what makes a text with a note, or a fault without one
-abbrev pub GivesExplained : (List ℕ → Status → Type 0) → (List ℕ → List ℕ → Status → Type 0) → Result Answer Fault
-    → Type 0
-GivesExplained Right Noted (Ok answer) = IsExplained Noted answer.text answer.status
-GivesExplained Right Noted (Err fault) = Right (fault_text fault) status.Fault
+-- an answer to a request, with the note on what that was given or none, where memory was there for it
+pub record IsReplyTo (request : Request) (held left : Option (List ℕ)) (before after : ℕ) (made : WithNote) :
+    Type 0 where
+  pub file : Result (List ℕ) Fault
+  pub is_file : NeedsFile request → ReadsWhole held left before after file
+  pub is_answer : IsAnswerTo request file made.answer.text made.answer.status
+  pub is_note : IfOk made.note (λ note. (string_bytes note ≡ []) ⊎ IsNoteTo request file (string_bytes note))
 
--- an answer to a request, with a note after it
-abbrev pub AnswersExplainedTo : Request → Option (List ℕ) → Option (List ℕ) → ℕ → ℕ → Result Answer Fault → Type 0
-AnswersExplainedTo request held left before after =
-    GivesExplained (IsRightTo request held left before after) (IsNotedTo request held left before after)
+-- what answers a request, or the fault for which nothing does
+abbrev pub RepliesTo : Request → Option (List ℕ) → Option (List ℕ) → ℕ → ℕ → Result WithNote Fault → Type 0
+RepliesTo request held left before after (Ok made) = IsReplyTo request held left before after made
+RepliesTo request held left before after (Err fault) =
+    IsRightTo request held left before after (fault_text fault) status.Fault
 
--- and to words
-abbrev pub AnswersExplained : List (List ℕ) → Option (List ℕ) → Option (List ℕ) → ℕ → ℕ → Result Answer Fault → Type 0
-AnswersExplained words held left before after =
-    GivesExplained (IsRight words held left before after) (IsNoted words held left before after)
+-- a text and a note that are right of words: no note where none is asked for
+pub record IsSaid (words : List (List ℕ)) (held left : Option (List ℕ)) (before after : ℕ) (text note : List ℕ)
+    (ended : Status) : Type 0 where
+  pub is_right : IsRight words held left before after text ended
+  pub is_noted : IsNoted words held left before after text note ended
+  pub unasked : asks_to_explain words ≡ false → note ≡ []
 
--- the line of a fault with a note after it, or the fault itself
-abbrev pub IsFaulted : Fault → Result Answer Fault → Type 0
-IsFaulted told (Ok answer) = (answer.status ≡ status.Fault) × (note : List ℕ)
-    × (answer.text ≡ fault_text told ++ note) × Fits (fault_text told) note
+-- what answers words
+abbrev pub Replies : List (List ℕ) → Option (List ℕ) → Option (List ℕ) → ℕ → ℕ → Result WithNote Fault → Type 0
+Replies words held left before after (Ok made) =
+    IsSaid words held left before after made.answer.text (said_of made.note) made.answer.status
+Replies words held left before after (Err fault) =
+    IsSaid words held left before after (fault_text fault) [] status.Fault
+
+-- the same whether an explanation is asked for or not
+abbrev pub AreNoted : List (List ℕ) → Option (List ℕ) → Option (List ℕ) → ℕ → ℕ → Result WithNote Fault → Type 0
+AreNoted words held left before after (Ok made) =
+    IsNoted words held left before after made.answer.text (said_of made.note) made.answer.status
+AreNoted words held left before after (Err fault) =
+    IsRight words held left before after (fault_text fault) status.Fault
+
+-- the line of a fault with a note on it, or the fault itself
+abbrev pub IsFaulted : Fault → Result WithNote Fault → Type 0
+IsFaulted told (Ok made) = (made.answer.status ≡ status.Fault) × (made.answer.text ≡ fault_text told)
+    × IfOk made.note (λ note. (string_bytes note ≡ []) ⊎ IsFaultNote told (string_bytes note))
 IsFaulted told (Err same) = same ≡ told
 
--- what came after a text: the note, or nothing where memory for it was refused
-abbrev pub IsAdded : {E : Type 0} → Result (String Global) E → List ℕ → Type 0
-IsAdded note added = (added ≡ []) ⊎ IsOkAnd note (λ text. added ≡ string_bytes text)
-
--- what is right of words: with an explanation only where they ask for one
+-- the text that is right of words, with what is said after it
 pub record IsRightWith (words : List (List ℕ)) (held left : Option (List ℕ)) (before after : ℕ) (whole : List ℕ)
     (ended : Status) : Type 0 where
   pub text : List ℕ
   pub note : List ℕ
-  pub is_right : IsRight words held left before after text ended
-  pub is_noted : IsNoted words held left before after text note ended
+  pub is_said : IsSaid words held left before after text note ended
   pub is_whole : whole ≡ text ++ note
-  pub unasked : asks_to_explain words ≡ false → note ≡ []

@@ -2,11 +2,13 @@
 --
 -- held and left are the octets that the reader held before and after, where they are known; before and after are the
 -- counts of its calls that failed.
-use Rattle.std.specs.Prelude.{◌≡◌, ℕ, List, Option, Result, Ok, Err, codes, true, false}
+use Rattle.std.specs.Prelude.{◌≡◌, ℕ, ◌-◌, List, [], ◌∷◌, ◌++◌, Option, Result, Ok, Err, codes, drop, length, take, true, false}
 use Rattle.command_line.specs.Asked.{asks_for_json}
 use Rattle.card_words.specs.Texts.{fault_text}
 use Rattle.card_words.specs.declared.fault.Fault.{Fault}
 use Rattle.card_words.specs.declared.fault.Fault.TheVariants.{Memory}
+use Rattle.card_words.specs.declared.request.Ends.{Ends}
+use Rattle.card_words.specs.declared.request.Ends.TheVariants as end
 use Rattle.card_words.specs.declared.request.FileTask.{FileTask}
 use Rattle.card_words.specs.declared.request.FileTask.TheVariants.{Replay, Migrate, Apdus, Draw}
 use Rattle.card_words.specs.declared.request.Layout.{Layout}
@@ -14,13 +16,16 @@ use Rattle.card_words.specs.declared.request.Layout.TheVariants as layout
 use Rattle.card_words.specs.declared.request.Kind.{Kind}
 use Rattle.card_words.specs.declared.request.Request.{Request}
 use Rattle.card_words.specs.declared.request.Request.TheVariants.{BuildChain, BuildTidy, BuildFill, Tell, File, Record, Judge, Simulate, SimulateLines, Help, Version}
+use Rattle.card_kinds.specs.Json.{object_head}
 use Rattle.card_kinds.specs.Verdicts.{kind_name}
+use Rattle.json_lines.specs.Answers.{json_text}
+use Rattle.json_lines.specs.Strings.{json_string, line_strings}
 use Rattle.card_kinds.specs.declared.status.Status.{Status}
 use Rattle.card_kinds.specs.declared.status.Status.TheVariants as status
-use Rattle.card_tool.specs.Answers.{json_object, object_of, IsReadFrom, IsRight}
-use Rattle.card_tool.specs.Explained.{IsRightWith}
+use Rattle.card_tool.specs.Answers.{json_object, object_of, IsReadFrom}
+use Rattle.card_tool.specs.Explained.{IsRightWith, IsSaid}
 use Rattle.card_tool.specs.declared.json.Object.{Object}
-use Rattle.card_tool.specs.declared.json.Object.TheVariants.{Told, Lines}
+use Rattle.card_tool.specs.declared.json.Object.TheVariants.{Told, Report, Judged, Content}
 
 -- what is told of a file, by its subcommand
 abbrev pub file_subject : FileTask → List ℕ
@@ -48,22 +53,75 @@ abbrev pub told_object : Layout → Kind → Status → List ℕ → List ℕ
 told_object layout.Lines kind ended told = json_object (kind_name kind) told
 told_object layout.Json kind ended told = object_of kind ended told
 
+-- an object that has lines as they are
+abbrev pub object_with_lines : List ℕ → List ℕ → List ℕ
+object_with_lines about lines = object_head about
+    ++ (codes "\"verdict\":\"ok\",\"lines\":[" ++ (line_strings lines ++ codes "]}\n"))
+
+-- lines that are what was asked for are such an object, and those of a refusal or a fault one by their forms
+abbrev pub content_object : List ℕ → Status → List ℕ → List ℕ
+content_object about status.Accepted told = object_with_lines about told
+content_object about status.Refused told = json_object about told
+content_object about status.Fault told = json_object about told
+
+-- the verdict of lines that don't say it, by the status: a fault says it
+abbrev pub verdict_member : Status → List ℕ
+verdict_member status.Accepted = codes "\"verdict\":\"ok\","
+verdict_member status.Refused = codes "\"verdict\":\"differs\","
+verdict_member status.Fault = []
+
+-- an object by forms of lines that don't say their verdict
+abbrev pub judged_object : List ℕ → Status → List ℕ → List ℕ
+judged_object about ended lines = object_head about ++ (verdict_member ended ++ drop 1 (json_text lines))
+
+-- the object of a replay: that of both ends has the verdict of both
+abbrev pub replay_object : Ends → Status → List ℕ → List ℕ
+replay_object end.Terminal ended told = json_object (codes "replay") told
+replay_object end.Card ended told = json_object (codes "replay") told
+replay_object end.Both ended told = judged_object (codes "replay") ended told
+
+-- the object of what is told of a file: an account of it, or its content in another form
+abbrev pub file_object : FileTask → Status → List ℕ → List ℕ
+file_object (Replay ends) ended told = replay_object ends ended told
+file_object Apdus ended told = judged_object (codes "apdus") ended told
+file_object Migrate ended told = content_object (codes "migrate") ended told
+file_object (Draw drawing) ended told = content_object (codes "draw") ended told
+
+-- the object of what a request comes to
+abbrev pub request_object : Request → Status → List ℕ → List ℕ
+request_object (Tell task given) ended told = told_object task.layout task.expected.kind ended told
+request_object (File task) ended told = file_object task ended told
+request_object (Judge atr judging) ended told = json_object (codes "judge") told
+request_object request ended told = content_object (subject request) ended told
+
 -- the object of what words come to that were read so
 abbrev pub object_by : Result Request Fault → Status → List ℕ → List ℕ
-object_by (Ok (Tell task given)) ended told = told_object task.layout task.expected.kind ended told
-object_by (Ok request) ended told = json_object (subject request) told
+object_by (Ok request) ended told = request_object request ended told
 object_by (Err fault) ended told = json_object (codes "words") told
 
 -- the same by how that is
 abbrev pub object_as : Object → Status → List ℕ → List ℕ
 object_as (Told how kind) ended told = told_object how kind ended told
-object_as (Lines about) ended told = json_object about.now told
+object_as (Report about) ended told = json_object about.now told
+object_as (Judged about) ended told = judged_object about.now ended told
+object_as (Content about) ended told = content_object about.now ended told
 
--- The object of the text that is right, with its status; or memory for the object was refused.
+-- an object with one more member at its end, which explains it
+abbrev pub with_member : List ℕ → List ℕ → List ℕ
+with_member object note = take (length object - 2) object
+    ++ (codes ",\"explanation\":" ++ (json_string note ++ codes "}\n"))
+
+-- an object, and what is said of it, which may be nothing
+abbrev pub with_explanation : List ℕ → List ℕ → List ℕ
+with_explanation object [] = object
+with_explanation object (x ∷ note) = with_member object (x ∷ note)
+
+-- The object of the text that is right, with its status and what is said of it; or memory for the object was refused.
 pub data IsRightJson (words : List (List ℕ)) (held left : Option (List ℕ)) (before after : ℕ) (whole : List ℕ)
     (ended : Status) : Type 0 where
-  made : (read : Result Request Fault) (text : List ℕ) → IsReadFrom words read
-      → IsRight words held left before after text ended → whole ≡ object_by read ended text
+  made : (read : Result Request Fault) (text note : List ℕ) → IsReadFrom words read
+      → IsSaid words held left before after text note ended
+      → whole ≡ with_explanation (object_by read ended text) note
       → IsRightJson words held left before after whole ended
   unmade : whole ≡ fault_text Memory → ended ≡ status.Fault → IsRightJson words held left before after whole ended
 

@@ -1,18 +1,21 @@
 -- What is said of each line of standard input, with an explanation after its answer where one is asked for.
-use Rattle.std.specs.Prelude.{◌≡◌, ◌==◌, ◌&&◌, not, ◌⊎◌, ◌++◌, ℕ, List, [], ◌∷◌, Bool, true, false, if◌then◌else◌, codes, Result, Ok, Err}
-use Rattle.command_line.specs.Asked.{asks_for_json, asks_to_explain}
+use Rattle.std.specs.Prelude.{◌≡◌, ◌==◌, ◌⊎◌, ◌++◌, ℕ, List, [], ◌∷◌, Bool, true, false, if◌then◌else◌, codes, Result, Ok, Err}
+use Rattle.command_line.specs.Asked.{asks_to_explain}
 use Rattle.card_words.specs.declared.fault.Fault.{Fault}
+use Rattle.card_words.specs.declared.request.Layout.{Layout}
+use Rattle.card_words.specs.declared.request.Layout.TheVariants as layout
 use Rattle.card_words.specs.declared.request.Task.{Task}
 use Rattle.card_kinds.specs.declared.status.Status.{Status}
-use Rattle.card_tool.specs.Answers.{answer_text, IsTold, IsToldOf}
+use Rattle.card_tool.specs.Answers.{lines_text, object_of, IsTold, IsToldOf}
 use Rattle.card_tool.specs.Explained.{IsFaultNote}
+use Rattle.card_tool.specs.InJson.{with_explanation}
 use Rattle.card_tool.specs.Judged.{IsKindNote}
 use Rattle.card_tool.specs.Lines.{line_octets, AreTold}
 use Rattle.card_tool.specs.declared.telling.Telling.{Telling}
 
--- what is told of lines by these words, which ask for them: nothing is explained of objects of JSON
+-- what is told of lines by these words, which ask for them
 abbrev pub telling_of : List (List ℕ) → Task → Telling
-telling_of words task = record { task = task; explains = asks_to_explain words && not (asks_for_json words) }
+telling_of words task = record { task = task; explains = asks_to_explain words }
 
 -- each line of a text after two blanks, where its first octet begins a line or not
 abbrev pub indented_from : Bool → List ℕ → List ℕ
@@ -27,27 +30,22 @@ abbrev pub IsNoteOfLine : Task → Result (List ℕ) Fault → List ℕ → Type
 IsNoteOfLine task (Ok b) note = IsKindNote task.expected.kind task.expected b note
 IsNoteOfLine task (Err fault) note = (note ≡ []) ⊎ IsFaultNote fault note
 
--- what comes after the answer to a line: the note on it, or nothing where memory for that was refused
-abbrev pub IsLineNote : Task → Result (List ℕ) Fault → List ℕ → Type 0
-IsLineNote task octets added =
-    (added ≡ []) ⊎ ((note : List ℕ) × IsNoteOfLine task octets note × (added ≡ indented note))
+-- how a line is answered by what is told of it and a note, which may be empty
+abbrev pub said_in : Layout → Task → Status → List ℕ → List ℕ → List ℕ
+said_in layout.Lines task ended told note = lines_text task.aim (told ++ indented note)
+said_in layout.Json task ended told note = with_explanation (object_of task.expected.kind ended told) note
 
--- the answer to the octets of a line, and after it the note on them, where one is asked for
-pub record IsLineExplained (telling : Telling) (octets : Result (List ℕ) Fault) (text : List ℕ) (ended : Status) : Type
-    0
-  where
-    pub told : List ℕ
-    pub added : List ℕ
-    pub is_told : IsToldOf (IsTold telling.task) octets told ended
-    pub is_note : IsLineNote telling.task octets added
-    pub is_text : text ≡ told ++ added
-    pub unasked : telling.explains ≡ false → added ≡ []
+abbrev pub said_text : Task → Status → List ℕ → List ℕ → List ℕ
+said_text task ended told note = said_in task.layout task ended told note
 
 -- the text and the status of one line
 pub record IsLineSaid (telling : Telling) (line text : List ℕ) (ended : Status) : Type 0 where
-  pub explained : List ℕ
-  pub is_explained : IsLineExplained telling (line_octets line) explained ended
-  pub is_text : text ≡ answer_text telling.task ended explained
+  pub told : List ℕ
+  pub note : List ℕ
+  pub is_told : IsToldOf (IsTold telling.task) (line_octets line) told ended
+  pub is_note : (note ≡ []) ⊎ IsNoteOfLine telling.task (line_octets line) note
+  pub unasked : telling.explains ≡ false → note ≡ []
+  pub is_text : text ≡ said_text telling.task ended told note
 
 abbrev pub AreLinesSaid : Telling → List (List ℕ) → List ℕ → Status → Type 0
 AreLinesSaid telling lines text ended = AreTold (IsLineSaid telling) lines text ended

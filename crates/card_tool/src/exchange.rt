@@ -24,44 +24,18 @@ use exchange_core::{
 use octet_core::Octets;
 use std::alloc::{AllocError, Global};
 
-/// The text of the file, or its fault.
-pub(crate) fn told(alloc: Global, file: Octets, task: FileTask) -> Result<Answer, AllocError>
-    ensures { IfOk result (λ answer. TellsFile task file answer.text answer.status) }
-{
-    match read_exchange(alloc, file.get()) {
-        Ok(exchange) => told_of(alloc, exchange, task),
-        Err(fault) => refused(alloc, fault),
-    }
-}
-
-/// The text of an exchange.
-fn told_of(alloc: Global, exchange: Exchange, task: FileTask) -> Result<Answer, AllocError>
-    ensures { IfOk result (λ answer. IsToldSo task exchange answer.text answer.status) }
-{
-    match task {
-        FileTask::Replay(end) => replayed_at(alloc, &exchange, end),
-        FileTask::Migrate => written(alloc, &migrate(exchange)),
-        FileTask::Apdus => listed(alloc, &exchange),
-        FileTask::Draw(drawing) => drawn(alloc, &exchange, drawing),
-    }
-}
-
-/// The same of the file, with a note on the first line that an end does otherwise, or on that of the file's fault.
-pub(crate) fn told_with_note(
-    alloc: Global,
-    file: &[u8],
-    task: FileTask,
-) -> Result<WithNote, AllocError>
+/// What is told of a file, with a note on the first line that an end does otherwise, or on that of the file's fault.
+pub(crate) fn told(alloc: Global, file: &[u8], task: FileTask) -> Result<WithNote, AllocError>
     ensures { IfOk result (AreOf (TellsFile task file.now) (IsFileNote task file.now)) }
 {
     match read_exchange(alloc, file) {
-        Ok(exchange) => told_of_with_note(alloc, file, exchange, task),
+        Ok(exchange) => told_of(alloc, file, exchange, task),
         Err(fault) => refused_with_note(alloc, file, fault),
     }
 }
 
-/// The text of an exchange, with a note where it is replayed.
-fn told_of_with_note(
+/// What is told of an exchange, with a note where it is replayed.
+fn told_of(
     alloc: Global,
     file: &[u8],
     exchange: Exchange,
@@ -69,37 +43,51 @@ fn told_of_with_note(
 ) -> Result<WithNote, AllocError>
     ensures { IfOk result (AreOf (IsToldSo task exchange) (IsNoteSo task exchange)) }
 {
-    match task {
-        FileTask::Replay(end) => noted_at(alloc, file, &exchange, end),
-        FileTask::Migrate | FileTask::Apdus | FileTask::Draw(_) => {
-            let answer = told_of(alloc, exchange, task)?;
-            let note = Ok(String::new(alloc));
+    let answer = match task {
+        FileTask::Replay(end) => return replayed_at(alloc, file, &exchange, end),
+        FileTask::Migrate => written(alloc, &migrate(exchange))?,
+        FileTask::Apdus => listed(alloc, &exchange)?,
+        FileTask::Draw(drawing) => drawn(alloc, &exchange, drawing)?,
+    };
+    Ok(WithNote::alone(alloc, answer))
+}
+
+/// Whether the end that is named does what the exchange says, with a note.
+fn replayed_at(
+    alloc: Global,
+    file: &[u8],
+    exchange: &Exchange,
+    end: Ends,
+) -> Result<WithNote, AllocError>
+    ensures { IfOk result (AreOf (IsReplayedAt end exchange.now) (IsNoteAt end exchange.now)) }
+{
+    match end {
+        Ends::Terminal => replayed_by(alloc, file, exchange, Side::Terminal),
+        Ends::Card => replayed_by(alloc, file, exchange, Side::Card),
+        Ends::Both => {
+            let terminal = replayed_by(alloc, file, exchange, Side::Terminal)?;
+            let card = replayed_by(alloc, file, exchange, Side::Card)?;
+            let answer = both(alloc, &terminal.answer, &card.answer)?;
+            let note = joined(terminal.note, card.note);
             Ok(WithNote { answer, note })
         }
     }
 }
 
-/// Whether the end that is named does what the exchange says.
-fn replayed_at(alloc: Global, exchange: &Exchange, end: Ends) -> Result<Answer, AllocError>
-    ensures { IfOk result (λ answer. IsReplayedAt end exchange.now answer.text answer.status) }
-{
-    match end {
-        Ends::Terminal => replayed_by(alloc, exchange, Side::Terminal),
-        Ends::Card => replayed_by(alloc, exchange, Side::Card),
-        Ends::Both => {
-            let terminal = replayed_by(alloc, exchange, Side::Terminal)?;
-            let card = replayed_by(alloc, exchange, Side::Card)?;
-            both(alloc, &terminal, &card)
-        }
-    }
-}
-
-/// Whether this end does what the exchange says.
-fn replayed_by(alloc: Global, exchange: &Exchange, side: Side) -> Result<Answer, AllocError>
-    ensures { IfOk result (λ answer. IsReplayed exchange.now side answer.text answer.status) }
+/// Whether this end does what the exchange says, with a note.
+fn replayed_by(
+    alloc: Global,
+    file: &[u8],
+    exchange: &Exchange,
+    side: Side,
+) -> Result<WithNote, AllocError>
+    ensures { IfOk result (AreOf (IsReplayed exchange.now side)
+        (IsDifferenceNote exchange.now side)) }
 {
     let outcome = replay(alloc, exchange, side);
-    agreement(alloc, exchange, side, &outcome)
+    let answer = agreement(alloc, exchange, side, &outcome)?;
+    let note = difference_note(alloc, file, exchange, side, &outcome);
+    Ok(WithNote { answer, note })
 }
 
 /// What is said of both ends, each with its name before it.
@@ -117,44 +105,6 @@ fn both(alloc: Global, terminal: &Answer, card: &Answer) -> Result<Answer, Alloc
         text: Octets::of(text),
         status: worse(terminal.status, card.status),
     })
-}
-
-/// Whether the end that is named does what the exchange says, with a note.
-fn noted_at(
-    alloc: Global,
-    file: &[u8],
-    exchange: &Exchange,
-    end: Ends,
-) -> Result<WithNote, AllocError>
-    ensures { IfOk result (AreOf (IsReplayedAt end exchange.now) (IsNoteAt end exchange.now)) }
-{
-    match end {
-        Ends::Terminal => noted_by(alloc, file, exchange, Side::Terminal),
-        Ends::Card => noted_by(alloc, file, exchange, Side::Card),
-        Ends::Both => {
-            let terminal = noted_by(alloc, file, exchange, Side::Terminal)?;
-            let card = noted_by(alloc, file, exchange, Side::Card)?;
-            let answer = both(alloc, &terminal.answer, &card.answer)?;
-            let note = joined(terminal.note, card.note);
-            Ok(WithNote { answer, note })
-        }
-    }
-}
-
-/// Whether this end does what the exchange says, with a note.
-fn noted_by(
-    alloc: Global,
-    file: &[u8],
-    exchange: &Exchange,
-    side: Side,
-) -> Result<WithNote, AllocError>
-    ensures { IfOk result (AreOf (IsReplayed exchange.now side)
-        (IsDifferenceNote exchange.now side)) }
-{
-    let outcome = replay(alloc, exchange, side);
-    let answer = agreement(alloc, exchange, side, &outcome)?;
-    let note = difference_note(alloc, file, exchange, side, &outcome);
-    Ok(WithNote { answer, note })
 }
 
 /// The line of a fault of the file, with a note on the line that it is in.

@@ -1,10 +1,9 @@
-//! A whole input, read into one buffer, and the octets that it gives.
+//! A whole input, read into one buffer.
 
 ghost use Rattle.std.specs.Prelude.{◌≡◌, ◌<◌, ◌≤◌, OnOk, length, take};
-ghost use Rattle.card_tool.specs.Files.{IsBegun, IsTaken, ReadsMore, ReadsWhole};
-ghost use Rattle.card_words.specs.Given.{IsFromReader};
+ghost use Rattle.card_tool.specs.Files.{ReadsMore, ReadsWhole};
 
-use card_words::{Fault, OctetSource};
+use card_words::Fault;
 use octet_core::{Octets, Source};
 use std::alloc::{AllocError, Global};
 
@@ -13,27 +12,6 @@ pub const LARGEST_FILE: usize = 4_194_304;
 
 /// How many octets the buffer has at first.
 const FIRST_ROOM: usize = 4_096;
-
-/// The octets that a word gave, or those that the reader has in the form that was asked for. The reader is
-/// read only then.
-pub(crate) fn octets_given<R: Source>(
-    alloc: Global,
-    given: OctetSource,
-    reader: &mut R,
-) -> Result<Octets, Fault>
-    ensures taken { IsTaken given (R.remaining reader.old) (R.remaining reader.new)
-        (R.failures reader.old) (R.failures reader.new) result }
-    ensures unread { (IsFromReader given → ⊥) → reader.new ≡ reader.old }
-    ensures few { IsBegun (R.remaining reader.old) (R.remaining reader.new) 4194305 }
-{
-    match given {
-        OctetSource::Word(octets) => Ok(octets),
-        OctetSource::Read(form) => {
-            let text = read_whole(alloc, reader)?;
-            form.octets(alloc, text)
-        }
-    }
-}
 
 /// All octets that the reader has, at most 4,194,304, in a buffer of at most one octet more.
 ///

@@ -1,24 +1,35 @@
 //! Answers as objects of JSON.
 
-ghost use Rattle.std.specs.Prelude.{◌≡◌, ℕ, List, drop, IfOk};
+ghost use Rattle.std.specs.Prelude.{◌≡◌, ◌++◌, ℕ, List, codes, drop, IfOk, string_bytes};
 ghost use Rattle.card_kinds.specs.declared.status.Status.{Status as AnyStatus};
 ghost use Rattle.card_tool.specs.Answers as answers;
 ghost use Rattle.card_tool.specs.Answers.{json_object};
-ghost use Rattle.card_tool.specs.InJson.{file_subject, object_as, object_by, subject};
+ghost use Rattle.json_lines.specs.Answers.{json_text};
+ghost use Rattle.json_lines.specs.Strings.{line_strings};
+ghost use Rattle.card_tool.specs.Explained.{said_of};
+ghost use Rattle.card_tool.specs.InJson.{content_object, file_object, file_subject, judged_object, object_as, object_by, object_with_lines, request_object, subject, verdict_member, with_explanation, with_member};
 
+use crate::judged::WithNote;
 use card_kinds::{Answer, Status, kind_name, object_head};
-use card_words::{Fault, FileTask, Kind, Layout, Request};
-use json_lines::json_line;
+use card_words::{Ends, Fault, FileTask, Kind, Layout, Request};
+use json_lines::{json_line, json_string, line_strings};
 use octet_core::Octets;
 use std::alloc::{AllocError, Global};
+
+/// What an object ends with.
+const CLOSING: &[u8; 2] = b"}\n";
 
 /// How an answer becomes an object of JSON.
 #[derive(Clone, Copy)]
 pub(crate) enum Object {
     /// What is told of octets of a kind: it is an object in this layout, unless it is the line of a fault.
     Told(Layout, Kind),
-    /// Lines about this.
-    Lines(&'static str),
+    /// Lines about this that report, of which each form has its members.
+    Report(&'static str),
+    /// The same of lines that don't have their verdict.
+    Judged(&'static str),
+    /// Lines about this that are what was asked for: an array has them as they are, unless they are a refusal or a fault.
+    Content(&'static str),
 }
 
 /// How the answer to what words were read as becomes an object.
@@ -27,9 +38,40 @@ pub(crate) fn object_by(read: &Result<Request, Fault>) -> Object
         → object_as result ended told ≡ object_by read.now ended told }
 {
     match read {
-        Ok(Request::Tell(task, _)) => Object::Told(task.layout, task.expected.kind),
-        Ok(request) => Object::Lines(subject(request)),
-        Err(_) => Object::Lines("words"),
+        Ok(request) => request_object(request),
+        Err(_) => Object::Report("words"),
+    }
+}
+
+/// The same of a request.
+fn request_object(request: &Request) -> Object
+    ensures { (ended : AnyStatus) (told : List ℕ)
+        → object_as result ended told ≡ request_object request.now ended told }
+{
+    match request {
+        Request::Tell(task, _) => Object::Told(task.layout, task.expected.kind),
+        Request::File(task) => file_object(*task),
+        Request::Judge { .. } => Object::Report(subject(request)),
+        Request::BuildChain { .. }
+        | Request::BuildTidy(_)
+        | Request::BuildFill { .. }
+        | Request::Record(_)
+        | Request::Simulate(_)
+        | Request::SimulateLines(_)
+        | Request::Help(_)
+        | Request::Version => Object::Content(subject(request)),
+    }
+}
+
+/// The same of a file.
+fn file_object(task: FileTask) -> Object
+    ensures { (ended : AnyStatus) (told : List ℕ)
+        → object_as result ended told ≡ file_object task ended told }
+{
+    match task {
+        FileTask::Replay(Ends::Terminal | Ends::Card) => Object::Report(file_subject(task)),
+        FileTask::Replay(Ends::Both) | FileTask::Apdus => Object::Judged(file_subject(task)),
+        FileTask::Migrate | FileTask::Draw(_) => Object::Content(file_subject(task)),
     }
 }
 
@@ -63,8 +105,44 @@ fn file_subject(task: FileTask) -> &'static str
     }
 }
 
+/// An answer as an object of JSON, with its explanation as a member.
+pub(crate) fn in_json(alloc: Global, object: Object, made: WithNote) -> Result<Octets, AllocError>
+    ensures { IfOk result (λ text. text ≡ with_explanation
+        (object_as object made.answer.status made.answer.text) (said_of made.note)) }
+{
+    let WithNote { answer, note } = made;
+    let text = object_of(alloc, object, answer)?;
+    explained(alloc, text, note)
+}
+
+/// An object with an explanation as its last member, where there is one.
+pub(crate) fn explained(
+    alloc: Global,
+    object: Octets,
+    note: Result<String, AllocError>,
+) -> Result<Octets, AllocError>
+    ensures { IfOk result (λ text. text ≡ with_explanation object (said_of note)) }
+{
+    match note {
+        Ok(note) if !note.is_empty() => with_explanation(alloc, object, note),
+        _ => Ok(object),
+    }
+}
+
+/// An object with an explanation as its last member.
+fn with_explanation(alloc: Global, object: Octets, note: String) -> Result<Octets, AllocError>
+    ensures { IfOk result (λ text. text ≡ with_member object (string_bytes note)) }
+{
+    let mut text = object.into_inner();
+    text.truncate(text.len().saturating_sub(CLOSING.len()));
+    text.extend_from_slice(b",\"explanation\":")?;
+    text.extend_from_slice(json_string(alloc, note)?.as_bytes())?;
+    text.extend_from_slice(CLOSING)?;
+    Ok(Octets::of(text))
+}
+
 /// An answer as an object of JSON.
-pub(crate) fn in_json(alloc: Global, object: Object, answer: Answer) -> Result<Octets, AllocError>
+fn object_of(alloc: Global, object: Object, answer: Answer) -> Result<Octets, AllocError>
     ensures { IfOk result (λ text. text ≡ object_as object answer.status answer.text) }
 {
     match object {
@@ -72,8 +150,40 @@ pub(crate) fn in_json(alloc: Global, object: Object, answer: Answer) -> Result<O
         Object::Told(Layout::Lines, kind) => {
             object_of_lines(alloc, kind_name(kind), answer.text.get())
         }
-        Object::Lines(about) => object_of_lines(alloc, about, answer.text.get()),
+        Object::Report(about) => object_of_lines(alloc, about, answer.text.get()),
+        Object::Judged(about) => judged_object(alloc, about, answer),
+        Object::Content(about) => content_object(alloc, about, answer),
     }
+}
+
+/// Lines that are what was asked for as an object; a refusal or a fault as its own.
+fn content_object(alloc: Global, about: &str, answer: Answer) -> Result<Octets, AllocError>
+    ensures { IfOk result (λ text. text ≡ content_object about.now answer.status answer.text) }
+{
+    match answer.status {
+        Status::Accepted => object_with_lines(alloc, about, answer.text.get()),
+        Status::Refused | Status::Fault => object_of_lines(alloc, about, answer.text.get()),
+    }
+}
+
+/// An object that has lines as they are.
+fn object_with_lines(alloc: Global, about: &str, lines: &[u8]) -> Result<Octets, AllocError>
+    ensures { IfOk result (λ text. text ≡ object_with_lines about.now lines.now) }
+{
+    let head = object_head(alloc, about)?;
+    lines_after(alloc, head, lines)
+}
+
+/// Lines as they are after the beginning of an object, with the verdict that they are all.
+fn lines_after(alloc: Global, head: String, lines: &[u8]) -> Result<Octets, AllocError>
+    ensures { IfOk result (λ text. text ≡ string_bytes head
+        ++ (codes "\"verdict\":\"ok\",\"lines\":[" ++ (line_strings lines.now ++ codes "]}\n"))) }
+{
+    let mut text = head.into_bytes();
+    text.extend_from_slice(b"\"verdict\":\"ok\",\"lines\":[")?;
+    text.extend_from_slice(line_strings(alloc, lines)?.as_bytes())?;
+    text.extend_from_slice(b"]}\n")?;
+    Ok(Octets::of(text))
 }
 
 /// What is told of octets of a kind as an object: it is one, and the line of a fault becomes one.
@@ -95,10 +205,38 @@ pub(crate) fn object_told(
 fn object_of_lines(alloc: Global, about: &str, lines: &[u8]) -> Result<Octets, AllocError>
     ensures { IfOk result (λ text. text ≡ json_object about.now lines.now) }
 {
+    let head = object_head(alloc, about)?;
+    members_after(alloc, head, lines)
+}
+
+/// The members of lines after the beginning of an object.
+fn members_after(alloc: Global, head: String, lines: &[u8]) -> Result<Octets, AllocError>
+    ensures { IfOk result (λ text. text ≡ string_bytes head ++ drop 1 (json_text lines.now)) }
+{
     let line = json_line(alloc, lines)?;
-    let mut text = object_head(alloc, about)?.into_bytes();
+    let mut text = head.into_bytes();
     text.extend_from_slice(after_first(line.as_bytes()))?;
     Ok(Octets::of(text))
+}
+
+/// Lines as an object of JSON about something, with the verdict, which they don't have.
+fn judged_object(alloc: Global, about: &str, answer: Answer) -> Result<Octets, AllocError>
+    ensures { IfOk result (λ text. text ≡ judged_object about.now answer.status answer.text) }
+{
+    let mut head = object_head(alloc, about)?;
+    head.push_str(verdict_member(answer.status))?;
+    members_after(alloc, head, answer.text.get())
+}
+
+/// The verdict of lines that don't have it, by the status. A fault has it.
+fn verdict_member(status: Status) -> &'static str
+    ensures { result.now ≡ verdict_member status }
+{
+    match status {
+        Status::Accepted => "\"verdict\":\"ok\",",
+        Status::Refused => "\"verdict\":\"differs\",",
+        Status::Fault => "",
+    }
 }
 
 /// All octets but the first.

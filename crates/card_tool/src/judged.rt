@@ -1,24 +1,27 @@
 //! Answers about octets, each with a note that is made from the verdict of the answer.
 
-ghost use Rattle.std.specs.Prelude.{◌≡◌, ◌≤◌, ◌++◌, IfOk, IsOkAnd, string_bytes};
+ghost use Rattle.std.specs.Prelude.{◌≡◌, ◌≤◌, ◌++◌, [], IfOk, IsOkAnd, string_bytes};
 ghost use Rattle.card_kinds.specs.Codec.{IsVerdict};
 ghost use Rattle.card_kinds.specs.ForestTexts.{forest_codec};
 ghost use Rattle.card_kinds.specs.ListTexts.{list_codec};
 ghost use Rattle.card_kinds.specs.Verdicts.{Checks, ChecksBy, IsFilled, Shows, ShowsBy, Tidies};
 ghost use Rattle.card_tool.specs.Answers.{IsTold, ShowsNoted, Tells};
 ghost use Rattle.card_words.specs.declared.request.Aim.TheVariants as aim;
-ghost use Rattle.card_tool.specs.Explained.{IsFillNote};
-ghost use Rattle.card_tool.specs.Judged.{AreOf, IsKindNote, IsNoteBy};
+ghost use Rattle.card_tool.specs.Explained.{said_of, IsFillNote};
+ghost use Rattle.explainer.specs.Notes.{IsVerdictNote};
+ghost use Rattle.card_tool.specs.Judged.{AreOf, IsKindNote, IsNoteBy, SaysIf};
+ghost use Rattle.card_words.specs.declared.request.Layout.TheVariants as layout;
 
 use crate::annotated::{annotated, notes_on};
+use crate::telling::Telling;
 use apdu_core::{Command, Response};
 use atr_core::Atr;
 use block_core::Block;
 use card_kinds::{
-    Answer, Codec, Judged, Verdict, check, check_with_verdict, fill_with_verdict, show,
-    show_with_verdict, tidy_with_verdict,
+    Answer, Codec, Judged, Verdict, check_with_verdict, fill_with_verdict, show_with_verdict,
+    tidy_with_verdict,
 };
-use card_words::{Aim, Expected, Fault, Kind, Knowns, Layout, Task};
+use card_words::{Aim, Fault, Kind, Knowns, Layout, Task};
 use chain_core::Receiver;
 use explainer::{Explained, duplicate_note, known_note, least_wanting, verdict_note};
 use std::alloc::{AllocError, Global};
@@ -38,6 +41,30 @@ struct Annotatable {
     notes: Vec<String>,
 }
 
+impl WithNote {
+    /// An answer of which nothing is to be said.
+    pub(crate) fn alone(alloc: Global, answer: Answer) -> Self
+        ensures answer { result.answer ≡ answer }
+        ensures note { IfOk result.note (λ note. string_bytes note ≡ []) }
+        ensures said { said_of result.note ≡ [] }
+    {
+        let note = Ok(String::new(alloc));
+        WithNote { answer, note }
+    }
+
+    /// The same answer, with another note after its own.
+    pub(crate) fn and(self, other: Result<String, AllocError>) -> Self
+        ensures answer { result.answer ≡ self.answer }
+        ensures note { IfOk result.note (λ note. IsOkAnd self.note (λ one. IsOkAnd other (λ more.
+            string_bytes note ≡ string_bytes one ++ string_bytes more))) }
+    {
+        WithNote {
+            answer: self.answer,
+            note: joined(self.note, other),
+        }
+    }
+}
+
 /// One note and then another, where both could be made.
 pub(crate) fn joined(
     first: Result<String, AllocError>,
@@ -52,178 +79,204 @@ pub(crate) fn joined(
     Ok(note)
 }
 
-/// The text of octets.
-pub(crate) fn answer_about(alloc: Global, task: Task, octets: &[u8]) -> Result<Answer, AllocError>
-    requires least { 1 ≤ task.expected.ifs }
-    requires most { task.expected.ifs ≤ 254 }
-    ensures { IfOk result (λ answer. IsTold task octets.now answer.text answer.status) }
-{
-    match task.aim {
-        Aim::Check => check(alloc, task.layout, task.expected, octets),
-        Aim::Show => show(alloc, task.layout, task.expected, octets),
-        Aim::Note => Ok(noted_in(alloc, task.layout, task.expected, octets)?.answer),
-    }
-}
-
-/// The same, with a note.
-pub(crate) fn answer_with_note(
+/// What is said of octets, with a note where it is asked for.
+pub(crate) fn answer_about(
     alloc: Global,
-    task: Task,
+    telling: Telling,
     octets: &[u8],
 ) -> Result<WithNote, AllocError>
-    requires least { 1 ≤ task.expected.ifs }
-    requires most { task.expected.ifs ≤ 254 }
-    ensures { IfOk result (AreOf (IsTold task octets.now)
-        (IsKindNote task.expected.kind task.expected octets.now)) }
+    requires least { 1 ≤ telling.task.expected.ifs }
+    requires most { telling.task.expected.ifs ≤ 254 }
+    ensures { IfOk result (AreOf (IsTold telling.task octets.now)
+        (SaysIf telling.explains (IsKindNote telling.task.expected.kind telling.task.expected octets.now))) }
 {
-    match task.aim {
-        Aim::Check => checked(alloc, task.layout, task.expected, octets),
-        Aim::Show => Ok(shown(alloc, task.layout, false, task.expected, octets)?.said),
-        Aim::Note => noted_in(alloc, task.layout, task.expected, octets),
+    match telling.task.aim {
+        Aim::Check => checked(alloc, telling, octets),
+        Aim::Show => Ok(shown(alloc, telling, false, octets)?.said),
+        Aim::Note => noted_in(alloc, telling, octets),
     }
 }
 
 /// The value itself with notes on its lines, or as an object, and a note.
-fn noted_in(
-    alloc: Global,
-    layout: Layout,
-    expected: Expected,
-    octets: &[u8],
-) -> Result<WithNote, AllocError>
-    requires least { 1 ≤ expected.ifs }
-    requires most { expected.ifs ≤ 254 }
-    ensures { IfOk result (AreOf (Tells aim.Note layout expected octets.now)
-        (IsKindNote expected.kind expected octets.now)) }
+fn noted_in(alloc: Global, telling: Telling, octets: &[u8]) -> Result<WithNote, AllocError>
+    requires least { 1 ≤ telling.task.expected.ifs }
+    requires most { telling.task.expected.ifs ≤ 254 }
+    ensures { IfOk result (AreOf (Tells aim.Note telling.task.layout telling.task.expected
+        octets.now)
+        (SaysIf telling.explains (IsKindNote telling.task.expected.kind telling.task.expected octets.now))) }
 {
-    match layout {
-        Layout::Lines => noted_value(alloc, expected, octets),
-        Layout::Json => Ok(shown(alloc, layout, false, expected, octets)?.said),
+    match telling.task.layout {
+        Layout::Lines => noted_value(alloc, telling, octets),
+        Layout::Json => Ok(shown(alloc, telling, false, octets)?.said),
     }
 }
 
-/// The value itself with notes on its lines, and a note.
-fn noted_value(alloc: Global, expected: Expected, octets: &[u8]) -> Result<WithNote, AllocError>
-    requires least { 1 ≤ expected.ifs }
-    requires most { expected.ifs ≤ 254 }
-    ensures { IfOk result (AreOf (ShowsNoted expected.kind expected octets.now)
-        (IsKindNote expected.kind expected octets.now)) }
+/// The value itself as lines with notes on them, and a note.
+fn noted_value(alloc: Global, telling: Telling, octets: &[u8]) -> Result<WithNote, AllocError>
+    requires least { 1 ≤ telling.task.expected.ifs }
+    requires most { telling.task.expected.ifs ≤ 254 }
+    requires lines { telling.task.layout ≡ layout.Lines }
+    ensures { IfOk result (AreOf (ShowsNoted telling.task.expected.kind telling.task.expected
+        octets.now)
+        (SaysIf telling.explains (IsKindNote telling.task.expected.kind telling.task.expected octets.now))) }
 {
-    let Annotatable { said, notes } = shown(alloc, Layout::Lines, true, expected, octets)?;
+    let Annotatable { said, notes } = shown(alloc, telling, true, octets)?;
     let WithNote { answer, note } = said;
     let answer = annotated(alloc, answer, notes.as_slice())?;
     Ok(WithNote { answer, note })
 }
 
-/// How many octets the value takes, with a note.
-fn checked(
-    alloc: Global,
-    layout: Layout,
-    expected: Expected,
-    octets: &[u8],
-) -> Result<WithNote, AllocError>
-    requires least { 1 ≤ expected.ifs }
-    requires most { expected.ifs ≤ 254 }
-    ensures { IfOk result (AreOf (Checks layout expected.kind expected octets.now)
-        (IsKindNote expected.kind expected octets.now)) }
+/// How many octets the value takes, with a note where it is asked for.
+fn checked(alloc: Global, telling: Telling, octets: &[u8]) -> Result<WithNote, AllocError>
+    requires least { 1 ≤ telling.task.expected.ifs }
+    requires most { telling.task.expected.ifs ≤ 254 }
+    ensures { IfOk result (AreOf
+        (Checks telling.task.layout telling.task.expected.kind telling.task.expected octets.now)
+        (SaysIf telling.explains (IsKindNote telling.task.expected.kind telling.task.expected octets.now))) }
 {
-    match expected.kind {
-        Kind::Atr => checked_by::<Atr>(alloc, layout, expected, octets),
-        Kind::Block => checked_by::<Block>(alloc, layout, expected, octets),
-        Kind::Chain => checked_by::<Receiver>(alloc, layout, expected, octets),
-        Kind::Command => checked_by::<Command>(alloc, layout, expected, octets),
-        Kind::Response => checked_by::<Response>(alloc, layout, expected, octets),
-        Kind::Tlv => checked_by::<Forest>(alloc, layout, expected, octets),
-        Kind::Dol => checked_by::<Dol>(alloc, layout, expected, octets),
+    match telling.task.expected.kind {
+        Kind::Atr => checked_by::<Atr>(alloc, telling, octets),
+        Kind::Block => checked_by::<Block>(alloc, telling, octets),
+        Kind::Chain => checked_by::<Receiver>(alloc, telling, octets),
+        Kind::Command => checked_by::<Command>(alloc, telling, octets),
+        Kind::Response => checked_by::<Response>(alloc, telling, octets),
+        Kind::Tlv => checked_by::<Forest>(alloc, telling, octets),
+        Kind::Dol => checked_by::<Dol>(alloc, telling, octets),
     }
 }
 
-/// The value itself with a note, and the notes on its lines where it is `noted`.
+/// The value itself with a note where it is asked for, and the notes on its lines where it is `noted`.
 fn shown(
     alloc: Global,
-    layout: Layout,
+    telling: Telling,
     noted: bool,
-    expected: Expected,
     octets: &[u8],
 ) -> Result<Annotatable, AllocError>
-    requires least { 1 ≤ expected.ifs }
-    requires most { expected.ifs ≤ 254 }
-    ensures { IfOk result (λ made. AreOf (Shows layout expected.kind expected octets.now)
-        (IsKindNote expected.kind expected octets.now) made.said) }
+    requires least { 1 ≤ telling.task.expected.ifs }
+    requires most { telling.task.expected.ifs ≤ 254 }
+    ensures { IfOk result (λ made. AreOf
+        (Shows telling.task.layout telling.task.expected.kind telling.task.expected octets.now)
+        (SaysIf telling.explains (IsKindNote telling.task.expected.kind telling.task.expected octets.now))
+        made.said) }
 {
-    match expected.kind {
-        Kind::Atr => shown_by::<Atr>(alloc, layout, noted, expected, octets),
-        Kind::Block => shown_by::<Block>(alloc, layout, noted, expected, octets),
-        Kind::Chain => shown_by::<Receiver>(alloc, layout, noted, expected, octets),
-        Kind::Command => shown_by::<Command>(alloc, layout, noted, expected, octets),
-        Kind::Response => shown_by::<Response>(alloc, layout, noted, expected, octets),
-        Kind::Tlv => shown_by::<Forest>(alloc, layout, noted, expected, octets),
-        Kind::Dol => shown_by::<Dol>(alloc, layout, noted, expected, octets),
+    match telling.task.expected.kind {
+        Kind::Atr => shown_by::<Atr>(alloc, telling, noted, octets),
+        Kind::Block => shown_by::<Block>(alloc, telling, noted, octets),
+        Kind::Chain => shown_by::<Receiver>(alloc, telling, noted, octets),
+        Kind::Command => shown_by::<Command>(alloc, telling, noted, octets),
+        Kind::Response => shown_by::<Response>(alloc, telling, noted, octets),
+        Kind::Tlv => shown_by::<Forest>(alloc, telling, noted, octets),
+        Kind::Dol => shown_by::<Dol>(alloc, telling, noted, octets),
     }
 }
 
-/// How many octets the value of a codec takes, with a note.
+/// How many octets the value of a codec takes, with a note where it is asked for.
 fn checked_by<C: Codec>(
     alloc: Global,
-    layout: Layout,
-    expected: Expected,
+    telling: Telling,
     octets: &[u8],
 ) -> Result<WithNote, AllocError>
 where
     C::Reason: Explained,
-    requires least { 1 ≤ expected.ifs }
-    requires most { expected.ifs ≤ 254 }
-    ensures { IfOk result (AreOf (ChecksBy layout expected.kind (C.codec expected) octets.now)
-        (IsNoteBy (C.codec expected) octets.now)) }
+    requires least { 1 ≤ telling.task.expected.ifs }
+    requires most { telling.task.expected.ifs ≤ 254 }
+    ensures { IfOk result (AreOf (ChecksBy telling.task.layout telling.task.expected.kind
+        (C.codec telling.task.expected) octets.now)
+        (SaysIf telling.explains (IsNoteBy (C.codec telling.task.expected) octets.now))) }
 {
+    let Task {
+        layout,
+        expected,
+        ..
+    } = telling.task;
     let Judged {
         answer,
         verdict,
         ..
     } = check_with_verdict::<C>(alloc, layout, octets, expected)?;
-    let note = verdict_note(alloc, octets, verdict, least_wanting(expected.kind, octets));
+    let note = asked_note(
+        alloc,
+        telling.explains,
+        Some(expected.kind),
+        octets,
+        verdict,
+    );
     Ok(WithNote { answer, note })
 }
 
-/// The value of a codec with a note, and the notes on its lines where it is `noted`. The octets are decoded once.
+/// The value of a codec with a note where it is asked for, and the notes on its lines where it is `noted`. The octets
+/// are decoded once.
 fn shown_by<C: Codec>(
     alloc: Global,
-    layout: Layout,
+    telling: Telling,
     noted: bool,
-    expected: Expected,
     octets: &[u8],
 ) -> Result<Annotatable, AllocError>
 where
     C::Reason: Explained,
-    requires least { 1 ≤ expected.ifs }
-    requires most { expected.ifs ≤ 254 }
-    ensures { IfOk result (λ made.
-        AreOf (ShowsBy layout expected.kind (C.codec expected) octets.now)
-        (IsNoteBy (C.codec expected) octets.now) made.said) }
+    requires least { 1 ≤ telling.task.expected.ifs }
+    requires most { telling.task.expected.ifs ≤ 254 }
+    ensures { IfOk result (λ made. AreOf (ShowsBy telling.task.layout telling.task.expected.kind
+        (C.codec telling.task.expected) octets.now)
+        (SaysIf telling.explains (IsNoteBy (C.codec telling.task.expected) octets.now)) made.said) }
 {
+    let Task {
+        layout,
+        expected,
+        ..
+    } = telling.task;
     let Judged {
         answer,
         verdict,
         notes,
     } = show_with_verdict::<C>(alloc, layout, noted, octets, expected)?;
-    let least = least_wanting(expected.kind, octets);
-    let note = verdict_note(alloc, octets, verdict, least);
-    let notes = notes_on(alloc, verdict, least, notes)?;
+    let note = asked_note(
+        alloc,
+        telling.explains,
+        Some(expected.kind),
+        octets,
+        verdict,
+    );
+    let notes = notes_on(alloc, verdict, least_wanting(expected.kind, octets), notes)?;
     Ok(Annotatable {
         said: WithNote { answer, note },
         notes,
     })
 }
 
-/// A forest in the shortest octets that say the same, with a note.
-pub(crate) fn tidied(alloc: Global, octets: &[u8]) -> Result<WithNote, AllocError>
-    ensures { IfOk result (AreOf (Tidies octets.now) (IsNoteBy forest_codec octets.now)) }
+/// What is to be said of octets by the verdict on them, where it `explains`. `kind` is what they are taken for, where
+/// that tells how many octets must still come at least.
+fn asked_note<R: Explained + Copy>(
+    alloc: Global,
+    explains: bool,
+    kind: Option<Kind>,
+    octets: &[u8],
+    verdict: Verdict<R>,
+) -> Result<String, AllocError>
+    ensures { IfOk result (λ note.
+        SaysIf explains (IsVerdictNote octets.now verdict) (string_bytes note)) }
+{
+    if !explains {
+        return Ok(String::new(alloc));
+    }
+    let least = match kind {
+        Some(kind) => least_wanting(kind, octets),
+        None => None,
+    };
+    verdict_note(alloc, octets, verdict, least)
+}
+
+/// A forest in the shortest octets that say the same, with a note where it `explains`.
+pub(crate) fn tidied(alloc: Global, explains: bool, octets: &[u8]) -> Result<WithNote, AllocError>
+    ensures { IfOk result (AreOf (Tidies octets.now)
+        (SaysIf explains (IsNoteBy forest_codec octets.now))) }
 {
     let Judged {
         answer,
         verdict,
         ..
     } = tidy_with_verdict(alloc, octets)?;
-    let note = verdict_note(alloc, octets, verdict, None);
+    let note = asked_note(alloc, explains, None, octets, verdict);
     Ok(WithNote { answer, note })
 }
 

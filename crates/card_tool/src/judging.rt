@@ -27,37 +27,6 @@ use trace_judge::{Judgment, Offer, Scope, judge_trace, rates_before};
 const EXPECTED: &str =
     "expected: t HEX or c HEX, with lost or as HEX after it or not, quiet, reset, or at N";
 
-/// What of the blocks that a text has isn't permitted, or the text's fault.
-pub(crate) fn judged(
-    alloc: Global,
-    atr: &[u8],
-    judging: Judging,
-    text: &[u8],
-) -> Result<Answer, AllocError>
-    ensures { IfOk result (λ answer.
-        JudgesTrace atr.now judging text.now answer.text answer.status) }
-{
-    match offer_of(atr) {
-        Ok(offer) => text_judged(alloc, offer, judging, text),
-        Err(fault) => Answer::refused_as(alloc, fault.name()),
-    }
-}
-
-/// The same at a card that offers this.
-fn text_judged(
-    alloc: Global,
-    offer: Offer,
-    judging: Judging,
-    text: &[u8],
-) -> Result<Answer, AllocError>
-    ensures { IfOk result (λ answer. JudgesText offer judging text.now answer.text answer.status) }
-{
-    match judge_trace(alloc, offer, scope_of(judging), text) {
-        Ok(judgment) => Ok(answer_of(judgment)),
-        Err(fault) => refused(alloc, fault),
-    }
-}
-
 /// What octets offer that are one whole answer to reset with parameters of T=1.
 fn offer_of(octets: &[u8]) -> Result<Offer, AtrFault>
     ensures found { IfOk result (IsOffer octets.now) }
@@ -110,8 +79,9 @@ fn answer_of(judgment: Judgment) -> Answer
     Answer::of(judgment.text.into_inner(), status)
 }
 
-/// What is said of a text, with a note on an answer to reset that can't be used, or on the line with the text's fault.
-pub(crate) fn judged_with_note(
+/// What of the blocks that a text has isn't permitted, or the text's fault, with a note on an answer to reset that can't
+/// be used, or on the line with the fault.
+pub(crate) fn judged(
     alloc: Global,
     atr: &[u8],
     judging: Judging,
@@ -121,7 +91,7 @@ pub(crate) fn judged_with_note(
         (AreOf (JudgesTrace atr.now judging text.now) (IsJudgeNote atr.now judging text.now)) }
 {
     match offer_of(atr) {
-        Ok(offer) => text_with_note(alloc, offer, judging, text),
+        Ok(offer) => text_judged(alloc, offer, judging, text),
         Err(fault) => {
             let answer = Answer::refused_as(alloc, fault.name())?;
             let note = session_note(alloc, atr);
@@ -131,7 +101,7 @@ pub(crate) fn judged_with_note(
 }
 
 /// The same at a card that offers this.
-fn text_with_note(
+fn text_judged(
     alloc: Global,
     offer: Offer,
     judging: Judging,

@@ -2,8 +2,8 @@
 //! the words from the system.
 //!
 //! card_words reads what a command line asks for: one text, by a `Request`, or the text of each line of standard
-//! input, which `answer_lines` answers. `answer_to` makes the text and the status that a request has, by card_kinds for
-//! octets, and by a module each for files of recorded exchanges, which `read_whole` reads, for traces that are recorded or
+//! input, which `answer_lines` answers. The module `replies` makes the text, the status and the explanation that a request has,
+//! by card_kinds for octets, and by a module each for files of recorded exchanges, which `read_whole` reads, for traces that are recorded or
 //! judged, and for simulated sessions, and `run` writes that text. What the text is, is said by definitions: `IsAnswer`
 //! in `specs/Answers.antt`, over card_words' `IsRead`. What exchange_core gives stands at the root too.
 #![tactic(auto)]
@@ -11,7 +11,6 @@
 mod annotated;
 pub mod conversation;
 mod exchange;
-mod explained;
 pub mod file;
 mod file_notes;
 pub mod host;
@@ -22,6 +21,7 @@ pub mod laws;
 pub mod lines;
 pub mod program;
 mod recording;
+mod replies;
 mod simulation;
 pub mod telling;
 mod trace_place;

@@ -1,22 +1,23 @@
 //! Lines of octets, each of which is answered as it comes.
 
-ghost use Rattle.std.specs.Prelude.{◌≡◌, ◌≤◌, ◌++◌, ◌∷◌, [], ℕ, List, IfOk, IfErr, OnOk, OnErr};
-ghost use Rattle.card_tool.specs.Answers.{answer_text, IsTold, IsToldOf};
+ghost use Rattle.std.specs.Prelude.{◌≡◌, ◌≤◌, ◌⊎◌, ◌++◌, ◌∷◌, [], ℕ, List, IfOk, IfErr, OnOk, OnErr};
+ghost use Rattle.card_tool.specs.Answers.{lines_text};
+ghost use Rattle.card_tool.specs.Explained.{said_of};
 ghost use Rattle.card_tool.specs.Conversations.{Event, Happens, told, untold};
 ghost use Rattle.card_tool.specs.LineAnswers.{AreTelling, HasAnswered, HasBegun, HasSaid, IsRest, Tells, WritesLines};
-ghost use Rattle.card_tool.specs.LineNotes.{AreLinesSaid, IsLineSaid};
-ghost use Rattle.card_tool.specs.Lines.{all_lines, ended_lines, line_octets, worse};
+ghost use Rattle.card_tool.specs.LineNotes.{said_text, AreLinesSaid, IsLineSaid};
+ghost use Rattle.card_tool.specs.Lines.{all_lines, ended_lines, worse};
 ghost use Rattle.card_kinds.specs.declared.status.Status.TheVariants as ended;
 ghost use Rattle.card_words.specs.Texts.{fault_text};
 ghost use Rattle.card_kinds.specs.declared.status.Status.{Status as AnyStatus};
 
 use crate::conversation::{Conversation, Streams};
 use crate::file::LARGEST_FILE;
-use crate::json::object_told;
-use crate::judged::answer_about;
-use crate::telling::{Telling, line_explained};
+use crate::json::{explained, object_told};
+use crate::judged::WithNote;
+use crate::telling::{Telling, line_told, with_indented};
 use card_kinds::{Answer, Status};
-use card_words::{Aim, Fault, Layout, Task, loose_octets};
+use card_words::{Aim, Fault, Layout, Task};
 use octet_core::{Octets, Sink, Source, WriteFault};
 use std::alloc::{AllocError, Global};
 
@@ -38,7 +39,7 @@ struct LineSession {
 /// Answers each line that is heard by what the task tells of it: a line that `\n` ends before more is heard, and a last
 /// one, where it has octets, at the end of the input. The answer of a check is one line, and that of a value its lines
 /// and an empty one. Where explanations are asked for, one comes after the lines of the answer, each of its lines after
-/// two blanks. Nothing else is written, but for the line of a fault as the last: `fault: read` where a call to hear more
+/// two blanks, or as a member of an object of JSON. Nothing else is written, but for the line of a fault as the last: `fault: read` where a call to hear more
 /// failed, `fault: memory` where a growth of memory was refused, and `fault: too large` after 2<sup>64</sup> - 1
 /// octets.
 ///
@@ -240,46 +241,39 @@ fn line_answer(alloc: Global, telling: Telling, line: &[u8]) -> Result<Answer, A
     requires most { telling.task.expected.ifs ≤ 254 }
     ensures { IfOk result (λ answer. IsLineSaid telling line.now answer.text answer.status) }
 {
-    let Answer { text, status } = line_explained(alloc, telling, line)?;
-    let text = answer_text(alloc, telling.task, status, text)?;
+    let made = line_told(alloc, telling, line)?;
+    let status = made.answer.status;
+    let text = said_text(alloc, telling.task, made)?;
     Ok(Answer { text, status })
 }
 
-/// How a line is answered by its text: an empty line comes after a value, which has several lines, and none
-/// after an object of JSON.
-fn answer_text(
-    alloc: Global,
-    task: Task,
-    status: Status,
-    told: Octets,
-) -> Result<Octets, AllocError>
-    ensures { IfOk result (λ text. text ≡ answer_text task status told) }
+/// How a line is answered by its text and a note on it: the note comes after the lines of the text, or as a member of
+/// the object of JSON. An empty line comes after a value, which has several lines, and none after an object.
+fn said_text(alloc: Global, task: Task, made: WithNote) -> Result<Octets, AllocError>
+    ensures { IfOk result (λ text. (text ≡ said_text task made.answer.status made.answer.text [])
+        ⊎ (text ≡ said_text task made.answer.status made.answer.text (said_of made.note))) }
 {
-    match (task.layout, task.aim) {
-        (Layout::Lines, Aim::Check) => Ok(told),
-        (Layout::Lines, Aim::Show | Aim::Note) => {
+    let WithNote { answer, note } = made;
+    match task.layout {
+        Layout::Lines => lines_text(task, with_indented(alloc, answer.text, note)),
+        Layout::Json => {
+            let object = object_told(alloc, task.expected.kind, answer.status, answer.text)?;
+            explained(alloc, object, note)
+        }
+    }
+}
+
+/// How a line is answered by lines.
+fn lines_text(task: Task, told: Octets) -> Result<Octets, AllocError>
+    ensures { IfOk result (λ text. text ≡ lines_text task.aim told) }
+{
+    match task.aim {
+        Aim::Check => Ok(told),
+        Aim::Show | Aim::Note => {
             let mut text = told.into_inner();
             text.push(b'\n')?;
             Ok(Octets::of(text))
         }
-        (Layout::Json, _) => object_told(alloc, task.expected.kind, status, told),
-    }
-}
-
-/// The text of a line of octets.
-pub(crate) fn line_told(alloc: Global, task: Task, line: &[u8]) -> Result<Answer, AllocError>
-    requires least { 1 ≤ task.expected.ifs }
-    requires most { task.expected.ifs ≤ 254 }
-    ensures { IfOk result (λ answer.
-        IsToldOf (IsTold task) (line_octets line.now) answer.text answer.status) }
-{
-    if line.len() > LARGEST_FILE {
-        return Answer::faulted(alloc, Fault::TooLarge);
-    }
-    match loose_octets(alloc, line) {
-        Ok(octets) => answer_about(alloc, task, octets.get()),
-        Err(Fault::Memory) => Err(AllocError),
-        Err(fault) => Answer::faulted(alloc, fault),
     }
 }
 

@@ -1,36 +1,32 @@
 //! The program: from its words to the text that it writes.
 
-ghost use Rattle.std.specs.Prelude.{◌≡◌, ◌&&◌, not, IfOk};
-ghost use Rattle.command_line.specs.Asked.{asks_for_json, asks_to_explain};
-ghost use Rattle.card_tool.specs.Answers.{Answers, AnswersTo, Gives, IsRight, IsReadFrom, IsWritten, Writes};
-ghost use Rattle.card_tool.specs.Explained.{IsRightWith};
+ghost use Rattle.std.specs.Prelude.{◌≡◌, ◌⊎◌, ◌++◌, ℕ, List, [], IfOk};
+ghost use Rattle.card_tool.specs.Answers.{Gives, IsReadFrom, IsWritten, Writes};
+ghost use Rattle.card_tool.specs.Explained.{said_of, IsRightWith, IsSaid};
 ghost use Rattle.card_tool.specs.InJson.{IsRightAsked, IsRightJson};
 ghost use Rattle.card_tool.specs.Files.{IsBegun};
 ghost use Rattle.card_tool.specs.LineAnswers.{AskForNoLines, WritesLines};
 ghost use Rattle.card_tool.specs.LineNotes.{telling_of};
 ghost use Rattle.card_words.specs.Texts.{fault_text};
-ghost use Rattle.card_words.specs.Words.{AskForFile, AskForLines, IsSized, NeedsFile};
+ghost use Rattle.card_words.specs.Words.{AskForFile, AskForLines, IsSized};
 ghost use Rattle.command_line.specs.Form.{texts};
-ghost use Rattle.card_words.specs.declared.request.Request.{Request as AnyRequest};
 ghost use Rattle.card_words.specs.declared.request.Task.{Task as AnyTask};
 ghost use Rattle.card_kinds.specs.declared.status.Status.TheVariants as ended;
 
-use crate::explained::explained;
-use crate::file::{octets_given, read_whole};
 use crate::json::{in_json, object_by};
-use crate::judged::answer_about;
+use crate::judged::WithNote;
 use crate::lines::tell_lines;
+use crate::replies::reply;
 use crate::telling::Telling;
-use crate::{exchange, judging, recording, simulation};
-use card_kinds::{Answer, Status, blocks, fill, tidy};
-use card_words::{Asked, Fault, Request, Session};
-use command_line::{VERSION_LINE, asks_for_json, asks_to_explain};
-use octet_core::{Sink, Source, write_octets};
+use card_kinds::{Answer, Status};
+use card_words::{Asked, Fault, Request};
+use command_line::{asks_for_json, asks_to_explain};
+use octet_core::{Octets, Sink, Source, write_octets};
 use std::alloc::{AllocError, Global};
 
-/// Does what the words ask for, of which the first is the program's name, and writes one text: with an
-/// explanation after it where they have `--explain`, which is left out where memory for it is refused, and as an object
-/// of JSON in its place where they have `--json`.
+/// Does what the words ask for, of which the first is the program's name, and writes one text: as lines, or as an object
+/// of JSON where they have `--json`. Where they have `--explain` an explanation comes after the lines, or as a member of
+/// the object; it is left out where memory for it is refused.
 ///
 /// Where a growth of memory is refused the text is `fault: memory`; where the writer fails a part of
 /// the text is written; in both cases the status is `Fault`. The reader is read only where the words ask
@@ -62,21 +58,13 @@ pub fn run<R: Source, W: Sink>(
     let words = words.as_slice();
     match card_words::read(alloc, words) {
         Ok(Asked::Lines(task)) => {
-            let explains = are_explained(words);
+            let explains = asks_to_explain(words);
             tell_lines(alloc, Telling { task, explains }, reader, writer)
         }
         Ok(Asked::Once(request)) => one_text(alloc, words, Ok(request), reader, writer),
         Err(Fault::Memory) => report(Fault::Memory, writer),
         Err(fault) => one_text(alloc, words, Err(fault), reader, writer),
     }
-}
-
-/// Whether an explanation comes after the answer to each line: of objects of JSON none does.
-fn are_explained(words: &[String]) -> bool
-    ensures { result ≡ (asks_to_explain (texts words.now) && not
-        (asks_for_json (texts words.now))) }
-{
-    asks_to_explain(words) && !asks_for_json(words)
 }
 
 /// Writes the one text that the words have, as what they were read.
@@ -121,7 +109,7 @@ fn write<W: Sink>(text: &[u8], status: Status, writer: &mut W) -> Status
     }
 }
 
-/// The text and the status of what the words ask for, as JSON or with an explanation where they ask for one.
+/// The text and the status of what the words ask for, as an object of JSON or as lines.
 fn answer_as_asked<R: Source>(
     alloc: Global,
     words: &[String],
@@ -157,34 +145,34 @@ fn answer_in_json<R: Source>(
     ensures few { IsBegun (R.remaining reader.old) (R.remaining reader.new) 4194305 }
 {
     let object = object_by(&read);
-    let told = whole_answer(alloc, words, read, reader)?;
-    let status = told.status;
-    let text = in_json(alloc, object, told)?;
+    let made = whole_reply(alloc, words, read, reader)?;
+    let status = made.answer.status;
+    let text = in_json(alloc, object, made)?;
     Ok(Answer { text, status })
 }
 
-/// The text and the status of what the words ask for, a fault's too, as lines that nothing is added to.
-fn whole_answer<R: Source>(
+/// The answer to what the words ask for, or the line of a fault.
+fn whole_reply<R: Source>(
     alloc: Global,
     words: &[String],
     read: Result<Request, Fault>,
     reader: &mut R,
-) -> Result<Answer, AllocError>
+) -> Result<WithNote, AllocError>
     requires read { IsReadFrom (texts words.now) read }
     requires sized { IfOk read IsSized }
-    ensures told { IfOk result (λ answer. IsRight (texts words.now) (R.remaining reader.old)
-        (R.remaining reader.new) (R.failures reader.old) (R.failures reader.new) answer.text
-        answer.status) }
+    ensures told { IfOk result (λ made. IsSaid (texts words.now) (R.remaining reader.old)
+        (R.remaining reader.new) (R.failures reader.old) (R.failures reader.new) made.answer.text
+        (said_of made.note) made.answer.status) }
     ensures unread { (AskForFile (texts words.now) → ⊥) → reader.new ≡ reader.old }
     ensures few { IsBegun (R.remaining reader.old) (R.remaining reader.new) 4194305 }
 {
-    match plain_answer(alloc, words, read, reader) {
-        Ok(answer) => Ok(answer),
-        Err(fault) => Answer::faulted(alloc, fault),
+    match reply(alloc, words, read, reader) {
+        Ok(made) => Ok(made),
+        Err(fault) => Ok(WithNote::alone(alloc, Answer::faulted(alloc, fault)?)),
     }
 }
 
-/// The text and the status of what the words ask for, with an explanation where they ask for one.
+/// The text and the status of what the words ask for, as lines, with an explanation after them where they ask for one.
 fn answer_in_lines<R: Source>(
     alloc: Global,
     words: &[String],
@@ -198,86 +186,23 @@ fn answer_in_lines<R: Source>(
     ensures unread { (AskForFile (texts words.now) → ⊥) → reader.new ≡ reader.old }
     ensures few { IsBegun (R.remaining reader.old) (R.remaining reader.new) 4194305 }
 {
-    if asks_to_explain(words) {
-        explained(alloc, words, read, reader)
-    } else {
-        plain_answer(alloc, words, read, reader)
+    let made = reply(alloc, words, read, reader)?;
+    Ok(in_lines(made))
+}
+
+/// An answer with its explanation after its lines, or without one where memory for that is refused.
+fn in_lines(made: WithNote) -> Answer
+    ensures text { (added : List ℕ) × (result.text ≡ made.answer.text ++ added)
+        × ((added ≡ []) ⊎ (added ≡ said_of made.note)) }
+    ensures status { result.status ≡ made.answer.status }
+{
+    let status = made.answer.status;
+    let mut text = made.answer.text.into_inner();
+    if let Ok(note) = made.note {
+        let _ = text.extend_from_slice(note.as_bytes());
     }
-}
-
-/// The text and the status of what the words ask for, as lines that nothing is added to.
-fn plain_answer<R: Source>(
-    alloc: Global,
-    _words: &[String],
-    read: Result<Request, Fault>,
-    reader: &mut R,
-) -> Result<Answer, Fault>
-    requires read { IsReadFrom (texts _words.now) read }
-    requires sized { IfOk read IsSized }
-    ensures told { Answers (texts _words.now) (R.remaining reader.old)
-        (R.remaining reader.new) (R.failures reader.old) (R.failures reader.new) result }
-    ensures unread { (AskForFile (texts _words.now) → ⊥) → reader.new ≡ reader.old }
-    ensures few { IsBegun (R.remaining reader.old) (R.remaining reader.new) 4194305 }
-{
-    let request = read?;
-    answer_to(alloc, request, reader)
-}
-
-/// The text and the status of a request.
-pub(crate) fn answer_to<R: Source>(
-    alloc: Global,
-    request: Request,
-    reader: &mut R,
-) -> Result<Answer, Fault>
-    requires sized { IsSized request }
-    ensures told { AnswersTo request (R.remaining reader.old) (R.remaining reader.new)
-        (R.failures reader.old) (R.failures reader.new) result }
-    ensures unread { (NeedsFile request → ⊥) → reader.new ≡ reader.old }
-    ensures few { IsBegun (R.remaining reader.old) (R.remaining reader.new) 4194305 }
-{
-    match request {
-        Request::Tell(task, given) => {
-            let octets = octets_given(alloc, given, reader)?;
-            Ok(answer_about(alloc, task, octets.get())?)
-        }
-        Request::BuildChain {
-            ifs,
-            number,
-            message,
-        } => {
-            let text = blocks(alloc, message.get(), ifs, number)?;
-            Ok(Answer::told(text))
-        }
-        Request::BuildTidy(given) => {
-            let octets = octets_given(alloc, given, reader)?;
-            Ok(tidy(alloc, octets.get())?)
-        }
-        Request::BuildFill { list, known } => Ok(fill(alloc, list.get(), &known)?),
-        Request::File(task) => {
-            let file = read_whole(alloc, reader)?;
-            Ok(exchange::told(alloc, file, task)?)
-        }
-        Request::Record(atr) => {
-            let text = read_whole(alloc, reader)?;
-            Ok(recording::recorded(alloc, atr.get(), text.get())?)
-        }
-        Request::Judge { atr, judging } => {
-            let text = read_whole(alloc, reader)?;
-            Ok(judging::judged(alloc, atr.get(), judging, text.get())?)
-        }
-        Request::Simulate(session) => Ok(simulation::simulated(alloc, &session)?),
-        Request::SimulateLines(session) => lines_answer(alloc, session, reader),
-        Request::Help(text) => Ok(Answer::told(text.into_inner())),
-        Request::Version => Ok(Answer::told(String::from_str(alloc, VERSION_LINE)?)),
+    Answer {
+        text: Octets::of(text),
+        status,
     }
-}
-
-/// The text and the status of a session whose pairs are lines of standard input.
-fn lines_answer<R: Source>(alloc: Global, session: Session, reader: &mut R) -> Result<Answer, Fault>
-    ensures told { AnswersTo (AnyRequest.SimulateLines session) (R.remaining reader.old)
-        (R.remaining reader.new) (R.failures reader.old) (R.failures reader.new) result }
-    ensures few { IsBegun (R.remaining reader.old) (R.remaining reader.new) 4194305 }
-{
-    let text = read_whole(alloc, reader)?;
-    Ok(simulation::lines_simulated(alloc, session, text.get())?)
 }

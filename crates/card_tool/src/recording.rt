@@ -25,36 +25,6 @@ use traces::{RecordFault, Trace, Unfit, line_of_item, read_trace, record_trace};
 /// What is expected in a line of a trace.
 const EXPECTED: &str = "expected: t HEX or c HEX, with lost after it or not, quiet, or at N";
 
-/// The file of the exchange in which the blocks that a text has were seen, or the text's fault.
-pub(crate) fn recorded(alloc: Global, atr: &[u8], text: &[u8]) -> Result<Answer, AllocError>
-    ensures { IfOk result (λ answer. Records atr.now text.now answer.text answer.status) }
-{
-    match read_trace(alloc, text) {
-        Ok(trace) => recorded_items(alloc, atr, text, &trace),
-        Err(fault) => refused(alloc, fault),
-    }
-}
-
-/// The file of the exchange in which the blocks of a text were seen, or why there is none.
-fn recorded_items(
-    alloc: Global,
-    atr: &[u8],
-    text: &[u8],
-    trace: &Trace,
-) -> Result<Answer, AllocError>
-    ensures { IfOk result (λ answer.
-        RecordsItems atr.now text.now trace.now answer.text answer.status) }
-{
-    match record_trace(alloc, atr, trace) {
-        Ok(exchange) => file(alloc, &exchange),
-        Err(RecordFault::Refused(fault)) => Answer::refused_as(alloc, fault.name()),
-        Err(RecordFault::Unfit { place, why }) => {
-            refused_line(alloc, line_of_item(text, place), why.name())
-        }
-        Err(RecordFault::Memory) => Err(AllocError),
-    }
-}
-
 /// A line of a text can't be recorded, by this name.
 fn refused_line(alloc: Global, line: usize, name: &str) -> Result<Answer, AllocError>
     ensures text { IfOk result (λ answer. answer.text ≡ unfit_text line name.now) }
@@ -64,16 +34,12 @@ fn refused_line(alloc: Global, line: usize, name: &str) -> Result<Answer, AllocE
     Ok(Answer::of(text, Status::Refused))
 }
 
-/// The same of a text, with a note.
-pub(crate) fn recorded_with_note(
-    alloc: Global,
-    atr: &[u8],
-    text: &[u8],
-) -> Result<WithNote, AllocError>
+/// The file of the exchange in which the blocks that a text has were seen, or the text's fault, with a note.
+pub(crate) fn recorded(alloc: Global, atr: &[u8], text: &[u8]) -> Result<WithNote, AllocError>
     ensures { IfOk result (AreOf (Records atr.now text.now) (IsRecordNote atr.now text.now)) }
 {
     match read_trace(alloc, text) {
-        Ok(trace) => items_with_note(alloc, atr, text, &trace),
+        Ok(trace) => recorded_items(alloc, atr, text, &trace),
         Err(fault) => {
             let answer = refused(alloc, fault)?;
             let note = trace_note(alloc, text, fault, EXPECTED);
@@ -83,7 +49,7 @@ pub(crate) fn recorded_with_note(
 }
 
 /// The file of the blocks of a text, or why there is none, with a note.
-fn items_with_note(
+fn recorded_items(
     alloc: Global,
     atr: &[u8],
     text: &[u8],

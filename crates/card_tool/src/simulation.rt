@@ -26,20 +26,8 @@ fn exchange_of(alloc: Global, session: &Session) -> Result<Exchange, SimulationF
     simulate(alloc, session, LARGEST_FILE)
 }
 
-/// The file of the exchange that a session makes, or why there is none.
-pub(crate) fn simulated(alloc: Global, session: &Session) -> Result<Answer, AllocError>
-    ensures { IfOk result (λ answer. Simulates session.now answer.text answer.status) }
-{
-    match exchange_of(alloc, session) {
-        Ok(exchange) => file(alloc, &exchange),
-        Err(SimulationFault::Refused(fault)) => Answer::refused_as(alloc, fault.name()),
-        Err(SimulationFault::TooLarge) => Answer::faulted(alloc, Fault::TooLarge),
-        Err(SimulationFault::Memory) => Err(AllocError),
-    }
-}
-
-/// The same, with a note.
-pub(crate) fn simulated_with_note(alloc: Global, session: &Session) -> Result<WithNote, AllocError>
+/// The file of the exchange that a session makes, or why there is none, with a note.
+pub(crate) fn simulated(alloc: Global, session: &Session) -> Result<WithNote, AllocError>
     ensures { IfOk result (AreOf (Simulates session.now) (IsSimulationNote session.now)) }
 {
     match exchange_of(alloc, session) {
@@ -58,24 +46,8 @@ pub(crate) fn simulated_with_note(alloc: Global, session: &Session) -> Result<Wi
     }
 }
 
-/// The file of the exchange that a session makes with the pairs that the lines of a text say, or why there is none.
+/// The same with the pairs that the lines of a text say.
 pub(crate) fn lines_simulated(
-    alloc: Global,
-    session: Session,
-    text: &[u8],
-) -> Result<Answer, AllocError>
-    ensures { IfOk result (λ answer.
-        SimulatesLines session text.now answer.text answer.status) }
-{
-    match read_pair_lines(alloc, text) {
-        Ok(pairs) => simulated(alloc, &session.with_pairs(pairs)),
-        Err(Fault::Memory) => Err(AllocError),
-        Err(fault) => Answer::faulted(alloc, fault),
-    }
-}
-
-/// The same, with a note.
-pub(crate) fn lines_simulated_with_note(
     alloc: Global,
     session: Session,
     text: &[u8],
@@ -84,7 +56,7 @@ pub(crate) fn lines_simulated_with_note(
         (IsLinesNote session text.now)) }
 {
     match read_pair_lines(alloc, text) {
-        Ok(pairs) => simulated_with_note(alloc, &session.with_pairs(pairs)),
+        Ok(pairs) => simulated(alloc, &session.with_pairs(pairs)),
         Err(Fault::Memory) => Err(AllocError),
         Err(fault) => {
             let answer = Answer::faulted(alloc, fault)?;

@@ -1,17 +1,17 @@
 //! What is said of a line of octets, with an explanation where one is asked for.
 
-ghost use Rattle.std.specs.Prelude.{◌≡◌, ◌==◌, ◌≤◌, ◌⊎◌, ◌++◌, ◌∷◌, [], ℕ, List, Bool, IfOk, IsOkAnd, string_bytes};
+ghost use Rattle.card_words.specs.declared.fault.Fault.TheVariants.{Memory};
+ghost use Rattle.std.specs.Prelude.{◌≡◌, ◌≢◌, ◌==◌, ◌≤◌, ◌⊎◌, ◌++◌, ◌∷◌, [], ℕ, List, Bool, IfOk};
 ghost use Rattle.card_tool.specs.Answers.{IsTold, IsToldOf};
-ghost use Rattle.card_tool.specs.Explained.{IsFaultNote};
-ghost use Rattle.card_tool.specs.Judged.{AreOf};
-ghost use Rattle.card_tool.specs.LineNotes.{indented, indented_from, IsLineExplained, IsNoteOfLine};
+ghost use Rattle.card_tool.specs.Explained.{said_of, IsFaultNote};
+ghost use Rattle.card_tool.specs.Judged.{AreOf, SaysIf};
+ghost use Rattle.card_tool.specs.LineNotes.{indented, indented_from, IsNoteOfLine};
 ghost use Rattle.card_tool.specs.Lines.{line_octets};
 ghost use Rattle.card_words.specs.Texts.{fault_text};
 ghost use Rattle.card_kinds.specs.declared.status.Status.TheVariants as status;
 
 use crate::file::LARGEST_FILE;
-use crate::judged::{WithNote, answer_with_note};
-use crate::lines::line_told;
+use crate::judged::{WithNote, answer_about};
 use card_kinds::Answer;
 use card_words::{Fault, Task, loose_octets};
 use explainer::{digits_note, large_note};
@@ -27,76 +27,65 @@ pub struct Telling {
     pub explains: bool,
 }
 
-/// The text of a line of octets, and after it an explanation where one is asked for.
-pub(crate) fn line_explained(
+/// What is said of a line of octets, with a note where it is asked for.
+pub(crate) fn line_told(
     alloc: Global,
     telling: Telling,
     line: &[u8],
-) -> Result<Answer, AllocError>
+) -> Result<WithNote, AllocError>
     requires least { 1 ≤ telling.task.expected.ifs }
     requires most { telling.task.expected.ifs ≤ 254 }
-    ensures { IfOk result (λ answer.
-        IsLineExplained telling (line_octets line.now) answer.text answer.status) }
-{
-    if !telling.explains {
-        return line_told(alloc, telling.task, line);
-    }
-    let WithNote { answer, note } = line_with_note(alloc, telling.task, line)?;
-    Ok(with_indented(alloc, answer, note))
-}
-
-/// The text of a line of octets, with a note.
-fn line_with_note(alloc: Global, task: Task, line: &[u8]) -> Result<WithNote, AllocError>
-    requires least { 1 ≤ task.expected.ifs }
-    requires most { task.expected.ifs ≤ 254 }
-    ensures { IfOk result (AreOf (IsToldOf (IsTold task) (line_octets line.now))
-        (IsNoteOfLine task (line_octets line.now))) }
+    ensures { IfOk result (AreOf (IsToldOf (IsTold telling.task) (line_octets line.now))
+        (SaysIf telling.explains (IsNoteOfLine telling.task (line_octets line.now)))) }
 {
     if line.len() > LARGEST_FILE {
-        return Ok(WithNote {
-            answer: Answer::faulted(alloc, Fault::TooLarge)?,
-            note: large_note(alloc, LARGEST_FILE),
-        });
+        return fault_told(alloc, telling.explains, Fault::TooLarge, line);
     }
     match loose_octets(alloc, line) {
-        Ok(octets) => answer_with_note(alloc, task, octets.get()),
-        Err(Fault::Memory) => Err(AllocError),
-        Err(fault) => fault_with_note(alloc, fault, line),
+        Ok(octets) => answer_about(alloc, telling, octets.get()),
+        Err(fault) => fault_told(alloc, telling.explains, fault, line),
     }
 }
 
-/// The line of a fault, with what is wrong with the digits of a line.
-fn fault_with_note(alloc: Global, fault: Fault, line: &[u8]) -> Result<WithNote, AllocError>
-    ensures { IfOk result (AreOf (λ text ended. (text ≡ fault_text fault) × (ended ≡ status.Fault))
-        (λ note. (note ≡ []) ⊎ IsFaultNote fault note)) }
+/// The line of a fault, with what is wrong with a line where it `explains`.
+fn fault_told(
+    alloc: Global,
+    explains: bool,
+    fault: Fault,
+    line: &[u8],
+) -> Result<WithNote, AllocError>
+    ensures other { IfOk result (λ _. fault ≢ Memory) }
+    ensures told { IfOk result (AreOf
+        (λ text ended. (text ≡ fault_text fault) × (ended ≡ status.Fault))
+        (SaysIf explains (λ note. (note ≡ []) ⊎ IsFaultNote fault note))) }
 {
+    if let Fault::Memory = fault {
+        return Err(AllocError);
+    }
+    let answer = Answer::faulted(alloc, fault)?;
+    if !explains {
+        return Ok(WithNote::alone(alloc, answer));
+    }
     let note = match fault {
         Fault::Hex => digits_note(alloc, line),
-        _ => Ok(String::new(alloc)),
+        Fault::TooLarge => large_note(alloc, LARGEST_FILE),
+        Fault::Words | Fault::Memory | Fault::Read => Ok(String::new(alloc)),
     };
-    Ok(WithNote {
-        answer: Answer::faulted(alloc, fault)?,
-        note,
-    })
+    Ok(WithNote { answer, note })
 }
 
-/// An answer with a note after its text, each line of it after two blanks, or without one where it couldn't be made.
-fn with_indented(alloc: Global, answer: Answer, note: Result<String, AllocError>) -> Answer
-    ensures text { (added : List ℕ) × (result.text ≡ answer.text ++ added)
-        × ((added ≡ []) ⊎ IsOkAnd note (λ text. added ≡ indented (string_bytes text))) }
-    ensures status { result.status ≡ answer.status }
+/// A text with a note after it, each line of the note after two blanks, or without it where it couldn't be made.
+pub(crate) fn with_indented(alloc: Global, told: Octets, note: Result<String, AllocError>) -> Octets
+    ensures { (added : List ℕ) × (result ≡ told ++ added)
+        × ((added ≡ []) ⊎ (added ≡ indented (said_of note))) }
 {
-    let status = answer.status;
-    let mut text = answer.text.into_inner();
+    let mut text = told.into_inner();
     if let Ok(note) = note {
         if let Ok(added) = indented(alloc, note.as_bytes()) {
             let _ = text.extend_from_slice(added.as_slice());
         }
     }
-    Answer {
-        text: Octets::of(text),
-        status,
-    }
+    Octets::of(text)
 }
 
 /// A text with two blanks before each line.

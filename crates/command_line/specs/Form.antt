@@ -69,7 +69,8 @@ words_rule = record (new_rule (codes "words")) { value_names = 1; action = Some 
 
 -- the subcommand that builds what a word says, of the words after it
 abbrev pub build_app : App
-build_app = with_rule (with_rule (with_rule (begun_app (codes "build")) what_rule) words_rule) stdin_rule
+build_app =
+    with_rule (with_rule (with_rule (with_rule (begun_app (codes "build")) what_rule) words_rule) stdin_rule) json_rule
 
 abbrev pub end_rule : Rule
 end_rule = record (new_rule (codes "end")) { long = Some (codes "end"); value_names = 1; required = true }
@@ -80,7 +81,7 @@ replay_app = with_rule (with_rule (begun_app (codes "replay")) end_rule) json_ru
 
 -- the subcommand that takes recorded exchanges into the newest version, which takes no words
 abbrev pub migrate_app : App
-migrate_app = begun_app (codes "migrate")
+migrate_app = with_rule (begun_app (codes "migrate")) json_rule
 
 -- the subcommand that lists the commands and answers of recorded exchanges
 abbrev pub apdus_app : App
@@ -91,14 +92,14 @@ abbrev pub svg_rule : Rule
 svg_rule = flag_rule (codes "svg")
 
 abbrev pub draw_app : App
-draw_app = with_rule (begun_app (codes "draw")) svg_rule
+draw_app = with_rule (with_rule (begun_app (codes "draw")) svg_rule) json_rule
 
 abbrev pub atr_rule : Rule
 atr_rule = required_rule (codes "atr")
 
 -- the subcommand that makes recorded exchanges of the blocks that were seen on a line
 abbrev pub record_app : App
-record_app = with_rule (begun_app (codes "record")) atr_rule
+record_app = with_rule (with_rule (begun_app (codes "record")) atr_rule) json_rule
 
 -- the option that names the end that is judged alone
 abbrev pub judged_rule : Rule
@@ -129,8 +130,8 @@ ifsd_rule = record (new_rule (codes "ifsd"))
 -- the subcommand that records a session of both ends, first with its words, the size that is asked for, and where the
 -- pairs are read
 abbrev pub session_app : App
-session_app = with_rule (with_rule (with_rule (with_rule (begun_app (codes "simulate")) atr_rule) pairs_rule) ifsd_rule)
-    stdin_rule
+session_app = with_rule (with_rule (with_rule (with_rule
+    (with_rule (begun_app (codes "simulate")) atr_rule) pairs_rule) ifsd_rule) stdin_rule) json_rule
 
 abbrev pub simulate_app : App
 simulate_app = with_rule (with_rule (with_rule session_app (option_rule (codes "lose"))) (option_rule (codes "damage")))

@@ -8,4 +8,4 @@ asks_for_version (name ∷ word ∷ []) = bytes_eq word (codes "--version") || b
 asks_for_version _ = false
 
 abbrev pub version_line : List ℕ
-version_line = codes "scard 1.4.0\n"
+version_line = codes "scard 1.5.0\n"

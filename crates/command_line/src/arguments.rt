@@ -14,7 +14,7 @@ pub(crate) fn explain_arg<'a>(alloc: Global) -> Arg<'a>
     flag_arg(
         alloc,
         "explain",
-        "Say after the line of a fault or a refusal what is wrong, and where",
+        "After a fault or a refusal, say what is wrong, and where",
     )
 }
 
@@ -37,7 +37,7 @@ pub(crate) fn kind_arg<'a>(alloc: Global) -> Arg<'a>
         alloc,
         "kind",
         "KIND",
-        "What the octets are taken for: atr, block, chain, command, response, tlv or dol",
+        "The kind of octets: atr, block, chain, command, response, tlv or dol",
     )
 }
 
@@ -46,7 +46,7 @@ pub(crate) fn hex_arg<'a>(alloc: Global) -> Arg<'a>
     ensures local { result.global ≡ false }
 {
     Arg::new(alloc, "hex").value_name("HEX").help(
-        "The octets, two hexadecimal digits each, or none where there are none",
+        "The octets in hexadecimal, two digits each; the word none stands for no octets",
     )
 }
 
@@ -58,7 +58,7 @@ pub(crate) fn stdin_arg<'a>(alloc: Global) -> Arg<'a>
         alloc,
         "stdin",
         "FORM",
-        "In place of HEX: read octets from standard input, as FORM says: hex, octets, dump, source, or for check and show lines",
+        "Read the octets from standard input and not from HEX; FORM is one of: hex, octets, dump, source, or for check and show lines",
     )
 }
 
@@ -70,7 +70,7 @@ pub(crate) fn ifs_arg<'a>(alloc: Global) -> Arg<'a>
         .long("ifs")
         .value_parser(value_parser!(u8).range(1..=254))
         .value_name("N")
-        .help("The information size, 1 to 254 [default: 254]")
+        .help("The information field size, 1 to 254 [default: 254]")
 }
 
 pub(crate) fn number_arg<'a>(alloc: Global) -> Arg<'a>
@@ -81,7 +81,7 @@ pub(crate) fn number_arg<'a>(alloc: Global) -> Arg<'a>
         .long("number")
         .value_parser(value_parser!(u8).range(0..=1))
         .value_name("N")
-        .help("The number of the first block of a chain, 0 or 1 [default: 0]")
+        .help("The number of a chain's first block, 0 or 1 [default: 0]")
 }
 
 pub(crate) fn json_arg<'a>(alloc: Global) -> Arg<'a>
@@ -91,7 +91,7 @@ pub(crate) fn json_arg<'a>(alloc: Global) -> Arg<'a>
     flag_arg(
         alloc,
         "json",
-        "Answer by an object of JSON in place of lines",
+        "Answer with a JSON object and not with lines",
     )
 }
 
@@ -102,7 +102,7 @@ pub(crate) fn notes_arg<'a>(alloc: Global) -> Arg<'a>
     flag_arg(
         alloc,
         "notes",
-        "Say after the lines of the value, behind a number sign, what they mean",
+        "Add to a line, after a number sign, what it means",
     )
 }
 
@@ -110,7 +110,7 @@ pub(crate) fn what_arg<'a>(alloc: Global) -> Arg<'a>
     ensures rule { rule_of result ≡ what_rule }
     ensures local { result.global ≡ false }
 {
-    required_arg(alloc, "what", "WHAT", "What is built: chain, tidy or fill")
+    required_arg(alloc, "what", "WHAT", "What to build: chain, tidy or fill")
 }
 
 pub(crate) fn words_arg<'a>(alloc: Global) -> Arg<'a>
@@ -120,7 +120,7 @@ pub(crate) fn words_arg<'a>(alloc: Global) -> Arg<'a>
     Arg::new(alloc, "words")
         .action(ArgAction::Append)
         .value_name("WORD")
-        .help("The words that it is built of")
+        .help("The words to build it from")
 }
 
 pub(crate) fn end_arg<'a>(alloc: Global) -> Arg<'a>
@@ -131,7 +131,7 @@ pub(crate) fn end_arg<'a>(alloc: Global) -> Arg<'a>
         .long("end")
         .required(true)
         .value_name("END")
-        .help("The end that is replayed: terminal, card or both")
+        .help("The end to replay: terminal, card or both")
 }
 
 pub(crate) fn svg_arg<'a>(alloc: Global) -> Arg<'a>
@@ -141,7 +141,7 @@ pub(crate) fn svg_arg<'a>(alloc: Global) -> Arg<'a>
     flag_arg(
         alloc,
         "svg",
-        "Draw a picture that any browser shows, in place of lines of text",
+        "Draw a picture in SVG, which browsers show, and not lines of text",
     )
 }
 
@@ -165,7 +165,7 @@ pub(crate) fn judged_arg<'a>(alloc: Global) -> Arg<'a>
         alloc,
         "end",
         "END",
-        "The end of which deviations are told, terminal or card, in place of both",
+        "Report the deviations of one end alone: terminal or card",
     )
 }
 
@@ -177,7 +177,7 @@ pub(crate) fn clock_arg<'a>(alloc: Global) -> Arg<'a>
         alloc,
         "clock",
         "HZ",
-        "Judge also when a card's block comes, at a card with this clock, 1 to 1000000000 hertz",
+        "Also judge when the card's blocks begin; HZ is the card's clock, 1 to 1000000000 hertz",
     )
 }
 
@@ -188,7 +188,7 @@ pub(crate) fn rules_arg<'a>(alloc: Global) -> Arg<'a>
     flag_arg(
         alloc,
         "rules",
-        "List how often each end kept and broke each rule, and how often each block was due",
+        "Also list how often each end kept or broke each rule, and how often each block was due",
     )
 }
 
@@ -199,7 +199,7 @@ pub(crate) fn pairs_arg<'a>(alloc: Global) -> Arg<'a>
     Arg::new(alloc, "pairs")
         .action(ArgAction::Append)
         .value_name("COMMAND:REPLY")
-        .help("Commands and the replies to them, in hexadecimal or none")
+        .help("Each command and its reply, in hexadecimal or none")
 }
 
 pub(crate) fn ifsd_arg<'a>(alloc: Global) -> Arg<'a>
@@ -210,7 +210,7 @@ pub(crate) fn ifsd_arg<'a>(alloc: Global) -> Arg<'a>
         .long("ifsd")
         .value_parser(value_parser!(u8).range(1..=254))
         .value_name("N")
-        .help("The information size that the terminal asks for first, 1 to 254")
+        .help("The information field size that the terminal requests first, 1 to 254")
 }
 
 /// The option by which the pairs of a session come from standard input.
@@ -222,7 +222,7 @@ pub(crate) fn lines_arg<'a>(alloc: Global) -> Arg<'a>
         alloc,
         "stdin",
         "FORM",
-        "In place of COMMAND:REPLY: read the pairs from standard input; FORM is lines, and a line is COMMAND REPLY",
+        "Read the pairs from standard input; FORM is lines, and a line is COMMAND REPLY",
     )
 }
 

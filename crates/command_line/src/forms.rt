@@ -113,7 +113,8 @@ fn build_command<'a>(alloc: Global) -> Built<'a>
 {
     let what = asking(begun_command(alloc, "build", &BUILD), what_arg(alloc));
     let words = asking(what, words_arg(alloc));
-    asking(words, stdin_arg(alloc))
+    let stdin = asking(words, stdin_arg(alloc));
+    asking(stdin, json_arg(alloc))
 }
 
 /// The subcommand that replays recorded exchanges.
@@ -130,7 +131,7 @@ fn migrate_command<'a>(alloc: Global) -> Built<'a>
     ensures form { HasForm migrate_app result }
     ensures local { IsLocal result }
 {
-    begun_command(alloc, "migrate", &MIGRATE)
+    asking(begun_command(alloc, "migrate", &MIGRATE), json_arg(alloc))
 }
 
 /// The subcommand that lists the commands and answers of recorded exchanges.
@@ -146,7 +147,8 @@ fn draw_command<'a>(alloc: Global) -> Built<'a>
     ensures form { HasForm draw_app result }
     ensures local { IsLocal result }
 {
-    asking(begun_command(alloc, "draw", &DRAW), svg_arg(alloc))
+    let svg = asking(begun_command(alloc, "draw", &DRAW), svg_arg(alloc));
+    asking(svg, json_arg(alloc))
 }
 
 /// The subcommand that makes recorded exchanges of blocks.
@@ -154,7 +156,8 @@ fn record_command<'a>(alloc: Global) -> Built<'a>
     ensures form { HasForm record_app result }
     ensures local { IsLocal result }
 {
-    asking(begun_command(alloc, "record", &RECORD), atr_arg(alloc))
+    let atr = asking(begun_command(alloc, "record", &RECORD), atr_arg(alloc));
+    asking(atr, json_arg(alloc))
 }
 
 /// The subcommand that judges the blocks of a trace.
@@ -184,14 +187,14 @@ fn simulate_command<'a>(alloc: Global) -> Built<'a>
 {
     let lose = asking(
         session_command(alloc),
-        list_arg(alloc, "lose", "The blocks that are lost, as 2,5 or 2-5"),
+        list_arg(alloc, "lose", "The blocks to lose, such as 2,5 or 2-5"),
     );
     let damage = asking(
         lose,
         list_arg(
             alloc,
             "damage",
-            "The blocks that arrive with their last octet changed",
+            "The blocks that arrive with a changed last octet",
         ),
     );
     asking(
@@ -212,5 +215,6 @@ fn session_command<'a>(alloc: Global) -> Built<'a>
     let atr = asking(begun_command(alloc, "simulate", &SIMULATE), atr_arg(alloc));
     let pairs = asking(atr, pairs_arg(alloc));
     let ifsd = asking(pairs, ifsd_arg(alloc));
-    asking(ifsd, lines_arg(alloc))
+    let lines = asking(ifsd, lines_arg(alloc));
+    asking(lines, json_arg(alloc))
 }

@@ -64,19 +64,18 @@ pub(crate) const PROGRAM: Page<'static> = Page {
   chain     the I-blocks that carry one message
   command   a command APDU
   response  a response APDU
-  tlv       a forest of data objects
-  dol       a list of data objects that are asked for
+  tlv       BER-TLV data objects
+  dol       a data object list
 
-Octets are hexadecimal, two digits each, in either case; the word none gives no octets. With --stdin in place of a
-word check, show and build tidy read them from standard input.
+Octets are in hexadecimal, two digits each, in upper or lower case. The word none stands for no octets. With --stdin,
+check, show and build tidy read the octets from standard input.
 
 Exit status:
   0  accepted, or done
-  1  refused, or short, or an end that does otherwise than a file says
-  2  a fault of the words, of a file, of memory or of a stream
+  1  refused, or incomplete, or an end differs from the recorded exchange
+  2  a fault in the words, the file, the memory or a stream
 
-Every line goes to standard output. With --explain, before the command or after it, lines about what is wrong come after
-it.
+All output goes to standard output. --explain stands before or after the command, and adds lines that say what is wrong.
 
 Examples:
   scard help check
@@ -85,18 +84,18 @@ Examples:
 
 /// The page of `check`.
 pub(crate) const CHECK: Page<'static> = Page {
-    about: "Say whether octets are a value, and how many of them it takes",
+    about: "Check whether octets are a valid value, and count its octets",
     usage: "scard check <KIND> <HEX> [--ifs <N>] [--number <N>] [--json]
        scard check <KIND> --stdin <FORM> [--ifs <N>] [--number <N>] [--json]",
-    after: "The kinds block and chain use --ifs, and chain uses --number; the others leave them unused.
-An answer to reset, a block and a chain may have more octets after them; the others end with the last octet.
-With --stdin lines each line of standard input is hexadecimal, and is answered by a line of its own as it comes.
-With --json an object of JSON in one line comes in place of each answer.
+    after: "The kinds block and chain use --ifs, and chain uses --number. The other kinds ignore both.
+More octets may follow an answer to reset, a block or a chain. A value of any other kind takes all octets.
+With --stdin lines, each line of standard input is one value in hexadecimal, and gets one line as its answer at once.
+With --json, each answer is a JSON object on one line.
 
 Exit status:
-  0  ok N octets: they are a value, or begin with one; of lines, all of them
-  1  short at P: more must come; refused at P: REASON: no value goes on after the octet at place P
-  2  a fault, as fault: words or fault: hex
+  0  ok N octets: the first N octets are a valid value; with lines, so is each line
+  1  short at P: more octets must follow; refused at P: REASON: the octet at place P, from 0, can't be there
+  2  a fault, such as fault: words or fault: hex
 
 Examples:
   scard check block 00000500A4040000A5
@@ -105,20 +104,19 @@ Examples:
 
 /// The page of `show`.
 pub(crate) const SHOW: Page<'static> = Page {
-    about: "Show the value that octets spell, line by line",
+    about: "Show the fields of the value that octets encode, line by line",
     usage: "scard show <KIND> <HEX> [--ifs <N>] [--number <N>] [--notes] [--json]
        scard show <KIND> --stdin <FORM> [--ifs <N>] [--number <N>] [--notes] [--json]",
-    after: "The kinds block and chain use --ifs, and chain uses --number; the others leave them unused.
-With --stdin lines each line of standard input is hexadecimal, and is answered as it comes, by its value or what it is
-refused by, and an empty line.
-With --notes a line may go on with two blanks, a number sign, a blank and what it means. Cut there it is the line that
-comes without --notes.
-With --json an object of JSON in one line comes in place of the lines of each answer.
+    after: "The kinds block and chain use --ifs, and chain uses --number. The other kinds ignore both.
+With --stdin lines, each line of standard input is one value in hexadecimal. Its answer comes at once, and then an empty
+line.
+With --notes, a line may end with two spaces, a number sign, a space and a note. Without the note it is the same line.
+With --json, each answer is a JSON object on one line.
 
 Exit status:
-  0  the value was shown; of lines, all of them
-  1  short at P: more must come; refused at P: REASON: no value goes on after the octet at place P
-  2  a fault, as fault: words or fault: hex
+  0  the value was shown; with lines, all values
+  1  short at P: more octets must follow; refused at P: REASON: the octet at place P, from 0, can't be there
+  2  a fault, such as fault: words or fault: hex
 
 Examples:
   scard show atr 3B808131204555
@@ -129,21 +127,22 @@ Examples:
 
 /// The page of `build`.
 pub(crate) const BUILD: Page<'static> = Page {
-    about: "Build octets: the blocks of a chain, a tidy forest, or what a list asks for",
-    usage: "scard build chain <IFS> <NUMBER> <HEX>
-       scard build tidy <HEX>
-       scard build tidy --stdin <FORM>
-       scard build fill <DOL> [F:TAG:VALUE]...",
-    after: "chain  cuts the message HEX into blocks with fields of at most IFS octets, 1 to 254; the first block
-       has the number NUMBER, 0 or 1
-tidy   writes a forest of data objects in the fewest octets that say the same
-fill   gives the octets that the list DOL asks for, of values that are known: F is n (numeric),
-       c (compressed numeric) or o (any other), TAG and VALUE are hexadecimal
+    about: "Build octets: the blocks of a chain, data objects in short form, or the data for a list",
+    usage: "scard build chain <IFS> <NUMBER> <HEX> [--json]
+       scard build tidy <HEX> [--json]
+       scard build tidy --stdin <FORM> [--json]
+       scard build fill <DOL> [F:TAG:VALUE]... [--json]",
+    after: "chain  cuts the message HEX into I-blocks of at most IFS octets of data, 1 to 254. The first block has
+       the number NUMBER, 0 or 1.
+tidy   writes data objects in as few octets as possible: it shortens length fields and drops fillers.
+fill   builds the data that the data object list DOL asks for. F is the format of a value: n (numeric),
+       c (compressed numeric) or o (any other). TAG and VALUE are in hexadecimal.
+With --json, the answer is a JSON object that has its lines.
 
 Exit status:
-  0  the octets were built; none stands for no octets
-  1  the forest or the list is refused, or two values have one tag
-  2  a fault, as fault: words or fault: hex
+  0  the octets were built; the word none stands for no octets
+  1  the data objects or the list are refused, or two values have one tag
+  2  a fault, such as fault: words or fault: hex
 
 Examples:
   scard build chain 2 0 00A4040000
@@ -154,13 +153,13 @@ Examples:
 pub(crate) const REPLAY: Page<'static> = Page {
     about: "Replay the recorded exchange on standard input at one end, or at both",
     usage: "scard replay --end <END> [--json]",
-    after: "With --end both a line comes for each end, with terminal: or card: before it.
-With --json an object of JSON comes in place of the lines.
+    after: "With --end both, the answer has a line for each end, which begins with terminal: or card:.
+With --json, the answer is a JSON object.
 
 Exit status:
   0  ok N lines: the end does all that the file says, or both ends do
-  1  line N: engine gives TEXT: it does otherwise there
-  2  a fault of the file, as fault: Header or fault: line 3: Word
+  1  line N: engine gives TEXT: at line N the end does TEXT, and not what the file says
+  2  a fault in the file, such as fault: Header or fault: line 3: Word
 
 Examples:
   scard replay --end card <examples/damaged_and_lost.exchange
@@ -169,11 +168,13 @@ Examples:
 
 /// The page of `migrate`.
 pub(crate) const MIGRATE: Page<'static> = Page {
-    about: "Write the recorded exchange on standard input in the newest version",
-    usage: "scard migrate",
-    after: "Exit status:
+    about: "Convert the recorded exchange on standard input to the newest version",
+    usage: "scard migrate [--json]",
+    after: "With --json, the answer is a JSON object that has its lines.
+
+Exit status:
   0  the file in version 2, with the same lines
-  2  a fault of the file, as fault: Header or fault: line 3: Word
+  2  a fault in the file, such as fault: Header or fault: line 3: Word
 
 Examples:
   scard migrate <examples/damaged_and_lost.exchange
@@ -182,21 +183,21 @@ Examples:
 
 /// The page of `apdus`.
 pub(crate) const APDUS: Page<'static> = Page {
-    about: "List the commands of the recorded exchange on standard input, with what came of each",
+    about: "List each command of the recorded exchange on standard input, with its outcome",
     usage: "scard apdus [--json]",
-    after: "A line comes for each command, with these names and values:
+    after: "The list has a line for each command, with these names and values:
   exchange  its number, from 1
   command   its octets
-  answer    the octets of its answer; given-up or dead; open where none of these comes
+  answer    the octets of its answer, or given-up, or dead; open, if the file has no outcome
   blocks    how many blocks were sent for it
-  lost      which of them were lost, by their numbers in the whole file, as 2,5, or none
-  damaged   which of them arrived damaged, in the same way
-  time      microseconds, where the file has moments, or none
-With --json one object of JSON has them all.
+  lost      which of them were lost, by their numbers in the whole file, such as 2,5; or none
+  damaged   which of them arrived damaged, by their numbers; or none
+  time      its duration in microseconds; or none, if the file has no times
+With --json, one JSON object has all of them.
 
 Exit status:
-  0  the lines; nothing where the file has no command
-  2  a fault of the file, as fault: Header or fault: line 3: Word
+  0  the lines; no line, if the file has no command
+  2  a fault in the file, such as fault: Header or fault: line 3: Word
 
 Examples:
   scard apdus <examples/damaged_and_lost.exchange
@@ -206,18 +207,18 @@ Examples:
 /// The page of `draw`.
 pub(crate) const DRAW: Page<'static> = Page {
     about: "Draw the recorded exchange on standard input, as a ladder between terminal and card",
-    usage: "scard draw [--svg]",
-    after: "A line comes for each line of the file. What the terminal's application says is on the left, what the card's
-host says on the right, and moments and notes are between them. A block has its number, as simulate --lose takes it, an
-arrow, what it says, and its octets:
-  ->| or |<-  it arrives; damaged, where the line after it has what arrived in its place
-  -x or x-    it is lost
-Of many octets the first ones come, and how many there are.
-With --svg the same rows come as one picture in SVG, light or dark as the browser is.
+    usage: "scard draw [--svg] [--json]",
+    after: "The drawing has a row for each line of the file. What the terminal's application says is on the left, what the
+card's host says is on the right, and times and notes are between them. The row of a block has its number, as
+simulate --lose takes it, an arrow, its meaning and its octets:
+  ->| or |<-  the block arrives; if it arrives damaged, the next row has what arrived
+  -x or x-    the block is lost
+Of a long block, the row has the first octets, and how many octets it has.
+With --svg, the drawing is one picture in SVG, light or dark like the browser. With --json, an object has its lines.
 
 Exit status:
   0  the drawing
-  2  a fault of the file, as fault: Header or fault: line 3: Word
+  2  a fault in the file, such as fault: Header or fault: line 3: Word
 
 Examples:
   scard draw <examples/damaged_and_lost.exchange
@@ -226,21 +227,21 @@ Examples:
 
 /// The page of `record`.
 pub(crate) const RECORD: Page<'static> = Page {
-    about: "Make a recorded exchange of the blocks that were seen on a line",
-    usage: "scard record <ATR>",
-    after: "Standard input has a line for each block, in the order of time:
-  t HEX       the terminal sends a block, which arrives; in hexadecimal, in either case
-  c HEX       the card sends one
-  t HEX lost  it was seen, but doesn't arrive; c HEX lost in the same way
+    about: "Make a recorded exchange from the blocks that were seen on a line",
+    usage: "scard record <ATR> [--json]",
+    after: "Standard input has a line for each block, in order of time:
+  t HEX       the terminal sends this block, in hexadecimal, and it arrives
+  c HEX       the card sends this block, and it arrives
+  t HEX lost  the terminal sends this block, and it doesn't arrive; likewise c HEX lost
   quiet       the terminal's waiting time ended
-  at N        so many microseconds after some start
-A terminal and a card are led along these blocks, and what their applications must have said is added, so that
-scard replay tells whether an end does otherwise, and where first.
+  at N        the time is N microseconds
+The file has these blocks, and what the applications of both ends must have said. So scard replay can say whether an end
+behaves differently, and where first. With --json, the answer is a JSON object that has the lines of the file.
 
 Exit status:
   0  the file of the exchange
-  1  refused: NAME: the answer to reset can't be used
-  2  a fault, as fault: words, fault: hex or fault: line 3: Word
+  1  refused: NAME: no session of T=1 can begin from the answer to reset
+  2  a fault, such as fault: words, fault: hex or fault: line 3: Word
 
 Examples:
   printf 't 00000500A4040000A5\\nc 000002900092\\n' | scard record 3B808131204555",
@@ -248,27 +249,27 @@ Examples:
 
 /// The page of `judge`.
 pub(crate) const JUDGE: Page<'static> = Page {
-    about: "Say which blocks that were seen on a line the standard doesn't permit, and of which end",
+    about: "Report each block of a trace that the standard doesn't permit, and the end that sent it",
     usage: "scard judge <ATR> [--end <END>] [--clock <HZ>] [--rules] [--json]",
-    after: "Standard input has a line for each block, in the order of time:
-  t HEX         the terminal sends a block, in hexadecimal, in either case
-  c HEX         the card sends one
-  t HEX lost    it doesn't arrive; c HEX lost in the same way
-  t HEX as HEX  it arrives as these octets; c HEX as HEX in the same way
+    after: "Standard input has a line for each block, in order of time:
+  t HEX         the terminal sends this block, in hexadecimal
+  c HEX         the card sends this block
+  t HEX lost    the block doesn't arrive; likewise c HEX lost
+  t HEX as HEX  the block arrives as the second HEX; likewise c HEX as HEX
   quiet         the terminal's waiting time ended
   reset         the card was reset
-  at N          so many microseconds after some start; before a block, when it began
-  # REMARK      says nothing
-Each block is judged by ISO/IEC 7816-3:2006, clause 11, and by what its sender may have heard before. A line comes for
-each deviation: the block, its sender, what it breaks, what was due, and the clause. An exchange of PPS may come first.
-With --clock a block of the card is late where it began after the block waiting time that the answer to reset and the
-last request for time give. With --rules a line for each rule says how often each end kept it and broke it, and a line for
-each state how often that was due from each end, or never. With --json an object of JSON comes in place of the lines.
+  at N          the time is N microseconds; before a block, the block begins then
+  # REMARK      a remark, which changes nothing
+Each block is judged by ISO/IEC 7816-3:2006, clause 11, and by what its sender may have received before. The report has
+a line for each deviation: the block, its sender, the broken rule, what was due, and the clause. A PPS exchange may come
+first. With --clock, a block of the card is late if it begins after the block waiting time. The answer to reset and the
+last waiting time extension give that time. With --rules, a line for each rule says how often each end kept or broke it,
+and a line for each state how often it was due from each end, or never. With --json, the report is a JSON object.
 
 Exit status:
   0  ok N blocks: the standard permits all of them
-  1  lines of deviations, and how many; refused: NAME: the answer to reset can't be used
-  2  a fault, as fault: words, fault: hex or fault: line 3: Word
+  1  a line for each deviation, and their number; or refused: NAME: the answer to reset gives no T=1 session
+  2  a fault, such as fault: words, fault: hex or fault: line 3: Word
 
 Examples:
   printf 't 00000500A4040000A5\\nc 000002900092\\n' | scard judge 3B808131204555
@@ -279,18 +280,18 @@ Examples:
 
 /// The page of `simulate`.
 pub(crate) const SIMULATE: Page<'static> = Page {
-    about: "Record a session of a terminal and a card, each of whose blocks may be disturbed",
-    usage: "scard simulate <ATR> [COMMAND:REPLY]... [--ifsd <N>] [--lose <LIST>] [--damage <LIST>] [--spoil <LIST>]
-       scard simulate <ATR> --stdin lines [--ifsd <N>] [--lose <LIST>] [--damage <LIST>] [--spoil <LIST>]",
-    after: "LIST is numbers of blocks and ranges as 2-5, parted by commas; they count from 1 in the order in which both
-ends send them.
-With --stdin lines each line of standard input has a pair: the command and the reply, parted by blanks. An empty line
-says nothing.
+    about: "Simulate a session of a terminal and a card over a line with errors, and record it",
+    usage: "scard simulate <ATR> [COMMAND:REPLY]... [--ifsd <N>] [--lose <LIST>] [--damage <LIST>] [--spoil <LIST>] [--json]
+       scard simulate <ATR> --stdin lines [--ifsd <N>] [--lose <LIST>] [--damage <LIST>] [--spoil <LIST>] [--json]",
+    after: "LIST is block numbers and ranges such as 2-5, with commas between. The numbers count the blocks of both ends from 1, in
+the order in which they are sent.
+With --stdin lines, each line of standard input has a command and its reply, with blanks between. scard skips empty
+lines. With --json, the answer is a JSON object that has the lines of the file.
 
 Exit status:
-  0  the file of the exchange, which replays at both ends
-  1  refused: NAME: the answer to reset can't be used
-  2  a fault, as fault: words, fault: hex or fault: TooLarge
+  0  the file of the recorded exchange, which replays at both ends
+  1  refused: NAME: no session of T=1 can begin from the answer to reset
+  2  a fault, such as fault: words, fault: hex or fault: TooLarge
 
 Examples:
   scard simulate 3B808131204555 00A4040000:9000

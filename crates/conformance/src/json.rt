@@ -9,7 +9,7 @@ use std::alloc::{AllocError, Global};
 
 /// The members of an answer in the order of their lines, each with the form of its line, and with that of its items
 /// where it is an array.
-const LINES: [(&str, &str, &str); 22] = [
+const LINES: [(&str, &str, &str); 23] = [
     ("convention", "convention {convention}", ""),
     ("interface", "", "{name} {value}"),
     ("historical", "historical {historical}", ""),
@@ -40,6 +40,7 @@ const LINES: [(&str, &str, &str); 22] = [
         "exchange {exchange} command {command} answer {answer} blocks {blocks} \
             lost {lost} damaged {damaged} time {time|none}",
     ),
+    ("lines", "", ""),
     ("other", "", ""),
 ];
 
@@ -94,19 +95,25 @@ fn is_value(object: &Value) -> bool {
     VALUES.iter().any(|&name| object.get(name).is_some())
 }
 
+/// Whether a member is a number.
+fn has_number(object: &Value, name: &str) -> bool {
+    matches!(object.get(name), Some(Value::Number(_)))
+}
+
 /// The form of the line that has the verdict, or none for a value that is shown.
 fn verdict_form(object: &Value) -> &'static str {
     let is_there = |name| object.get(name).is_some();
     match object.get("verdict").and_then(Value::as_str) {
         Some("ok") if is_value(object) => "",
         Some("ok") if is_there("octets") => "ok {octets} octets",
-        Some("ok") if is_there("lines") => "ok {lines} lines",
+        Some("ok") if has_number(object, "lines") => "ok {lines} lines",
         Some("short") => "short at {at}",
         Some("refused") if is_there("at") => "refused at {at}: {reason}",
+        Some("refused") if is_there("line") => "refused at line {line}: {reason}",
         Some("refused") => "refused: {reason}",
         Some("fault") if is_there("line") => "fault: line {line}: {fault}",
         Some("fault") => "fault: {fault}",
-        Some("differs") => "line {line}: engine gives {gives}",
+        Some("differs") if is_there("line") => "line {line}: engine gives {gives}",
         _ => "",
     }
 }

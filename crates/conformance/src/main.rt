@@ -3,7 +3,7 @@
 //! It writes a line for each file, with how many lines of it there are. The first line whose status or text is another
 //! is printed, and the program ends with status 1. docs/VECTORS.md has the format of the files.
 //!
-//! Lines of `check`, `show`, `replay`, `apdus` and `judge` are run once more with `--json`, but for those of changes:
+//! Each line is run once more with `--json`, but for those of changes:
 //! the lines of their texts have to come back from the objects.
 #![tactic(auto)]
 

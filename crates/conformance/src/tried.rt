@@ -93,7 +93,9 @@ fn try_row(alloc: Global, line: u64, row: Row, step: usize) -> Result<(), Fault>
 }
 
 /// The subcommands that take `--json`.
-const IN_JSON: [&str; 5] = ["check", "show", "replay", "apdus", "judge"];
+const IN_JSON: [&str; 10] = [
+    "check", "show", "build", "replay", "migrate", "apdus", "draw", "record", "judge", "simulate",
+];
 
 /// Runs a line with `--json`, where its subcommand takes that and its lines have nothing beside what they say: these
 /// have to come back from the objects.

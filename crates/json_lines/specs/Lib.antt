@@ -2,3 +2,4 @@ pub mod Words
 pub mod Named
 pub mod Forms
 pub mod Answers
+pub mod Strings

@@ -121,7 +121,7 @@ impl Place {
 pub(crate) type Row = (Place, &'static str);
 
 /// The forms of all lines. The first that a line has counts; those of which an answer may have many come first.
-pub(crate) const ROWS: [Row; 66] = [
+pub(crate) const ROWS: [Row; 67] = [
     (
         Item(Objects),
         "{>depth}{$tag} {$length} {!constructed:constructed}",
@@ -239,6 +239,7 @@ pub(crate) const ROWS: [Row; 66] = [
     (Members, "{=verdict:ok} {#lines} lines"),
     (Members, "{=verdict:short} at {#at}"),
     (Members, "{=verdict:refused} at {#at}: {$reason}"),
+    (Members, "{=verdict:refused} at line {#line}: {$reason}"),
     (Members, "{=verdict:refused}: {$reason}"),
     (Members, "{=verdict:fault}: line {#line}: {$fault}"),
     (Members, "{=verdict:fault}: {$fault}"),

@@ -1,7 +1,8 @@
 //! The lines that the program prints, as one JSON object.
 //!
-//! [`json_line`] gives the object of any text, by its lines. A table of forms, `ROWS`, says which line has which
-//! members; what it comes to is said by `specs/Forms.antt` for one line and by `specs/Answers.antt` for a text.
+//! [`json_line`] gives the object of any text, by its lines. A table of forms, `ROWS`, states which line has which
+//! members. `specs/Forms.antt` defines what that comes to for one line, and `specs/Answers.antt` for a text.
+//! [`line_strings`] gives the lines of any text as the strings of an array.
 #![tactic(auto)]
 
 mod answer;
@@ -9,6 +10,8 @@ mod fact;
 mod fit;
 mod forms;
 pub mod line;
+pub mod strings;
 mod words;
 
 pub use line::json_line;
+pub use strings::{json_string, line_strings};

@@ -1,10 +1,9 @@
-use Rattle.card_tool.proofs.Explaining.{by-verdict}
+use Rattle.card_tool.proofs.Explaining.{says-by}
 use Rattle.card_tool.proofs.judged.shown_by.Goals as goal
 
 pub returns : goal.returns
 returns g c = (
   c.in_ok-answer.ensures.told,
-  by-verdict (g.C.Codec.codec c.args.expected) c.args.octets.now _ c.verdict_note-note.result
-      c.in_ok-answer.ensures.verdict
-      c.verdict_note-note.ensures.note,
+  says-by c.args.telling.explains (g.C.Codec.codec c.args.telling.task.expected) c.args.octets.now _
+      c.asked_note-note.result c.in_ok-answer.ensures.verdict c.asked_note-note.ensures,
 )

@@ -1,8 +1,11 @@
-use Rattle.std.proofs.Common.{◌∙◌}
-use Rattle.card_tool.specs.InJson.{made}
+use Rattle.std.proofs.Common.{◌∙◌, ap, List, ℕ}
+use Rattle.card_tool.specs.Explained.{said_of}
+use Rattle.card_tool.specs.InJson.{made, with_explanation}
 use Rattle.card_tool.proofs.program.answer_in_json.Goals as goal
 
 pub returns-clause-told : goal.returns-clause-told
 returns-clause-told g c =
-    made c.args.read c.in_ok-told.told.text c.requires.read c.in_ok-told.ensures.told
-    (c.in_ok-text.ensures ∙ c.object_by-object.ensures c.in_ok-told.told.status c.in_ok-told.told.text)
+    let of = c.in_ok-made.made in
+    made c.args.read of.answer.text (said_of of.note) c.requires.read c.in_ok-made.ensures.told
+    (c.in_ok-text.ensures ∙ ap (λ (object : List ℕ). with_explanation object (said_of of.note))
+    (c.object_by-object.ensures of.answer.status of.answer.text))

@@ -17,7 +17,7 @@ returns-in-Ok-Lines-clause-lines g c = λ task ask.
     rw (sym (same-task (texts c.args.words.items) c.read.result c.in-Ok-Lines.task task
     (c.in-Ok-Lines.is ∙ ap read_as c.in-Ok-Lines.field-0-is)
     (rw c.as_slice-words.ensures.value at c.read.ensures.read) ask))
-    (rw (rw c.as_slice-words.ensures.value at c.are_explained-explains.ensures) at c.tell_lines.ensures)
+    (rw (rw c.as_slice-words.ensures.value at c.asks_to_explain-explains.ensures) at c.tell_lines.ensures)
 
 pub returns-in-Ok-Lines-clause-unread : goal.returns-in-Ok-Lines-clause-unread
 returns-in-Ok-Lines-clause-unread g c =

@@ -1,20 +1,26 @@
-use Rattle.card_tool.specs.SimulationTexts.{too_large, unusable}
-use Rattle.card_tool.proofs.Simulations.{if-ok, if-both-ok, told-file}
+use Rattle.std.proofs.lemmas.Result.{IfOk-weaker}
+use Rattle.card_tool.specs.SimulationTexts.{refused, too_large, too_long, unusable}
+use Rattle.card_tool.proofs.Simulations.{if-ok, told-both}
 use Rattle.card_tool.proofs.simulation.simulated.Goals as goal
 
 pub returns-in-Ok : goal.returns-in-Ok
-returns-in-Ok c =
-    if-ok c.file.result (λ answer file. told-file c.args.session.now c.in-Ok.exchange answer.text answer.status
-    c.in-Ok.ensures.simulated file) c.file.ensures
+returns-in-Ok c = IfOk-weaker c.file_with_note.result _ _
+    (λ made h. told-both c.args.session.now c.in-Ok.exchange made c.in-Ok.ensures.simulated h)
+    c.file_with_note.ensures
 
-pub returns-in-Err-Refused : goal.returns-in-Err-Refused
-returns-in-Err-Refused c =
-    let found = rw (c.in-Err-Refused.field-0-is, ← c.name.ensures) at c.in-Err-Refused.ensures.simulated in
-    if-both-ok c.refused_as.result (λ answer text status. unusable c.name.result.now found text status)
-    c.refused_as.ensures.text c.refused_as.ensures.status
+pub returns-in_ok-answer-in-Err-Refused : goal.returns-in_ok-answer-in-Err-Refused
+returns-in_ok-answer-in-Err-Refused c =
+    let found = rw (c.in-Err-Refused.field-0-is, ← c.name.ensures) at c.in-Err-Refused.ensures.simulated in (
+      unusable c.name.result.now found c.in_ok-answer-in-Err-Refused.ensures.text
+          c.in_ok-answer-in-Err-Refused.ensures.status,
+      if-ok c.session_note-note.result (λ note h. refused c.name.result.now found h)
+          (rw c.get.ensures at c.session_note-note.ensures),
+    )
 
-pub returns-in-Err-TooLarge : goal.returns-in-Err-TooLarge
-returns-in-Err-TooLarge c =
-    let long = rw c.in-Err-TooLarge.field-0-is at c.in-Err-TooLarge.ensures.simulated in
-    if-both-ok c.faulted.result (λ answer text status. too_large long.0 long.1 long.2 text status)
-    c.faulted.ensures.text c.faulted.ensures.status
+pub returns-in_ok-answer-in-Err-TooLarge : goal.returns-in_ok-answer-in-Err-TooLarge
+returns-in_ok-answer-in-Err-TooLarge c =
+    let long = rw c.in-Err-TooLarge.field-0-is at c.in-Err-TooLarge.ensures.simulated in (
+      too_large long.0 long.1 long.2 c.in_ok-answer-in-Err-TooLarge.ensures.text
+          c.in_ok-answer-in-Err-TooLarge.ensures.status,
+      if-ok c.large_note-note.result (λ note h. too_long long.0 long.1 long.2 h) c.large_note-note.ensures,
+    )

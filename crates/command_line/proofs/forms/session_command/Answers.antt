@@ -6,4 +6,5 @@ returns-clause-form c =
     c.atr_arg.ensures.local in
     let pairs-is = c.asking-pairs.ensures.form _ _ atr-is c.pairs_arg.ensures.rule c.pairs_arg.ensures.local in
     let ifsd-is = c.asking-ifsd.ensures.form _ _ pairs-is c.ifsd_arg.ensures.rule c.ifsd_arg.ensures.local in
-    c.asking.ensures.form _ _ ifsd-is c.lines_arg.ensures.rule c.lines_arg.ensures.local
+    let lines-is = c.asking-lines.ensures.form _ _ ifsd-is c.lines_arg.ensures.rule c.lines_arg.ensures.local in
+    c.asking.ensures.form _ _ lines-is c.json_arg.ensures.rule c.json_arg.ensures.local

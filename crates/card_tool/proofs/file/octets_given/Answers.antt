@@ -1,5 +1,0 @@
-use Rattle.card_tool.proofs.Inputs.{word-taken}
-use Rattle.card_tool.proofs.file.octets_given.Goals as goal
-
-pub returns-in-Word-clause-taken : goal.returns-in-Word-clause-taken
-returns-in-Word-clause-taken g c = rw c.in-Word.is (word-taken c.in-Word.octets _ _)
