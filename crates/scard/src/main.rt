@@ -4,13 +4,14 @@
 mod notice;
 
 use card_tool::{Counted, serve};
+use notice::Announced;
 use std::process::ExitCode;
 
 fn main(rt: HostRuntime) -> ExitCode {
-    notice::tell(&rt);
+    let stdin = Counted::new(rt.stdin());
     serve(
         &rt,
-        &mut Counted::new(rt.stdin()),
+        &mut Announced::new(&rt, stdin),
         &mut Counted::new(rt.stdout()),
     )
 }

@@ -1,54 +1,50 @@
-//! What a person at a terminal is told before the program waits for octets.
+//! What a person at a terminal reads before the program waits for octets.
 
-ghost use Rattle.std.specs.Prelude.{◌↔◌, IsTrue};
-ghost use Rattle.card_words.specs.Given.{IsFromReader};
-ghost use Rattle.card_words.specs.Words.{NeedsFile};
+ghost use Rattle.std.specs.Prelude.{◌≡◌};
 
-use card_words::{Asked, OctetSource, Request, read};
-use std::env;
-use std::io::IsTerminal;
+use octet_core::Source;
+use std::io::{self, IsTerminal};
 
 /// What standard error says, which stays out of what other programs read.
 const NOTICE: &str =
     "scard: reading standard input, which is this terminal, up to its end (Ctrl-D)";
 
-/// Says so, where the words ask for what standard input has, and that is a terminal.
-pub(crate) fn tell(rt: &HostRuntime) {
-    if rt.stdin().is_terminal() && await_octets(rt) {
-        let _ = rt.eprintln(NOTICE);
+/// Standard input that says so before it is read for the first time, where it is a terminal.
+#[derive(Drop)]
+pub(crate) struct Announced<'a, R> {
+    rt: &'a HostRuntime,
+    inner: R,
+    is_read: bool,
+}
+
+impl<'a, R> Announced<'a, R> {
+    /// The reader, not yet read.
+    pub(crate) fn new(rt: &'a HostRuntime, inner: R) -> Self {
+        Announced {
+            rt,
+            inner,
+            is_read: false,
+        }
+    }
+
+    /// Says that standard input is read, where it is a terminal and wasn't read before.
+    fn announce(&mut self)
+        ensures { self.new.inner ≡ self.old.inner }
+    {
+        if !self.is_read && self.rt.stdin().is_terminal() {
+            let _ = self.rt.eprintln(NOTICE);
+        }
+        self.is_read = true;
     }
 }
 
-/// Whether the words of the system ask for what standard input has.
-fn await_octets(rt: &HostRuntime) -> bool {
-    let Ok(words) = env::args(rt) else {
-        return false;
-    };
-    let Ok(words) = words.collect::<Vec<String>>(rt.alloc()) else {
-        return false;
-    };
-    match read(rt.alloc(), words.as_slice()) {
-        Ok(Asked::Lines(_)) => true,
-        Ok(Asked::Once(request)) => needs_file(&request),
-        Err(_) => false,
-    }
-}
+impl<R: Source> Source for Announced<'_, R> {
+    ghost remaining = { λ announced. R.remaining announced.inner };
 
-/// Whether a request takes what standard input has.
-fn needs_file(request: &Request) -> bool
-    ensures { IsTrue result ↔ NeedsFile request.now }
-{
-    match request {
-        Request::Tell(_, given) | Request::BuildTidy(given) => is_read(given),
-        Request::File(_) | Request::Record(_) | Request::Judge { .. } | Request::SimulateLines(_) =>
-            true,
-        _ => false,
-    }
-}
+    ghost failures = { λ announced. R.failures announced.inner };
 
-/// Whether octets come from standard input.
-fn is_read(given: &OctetSource) -> bool
-    ensures { IsTrue result ↔ IsFromReader given.now }
-{
-    matches!(given, OctetSource::Read(_))
+    fn read(&mut self, room: &mut [u8]) -> io::Result<usize> {
+        self.announce();
+        self.inner.read(room)
+    }
 }
