@@ -1,0 +1,39 @@
+#!/usr/bin/env python3
+"""Tests tools/check-words: it finds a phrase, across the end of a line too, and not in code."""
+
+import importlib.machinery
+import importlib.util
+import pathlib
+import sys
+import unittest
+
+sys.dont_write_bytecode = True
+TOP = pathlib.Path(__file__).resolve().parents[2]
+sys.path.insert(0, str(TOP / "tools"))
+loader = importlib.machinery.SourceFileLoader("check_words", str(TOP / "tools/check-words"))
+tool = importlib.util.module_from_spec(importlib.util.spec_from_loader("check_words", loader))
+loader.exec_module(tool)
+
+
+class Words(unittest.TestCase):
+    def found(self, text):
+        """The lines and phrases that are found in a page."""
+        return [(line, phrase) for line, phrase, _ in tool.found_in(tool.without_code(text))]
+
+    def test_phrases_are_found(self):
+        text = "The host is told of it.\nA text\nthat is\nnone.\n\nThat is dear, and wants much. None of these, given.\n"
+        said = [(1, "is told"), (3, "that is none"), (6, "dear"), (6, "wants"), (6, "None of these")]
+        self.assertEqual(self.found(text), said)
+
+    def test_words_that_only_look_alike_pass(self):
+        self.assertEqual(self.found("It unwanted, dearth, the untold. One of these reasons. Who is it?\n"), [])
+
+    def test_code_is_left_out(self):
+        self.assertEqual(self.found("`is told`\n\n    that is none\n\n```\ndear\n```\nA line.\n"), [])
+
+    def test_the_pages_have_none(self):
+        self.assertEqual(tool.main([]), 0)
+
+
+if __name__ == "__main__":
+    unittest.main()
