@@ -1,6 +1,6 @@
 /* Counts of all changes of two octets of a block those after which a card takes the octets for a block, and shows that
- * no change of one octet, no missing end and no octet after the block is one. The counts are those of docs/PROMISES.md.
- * With a number it counts for a field of so many octets alone: 254 takes some minutes.
+ * no change of one octet, no missing end and no octet after the block is one. The counts are those of
+ * docs/PROMISES-CLAUSES.md. With a number it counts for a field of so many octets alone: 254 takes some minutes.
  */
 #include "check.h"
 #include "scard.h"

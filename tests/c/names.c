@@ -11,7 +11,7 @@ static int is(const char *name, const char *wanted)
 
 static void versions(void)
 {
-    CHECK(scard_version() == SCARD_VERSION && SCARD_VERSION == 1004000);
+    CHECK(scard_version() == SCARD_VERSION && SCARD_VERSION == 1005000);
     CHECK(is(SCARD_VERSION_TEXT, AS_TEXT(SCARD_VERSION_MAJOR) "." AS_TEXT(SCARD_VERSION_MINOR) "."
              AS_TEXT(SCARD_VERSION_PATCH)));
 }
