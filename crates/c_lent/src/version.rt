@@ -8,5 +8,5 @@ ghost use Rattle.c_lent.specs.Version.{version};
 pub fn version() -> u32
     ensures { result ≡ version }
 {
-    1_004_000
+    1_005_000
 }
