@@ -23,10 +23,10 @@
  * the header belongs to the library.
  */
 #define SCARD_VERSION_MAJOR 1
-#define SCARD_VERSION_MINOR 4
+#define SCARD_VERSION_MINOR 5
 #define SCARD_VERSION_PATCH 0
 #define SCARD_VERSION (SCARD_VERSION_MAJOR * 1000000 + SCARD_VERSION_MINOR * 1000 + SCARD_VERSION_PATCH)
-#define SCARD_VERSION_TEXT "1.4.0"
+#define SCARD_VERSION_TEXT "1.5.0"
 
 #include <stdbool.h>
 #include <stddef.h>
