@@ -1,6 +1,6 @@
 -- A whole answer to reset, read in one pass: the parts that were read are those of the answer with which the octets begin.
-use Rattle.std.proofs.Common.{◌≡◌, ℕ, ◌+◌, ◌-◌, ◌%◌, ◌≤◌, ◌++◌, List, [], ◌∷◌, length, take, drop, get_or, refl, sym, ap, ◌∙◌, arith, Option, Some, None, option_to_list, append_assoc, Bool, true, false, not, ◌||◌, ◌==◌}
-use Rattle.std.proofs.lemmas.List.{append-nil, length-append, length-take, length-drop, drop-drop, take-append-drop}
+use Rattle.std.proofs.Common.{◌≡◌, ℕ, ◌+◌, ◌-◌, ◌%◌, ◌<◌, ◌≤◌, ◌++◌, List, [], ◌∷◌, length, take, drop, get_or, refl, sym, ap, ◌∙◌, arith, Option, Some, None, option_to_list, append_assoc, Bool, true, false, not, ◌||◌, ◌==◌}
+use Rattle.std.proofs.lemmas.List.{append-nil, length-append, length-take, length-drop, drop-drop, drop_more, take-append-drop}
 use Rattle.std.proofs.Math.Seq.{take-append_seam, take-length}
 use Rattle.octet_core.specs.Octets.{AreOctets}
 use Rattle.octet_core.specs.Grammar.{Accepts, self_ended}
@@ -11,7 +11,7 @@ use Rattle.atr_core.specs.declared.atr.Indicated.{Indicated}
 use Rattle.atr_core.specs.declared.partial.Announced.{Announced}
 use Rattle.atr_core.specs.Atr.{AtrParts, ts_of, bit_of, count_of, goes_on, td_bit, announcing, octets_of, interface_octets, td_octets, needs_tck, tck_of, checked_octets, spelling, IsAtr}
 use Rattle.atr_core.specs.Partial.{or_awaited, Announces}
-use Rattle.atr_core.specs.Whole.{IsSection, AreTds, AreTdsSoFar, IsEnded, HasSection, HasTds, HasTdsSoFar, tck_after}
+use Rattle.atr_core.specs.Whole.{IsSection, AreTds, AreTdsSoFar, IsEnded, HasSection, HasTds, HasTdsSoFar, HasHead, HasHeadBefore, tck_after}
 use Rattle.atr_core.proofs.Built.{interface-td}
 use Rattle.atr_core.proofs.Partials.{protocols-push, needs-push}
 
@@ -190,6 +190,42 @@ one-td-skipped td octets needed more rest x after later next left so stands is s
 pub all-skipped : (td : Bool) (octets : List ℕ) (needed more : Bool) (rest : List ℕ)
     → HasTdsSoFar td octets needed more rest → more ≡ false → HasTds td octets needed rest
 all-skipped td octets needed more rest so none = (so.0, all-tds td octets so.0 more rest so.1 none, so.2)
+
+-- what T0 announces is there before this place
+pub head-there : (t0 count : ℕ) (announced : Announced) (from : List ℕ) → Announces announced t0
+    → count ≡ count_of announced.ta + count_of announced.tb + count_of announced.tc
+    → HasHeadBefore t0 from false announced.td (1 + count)
+head-there t0 count announced from announces counted inside = record {
+  td = announced.td;
+  tds = drop (1 + count) from;
+  first = section-there t0 announced (drop 1 from) (drop (1 + count) from) announces
+      (omega (arith, counted, inside, length-drop 1 from))
+      (sym (drop-drop count 1 from) ∙ ap (λ (k : ℕ). drop k (drop 1 from)) counted);
+  others = no-td-skipped announced.td (drop (1 + count) from);
+}
+
+-- with a TD at this place, what it announces is there before a later one
+pub head-more : (t0 : ℕ) (from : List ℕ) (needed more : Bool) (place x count : ℕ) (announced : Announced)
+    → HasHeadBefore t0 from needed more place → more ≡ true → place < length from → x ≡ get_or from place 0
+    → Announces announced x → count ≡ count_of announced.ta + count_of announced.tb + count_of announced.tc
+    → HasHeadBefore t0 from (needed || not (x % 16 == 0)) announced.td (place + (1 + count))
+head-more t0 from needed more place x count announced before stands here is announces counted inside =
+    let so : HasHead t0 (drop 1 from) needed more (drop place from) = before (omega (arith, here)) in
+    let left : List ℕ = drop (place + (1 + count)) from in
+    let next : List ℕ = drop (place + 1) from in
+    let left-is : left ≡ drop count next = ap (λ (k : ℕ). drop k from)
+    (let e : place + (1 + count) ≡ place + 1 + count = omega arith in e) ∙ sym (drop-drop count (place + 1) from) in
+    record {
+      td = so.td;
+      tds = so.tds;
+      first = so.first;
+      others = one-td-skipped so.td so.tds needed more (drop place from) x next (needed || not (x % 16 == 0))
+          announced.td left so.others stands
+          (drop_more from place 0 here ∙ ap (λ (y : ℕ). y ∷ next) (sym is))
+          (section-there x announced next left announces
+          (omega (arith, counted, inside, length-drop (place + 1) from))
+          (left-is ∙ ap (λ (k : ℕ). drop k next) counted)) refl;
+    }
 
 -- octets of which each part was passed begin with an answer of so many octets
 pub whole-passed : (convention : Convention) (octets from after tds tail tck : List ℕ) (ts t0 : ℕ) (td needed : Bool)

@@ -1,5 +1,5 @@
 -- A whole answer to reset, read in one pass: what each part of the pass takes from the front of octets.
-use Rattle.std.specs.Prelude.{◌≡◌, ℕ, ◌+◌, ◌-◌, ◌%◌, ◌<◌, ◌≤◌, ◌++◌, List, length, take, Bool, if◌then◌else◌, Option, Some, None, option_to_list}
+use Rattle.std.specs.Prelude.{◌≡◌, ℕ, ◌+◌, ◌-◌, ◌%◌, ◌<◌, ◌≤◌, ◌++◌, List, length, take, drop, Bool, if◌then◌else◌, Option, Some, None, option_to_list}
 use Rattle.std.specs.List.{AllByRecursion}
 use Rattle.octet_core.specs.Octets.{xor_of}
 use Rattle.atr_core.specs.declared.atr.Interface.{Interface}
@@ -62,3 +62,15 @@ HasTds td octets needed rest = (indicated : List Indicated) × AreTds td octets 
 abbrev pub HasTdsSoFar : Bool → List ℕ → Bool → Bool → List ℕ → Type 0
 HasTdsSoFar td octets needed more rest = (indicated : List Indicated) × AreTdsSoFar td octets indicated more rest
     × (needed ≡ needs_tck indicated)
+
+-- the bytes that T0 announces, and then TDs of which more may follow, with which the octets after T0 begin
+pub record HasHead (t0 : ℕ) (after : List ℕ) (needed more : Bool) (rest : List ℕ) : Type 0 where
+  pub td : Bool
+  pub tds : List ℕ
+  pub first : HasSection t0 after td tds
+  pub others : HasTdsSoFar td tds needed more rest
+
+-- the same up to a place of the octets from T0 on, where they go on to it
+abbrev pub HasHeadBefore : ℕ → List ℕ → Bool → Bool → ℕ → Type 0
+HasHeadBefore t0 from needed more place = place ≤ length from
+    → HasHead t0 (drop 1 from) needed more (drop place from)

@@ -146,7 +146,8 @@ impl Announced {
     /// How many of TA, TB and TC follow.
     #[inline]
     pub(crate) fn byte_count(self) -> usize
-        ensures { result ≡ count_of self.ta + count_of self.tb + count_of self.tc }
+        ensures value { result ≡ count_of self.ta + count_of self.tb + count_of self.tc }
+        ensures few { result ≤ 3 }
     {
         usize::from(self.ta) + usize::from(self.tb) + usize::from(self.tc)
     }

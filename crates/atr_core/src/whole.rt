@@ -1,6 +1,6 @@
 //! A whole answer to reset, read in one pass.
 
-ghost use Rattle.std.specs.Prelude.{◌≡◌, ◌+◌, ◌<◌, ◌≤◌, ◌++◌, ℕ, Bool, [], IfSome, length};
+ghost use Rattle.std.specs.Prelude.{◌≡◌, ◌+◌, ◌-◌, ◌<◌, ◌≤◌, ◌++◌, ℕ, Bool, [], IfSome, length, take};
 ghost use Rattle.std.specs.Option.{option_to_list};
 ghost use Rattle.octet_core.specs.Grammar.{Accepts, self_ended};
 ghost use Rattle.atr_core.specs.Atr.{IsAtr, IsProper, bit_of};
@@ -167,11 +167,20 @@ fn read_historical<'a>(
 /// How many octets an answer has whose octets from T0 on are at the front of `from`: `tck` is what `from` has
 /// after the historical bytes, and whether TCK is there is `needed`.
 #[inline]
-pub(crate) fn ended(from: &[u8], tck: &[u8], needed: bool) -> Option<usize>
+fn ended(from: &[u8], tck: &[u8], needed: bool) -> Option<usize>
     requires { length tck.now ≤ length from.now }
     ensures { IfSome result (λ count. IsEnded from.now tck.now needed count) }
 {
-    let checked = &from[..from.len() - tck.len()];
+    ended_after(&from[..from.len() - tck.len()], from, tck, needed)
+}
+
+/// The same where those of `from` up to the last historical byte are `checked`.
+#[inline]
+pub(crate) fn ended_after(checked: &[u8], from: &[u8], tck: &[u8], needed: bool) -> Option<usize>
+    requires inside { length tck.now ≤ length from.now }
+    requires checked { checked.now ≡ take (length from.now - length tck.now) from.now }
+    ensures { IfSome result (λ count. IsEnded from.now tck.now needed count) }
+{
     let left = after_tck(needed, checked, tck)?;
     let count = 1 + from.len() - left.len();
     if count > MOST_OCTETS {

@@ -1,17 +1,25 @@
-use Rattle.std.proofs.Common.{ℕ, List, take, drop, get_or, length, ◌-◌, arith, ap, ◌∙◌}
+use Rattle.std.proofs.Common.{ℕ, List, take, drop, get_or, length, false, ◌≤◌, ◌-◌, ◌+◌, ◌%◌, refl, arith, ap, ◌∙◌, sym}
 use Rattle.std.proofs.lemmas.Option.{IfSome_then}
-use Rattle.atr_core.proofs.OnePass.{first-and-rest, whole-passed}
+use Rattle.std.proofs.lemmas.List.{drop_more, drop-drop, length-drop}
+use Rattle.atr_core.specs.Whole.{HasHead}
+use Rattle.atr_core.proofs.OnePass.{all-skipped, first-and-rest, whole-passed}
 use Rattle.atr_core.proofs.length.whole_len.Goals as goal
 
 pub returns : goal.returns
 returns c =
     let octets : List ℕ = c.args.octets.now in
     let from : List ℕ = take (length octets - 1) (drop 1 octets) in
-    let after : List ℕ = take (length from - 1) (drop 1 from) in
-    IfSome_then c.ended.result c.ended.ensures
-    (λ count ended. whole-passed c.in-Ok.field-0 octets from after c.in_ok-td.tds.now c.in_ok-needed.tail.now
-    c.in_ok-tck.tck.now (get_or octets 0 0) (get_or from 0 0) c.in_ok-td.td c.in_ok-needed.needed count
+    let place : ℕ = c.in_ok-needed.place in
+    let t0 : ℕ = get_or from 0 0 in
+    let split = c.in_ok-checked.ensures.cases in
+    let few : place ≤ length from = omega (arith, split.0, c.from.ensures) in
+    let head : HasHead t0 (drop 1 from) c.in_ok-needed.needed false (drop place from) =
+    c.in_ok-needed.ensures.passed few in
+    IfSome_then c.ended_after.result c.ended_after.ensures
+    (λ count ended. whole-passed c.in-Ok.field-0 octets from (drop 1 from) head.tds (drop place from)
+    c.in_ok-checked.tck.now (get_or octets 0 0) t0 head.td c.in_ok-needed.needed count
     (λ i. omega (arith, c.type_inv.octets i)) (first-and-rest octets (omega arith))
-    (first-and-rest from c.in-len1-up-from.len_at_least) c.in-Ok.ensures.is
-    c.in_ok-td.ensures c.in_ok-needed.ensures (omega (arith, c.from.ensures, c.in_ok-tck.ensures.there))
-    (c.in_ok-tck.ensures.is ∙ ap (λ (n : ℕ). drop n c.in_ok-needed.tail.now) c.from.ensures) ended)
+    (drop_more from 0 0 c.in-len1-up-from.len_at_least) c.in-Ok.ensures.is
+    head.first (all-skipped head.td head.tds c.in_ok-needed.needed false (drop place from) head.others refl)
+    (omega (arith, split.0, c.from.ensures, length-drop place from))
+    (split.2 ∙ ap (λ (k : ℕ). drop (place + k) from) c.from.ensures ∙ sym (drop-drop (t0 % 16) place from)) ended)
